@@ -1,0 +1,43 @@
+ghost use Rattle.std.specs.Prelude.{◌≡◌};
+
+use std::marker::Model;
+
+/// A byte string on the heap, which contracts see as the list of its bytes.
+///
+/// Neither making one nor giving its `Vec` back takes memory.
+#[derive(Debug, Drop)]
+pub struct Bytes {
+    vec: Vec<u8>,
+}
+
+impl Model for Bytes {
+    ghost use Rattle.std.specs.Prelude.{List, ℕ};
+
+    ghost Value = { List ℕ };
+
+    ghost view = { λ b. b.vec.items };
+}
+
+impl Bytes {
+    /// The bytes of `vec`.
+    pub fn new(vec: Vec<u8>) -> Bytes
+        ensures { result ≡ vec.items }
+    {
+        Bytes { vec }
+    }
+
+    /// The bytes as a slice.
+    pub fn as_slice(&self) -> &[u8]
+        ensures { result.now ≡ self.now }
+    {
+        self.vec.as_slice()
+    }
+
+    /// The bytes as the `Vec` that they were made from.
+    pub fn into_vec(self) -> Vec<u8>
+        ensures { result.items ≡ self }
+    {
+        let Bytes { vec } = self;
+        vec
+    }
+}
