@@ -1,0 +1,4 @@
+pub mod RecordLemmas
+pub mod OrderLemmas
+pub mod AcceptedLemmas
+pub mod AcceptedPrefix

@@ -1,0 +1,21 @@
+use Rattle.std.proofs.Common.{List, [], sym, subst}
+use Rattle.krb_core.specs.Order.{Answer}
+use Rattle.krb_core.specs.Accepted.{accepted_of, Accepted}
+use Rattle.krb_core.proofs.AcceptedLemmas.{accepted_from, accepted_by, follows, follows_alone}
+use Rattle.krb_core.proofs.AcceptedPrefix.{accepted_prefix, accepted_whole, texts_prefix}
+use Rattle.krb_core.proofs.laws.accepted_laws.Goals as goal
+
+pub returns-clause-one : goal.returns-clause-one
+returns-clause-one c = λ first offers answers. (
+  λ all. follows_alone first [] offers answers (accepted_from first offers answers all),
+  λ is. let P : List Answer → Type 0 = λ z. Accepted first offers z in subst P (sym is) (accepted_by first offers _ (follows first [] offers)),
+)
+
+pub returns-clause-prefix : goal.returns-clause-prefix
+returns-clause-prefix c = accepted_prefix
+
+pub returns-clause-texts : goal.returns-clause-texts
+returns-clause-texts c = λ first records offers answers all carries. texts_prefix (accepted_of offers answers) records (accepted_prefix first records offers answers all carries)
+
+pub returns-clause-whole : goal.returns-clause-whole
+returns-clause-whole c = accepted_whole

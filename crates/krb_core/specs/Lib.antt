@@ -1,0 +1,5 @@
+pub mod Limits
+pub mod Record
+pub mod Demand
+pub mod Order
+pub mod Accepted

@@ -1,0 +1,21 @@
+//! Records and their order: what the relay's messages carry, without any cryptography.
+//!
+//! The user data of a message is a [`Record`], a text or the close. An [`Order`] demands the
+//! numbers of the messages one after another, and accepts nothing behind a close.
+//!
+//! ```text
+//! let mut order = Order::new(7);
+//! let record = read_record(alloc, b"D")?; // hexadecimal 44: the empty text
+//! order.accept(7, &record)?;
+//! ```
+#![tactic(auto)]
+
+mod laws;
+mod limits;
+mod order;
+mod record;
+
+pub use laws::{accepted_laws, record_laws};
+pub use limits::{LAST_NUMBER, TEXT_LIMIT, USER_DATA_LIMIT};
+pub use order::{Order, OrderRefusal};
+pub use record::{Record, RecordError, read_record, record_bytes};
