@@ -1,5 +1,5 @@
-//! Words that several crates of the relay speak of: byte strings on the heap, and prefixes of
-//! lists.
+//! Words that several crates of the relay speak of: byte strings on the heap, prefixes of lists,
+//! and the limits of texts and messages.
 //!
 //! ```text
 //! let text = Bytes::new(vec);
@@ -8,7 +8,9 @@
 #![tactic(auto)]
 
 mod bytes;
+mod limits;
 mod prefix;
 
 pub use bytes::Bytes;
+pub use limits::{FRAME_LIMIT, RAW_LIMIT, TEXT_LIMIT, USER_DATA_LIMIT};
 pub use prefix::prefix_laws;

@@ -1,0 +1,49 @@
+-- Sizes of spellings, and spellings that are written piece by piece.
+use Rattle.std.proofs.Common.{◌≡◌, ◌↔◌, ◌⊎◌, inl, inr, ℕ, zero, suc, ◌+◌, ◌<◌, ◌≤◌, Bool, true, false, ℤ, pos, negsuc, List, [], ◌∷◌, ◌++◌, length, Option, Some, None, refl, sym, ap, ◌∙◌, arith, append_assoc, length-append}
+use Rattle.std.specs.Prelude.{IfSome, IsTrue}
+use Rattle.std.proofs.lemmas.Bool.{cases_lt, lt-ltb}
+use Rattle.std.proofs.lemmas.List.{append-nil}
+use Rattle.krb_base.specs.Limits.{frame_limit}
+use Rattle.krb_der.specs.Length.{length_octets}
+use Rattle.krb_der.specs.Element.{header, tagged, element_size, joined, sequence, optional, octets}
+use Rattle.krb_der.specs.Integer.{width, int_octets, integer}
+use Rattle.krb_der.specs.Reading.{signed}
+use Rattle.krb_der.proofs.Numbers.{length-big_endian, length-complement}
+use Rattle.krb_der.proofs.Readers.{size-tagged}
+
+-- ---- sizes
+
+-- an element with a short content has two octets before it
+pub size-short : (n : ℕ) → n < 128 → element_size n ≡ 2 + n
+unfolding length_octets
+size-short n lt = rw (lt-ltb n 128 lt) refl
+
+length-int_octets : (negative : Bool) (n : ℕ) → length (int_octets (signed negative n)) ≡ width n
+unfolding int_octets
+length-int_octets false n = length-big_endian (width n) n
+length-int_octets true n = length-complement _ ∙ length-big_endian (width n) n
+
+pub size-integer : (negative : Bool) (n w : ℕ) → w ≡ width n → w ≤ 5 → length (integer (signed negative n)) ≡ 2 + w
+size-integer negative n w e le =
+    size-tagged 0x02 (int_octets (signed negative n)) ∙ ap element_size (length-int_octets negative n ∙ sym e) ∙ size-short w (omega arith)
+
+-- an octet string under the tag of a field
+pub size-octets_field : (n : ℕ) (tag : ℕ) (bytes : List ℕ) → n ≡ element_size (element_size (length bytes)) → n ≡ length (tagged tag (octets bytes))
+size-octets_field n tag bytes e = e ∙ sym (size-tagged tag (octets bytes) ∙ ap element_size (size-tagged 0x04 bytes))
+
+-- ---- writing
+
+-- a header, and then the content
+pub begun : (tag n : ℕ) (content s0 s1 s2 : List ℕ) → n ≡ length content → s1 ≡ s0 ++ header tag n → s2 ≡ s1 ++ content → s2 ≡ s0 ++ tagged tag content
+unfolding tagged
+begun tag n content s0 s1 s2 size first second = rw (second, first, size) (append_assoc s0 (header tag (length content)) content)
+
+-- the sizes of elements and of fields in a row
+pub ruleset sizes = (size-tagged, length-append)
+
+-- a message from its two headers and its fields
+pub message_written : (tag n k : ℕ) (fields : List (List ℕ)) (s0 s1 s2 s3 : List ℕ) → s0 ≡ [] → n ≡ length (joined fields) → k ≡ element_size n
+    → s1 ≡ s0 ++ header tag k → s2 ≡ s1 ++ header 0x30 n → s3 ≡ s2 ++ joined fields → s3 ≡ tagged tag (sequence fields)
+message_written tag n k fields s0 s1 s2 s3 none size around first second third =
+    let outer : k ≡ length (sequence fields) = around ∙ ap element_size size ∙ sym (size-tagged 0x30 (joined fields)) in
+    begun tag k (sequence fields) s0 s1 s3 outer first (begun 0x30 n (joined fields) s1 s2 s3 size second third) ∙ ap (λ s. s ++ tagged tag (sequence fields)) none

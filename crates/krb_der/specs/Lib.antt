@@ -1,0 +1,14 @@
+pub mod Steps
+pub mod Tag
+pub mod Length
+pub mod Element
+pub mod Integer
+pub mod Time
+pub mod Typed
+pub mod Address
+pub mod Body
+pub mod Safe
+pub mod Private
+pub mod Message
+pub mod Reading
+pub mod Error

@@ -1,0 +1,34 @@
+-- KRB-SAFE (RFC 4120 section 5.6.1).
+use Rattle.std.specs.Prelude.{ℕ, ℤ, List, [], ◌∷◌}
+use Rattle.krb_der.specs.declared.safe.SafeMsg.{SafeMsg}
+use Rattle.krb_der.specs.Tag.{context, application}
+use Rattle.krb_der.specs.Element.{tagged, sequence}
+use Rattle.krb_der.specs.Integer.{integer, IsInt32}
+use Rattle.krb_der.specs.Typed.{typed_octets}
+use Rattle.krb_der.specs.Body.{body, IsBody}
+
+-- Checksum (RFC 4120 section 5.2.9): SEQUENCE { cksumtype [0] Int32, checksum [1] OCTET STRING }
+abbrev pub checksum : ℤ → List ℕ → List ℕ
+checksum kind bytes = typed_octets kind bytes
+
+abbrev pub safe_fields : SafeMsg → List (List ℕ)
+safe_fields m =
+    tagged (context 0) (integer m.pvno)
+    ∷ tagged (context 1) (integer m.msg_type)
+    ∷ tagged (context 2) (body m.body)
+    ∷ tagged (context 3) (checksum m.cksum_type m.checksum)
+    ∷ []
+
+-- KRB-SAFE ::= [APPLICATION 20] SEQUENCE
+abbrev pub safe : SafeMsg → List ℕ
+safe m = tagged (application 20) (sequence (safe_fields m))
+
+pub record IsSafe (m : SafeMsg) : Type 0 where
+  pub pvno : IsInt32 m.pvno
+  pub msg_type : IsInt32 m.msg_type
+  pub body : IsBody m.body
+  pub cksum_type : IsInt32 m.cksum_type
+
+-- the message with another checksum
+abbrev pub with_checksum : SafeMsg → ℤ → List ℕ → SafeMsg
+with_checksum m kind bytes = record m { cksum_type = kind; checksum = bytes }

@@ -1,0 +1,43 @@
+ghost use Rattle.std.specs.Prelude.{◌≡◌, ◌↔◌, IsTrue};
+ghost use Rattle.krb_der.specs.Address.{IsAddress};
+ghost use Rattle.krb_der.specs.Reading.{Gives, address_of};
+
+use crate::error::DerError;
+use crate::integer::known_int32;
+use crate::typed::read_typed;
+use krb_base::Bytes;
+use std::alloc::Global;
+
+/// A network address (RFC 4120 section 5.2.5).
+#[derive(Debug, Drop)]
+pub struct HostAddress {
+    /// The type of the address, 2 for IPv4 (RFC 4120 section 7.5.3).
+    pub kind: i32,
+    /// Its bytes, in network order.
+    pub bytes: Bytes,
+}
+
+impl HostAddress {
+    /// Whether type and bytes are equal.
+    pub fn same(&self, other: &HostAddress) -> bool
+        ensures { IsTrue result ↔ self.now ≡ other.now }
+    {
+        self.kind == other.kind && self.bytes.as_slice() == other.bytes.as_slice()
+    }
+}
+
+/// The address that the bytes spell.
+#[tactic(auto, unfolding(crate::specs::Reading::address_of))]
+pub fn read_address(alloc: Global, bytes: &[u8]) -> Result<HostAddress, DerError>
+    ensures { Gives (λ x. x) result (address_of bytes.now) }
+{
+    let (kind, bytes) = read_typed(alloc, bytes)?;
+    Ok(HostAddress { kind, bytes })
+}
+
+/// What the type of its number says.
+pub fn known_address(address: &HostAddress)
+    ensures { IsAddress address.now }
+{
+    known_int32(&address.kind);
+}

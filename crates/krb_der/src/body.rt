@@ -1,0 +1,318 @@
+ghost use Rattle.std.specs.Prelude.{◌≡◌, ◌↔◌, ◌<◌, ◌≤◌, ◌+◌, ◌*◌, ◌++◌, length, IfOk, OnOk, IfSome, IsTrue, MatchResult};
+ghost use Rattle.krb_der.specs.declared.body.Body.{Body as BodyValue};
+ghost use Rattle.krb_der.specs.declared.error.DerError.TheVariants.{Memory};
+ghost use Rattle.krb_base.specs.Limits.{frame_limit};
+ghost use Rattle.krb_der.specs.Element.{joined, optional};
+ghost use Rattle.krb_der.specs.Time;
+ghost use Rattle.krb_der.specs.Time.{IsTime};
+ghost use Rattle.krb_der.specs.Address.{host_address, IsAddress};
+ghost use Rattle.krb_der.specs.Body.{InRange, IsBody, IsShort, IsShortBody, body, body_fields, part};
+ghost use Rattle.krb_der.specs.Message.{Decodes, Encodes, SpellsPart};
+ghost use Rattle.krb_der.specs.Reading.{Gives, Takes, time_element_of, optional_at, address_of, body_of, part_of};
+
+use crate::address::{HostAddress, known_address, read_address};
+use crate::error::DerError;
+use crate::integer::{UINT32_LIMIT, known_uint32, natural_field_size, read_optional_natural, write_natural_field};
+use crate::reader::{Reader, only_element, read_octets};
+use crate::tag;
+use crate::time::{kerberos_time, time_at};
+use crate::typed::{typed_size, write_typed_field};
+use crate::writer::{Writer, octets_field_size, size_around};
+use krb_base::{Bytes, FRAME_LIMIT};
+use std::alloc::{AllocError, Global};
+
+/// The first second after the year 9999.
+const TIME_LIMIT: u64 = 253_402_300_800;
+/// The first number of microseconds that is a second.
+const MICROSECONDS_LIMIT: u32 = 1_000_000;
+
+
+
+/// What KRB-SAFE and the encrypted part of KRB-PRIV carry (RFC 4120 sections 5.6.1 and 5.7.1).
+#[derive(Debug, Drop)]
+pub struct Body {
+    /// The text.
+    pub user_data: Bytes,
+    /// The sender's time, in seconds since 1970-01-01T00:00:00Z.
+    pub time: Option<u64>,
+    /// The microseconds of that time.
+    pub usec: Option<u32>,
+    /// The sequence number.
+    pub seq: Option<u32>,
+    /// The sender's address.
+    pub s_addr: HostAddress,
+    /// The receiver's address.
+    pub r_addr: Option<HostAddress>,
+}
+
+impl Body {
+    /// Whether time and microseconds are within the limits of [`Moment`](crate::Moment).
+    pub fn in_range(&self) -> bool
+        ensures { IsTrue result ↔ InRange self.now }
+    {
+        let time = match self.time {
+            Some(secs) => secs < TIME_LIMIT,
+            None => true,
+        };
+        let usec = match self.usec {
+            Some(usec) => usec < MICROSECONDS_LIMIT,
+            None => true,
+        };
+        time && usec
+    }
+}
+
+fn read_time(bytes: &[u8]) -> Result<u64, DerError>
+    ensures { Gives (λ x. x) result (time_element_of bytes.now) }
+{
+    let mut reader = Reader::new(bytes);
+    let secs = time_at(reader.element(tag::GENERALIZED_TIME)?)?;
+    reader.finish(secs)
+}
+
+#[tactic(auto, unfolding(crate::specs::Reading::optional_at))]
+fn read_optional_time(fields: &mut Reader<'_>, tag: u8) -> Result<Option<u64>, DerError>
+    ensures { Takes (λ x. x) result fields.new (optional_at tag time_element_of fields.old) }
+{
+    if !fields.is_at(tag) {
+        return Ok(None);
+    }
+    let secs = read_time(fields.element(tag)?)?;
+    Ok(Some(secs))
+}
+
+#[tactic(auto, unfolding(crate::specs::Reading::optional_at))]
+fn read_optional_address(
+    alloc: Global,
+    fields: &mut Reader<'_>,
+    tag: u8,
+) -> Result<Option<HostAddress>, DerError>
+    ensures { Takes (λ x. x) result fields.new (optional_at tag address_of fields.old) }
+{
+    if !fields.is_at(tag) {
+        return Ok(None);
+    }
+    let address = read_address(alloc, fields.element(tag)?)?;
+    Ok(Some(address))
+}
+
+/// The body that the bytes spell.
+#[tactic(auto, unfolding(crate::specs::Reading::body_of))]
+pub fn read_body(alloc: Global, bytes: &[u8]) -> Result<Body, DerError>
+    ensures { Gives (λ x. x) result (body_of bytes.now) }
+{
+    let mut fields = Reader::inside(tag::SEQUENCE, bytes)?;
+    let user_data = read_octets(alloc, fields.element(tag::FIELD_0)?)?;
+    let time = read_optional_time(&mut fields, tag::FIELD_1)?;
+    let usec = read_optional_natural(&mut fields, tag::FIELD_2, u64::from(MICROSECONDS_LIMIT))?;
+    let seq = read_optional_natural(&mut fields, tag::FIELD_3, UINT32_LIMIT)?;
+    let s_addr = read_address(alloc, fields.element(tag::FIELD_4)?)?;
+    let r_addr = read_optional_address(alloc, &mut fields, tag::FIELD_5)?;
+    fields.finish(Body {
+        user_data,
+        time,
+        usec,
+        seq,
+        s_addr,
+        r_addr,
+    })
+}
+
+/// Whether the bytes are no more than a message may have.
+pub fn is_short(bytes: &[u8]) -> bool
+    ensures { IsTrue result ↔ IsShort bytes.now }
+{
+    bytes.len() <= FRAME_LIMIT
+}
+
+fn optional_time_size(time: Option<u64>) -> usize
+    requires { IfSome time IsTime }
+    ensures value { result ≡ length (optional 0 Time.time time) }
+    ensures bound { result ≤ 19 }
+{
+    match time {
+        Some(_) => 19,
+        None => 0,
+    }
+}
+
+fn write_optional_time(out: &mut Writer, tag: u8, time: Option<u64>) -> Result<(), AllocError>
+    requires { IfSome time IsTime }
+    ensures { OnOk result (out.new ≡ out.old ++ optional tag Time.time time) }
+{
+    match time {
+        Some(secs) => {
+            out.begin(tag, 17)?;
+            out.element(tag::GENERALIZED_TIME, &kerberos_time(secs))
+        }
+        None => Ok(()),
+    }
+}
+
+fn optional_address_size(address: &Option<HostAddress>) -> usize
+    requires { IfSome address.now (λ a. IsShort a.bytes) }
+    ensures value { result ≡ length (optional 0 host_address address.now) }
+    ensures bound { result ≤ frame_limit + 40 }
+{
+    match address {
+        Some(address) => size_around(typed_size(&address.kind, address.bytes.as_slice())),
+        None => 0,
+    }
+}
+
+fn write_optional_address(
+    out: &mut Writer,
+    tag: u8,
+    address: &Option<HostAddress>,
+) -> Result<(), AllocError>
+    requires { IfSome address.now (λ a. IsShort a.bytes) }
+    ensures { OnOk result (out.new ≡ out.old ++ optional tag host_address address.now) }
+{
+    match address {
+        Some(address) => {
+            write_typed_field(out, tag, &address.kind, address.bytes.as_slice())
+        }
+        None => Ok(()),
+    }
+}
+
+fn known_optional_address(address: &Option<HostAddress>)
+    ensures { IfSome address.now IsAddress }
+{
+    if let Some(address) = address {
+        known_address(address);
+    }
+}
+
+impl Body {
+    /// Whether no byte string of it is longer than a message may be.
+    pub(crate) fn is_short(&self) -> bool
+        ensures { IsTrue result ↔ IsShortBody self.now }
+    {
+        let r_addr = match &self.r_addr {
+            Some(address) => is_short(address.bytes.as_slice()),
+            None => true,
+        };
+        is_short(self.user_data.as_slice()) && is_short(self.s_addr.bytes.as_slice()) && r_addr
+    }
+
+    /// What the types of its numbers say, beside the ranges that are required.
+    pub(crate) fn known(&self)
+        requires { InRange self.now }
+        ensures { IsBody self.now }
+    {
+        known_uint32(&self.seq);
+        known_address(&self.s_addr);
+        known_optional_address(&self.r_addr);
+    }
+
+    fn fields_size(&self) -> usize
+        requires short { IsShortBody self.now }
+        requires time { IfSome self.now.time IsTime }
+        ensures value { result ≡ length (joined (body_fields self.now)) }
+        ensures bound { result ≤ 3 * frame_limit + 200 }
+    {
+        octets_field_size(self.user_data.as_slice())
+            + optional_time_size(self.time)
+            + natural_field_size(self.usec)
+            + natural_field_size(self.seq)
+            + size_around(typed_size(&self.s_addr.kind, self.s_addr.bytes.as_slice()))
+            + optional_address_size(&self.r_addr)
+    }
+
+    /// How many bytes it has.
+    pub(crate) fn size(&self) -> usize
+        requires short { IsShortBody self.now }
+        requires time { IfSome self.now.time IsTime }
+        ensures value { result ≡ length (body self.now) }
+        ensures bound { result ≤ 3 * frame_limit + 210 }
+    {
+        size_around(self.fields_size())
+    }
+
+    /// Adds it.
+    #[tactic(auto, unfolding(crate::specs::Body::body))]
+    pub(crate) fn write(&self, out: &mut Writer) -> Result<(), AllocError>
+        requires short { IsShortBody self.now }
+        requires time { IfSome self.now.time IsTime }
+        ensures { OnOk result (out.new ≡ out.old ++ body self.now) }
+    {
+        out.begin(tag::SEQUENCE, self.fields_size())?;
+        out.octets_field(tag::FIELD_0, self.user_data.as_slice())?;
+        write_optional_time(out, tag::FIELD_1, self.time)?;
+        write_natural_field(out, tag::FIELD_2, self.usec)?;
+        write_natural_field(out, tag::FIELD_3, self.seq)?;
+        write_typed_field(
+            out,
+            tag::FIELD_4,
+            &self.s_addr.kind,
+            self.s_addr.bytes.as_slice(),
+        )?;
+        write_optional_address(out, tag::FIELD_5, &self.r_addr)
+    }
+}
+
+impl Body {
+    /// How many bytes its spelling as an encrypted part has.
+    fn part_size(&self) -> usize
+        requires short { IsShortBody self.now }
+        requires time { IfSome self.now.time IsTime }
+        ensures { result ≡ length (part self.now) }
+    {
+        size_around(self.size())
+    }
+
+    /// Its spelling as an encrypted part, in a `Vec` with room for so many bytes.
+    fn part_spelling(&self, alloc: Global, size: usize) -> Result<Vec<u8>, AllocError>
+        requires short { IsShortBody self.now }
+        requires time { IfSome self.now.time IsTime }
+        ensures { IfOk result (λ v. v.items ≡ part self.now) }
+    {
+        let mut out = Writer::with_capacity(alloc, size)?;
+        out.begin(tag::ENC_KRB_PRIV_PART, self.size())?;
+        self.write(&mut out)?;
+        Ok(out.into_vec())
+    }
+}
+
+/// The spelling of the body as the encrypted part of KRB-PRIV (RFC 4120 section 5.7.1).
+///
+/// [`DerError::TooLong`] is answered exactly where it has over 65,000 bytes, before any memory is
+/// taken.
+pub fn encode_part(alloc: Global, b: &Body) -> Result<Vec<u8>, DerError>
+    requires { InRange b.now }
+    ensures { Encodes SpellsPart part b.now result }
+{
+    b.known();
+    if !b.is_short() {
+        return Err(DerError::TooLong);
+    }
+    let size = b.part_size();
+    if size > FRAME_LIMIT {
+        return Err(DerError::TooLong);
+    }
+    Ok(b.part_spelling(alloc, size)?)
+}
+
+#[tactic(auto, unfolding(crate::specs::Reading::part_of))]
+fn read_part(alloc: Global, bytes: &[u8]) -> Result<Body, DerError>
+    ensures { Gives (λ x. x) result (part_of bytes.now) }
+{
+    read_body(alloc, only_element(tag::ENC_KRB_PRIV_PART, bytes)?)
+}
+
+/// The body that the bytes spell as the encrypted part of KRB-PRIV.
+///
+/// [`DerError::TooLong`] is answered exactly where there are over 65,000 bytes, and
+/// [`DerError::Malformed`] exactly where there are no more and they spell nothing. A body that is
+/// read is in range.
+pub fn decode_part(alloc: Global, bytes: &[u8]) -> Result<Body, DerError>
+    ensures answer { Decodes SpellsPart result bytes.now }
+    ensures only { (b : BodyValue) → SpellsPart b bytes.now
+        → MatchResult result (λ v. v ≡ b) (λ e. e ≡ Memory) }
+{
+    if bytes.len() > FRAME_LIMIT {
+        return Err(DerError::TooLong);
+    }
+    read_part(alloc, bytes)
+}

@@ -1,0 +1,40 @@
+//! The DER spelling of the messages KRB-SAFE and KRB-PRIV of Kerberos V5 (RFC 4120), of the
+//! encrypted part of KRB-PRIV, and of their times.
+//!
+//! Each value has one spelling, and each spelling one value: [`decode`] reads exactly what the
+//! grammar spells, and [`encode_safe`], [`encode_priv`] and [`encode_part`] write it.
+//!
+//! ```text
+//! match decode(alloc, bytes)? {
+//!     Message::Safe(m) => use_text(m.body.user_data.as_slice()),
+//!     Message::Priv(m) => decrypt(m.etype, m.cipher.as_slice()),
+//! }
+//! ```
+#![tactic(auto)]
+
+mod address;
+mod body;
+mod error;
+mod integer;
+mod laws;
+mod length;
+mod message;
+mod moment;
+mod private;
+mod reader;
+mod safe;
+mod tag;
+mod time;
+mod typed;
+mod writer;
+
+pub use address::HostAddress;
+pub use body::{Body, decode_part, encode_part};
+pub use error::DerError;
+pub use krb_base::Bytes;
+pub use laws::unique_spelling;
+pub use message::{Message, decode};
+pub use moment::Moment;
+pub use private::{PrivMsg, encode_priv};
+pub use safe::{SafeMsg, encode_safe, safe_input};
+pub use time::{kerberos_time, read_kerberos_time};

@@ -1,0 +1,179 @@
+ghost use Rattle.std.specs.Prelude.{◌≡◌, ◌≤◌, ◌+◌, ◌*◌, ◌++◌, [], length, pos, IfOk, IfSome, OnOk};
+ghost use Rattle.krb_base.specs.Limits.{frame_limit};
+ghost use Rattle.krb_der.specs.declared.message.Message.TheVariants.{Safe};
+ghost use Rattle.krb_der.specs.Element.{joined};
+ghost use Rattle.krb_der.specs.Integer.{IsInt32};
+ghost use Rattle.krb_der.specs.Time.{IsTime};
+ghost use Rattle.krb_der.specs.Body.{InRange, IsBody, IsShort, IsShortBody};
+ghost use Rattle.krb_der.specs.Safe.{safe, safe_fields, with_checksum};
+ghost use Rattle.krb_der.specs.Message.{Encodes, Spells, message};
+ghost use Rattle.krb_der.specs.Reading.{Gives, safe_of};
+
+use crate::body::{Body, is_short, read_body};
+use crate::error::DerError;
+use crate::integer::{int32_field_size, known_int32, read_int32, write_int32_field};
+use crate::reader::Reader;
+use crate::tag;
+use crate::typed::{read_typed, typed_size, write_typed_field};
+use crate::writer::{Writer, size_around};
+use krb_base::{Bytes, FRAME_LIMIT};
+use std::alloc::{AllocError, Global};
+
+/// A message KRB-SAFE (RFC 4120 section 5.6.1).
+#[derive(Debug, Drop)]
+pub struct SafeMsg {
+    /// The protocol version, 5.
+    pub pvno: i32,
+    /// The kind of message, 20.
+    pub msg_type: i32,
+    /// What the message carries.
+    pub body: Body,
+    /// The type of the checksum (RFC 3961 section 8).
+    pub cksum_type: i32,
+    /// The checksum.
+    pub checksum: Bytes,
+}
+
+/// The message whose fields, as one sequence, the bytes are.
+#[tactic(auto, unfolding(crate::specs::Reading::safe_of))]
+pub fn read_safe(alloc: Global, bytes: &[u8]) -> Result<SafeMsg, DerError>
+    ensures { Gives (λ x. x) result (safe_of bytes.now) }
+{
+    let mut fields = Reader::inside(tag::SEQUENCE, bytes)?;
+    let pvno = read_int32(fields.element(tag::FIELD_0)?)?;
+    let msg_type = read_int32(fields.element(tag::FIELD_1)?)?;
+    let body = read_body(alloc, fields.element(tag::FIELD_2)?)?;
+    let (cksum_type, checksum) = read_typed(alloc, fields.element(tag::FIELD_3)?)?;
+    fields.finish(SafeMsg {
+        pvno,
+        msg_type,
+        body,
+        cksum_type,
+        checksum,
+    })
+}
+
+impl SafeMsg {
+    fn fields_size(&self, kind: &i32, checksum: &[u8]) -> usize
+        requires short { IsShortBody self.now.body }
+        requires short_checksum { IsShort checksum.now }
+        requires time { IfSome self.now.body.time IsTime }
+        ensures value { result
+            ≡ length (joined (safe_fields (with_checksum self.now kind.now checksum.now))) }
+        ensures bound { result ≤ 4 * frame_limit + 300 }
+    {
+        int32_field_size(&self.pvno)
+            + int32_field_size(&self.msg_type)
+            + size_around(self.body.size())
+            + size_around(typed_size(kind, checksum))
+    }
+
+    /// How many bytes its spelling with this checksum has.
+    fn size(&self, kind: &i32, checksum: &[u8]) -> usize
+        requires short { IsShortBody self.now.body }
+        requires short_checksum { IsShort checksum.now }
+        requires time { IfSome self.now.body.time IsTime }
+        ensures { result ≡ length (safe (with_checksum self.now kind.now checksum.now)) }
+    {
+        size_around(size_around(self.fields_size(kind, checksum)))
+    }
+
+    /// Adds its fields with this checksum.
+    fn write_fields(
+        &self,
+        kind: &i32,
+        checksum: &[u8],
+        out: &mut Writer,
+    ) -> Result<(), AllocError>
+        requires short { IsShortBody self.now.body }
+        requires short_checksum { IsShort checksum.now }
+        requires time { IfSome self.now.body.time IsTime }
+        ensures { OnOk result (out.new
+            ≡ out.old ++ joined (safe_fields (with_checksum self.now kind.now checksum.now))) }
+    {
+        write_int32_field(out, tag::FIELD_0, &self.pvno)?;
+        write_int32_field(out, tag::FIELD_1, &self.msg_type)?;
+        out.begin(tag::FIELD_2, self.body.size())?;
+        self.body.write(out)?;
+        write_typed_field(out, tag::FIELD_3, kind, checksum)
+    }
+
+    /// Its spelling with this checksum, in a `Vec` with room for so many bytes.
+    fn spelling(
+        &self,
+        alloc: Global,
+        kind: &i32,
+        checksum: &[u8],
+        size: usize,
+    ) -> Result<Vec<u8>, AllocError>
+        requires short { IsShortBody self.now.body }
+        requires short_checksum { IsShort checksum.now }
+        requires time { IfSome self.now.body.time IsTime }
+        ensures { IfOk result (λ v. v.items ≡ safe (with_checksum self.now kind.now checksum.now)) }
+    {
+        let fields = self.fields_size(kind, checksum);
+        let mut out = Writer::with_capacity(alloc, size)?;
+        out.begin(tag::KRB_SAFE, size_around(fields))?;
+        out.begin(tag::SEQUENCE, fields)?;
+        self.write_fields(kind, checksum, &mut out)?;
+        Ok(out.into_vec())
+    }
+
+    /// Its spelling with this checksum in place of its own.
+    fn encode_with(
+        &self,
+        alloc: Global,
+        kind: &i32,
+        checksum: &[u8],
+    ) -> Result<Vec<u8>, DerError>
+        requires { InRange self.now.body }
+        ensures { Encodes Spells message
+            (Safe (with_checksum self.now kind.now checksum.now)) result }
+    {
+        self.known();
+        known_int32(kind);
+        if !self.body.is_short() {
+            return Err(DerError::TooLong);
+        }
+        if !is_short(checksum) {
+            return Err(DerError::TooLong);
+        }
+        let size = self.size(kind, checksum);
+        if size > FRAME_LIMIT {
+            return Err(DerError::TooLong);
+        }
+        Ok(self.spelling(alloc, kind, checksum, size)?)
+    }
+
+    /// What the types of its numbers say.
+    fn known(&self)
+        requires { InRange self.now.body }
+        ensures pvno { IsInt32 self.now.pvno }
+        ensures msg_type { IsInt32 self.now.msg_type }
+        ensures body { IsBody self.now.body }
+    {
+        known_int32(&self.pvno);
+        known_int32(&self.msg_type);
+        self.body.known();
+    }
+}
+
+/// The spelling of the message.
+///
+/// [`DerError::TooLong`] is answered exactly where it has over 65,000 bytes, before any memory is
+/// taken.
+pub fn encode_safe(alloc: Global, m: &SafeMsg) -> Result<Vec<u8>, DerError>
+    requires { InRange m.now.body }
+    ensures { Encodes Spells message (Safe m.now) result }
+{
+    m.encode_with(alloc, &m.cksum_type, m.checksum.as_slice())
+}
+
+/// The bytes under the checksum of the message: its spelling with checksum type 0 and an empty
+/// checksum.
+pub fn safe_input(alloc: Global, m: &SafeMsg) -> Result<Vec<u8>, DerError>
+    requires { InRange m.now.body }
+    ensures { Encodes Spells message (Safe (with_checksum m.now (pos 0) [])) result }
+{
+    m.encode_with(alloc, &0, &[])
+}

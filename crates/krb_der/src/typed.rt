@@ -1,0 +1,60 @@
+//! Bytes with their type, the shape of HostAddress and of Checksum (RFC 4120 sections 5.2.5 and
+//! 5.2.9).
+
+ghost use Rattle.std.specs.Prelude.{◌≡◌, ◌<◌, ◌≤◌, ◌+◌, ◌++◌, length, OnOk};
+ghost use Rattle.krb_der.specs.Element.{joined, tagged};
+ghost use Rattle.krb_der.specs.Typed.{typed_fields, typed_octets};
+ghost use Rattle.krb_der.specs.Body.{IsShort};
+ghost use Rattle.krb_der.specs.Reading.{Gives, typed_of};
+
+use crate::error::DerError;
+use crate::integer::{int32_field_size, read_int32, write_int32_field};
+use crate::reader::{Reader, read_octets};
+use crate::tag;
+use crate::writer::{Writer, octets_field_size, size_around};
+use krb_base::Bytes;
+use std::alloc::{AllocError, Global};
+
+/// The type and the bytes that the bytes spell.
+#[tactic(auto, unfolding(crate::specs::Reading::typed_of))]
+pub fn read_typed(alloc: Global, bytes: &[u8]) -> Result<(i32, Bytes), DerError>
+    ensures { Gives (λ x. (x.0, x.1)) result (typed_of bytes.now) }
+{
+    let mut fields = Reader::inside(tag::SEQUENCE, bytes)?;
+    let kind = read_int32(fields.element(tag::FIELD_0)?)?;
+    let bytes = read_octets(alloc, fields.element(tag::FIELD_1)?)?;
+    fields.finish((kind, bytes))
+}
+
+fn fields_size(kind: &i32, bytes: &[u8]) -> usize
+    requires { IsShort bytes.now }
+    ensures value { result ≡ length (joined (typed_fields kind.now bytes.now)) }
+    ensures bound { result < length bytes.now + 24 }
+{
+    int32_field_size(kind) + octets_field_size(bytes)
+}
+
+/// How many bytes the spelling of a type and bytes has.
+pub fn typed_size(kind: &i32, bytes: &[u8]) -> usize
+    requires { IsShort bytes.now }
+    ensures value { result ≡ length (typed_octets kind.now bytes.now) }
+    ensures bound { result < length bytes.now + 30 }
+{
+    size_around(fields_size(kind, bytes))
+}
+
+/// Adds a field with a type and bytes.
+pub fn write_typed_field(
+    out: &mut Writer,
+    tag: u8,
+    kind: &i32,
+    bytes: &[u8],
+) -> Result<(), AllocError>
+    requires { IsShort bytes.now }
+    ensures { OnOk result (out.new ≡ out.old ++ tagged tag (typed_octets kind.now bytes.now)) }
+{
+    out.begin(tag, typed_size(kind, bytes))?;
+    out.begin(tag::SEQUENCE, fields_size(kind, bytes))?;
+    write_int32_field(out, tag::FIELD_0, kind)?;
+    out.octets_field(tag::FIELD_1, bytes)
+}
