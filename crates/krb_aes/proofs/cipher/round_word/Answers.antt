@@ -1,0 +1,20 @@
+use Rattle.std.proofs.Common.{◌≡◌, ℕ, ◌^◌, ◌<◌, bit_xor, ap, ◌∙◌, arith}
+use Rattle.krb_aes.specs.Field.{sbox}
+use Rattle.krb_aes.specs.Cipher.{word_byte}
+use Rattle.krb_aes.specs.Words.{round_word, mixed_word}
+use Rattle.krb_aes.proofs.Entries.{sbox-lt}
+use Rattle.krb_aes.proofs.Xor.{xor_late}
+use Rattle.krb_aes.proofs.WordLemmas.{table_sum}
+use Rattle.krb_aes.proofs.cipher.round_word.Goals as goal
+
+pub returns : goal.returns
+unfolding round_word
+returns c =
+    let a : word_byte c.args.a 0 < 256 = omega arith in
+    let b : word_byte c.args.b 1 < 256 = omega arith in
+    let d : word_byte c.args.c 2 < 256 = omega arith in
+    let e : word_byte c.args.d 3 < 256 = omega arith in
+    let all = table_sum _ _ _ _ (sbox-lt _ a) (sbox-lt _ b) (sbox-lt _ d) (sbox-lt _ e) in
+    xor_late c.mixed_first.result c.mixed_second.result c.mixed_third.result c.mixed_fourth.result c.args.key
+    ∙ rw (c.mixed_first.ensures, c.mixed_second.ensures, c.mixed_third.ensures, c.mixed_fourth.ensures, c.first_byte.ensures, c.second_byte.ensures, c.third_byte.ensures, c.fourth_byte.ensures)
+    (ap (λ (x : ℕ). bit_xor x c.args.key) all)

@@ -1,0 +1,113 @@
+// The equivalent inverse cipher on the words of a state (FIPS 197, section 5.3.5).
+
+ghost use Rattle.std.specs.Prelude.{◌≡◌, ℕ, ◌+◌, ◌*◌, ◌≤◌, List, length};
+ghost use Rattle.krb_aes.specs.Cipher.{add_round_key, cipher};
+ghost use Rattle.krb_aes.specs.Words.{AreBytes, columns, HasRounds};
+ghost use Rattle.krb_aes.specs.InverseCipher.{inv_mix_word, inv_sub_word, inv_round_word, inv_sub_bytes, inv_shift_rows, inv_mix_columns, inv_cipher, IsInverseKey};
+
+use crate::{tables, words};
+
+// The column that InvMixColumns makes of a column. The S-box undoes the inverse S-box of the tables.
+fn inv_mix_word(x: u32) -> u32
+    ensures { result ≡ inv_mix_word x }
+{
+    tables::inv_mixed_first(tables::sub(words::first_byte(x)))
+        ^ tables::inv_mixed_second(tables::sub(words::second_byte(x)))
+        ^ tables::inv_mixed_third(tables::sub(words::third_byte(x)))
+        ^ tables::inv_mixed_fourth(tables::sub(words::fourth_byte(x)))
+}
+
+// The key schedule of the equivalent inverse cipher: the words of an expanded key, each mixed back.
+pub fn inverse_key(w: &[u32; 60]) -> [u32; 60]
+    ensures value { IsInverseKey result w.now }
+    ensures size { length result ≡ 60 }
+{
+    let mut inverse = [0u32; 60];
+    for i in 0..60 {
+        inverse[i] = inv_mix_word(w[i]);
+    }
+    inverse
+}
+
+// A column before a round, from the columns whose bytes InvShiftRows brings together, and the key's word.
+fn inv_round_word(a: u32, b: u32, c: u32, d: u32, key: u32) -> u32
+    ensures { result ≡ inv_round_word a b c d key }
+{
+    let late = (key ^ tables::inv_mixed_fourth(words::fourth_byte(d)))
+        ^ tables::inv_mixed_third(words::third_byte(c));
+    let early = tables::inv_mixed_first(words::first_byte(a))
+        ^ tables::inv_mixed_second(words::second_byte(b));
+    late ^ early
+}
+
+// The same for the first round of the cipher, whose columns were not mixed.
+fn inv_sub_word(a: u32, b: u32, c: u32, d: u32) -> u32
+    ensures { result ≡ inv_sub_word a b c d }
+{
+    u32::from_be_bytes([
+        tables::inv_sub(words::first_byte(a)),
+        tables::inv_sub(words::second_byte(b)),
+        tables::inv_sub(words::third_byte(c)),
+        tables::inv_sub(words::fourth_byte(d)),
+    ])
+}
+
+// A round that mixes, undone: InvSubBytes, InvShiftRows, AddRoundKey n and InvMixColumns.
+fn inv_round(a: [u32; 4], inverse: &[u32], n: usize) -> [u32; 4]
+    requires { 4 * n + 4 ≤ length inverse.now }
+    ensures { (s w : List ℕ) → AreBytes s → a ≡ columns s → IsInverseKey inverse.now w → 4 * n + 4 ≤ length w
+        → result ≡ columns (inv_mix_columns (add_round_key w n (inv_sub_bytes (inv_shift_rows s)))) }
+{
+    [
+        inv_round_word(a[0], a[3], a[2], a[1], inverse[4 * n]),
+        inv_round_word(a[1], a[0], a[3], a[2], inverse[4 * n + 1]),
+        inv_round_word(a[2], a[1], a[0], a[3], inverse[4 * n + 2]),
+        inv_round_word(a[3], a[2], a[1], a[0], inverse[4 * n + 3]),
+    ]
+}
+
+// InvShiftRows and InvSubBytes.
+fn inv_sub(a: [u32; 4]) -> [u32; 4]
+    ensures { (s : List ℕ) → AreBytes s → a ≡ columns s → result ≡ columns (inv_sub_bytes (inv_shift_rows s)) }
+{
+    [
+        inv_sub_word(a[0], a[3], a[2], a[1]),
+        inv_sub_word(a[1], a[0], a[3], a[2]),
+        inv_sub_word(a[2], a[1], a[0], a[3]),
+        inv_sub_word(a[3], a[2], a[1], a[0]),
+    ]
+}
+
+// The inverse cipher of a state, from the expanded key and its inverse.
+#[inline(always)]
+pub fn decrypt_words(w: &[u32], inverse: &[u32], block: [u32; 4]) -> [u32; 4]
+    requires key { HasRounds w.now }
+    requires mixed { IsInverseKey inverse.now w.now }
+    requires room { length w.now ≤ length inverse.now }
+    ensures { (s : List ℕ) → AreBytes s → block ≡ columns s → result ≡ columns (inv_cipher w.now s) }
+{
+    let pairs = w.len() / 8 - 1;
+    let start = words::add_round_key(block, w, 2 * pairs + 2);
+    let mut a = inv_round(start, inverse, 2 * pairs + 1);
+    for n in 0..pairs {
+        let m = 2 * (pairs - n);
+        let half = inv_round(a, inverse, m);
+        let next = inv_round(half, inverse, m - 1);
+        a = next;
+    }
+    let first = inv_sub(a);
+    words::add_round_key(first, w, 0)
+}
+
+// The block whose cipher is `block`.
+pub fn decrypt(w: &[u32], inverse: &[u32], block: &[u8; 16]) -> [u8; 16]
+    requires key { HasRounds w.now }
+    requires mixed { IsInverseKey inverse.now w.now }
+    requires room { length w.now ≤ length inverse.now }
+    ensures value { result ≡ inv_cipher w.now block.now }
+    ensures image { cipher w.now result ≡ block.now }
+    ensures size { length result ≡ 16 }
+{
+    let start = words::load(block);
+    words::store(decrypt_words(w, inverse, start))
+}
