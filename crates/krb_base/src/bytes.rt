@@ -23,7 +23,7 @@ impl Bytes {
     pub fn new(vec: Vec<u8>) -> Bytes
         ensures { result ≡ vec.items }
     {
-        Bytes { vec }
+        Self { vec }
     }
 
     /// The bytes as a slice.

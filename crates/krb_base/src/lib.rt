@@ -14,3 +14,6 @@ mod prefix;
 pub use bytes::Bytes;
 pub use limits::{FRAME_LIMIT, RAW_LIMIT, TEXT_LIMIT, USER_DATA_LIMIT};
 pub use prefix::prefix_laws;
+
+#[cfg(test)]
+mod tests;

@@ -7,11 +7,8 @@ use Rattle.krb_der.specs.Element.{header, tagged}
 use Rattle.krb_der.specs.Integer.{width, complement, int_octets}
 use Rattle.krb_der.specs.Steps.{◌>>=◌}
 use Rattle.krb_der.specs.Reading.{ended, wide_length_at, length_at, cut_at, tagged_at, signed, fewest, int_of}
+use Rattle.krb_der.proofs.OptionSteps.{bind_some, provided, some_is}
 use Rattle.krb_der.proofs.Numbers.{IsBytes, IsBytes-drop, IsBytes-take, IsBytes-rest, IsBytes-big_endian, IsBytes-complement, length-big_endian, length-complement, complement-twice, be_value-below, be_value-again, big_endian-back, IsWidth, width_is, if_case}
-
-pub bind_some : {A B : Type 0} (r : Option A) (f : A → Option B) (y : B) → (r >>= f) ≡ Some y → (x : A) × (r ≡ Some x) × (f x ≡ Some y)
-bind_some None f y e = absurd cc
-bind_some (Some x) f y e = (x, refl, e)
 
 pub chosen : {A : Type 0} (b : Bool) (x y z : A) → cond b x y ≡ z → ((b ≡ true) × (x ≡ z)) ⊎ ((b ≡ false) × (y ≡ z))
 chosen true x y z e = inl (refl, e)
@@ -21,14 +18,6 @@ chosen false x y z e = inr (refl, e)
 pub unless : {A : Type 0} (b : Bool) (x : Option A) (y : A) → cond b None x ≡ Some y → (b ≡ false) × (x ≡ Some y)
 unless true x y e = absurd cc
 unless false x y e = (refl, e)
-
--- a test that must hold
-pub provided : {A : Type 0} (b : Bool) (x : Option A) (y : A) → cond b x None ≡ Some y → (b ≡ true) × (x ≡ Some y)
-provided true x y e = (refl, e)
-provided false x y e = absurd cc
-
-pub some_is : {A : Type 0} (x y : A) → ◌≡◌ {A = Option A} (Some x) (Some y) → x ≡ y
-some_is x y e = cc
 
 -- ---- lengths
 

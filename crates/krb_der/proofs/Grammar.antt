@@ -12,7 +12,7 @@ use Rattle.krb_der.specs.declared.message.Message.TheVariants.{Safe, Priv}
 use Rattle.krb_der.specs.Time.{kerberos_time, time_of}
 use Rattle.krb_der.specs.Element.{header, tagged, joined, sequence, optional, octets}
 use Rattle.krb_der.specs.Integer.{int_octets, integer, natural, IsInt32}
-use Rattle.krb_der.specs.Time.{time, IsTime}
+use Rattle.krb_der.specs.Time.{time, IsSecond}
 use Rattle.krb_der.specs.Typed.{typed_fields, typed_octets}
 use Rattle.krb_der.specs.Address.{host_address, IsAddress}
 use Rattle.krb_der.specs.Body.{body_fields, body, part, IsBody}
@@ -24,7 +24,8 @@ use Rattle.krb_der.specs.Steps.{◌>>=◌}
 use Rattle.krb_der.specs.Reading.{ended, alone, signed, int_of, as_int32, as_below, int32_of, below_of, int32_element_of, below_element_of, octets_of, typed_of, address_of, time_element_of, optional_at, body_of, safe_of, encrypted_of, private_of, message_of, part_of, starts_with, tagged_at, Gives, Fails}
 use Rattle.krb_der.proofs.Numbers.{IsBytes}
 use Rattle.krb_der.proofs.Times.{time-found, time-again}
-use Rattle.krb_der.proofs.Elements.{bind_some, unless, provided, some_is, int-found, int-again, chosen, tagged-again}
+use Rattle.krb_der.proofs.OptionSteps.{bind_some, provided, some_is}
+use Rattle.krb_der.proofs.Elements.{unless, int-found, int-again, chosen, tagged-again}
 use Rattle.krb_der.proofs.Readers.{Reads, ReadsFields, no_field, field, optional_field, all_fields, in_tag, under_tag, length-tagged}
 use Rattle.std.proofs.lemmas.Option.{some_pair_parts, none-some}
 use Rattle.krb_der.specs.declared.error.DerError.{DerError}
@@ -129,11 +130,11 @@ address_reads = record { found = address-found; again = address-again }
 
 -- ---- times
 
-pub time_text_reads : Reads IsTime kerberos_time time_of
+pub time_text_reads : Reads IsSecond kerberos_time time_of
 time_text_reads = record { found = λ c v fits e. time-found c v e; again = λ v h lt. time-again v h }
 
-time_reads : Reads IsTime time time_element_of
-time_reads = in_tag 0x18 IsTime kerberos_time time_of time_text_reads
+time_reads : Reads IsSecond time time_element_of
+time_reads = in_tag 0x18 IsSecond kerberos_time time_of time_text_reads
 
 abbrev IsU32 : ℕ → Type 0
 IsU32 n = n < 2 ^ 32
@@ -165,7 +166,7 @@ body_reads =
     let f5 = λ (u : List ℕ) (t c q : Option ℕ). field 0xA4 0xA3 IsAddress host_address address_of (λ v. v.s_addr) (K4 u t c q) _ _ _ address_reads (f6 u t c q) (omega arith) in
     let f4 = λ (u : List ℕ) (t c : Option ℕ). optional_field 0xA3 0xA2 IsU32 natural (below_element_of (2 ^ 32)) (λ v. v.seq) (K3 u t c) _ _ _ u32_reads (f5 u t c) (omega arith) in
     let f3 = λ (u : List ℕ) (t : Option ℕ). optional_field 0xA2 0xA1 IsMicro natural (below_element_of 1000000) (λ v. v.usec) (K2 u t) _ _ _ micro_reads (f4 u t) (omega arith) in
-    let f2 = λ (u : List ℕ). optional_field 0xA1 0xA0 IsTime time time_element_of (λ v. v.time) (K1 u) _ _ _ time_reads (f3 u) (omega arith) in
+    let f2 = λ (u : List ℕ). optional_field 0xA1 0xA0 IsSecond time time_element_of (λ v. v.time) (K1 u) _ _ _ time_reads (f3 u) (omega arith) in
     let f1 = field 0xA0 0 Any octets octets_of (λ v. v.user_data) Any _ _ _ octets_reads f2 (omega arith) in
     under_tag 0x30 IsBody (λ b. joined (body_fields b)) _ (all_fields 0 _ IsBody body_fields _ f1
     (λ v h. record { time = h.1.0; usec = h.1.1.0; seq = h.1.1.1.0; s_addr = h.1.1.1.1.0; r_addr = h.1.1.1.1.1.0 })

@@ -11,7 +11,8 @@ use Rattle.krb_der.specs.Address.{host_address, IsAddress}
 use Rattle.krb_der.specs.Steps.{◌>>=◌}
 use Rattle.krb_der.specs.Reading.{ended, tagged_at, alone, with_field, starts_with, optional_at, signed, int_of, as_int32, as_below, int32_of, below_of, octets_of, address_of}
 use Rattle.krb_der.proofs.Numbers.{IsBytes, if_case}
-use Rattle.krb_der.proofs.Elements.{bind_some, chosen, unless, provided, some_is, tagged-again, Tagged, tagged-found, eqb-same, int-found, int-again}
+use Rattle.krb_der.proofs.OptionSteps.{bind_some, provided, some_is}
+use Rattle.krb_der.proofs.Elements.{chosen, unless, tagged-again, Tagged, tagged-found, eqb-same, int-found, int-again}
 
 cases_bool : (b : Bool) → (b ≡ true) ⊎ (b ≡ false)
 cases_bool true = inl refl

@@ -5,7 +5,7 @@ use Rattle.krb_der.specs.declared.body.Body.{Body}
 use Rattle.krb_der.specs.Tag.{context, application}
 use Rattle.krb_der.specs.Element.{tagged, sequence, optional, octets}
 use Rattle.krb_der.specs.Integer.{natural, IsUInt32, IsMicroseconds}
-use Rattle.krb_der.specs.Time.{time, IsTime}
+use Rattle.krb_der.specs.Time.{time, IsSecond}
 use Rattle.krb_der.specs.Address.{host_address, IsAddress}
 
 abbrev pub body_fields : Body → List (List ℕ)
@@ -26,7 +26,7 @@ abbrev pub part : Body → List ℕ
 part b = tagged (application 28) (body b)
 
 pub record IsBody (b : Body) : Type 0 where
-  pub time : IfSome b.time IsTime
+  pub time : IfSome b.time IsSecond
   pub usec : IfSome b.usec IsMicroseconds
   pub seq : IfSome b.seq IsUInt32
   pub s_addr : IsAddress b.s_addr
@@ -34,7 +34,7 @@ pub record IsBody (b : Body) : Type 0 where
 
 -- The time and the microseconds are in range. The other ranges of a body are those of its numbers' types.
 abbrev pub InRange : Body → Type 0
-InRange b = IfSome b.time IsTime × IfSome b.usec IsMicroseconds
+InRange b = IfSome b.time IsSecond × IfSome b.usec IsMicroseconds
 
 -- no byte string is longer than a message may be
 abbrev pub IsShort : List ℕ → Type 0

@@ -3,7 +3,9 @@ pub mod Tag
 pub mod Length
 pub mod Element
 pub mod Integer
+pub mod Calendar
 pub mod Time
+pub mod Moment
 pub mod Typed
 pub mod Address
 pub mod Body

@@ -4,7 +4,7 @@ ghost use Rattle.krb_der.specs.declared.error.DerError.TheVariants.{Memory};
 ghost use Rattle.krb_base.specs.Limits.{frame_limit};
 ghost use Rattle.krb_der.specs.Element.{joined, optional};
 ghost use Rattle.krb_der.specs.Time;
-ghost use Rattle.krb_der.specs.Time.{IsTime};
+ghost use Rattle.krb_der.specs.Time.{IsSecond};
 ghost use Rattle.krb_der.specs.Address.{host_address, IsAddress};
 ghost use Rattle.krb_der.specs.Body.{InRange, IsBody, IsShort, IsShortBody, body, body_fields, part};
 ghost use Rattle.krb_der.specs.Message.{Decodes, Encodes, SpellsPart};
@@ -15,14 +15,12 @@ use crate::error::DerError;
 use crate::integer::{UINT32_LIMIT, known_uint32, natural_field_size, read_optional_natural, write_natural_field};
 use crate::reader::{Reader, only_element, read_octets};
 use crate::tag;
-use crate::time::{kerberos_time, time_at};
+use crate::time::{LAST_SECOND, kerberos_time, time_at};
 use crate::typed::{typed_size, write_typed_field};
 use crate::writer::{Writer, octets_field_size, size_around};
 use krb_base::{Bytes, FRAME_LIMIT};
 use std::alloc::{AllocError, Global};
 
-/// The first second after the year 9999.
-const TIME_LIMIT: u64 = 253_402_300_800;
 /// The first number of microseconds that is a second.
 const MICROSECONDS_LIMIT: u32 = 1_000_000;
 
@@ -51,7 +49,7 @@ impl Body {
         ensures { IsTrue result ↔ InRange self.now }
     {
         let time = match self.time {
-            Some(secs) => secs < TIME_LIMIT,
+            Some(secs) => secs <= LAST_SECOND,
             None => true,
         };
         let usec = match self.usec {
@@ -66,7 +64,7 @@ fn read_time(bytes: &[u8]) -> Result<u64, DerError>
     ensures { Gives (λ x. x) result (time_element_of bytes.now) }
 {
     let mut reader = Reader::new(bytes);
-    let secs = time_at(reader.element(tag::GENERALIZED_TIME)?)?;
+    let secs = time_at(reader.element(tag::GENERALIZED_TIME)?).ok_or(DerError::Malformed)?;
     reader.finish(secs)
 }
 
@@ -126,7 +124,7 @@ pub fn is_short(bytes: &[u8]) -> bool
 }
 
 fn optional_time_size(time: Option<u64>) -> usize
-    requires { IfSome time IsTime }
+    requires { IfSome time IsSecond }
     ensures value { result ≡ length (optional 0 Time.time time) }
     ensures bound { result ≤ 19 }
 {
@@ -137,7 +135,7 @@ fn optional_time_size(time: Option<u64>) -> usize
 }
 
 fn write_optional_time(out: &mut Writer, tag: u8, time: Option<u64>) -> Result<(), AllocError>
-    requires { IfSome time IsTime }
+    requires { IfSome time IsSecond }
     ensures { OnOk result (out.new ≡ out.old ++ optional tag Time.time time) }
 {
     match time {
@@ -208,7 +206,7 @@ impl Body {
 
     fn fields_size(&self) -> usize
         requires short { IsShortBody self.now }
-        requires time { IfSome self.now.time IsTime }
+        requires time { IfSome self.now.time IsSecond }
         ensures value { result ≡ length (joined (body_fields self.now)) }
         ensures bound { result ≤ 3 * frame_limit + 200 }
     {
@@ -223,7 +221,7 @@ impl Body {
     /// How many bytes it has.
     pub(crate) fn size(&self) -> usize
         requires short { IsShortBody self.now }
-        requires time { IfSome self.now.time IsTime }
+        requires time { IfSome self.now.time IsSecond }
         ensures value { result ≡ length (body self.now) }
         ensures bound { result ≤ 3 * frame_limit + 210 }
     {
@@ -234,7 +232,7 @@ impl Body {
     #[tactic(auto, unfolding(crate::specs::Body::body))]
     pub(crate) fn write(&self, out: &mut Writer) -> Result<(), AllocError>
         requires short { IsShortBody self.now }
-        requires time { IfSome self.now.time IsTime }
+        requires time { IfSome self.now.time IsSecond }
         ensures { OnOk result (out.new ≡ out.old ++ body self.now) }
     {
         out.begin(tag::SEQUENCE, self.fields_size())?;
@@ -256,7 +254,7 @@ impl Body {
     /// How many bytes its spelling as an encrypted part has.
     fn part_size(&self) -> usize
         requires short { IsShortBody self.now }
-        requires time { IfSome self.now.time IsTime }
+        requires time { IfSome self.now.time IsSecond }
         ensures { result ≡ length (part self.now) }
     {
         size_around(self.size())
@@ -265,7 +263,7 @@ impl Body {
     /// Its spelling as an encrypted part, in a `Vec` with room for so many bytes.
     fn part_spelling(&self, alloc: Global, size: usize) -> Result<Vec<u8>, AllocError>
         requires short { IsShortBody self.now }
-        requires time { IfSome self.now.time IsTime }
+        requires time { IfSome self.now.time IsSecond }
         ensures { IfOk result (λ v. v.items ≡ part self.now) }
     {
         let mut out = Writer::with_capacity(alloc, size)?;

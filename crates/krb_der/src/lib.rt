@@ -37,4 +37,7 @@ pub use message::{Message, decode};
 pub use moment::Moment;
 pub use private::{PrivMsg, encode_priv};
 pub use safe::{SafeMsg, encode_safe, safe_input};
-pub use time::{kerberos_time, read_kerberos_time};
+pub use time::{LAST_SECOND, kerberos_time, kerberos_time_names_its_second, read_kerberos_time};
+
+#[cfg(test)]
+mod tests;

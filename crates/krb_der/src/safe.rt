@@ -3,7 +3,7 @@ ghost use Rattle.krb_base.specs.Limits.{frame_limit};
 ghost use Rattle.krb_der.specs.declared.message.Message.TheVariants.{Safe};
 ghost use Rattle.krb_der.specs.Element.{joined};
 ghost use Rattle.krb_der.specs.Integer.{IsInt32};
-ghost use Rattle.krb_der.specs.Time.{IsTime};
+ghost use Rattle.krb_der.specs.Time.{IsSecond};
 ghost use Rattle.krb_der.specs.Body.{InRange, IsBody, IsShort, IsShortBody};
 ghost use Rattle.krb_der.specs.Safe.{safe, safe_fields, with_checksum};
 ghost use Rattle.krb_der.specs.Message.{Encodes, Spells, message};
@@ -57,7 +57,7 @@ impl SafeMsg {
     fn fields_size(&self, kind: &i32, checksum: &[u8]) -> usize
         requires short { IsShortBody self.now.body }
         requires short_checksum { IsShort checksum.now }
-        requires time { IfSome self.now.body.time IsTime }
+        requires time { IfSome self.now.body.time IsSecond }
         ensures value { result
             ≡ length (joined (safe_fields (with_checksum self.now kind.now checksum.now))) }
         ensures bound { result ≤ 4 * frame_limit + 300 }
@@ -72,7 +72,7 @@ impl SafeMsg {
     fn size(&self, kind: &i32, checksum: &[u8]) -> usize
         requires short { IsShortBody self.now.body }
         requires short_checksum { IsShort checksum.now }
-        requires time { IfSome self.now.body.time IsTime }
+        requires time { IfSome self.now.body.time IsSecond }
         ensures { result ≡ length (safe (with_checksum self.now kind.now checksum.now)) }
     {
         size_around(size_around(self.fields_size(kind, checksum)))
@@ -87,7 +87,7 @@ impl SafeMsg {
     ) -> Result<(), AllocError>
         requires short { IsShortBody self.now.body }
         requires short_checksum { IsShort checksum.now }
-        requires time { IfSome self.now.body.time IsTime }
+        requires time { IfSome self.now.body.time IsSecond }
         ensures { OnOk result (out.new
             ≡ out.old ++ joined (safe_fields (with_checksum self.now kind.now checksum.now))) }
     {
@@ -108,7 +108,7 @@ impl SafeMsg {
     ) -> Result<Vec<u8>, AllocError>
         requires short { IsShortBody self.now.body }
         requires short_checksum { IsShort checksum.now }
-        requires time { IfSome self.now.body.time IsTime }
+        requires time { IfSome self.now.body.time IsSecond }
         ensures { IfOk result (λ v. v.items ≡ safe (with_checksum self.now kind.now checksum.now)) }
     {
         let fields = self.fields_size(kind, checksum);

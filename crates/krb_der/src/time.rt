@@ -1,74 +1,118 @@
-ghost use Rattle.std.specs.Prelude.{◌≡◌, ◌<◌, ◌≤◌, ◌+◌, ◌*◌, IfOk, IfErr, IfSome, ℕ, IfNone, MatchOption};
+// Kerberos times (RFC 4120 section 5.2.3): the fifteen bytes YYYYMMDDHHMMSSZ of a second.
+
+ghost use Rattle.std.specs.Prelude.{◌≡◌, ◌↔◌, ◌<◌, ◌≤◌, ◌*◌, ℕ, List, pos, Some, IfSome, option_map};
+ghost use Rattle.jiff.specs.Words.{civil_nanos};
 ghost use Rattle.krb_der.specs.Time;
-ghost use Rattle.krb_der.specs.Time.{year_of, month_of, day_of, pair_of, is_zulu, is_date, is_clock, date_of, clock_of, second_of, time_of};
-ghost use Rattle.krb_der.specs.Reading.{Gives};
-ghost use Rattle.krb_der.specs.declared.error.DerError.TheVariants as DerError;
+ghost use Rattle.krb_der.specs.Time.{last_second, pair_of, time_of, IsKerberosTime, NamesSameTime};
 
-use crate::error::DerError;
-use jiff_core::civil::Date;
+use jiff::civil::{DateTime, datetime};
+use std::time::Duration;
 
-/// The number of two digits, and what follows.
+/// The last second whose year has four digits, 9999-12-31T23:59:59Z.
+pub const LAST_SECOND: u64 = 253_402_300_799;
+
+/// 1970-01-01T00:00:00, from which seconds are counted.
+fn epoch() -> DateTime
+    ensures { civil_nanos result ≡ pos 0 }
+{
+    datetime(1970, 1, 1, 0, 0, 0, 0)
+}
+
+/// The date and the time of day of a second.
+fn civil(secs: u64) -> DateTime
+    requires { secs ≤ last_second }
+    ensures { civil_nanos result ≡ pos (1_000_000_000 * secs) }
+{
+    epoch() + Duration::from_secs(secs)
+}
+
+/// The last decimal digit of a number.
+fn digit(n: u16) -> u8
+    ensures { result ≡ Time.digit n }
+{
+    b'0' + (n % 10) as u8
+}
+
+/// The text of a second, counted from 1970-01-01T00:00:00Z: the digits of its year, month, day,
+/// hour, minute and second in UTC, and a `Z` (RFC 4120 section 5.2.3).
+pub fn kerberos_time(secs: u64) -> [u8; 15]
+    requires { secs ≤ last_second }
+    ensures { result ≡ Time.kerberos_time secs }
+{
+    let at = civil(secs);
+    let year = at.year() as u16;
+    let (month, day) = (at.month() as u16, at.day() as u16);
+    let (hour, minute, second) = (at.hour() as u16, at.minute() as u16, at.second() as u16);
+    [
+        digit(year / 1000),
+        digit(year / 100),
+        digit(year / 10),
+        digit(year),
+        digit(month / 10),
+        digit(month),
+        digit(day / 10),
+        digit(day),
+        digit(hour / 10),
+        digit(hour),
+        digit(minute / 10),
+        digit(minute),
+        digit(second / 10),
+        digit(second),
+        b'Z',
+    ]
+}
+
+/// The number that two digits write, and what follows them.
 #[tactic(auto, unfolding(crate::specs::Time::pair_of))]
-fn pair(text: &[u8]) -> Result<(u64, &[u8]), DerError>
-    ensures gives { Gives (λ x. (x.0, x.1.now)) result (pair_of text.now) }
-    ensures below { IfOk result (λ x. x.0 < 100) }
-    ensures err { IfErr result (λ e. e ≡ DerError.Malformed) }
+fn pair(text: &[u8]) -> Option<(u8, &[u8])>
+    ensures gives { option_map (λ x. (x.0, x.1.now)) result ≡ pair_of text.now }
+    ensures below { IfSome result (λ x. x.0 < 100) }
 {
     match text {
-        [a, b, rest @ ..] => {
-            let (a, b) = (*a, *b);
-            if 48 <= a && a <= 57 && 48 <= b && b <= 57 {
-                Ok((u64::from(10 * (a - 48) + (b - 48)), rest))
-            } else {
-                Err(DerError::Malformed)
-            }
+        [tens, units, rest @ ..] if tens.is_ascii_digit() && units.is_ascii_digit() => {
+            Some((10 * (*tens - b'0') + (*units - b'0'), rest))
         }
-        _ => Err(DerError::Malformed),
+        _ => None,
     }
 }
 
-fn ends_in_zulu(rest: &[u8]) -> bool
-    ensures { result ≡ is_zulu rest.now }
+/// Whether nothing is left but the `Z`.
+fn is_zulu(rest: &[u8]) -> bool
+    ensures { result ≡ Time.is_zulu rest.now }
 {
-    match rest {
-        [only] => *only == 90,
-        _ => false,
-    }
+    matches!(rest, [b'Z'])
 }
 
-/// The number of a date of 1970 or later, counted from 1970-01-01.
-fn day_number(year: u64, month: u64, day: u64) -> Result<u64, DerError>
-    requires year { year < 10000 }
+/// The second that a date and a time of day name, from 1970 on.
+fn second_of(year: u16, month: u8, day: u8, hour: u8, minute: u8, second: u8) -> Option<u64>
+    requires year { year < 10_000 }
     requires month { month < 100 }
     requires day { day < 100 }
-    ensures gives { Gives (λ x. x) result (date_of year month day) }
-    ensures below { IfOk result (λ x. x ≤ 2932896) }
-    ensures err { IfErr result (λ e. e ≡ DerError.Malformed) }
+    requires hour { hour < 100 }
+    requires minute { minute < 100 }
+    requires second { second < 100 }
+    ensures { result ≡ Time.second_of year month day hour minute second }
 {
     if year < 1970 {
-        return Err(DerError::Malformed);
+        return None;
     }
-    match Date::new(year as i16, month as i8, day as i8) {
-        Ok(date) => Ok(date.to_unix_epoch_day() as u64),
-        Err(_) => Err(DerError::Malformed),
-    }
+    let at = DateTime::new(
+        year as i16,
+        month as i8,
+        day as i8,
+        hour as i8,
+        minute as i8,
+        second as i8,
+        0,
+    )
+    .ok()?;
+    Some(at.duration_since(epoch()).as_secs() as u64)
 }
 
-fn second_in_day(hour: u64, minute: u64, second: u64) -> Option<u64>
-    ensures { result ≡ clock_of hour minute second }
-{
-    if hour < 24 && minute < 60 && second < 60 {
-        Some(3600 * hour + 60 * minute + second)
-    } else {
-        None
-    }
-}
-
-/// The second that the text names.
+/// The second that a text names.
 #[tactic(auto, unfolding(crate::specs::Time::time_of))]
-pub fn time_at(text: &[u8]) -> Result<u64, DerError>
-    ensures gives { Gives (λ x. x) result (time_of text.now) }
-    ensures err { IfErr result (λ e. e ≡ DerError.Malformed) }
+pub(crate) fn time_at(text: &[u8]) -> Option<u64>
+    ensures { result ≡ time_of text.now }
 {
     let (century, rest) = pair(text)?;
     let (year, rest) = pair(rest)?;
@@ -77,61 +121,84 @@ pub fn time_at(text: &[u8]) -> Result<u64, DerError>
     let (hour, rest) = pair(rest)?;
     let (minute, rest) = pair(rest)?;
     let (second, rest) = pair(rest)?;
-    if !ends_in_zulu(rest) {
-        return Err(DerError::Malformed);
+    if !is_zulu(rest) {
+        return None;
     }
-    let days = day_number(100 * century + year, month, day)?;
-    let seconds = second_in_day(hour, minute, second).ok_or(DerError::Malformed)?;
-    Ok(86400 * days + seconds)
+    second_of(
+        100 * u16::from(century) + u16::from(year),
+        month,
+        day,
+        hour,
+        minute,
+        second,
+    )
 }
 
-/// The year, month and day of a day number.
-fn civil_date(day: u64) -> (u64, u64, u64)
-    requires { day ≤ 2932896 }
-    ensures year { result.0 ≡ year_of day }
-    ensures month { result.1 ≡ month_of day }
-    ensures day { result.2 ≡ day_of day }
-    ensures bounds { (result.0 < 10000) × (result.1 < 100) × (result.2 < 100) }
-{
-    match Date::from_unix_epoch_day(day as i64) {
-        Ok(date) => (date.year as u64, date.month as u64, date.day as u64),
-        Err(_) => unreachable!(),
-    }
-}
-
-/// The fifteen bytes of a second up to the end of 9999.
-#[tactic(auto, unfolding(crate::specs::Time::kerberos_time))]
-pub fn kerberos_time(secs: u64) -> [u8; 15]
-    requires { secs < 253402300800 }
-    ensures { result ≡ Time.kerberos_time secs }
-{
-    let (year, month, day) = civil_date(secs / 86400);
-    let second = secs % 86400;
-    let (century, year) = (year / 100, year % 100);
-    let (hour, minute, second) = (second / 3600, second / 60 % 60, second % 60);
-    [
-        (48 + century / 10) as u8,
-        (48 + century % 10) as u8,
-        (48 + year / 10) as u8,
-        (48 + year % 10) as u8,
-        (48 + month / 10) as u8,
-        (48 + month % 10) as u8,
-        (48 + day / 10) as u8,
-        (48 + day % 10) as u8,
-        (48 + hour / 10) as u8,
-        (48 + hour % 10) as u8,
-        (48 + minute / 10) as u8,
-        (48 + minute % 10) as u8,
-        (48 + second / 10) as u8,
-        (48 + second % 10) as u8,
-        90,
-    ]
-}
-
-/// The second whose fifteen bytes these are.
+/// The second whose [`kerberos_time`] this text is. `None` for any other text: one of another
+/// length or form, a date that the calendar doesn't have, a year before 1970, a second 60.
 pub fn read_kerberos_time(text: &[u8]) -> Option<u64>
-    ensures found { IfSome result (λ s. (s < 253402300800) × (text.now ≡ Time.kerberos_time s)) }
-    ensures none { IfNone result ((s : ℕ) → s < 253402300800 → text.now ≡ Time.kerberos_time s → ⊥) }
+    ensures { (s : ℕ) → (result ≡ Some s) ↔ IsKerberosTime s text.now }
 {
-    time_at(text).ok()
+    time_at(text)
+}
+
+/// A law, and no work: a text is the Kerberos time of a second exactly where both name the same
+/// date of the calendar and time of day, in the years 1970 to 9999.
+pub fn kerberos_time_names_its_second()
+    ensures { (s : ℕ) (text : List ℕ) → IsKerberosTime s text ↔ NamesSameTime s text }
+{}
+
+#[cfg(test)]
+mod tests {
+    use super::*;
+
+    // The seconds are those of Python's datetime. The time of 1985 is the example of RFC 4120
+    // section 5.2.3, "6 minutes, 27 seconds after 9 pm on 6 November 1985".
+    #[test]
+    fn writes_and_reads_the_same_time(rt: HostRuntime) {
+        for (secs, text) in [
+            (0, b"19700101000000Z"),
+            (500_159_187, b"19851106210627Z"),
+            (951_825_600, b"20000229120000Z"),
+            (1_700_000_000, b"20231114221320Z"),
+            (1_709_251_199, b"20240229235959Z"),
+            (2_147_483_648, b"20380119031408Z"),
+            (4_107_542_399, b"21000228235959Z"),
+            (4_107_542_400, b"21000301000000Z"),
+            (4_294_967_296, b"21060207062816Z"),
+            (253_402_300_799, b"99991231235959Z"),
+        ] {
+            assert!(rt; secs <= LAST_SECOND);
+            assert_eq!(rt; kerberos_time(secs), *text, "at {secs}");
+            assert_eq!(rt; read_kerberos_time(text), Some(secs), "at {secs}");
+        }
+    }
+
+    #[test]
+    fn refuses_what_is_no_time(rt: HostRuntime) {
+        let refused: [&[u8]; 19] = [
+            b"",
+            b"20231114221320",
+            b"2023111422132Z",
+            b"20231114221320Z0",
+            b"20231114221320ZZ",
+            b"20231114221320z",
+            b"20231114221320.5Z",
+            b"2023111422132oZ",
+            b"+0231114221320Z",
+            b"20231114221360Z",
+            b"20231114226020Z",
+            b"20231114241320Z",
+            b"20231100221320Z",
+            b"20230229221320Z",
+            b"21000229000000Z",
+            b"20230431000000Z",
+            b"20231314221320Z",
+            b"20230014221320Z",
+            b"19691231235959Z",
+        ];
+        for (at, text) in refused.iter().enumerate() {
+            assert_eq!(rt; read_kerberos_time(text), None, "at {at}");
+        }
+    }
 }

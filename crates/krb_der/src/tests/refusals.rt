@@ -1,0 +1,150 @@
+use super::{PART, PRIV, PRIV_WITH_KVNO, SAFE, SAFE_TO_RECEIVER};
+use crate::{DerError, decode, decode_part};
+use std::alloc::{AllocError, Global};
+use std::test::Fail;
+
+/// What `decode` answers, as the number of its error, or 0.
+fn answer(alloc: Global, bytes: &[u8]) -> u32 {
+    match decode(alloc, bytes) {
+        Ok(_) => 0,
+        Err(error) => error.code(),
+    }
+}
+
+/// The same of `decode_part`.
+fn part_answer(alloc: Global, bytes: &[u8]) -> u32 {
+    match decode_part(alloc, bytes) {
+        Ok(_) => 0,
+        Err(error) => error.code(),
+    }
+}
+
+/// A message with other bytes in place of those from `start` to `end`.
+fn replaced(
+    alloc: Global,
+    message: &[u8],
+    start: usize,
+    end: usize,
+    by: &[u8],
+) -> Result<Vec<u8>, AllocError> {
+    let mut bytes = Vec::new(alloc);
+    if start <= end && end <= message.len() {
+        bytes.extend_from_slice(&message[..start])?;
+        bytes.extend_from_slice(by)?;
+        bytes.extend_from_slice(&message[end..])?;
+    }
+    Ok(bytes)
+}
+
+#[test]
+fn errors_have_their_numbers(rt: HostRuntime) {
+    assert_eq!(rt; DerError::TooLong.code(), 1);
+    assert_eq!(rt; DerError::Malformed.code(), 2);
+    assert_eq!(rt; DerError::Memory.code(), 3);
+}
+
+#[test]
+fn what_spells_nothing_is_malformed(rt: HostRuntime) -> Result<(), Fail> {
+    let alloc = rt.alloc();
+    assert_eq!(rt; answer(alloc, &[]), 2);
+    assert_eq!(rt; answer(alloc, &[0x74, 0x80]), 2);
+    assert_eq!(rt; answer(alloc, &SAFE[..83]), 2);
+    let trailing = replaced(alloc, &SAFE, 84, 84, &[0x00])?;
+    assert_eq!(rt; answer(alloc, &trailing), 2);
+    // A negative sequence number.
+    let negative = replaced(alloc, &SAFE, 49, 54, &[0xa3, 0x03, 0x02, 0x01, 0xff])?;
+    assert_eq!(rt; negative.len(), 84);
+    assert_eq!(rt; answer(alloc, &negative), 2);
+    assert_eq!(rt; answer(alloc, &[0x74, 0x82, 0xff, 0xff]), 2);
+    assert_eq!(rt; answer(alloc, &[0x74, 0x84, 0xff, 0xff, 0xff, 0xff]), 2);
+    assert_eq!(rt; answer(alloc, &[0x74, 0xff]), 2);
+    assert_eq!(rt; answer(alloc, &[0x74, 0x00]), 2);
+    assert_eq!(rt; answer(alloc, &[0x75, 0x00]), 2);
+    Ok(())
+}
+
+#[test]
+fn lengths_that_are_not_the_shortest_are_malformed(rt: HostRuntime) -> Result<(), Fail> {
+    let alloc = rt.alloc();
+    let two = replaced(alloc, &SAFE, 0, 2, &[0x74, 0x81, 0x52])?;
+    assert_eq!(rt; answer(alloc, &two), 2);
+    let three = replaced(alloc, &SAFE, 0, 2, &[0x74, 0x82, 0x00, 0x52])?;
+    assert_eq!(rt; answer(alloc, &three), 2);
+    let four = replaced(alloc, &SAFE, 0, 2, &[0x74, 0x83, 0x00, 0x00, 0x52])?;
+    assert_eq!(rt; answer(alloc, &four), 2);
+    // The cipher of KRB-PRIV as 04 81 00, all lengths around it one more.
+    let inside = [
+        0x75, 0x1a, 0x30, 0x18, 0xa0, 0x03, 0x02, 0x01, 0x05, 0xa1, 0x03, 0x02, 0x01, 0x15, 0xa3,
+        0x0c, 0x30, 0x0a, 0xa0, 0x03, 0x02, 0x01, 0x11, 0xa2, 0x03, 0x04, 0x81, 0x00,
+    ];
+    assert_eq!(rt; answer(alloc, &inside), 2);
+    let part = replaced(alloc, &PART, 0, 2, &[0x7c, 0x81, 0x37])?;
+    assert_eq!(rt; part_answer(alloc, &part), 2);
+    let sequence = replaced(alloc, &PART, 0, 4, &[0x7c, 0x38, 0x30, 0x81, 0x35])?;
+    assert_eq!(rt; part_answer(alloc, &sequence), 2);
+    Ok(())
+}
+
+#[test]
+fn field_that_krb_priv_lacks_is_malformed(rt: HostRuntime) {
+    // [2] between [1] and [3].
+    let bytes = [
+        0x75, 0x1e, 0x30, 0x1c, 0xa0, 0x03, 0x02, 0x01, 0x05, 0xa1, 0x03, 0x02, 0x01, 0x15, 0xa2,
+        0x03, 0x02, 0x01, 0x05, 0xa3, 0x0b, 0x30, 0x09, 0xa0, 0x03, 0x02, 0x01, 0x11, 0xa2, 0x02,
+        0x04, 0x00,
+    ];
+    assert_eq!(rt; answer(rt.alloc(), &bytes), 2);
+}
+
+#[test]
+fn more_than_the_limit_is_too_long(rt: HostRuntime) -> Result<(), Fail> {
+    let zeros = vec![in rt.alloc(); 0u8; 65_001]?;
+    assert_eq!(rt; answer(rt.alloc(), &zeros), 1);
+    assert_eq!(rt; part_answer(rt.alloc(), &zeros), 1);
+    assert_eq!(rt; answer(rt.alloc(), &zeros.as_slice()[..65_000]), 2);
+    assert_eq!(rt; part_answer(rt.alloc(), &zeros.as_slice()[..65_000]), 2);
+    Ok(())
+}
+
+/// How many of the proper prefixes are malformed.
+fn malformed_prefixes(alloc: Global, message: &[u8]) -> usize {
+    (0..message.len())
+        .filter(|n| answer(alloc, &message[..*n]) == 2)
+        .count()
+}
+
+/// Of the single bit flips, how many spell a message and how many are malformed.
+fn answers_to_flips(alloc: Global, message: &[u8]) -> Result<(u32, u32), AllocError> {
+    let mut bytes = Vec::from_slice(alloc, message)?;
+    let (mut spelt, mut malformed) = (0u32, 0u32);
+    for i in 0..bytes.len() {
+        for bit in 0..8u32 {
+            let byte = bytes[i];
+            bytes[i] = byte ^ (1 << bit);
+            match answer(alloc, &bytes) {
+                0 => spelt = spelt.saturating_add(1),
+                2 => malformed = malformed.saturating_add(1),
+                _ => {}
+            }
+            bytes[i] = byte;
+        }
+    }
+    Ok((spelt, malformed))
+}
+
+#[test]
+fn every_proper_prefix_is_malformed(rt: HostRuntime) {
+    assert_eq!(rt; malformed_prefixes(rt.alloc(), &SAFE), 84);
+    assert_eq!(rt; malformed_prefixes(rt.alloc(), &SAFE_TO_RECEIVER), 78);
+    assert_eq!(rt; malformed_prefixes(rt.alloc(), &PRIV), 27);
+    assert_eq!(rt; malformed_prefixes(rt.alloc(), &PRIV_WITH_KVNO), 32);
+}
+
+#[test]
+fn bit_flips_are_read_as_an_independent_reader_does(rt: HostRuntime) -> Result<(), Fail> {
+    assert_eq!(rt; answers_to_flips(rt.alloc(), &SAFE)?, (135, 537));
+    assert_eq!(rt; answers_to_flips(rt.alloc(), &SAFE_TO_RECEIVER)?, (135, 489));
+    assert_eq!(rt; answers_to_flips(rt.alloc(), &PRIV)?, (24, 192));
+    assert_eq!(rt; answers_to_flips(rt.alloc(), &PRIV_WITH_KVNO)?, (31, 225));
+    Ok(())
+}
