@@ -59,14 +59,17 @@ inv_round_words s a w u n x y z t h e undone room ex ey ez et =
     let pt = et ∙ (λ i. inv_round_word (get_or (e i) 3 0) (get_or (e i) 2 0) (get_or (e i) 1 0) (get_or (e i) 0 0) (k3 i)) ∙ back_column s 3 2 1 0 (get_or w (4 * n + 3) 0) h in
     λ i. px i ∷ py i ∷ pz i ∷ pt i ∷ []
 
+-- the state after round n undone in this order
+abbrev pub inv_state : List ℕ → ℕ → List ℕ → List ℕ
+inv_state w n t = inv_mix_columns (add_round_key w n (inv_sub_bytes (inv_shift_rows t)))
+
 -- a round in this form is a round of the inverse cipher
 pub inv_step : (w t : List ℕ) (k m : ℕ) → k ≡ m + 1
-    → inv_rounds w m (inv_sub_bytes (inv_shift_rows (inv_mix_columns (add_round_key w k (inv_sub_bytes (inv_shift_rows t))))))
-    ≡ inv_rounds w k (inv_sub_bytes (inv_shift_rows t))
+    → inv_rounds w m (inv_sub_bytes (inv_shift_rows (inv_state w k t))) ≡ inv_rounds w k (inv_sub_bytes (inv_shift_rows t))
 inv_step w t k m e = rw e (sym (inv_rounds_next w (inv_sub_bytes (inv_shift_rows t)) m))
 
-pub AreBytes-inv_step : (w t : List ℕ) (k : ℕ) → AreBytes t → AreBytes (inv_mix_columns (add_round_key w k (inv_sub_bytes (inv_shift_rows t))))
-AreBytes-inv_step w t k h = (IsState-inv_mix _ (IsState-add w k _ (IsState-inv_sub _ (IsState-inv_shift t h).bytes).bytes).bytes).bytes
+pub AreBytes-inv_state : (w : List ℕ) (n : ℕ) (t : List ℕ) → AreBytes t → AreBytes (inv_state w n t)
+AreBytes-inv_state w n t h = (IsState-inv_mix _ (IsState-add w n _ (IsState-inv_sub _ (IsState-inv_shift t h).bytes).bytes).bytes).bytes
 
 -- before the first of these rounds
 pub inv_start : (w s : List ℕ) (k n : ℕ) → n ≡ length w / 4 - 2 → k ≡ n + 1

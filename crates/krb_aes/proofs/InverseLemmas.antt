@@ -4,7 +4,8 @@ use lib.Bits.{xor_assoc, xor_lt}
 use Rattle.krb_aes.specs.Field.{times}
 use Rattle.krb_aes.specs.Cipher.{sum4, word, word_byte, cell, from_cells, add_round_key}
 use Rattle.krb_aes.specs.Words.{AreBytes, columns}
-use Rattle.krb_aes.specs.InverseCipher.{inv_mixed, inv_mixed_word, inv_sub_word, inv_mix_columns, inv_sub_bytes, inv_shift_rows, inv_sbox}
+use Rattle.krb_aes.specs.InverseCipher.{inv_mixed, inv_mixed_word, inv_last_word, inv_mix_columns, inv_sub_bytes, inv_shift_rows, inv_sbox}
+use Rattle.krb_aes.proofs.Entries.{inv_sbox-lt}
 use Rattle.krb_aes.proofs.Mixing.{Small, small}
 use Rattle.krb_aes.proofs.Xor.{sum4_turn, sum4_half, sum4_back}
 use Rattle.krb_aes.proofs.WordLemmas.{word-xor, word_same}
@@ -31,23 +32,28 @@ inv_table_sum p q r s hp hq hr hs =
     (xor_assoc (bit_xor (times 13 p) (times 9 q)) (times 14 r) (times 11 s) ∙ sym (sum4_half (times 14 r) (times 11 s) (times 13 p) (times 9 q)))
     (xor_assoc (bit_xor (times 11 p) (times 13 q)) (times 9 r) (times 14 s) ∙ sym (sum4_back (times 14 s) (times 11 p) (times 13 q) (times 9 r)))
 
-inv_sub_column : (s : List ℕ) (a b c d : ℕ) → AreBytes s → inv_sub_word (column s a) (column s b) (column s c) (column s d)
-    ≡ word (inv_sbox (cell s 0 a)) (inv_sbox (cell s 1 b)) (inv_sbox (cell s 2 c)) (inv_sbox (cell s 3 d))
-unfolding inv_sub_word
-inv_sub_column s a b c d h = bytes_same (λ x y z t. word (inv_sbox x) (inv_sbox y) (inv_sbox z) (inv_sbox t)) (column_0 s a h) (column_1 s b h) (column_2 s c h) (column_3 s d h)
+inv_last_column : (s : List ℕ) (a b c d k : ℕ) → AreBytes s → k < 2 ^ 32
+    → inv_last_word (column s a) (column s b) (column s c) (column s d) k
+    ≡ word (bit_xor (inv_sbox (cell s 0 a)) (word_byte k 0)) (bit_xor (inv_sbox (cell s 1 b)) (word_byte k 1))
+    (bit_xor (inv_sbox (cell s 2 c)) (word_byte k 2)) (bit_xor (inv_sbox (cell s 3 d)) (word_byte k 3))
+unfolding inv_last_word
+inv_last_column s a b c d k h hk =
+    ap (λ (x : ℕ). bit_xor x k) (bytes_same (λ x y z t. word (inv_sbox x) (inv_sbox y) (inv_sbox z) (inv_sbox t)) (column_0 s a h) (column_1 s b h) (column_2 s c h) (column_3 s d h))
+    ∙ word-add (inv_sbox (cell s 0 a)) (inv_sbox (cell s 1 b)) (inv_sbox (cell s 2 c)) (inv_sbox (cell s 3 d)) k
+    (inv_sbox-lt _ (h.small (4 * b + 1))) (inv_sbox-lt _ (h.small (4 * c + 2))) (inv_sbox-lt _ (h.small (4 * d + 3))) hk
 
-pub inv_sub_words : (s a : List ℕ) (x y z t : ℕ) → AreBytes s → a ≡ columns s
-    → x ≡ inv_sub_word (get_or a 0 0) (get_or a 3 0) (get_or a 2 0) (get_or a 1 0)
-    → y ≡ inv_sub_word (get_or a 1 0) (get_or a 0 0) (get_or a 3 0) (get_or a 2 0)
-    → z ≡ inv_sub_word (get_or a 2 0) (get_or a 1 0) (get_or a 0 0) (get_or a 3 0)
-    → t ≡ inv_sub_word (get_or a 3 0) (get_or a 2 0) (get_or a 1 0) (get_or a 0 0)
-    → x ∷ y ∷ z ∷ t ∷ [] ≡ columns (inv_sub_bytes (inv_shift_rows s))
-unfolding columns inv_sub_bytes inv_shift_rows column
-inv_sub_words s a x y z t h e ex ey ez et =
-    let px = ex ∙ (λ i. inv_sub_word (get_or (e i) 0 0) (get_or (e i) 3 0) (get_or (e i) 2 0) (get_or (e i) 1 0)) ∙ inv_sub_column s 0 3 2 1 h in
-    let py = ey ∙ (λ i. inv_sub_word (get_or (e i) 1 0) (get_or (e i) 0 0) (get_or (e i) 3 0) (get_or (e i) 2 0)) ∙ inv_sub_column s 1 0 3 2 h in
-    let pz = ez ∙ (λ i. inv_sub_word (get_or (e i) 2 0) (get_or (e i) 1 0) (get_or (e i) 0 0) (get_or (e i) 3 0)) ∙ inv_sub_column s 2 1 0 3 h in
-    let pt = et ∙ (λ i. inv_sub_word (get_or (e i) 3 0) (get_or (e i) 2 0) (get_or (e i) 1 0) (get_or (e i) 0 0)) ∙ inv_sub_column s 3 2 1 0 h in
+pub inv_last_words : (s a w : List ℕ) (x y z t : ℕ) → AreBytes s → a ≡ columns s → ((i : ℕ) → get_or w i 0 < 2 ^ 32)
+    → x ≡ inv_last_word (get_or a 0 0) (get_or a 3 0) (get_or a 2 0) (get_or a 1 0) (get_or w 0 0)
+    → y ≡ inv_last_word (get_or a 1 0) (get_or a 0 0) (get_or a 3 0) (get_or a 2 0) (get_or w 1 0)
+    → z ≡ inv_last_word (get_or a 2 0) (get_or a 1 0) (get_or a 0 0) (get_or a 3 0) (get_or w 2 0)
+    → t ≡ inv_last_word (get_or a 3 0) (get_or a 2 0) (get_or a 1 0) (get_or a 0 0) (get_or w 3 0)
+    → x ∷ y ∷ z ∷ t ∷ [] ≡ columns (add_round_key w 0 (inv_sub_bytes (inv_shift_rows s)))
+unfolding columns add_round_key inv_sub_bytes inv_shift_rows column
+inv_last_words s a w x y z t h e fits ex ey ez et =
+    let px = ex ∙ (λ i. inv_last_word (get_or (e i) 0 0) (get_or (e i) 3 0) (get_or (e i) 2 0) (get_or (e i) 1 0) (get_or w 0 0)) ∙ inv_last_column s 0 3 2 1 (get_or w 0 0) h (fits _) in
+    let py = ey ∙ (λ i. inv_last_word (get_or (e i) 1 0) (get_or (e i) 0 0) (get_or (e i) 3 0) (get_or (e i) 2 0) (get_or w 1 0)) ∙ inv_last_column s 1 0 3 2 (get_or w 1 0) h (fits _) in
+    let pz = ez ∙ (λ i. inv_last_word (get_or (e i) 2 0) (get_or (e i) 1 0) (get_or (e i) 0 0) (get_or (e i) 3 0) (get_or w 2 0)) ∙ inv_last_column s 2 1 0 3 (get_or w 2 0) h (fits _) in
+    let pt = et ∙ (λ i. inv_last_word (get_or (e i) 3 0) (get_or (e i) 2 0) (get_or (e i) 1 0) (get_or (e i) 0 0) (get_or w 3 0)) ∙ inv_last_column s 3 2 1 0 (get_or w 3 0) h (fits _) in
     λ i. px i ∷ py i ∷ pz i ∷ pt i ∷ []
 
 pub key_words_added : (s a w : List ℕ) (n : ℕ) → AreBytes s → a ≡ columns s → ((i : ℕ) → get_or w i 0 < 2 ^ 32)

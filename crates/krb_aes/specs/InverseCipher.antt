@@ -4,11 +4,12 @@ use Rattle.krb_aes.specs.Field.{times}
 use Rattle.krb_aes.specs.Cipher.{cell, from_cells, sum4, word, word_byte, add_round_key}
 use Rattle.krb_aes.specs.Words.{AreBytes}
 use Rattle.krb_aes.specs.Keys.{IsPadded}
-use Rattle.krb_aes.specs.declared.tables.TheConstants.{INV_SBOX}
+use Rattle.krb_aes.specs.declared.tables.TheConstants.{INV_SUB}
+use Rattle.krb_aes.specs.Tables.{row}
 
--- the byte whose S-box is b (5.3.2)
+-- the byte whose S-box is b (5.3.2), by the table: proofs/Entries shows that it and the S-box undo each other
 abbrev pub inv_sbox : ℕ → ℕ
-inv_sbox b = slice_index INV_SBOX b
+inv_sbox b = slice_index (row INV_SUB 3) b
 
 -- the first byte of a column with bytes a, b, c, d, mixed back
 unfoldable pub inv_mixed : ℕ → ℕ → ℕ → ℕ → ℕ
@@ -40,21 +41,23 @@ inv_cipher w s = inv_cipher_rounds w (length w / 4 - 2) s
 unfoldable pub inv_mixed_word : ℕ → ℕ → ℕ → ℕ → ℕ
 inv_mixed_word a b c d = word (inv_mixed a b c d) (inv_mixed b c d a) (inv_mixed c d a b) (inv_mixed d a b c)
 
-unfoldable pub inv_sub_word : ℕ → ℕ → ℕ → ℕ → ℕ
-inv_sub_word a b c d = word (inv_sbox (word_byte a 0)) (inv_sbox (word_byte b 1)) (inv_sbox (word_byte c 2)) (inv_sbox (word_byte d 3))
-
--- a round key's word, inv_mixed
+-- a round key's word, mixed back
 unfoldable pub inv_mix_word : ℕ → ℕ
 inv_mix_word k = inv_mixed_word (word_byte k 0) (word_byte k 1) (word_byte k 2) (word_byte k 3)
 
--- the words of the round keys, inv_mixed
+-- the words of the round keys, each mixed back (5.3.5)
 pub record IsInverseKey (u : List ℕ) (w : List ℕ) : Type 0 where
   pub words : (i : ℕ) → i < length w → slice_index u i ≡ inv_mix_word (slice_index w i)
 
--- a column of the state before, from four words of which byte r of the r-th counts, and an inv_mixed key word
+-- a column of the state before, from four words of which byte r of the r-th counts, and a key word mixed back
 unfoldable pub inv_round_word : ℕ → ℕ → ℕ → ℕ → ℕ → ℕ
 inv_round_word a b c d k =
     bit_xor (inv_mixed_word (inv_sbox (word_byte a 0)) (inv_sbox (word_byte b 1)) (inv_sbox (word_byte c 2)) (inv_sbox (word_byte d 3))) k
+
+-- the same in the last round, which does not mix
+unfoldable pub inv_last_word : ℕ → ℕ → ℕ → ℕ → ℕ → ℕ
+inv_last_word a b c d k =
+    bit_xor (word (inv_sbox (word_byte a 0)) (inv_sbox (word_byte b 1)) (inv_sbox (word_byte c 2)) (inv_sbox (word_byte d 3))) k
 
 -- the arrays of a schedule: the expanded key with zeros after it, and its words mixed back
 pub record IsSchedule (words : List ℕ) (inverse_words : List ℕ) (held : List ℕ) : Type 0 where

@@ -3,7 +3,7 @@
 ghost use Rattle.std.specs.Prelude.{◌≡◌, ℕ, ◌+◌, ◌*◌, ◌≤◌, List, length};
 ghost use Rattle.krb_aes.specs.Cipher.{add_round_key, cipher};
 ghost use Rattle.krb_aes.specs.Words.{AreBytes, columns, HasRounds};
-ghost use Rattle.krb_aes.specs.InverseCipher.{inv_mix_word, inv_sub_word, inv_round_word, inv_sub_bytes, inv_shift_rows, inv_mix_columns, inv_cipher, IsInverseKey};
+ghost use Rattle.krb_aes.specs.InverseCipher.{inv_mix_word, inv_round_word, inv_last_word, inv_sub_bytes, inv_shift_rows, inv_mix_columns, inv_cipher, IsInverseKey};
 
 use crate::{tables, words};
 
@@ -40,16 +40,15 @@ fn inv_round_word(a: u32, b: u32, c: u32, d: u32, key: u32) -> u32
     late ^ early
 }
 
-// The same for the first round of the cipher, whose columns were not mixed.
-fn inv_sub_word(a: u32, b: u32, c: u32, d: u32) -> u32
-    ensures { result ≡ inv_sub_word a b c d }
+// The same in the last round, which does not mix back.
+fn inv_last_word(a: u32, b: u32, c: u32, d: u32, key: u32) -> u32
+    ensures { result ≡ inv_last_word a b c d key }
 {
-    u32::from_be_bytes([
-        tables::inv_sub(words::first_byte(a)),
-        tables::inv_sub(words::second_byte(b)),
-        tables::inv_sub(words::third_byte(c)),
-        tables::inv_sub(words::fourth_byte(d)),
-    ])
+    let late = (key ^ tables::inv_sub_fourth(words::fourth_byte(d)))
+        ^ tables::inv_sub_third(words::third_byte(c));
+    let early = tables::inv_sub_first(words::first_byte(a))
+        ^ tables::inv_sub_second(words::second_byte(b));
+    late ^ early
 }
 
 // A round that mixes, undone: InvSubBytes, InvShiftRows, AddRoundKey n and InvMixColumns.
@@ -66,19 +65,21 @@ fn inv_round(a: [u32; 4], inverse: &[u32], n: usize) -> [u32; 4]
     ]
 }
 
-// InvShiftRows and InvSubBytes.
-fn inv_sub(a: [u32; 4]) -> [u32; 4]
-    ensures { (s : List ℕ) → AreBytes s → a ≡ columns s → result ≡ columns (inv_sub_bytes (inv_shift_rows s)) }
+// The last round: InvSubBytes, InvShiftRows and AddRoundKey 0.
+fn inv_last_round(a: [u32; 4], w: &[u32]) -> [u32; 4]
+    requires { 4 ≤ length w.now }
+    ensures { (s : List ℕ) → AreBytes s → a ≡ columns s
+        → result ≡ columns (add_round_key w.now 0 (inv_sub_bytes (inv_shift_rows s))) }
 {
     [
-        inv_sub_word(a[0], a[3], a[2], a[1]),
-        inv_sub_word(a[1], a[0], a[3], a[2]),
-        inv_sub_word(a[2], a[1], a[0], a[3]),
-        inv_sub_word(a[3], a[2], a[1], a[0]),
+        inv_last_word(a[0], a[3], a[2], a[1], w[0]),
+        inv_last_word(a[1], a[0], a[3], a[2], w[1]),
+        inv_last_word(a[2], a[1], a[0], a[3], w[2]),
+        inv_last_word(a[3], a[2], a[1], a[0], w[3]),
     ]
 }
 
-// The inverse cipher of a state, from the expanded key and its inverse.
+// The inverse cipher of a state, from the expanded key and its words mixed back.
 #[inline(always)]
 pub fn decrypt_words(w: &[u32], inverse: &[u32], block: [u32; 4]) -> [u32; 4]
     requires key { HasRounds w.now }
@@ -86,17 +87,18 @@ pub fn decrypt_words(w: &[u32], inverse: &[u32], block: [u32; 4]) -> [u32; 4]
     requires room { length w.now ≤ length inverse.now }
     ensures { (s : List ℕ) → AreBytes s → block ≡ columns s → result ≡ columns (inv_cipher w.now s) }
 {
-    let pairs = w.len() / 8 - 1;
-    let start = words::add_round_key(block, w, 2 * pairs + 2);
-    let mut a = inv_round(start, inverse, 2 * pairs + 1);
-    for n in 0..pairs {
-        let m = 2 * (pairs - n);
-        let half = inv_round(a, inverse, m);
-        let next = inv_round(half, inverse, m - 1);
-        a = next;
+    let turns = w.len() / 16;
+    let start = words::add_round_key(block, w, 4 * turns + 2);
+    let mut a = inv_round(start, inverse, 4 * turns + 1);
+    for n in 0..turns {
+        let m = 4 * (turns - n);
+        let first = inv_round(a, inverse, m);
+        let second = inv_round(first, inverse, m - 1);
+        let third = inv_round(second, inverse, m - 2);
+        let fourth = inv_round(third, inverse, m - 3);
+        a = fourth;
     }
-    let first = inv_sub(a);
-    words::add_round_key(first, w, 0)
+    inv_last_round(a, w)
 }
 
 // The block whose cipher is `block`.

@@ -197,12 +197,10 @@ fn constant(j: usize) -> u32
 fn sub_word(x: u32) -> u32
     ensures { result ≡ sub_word x }
 {
-    u32::from_be_bytes([
-        tables::sub(words::first_byte(x)),
-        tables::sub(words::second_byte(x)),
-        tables::sub(words::third_byte(x)),
-        tables::sub(words::fourth_byte(x)),
-    ])
+    tables::sub_first(words::first_byte(x))
+        ^ tables::sub_second(words::second_byte(x))
+        ^ tables::sub_third(words::third_byte(x))
+        ^ tables::sub_fourth(words::fourth_byte(x))
 }
 
 // RotWord.

@@ -1,11 +1,19 @@
-use Rattle.std.proofs.Common.{◌≡◌, ℕ, ◌^◌, ◌<◌, bit_xor, ap, arith, refl}
-use Rattle.krb_aes.specs.Field.{sbox}
-use Rattle.krb_aes.specs.Cipher.{word_byte, word}
+use Rattle.std.proofs.Common.{◌≡◌, ℕ, ◌^◌, ◌<◌, bit_xor, ap, ◌∙◌, arith}
+use Rattle.krb_aes.specs.Cipher.{word_byte}
 use Rattle.krb_aes.specs.Words.{last_word}
+use Rattle.krb_aes.proofs.Entries.{sbox-lt}
+use Rattle.krb_aes.proofs.Xor.{xor_late}
+use Rattle.krb_aes.proofs.WordLemmas.{sub_table_sum}
 use Rattle.krb_aes.proofs.cipher.last_word.Goals as goal
 
 pub returns : goal.returns
 unfolding last_word
 returns c =
-    let e : c.from_be_bytes.result ≡ word c.sub.result c.sub-2.result c.sub-3.result c.sub-4.result = omega arith in
-    rw (e, c.sub.ensures, c.sub-2.ensures, c.sub-3.ensures, c.sub-4.ensures, c.first_byte.ensures, c.second_byte.ensures, c.third_byte.ensures, c.fourth_byte.ensures) refl
+    let a : word_byte c.args.a 0 < 256 = omega arith in
+    let b : word_byte c.args.b 1 < 256 = omega arith in
+    let d : word_byte c.args.c 2 < 256 = omega arith in
+    let e : word_byte c.args.d 3 < 256 = omega arith in
+    let all = sub_table_sum _ _ _ _ (sbox-lt _ a) (sbox-lt _ b) (sbox-lt _ d) (sbox-lt _ e) in
+    xor_late c.sub_first.result c.sub_second.result c.sub_third.result c.sub_fourth.result c.args.key
+    ∙ rw (c.sub_first.ensures, c.sub_second.ensures, c.sub_third.ensures, c.sub_fourth.ensures, c.first_byte.ensures, c.second_byte.ensures, c.third_byte.ensures, c.fourth_byte.ensures)
+    (ap (λ (x : ℕ). bit_xor x c.args.key) all)
