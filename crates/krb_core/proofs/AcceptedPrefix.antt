@@ -1,9 +1,10 @@
 -- The accepted records begin the list that the offers carry.
-use Rattle.std.proofs.Common.{◌≡◌, ℕ, true, false, List, [], ◌∷◌, ◌++◌, length, slice_get, Some, None, Ok, Err, refl, sym, ap, subst, ◌∙◌, append_assoc, append-nil}
+use Rattle.std.proofs.Common.{◌≡◌, ℕ, true, false, List, [], ◌∷◌, ◌++◌, length, slice_get, Some, None, Ok, Err, refl, sym, ap, subst, ◌∙◌, append_assoc, append-nil, arith}
 use Rattle.std.specs.List.{Contains, list_any, flat_map}
-use Rattle.std.proofs.lemmas.List.Elements.{All-head, All-tail}
+use Rattle.std.proofs.lemmas.List.Elements.{All-head, All-tail, Contains-append_right}
 use Rattle.std.proofs.lemmas.List.Concat.{flat_map-append}
 use Rattle.krb_base.specs.Prefix.{IsPrefix}
+use Rattle.krb_base.proofs.PrefixLemmas.{prefix_whole}
 use Rattle.krb_core.specs.declared.record.Record.{Record}
 use Rattle.krb_core.specs.declared.record.Record.TheVariants.{Text, Close}
 use Rattle.krb_core.specs.Record.{is_close, texts_of}
@@ -40,7 +41,7 @@ module _ (first : ℕ) (records : List Record) where
       prefix_from before offers answers rest (All-tail (IsNumbered first records) offer offers carries) begins
 
 pub accepted_prefix : (first : ℕ) (records : List Record) (offers : List Offer) (answers : List Answer) → Accepted first offers answers → Carries first records offers → IsPrefix (accepted_of offers answers) records
-accepted_prefix first records offers answers all carries = prefix_from first records [] offers answers (accepted_from first offers answers all) carries (records, refl)
+accepted_prefix first records offers answers all carries = prefix_from first records [] offers answers (accepted_from first offers answers all) carries (prefix_whole [] records)
 
 none_of_both : {X : Type 0} (xs ys : List X) → [] ≡ xs ++ ys → ys ≡ []
 none_of_both [] ys is = sym is
@@ -72,6 +73,37 @@ accepted_whole first records offers answers all carries ends contains =
     let accepted = accepted_of offers answers in
     let none = none_left accepted begins.0 ends.0 (any_from_contains accepted contains) (any_from_none ends.0 ends.1) (sym ends.2 ∙ begins.1) in
     sym (begins.1 ∙ ap (λ z. accepted ++ z) none ∙ append-nil accepted)
+
+-- nothing is accepted behind a close
+none_later : (first : ℕ) (before : List Record) (offers : List Offer) (answers : List Answer) → AcceptedFrom first before offers answers → Contains before Close → accepted_of offers answers ≡ []
+none_later first before [] answers all closed = refl
+none_later first before (offer ∷ offers) [] all closed = refl
+none_later first before (offer ∷ offers) (Ok x ∷ answers) all closed = absurd ((all.0.accepted.0 refl).not_closed closed)
+none_later first before (offer ∷ offers) (Err e ∷ answers) all closed =
+    let P : List Record → Type 0 = λ z. AcceptedFrom first z offers answers in
+    none_later first before offers answers (subst P (append-nil before) all.1) closed
+
+-- the empty list has no close
+no_item : (front back : List Record) → [] ≡ front ++ Close ∷ back → ⊥
+no_item [] back is = let e = is in cc
+no_item (r ∷ front) back is = let e = is in cc
+
+close_from : (first : ℕ) (before front back : List Record) (offers : List Offer) (answers : List Answer) → AcceptedFrom first before offers answers → accepted_of offers answers ≡ front ++ Close ∷ back → back ≡ []
+close_from first before front back [] answers all is = absurd (no_item front back is)
+close_from first before front back (offer ∷ offers) [] all is = absurd (no_item front back is)
+close_from first before [] back (offer ∷ offers) (Ok x ∷ answers) all is =
+    let same : offer.carried ≡ Close = (let e = is in cc) in
+    let rest : accepted_of offers answers ≡ back = (let e = is in cc) in
+    let P : Record → Type 0 = λ z. Contains (before ++ z ∷ []) Close in
+    let closed : Contains (before ++ offer.carried ∷ []) Close = subst P (sym same) (Contains-append_right before (Close ∷ []) Close (0, omega arith, refl)) in
+    sym rest ∙ none_later first (before ++ offer.carried ∷ []) offers answers all.1 closed
+close_from first before (r ∷ front) back (offer ∷ offers) (Ok x ∷ answers) all is =
+    let rest : accepted_of offers answers ≡ front ++ Close ∷ back = (let e = is in cc) in
+    close_from first (before ++ offer.carried ∷ []) front back offers answers all.1 rest
+close_from first before front back (offer ∷ offers) (Err e ∷ answers) all is = close_from first (before ++ []) front back offers answers all.1 is
+
+pub accepted_close_last : (first : ℕ) (offers : List Offer) (answers : List Answer) → Accepted first offers answers → (front back : List Record) → accepted_of offers answers ≡ front ++ Close ∷ back → back ≡ []
+accepted_close_last first offers answers all front back is = close_from first [] front back offers answers (accepted_from first offers answers all) is
 
 -- the texts of a prefix are a prefix of the texts
 pub texts_prefix : (front whole : List Record) → IsPrefix front whole → IsPrefix (flat_map texts_of front) (flat_map texts_of whole)

@@ -24,7 +24,7 @@ pub record ComesNext (first : ℕ) (before : List Record) (offer : Offer) : Type
   pub demanded : offer.number ≡ first + length before
 
 -- an offer is accepted exactly where it comes next, and refused as after the close exactly where
--- a close was accepted before
+-- a close was accepted before; any other is out of order
 pub record IsAnswer (first : ℕ) (before : List Record) (offer : Offer) (answer : Answer) : Type 0 where
   pub accepted : IsOk answer ↔ ComesNext first before offer
   pub after_close : (answer ≡ Err AfterClose) ↔ Contains before Close

@@ -1,5 +1,5 @@
 -- One step of an order: what is demanded, what an offer is answered, and what is demanded then.
-use Rattle.std.specs.Prelude.{ℕ, ◌+◌, ◌==◌, ◌&&◌, nat_le, List, [], ◌∷◌, Result, Ok, Err, ⊤, if◌then◌else◌}
+use Rattle.std.specs.Prelude.{ℕ, ◌+◌, ◌==◌, ◌&&◌, nat_le, List, [], ◌∷◌, codes, Result, Ok, Err, ⊤, if◌then◌else◌}
 use Rattle.krb_core.specs.declared.record.Record.{Record}
 use Rattle.krb_core.specs.declared.order.OrderRefusal.{OrderRefusal}
 use Rattle.krb_core.specs.declared.order.OrderRefusal.TheVariants.{AfterClose, BadOrder}
@@ -11,6 +11,9 @@ use Rattle.krb_core.specs.Record.{is_close}
 pub record Offer : Type 0 where
   pub number : ℕ
   pub carried : Record
+
+abbrev pub offer : ℕ → Record → Offer
+offer number carried = record { number = number; carried = carried }
 
 -- a record is accepted, or refused by name
 abbrev pub Answer : Type 0
@@ -38,3 +41,8 @@ answers_to demand (offer ∷ offers) =
 abbrev pub code_of : OrderRefusal → ℕ
 code_of AfterClose = 903
 code_of BadOrder = 42
+
+-- what is printed of it
+abbrev pub words_of : OrderRefusal → List ℕ
+words_of AfterClose = codes "a close was accepted before"
+words_of BadOrder = codes "the number isn't the demanded one"

@@ -1,5 +1,5 @@
 -- The records of the relay: what the user data of a message is. Their format is this project's own.
-use Rattle.std.specs.Prelude.{◌≡◌, ℕ, Bool, true, false, ◌≤◌, List, [], ◌∷◌, length}
+use Rattle.std.specs.Prelude.{◌≡◌, ℕ, Bool, true, false, ◌≤◌, List, [], ◌∷◌, length, codes}
 use Rattle.krb_core.specs.declared.record.Record.{Record}
 use Rattle.krb_core.specs.declared.record.Record.TheVariants.{Text, Close}
 use Rattle.krb_core.specs.declared.record.RecordError.{RecordError}
@@ -34,3 +34,8 @@ SpellsRecord r bytes = FitsLimits r × (bytes ≡ bytes_of r)
 abbrev pub code_of : RecordError → ℕ
 code_of BadRecord = 1
 code_of Memory = 2
+
+-- what is printed of it
+abbrev pub words_of : RecordError → List ℕ
+words_of BadRecord = codes "the bytes are no record"
+words_of Memory = codes "out of memory"

@@ -1,8 +1,8 @@
 //! The order of records: one number after another, and nothing behind the close.
 
-ghost use Rattle.std.specs.Prelude.{◌≡◌, ◌≢◌, ◌↔◌, ◌⊎◌, false, ℕ, ◌+◌, ◌≤◌, ◌<◌, ◌^◌, List, [], ◌∷◌, ◌++◌, IsTrue, IsFalse, OnOk, OnErr};
+ghost use Rattle.std.specs.Prelude.{◌≡◌, ◌≢◌, ◌↔◌, ◌⊎◌, ℕ, ◌+◌, ◌≤◌, ◌<◌, List, [], ◌∷◌, ◌++◌, IsTrue, IsFalse, OnOk, OnErr, Some};
 ghost use Rattle.krb_core.specs.Limits.{last_number};
-ghost use Rattle.krb_core.specs.Order.{Offer, Answer, answer_to, code_of};
+ghost use Rattle.krb_core.specs.Order.{Offer, Answer, offer, answer_to, code_of, words_of};
 ghost use Rattle.krb_core.specs.Accepted.{HasAnswered};
 ghost use Rattle.krb_core.specs.Record.{is_close};
 
@@ -22,14 +22,15 @@ pub struct Order {
 }
 
 impl Model for Order {
-    ghost use Rattle.std.specs.Prelude.{◌≤◌, ◌^◌};
+    ghost use Rattle.std.specs.Prelude.{◌+◌, ◌≤◌};
     ghost use Rattle.krb_core.specs.Demand.{Demand};
+    ghost use Rattle.krb_core.specs.Limits.{last_number};
 
     ghost Value = { Demand };
 
     ghost view = { λ order. record { expected = order.expected; closed = order.closed } };
 
-    ghost invariant = { λ order. order.expected ≤ 2 ^ 32 };
+    ghost invariant = { λ order. order.expected ≤ last_number + 1 };
 }
 
 /// Why an [`Order`] refuses a record. The first that fits is answered.
@@ -54,6 +55,8 @@ impl OrderRefusal {
 }
 
 impl fmt::Display for OrderRefusal {
+    ghost output = { λ error. Some (words_of error) };
+
     fn fmt<W: fmt::Write>(&self, f: &mut fmt::Formatter<W>) -> fmt::Result {
         match self {
             OrderRefusal::AfterClose => write!(f, "a close was accepted before"),
@@ -67,7 +70,8 @@ impl Error for OrderRefusal {}
 impl Order {
     /// An order that demands `first`, and has accepted nothing.
     pub fn new(first: u32) -> Order
-        ensures state { result ≡ record { expected = first; closed = false } }
+        ensures expected { result.expected ≡ first }
+        ensures closed { IsFalse result.closed }
         ensures answered { HasAnswered first [] [] result }
     {
         Order {
@@ -76,10 +80,10 @@ impl Order {
         }
     }
 
-    /// The number that is demanded next: at most 4294967296, which no message has.
+    /// The number that is demanded next: at most one over [`LAST_NUMBER`], which no message has.
     pub fn expected(&self) -> u64
         ensures number { result ≡ self.now.expected }
-        ensures in_range { result ≤ 2 ^ 32 }
+        ensures in_range { result ≤ last_number + 1 }
     {
         self.expected
     }
@@ -91,22 +95,24 @@ impl Order {
         self.closed
     }
 
-    /// Accepts `record` where `number` is demanded, and no close was accepted before.
+    /// Accepts the record `offered` where `number` is demanded and no close was accepted before.
     ///
     /// The next number is then demanded, and a close is noted. A refusal changes nothing.
-    pub fn accept(&mut self, number: u64, record: &Record) -> Result<(), OrderRefusal>
-        ensures answer { result ≡ answer_to self.old (record { number = number; carried = «record».now }) }
+    pub fn accept(&mut self, number: u64, offered: &Record) -> Result<(), OrderRefusal>
+        ensures answer { result ≡ answer_to self.old (offer number offered.now) }
         ensures after_close { (result ≡ Err OrderRefusal.AfterClose) ↔ IsTrue self.old.closed }
         ensures bad_order { (result ≡ Err OrderRefusal.BadOrder)
             ↔ (IsFalse self.old.closed × ((number ≢ self.old.expected) ⊎ (last_number < number))) }
-        ensures ok { OnOk result
-            (self.new ≡ record { expected = self.old.expected + 1; closed = is_close «record».now }) }
+
+        ensures next { OnOk result (self.new.expected ≡ self.old.expected + 1) }
+        ensures close { OnOk result (self.new.closed ≡ is_close offered.now) }
         ensures err { OnErr result (self.new ≡ self.old) }
 
-        // After any offers, whatever their answers, this answer is the one of `Accepted`.
-        ensures answered { (first : ℕ) (offers : List Offer) (answers : List Answer) → HasAnswered first offers answers self.old
-            → HasAnswered first (offers ++ record { number = number; carried = «record».now } ∷ [])
-            (answers ++ result ∷ []) self.new }
+        // Whatever an order has answered before, it goes on as `Accepted` says.
+        ensures answered { (first : ℕ) (offers : List Offer) (answers : List Answer)
+            → HasAnswered first offers answers self.old
+            → HasAnswered first (offers ++ offer number offered.now ∷ []) (answers ++ result ∷ [])
+            self.new }
     {
         if self.closed {
             return Err(OrderRefusal::AfterClose);
@@ -115,7 +121,7 @@ impl Order {
             return Err(OrderRefusal::BadOrder);
         }
         self.expected += 1;
-        self.closed = matches!(record, Record::Close);
+        self.closed = matches!(offered, Record::Close);
         Ok(())
     }
 }

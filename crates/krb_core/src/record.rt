@@ -1,7 +1,7 @@
 //! Records, and the bytes that stand for them.
 
-ghost use Rattle.std.specs.Prelude.{◌≡◌, ◌≢◌, ◌↔◌, IfOk, MatchResult};
-ghost use Rattle.krb_core.specs.Record.{bytes_of, FitsLimits, SpellsRecord, code_of};
+ghost use Rattle.std.specs.Prelude.{◌≡◌, ◌≢◌, ◌↔◌, IfOk, MatchResult, Some};
+ghost use Rattle.krb_core.specs.Record.{FitsLimits, SpellsRecord, code_of, words_of};
 
 use crate::limits::TEXT_LIMIT;
 use krb_base::Bytes;
@@ -46,6 +46,8 @@ impl RecordError {
 }
 
 impl fmt::Display for RecordError {
+    ghost output = { λ error. Some (words_of error) };
+
     fn fmt<W: fmt::Write>(&self, f: &mut fmt::Formatter<W>) -> fmt::Result {
         match self {
             RecordError::BadRecord => write!(f, "the bytes are no record"),
@@ -70,9 +72,8 @@ impl From<AllocError> for RecordError {
 ///
 /// A text has at most [`TEXT_LIMIT`] bytes. The only error is want of memory.
 pub fn record_bytes(alloc: Global, record: &Record) -> Result<Vec<u8>, AllocError>
-    requires { FitsLimits record.now }
-    ensures bytes { IfOk result (λ bytes. bytes.items ≡ bytes_of record.now) }
-    ensures spelling { IfOk result (λ bytes. SpellsRecord record.now bytes.items) }
+    requires { FitsLimits «record».now }
+    ensures { IfOk result (λ bytes. SpellsRecord «record».now bytes.items) }
 {
     match record {
         Record::Text(text) => {

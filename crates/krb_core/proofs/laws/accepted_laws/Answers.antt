@@ -2,7 +2,7 @@ use Rattle.std.proofs.Common.{List, [], sym, subst}
 use Rattle.krb_core.specs.Order.{Answer}
 use Rattle.krb_core.specs.Accepted.{accepted_of, Accepted}
 use Rattle.krb_core.proofs.AcceptedLemmas.{accepted_from, accepted_by, follows, follows_alone}
-use Rattle.krb_core.proofs.AcceptedPrefix.{accepted_prefix, accepted_whole, texts_prefix}
+use Rattle.krb_core.proofs.AcceptedPrefix.{accepted_prefix, accepted_whole, accepted_close_last, texts_prefix}
 use Rattle.krb_core.proofs.laws.accepted_laws.Goals as goal
 
 pub returns-clause-one : goal.returns-clause-one
@@ -19,3 +19,6 @@ returns-clause-texts c = λ first records offers answers all carries. texts_pref
 
 pub returns-clause-whole : goal.returns-clause-whole
 returns-clause-whole c = accepted_whole
+
+pub returns-clause-close_last : goal.returns-clause-close_last
+returns-clause-close_last c = accepted_close_last

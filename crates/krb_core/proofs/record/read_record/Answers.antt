@@ -12,15 +12,15 @@ returns-in-67-clause-bad c =
 
 pub returns-in_ok-text-in-68-clause-bad : goal.returns-in_ok-text-in-68-clause-bad
 returns-in_ok-text-in-68-clause-bad c =
-    let spells : SpellsRecord (Text c.in-Some.rest.now) c.args.bytes.now = (c.if-rest-le-TEXT_LIMIT.true, grind (arith, common_steps)) in
+    let spells : SpellsRecord (Text c.in-Some.rest.now) c.args.bytes.now = (omega arith, grind (arith, common_steps)) in
     bad-ok _ c.args.bytes.now (Text c.in-Some.rest.now) spells
 
 pub returns-in_err-text-in-68-clause-bad : goal.returns-in_err-text-in-68-clause-bad
 returns-in_err-text-in-68-clause-bad c =
-    let spells : SpellsRecord (Text c.in-Some.rest.now) c.args.bytes.now = (c.if-rest-le-TEXT_LIMIT.true, grind (arith, common_steps)) in
+    let spells : SpellsRecord (Text c.in-Some.rest.now) c.args.bytes.now = (omega arith, grind (arith, common_steps)) in
     bad-memory _ c.args.bytes.now (Text c.in-Some.rest.now) spells c.from_residual.ensures.1
 
 pub returns-in_err-text-in-68-clause-memory : goal.returns-in_err-text-in-68-clause-memory
 returns-in_err-text-in-68-clause-memory c =
-    let spells : SpellsRecord (Text c.in-Some.rest.now) c.args.bytes.now = (c.if-rest-le-TEXT_LIMIT.true, grind (arith, common_steps)) in
+    let spells : SpellsRecord (Text c.in-Some.rest.now) c.args.bytes.now = (omega arith, grind (arith, common_steps)) in
     λ is. (Text c.in-Some.rest.now, spells, λ e. let is = e in cc)
