@@ -1,0 +1,5 @@
+pub mod Nfold
+pub mod Stream
+pub mod Hmac
+pub mod MacKey
+pub mod Derivation
