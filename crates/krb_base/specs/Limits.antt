@@ -1,4 +1,4 @@
--- The limits of this project's profile, in bytes. No other definition holds these numbers.
+-- The limits of this project's profile. No other definition holds these numbers. The first four count bytes.
 use Rattle.std.specs.Prelude.{ℕ, ◌+◌}
 
 -- a text
@@ -16,3 +16,7 @@ frame_limit = 65000
 -- a raw emission of a plan
 abbrev pub raw_limit : ℕ
 raw_limit = 70000
+
+-- the last sequence number (RFC 4120 section 5.2.4, UInt32)
+abbrev pub last_number : ℕ
+last_number = 4294967295

@@ -12,7 +12,9 @@ mod limits;
 mod prefix;
 
 pub use bytes::Bytes;
-pub use limits::{FRAME_LIMIT, RAW_LIMIT, TEXT_LIMIT, USER_DATA_LIMIT};
+pub use limits::{
+    FRAME_LIMIT, LAST_NUMBER, RAW_LIMIT, TEXT_LIMIT, USER_DATA_LIMIT, limit_laws,
+};
 pub use prefix::prefix_laws;
 
 #[cfg(test)]

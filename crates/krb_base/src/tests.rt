@@ -1,4 +1,4 @@
-use crate::{Bytes, FRAME_LIMIT, RAW_LIMIT, TEXT_LIMIT, USER_DATA_LIMIT, prefix_laws};
+use crate::{Bytes, limit_laws, prefix_laws};
 use std::test::Fail;
 
 #[test]
@@ -10,14 +10,7 @@ fn bytes_give_back_what_they_were_made_of(rt: HostRuntime) -> Result<(), Fail> {
 }
 
 #[test]
-fn limits_are_those_of_the_profile(rt: HostRuntime) {
-    assert_eq!(rt; TEXT_LIMIT, 60_000);
-    assert_eq!(rt; USER_DATA_LIMIT, 60_001);
-    assert_eq!(rt; FRAME_LIMIT, 65_000);
-    assert_eq!(rt; RAW_LIMIT, 70_000);
-}
-
-#[test]
 fn laws_are_there() {
+    limit_laws();
     prefix_laws::<u8>();
 }

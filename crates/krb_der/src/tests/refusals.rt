@@ -43,45 +43,56 @@ fn errors_have_their_numbers(rt: HostRuntime) {
     assert_eq!(rt; DerError::Memory.code(), 3);
 }
 
+/// How many of the inputs `decode` finds malformed.
+fn malformed(alloc: Global, inputs: &[&[u8]]) -> usize {
+    inputs
+        .iter()
+        .filter(|bytes| answer(alloc, bytes) == 2)
+        .count()
+}
+
 #[test]
 fn what_spells_nothing_is_malformed(rt: HostRuntime) -> Result<(), Fail> {
-    let alloc = rt.alloc();
-    assert_eq!(rt; answer(alloc, &[]), 2);
-    assert_eq!(rt; answer(alloc, &[0x74, 0x80]), 2);
-    assert_eq!(rt; answer(alloc, &SAFE[..83]), 2);
-    let trailing = replaced(alloc, &SAFE, 84, 84, &[0x00])?;
-    assert_eq!(rt; answer(alloc, &trailing), 2);
+    let trailing = replaced(rt.alloc(), &SAFE, 84, 84, &[0x00])?;
     // A negative sequence number.
-    let negative = replaced(alloc, &SAFE, 49, 54, &[0xa3, 0x03, 0x02, 0x01, 0xff])?;
-    assert_eq!(rt; negative.len(), 84);
-    assert_eq!(rt; answer(alloc, &negative), 2);
-    assert_eq!(rt; answer(alloc, &[0x74, 0x82, 0xff, 0xff]), 2);
-    assert_eq!(rt; answer(alloc, &[0x74, 0x84, 0xff, 0xff, 0xff, 0xff]), 2);
-    assert_eq!(rt; answer(alloc, &[0x74, 0xff]), 2);
-    assert_eq!(rt; answer(alloc, &[0x74, 0x00]), 2);
-    assert_eq!(rt; answer(alloc, &[0x75, 0x00]), 2);
+    let negative = replaced(rt.alloc(), &SAFE, 49, 54, &[0xa3, 0x03, 0x02, 0x01, 0xff])?;
+    assert_eq!(rt; (trailing.len(), negative.len()), (85, 84));
+    let inputs: [&[u8]; 10] = [
+        &[],
+        &[0x74, 0x80],
+        &SAFE[..83],
+        &trailing,
+        &negative,
+        &[0x74, 0x82, 0xff, 0xff],
+        &[0x74, 0x84, 0xff, 0xff, 0xff, 0xff],
+        &[0x74, 0xff],
+        &[0x74, 0x00],
+        &[0x75, 0x00],
+    ];
+    assert_eq!(rt; malformed(rt.alloc(), &inputs), 10);
     Ok(())
 }
 
 #[test]
 fn lengths_that_are_not_the_shortest_are_malformed(rt: HostRuntime) -> Result<(), Fail> {
-    let alloc = rt.alloc();
-    let two = replaced(alloc, &SAFE, 0, 2, &[0x74, 0x81, 0x52])?;
-    assert_eq!(rt; answer(alloc, &two), 2);
-    let three = replaced(alloc, &SAFE, 0, 2, &[0x74, 0x82, 0x00, 0x52])?;
-    assert_eq!(rt; answer(alloc, &three), 2);
-    let four = replaced(alloc, &SAFE, 0, 2, &[0x74, 0x83, 0x00, 0x00, 0x52])?;
-    assert_eq!(rt; answer(alloc, &four), 2);
+    let one = replaced(rt.alloc(), &SAFE, 0, 2, &[0x74, 0x81, 0x52])?;
+    let two = replaced(rt.alloc(), &SAFE, 0, 2, &[0x74, 0x82, 0x00, 0x52])?;
+    let three = replaced(rt.alloc(), &SAFE, 0, 2, &[0x74, 0x83, 0x00, 0x00, 0x52])?;
     // The cipher of KRB-PRIV as 04 81 00, all lengths around it one more.
     let inside = [
         0x75, 0x1a, 0x30, 0x18, 0xa0, 0x03, 0x02, 0x01, 0x05, 0xa1, 0x03, 0x02, 0x01, 0x15, 0xa3,
         0x0c, 0x30, 0x0a, 0xa0, 0x03, 0x02, 0x01, 0x11, 0xa2, 0x03, 0x04, 0x81, 0x00,
     ];
-    assert_eq!(rt; answer(alloc, &inside), 2);
-    let part = replaced(alloc, &PART, 0, 2, &[0x7c, 0x81, 0x37])?;
-    assert_eq!(rt; part_answer(alloc, &part), 2);
-    let sequence = replaced(alloc, &PART, 0, 4, &[0x7c, 0x38, 0x30, 0x81, 0x35])?;
-    assert_eq!(rt; part_answer(alloc, &sequence), 2);
+    assert_eq!(rt; malformed(rt.alloc(), &[&one, &two, &three, &inside]), 4);
+    Ok(())
+}
+
+#[test]
+fn lengths_of_a_part_that_are_not_the_shortest_are_malformed(rt: HostRuntime) -> Result<(), Fail> {
+    let outer = replaced(rt.alloc(), &PART, 0, 2, &[0x7c, 0x81, 0x37])?;
+    assert_eq!(rt; part_answer(rt.alloc(), &outer), 2);
+    let inner = replaced(rt.alloc(), &PART, 0, 4, &[0x7c, 0x38, 0x30, 0x81, 0x35])?;
+    assert_eq!(rt; part_answer(rt.alloc(), &inner), 2);
     Ok(())
 }
 

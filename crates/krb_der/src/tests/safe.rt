@@ -1,21 +1,17 @@
 use super::{PART, SAFE, SAFE_TO_RECEIVER, decode_safe};
 use crate::{Bytes, DerError, decode, encode_safe, safe_input};
+use std::alloc::Global;
 use std::test::Fail;
 
 #[test]
 fn message_is_read_and_written_back(rt: HostRuntime) -> Result<(), Fail> {
     let m = decode_safe(rt.alloc(), &SAFE)?;
-    assert_eq!(rt; m.pvno, 5);
-    assert_eq!(rt; m.msg_type, 20);
-    assert_eq!(rt; m.body.user_data.as_slice(), [0x44, 0x68, 0x69].as_slice());
-    assert_eq!(rt; m.body.time, Some(1_700_000_000));
-    assert_eq!(rt; m.body.usec, Some(5));
-    assert_eq!(rt; m.body.seq, Some(7));
-    assert_eq!(rt; m.body.s_addr.kind, 2);
+    assert_eq!(rt; (m.pvno, m.msg_type, m.cksum_type), (5, 20, 0));
+    assert_eq!(rt; m.body.user_data.as_slice(), b"Dhi".as_slice());
+    assert_eq!(rt; (m.body.time, m.body.usec), (Some(1_700_000_000), Some(5)));
+    assert_eq!(rt; (m.body.seq, m.body.s_addr.kind), (Some(7), 2));
     assert_eq!(rt; m.body.s_addr.bytes.as_slice(), [10, 0, 0, 1].as_slice());
-    assert!(rt; m.body.r_addr.is_none());
-    assert_eq!(rt; m.cksum_type, 0);
-    assert_eq!(rt; m.checksum.as_slice().len(), 0);
+    assert!(rt; m.body.r_addr.is_none() && m.checksum.as_slice().is_empty());
     assert!(rt; m.body.in_range());
     assert_eq!(rt; encode_safe(rt.alloc(), &m)?.as_slice(), SAFE.as_slice());
     Ok(())
@@ -24,15 +20,12 @@ fn message_is_read_and_written_back(rt: HostRuntime) -> Result<(), Fail> {
 #[test]
 fn message_to_a_receiver_without_time_is_read_and_written_back(rt: HostRuntime) -> Result<(), Fail> {
     let m = decode_safe(rt.alloc(), &SAFE_TO_RECEIVER)?;
-    assert_eq!(rt; m.body.user_data.as_slice().len(), 0);
-    assert_eq!(rt; m.body.time, None);
-    assert_eq!(rt; m.body.usec, None);
+    assert_eq!(rt; (m.body.user_data.as_slice().len(), m.cksum_type), (0, 15));
+    assert_eq!(rt; (m.body.time, m.body.usec), (None, None));
     assert_eq!(rt; m.body.seq, Some(4_294_967_295));
-    assert_eq!(rt; m.cksum_type, 15);
     let receiver = m.body.r_addr.as_ref().ok_or("no receiver")?;
     assert_eq!(rt; receiver.bytes.as_slice(), [10, 0, 0, 255].as_slice());
-    assert!(rt; receiver.same(receiver));
-    assert!(rt; !receiver.same(&m.body.s_addr));
+    assert!(rt; receiver.same(receiver) && !receiver.same(&m.body.s_addr));
     assert!(rt; m.body.in_range());
     assert_eq!(rt; encode_safe(rt.alloc(), &m)?.as_slice(), SAFE_TO_RECEIVER.as_slice());
     Ok(())
@@ -70,20 +63,21 @@ fn text_of_60000_bytes_is_carried(rt: HostRuntime) -> Result<(), Fail> {
     Ok(())
 }
 
+/// What `encode_safe` answers for a text of so many bytes: how many the message has, or the error.
+fn size_with_text(alloc: Global, size: usize) -> Result<Result<usize, DerError>, Fail> {
+    let mut m = decode_safe(alloc, &SAFE)?;
+    m.body.user_data = Bytes::new(vec![in alloc; 0; size]?);
+    if !m.body.in_range() {
+        return Ok(Ok(0));
+    }
+    Ok(encode_safe(alloc, &m).map(|bytes| bytes.len()))
+}
+
 #[test]
 fn message_over_the_limit_is_not_written(rt: HostRuntime) -> Result<(), Fail> {
-    let mut m = decode_safe(rt.alloc(), &SAFE)?;
-    m.body.user_data = Bytes::new(vec![in rt.alloc(); 0; 65_000 - 93]?);
-    assert!(rt; m.body.in_range());
-    let longest = encode_safe(rt.alloc(), &m)?;
-    assert_eq!(rt; longest.len(), 65_000);
-    assert!(rt; decode(rt.alloc(), longest.as_slice()).is_ok());
-    m.body.user_data = Bytes::new(vec![in rt.alloc(); 0; 65_000 - 92]?);
-    assert!(rt; m.body.in_range());
-    assert_eq!(rt; encode_safe(rt.alloc(), &m).err(), Some(DerError::TooLong));
-    m.body.user_data = Bytes::new(vec![in rt.alloc(); 0; 70_000]?);
-    assert!(rt; m.body.in_range());
-    assert_eq!(rt; encode_safe(rt.alloc(), &m).err(), Some(DerError::TooLong));
+    assert_eq!(rt; size_with_text(rt.alloc(), 65_000 - 93)?, Ok(65_000));
+    assert_eq!(rt; size_with_text(rt.alloc(), 65_000 - 92)?, Err(DerError::TooLong));
+    assert_eq!(rt; size_with_text(rt.alloc(), 70_000)?, Err(DerError::TooLong));
     Ok(())
 }
 
