@@ -12,9 +12,7 @@ mod limits;
 mod prefix;
 
 pub use bytes::Bytes;
-pub use limits::{
-    FRAME_LIMIT, LAST_NUMBER, RAW_LIMIT, TEXT_LIMIT, USER_DATA_LIMIT, limit_laws,
-};
+pub use limits::{FRAME_LIMIT, LAST_NUMBER, RAW_LIMIT, TEXT_LIMIT, USER_DATA_LIMIT, limit_laws};
 pub use prefix::prefix_laws;
 
 #[cfg(test)]

@@ -23,5 +23,4 @@ pub fn limit_laws()
     ensures frame { FRAME_LIMIT ≡ frame_limit }
     ensures raw { RAW_LIMIT ≡ raw_limit }
     ensures number { LAST_NUMBER ≡ last_number }
-{
-}
+{}

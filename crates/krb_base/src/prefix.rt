@@ -12,5 +12,4 @@ pub fn prefix_laws<T>()
     ensures reflexive { (xs : List T) → IsPrefix xs xs }
     ensures transitive { (xs ys zs : List T) → IsPrefix xs ys → IsPrefix ys zs → IsPrefix xs zs }
     ensures same_length { (xs ys : List T) → IsPrefix xs ys → length xs ≡ length ys → xs ≡ ys }
-{
-}
+{}

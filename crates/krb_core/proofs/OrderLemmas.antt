@@ -7,7 +7,7 @@ use Rattle.std.proofs.Math.Bool.{or-false}
 use Rattle.krb_core.specs.declared.record.Record.{Record}
 use Rattle.krb_core.specs.declared.record.Record.TheVariants.{Text, Close}
 use Rattle.krb_core.specs.declared.order.OrderRefusal.TheVariants.{AfterClose, BadOrder}
-use Rattle.krb_core.specs.Limits.{last_number}
+use Rattle.krb_base.specs.Limits.{last_number}
 use Rattle.krb_core.specs.Order.{Offer, Answer, answer_to, demand_after}
 use Rattle.krb_core.specs.Accepted.{accepted_of, IsAnswer, demand_of}
 use Rattle.krb_core.specs.Record.{is_close}

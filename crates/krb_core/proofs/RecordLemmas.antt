@@ -4,7 +4,7 @@ use Rattle.krb_core.specs.declared.record.Record.{Record}
 use Rattle.krb_core.specs.declared.record.RecordError.{RecordError}
 use Rattle.krb_core.specs.declared.record.RecordError.TheVariants.{BadRecord, Memory}
 use Rattle.krb_core.specs.declared.record.Record.TheVariants.{Text, Close}
-use Rattle.krb_core.specs.Limits.{user_data_limit}
+use Rattle.krb_base.specs.Limits.{user_data_limit}
 use Rattle.krb_core.specs.Record.{SpellsRecord}
 
 -- an answer is BadRecord exactly where the bytes are those of no record

@@ -5,7 +5,7 @@ use Rattle.krb_core.specs.declared.record.Record.{Record}
 use Rattle.krb_core.specs.declared.record.Record.TheVariants.{Close}
 use Rattle.krb_core.specs.declared.order.OrderRefusal.TheVariants.{AfterClose}
 use Rattle.krb_core.specs.Demand.{Demand}
-use Rattle.krb_core.specs.Limits.{last_number}
+use Rattle.krb_base.specs.Limits.{last_number}
 use Rattle.krb_core.specs.Order.{Offer, Answer}
 use Rattle.krb_core.specs.Record.{is_close}
 

@@ -1,4 +1,3 @@
-pub mod Limits
 pub mod Record
 pub mod Demand
 pub mod Order

@@ -4,7 +4,7 @@ use Rattle.krb_core.specs.declared.record.Record.{Record}
 use Rattle.krb_core.specs.declared.order.OrderRefusal.{OrderRefusal}
 use Rattle.krb_core.specs.declared.order.OrderRefusal.TheVariants.{AfterClose, BadOrder}
 use Rattle.krb_core.specs.Demand.{Demand}
-use Rattle.krb_core.specs.Limits.{last_number}
+use Rattle.krb_base.specs.Limits.{last_number}
 use Rattle.krb_core.specs.Record.{is_close}
 
 -- a record that is offered under a number

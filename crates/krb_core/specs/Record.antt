@@ -4,7 +4,7 @@ use Rattle.krb_core.specs.declared.record.Record.{Record}
 use Rattle.krb_core.specs.declared.record.Record.TheVariants.{Text, Close}
 use Rattle.krb_core.specs.declared.record.RecordError.{RecordError}
 use Rattle.krb_core.specs.declared.record.RecordError.TheVariants.{BadRecord, Memory}
-use Rattle.krb_core.specs.Limits.{text_limit}
+use Rattle.krb_base.specs.Limits.{text_limit}
 
 -- the bytes of a record: 44 and the text, or the single byte 43 (hexadecimal)
 abbrev pub bytes_of : Record → List ℕ

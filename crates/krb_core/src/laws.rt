@@ -5,7 +5,7 @@ ghost use Rattle.std.specs.List.{Contains, flat_map};
 ghost use Rattle.krb_base.specs.Prefix.{IsPrefix};
 ghost use Rattle.krb_core.specs.declared.record.Record.{Record};
 ghost use Rattle.krb_core.specs.declared.record.Record.TheVariants.{Close};
-ghost use Rattle.krb_core.specs.Limits.{user_data_limit};
+ghost use Rattle.krb_base.specs.Limits.{user_data_limit};
 ghost use Rattle.krb_core.specs.Record.{SpellsRecord, texts_of};
 ghost use Rattle.krb_core.specs.Order.{Offer, Answer, answers_to};
 ghost use Rattle.krb_core.specs.Accepted.{Accepted, accepted_of, demand_of, Carries, EndsWithItsClose};

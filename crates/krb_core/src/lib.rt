@@ -11,11 +11,10 @@
 #![tactic(auto)]
 
 mod laws;
-mod limits;
 mod order;
 mod record;
 
+pub use krb_base::{LAST_NUMBER, TEXT_LIMIT, USER_DATA_LIMIT};
 pub use laws::{accepted_laws, record_laws};
-pub use limits::{LAST_NUMBER, TEXT_LIMIT, USER_DATA_LIMIT};
 pub use order::{Order, OrderRefusal};
 pub use record::{Record, RecordError, read_record, record_bytes};

@@ -1,13 +1,13 @@
 //! The order of records: one number after another, and nothing behind the close.
 
 ghost use Rattle.std.specs.Prelude.{◌≡◌, ◌≢◌, ◌↔◌, ◌⊎◌, ℕ, ◌+◌, ◌≤◌, ◌<◌, List, [], ◌∷◌, ◌++◌, IsTrue, IsFalse, OnOk, OnErr, Some};
-ghost use Rattle.krb_core.specs.Limits.{last_number};
+ghost use Rattle.krb_base.specs.Limits.{last_number};
 ghost use Rattle.krb_core.specs.Order.{Offer, Answer, offer, answer_to, code_of, words_of};
 ghost use Rattle.krb_core.specs.Accepted.{HasAnswered};
 ghost use Rattle.krb_core.specs.Record.{is_close};
 
-use crate::limits::LAST_NUMBER;
 use crate::record::Record;
+use krb_base::LAST_NUMBER;
 use std::error::Error;
 use std::fmt;
 use std::marker::Model;
@@ -24,7 +24,7 @@ pub struct Order {
 impl Model for Order {
     ghost use Rattle.std.specs.Prelude.{◌+◌, ◌≤◌};
     ghost use Rattle.krb_core.specs.Demand.{Demand};
-    ghost use Rattle.krb_core.specs.Limits.{last_number};
+    ghost use Rattle.krb_base.specs.Limits.{last_number};
 
     ghost Value = { Demand };
 

@@ -3,8 +3,7 @@
 ghost use Rattle.std.specs.Prelude.{◌≡◌, ◌≢◌, ◌↔◌, IfOk, MatchResult, Some};
 ghost use Rattle.krb_core.specs.Record.{FitsLimits, SpellsRecord, code_of, words_of};
 
-use crate::limits::TEXT_LIMIT;
-use krb_base::Bytes;
+use krb_base::{Bytes, TEXT_LIMIT};
 use std::alloc::{AllocError, Global};
 use std::error::Error;
 use std::fmt;
@@ -116,7 +115,7 @@ pub fn read_record(alloc: Global, bytes: &[u8]) -> Result<Record, RecordError>
 #[cfg(test)]
 mod tests {
     use super::*;
-    use crate::limits::USER_DATA_LIMIT;
+    use krb_base::USER_DATA_LIMIT;
     use std::test::Fail;
 
     fn is_text(record: &Record, text: &[u8]) -> bool {

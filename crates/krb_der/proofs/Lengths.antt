@@ -94,7 +94,6 @@ long_priv m b h e = too_long (IsShort m.cipher) (length (private m)) b h e (shor
 pub long_part : (b : Body) (t : Bool) → (IsTrue t ↔ IsShortBody b) → t ≡ false → frame_limit < length (part b)
 long_part b t h e = too_long (IsShortBody b) (length (part b)) t h e (short_part b)
 
-
 -- a refusal to grow is told as such, of a value that isn't too long
 pub memory_only : {V : Type 0} (Spelt : V → List ℕ → Type 0) (spelling : V → List ℕ) (v : V) (r : Result (Vec ℕ) DerError) → IsErrAnd r (λ e. e ≡ errors.Memory) → length (spelling v) ≤ frame_limit → Encodes Spelt spelling v r
 memory_only Spelt spelling v (Ok x) h le = absurd h

@@ -152,8 +152,8 @@ optional_field tag low PA spell of get K P others k one rest lt = record {
       let p = optional-found tag PA spell of c x.0 one fits x.1 in
       let r = (rest x.0.0).found x.0.1 v p.rest_fits x.2 in
       let same : get v ≡ x.0.0 = r.0.1 in
-      let P1 : Option _ → Type 0 = λ o. IfSome o PA in
-      (r.0.0, ((subst P1 (sym same) p.fits, r.1.0), p.parts ∙ glue_two (optional tag spell x.0.0) x.0.1 (joined (others v)) r.1.1 ∙ ap (λ (o : Option _). optional tag spell o ++ joined (others v)) (sym same)));
+      let Fits : Option _ → Type 0 = λ o. IfSome o PA in
+      (r.0.0, ((subst Fits (sym same) p.fits, r.1.0), p.parts ∙ glue_two (optional tag spell x.0.0) x.0.1 (joined (others v)) r.1.1 ∙ ap (λ (o : Option _). optional tag spell o ++ joined (others v)) (sym same)));
   again = λ v known h short.
       let inner : length (optional tag spell (get v)) < 2 ^ 24 = omega (arith, length-append (optional tag spell (get v)) (joined (others v))) in
       let outer : length (joined (others v)) < 2 ^ 24 = omega (arith, length-append (optional tag spell (get v)) (joined (others v))) in

@@ -12,7 +12,9 @@ ghost use Rattle.krb_der.specs.Reading.{Gives, Takes, time_element_of, optional_
 
 use crate::address::{HostAddress, known_address, read_address};
 use crate::error::DerError;
-use crate::integer::{UINT32_LIMIT, known_uint32, natural_field_size, read_optional_natural, write_natural_field};
+use crate::integer::{
+    UINT32_LIMIT, known_uint32, natural_field_size, read_optional_natural, write_natural_field,
+};
 use crate::reader::{Reader, only_element, read_octets};
 use crate::tag;
 use crate::time::{LAST_SECOND, kerberos_time, time_at};
@@ -23,8 +25,6 @@ use std::alloc::{AllocError, Global};
 
 /// The first number of microseconds that is a second.
 const MICROSECONDS_LIMIT: u32 = 1_000_000;
-
-
 
 /// What KRB-SAFE and the encrypted part of KRB-PRIV carry (RFC 4120 sections 5.6.1 and 5.7.1).
 #[derive(Debug, Drop)]
@@ -167,9 +167,7 @@ fn write_optional_address(
     ensures { OnOk result (out.new ≡ out.old ++ optional tag host_address address.now) }
 {
     match address {
-        Some(address) => {
-            write_typed_field(out, tag, &address.kind, address.bytes.as_slice())
-        }
+        Some(address) => { write_typed_field(out, tag, &address.kind, address.bytes.as_slice()) }
         None => Ok(()),
     }
 }

@@ -5,5 +5,4 @@ ghost use Rattle.krb_der.specs.Message.{Spells, SpellsPart, UniqueSpelling};
 pub fn unique_spelling()
     ensures messages { UniqueSpelling Spells }
     ensures parts { UniqueSpelling SpellsPart }
-{
-}
+{}

@@ -79,12 +79,7 @@ impl SafeMsg {
     }
 
     /// Adds its fields with this checksum.
-    fn write_fields(
-        &self,
-        kind: &i32,
-        checksum: &[u8],
-        out: &mut Writer,
-    ) -> Result<(), AllocError>
+    fn write_fields(&self, kind: &i32, checksum: &[u8], out: &mut Writer) -> Result<(), AllocError>
         requires short { IsShortBody self.now.body }
         requires short_checksum { IsShort checksum.now }
         requires time { IfSome self.now.body.time IsSecond }
@@ -120,12 +115,7 @@ impl SafeMsg {
     }
 
     /// Its spelling with this checksum in place of its own.
-    fn encode_with(
-        &self,
-        alloc: Global,
-        kind: &i32,
-        checksum: &[u8],
-    ) -> Result<Vec<u8>, DerError>
+    fn encode_with(&self, alloc: Global, kind: &i32, checksum: &[u8]) -> Result<Vec<u8>, DerError>
         requires { InRange self.now.body }
         ensures { Encodes Spells message
             (Safe (with_checksum self.now kind.now checksum.now)) result }

@@ -16,8 +16,13 @@ pub const KRB_PRIV: u8 = 0x75;
 pub const ENC_KRB_PRIV_PART: u8 = 0x7C;
 /// The explicit tags `[0]` to `[5]` of fields.
 pub const FIELD_0: u8 = 0xA0;
+
 pub const FIELD_1: u8 = 0xA1;
+
 pub const FIELD_2: u8 = 0xA2;
+
 pub const FIELD_3: u8 = 0xA3;
+
 pub const FIELD_4: u8 = 0xA4;
+
 pub const FIELD_5: u8 = 0xA5;

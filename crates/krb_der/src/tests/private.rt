@@ -18,7 +18,10 @@ fn message_is_read_and_written_back(rt: HostRuntime) -> Result<(), Fail> {
 fn key_version_is_read_and_written_back(rt: HostRuntime) -> Result<(), Fail> {
     let m = decode_priv(rt.alloc(), &PRIV_WITH_KVNO)?;
     assert_eq!(rt; m.kvno, Some(3));
-    assert_eq!(rt; encode_priv(rt.alloc(), &m)?.as_slice(), PRIV_WITH_KVNO.as_slice());
+    assert_eq!(rt;
+        encode_priv(rt.alloc(), &m)?.as_slice(),
+        PRIV_WITH_KVNO.as_slice()
+    );
     Ok(())
 }
 
@@ -26,7 +29,10 @@ fn key_version_is_read_and_written_back(rt: HostRuntime) -> Result<(), Fail> {
 fn part_is_the_body_of_the_message(rt: HostRuntime) -> Result<(), Fail> {
     let m = decode_safe(rt.alloc(), &SAFE)?;
     assert!(rt; m.body.in_range());
-    assert_eq!(rt; encode_part(rt.alloc(), &m.body)?.as_slice(), PART.as_slice());
+    assert_eq!(rt;
+        encode_part(rt.alloc(), &m.body)?.as_slice(),
+        PART.as_slice()
+    );
     let body = decode_part(rt.alloc(), &PART)?;
     assert_eq!(rt; body.user_data.as_slice(), [0x44, 0x68, 0x69].as_slice());
     assert_eq!(rt; body.time, Some(1_700_000_000));
@@ -47,7 +53,10 @@ fn what_is_over_the_limit_is_not_written(rt: HostRuntime) -> Result<(), Fail> {
     let mut body = decode_part(rt.alloc(), &PART)?;
     body.user_data = Bytes::new(vec![in rt.alloc(); 0; 65_001]?);
     assert!(rt; body.in_range());
-    assert_eq!(rt; encode_part(rt.alloc(), &body).err(), Some(DerError::TooLong));
+    assert_eq!(rt;
+        encode_part(rt.alloc(), &body).err(),
+        Some(DerError::TooLong)
+    );
     Ok(())
 }
 

@@ -154,7 +154,10 @@ fn every_proper_prefix_is_malformed(rt: HostRuntime) {
 #[test]
 fn bit_flips_are_read_as_an_independent_reader_does(rt: HostRuntime) -> Result<(), Fail> {
     assert_eq!(rt; answers_to_flips(rt.alloc(), &SAFE)?, (135, 537));
-    assert_eq!(rt; answers_to_flips(rt.alloc(), &SAFE_TO_RECEIVER)?, (135, 489));
+    assert_eq!(rt;
+        answers_to_flips(rt.alloc(), &SAFE_TO_RECEIVER)?,
+        (135, 489)
+    );
     assert_eq!(rt; answers_to_flips(rt.alloc(), &PRIV)?, (24, 192));
     assert_eq!(rt; answers_to_flips(rt.alloc(), &PRIV_WITH_KVNO)?, (31, 225));
     Ok(())

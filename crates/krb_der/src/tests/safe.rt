@@ -18,7 +18,9 @@ fn message_is_read_and_written_back(rt: HostRuntime) -> Result<(), Fail> {
 }
 
 #[test]
-fn message_to_a_receiver_without_time_is_read_and_written_back(rt: HostRuntime) -> Result<(), Fail> {
+fn message_to_a_receiver_without_time_is_read_and_written_back(
+    rt: HostRuntime,
+) -> Result<(), Fail> {
     let m = decode_safe(rt.alloc(), &SAFE_TO_RECEIVER)?;
     assert_eq!(rt; (m.body.user_data.as_slice().len(), m.cksum_type), (0, 15));
     assert_eq!(rt; (m.body.time, m.body.usec), (None, None));
@@ -27,7 +29,10 @@ fn message_to_a_receiver_without_time_is_read_and_written_back(rt: HostRuntime) 
     assert_eq!(rt; receiver.bytes.as_slice(), [10, 0, 0, 255].as_slice());
     assert!(rt; receiver.same(receiver) && !receiver.same(&m.body.s_addr));
     assert!(rt; m.body.in_range());
-    assert_eq!(rt; encode_safe(rt.alloc(), &m)?.as_slice(), SAFE_TO_RECEIVER.as_slice());
+    assert_eq!(rt;
+        encode_safe(rt.alloc(), &m)?.as_slice(),
+        SAFE_TO_RECEIVER.as_slice()
+    );
     Ok(())
 }
 
@@ -59,7 +64,10 @@ fn text_of_60000_bytes_is_carried(rt: HostRuntime) -> Result<(), Fail> {
     assert_eq!(rt; bytes.len(), 60_094);
     assert!(rt; bytes.as_slice().starts_with(&begin));
     let again = decode_safe(rt.alloc(), bytes.as_slice())?;
-    assert_eq!(rt; again.body.user_data.as_slice(), m.body.user_data.as_slice());
+    assert_eq!(rt;
+        again.body.user_data.as_slice(),
+        m.body.user_data.as_slice()
+    );
     Ok(())
 }
 
@@ -76,7 +84,10 @@ fn size_with_text(alloc: Global, size: usize) -> Result<Result<usize, DerError>,
 #[test]
 fn message_over_the_limit_is_not_written(rt: HostRuntime) -> Result<(), Fail> {
     assert_eq!(rt; size_with_text(rt.alloc(), 65_000 - 93)?, Ok(65_000));
-    assert_eq!(rt; size_with_text(rt.alloc(), 65_000 - 92)?, Err(DerError::TooLong));
+    assert_eq!(rt;
+        size_with_text(rt.alloc(), 65_000 - 92)?,
+        Err(DerError::TooLong)
+    );
     assert_eq!(rt; size_with_text(rt.alloc(), 70_000)?, Err(DerError::TooLong));
     Ok(())
 }

@@ -7,4 +7,4 @@ pub returns : goal.returns
 returns c =
     c.into_vec.ensures
     ∙ message_written 0x75 c.fields_size-fields.result c.size_around.result (private_fields c.args.self.now) c.in_ok-out.out c.begin.new.self c.begin-2.new.self c.write_fields.new.out
-        c.in_ok-out.ensures c.fields_size-fields.ensures.value c.size_around.ensures.value c.in_ok-begin.ensures c.in_ok-begin-2.ensures c.in_ok-write_fields.ensures
+    c.in_ok-out.ensures c.fields_size-fields.ensures.value c.size_around.ensures.value c.in_ok-begin.ensures c.in_ok-begin-2.ensures c.in_ok-write_fields.ensures
