@@ -15,22 +15,28 @@ inv_sbox b = slice_index (row INV_SUB 3) b
 unfoldable pub inv_mixed : ℕ → ℕ → ℕ → ℕ → ℕ
 inv_mixed a b c d = sum4 (times 14 a) (times 11 b) (times 13 c) (times 9 d)
 
+-- InvSubBytes (5.3.2)
 unfoldable pub inv_sub_bytes : List ℕ → List ℕ
 inv_sub_bytes s = from_cells (λ r c. inv_sbox (cell s r c))
 
+-- InvShiftRows: row r rotated right by r places (5.3.1)
 unfoldable pub inv_shift_rows : List ℕ → List ℕ
 inv_shift_rows s = from_cells (λ r c. cell s r ((c + 4 - r) % 4))
 
+-- InvMixColumns: each column by the matrix with first row 14, 11, 13, 9 (5.3.3)
 unfoldable pub inv_mix_columns : List ℕ → List ℕ
 inv_mix_columns s = from_cells (λ r c. inv_mixed (cell s r c) (cell s ((r + 1) % 4) c) (cell s ((r + 2) % 4) c) (cell s ((r + 3) % 4) c))
 
+-- a round that mixes, undone
 unfoldable pub inv_round : List ℕ → ℕ → List ℕ → List ℕ
 inv_round w n s = inv_sub_bytes (inv_shift_rows (inv_mix_columns (add_round_key w n s)))
 
+-- the rounds from n down that mix, and AddRoundKey 0, undone
 unfoldable pub inv_rounds : List ℕ → ℕ → List ℕ → List ℕ
 inv_rounds w zero s = add_round_key w 0 s
 inv_rounds w (suc n) s = inv_rounds w n (inv_round w (suc n) s)
 
+-- the inverse cipher, with n rounds that mix (5.3)
 unfoldable pub inv_cipher_rounds : List ℕ → ℕ → List ℕ → List ℕ
 inv_cipher_rounds w n s = inv_rounds w n (inv_sub_bytes (inv_shift_rows (add_round_key w (suc n) s)))
 
@@ -38,6 +44,7 @@ inv_cipher_rounds w n s = inv_rounds w n (inv_sub_bytes (inv_shift_rows (add_rou
 unfoldable pub inv_cipher : List ℕ → List ℕ → List ℕ
 inv_cipher w s = inv_cipher_rounds w (length w / 4 - 2) s
 
+-- the column with bytes a, b, c, d, mixed back
 unfoldable pub inv_mixed_word : ℕ → ℕ → ℕ → ℕ → ℕ
 inv_mixed_word a b c d = word (inv_mixed a b c d) (inv_mixed b c d a) (inv_mixed c d a b) (inv_mixed d a b c)
 

@@ -2,7 +2,7 @@
 
 ghost use Rattle.std.specs.Prelude.{◌≡◌, ℕ, ◌+◌, ◌-◌, ◌*◌, ◌/◌, ◌<◌, ◌≤◌, ◌⊎◌, List, length, take, replicate, slice_index};
 ghost use Rattle.krb_aes.specs.Cipher.{cipher};
-ghost use Rattle.krb_aes.specs.Keys.{sub_word, rot_word, round_constant, turned, next_word, first_words, expanded_key, key_bytes, key_words, AreZero, IsPadded};
+ghost use Rattle.krb_aes.specs.Keys.{sub_word, rot_word, round_constant, transformed, next_word, first_words, expanded_key, key_bytes, key_words, AreZero, IsPadded};
 ghost use Rattle.krb_aes.specs.Words.{HasRounds, IsBlock};
 ghost use Rattle.krb_aes.specs.InverseCipher.{IsInverseKey, IsSchedule};
 
@@ -14,6 +14,7 @@ use std::marker::Model;
 /// A key isn't `Drop`: it ends by [`CipherKey::spend`], once its bytes are zero.
 pub struct CipherKey {
     bytes: [u8; 32],
+    // A key of 32 bytes; of one of 16 the other bytes stay zero.
     wide: bool,
 }
 
@@ -90,7 +91,9 @@ fn forget_words(_words: [u32; 60])
 /// still enciphers, by round keys of zeros.
 pub struct Schedule {
     words: [u32; 60],
+    // The words, each mixed back, for the inverse cipher.
     inverse_words: [u32; 60],
+    // The schedule of a key of 32 bytes; of one of 16 the words past 44 stay zero.
     wide: bool,
 }
 
@@ -216,11 +219,11 @@ fn rot_word(x: u32) -> u32
 }
 
 // What word i of a key of n words adds to the word one key before it, from the word x just before it.
-fn turned(n: usize, i: usize, x: u32) -> u32
+fn transformed(n: usize, i: usize, x: u32) -> u32
     requires some { 0 < n }
     requires within { i < 11 * n }
     requires after { n ≤ i }
-    ensures { result ≡ turned n i x }
+    ensures { result ≡ transformed n i x }
 {
     if i % n == 0 {
         sub_word(rot_word(x)) ^ constant(i / n - 1)
@@ -238,7 +241,7 @@ fn next_word(n: usize, i: usize, w: &[u32; 60]) -> u32
     requires room { i < 60 }
     ensures { result ≡ next_word n i w.now }
 {
-    w[i - n] ^ turned(n, i, w[i - 1])
+    w[i - n] ^ transformed(n, i, w[i - 1])
 }
 
 // KeyExpansion: the words of the round keys, with zeros after them.

@@ -70,7 +70,8 @@ pub fn store(a: [u32; 4]) -> [u8; 16]
 
 // The sum of two states.
 pub fn add(a: [u32; 4], b: [u32; 4]) -> [u32; 4]
-    ensures { (s t : List ℕ) → AreBytes s → AreBytes t → a ≡ columns s → b ≡ columns t → result ≡ columns (xor_block s t) }
+    ensures { (s t : List ℕ) → AreBytes s → AreBytes t → a ≡ columns s → b ≡ columns t
+        → result ≡ columns (xor_block s t) }
 {
     [a[0] ^ b[0], a[1] ^ b[1], a[2] ^ b[2], a[3] ^ b[3]]
 }

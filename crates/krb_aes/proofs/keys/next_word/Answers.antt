@@ -4,4 +4,4 @@ use Rattle.krb_aes.proofs.keys.next_word.Goals as goal
 
 pub returns : goal.returns
 unfolding next_word
-returns c = ap (bit_xor (get_or c.args.w.now (c.args.i - c.args.n) 0)) c.turned.ensures
+returns c = ap (bit_xor (get_or c.args.w.now (c.args.i - c.args.n) 0)) c.transformed.ensures
