@@ -1,7 +1,7 @@
 -- The cipher undone with inv_mixed round keys, so that each round is one look-up a byte.
-use Rattle.std.proofs.Common.{◌≡◌, ℕ, zero, suc, ◌+◌, ◌-◌, ◌*◌, ◌/◌, ◌%◌, ◌^◌, ◌<◌, ◌≤◌, bit_xor, List, [], ◌∷◌, length, get_or, refl, sym, ap, ◌∙◌, arith}
+use Rattle.std.proofs.Common.{◌≡◌, ℕ, ◌+◌, ◌-◌, ◌*◌, ◌/◌, ◌<◌, ◌≤◌, bit_xor, List, [], ◌∷◌, length, get_or, sym, ap, ◌∙◌, arith}
 use Rattle.krb_aes.specs.Field.{times}
-use Rattle.krb_aes.specs.Cipher.{sum4, word, word_byte, cell, from_cells, add_round_key}
+use Rattle.krb_aes.specs.Cipher.{sum4, word_byte, cell, add_round_key}
 use Rattle.krb_aes.specs.Words.{AreBytes, columns}
 use Rattle.krb_aes.specs.InverseCipher.{inv_mixed, inv_mixed_word, inv_mix_word, IsInverseKey, inv_round_word, inv_mix_columns, inv_sub_bytes, inv_shift_rows, inv_rounds, inv_cipher, inv_sbox}
 use Rattle.krb_aes.proofs.FieldFacts.{times-xor}

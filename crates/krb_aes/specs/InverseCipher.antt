@@ -1,8 +1,7 @@
 -- The steps of the cipher undone (FIPS 197, section 5.3).
-use Rattle.std.specs.Prelude.{◌≡◌, ℕ, zero, suc, ◌+◌, ◌-◌, ◌*◌, ◌/◌, ◌%◌, ◌^◌, ◌<◌, ◌==◌, Bool, ◌&&◌, List, [], ◌∷◌, length, slice_index, bit_xor}
+use Rattle.std.specs.Prelude.{◌≡◌, ℕ, zero, suc, ◌+◌, ◌-◌, ◌/◌, ◌%◌, ◌<◌, List, length, slice_index, bit_xor}
 use Rattle.krb_aes.specs.Field.{times}
 use Rattle.krb_aes.specs.Cipher.{cell, from_cells, sum4, word, word_byte, add_round_key}
-use Rattle.krb_aes.specs.Words.{AreBytes}
 use Rattle.krb_aes.specs.Keys.{IsPadded}
 use Rattle.krb_aes.specs.declared.tables.TheConstants.{INV_SUB}
 use Rattle.krb_aes.specs.Tables.{row}

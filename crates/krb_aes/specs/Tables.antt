@@ -1,5 +1,5 @@
 -- What the tables hold, as tests that are computed at each entry.
-use Rattle.std.specs.Prelude.{ℕ, zero, suc, ◌+◌, ◌*◌, ◌^◌, ◌==◌, nat_lt, Bool, ◌&&◌, List, [], ◌∷◌, slice_index}
+use Rattle.std.specs.Prelude.{ℕ, zero, suc, ◌==◌, nat_lt, Bool, ◌&&◌, List, [], ◌∷◌, slice_index}
 use Rattle.krb_aes.specs.Field.{times, sbox}
 use Rattle.krb_aes.specs.Cipher.{word}
 

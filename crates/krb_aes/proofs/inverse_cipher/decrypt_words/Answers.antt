@@ -1,7 +1,6 @@
-use Rattle.std.proofs.Common.{◌≡◌, List, ℕ, ◌+◌, ◌-◌, ◌*◌, ◌/◌, length, ◌∙◌, arith}
+use Rattle.std.proofs.Common.{List, ℕ, ◌+◌, ◌-◌, ◌*◌, ◌/◌, length, ◌∙◌, arith}
 use Rattle.krb_aes.specs.Cipher.{add_round_key}
 use Rattle.krb_aes.specs.Words.{AreBytes}
-use Rattle.krb_aes.specs.InverseCipher.{inv_sub_bytes, inv_shift_rows, inv_mix_columns}
 use Rattle.krb_aes.proofs.StateLemmas.{AreBytes-add_round_key}
 use Rattle.krb_aes.proofs.EquivalentInverse.{inv_state, AreBytes-inv_state, inv_step, inv_start, inv_done}
 use Rattle.krb_aes.proofs.inverse_cipher.decrypt_words.Goals as goal

@@ -1,5 +1,4 @@
-use Rattle.std.proofs.Common.{◌≡◌, ℕ, ◌^◌, ◌<◌, arith}
-use Rattle.krb_aes.specs.Cipher.{word_byte}
+use Rattle.std.proofs.Common.{ℕ}
 use Rattle.krb_aes.specs.Keys.{sub_word}
 use Rattle.krb_aes.proofs.Entries.{sbox-lt}
 use Rattle.krb_aes.proofs.StateLemmas.{word_byte-lt}

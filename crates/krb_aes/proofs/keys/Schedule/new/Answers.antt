@@ -1,4 +1,4 @@
-use Rattle.std.proofs.Common.{◌≡◌, Bool, List, ℕ, length, take, sym, ap, ◌∙◌, arith}
+use Rattle.std.proofs.Common.{Bool, take, sym, ap, ◌∙◌, arith}
 use Rattle.std.proofs.lemmas.List.{length-take-le}
 use Rattle.krb_aes.specs.Keys.{expanded_key, key_bytes}
 use Rattle.krb_aes.proofs.KeyLemmas.{expanded_whole, expanded_front, narrow_schedule}

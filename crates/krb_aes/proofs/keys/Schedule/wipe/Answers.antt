@@ -1,4 +1,4 @@
-use Rattle.std.proofs.Common.{◌≡◌, List, ℕ, length, replicate, ap, ◌∙◌}
+use Rattle.std.proofs.Common.{List, ℕ, length, replicate, ap, ◌∙◌}
 use Rattle.krb_aes.proofs.KeyLemmas.{wiped_words, wiped_schedule}
 use Rattle.krb_aes.proofs.keys.Schedule.wipe.Goals as goal
 
