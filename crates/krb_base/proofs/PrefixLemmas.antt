@@ -1,5 +1,5 @@
 -- The laws of prefixes.
-use Rattle.std.proofs.Common.{◌≡◌, ◌+◌, ◌≤◌, ℕ, suc, List, [], ◌∷◌, ◌++◌, length, refl, sym, ap, subst, ◌∙◌, arith, append_assoc, append-nil, length-append}
+use Rattle.std.proofs.Common.{◌≡◌, ◌+◌, ◌≤◌, List, [], ◌∷◌, ◌++◌, length, refl, sym, ap, ◌∙◌, arith, append_assoc, append-nil, length-append}
 use Rattle.krb_base.specs.Prefix.{IsPrefix}
 
 pub prefix_whole : {X : Type 0} (front rest : List X) → IsPrefix front (front ++ rest)

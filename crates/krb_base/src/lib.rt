@@ -1,5 +1,5 @@
-//! Words that several crates of the relay speak of: byte strings on the heap, prefixes of lists,
-//! and the limits of texts and messages.
+//! Words that several crates of the relay speak of: byte strings on the heap, prefixes of lists, the
+//! lane as a state machine, and the limits of texts and messages.
 //!
 //! ```text
 //! let text = Bytes::new(vec);
@@ -8,10 +8,12 @@
 #![tactic(auto)]
 
 mod bytes;
+mod lane;
 mod limits;
 mod prefix;
 
 pub use bytes::Bytes;
+pub use lane::lane_laws;
 pub use limits::{FRAME_LIMIT, LAST_NUMBER, RAW_LIMIT, TEXT_LIMIT, USER_DATA_LIMIT, limit_laws};
 pub use prefix::prefix_laws;
 

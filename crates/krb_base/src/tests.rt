@@ -1,4 +1,4 @@
-use crate::{Bytes, limit_laws, prefix_laws};
+use crate::{Bytes, lane_laws, limit_laws, prefix_laws};
 use std::test::Fail;
 
 #[test]
@@ -12,5 +12,6 @@ fn bytes_give_back_what_they_were_made_of(rt: HostRuntime) -> Result<(), Fail> {
 #[test]
 fn laws_are_there() {
     limit_laws();
+    lane_laws::<u8>();
     prefix_laws::<u8>();
 }
