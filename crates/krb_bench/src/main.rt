@@ -1,0 +1,114 @@
+//! Times `cts_encrypt` and `cts_decrypt` of krb_aes on texts of 16,384 bytes.
+//!
+//! `krb_bench ROUNDS` prints the best speed of that many short runs, one line for each key size and direction, in
+//! thousands of bytes a second, as `openssl speed` does. With no argument it does nothing.
+//! `tools/bench_aes` runs it side by side with OpenSSL.
+#![tactic(auto)]
+
+use krb_aes::{CipherKey, Schedule, cts_decrypt, cts_encrypt};
+use std::time::Instant;
+use std::{env, io};
+
+// How many times the text goes through in one run.
+const TIMES: u32 = 64;
+
+fn end(mut schedule: Schedule) {
+    schedule.wipe();
+    schedule.spend();
+}
+
+// The schedule of a key, which ends here.
+fn schedule_of(mut key: CipherKey) -> Schedule {
+    let schedule = Schedule::new(&key);
+    key.wipe();
+    key.spend();
+    schedule
+}
+
+fn encrypt_often(schedule: &Schedule, text: &mut [u8; 16384]) {
+    for _ in 0..TIMES {
+        cts_encrypt(schedule, text);
+    }
+}
+
+fn decrypt_often(schedule: &Schedule, text: &mut [u8; 16384]) {
+    for _ in 0..TIMES {
+        cts_decrypt(schedule, text);
+    }
+}
+
+// The best times so far of the four kinds of run, in microseconds.
+#[derive(Drop)]
+struct Best {
+    encrypt_128: u128,
+    decrypt_128: u128,
+    encrypt_256: u128,
+    decrypt_256: u128,
+}
+
+impl Best {
+    fn none_yet() -> Best {
+        Best {
+            encrypt_128: u128::MAX,
+            decrypt_128: u128::MAX,
+            encrypt_256: u128::MAX,
+            decrypt_256: u128::MAX,
+        }
+    }
+}
+
+// The time that enciphering takes, in microseconds.
+fn encrypt_time(rt: &HostRuntime, schedule: &Schedule, text: &mut [u8; 16384]) -> io::Result<u128> {
+    let start = Instant::now(rt)?;
+    encrypt_often(schedule, text);
+    Ok(start.elapsed(rt)?.as_micros())
+}
+
+// The time that deciphering takes, in microseconds.
+fn decrypt_time(rt: &HostRuntime, schedule: &Schedule, text: &mut [u8; 16384]) -> io::Result<u128> {
+    let start = Instant::now(rt)?;
+    decrypt_often(schedule, text);
+    Ok(start.elapsed(rt)?.as_micros())
+}
+
+// The best of `rounds` runs of each kind, in turn.
+fn measure(rt: &HostRuntime, narrow: &Schedule, wide: &Schedule, rounds: u32) -> io::Result<Best> {
+    let mut text = [7u8; 16384];
+    let mut best = Best::none_yet();
+    for _ in 0..rounds {
+        best.encrypt_128 = best.encrypt_128.min(encrypt_time(rt, narrow, &mut text)?);
+        best.decrypt_128 = best.decrypt_128.min(decrypt_time(rt, narrow, &mut text)?);
+        best.encrypt_256 = best.encrypt_256.min(encrypt_time(rt, wide, &mut text)?);
+        best.decrypt_256 = best.decrypt_256.min(decrypt_time(rt, wide, &mut text)?);
+    }
+    Ok(best)
+}
+
+// Thousands of bytes a second, for a run of so many microseconds.
+fn speed(micros: u128) -> u128 {
+    let bytes = TIMES as u128 * 16384;
+    bytes * 1000 / micros.max(1)
+}
+
+fn print(rt: &HostRuntime, best: &Best) -> io::Result<()> {
+    println!(rt; "encrypt aes-128 {}", speed(best.encrypt_128))?;
+    println!(rt; "decrypt aes-128 {}", speed(best.decrypt_128))?;
+    println!(rt; "encrypt aes-256 {}", speed(best.encrypt_256))?;
+    println!(rt; "decrypt aes-256 {}", speed(best.decrypt_256))
+}
+
+fn run(rt: &HostRuntime, rounds: u32) -> io::Result<()> {
+    let narrow = schedule_of(CipherKey::from_128(*b"chicken teriyaki"));
+    let wide = schedule_of(CipherKey::from_256(*b"chicken teriyaki and wonton soup"));
+    let measured = measure(rt, &narrow, &wide, rounds);
+    end(narrow);
+    end(wide);
+    print(rt, &measured?)
+}
+
+fn main(rt: HostRuntime) -> io::Result<()> {
+    match env::args(&rt)?.nth(1) {
+        None => Ok(()),
+        Some(rounds) => run(&rt, rounds.parse().unwrap_or(1)),
+    }
+}
