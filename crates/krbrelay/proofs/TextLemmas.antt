@@ -1,0 +1,37 @@
+-- What `format!` and `from_utf8` gave, restated.
+use Rattle.std.proofs.Common.{◌≡◌, ℕ, List, refl, ◌∙◌, Result, Ok, Err, IfOk, String, MatchResult, IsOk, ◌∷◌, ◌++◌, codes, append_assoc}
+use Rattle.std.specs.String.{string_bytes}
+use Rattle.std.specs.Str.{IsUtf8}
+use Rattle.std.specs.Global.{Global}
+
+-- the text that was formatted is this one
+pub formatted : {E : Type 0} (r : Result (String Global) E) (written text : List ℕ) → IfOk r (λ s. string_bytes s ≡ written)
+    → written ≡ text → IfOk r (λ s. string_bytes s ≡ text)
+formatted (Ok s) written text h e = h ∙ e
+formatted (Err x) written text h e = tt
+
+-- bytes that are text were taken as text
+pub valid_text : {T E : Type 0} (P : T → Type 0) (Q : E → Type 0) (r : Result T E) (bytes : List ℕ)
+    → MatchResult r P (λ e. (¬ IsUtf8 bytes) × Q e) → IsUtf8 bytes → IsOk r
+valid_text P Q (Ok s) bytes h utf8 = refl
+valid_text P Q (Err x) bytes h utf8 = absurd (h.0 utf8)
+
+-- the texts of a format's holes, one after the other
+
+pub typed_joined : (kind digits : List ℕ) → kind ++ (58 ∷ digits) ≡ kind ++ codes ":" ++ digits
+typed_joined kind digits = simp append_assoc refl
+
+pub body_joined : (user_data time usec seq sender receiver : List ℕ)
+    → codes "data=" ++ (user_data ++ (codes " time=" ++ (time ++ (codes " usec=" ++ (usec ++ (codes " seq=" ++ (seq ++ (codes " from=" ++ (sender ++ (codes " to=" ++ receiver))))))))))
+    ≡ codes "data=" ++ user_data ++ codes " time=" ++ time ++ codes " usec=" ++ usec ++ codes " seq=" ++ seq ++ codes " from=" ++ sender ++ codes " to=" ++ receiver
+body_joined user_data time usec seq sender receiver = simp append_assoc refl
+
+pub safe_joined : (pvno msg_type body cksum : List ℕ)
+    → codes "SAFE " ++ (pvno ++ (codes " " ++ (msg_type ++ (codes " " ++ (body ++ (codes " cksum=" ++ (cksum ++ codes "\n")))))))
+    ≡ (codes "SAFE " ++ pvno ++ codes " " ++ msg_type ++ codes " " ++ body ++ codes " cksum=" ++ cksum) ++ codes "\n"
+safe_joined pvno msg_type body cksum = simp append_assoc refl
+
+pub priv_joined : (pvno msg_type etype kvno cipher : List ℕ)
+    → codes "PRIV " ++ (pvno ++ (codes " " ++ (msg_type ++ (codes " etype=" ++ (etype ++ (codes " kvno=" ++ (kvno ++ (codes " cipher=" ++ (cipher ++ codes "\n")))))))))
+    ≡ (codes "PRIV " ++ pvno ++ codes " " ++ msg_type ++ codes " etype=" ++ etype ++ codes " kvno=" ++ kvno ++ codes " cipher=" ++ cipher) ++ codes "\n"
+priv_joined pvno msg_type etype kvno cipher = simp append_assoc refl

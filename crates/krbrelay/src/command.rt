@@ -1,0 +1,106 @@
+//! The command line.
+ghost use Rattle.std.specs.Prelude.{◌≡◌, IfOk, map, Some, option_map};
+ghost use Rattle.clap.specs.Words.{app_of, subcommand_of, subcommand_name_of, with_subcommand, FailsBy, fault_of};
+ghost use Rattle.clap.specs.Simple.{new_shape};
+ghost use Rattle.krbrelay.specs.Command.{IsNamed, IsWord, krbrelay_app, word_of};
+
+use clap::{ArgMatches, Command, Error};
+use std::alloc::{AllocError, Global};
+use std::convert::AsStr;
+
+/// A command of the program.
+#[derive(Clone, Copy, Debug, PartialEq, Eq)]
+pub enum Cmd {
+    /// Prints the messages of the input, one a line.
+    Show,
+}
+
+impl Cmd {
+    /// The command of this word.
+    fn of_word(word: &str) -> Cmd
+        requires { IsWord word.now }
+        ensures { word.now ≡ word_of result }
+    {
+        match word {
+            _ => Cmd::Show,
+        }
+    }
+}
+
+/// The command that the words of a command line name, of which the first is the program's name.
+///
+/// An error is `clap`'s: a fault of usage, a request for help, or that there was no memory.
+pub fn command_of<'a, S: AsStr>(alloc: Global, words: &'a [S]) -> Result<Cmd, Error>
+    ensures command { IfOk result (λ command.
+        option_map (λ p. p.0) (subcommand_of krbrelay_app (map S.text words.entry.now))
+        ≡ Some (word_of command)) }
+    ensures faults { FailsBy (fault_of krbrelay_app (map S.text words.entry.now)) result }
+{
+    let command = command_line(alloc)?;
+    let matches = command.try_get_matches_from(words)?;
+    Ok(entered(&matches))
+}
+
+/// The command that was entered.
+fn entered<'a>(matches: &ArgMatches<'a>) -> Cmd
+    requires { IsNamed matches.now }
+    ensures { subcommand_name_of matches.now ≡ Some (word_of result) }
+{
+    let word = matches.subcommand_name().unwrap();
+    Cmd::of_word(word)
+}
+
+/// The command line as `clap` knows it: one line for each command, with its help.
+fn command_line<'a>(alloc: Global) -> Result<Command<'a>, AllocError>
+    ensures { IfOk result (λ command. app_of command ≡ krbrelay_app) }
+{
+    let line = Command::new(alloc, "krbrelay")
+        .version("0.1.0")
+        .about("Shows KRB-SAFE and KRB-PRIV messages of Kerberos V5")
+        .after_help(EXIT_STATUS)
+        .subcommand_required(true)
+        .disable_help_subcommand(true);
+    with_command(
+        alloc,
+        line,
+        "show",
+        "Prints the messages of the input, one a line",
+        SHOW_HELP,
+    )
+}
+
+fn with_command<'a>(
+    alloc: Global,
+    line: Command<'a>,
+    word: &'static str,
+    about: &'static str,
+    help: &'static str,
+) -> Result<Command<'a>, AllocError>
+    ensures { IfOk result (λ command.
+        app_of command ≡ with_subcommand (app_of line.entry) (new_shape word.entry.now)) }
+{
+    line.subcommand(Command::new(alloc, word).about(about).after_help(help))
+}
+
+const EXIT_STATUS: &str = "Exit status:
+  0  done
+  2  the input is at fault, or the command line
+  4  out of memory, or a read or a write failed";
+
+const SHOW_HELP: &str =
+    "Each line of standard input holds the bytes of one message as hexadecimal digits, in either
+case. It is printed as one line:
+
+  SAFE pvno msg-type data=.. time=.. usec=.. seq=.. from=.. to=.. cksum=..
+  PRIV pvno msg-type etype=.. kvno=.. cipher=..
+  refused 901 MALFORMED      the bytes spell no message
+  refused 61 FIELD_TOOLONG   there are more than 65,000 bytes
+  not hexadecimal            an odd number of digits, or another byte
+
+Bytes are printed as hexadecimal digits, an absent field as -, an address and the checksum as
+type:bytes. The exit status is 0 where each line is SAFE or PRIV, else 2.
+
+Example:
+
+  $ echo 75193017a003020105a103020115a30b3009a003020111a2020400 | krbrelay show
+  PRIV 5 21 etype=17 kvno=- cipher=";
