@@ -1,0 +1,4 @@
+pub mod Items
+pub mod Rule
+pub mod Side
+pub mod Steps

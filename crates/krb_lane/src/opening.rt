@@ -1,0 +1,76 @@
+ghost use Rattle.std.specs.Prelude.{◌≡◌, ◌<◌, ◌≤◌, [], ◌∷◌, true, false, IfOk};
+ghost use Rattle.crossbeam_channel.specs.Claims.{view, IsSeatAt};
+ghost use Rattle.crossbeam_channel.specs.Ends.{sends_on, ruled_capacity};
+ghost use Rattle.krb_lane.specs.Rule.{hand, uncut};
+
+use crate::item::Item;
+use crate::passes::{Halves, Room};
+use crate::receiving::LaneRx;
+use crate::rule::{Hand, LaneRule};
+use crate::sending::{Front, LaneTx};
+use crossbeam_channel::{Pass, bounded_with};
+use std::alloc::Global;
+use std::marker::Brand;
+
+/// Why [`lane`] makes no lane.
+#[derive(Clone, Copy, Debug, PartialEq, Eq)]
+pub enum LaneError {
+    /// A growth was refused.
+    Memory,
+}
+
+impl LaneError {
+    /// The number of this error: 1.
+    pub fn code(&self) -> u32
+        ensures { result ≡ 1 }
+    {
+        match self {
+            LaneError::Memory => 1,
+        }
+    }
+}
+
+// Cuts the first pass into the sender's and the receiver's.
+fn cut<B: Room>(sender: &Front, pass: &mut Pass<Item, Hand>) -> Pass<Item, Hand>
+    requires channel { IsSeatAt (sends_on sender.now) pass.old }
+    requires fresh { view pass.old ≡ uncut }
+    requires room { B.capacity ≡ ruled_capacity (sends_on sender.now) }
+    ensures channel { IsSeatAt (sends_on sender.now) pass.new × IsSeatAt (sends_on sender.now) result }
+    ensures sends { view pass.new ≡ hand true false (ruled_capacity (sends_on sender.now)) [] [] }
+    ensures takes { view result ≡ hand false true (ruled_capacity (sends_on sender.now)) [] [] }
+{
+    sender.another::<Halves<B>>(pass)
+}
+
+/// Makes an empty lane, which queues at most `capacity` items, End counted. Both ends are of one
+/// lane.
+///
+/// The capacity is 1 to 64. Nothing is waited for. Fails only where memory is refused.
+pub fn lane<R>(rt: &R, alloc: Global, capacity: usize) -> Result<(LaneTx, LaneRx), LaneError>
+    requires { (0 < capacity) × (capacity ≤ 64) }
+    ensures one { IfOk result (λ ends. ends.0 ≡ ends.1) }
+    ensures capacity { IfOk result (λ ends. ends.0.capacity ≡ capacity) }
+    ensures frames { IfOk result (λ ends. ends.0.frames ≡ []) }
+    ensures ended { IfOk result (λ ends. ends.0.ended ≡ false) }
+{
+    // Every call of a lane is passed the handle, and this one has no use for it.
+    let _ = rt;
+    let Ok((sender, receiver, mut pass)) = bounded_with::<Item, Hand, LaneRule, Global>(
+        alloc, capacity,
+    ) else {
+        return Err(LaneError::Memory);
+    };
+    let other = cut::<Brand>(&sender, &mut pass);
+    let tx = LaneTx {
+        sender,
+        pass,
+        count: 0,
+    };
+    let rx = LaneRx {
+        receiver,
+        pass: other,
+        count: 0,
+        ended: false,
+    };
+    Ok((tx, rx))
+}

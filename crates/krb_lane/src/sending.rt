@@ -1,0 +1,139 @@
+ghost use Rattle.std.specs.Prelude.{◌≡◌, ◌<◌, ◌^◌, ◌++◌, [], ◌∷◌, true, false, length, IfOk, IfErr, OnOk, OnErr};
+
+use crate::item::Item;
+use crate::passes::Sends;
+use crate::rule::{Hand, LaneRule};
+use crossbeam_channel::{Pass, RuledSender};
+use krb_base::Bytes;
+use std::alloc::Global;
+use std::marker::Model;
+use std::sync::Wait;
+
+pub(crate) type Front = RuledSender<Item, Hand, LaneRule, Global>;
+
+/// The sending end of a lane, which has not sent End.
+///
+/// Contracts see an end as its lane, the lane's capacity, the frames that went through the end so
+/// far, and whether End did.
+#[derive(Drop)]
+pub struct LaneTx {
+    pub(crate) sender: Front,
+    pub(crate) pass: Pass<Item, Hand>,
+    pub(crate) count: u64,
+}
+
+impl Model for LaneTx {
+    ghost use Rattle.crossbeam_channel.specs.Ends.{sends_on};
+    ghost use Rattle.krb_lane.specs.Side.{Side, sent_side, IsSender, IsOpen};
+
+    ghost Value = { Side };
+
+    ghost view = { λ t. sent_side t.pass };
+
+    ghost invariant = { λ t. IsSender (sends_on t.sender) t.pass t.count × IsOpen (sends_on t.sender) t.pass };
+}
+
+/// The sending end of a lane once it sends nothing more.
+#[derive(Drop)]
+pub struct SentAll {
+    pub(crate) sender: Front,
+    pub(crate) pass: Pass<Item, Hand>,
+    pub(crate) count: u64,
+}
+
+impl Model for SentAll {
+    ghost use Rattle.crossbeam_channel.specs.Ends.{sends_on};
+    ghost use Rattle.krb_lane.specs.Side.{Side, sent_side, IsSender};
+
+    ghost Value = { Side };
+
+    ghost view = { λ t. sent_side t.pass };
+
+    ghost invariant = { λ t. IsSender (sends_on t.sender) t.pass t.count };
+}
+
+impl LaneTx {
+    /// Sends a frame, and may wait for room. Where the other end is gone nothing is sent, and the
+    /// very bytes come back.
+    ///
+    /// Fewer than 2^60 frames, which is 1152921504606846976, were sent before.
+    pub fn send(&mut self, rt: &impl Wait, bytes: Vec<u8>) -> Result<(), Vec<u8>>
+        requires { length self.old.frames < 2 ^ 60 }
+        ensures ok { OnOk result (self.new ≡ record self.old { frames = self.old.frames ++ bytes.items ∷ [] }) }
+        ensures err { OnErr result (self.new ≡ self.old) }
+        ensures back { IfErr result (λ back. back.items ≡ bytes.items) }
+    {
+        let item = Item::Frame {
+            index: self.count,
+            bytes: Bytes::new(bytes),
+        };
+        match self.sender.send_as::<Sends, _>(rt, &mut self.pass, item) {
+            Ok(()) => {
+                self.count += 1;
+                Ok(())
+            }
+            Err(error) => match error.into_inner() {
+                Item::Frame { index: _, bytes } => Err(bytes.into_vec()),
+                Item::End => unreachable!(),
+            },
+        }
+    }
+
+    /// Sends End, and may wait for room. Where the other end is gone nothing is sent, and this end
+    /// comes back.
+    pub fn end(self, rt: &impl Wait) -> Result<SentAll, LaneTx>
+        ensures ok { IfOk result (λ sent. sent ≡ record self { ended = true }) }
+        ensures err { IfErr result (λ tx. tx ≡ self) }
+    {
+        let LaneTx {
+            sender,
+            mut pass,
+            count,
+        } = self;
+        match sender.send_as::<Sends, _>(rt, &mut pass, Item::End) {
+            Ok(()) => Ok(SentAll {
+                sender,
+                pass,
+                count,
+            }),
+            Err(_) => Err(LaneTx {
+                sender,
+                pass,
+                count,
+            }),
+        }
+    }
+
+    /// Sends nothing more, not even End, for a lane whose [`end`](LaneTx::end) was handed back.
+    pub fn stop(self) -> SentAll
+        ensures same { result ≡ self }
+        ensures unended { result.ended ≡ false }
+    {
+        let LaneTx {
+            sender,
+            pass,
+            count,
+        } = self;
+        SentAll {
+            sender,
+            pass,
+            count,
+        }
+    }
+
+    /// How many frames were sent. Waits for nobody.
+    pub fn count(&self) -> u64
+        ensures { result ≡ length self.now.frames }
+    {
+        self.count
+    }
+}
+
+impl SentAll {
+    /// How many frames were sent. Waits for nobody.
+    pub fn count(&self) -> u64
+        ensures { result ≡ length self.now.frames }
+    {
+        self.count
+    }
+}

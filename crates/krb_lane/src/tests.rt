@@ -1,0 +1,125 @@
+ghost use Rattle.std.specs.Prelude.{◌≡◌};
+
+mod passing;
+
+use crate::{Item, LaneError, LaneRx, Lost, every_step, lane, meet};
+use krb_base::Bytes;
+use passing::pass_on;
+use std::sync::Wait;
+use std::test::Fail;
+
+// Whether the next item is this frame.
+fn next_is(rt: &impl Wait, rx: &mut LaneRx, index: u64, byte: u8) -> bool
+    ensures { rx.new.lane ≡ rx.old.lane }
+{
+    match rx.take(rt) {
+        Ok(Item::Frame { index: i, bytes }) => i == index && bytes.as_slice() == [byte].as_slice(),
+        Ok(Item::End) => false,
+        Err(_) => false,
+    }
+}
+
+// Whether the next item is End.
+fn next_is_end(rt: &impl Wait, rx: &mut LaneRx) -> bool
+    ensures { rx.new.lane ≡ rx.old.lane }
+{
+    match rx.take(rt) {
+        Ok(Item::Frame { .. }) => false,
+        Ok(Item::End) => true,
+        Err(_) => false,
+    }
+}
+
+#[test]
+fn frames_come_in_order_and_then_end(rt: HostRuntime) -> Result<(), Fail> {
+    let alloc = rt.alloc();
+    let (mut tx, mut rx) = lane(&rt, alloc, 2)?;
+    tx.send(&rt, [0x61].to_vec(alloc)?)?;
+    tx.send(&rt, [0x62].to_vec(alloc)?)?;
+    assert_eq!(rt; tx.count(), 2);
+    assert!(rt; next_is(&rt, &mut rx, 0, 0x61));
+    assert!(rt; next_is(&rt, &mut rx, 1, 0x62));
+    let Ok(sent) = tx.end(&rt) else {
+        return Err(Fail::from("end"));
+    };
+    assert!(rt; next_is_end(&rt, &mut rx));
+    assert!(rt; next_is_end(&rt, &mut rx));
+    assert_eq!(rt; (sent.count(), rx.count()), (2, 2));
+    let met = meet(sent, rx);
+    assert_eq!(rt; (met.sent, met.got), (2, 2));
+    Ok(())
+}
+
+#[test]
+fn what_was_sent_comes_back_where_the_receiver_is_gone(rt: HostRuntime) -> Result<(), Fail> {
+    let alloc = rt.alloc();
+    let (mut tx, rx) = lane(&rt, alloc, 2)?;
+    tx.send(&rt, [0x60].to_vec(alloc)?)?;
+    drop(rx);
+    match tx.send(&rt, [0x61].to_vec(alloc)?) {
+        Ok(()) => return Err(Fail::from("sent")),
+        Err(back) => assert_eq!(rt; back.as_slice(), [0x61].as_slice()),
+    }
+    assert_eq!(rt; tx.count(), 1);
+    match tx.end(&rt) {
+        Ok(_) => Err(Fail::from("ended")),
+        Err(tx) => {
+            assert_eq!(rt; tx.count(), 1);
+            assert_eq!(rt; tx.stop().count(), 1);
+            Ok(())
+        }
+    }
+}
+
+#[test]
+fn lost_follows_the_frames_where_the_sender_is_gone(rt: HostRuntime) -> Result<(), Fail> {
+    let alloc = rt.alloc();
+    let (mut tx, mut rx) = lane(&rt, alloc, 2)?;
+    tx.send(&rt, [0x61].to_vec(alloc)?)?;
+    drop(tx);
+    assert!(rt; next_is(&rt, &mut rx, 0, 0x61));
+    assert!(rt; rx.take(&rt).is_err());
+    assert!(rt; rx.take(&rt).is_err());
+    assert_eq!(rt; rx.count(), 1);
+    Ok(())
+}
+
+#[test]
+fn what_is_queued_was_sent_and_not_got(rt: HostRuntime) -> Result<(), Fail> {
+    let alloc = rt.alloc();
+    let (mut tx, mut rx) = lane(&rt, alloc, 2)?;
+    tx.send(&rt, [0x61].to_vec(alloc)?)?;
+    tx.send(&rt, [0x62].to_vec(alloc)?)?;
+    assert!(rt; next_is(&rt, &mut rx, 0, 0x61));
+    let met = meet(tx.stop(), rx);
+    assert_eq!(rt; (met.sent, met.got), (2, 1));
+    Ok(())
+}
+
+#[test]
+fn ten_thousand_frames_pass_between_two_threads(rt: HostRuntime) -> Result<(), Fail> {
+    let alloc = rt.alloc();
+    let mut frames = Vec::new(alloc);
+    for i in 0..10_000u64 {
+        frames.push(Bytes::new(i.to_be_bytes().to_vec(alloc)?))?;
+    }
+    assert_eq!(rt; frames.len(), 10_000);
+    let Ok((got, met)) = pass_on(&rt, alloc, 1, frames) else {
+        return Err(Fail::from("a fault"));
+    };
+    assert_eq!(rt; got.len(), 10_000);
+    let mut expected = 0u64;
+    for bytes in &got {
+        assert_eq!(rt; bytes.as_slice(), expected.to_be_bytes().as_slice());
+        expected = expected.wrapping_add(1);
+    }
+    assert_eq!(rt; (met.sent, met.got), (10_000, 10_000));
+    Ok(())
+}
+
+#[test]
+fn errors_have_their_numbers(rt: HostRuntime) {
+    assert_eq!(rt; LaneError::Memory.code(), 1);
+    assert_eq!(rt; Lost.code(), 1);
+    every_step();
+}
