@@ -1,14 +1,23 @@
 -- The steps of the cipher undone (FIPS 197, section 5.3).
-use Rattle.std.specs.Prelude.{◌≡◌, ℕ, zero, suc, ◌+◌, ◌-◌, ◌/◌, ◌%◌, ◌<◌, List, length, slice_index, bit_xor}
-use Rattle.krb_aes.specs.Field.{times}
+use Rattle.std.specs.Prelude.{◌≡◌, ℕ, zero, suc, ◌+◌, ◌-◌, ◌*◌, ◌/◌, ◌%◌, ◌^◌, ◌<◌, List, length, slice_index, bit_xor}
+use Rattle.std.specs.Int.{bit_at}
+use Rattle.krb_aes.specs.Field.{times, inverse}
 use Rattle.krb_aes.specs.Cipher.{cell, from_cells, sum4, word, word_byte, add_round_key}
 use Rattle.krb_aes.specs.Keys.{IsPadded}
-use Rattle.krb_aes.specs.declared.tables.TheConstants.{INV_SUB}
-use Rattle.krb_aes.specs.Tables.{row}
 
--- the byte whose S-box is b (5.3.2), by the table: proofs/Entries shows that it and the S-box undo each other
-abbrev pub inv_sbox : ℕ → ℕ
-inv_sbox b = slice_index (row INV_SUB 3) b
+-- bit i of the inverse of the affine map
+abbrev pub inv_affine_bit : ℕ → ℕ → ℕ
+inv_affine_bit b i =
+    (bit_at b ((i + 2) % 8) + bit_at b ((i + 5) % 8) + bit_at b ((i + 7) % 8) + bit_at 0x05 i) % 2
+
+-- the n lowest bits of this map
+unfoldable pub inv_affine : ℕ → ℕ → ℕ
+inv_affine zero b = 0
+inv_affine (suc n) b = inv_affine n b + inv_affine_bit b n * 2 ^ n
+
+-- the inverse S-box: the affine map undone, then the inverse (5.3.2)
+unfoldable pub inv_sbox : ℕ → ℕ
+inv_sbox b = inverse (inv_affine 8 b)
 
 -- the first byte of a column with bytes a, b, c, d, mixed back
 unfoldable pub inv_mixed : ℕ → ℕ → ℕ → ℕ → ℕ
