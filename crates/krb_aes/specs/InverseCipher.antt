@@ -4,6 +4,7 @@ use Rattle.std.specs.Int.{bit_at}
 use Rattle.krb_aes.specs.Field.{times, inverse}
 use Rattle.krb_aes.specs.Cipher.{cell, from_cells, sum4, word, word_byte, add_round_key}
 use Rattle.krb_aes.specs.Keys.{IsPadded}
+use Rattle.krb_aes.specs.Words.{AreBytes, columns}
 
 -- bit i of the inverse of the affine map
 abbrev pub inv_affine_bit : ℕ → ℕ → ℕ
@@ -73,6 +74,13 @@ inv_round_word a b c d k =
 unfoldable pub inv_last_word : ℕ → ℕ → ℕ → ℕ → ℕ → ℕ
 inv_last_word a b c d k =
     bit_xor (word (inv_sbox (word_byte a 0)) (inv_sbox (word_byte b 1)) (inv_sbox (word_byte c 2)) (inv_sbox (word_byte d 3))) k
+
+-- words x of a state from which the rounds from m down give what those from n down give of state s
+pub record IsUndoneTo (w : List ℕ) (n : ℕ) (s : List ℕ) (m : ℕ) (x : List ℕ) : Type 0 where
+  pub state : List ℕ
+  pub bytes : AreBytes state
+  pub words : x ≡ columns state
+  pub same : inv_rounds w m (inv_sub_bytes (inv_shift_rows state)) ≡ inv_rounds w n (inv_sub_bytes (inv_shift_rows s))
 
 -- the arrays of a schedule: the expanded key with zeros after it, and its words mixed back
 pub record IsSchedule (words : List ℕ) (inverse_words : List ℕ) (held : List ℕ) : Type 0 where

@@ -1,9 +1,9 @@
 // The equivalent inverse cipher on the words of a state (FIPS 197, section 5.3.5).
 
-ghost use Rattle.std.specs.Prelude.{◌≡◌, ℕ, ◌+◌, ◌*◌, ◌≤◌, List, length};
+ghost use Rattle.std.specs.Prelude.{◌≡◌, ℕ, ◌+◌, ◌-◌, ◌*◌, ◌≤◌, List, length};
 ghost use Rattle.krb_aes.specs.Cipher.{add_round_key, cipher};
 ghost use Rattle.krb_aes.specs.Words.{AreBytes, columns, HasRounds};
-ghost use Rattle.krb_aes.specs.InverseCipher.{inv_mix_word, inv_round_word, inv_last_word, inv_sub_bytes, inv_shift_rows, inv_mix_columns, inv_cipher, IsInverseKey};
+ghost use Rattle.krb_aes.specs.InverseCipher.{inv_mix_word, inv_round_word, inv_last_word, inv_sub_bytes, inv_shift_rows, inv_mix_columns, inv_rounds, inv_cipher, IsInverseKey, IsUndoneTo};
 
 use crate::{tables, words};
 
@@ -79,7 +79,36 @@ fn inv_last_round(a: [u32; 4], w: &[u32]) -> [u32; 4]
     ]
 }
 
-// The inverse cipher of a state, from the expanded key and its words mixed back.
+// Four rounds that mix, n + 3 to n, undone.
+#[inline(always)]
+fn inv_four_rounds(a: [u32; 4], inverse: &[u32], n: usize) -> [u32; 4]
+    requires some { 1 ≤ n }
+    requires room { 4 * n + 16 ≤ length inverse.now }
+    ensures { (s w : List ℕ) → AreBytes s → a ≡ columns s → IsInverseKey inverse.now w → 4 * n + 16 ≤ length w
+        → IsUndoneTo w (n + 3) s (n - 1) result }
+{
+    let first = inv_round(a, inverse, n + 3);
+    let second = inv_round(first, inverse, n + 2);
+    let third = inv_round(second, inverse, n + 1);
+    inv_round(third, inverse, n)
+}
+
+// The rounds that keys of both sizes have, 8 to 1, and the last round.
+#[inline(always)]
+fn inv_last_rounds(a: [u32; 4], w: &[u32], inverse: &[u32]) -> [u32; 4]
+    requires some { 36 ≤ length w.now }
+    requires mixed { IsInverseKey inverse.now w.now }
+    requires room { length w.now ≤ length inverse.now }
+    ensures { (s : List ℕ) → AreBytes s → a ≡ columns s
+        → result ≡ columns (inv_rounds w.now 8 (inv_sub_bytes (inv_shift_rows s))) }
+{
+    let fourth = inv_four_rounds(a, inverse, 5);
+    let eighth = inv_four_rounds(fourth, inverse, 1);
+    inv_last_round(eighth, w)
+}
+
+// The inverse cipher of a state, from the expanded key and its words mixed back. The rounds stand one after the
+// other, so that the words of their keys lie at fixed places and take no register.
 #[inline(always)]
 pub fn decrypt_words(w: &[u32], inverse: &[u32], block: [u32; 4]) -> [u32; 4]
     requires key { HasRounds w.now }
@@ -87,18 +116,15 @@ pub fn decrypt_words(w: &[u32], inverse: &[u32], block: [u32; 4]) -> [u32; 4]
     requires room { length w.now ≤ length inverse.now }
     ensures { (s : List ℕ) → AreBytes s → block ≡ columns s → result ≡ columns (inv_cipher w.now s) }
 {
-    let turns = w.len() / 16;
-    let start = words::add_round_key(block, w, 4 * turns + 2);
-    let mut a = inv_round(start, inverse, 4 * turns + 1);
-    for n in 0..turns {
-        let m = 4 * (turns - n);
-        let first = inv_round(a, inverse, m);
-        let second = inv_round(first, inverse, m - 1);
-        let third = inv_round(second, inverse, m - 2);
-        let fourth = inv_round(third, inverse, m - 3);
-        a = fourth;
+    let last = w.len() / 4 - 1;
+    let start = words::add_round_key(block, w, last);
+    let first = inv_round(start, inverse, last - 1);
+    if last == 14 {
+        let fifth = inv_four_rounds(first, inverse, 9);
+        inv_last_rounds(fifth, w, inverse)
+    } else {
+        inv_last_rounds(first, w, inverse)
     }
-    inv_last_round(a, w)
 }
 
 // The block whose cipher is `block`.
