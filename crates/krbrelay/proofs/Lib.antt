@@ -5,3 +5,4 @@ pub mod Readings
 pub mod ShowLemmas
 pub mod TextLemmas
 pub mod TimeText
+pub mod VectorLemmas

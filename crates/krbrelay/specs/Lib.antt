@@ -6,3 +6,4 @@ pub mod Output
 pub mod Printed
 pub mod Reading
 pub mod Show
+pub mod Vectors

@@ -4,6 +4,7 @@ ghost use Rattle.clap.specs.Words.{app_of, subcommand_of, subcommand_name_of, wi
 ghost use Rattle.clap.specs.Simple.{new_shape};
 ghost use Rattle.krbrelay.specs.Command.{IsNamed, IsWord, krbrelay_app, word_of};
 
+use crate::help;
 use clap::{ArgMatches, Command, Error};
 use std::alloc::{AllocError, Global};
 use std::convert::AsStr;
@@ -13,6 +14,8 @@ use std::convert::AsStr;
 pub enum Cmd {
     /// Prints the messages of the input, one a line.
     Show,
+    /// Prints the published vectors.
+    Vectors,
 }
 
 impl Cmd {
@@ -22,7 +25,8 @@ impl Cmd {
         ensures { word.now ≡ word_of result }
     {
         match word {
-            _ => Cmd::Show,
+            "show" => Cmd::Show,
+            _ => Cmd::Vectors,
         }
     }
 }
@@ -56,17 +60,12 @@ fn command_line<'a>(alloc: Global) -> Result<Command<'a>, AllocError>
 {
     let line = Command::new(alloc, "krbrelay")
         .version("0.1.0")
-        .about("Shows KRB-SAFE and KRB-PRIV messages of Kerberos V5")
-        .after_help(EXIT_STATUS)
+        .about(help::PROGRAM)
+        .after_help(help::EXIT_STATUS)
         .subcommand_required(true)
         .disable_help_subcommand(true);
-    with_command(
-        alloc,
-        line,
-        "show",
-        "Prints the messages of the input, one a line",
-        SHOW_HELP,
-    )
+    let line = with_command(alloc, line, "show", help::SHOW, help::SHOW_AFTER)?;
+    with_command(alloc, line, "vectors", help::VECTORS, help::VECTORS_AFTER)
 }
 
 fn with_command<'a>(
@@ -74,33 +73,14 @@ fn with_command<'a>(
     line: Command<'a>,
     word: &'static str,
     about: &'static str,
-    help: &'static str,
+    after_help: &'static str,
 ) -> Result<Command<'a>, AllocError>
     ensures { IfOk result (λ command.
         app_of command ≡ with_subcommand (app_of line.entry) (new_shape word.entry.now)) }
 {
-    line.subcommand(Command::new(alloc, word).about(about).after_help(help))
+    line.subcommand(
+        Command::new(alloc, word)
+            .about(about)
+            .after_help(after_help),
+    )
 }
-
-const EXIT_STATUS: &str = "Exit status:
-  0  done
-  2  the input is at fault, or the command line
-  4  out of memory, or a read or a write failed";
-
-const SHOW_HELP: &str =
-    "Each line of standard input holds the bytes of one message as hexadecimal digits, in either
-case. It is printed as one line:
-
-  SAFE pvno msg-type data=.. time=.. usec=.. seq=.. from=.. to=.. cksum=..
-  PRIV pvno msg-type etype=.. kvno=.. cipher=..
-  refused 901 MALFORMED      the bytes spell no message
-  refused 61 FIELD_TOOLONG   there are more than 65,000 bytes
-  not hexadecimal            an odd number of digits, or another byte
-
-Bytes are printed as hexadecimal digits, an absent field as -, an address and the checksum as
-type:bytes. The exit status is 0 where each line is SAFE or PRIV, else 2.
-
-Example:
-
-  $ echo 75193017a003020105a103020115a30b3009a003020111a2020400 | krbrelay show
-  PRIV 5 21 etype=17 kvno=- cipher=";

@@ -1,13 +1,16 @@
 //! The program `krbrelay`: KRB-SAFE and KRB-PRIV messages of Kerberos V5 (RFC 4120, sections 5.6
-//! and 5.7), read from standard input and shown in plain text.
+//! and 5.7), read from standard input and shown in plain text, and the published vectors of the
+//! ciphers under them.
 //!
 //! ```text
 //! krbrelay show < messages.hex
+//! krbrelay vectors
 //! ```
 #![tactic(auto)]
 
 pub mod command;
 pub mod fault;
+pub mod help;
 pub mod input;
 pub mod lines;
 pub mod output;
@@ -16,6 +19,7 @@ pub mod show;
 #[cfg(test)]
 mod tests;
 pub mod text;
+pub mod vectors;
 
 use clap::error::ErrorKind;
 use command::{Cmd, command_of};
@@ -44,6 +48,7 @@ fn run(rt: &(impl Input + Print + Alloc<A = Global>), command: Cmd) -> Result<u8
     };
     let outcome = match command {
         Cmd::Show => show::show(rt.alloc(), &mut reader, &mut writer),
+        Cmd::Vectors => vectors::vectors(rt.alloc(), &mut writer),
     };
     if writer.flush().is_err() {
         return Err(Fault::Write);

@@ -5,3 +5,4 @@
 mod commands;
 mod faulty;
 mod shows;
+mod vectors;

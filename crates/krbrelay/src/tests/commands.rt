@@ -6,9 +6,11 @@ use clap::error::ErrorKind;
 use std::test::Fail;
 
 #[test]
-fn show_is_a_command(rt: HostRuntime) -> Result<(), Fail> {
-    let command = command_of(rt.alloc(), &["krbrelay", "show"])?;
-    assert_eq!(rt; command, Cmd::Show);
+fn each_command_has_its_word(rt: HostRuntime) -> Result<(), Fail> {
+    let shown = command_of(rt.alloc(), &["krbrelay", "show"])?;
+    assert_eq!(rt; shown, Cmd::Show);
+    let printed = command_of(rt.alloc(), &["krbrelay", "vectors"])?;
+    assert_eq!(rt; printed, Cmd::Vectors);
     Ok(())
 }
 
