@@ -1,8 +1,7 @@
 -- The values of the grammar, each read from its spelling and from nothing else.
-use Rattle.std.proofs.Common.{◌≡◌, ℕ, ◌^◌, ◌<◌, ◌≤◌, Bool, true, false, cond, eqb, ltb, ℤ, pos, negsuc, List, [], ◌∷◌, ◌++◌, length, Option, Some, None, Result, Ok, Err, refl, sym, ap, subst, ◌∙◌, arith, append_assoc, inl, inr, lit≤, lit<, ◌⊎◌}
-use Rattle.std.specs.Prelude.{MatchResult, IfSome, IfOk, IfErr}
+use Rattle.std.proofs.Common.{◌≡◌, ℕ, ◌^◌, ◌<◌, ◌≤◌, Bool, true, false, ltb, ℤ, pos, negsuc, List, [], ◌∷◌, ◌++◌, length, Option, Some, Result, Ok, Err, refl, sym, ap, subst, ◌∙◌, arith, inl, inr, lit≤, lit<, ◌⊎◌}
+use Rattle.std.specs.Prelude.{MatchResult, IfSome}
 use Rattle.std.proofs.lemmas.Bool.{lt-ltb, ltb-true}
-use Rattle.std.proofs.lemmas.List.{append-nil}
 use Rattle.krb_der.specs.declared.address.HostAddress.{HostAddress}
 use Rattle.krb_der.specs.declared.body.Body.{Body}
 use Rattle.krb_der.specs.declared.safe.SafeMsg.{SafeMsg}
@@ -16,17 +15,17 @@ use Rattle.krb_der.specs.Time.{time, IsSecond}
 use Rattle.krb_der.specs.Typed.{typed_fields, typed_octets}
 use Rattle.krb_der.specs.Address.{host_address, IsAddress}
 use Rattle.krb_der.specs.Body.{body_fields, body, part, IsBody}
-use Rattle.krb_der.specs.Safe.{checksum, safe_fields, safe, IsSafe}
+use Rattle.krb_der.specs.Safe.{safe_fields, safe, IsSafe}
 use Rattle.krb_der.specs.Private.{encrypted_data, private_fields, private, IsPrivate}
 use Rattle.krb_der.specs.Message.{message, IsMessage, SpellsWithin, Spells, SpellsPart, UniqueSpelling, Decodes}
 use Rattle.krb_base.specs.Limits.{frame_limit}
 use Rattle.krb_der.specs.Steps.{◌>>=◌}
-use Rattle.krb_der.specs.Reading.{ended, alone, signed, int_of, as_int32, as_below, int32_of, below_of, int32_element_of, below_element_of, octets_of, typed_of, address_of, time_element_of, optional_at, body_of, safe_of, encrypted_of, private_of, message_of, part_of, starts_with, tagged_at, Gives, Fails}
+use Rattle.krb_der.specs.Reading.{alone, signed, int_of, as_int32, as_below, int32_of, below_of, int32_element_of, below_element_of, octets_of, typed_of, address_of, time_element_of, body_of, safe_of, encrypted_of, private_of, message_of, part_of, starts_with, tagged_at, Gives}
 use Rattle.krb_der.proofs.Numbers.{IsBytes}
 use Rattle.krb_der.proofs.Times.{time-found, time-again}
 use Rattle.krb_der.proofs.OptionSteps.{bind_some, provided, some_is}
-use Rattle.krb_der.proofs.Elements.{unless, int-found, int-again, chosen, tagged-again}
-use Rattle.krb_der.proofs.Readers.{Reads, ReadsFields, no_field, field, optional_field, all_fields, in_tag, under_tag, length-tagged}
+use Rattle.krb_der.proofs.Elements.{int-found, int-again, chosen, tagged-again}
+use Rattle.krb_der.proofs.Readers.{Reads, no_field, field, optional_field, all_fields, in_tag, under_tag, length-tagged}
 use Rattle.std.proofs.lemmas.Option.{some_pair_parts, none-some}
 use Rattle.krb_der.specs.declared.error.DerError.{DerError}
 use Rattle.krb_der.specs.declared.error.DerError.TheVariants as errors

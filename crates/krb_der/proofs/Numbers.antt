@@ -1,11 +1,11 @@
 -- Whole numbers as bytes, the most significant first.
-use Rattle.std.proofs.Common.{◌≡◌, ℕ, zero, suc, ◌+◌, ◌-◌, ◌*◌, ◌/◌, ◌%◌, ◌^◌, ◌<◌, ◌≤◌, Bool, true, false, cond, List, [], ◌∷◌, ◌++◌, length, map, get_or, take, drop, refl, sym, ap, subst, ◌∙◌, arith, inl, inr, nat_lt, if◌then◌else◌, lit<, lit≤}
+use Rattle.std.proofs.Common.{◌≡◌, ℕ, zero, suc, ◌+◌, ◌-◌, ◌*◌, ◌/◌, ◌%◌, ◌^◌, ◌<◌, ◌≤◌, List, [], ◌∷◌, length, get_or, take, drop, refl, ap, subst, ◌∙◌, arith, inl, inr, nat_lt, if◌then◌else◌, lit<, lit≤}
 use Rattle.std.proofs.Math.Nat.{pow-le-pow_right, pow-succ', mod-lt, mod-eq_of_lt, mul-add-mod_self_right, mul-le-mul_right, div-lt_iff_lt-mul, one-le-pow}
 use Rattle.std.proofs.lemmas.Nat.{div-mul-add, div-add-mod'}
 use Rattle.std.proofs.lemmas.Bool.{cases_lt, lt-ltb, le-ltb}
 use Rattle.std.proofs.lemmas.List.{drop-map, length-map, get_or-drop, get_or-take, get_or_past, length-take}
 use Rattle.krb_der.specs.Length.{big_endian, be_value}
-use Rattle.krb_der.specs.Integer.{width, complement, int_octets}
+use Rattle.krb_der.specs.Integer.{width, complement}
 
 abbrev pub IsBytes : List ℕ → Type 0
 IsBytes bytes = (i : ℕ) → get_or bytes i 0 < 256

@@ -1,18 +1,15 @@
 -- Readers of a whole content: what is read was spelled so, and what is spelled is read again.
-use Rattle.std.proofs.Common.{◌≡◌, rules, ◌⊎◌, ℕ, zero, suc, ◌+◌, ◌-◌, ◌^◌, ◌<◌, ◌≤◌, Bool, true, false, cond, eqb, ltb, ℤ, pos, negsuc, List, [], ◌∷◌, ◌++◌, length, Option, Some, None, refl, sym, ap, subst, ◌∙◌, arith, append_assoc, inl, inr, lit≤}
-use Rattle.std.specs.Prelude.{IfSome, nat_lt, nat_eq, if◌then◌else◌}
-use Rattle.std.proofs.lemmas.Bool.{cases_lt, lt-ltb, le-ltb, ltb-true, ltb-false, eqb-true}
+use Rattle.std.proofs.Common.{◌≡◌, ◌⊎◌, ℕ, ◌+◌, ◌^◌, ◌<◌, ◌≤◌, Bool, true, false, eqb, List, [], ◌∷◌, ◌++◌, length, Option, Some, None, refl, sym, ap, subst, ◌∙◌, arith, inl, inr, lit≤}
+use Rattle.std.specs.Prelude.{IfSome}
+use Rattle.std.proofs.lemmas.Bool.{eqb-true}
 use Rattle.std.proofs.lemmas.List.{length-append, append-nil}
-use Rattle.krb_der.specs.declared.address.HostAddress.{HostAddress}
 use Rattle.krb_der.specs.Length.{big_endian, length_octets}
-use Rattle.krb_der.specs.Element.{header, tagged, element_size, joined, sequence, optional, octets}
-use Rattle.krb_der.specs.Integer.{int_octets, integer, natural, IsInt32}
-use Rattle.krb_der.specs.Address.{host_address, IsAddress}
+use Rattle.krb_der.specs.Element.{header, tagged, element_size, joined, optional}
 use Rattle.krb_der.specs.Steps.{◌>>=◌}
-use Rattle.krb_der.specs.Reading.{ended, tagged_at, alone, with_field, starts_with, optional_at, signed, int_of, as_int32, as_below, int32_of, below_of, octets_of, address_of}
+use Rattle.krb_der.specs.Reading.{ended, tagged_at, alone, with_field, starts_with, optional_at}
 use Rattle.krb_der.proofs.Numbers.{IsBytes, if_case}
-use Rattle.krb_der.proofs.OptionSteps.{bind_some, provided, some_is}
-use Rattle.krb_der.proofs.Elements.{chosen, unless, tagged-again, Tagged, tagged-found, eqb-same, int-found, int-again}
+use Rattle.krb_der.proofs.OptionSteps.{bind_some, some_is}
+use Rattle.krb_der.proofs.Elements.{tagged-again, tagged-found, eqb-same}
 
 cases_bool : (b : Bool) → (b ≡ true) ⊎ (b ≡ false)
 cases_bool true = inl refl

@@ -1,11 +1,9 @@
 -- Sizes of spellings, and spellings that are written piece by piece.
 use Rattle.std.proofs.Common.{◌≡◌, ◌↔◌, ◌⊎◌, inl, inr, ℕ, zero, suc, ◌+◌, ◌<◌, ◌≤◌, Bool, true, false, ℤ, pos, negsuc, List, [], ◌∷◌, ◌++◌, length, Option, Some, None, refl, sym, ap, ◌∙◌, arith, append_assoc, length-append}
-use Rattle.std.specs.Prelude.{IfSome, IsTrue}
-use Rattle.std.proofs.lemmas.Bool.{cases_lt, lt-ltb}
+use Rattle.std.proofs.lemmas.Bool.{lt-ltb}
 use Rattle.std.proofs.lemmas.List.{append-nil}
-use Rattle.krb_base.specs.Limits.{frame_limit}
 use Rattle.krb_der.specs.Length.{length_octets}
-use Rattle.krb_der.specs.Element.{header, tagged, element_size, joined, sequence, optional, octets}
+use Rattle.krb_der.specs.Element.{header, tagged, element_size, joined, sequence, octets}
 use Rattle.krb_der.specs.Integer.{width, int_octets, integer}
 use Rattle.krb_der.specs.Reading.{signed}
 use Rattle.krb_der.proofs.Numbers.{length-big_endian, length-complement}

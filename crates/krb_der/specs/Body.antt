@@ -1,5 +1,5 @@
 -- What KRB-SAFE-BODY (RFC 4120 section 5.6.1) and EncKrbPrivPart (section 5.7.1) carry, field by field.
-use Rattle.std.specs.Prelude.{ℕ, ◌<◌, ◌≤◌, List, [], ◌∷◌, length, IfSome}
+use Rattle.std.specs.Prelude.{ℕ, ◌≤◌, List, [], ◌∷◌, length, IfSome}
 use Rattle.krb_base.specs.Limits.{frame_limit}
 use Rattle.krb_der.specs.declared.body.Body.{Body}
 use Rattle.krb_der.specs.Tag.{context, application}

@@ -1,4 +1,4 @@
-use Rattle.std.proofs.Common.{◌≡◌, ℕ, List, length, refl, sym}
+use Rattle.std.proofs.Common.{◌≡◌, ℕ, length, refl, sym}
 use Rattle.krb_der.specs.Length.{length_octets}
 use Rattle.krb_der.specs.Element.{header, tagged}
 use Rattle.krb_der.specs.Time.{kerberos_time, time}

@@ -1,4 +1,4 @@
-use Rattle.std.proofs.Common.{arith, sym, ap, subst, ◌≡◌, ℕ, List}
+use Rattle.std.proofs.Common.{arith, subst, ℕ, List}
 use Rattle.std.specs.Prelude.{IsTrue, ◌↔◌}
 use Rattle.krb_der.specs.declared.message.Message.TheVariants.{Priv}
 use Rattle.krb_der.specs.Body.{IsShort}

@@ -1,9 +1,7 @@
 use Rattle.std.proofs.Common.{arith, append_assoc}
 use Rattle.std.proofs.lemmas.List.{append-nil}
-use Rattle.std.proofs.lemmas.Grind.{common_steps}
 use Rattle.krb_der.specs.Element.{tagged}
 use Rattle.krb_der.specs.Typed.{typed_octets}
-use Rattle.krb_der.proofs.Readers.{size-tagged}
 use Rattle.krb_der.proofs.typed.write_typed_field.Goals as goal
 
 pub returns : goal.returns
