@@ -1,0 +1,11 @@
+//! Sealing and opening of KRB-SAFE and KRB-PRIV messages (RFC 4120 sections 3.4 and 3.5) under
+//! encryption types 17 and 18 (RFC 3962).
+#![tactic(auto)]
+
+mod refusal;
+mod seal_error;
+mod session;
+
+pub use refusal::Refusal;
+pub use seal_error::SealError;
+pub use session::{Expect, Mode, Session};
