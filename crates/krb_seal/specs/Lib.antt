@@ -1,2 +1,9 @@
 pub mod Refusal
 pub mod SealError
+pub mod Session
+pub mod Keys
+pub mod Seals
+pub mod Sealer
+pub mod Opens
+pub mod Opening
+pub mod Laws
