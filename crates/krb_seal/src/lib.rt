@@ -2,10 +2,12 @@
 //! encryption types 17 and 18 (RFC 3962).
 #![tactic(auto)]
 
+mod laws;
 mod refusal;
 mod seal_error;
 mod session;
 
+pub use laws::{one_outcome, opens_at_its_number_alone};
 pub use refusal::Refusal;
 pub use seal_error::SealError;
 pub use session::{Expect, Mode, Session};

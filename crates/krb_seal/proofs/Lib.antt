@@ -1,0 +1,4 @@
+pub mod CipherTexts
+pub mod Outcomes
+pub mod SealedFrames
+pub mod Openings
