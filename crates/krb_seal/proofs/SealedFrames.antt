@@ -81,10 +81,10 @@ long_cipher m =
       length-tagged sequence_tag (joined outer), length-tagged (application 21) (sequence outer))
 
 encrypts : (etype : ℤ) (key : List ℕ) (s : Session) (q at : ℕ) (user conf bytes : List ℕ)
-    → Seals etype key s q user at conf bytes
+    → s.mode ≡ Priv → Seals etype key s q user at conf bytes
     → IsEncryption key (encrypted key (conf ++ part (body_of s q user at))) (conf ++ part (body_of s q user at)) (tag_of key (conf ++ part (body_of s q user at)))
-encrypts etype key s q at user conf bytes h = record {
-  bytes = h.plain;
+encrypts etype key s q at user conf bytes e h = record {
+  bytes = h.plain e;
   long = omega (arith, h.confounder, length-append conf (part (body_of s q user at)));
   twelve = length-hmac96 _ (conf ++ part (body_of s q user at));
   image = refl }
@@ -141,7 +141,7 @@ mode_nowhere Safe etype key s x q at now number user conf bytes given e h p =
 mode_nowhere Priv etype key s x q at now number user conf bytes given e h p =
     let spelt : Spells (messages.Priv (sealed_priv etype key conf (body_of s q user at))) bytes = subst (λ (z : Mode). Spells (sealed_as z etype key conf (body_of s q user at)) bytes) e h.spelt in
     let own : SpellsPart (body_of s q user at) (part (body_of s q user at)) = record { in_range = h.body; spelt = refl; short = short_part etype key conf (body_of s q user at) bytes h.confounder spelt } in
-    priv_nowhere (opener_of etype key x) etype conf (body_of s q user at) q number now given refl h.confounder own (encrypts etype key s q at user conf bytes h) p
+    priv_nowhere (opener_of etype key x) etype conf (body_of s q user at) q number now given refl h.confounder own (encrypts etype key s q at user conf bytes e h) p
 
 pub nowhere_else : NowhereElse
 nowhere_else etype key s x q at now number user conf bytes given h p =
@@ -197,7 +197,7 @@ mode_opens Priv etype key s x q at now user conf bytes e h g =
     let spelt : Spells (messages.Priv m) bytes = subst (λ (z : Mode). Spells (sealed_as z etype key conf b) bytes) e h.spelt in
     let own : SpellsPart b (part b) = record { in_range = h.body; spelt = refl; short = short_part etype key conf b bytes h.confounder spelt } in
     let w : List ℕ = expanded_key (encryption_key key) in
-    let enc = encrypts etype key s q at user conf bytes h in
+    let enc = encrypts etype key s q at user conf bytes e h in
     let long : 28 ≤ length m.cipher = omega (arith, length-append (cts w text) (tag_of key text), length-cts w text enc.long, enc.long, enc.twelve) in
     let back : drop 16 text ≡ part b = drop_at conf (part b) 16 h.confounder in
     let inside : Read SpellsPart (part b) (OpensPart o.expect q now) (Ok user) =

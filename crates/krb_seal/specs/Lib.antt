@@ -4,6 +4,9 @@ pub mod Session
 pub mod Keys
 pub mod Seals
 pub mod Sealer
+pub mod Etype
+pub mod HeldKeys
+pub mod KeysInside
 pub mod Opens
 pub mod Opening
 pub mod Laws

@@ -60,9 +60,10 @@ sealed_message etype key s number user at conf = sealed_as s.mode etype key conf
 unfoldable pub sealed : ℤ → List ℕ → Session → ℕ → List ℕ → ℕ → List ℕ → List ℕ
 sealed etype key s number user at conf = message (sealed_message etype key s number user at conf)
 
--- The bytes are the frame of this data: what goes in is bytes and in range, and the frame spells the message.
+-- The bytes are the frame of this data: what goes in is in range, what is enciphered is bytes, and the frame spells
+-- the message.
 pub record Seals (etype : ℤ) (key : List ℕ) (s : Session) (number : ℕ) (user : List ℕ) (at : ℕ) (conf bytes : List ℕ) : Type 0 where
   pub body : IsBody (body_of s number user at)
   pub confounder : length conf ≡ 16
-  pub plain : AreBytes (conf ++ part (body_of s number user at))
+  pub plain : s.mode ≡ Priv → AreBytes (conf ++ part (body_of s number user at))
   pub spelt : Spells (sealed_message etype key s number user at conf) bytes

@@ -2,6 +2,8 @@
 //! encryption types 17 and 18 (RFC 3962).
 #![tactic(auto)]
 
+mod etype;
+mod keys;
 mod laws;
 mod refusal;
 mod seal_error;
