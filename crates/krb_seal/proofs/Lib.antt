@@ -2,3 +2,4 @@ pub mod CipherTexts
 pub mod Outcomes
 pub mod SealedFrames
 pub mod Openings
+pub mod Frames

@@ -9,4 +9,5 @@ pub mod HeldKeys
 pub mod KeysInside
 pub mod Opens
 pub mod Opening
+pub mod Draft
 pub mod Laws

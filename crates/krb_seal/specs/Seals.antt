@@ -60,10 +60,14 @@ sealed_message etype key s number user at conf = sealed_as s.mode etype key conf
 unfoldable pub sealed : ℤ → List ℕ → Session → ℕ → List ℕ → ℕ → List ℕ → List ℕ
 sealed etype key s number user at conf = message (sealed_message etype key s number user at conf)
 
--- The bytes are the frame of this data: what goes in is in range, what is enciphered is bytes, and the frame spells
--- the message.
-pub record Seals (etype : ℤ) (key : List ℕ) (s : Session) (number : ℕ) (user : List ℕ) (at : ℕ) (conf bytes : List ℕ) : Type 0 where
-  pub body : IsBody (body_of s number user at)
+-- The bytes are the message that carries a body: what goes in is in range, what is enciphered is bytes, and the
+-- message is spelt so.
+pub record SealsBody (mode : Mode) (etype : ℤ) (key conf : List ℕ) (b : Body) (bytes : List ℕ) : Type 0 where
+  pub body : IsBody b
   pub confounder : length conf ≡ 16
-  pub plain : s.mode ≡ Priv → AreBytes (conf ++ part (body_of s number user at))
-  pub spelt : Spells (sealed_message etype key s number user at conf) bytes
+  pub plain : mode ≡ Priv → AreBytes (conf ++ part b)
+  pub spelt : Spells (sealed_as mode etype key conf b) bytes
+
+-- The bytes are the frame of this data at a number and a moment.
+abbrev pub Seals : ℤ → List ℕ → Session → ℕ → List ℕ → ℕ → List ℕ → List ℕ → Type 0
+Seals etype key s number user at conf bytes = SealsBody s.mode etype key conf (body_of s number user at) bytes

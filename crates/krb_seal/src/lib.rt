@@ -3,6 +3,7 @@
 #![tactic(auto)]
 
 mod etype;
+mod frame;
 mod keys;
 mod laws;
 mod refusal;
