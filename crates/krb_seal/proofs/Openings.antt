@@ -108,7 +108,8 @@ is_encryption key cipher h long =
       bytes = u.bytes;
       long = omega (arith, u.size);
       twelve = omega (arith, length-drop n cipher);
-      image = sym (take-append-drop n cipher) ∙ ap (λ (z : List ℕ). z ++ drop n cipher) (sym u.image ∙ sym (cts_is w (text_in key cipher))) }
+      image = sym (take-append-drop n cipher) ∙ ap (λ (z : List ℕ). z ++ drop n cipher) (sym u.image ∙ sym (cts_is w (text_in key cipher)));
+    }
 
 -- ---- the outcome
 
@@ -116,32 +117,32 @@ text_opens : (o : OpenerState) (q now : ℕ) (text tag : List ℕ) → AreBytes 
 text_opens o q now text tag h le =
     let inside : List ℕ = drop 16 text in
     passes (text_checks o.key text tag) (Read SpellsPart inside (OpensPart o.expect q now)) (read (part_of inside) (opens_part o.expect q now)) (λ _.
-      reads SpellsPart inside (part_of inside) (OpensPart o.expect q now) (opens_part o.expect q now)
-        (λ b e. part_found inside b (AreBytes-drop 16 text h) (omega (arith, length-drop 16 text)) e)
-        (λ b s. part_again inside b s)
-        (λ b s. passes (body_checks o.expect q now b) (λ y. y ≡ Ok b.user_data) (Ok b.user_data) (λ _. refl)))
+    reads SpellsPart inside (part_of inside) (OpensPart o.expect q now) (opens_part o.expect q now)
+    (λ b e. part_found inside b (AreBytes-drop 16 text h) (omega (arith, length-drop 16 text)) e)
+    (λ b s. part_again inside b s)
+    (λ b s. passes (body_checks o.expect q now b) (λ y. y ≡ Ok b.user_data) (Ok b.user_data) (λ _. refl)))
 
 message_opens : (o : OpenerState) (q now : ℕ) (m : Message) → AreBytes (message m) → length (message m) ≤ frame_limit → OpensMessage o q now m (opens_message o q now m)
 message_opens o q now (messages.Safe m) h le = passes (safe_checks o q now m) (λ y. y ≡ Ok m.body.user_data) (Ok m.body.user_data) (λ _. refl)
 message_opens o q now (messages.Priv m) h le =
     passes (priv_header o.etype o.expect m) (Decrypt o.key m.cipher (OpensText o q now)) (opens_text o q now (text_in o.key m.cipher) (tag_in m.cipher)) (λ met.
-      let long : 28 ≤ length m.cipher = leb-true 28 (length m.cipher) met.1.1.1.0 in
-      let w : List ℕ = expanded_key (encryption_key o.key) in
-      let text : List ℕ = text_in o.key m.cipher in
-      let tag : List ℕ = tag_in m.cipher in
-      let enc = is_encryption o.key m.cipher (cipher_bytes m h) long in
-      let short : length text ≤ frame_limit = omega (arith, long_cipher m, ap length enc.image, length-append (cts w text) tag, length-cts w text enc.long) in
-      (text, tag, enc, text_opens o q now text tag enc.bytes short))
+    let long : 28 ≤ length m.cipher = leb-true 28 (length m.cipher) met.1.1.1.0 in
+    let w : List ℕ = expanded_key (encryption_key o.key) in
+    let text : List ℕ = text_in o.key m.cipher in
+    let tag : List ℕ = tag_in m.cipher in
+    let enc = is_encryption o.key m.cipher (cipher_bytes m h) long in
+    let short : length text ≤ frame_limit = omega (arith, long_cipher m, ap length enc.image, length-append (cts w text) tag, length-cts w text enc.long) in
+    (text, tag, enc, text_opens o q now text tag enc.bytes short))
 
 is_outcome : (o : OpenerState) (q now : ℕ) (bytes : List ℕ) → AreBytes bytes → Opens o q now bytes (opens o q now bytes)
 unfolding opens
 is_outcome o q now bytes h =
     passes (frame_checks bytes) (Read Spells bytes (OpensMessage o q now)) (read (message_of bytes) (opens_message o q now)) (λ met.
-      let le : length bytes ≤ frame_limit = leb-true (length bytes) frame_limit met.0 in
-      reads Spells bytes (message_of bytes) (OpensMessage o q now) (opens_message o q now)
-        (λ m e. message_found bytes m h le e)
-        (λ m s. message_again bytes m s)
-        (λ m s. message_opens o q now m (subst AreBytes s.spelt h) (subst (λ (z : List ℕ). length z ≤ frame_limit) s.spelt s.short)))
+    let le : length bytes ≤ frame_limit = leb-true (length bytes) frame_limit met.0 in
+    reads Spells bytes (message_of bytes) (OpensMessage o q now) (opens_message o q now)
+    (λ m e. message_found bytes m h le e)
+    (λ m s. message_again bytes m s)
+    (λ m s. message_opens o q now m (subst AreBytes s.spelt h) (subst (λ (z : List ℕ). length z ≤ frame_limit) s.spelt s.short)))
 
 pub one_outcome : OneOutcome
 one_outcome o q now bytes outcome h = (

@@ -36,8 +36,8 @@ gives_unique z a b p q = p ∙ sym q
 text_unique : (o : OpenerState) (q now : ℕ) (text tag : List ℕ) → Unique (OpensText o q now text tag)
 text_unique o q now text tag =
     passes_unique (text_checks o.key text tag) _
-      (read_unique SpellsPart (drop 16 text) (OpensPart o.expect q now) parts_unique
-        (λ b. passes_unique (body_checks o.expect q now b) _ (gives_unique (Ok b.user_data))))
+    (read_unique SpellsPart (drop 16 text) (OpensPart o.expect q now) parts_unique
+    (λ b. passes_unique (body_checks o.expect q now b) _ (gives_unique (Ok b.user_data))))
 
 message_unique : (o : OpenerState) (q now : ℕ) (m : Message) → Unique (OpensMessage o q now m)
 message_unique o q now (messages.Safe m) = passes_unique (safe_checks o q now m) _ (gives_unique (Ok m.body.user_data))

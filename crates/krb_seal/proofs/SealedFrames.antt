@@ -76,9 +76,21 @@ long_cipher m =
     let fields : List (List ℕ) = encrypted_fields m.etype m.kvno m.cipher in
     let outer : List (List ℕ) = private_fields m in
     let inner : List ℕ = tagged (context 3) (encrypted_data m.etype m.kvno m.cipher) in
-    omega (arith, length-tagged octet_string_tag m.cipher, length-tagged (context 2) (octets m.cipher), joined_first cipher [], joined_rest kvno (cipher ∷ []), joined_rest (tagged (context 0) (integer m.etype)) (kvno ∷ cipher ∷ []),
-      length-tagged sequence_tag (joined fields), length-tagged (context 3) (sequence fields), joined_first inner [], joined_rest (tagged (context 1) (integer m.msg_type)) (inner ∷ []), joined_rest (tagged (context 0) (integer m.pvno)) (tagged (context 1) (integer m.msg_type) ∷ inner ∷ []),
-      length-tagged sequence_tag (joined outer), length-tagged (application 21) (sequence outer))
+    omega (
+      arith,
+      length-tagged octet_string_tag m.cipher,
+      length-tagged (context 2) (octets m.cipher),
+      joined_first cipher [],
+      joined_rest kvno (cipher ∷ []),
+      joined_rest (tagged (context 0) (integer m.etype)) (kvno ∷ cipher ∷ []),
+      length-tagged sequence_tag (joined fields),
+      length-tagged (context 3) (sequence fields),
+      joined_first inner [],
+      joined_rest (tagged (context 1) (integer m.msg_type)) (inner ∷ []),
+      joined_rest (tagged (context 0) (integer m.pvno)) (tagged (context 1) (integer m.msg_type) ∷ inner ∷ []),
+      length-tagged sequence_tag (joined outer),
+      length-tagged (application 21) (sequence outer),
+    )
 
 encrypts : (etype : ℤ) (key : List ℕ) (s : Session) (q at : ℕ) (user conf bytes : List ℕ)
     → s.mode ≡ Priv → Seals etype key s q user at conf bytes
@@ -87,7 +99,8 @@ encrypts etype key s q at user conf bytes e h = record {
   bytes = h.plain e;
   long = omega (arith, h.confounder, length-append conf (part (body_of s q user at)));
   twelve = length-hmac96 _ (conf ++ part (body_of s q user at));
-  image = refl }
+  image = refl;
+}
 
 short_part : (etype : ℤ) (key conf : List ℕ) (b : Body) (bytes : List ℕ) → length conf ≡ 16 → Spells (messages.Priv (sealed_priv etype key conf b)) bytes → length (part b) ≤ frame_limit
 short_part etype key conf b bytes size h =
@@ -187,7 +200,7 @@ mode_opens Safe etype key s x q at now user conf bytes e h g =
     let b : Body = body_of s q user at in
     let is : is_safe x.mode ≡ true = ap is_safe (sym g.mode ∙ e) in
     all_met (safe_checks o q now (sealed_safe etype key b)) (λ y. y ≡ Ok b.user_data) (Ok user)
-      (refl, (both_true _ _ is refl, (int_same (checksum_type etype), (addresses_same s x q at now user g, (current_same s x at now g, (eq-eqb q q refl, (bytes_same (safe_checksum key (sealed_safe etype key b)), tt))))))) refl
+    (refl, (both_true _ _ is refl, (int_same (checksum_type etype), (addresses_same s x q at now user g, (current_same s x at now g, (eq-eqb q q refl, (bytes_same (safe_checksum key (sealed_safe etype key b)), tt))))))) refl
 mode_opens Priv etype key s x q at now user conf bytes e h g =
     let o : OpenerState = opener_of etype key x in
     let b : Body = body_of s q user at in
@@ -204,14 +217,14 @@ mode_opens Priv etype key s x q at now user conf bytes e h g =
     inr (b, own, all_met (body_checks o.expect q now b) (λ y. y ≡ Ok b.user_data) (Ok user) (addresses_same s x q at now user g, (current_same s x at now g, (eq-eqb q q refl, tt))) refl) in
     let plain : OpensText o q now text (tag_of key text) (Ok user) =
     all_met (text_checks o.key text (tag_of key text)) (Read SpellsPart (drop 16 text) (OpensPart o.expect q now)) (Ok user) (bytes_same (tag_of key text), tt)
-      (subst (λ (z : List ℕ). Read SpellsPart z (OpensPart o.expect q now) (Ok user)) (sym back) inside) in
+    (subst (λ (z : List ℕ). Read SpellsPart z (OpensPart o.expect q now) (Ok user)) (sym back) inside) in
     all_met (priv_header o.etype o.expect m) (Decrypt o.key m.cipher (OpensText o q now)) (Ok user) (refl, (both_true _ _ (ap not is) refl, (int_same etype, (le-leb 28 (length m.cipher) long, tt)))) (text, tag_of key text, enc, plain)
 
 pub at_its_number : AtItsNumber
 at_its_number etype key s x q at now user conf bytes h g =
     let o : OpenerState = opener_of etype key x in
     all_met (frame_checks bytes) (Read Spells bytes (OpensMessage o q now)) (Ok user) (le-leb (length bytes) frame_limit h.spelt.short, tt)
-      (inr (sealed_message etype key s q user at conf, h.spelt, mode_opens s.mode etype key s x q at now user conf bytes refl h g))
+    (inr (sealed_message etype key s q user at conf, h.spelt, mode_opens s.mode etype key s x q at now user conf bytes refl h g))
 
 -- a sealed frame is the bytes of its message
 pub one_frame : OneFrame

@@ -10,4 +10,5 @@ pub mod KeysInside
 pub mod Opens
 pub mod Opening
 pub mod Draft
+pub mod SealingInside
 pub mod Laws

@@ -36,7 +36,8 @@ body_of s number user at = record {
   usec = Some (usec_of at);
   seq = Some number;
   s_addr = s.s_addr;
-  r_addr = s.r_addr }
+  r_addr = s.r_addr;
+}
 
 -- KRB-SAFE before it has its checksum
 abbrev pub unsigned : ℤ → Body → SafeMsg
