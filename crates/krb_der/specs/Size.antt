@@ -1,11 +1,11 @@
 -- How many octets a message has around what it carries.
-use Rattle.std.specs.Prelude.{ℕ, ◌+◌, ◌≤◌, length, Option, Some, None}
+use Rattle.std.specs.Prelude.{ℕ, ◌+◌, ◌≤◌, pos, [], length, Option, Some, None}
 use Rattle.krb_der.specs.declared.address.HostAddress.{HostAddress}
 use Rattle.krb_der.specs.declared.body.Body.{Body}
 use Rattle.krb_der.specs.declared.safe.SafeMsg.{SafeMsg}
 use Rattle.krb_der.specs.declared.private.PrivMsg.{PrivMsg}
 use Rattle.krb_der.specs.Body.{part}
-use Rattle.krb_der.specs.Safe.{safe}
+use Rattle.krb_der.specs.Safe.{safe, with_checksum}
 use Rattle.krb_der.specs.Private.{private}
 
 -- the octets of an address that may be left out
@@ -26,3 +26,7 @@ SmallSafe = (m : SafeMsg) → length (safe m) ≤ carried m.body + length m.chec
 
 abbrev pub SmallPrivate : Type 0
 SmallPrivate = (m : PrivMsg) → length (private m) ≤ length m.cipher + 100
+
+-- what is under the checksum of KRB-SAFE is no longer than the message
+abbrev pub ShorterInput : Type 0
+ShorterInput = (m : SafeMsg) → length (safe (with_checksum m (pos 0) [])) ≤ length (safe m)

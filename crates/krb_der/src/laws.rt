@@ -1,5 +1,5 @@
 ghost use Rattle.krb_der.specs.Message.{Spells, SpellsPart, UniqueSpelling};
-ghost use Rattle.krb_der.specs.Size.{SmallPart, SmallSafe, SmallPrivate};
+ghost use Rattle.krb_der.specs.Size.{SmallPart, SmallSafe, SmallPrivate, ShorterInput};
 
 /// One spelling for each value, one value for each spelling, and no spelling begins another: of
 /// messages, and of encrypted parts.
@@ -15,4 +15,5 @@ pub fn size_laws()
     ensures part { SmallPart }
     ensures safe { SmallSafe }
     ensures private { SmallPrivate }
+    ensures covered { ShorterInput }
 {}
