@@ -11,4 +11,5 @@ pub mod Opens
 pub mod Opening
 pub mod Draft
 pub mod SealingInside
+pub mod Unseals
 pub mod Laws

@@ -3,6 +3,7 @@
 #![tactic(auto)]
 
 mod boxed;
+mod checks;
 mod draft;
 mod etype;
 mod frame;
