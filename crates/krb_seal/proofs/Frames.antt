@@ -1,5 +1,5 @@
 -- From the spellings that the code wrote to the frame.
-use Rattle.std.proofs.Common.{◌≡◌, ℕ, ◌+◌, ◌≤◌, ℤ, List, ◌++◌, length, Option, Some, None, Result, Ok, Err, refl, subst, arith}
+use Rattle.std.proofs.Common.{◌≡◌, ℕ, ◌+◌, ◌≤◌, pos, List, [], length, Option, Some, None, Result, Ok, Err, refl, subst, arith}
 use Rattle.std.specs.Global.{Vec}
 use Rattle.std.specs.Option.{ForSome}
 use Rattle.krb_base.specs.Limits.{frame_limit}
@@ -13,7 +13,8 @@ use Rattle.krb_der.specs.declared.message.Message.TheVariants as messages
 use Rattle.krb_der.specs.Body.{part}
 use Rattle.krb_der.specs.Message.{message, Encodes, Spells, SpellsPart}
 use Rattle.krb_der.specs.Size.{optional_size, carried}
-use Rattle.krb_der.proofs.Sizes.{small_part, small_safe, small_private}
+use Rattle.krb_der.specs.Safe.{safe, with_checksum}
+use Rattle.krb_der.proofs.Sizes.{small_part, small_safe, small_private, shorter_input}
 use Rattle.krb_seal.specs.Session.{IsShortAddress}
 use Rattle.krb_seal.specs.Draft.{IsSmall}
 
@@ -45,3 +46,8 @@ memory_part b r h small = memory_alone SpellsPart part b r h (omega (arith, shor
 pub memory_priv : (m : PrivMsg) (r : Result (Vec ℕ) DerError) → Encodes Spells message (messages.Priv m) r → length m.cipher ≤ 60300
     → (e : DerError) → r ≡ Err e → e ≡ errors.Memory
 memory_priv m r h size = memory_alone Spells message (messages.Priv m) r h (omega (arith, small_private m))
+
+-- what is under the checksum of a message that was read
+pub memory_input : (m : SafeMsg) (r : Result (Vec ℕ) DerError) → Encodes Spells message (messages.Safe (with_checksum m (pos 0) [])) r → length (safe m) ≤ frame_limit
+    → (e : DerError) → r ≡ Err e → e ≡ errors.Memory
+memory_input m r h short = memory_alone Spells message (messages.Safe (with_checksum m (pos 0) [])) r h (omega (arith, shorter_input m))

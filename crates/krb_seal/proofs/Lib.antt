@@ -3,3 +3,4 @@ pub mod Outcomes
 pub mod SealedFrames
 pub mod Openings
 pub mod Frames
+pub mod Checking

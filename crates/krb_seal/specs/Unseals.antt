@@ -23,3 +23,7 @@ first_unmet ((false, r) ∷ rest) = Some r
 abbrev pub refusal_of : {A : Type 0} → Result A Refusal → Option Refusal
 refusal_of (Ok x) = None
 refusal_of (Err r) = Some r
+
+-- a function made these checks, or a growth was refused
+abbrev pub Checked : {A : Type 0} → Checks → Result A Refusal → Type 0
+Checked checks result = (result ≡ Err Memory) ⊎ (first_unmet checks ≡ refusal_of result)

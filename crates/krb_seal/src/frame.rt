@@ -1,8 +1,6 @@
 //! A message and its protection.
 
 ghost use Rattle.std.specs.Prelude.{◌≡◌, ◌≤◌, ◌++◌, false, length, IfOk, OnOk};
-ghost use Rattle.std.specs.Result.{ForErr};
-ghost use Rattle.krb_der.specs.declared.error.DerError.TheVariants as errors;
 ghost use Rattle.krb_der.specs.Body.{InRange, IsBody, part};
 ghost use Rattle.krb_seal.specs.declared.session.Mode.TheVariants.{Safe, Priv};
 ghost use Rattle.krb_aes.specs.Words.{AreBytes};
@@ -12,20 +10,10 @@ ghost use Rattle.krb_seal.specs.Draft.{IsSmall};
 
 use crate::etype::Etype;
 use crate::keys::Keys;
+use crate::limit::within_limit;
 use crate::session::Mode;
-use krb_der::{Body, Bytes, DerError, PrivMsg, SafeMsg, encode_part, encode_priv};
+use krb_der::{Body, Bytes, PrivMsg, SafeMsg, encode_part, encode_priv};
 use std::alloc::{AllocError, Global};
-
-/// A spelling within the limit fails for want of memory alone.
-fn within_limit(spelling: Result<Vec<u8>, DerError>) -> Result<Vec<u8>, AllocError>
-    requires { ForErr spelling (λ e. e ≡ errors.Memory) }
-    ensures { IfOk result (λ v. spelling ≡ Ok v) }
-{
-    match spelling {
-        Ok(bytes) => Ok(bytes),
-        Err(_) => Err(AllocError),
-    }
-}
 
 /// The KRB-SAFE of a draft.
 fn safe_frame(

@@ -8,9 +8,11 @@ ghost use Rattle.krb_keys.specs.Hmac.{hmac96};
 ghost use Rattle.krb_keys.specs.MacKey.{HoldsKey};
 ghost use Rattle.krb_keys.specs.Derivation.{dk};
 ghost use Rattle.krb_seal.specs.Keys.{checksum_key, encryption_key, tag_of};
+ghost use Rattle.krb_seal.specs.Opens.{IsEncryption};
 ghost use Rattle.krb_seal.specs.HeldKeys.{fresh_keys, wiped_keys};
 
 use krb_aes::{CipherKey, Schedule, cts_decrypt, cts_encrypt};
+use krb_base::Bytes;
 use krb_keys::{CHECKSUM_TAIL, ENCRYPTION_TAIL, INTEGRITY_TAIL, MacKey, derive};
 use std::marker::Model;
 
@@ -19,6 +21,9 @@ const PRIV_USAGE: u32 = 13;
 
 /// The key usage of the checksum of KRB-SAFE.
 const SAFE_USAGE: u32 = 15;
+
+/// How many bytes a message code has (RFC 3962 section 6).
+const TAG_SIZE: usize = 12;
 
 /// A derived key, ready for message codes.
 fn derived_mac_key(base: &CipherKey, usage: u32, tail: u8) -> MacKey
@@ -57,7 +62,8 @@ pub struct Keys {
 }
 
 impl Model for Keys {
-    ghost use Rattle.krb_seal.specs.HeldKeys.{HeldKeys};
+    ghost use Rattle.krb_seal.specs.Opens.{IsEncryption};
+ghost use Rattle.krb_seal.specs.HeldKeys.{HeldKeys};
 
     ghost Value = { HeldKeys };
 
@@ -156,5 +162,20 @@ impl Keys {
         ensures bytes { AreBytes text.new }
     {
         cts_decrypt(&self.encryption, text);
+    }
+
+    /// The text and the code of a cipher.
+    pub fn decrypted(&self, cipher: Bytes) -> (Vec<u8>, [u8; 12])
+        requires live { self.now.wiped ≡ false }
+        requires long { 28 ≤ length cipher }
+        ensures { IsEncryption self.now.key cipher result.0.items result.1 }
+    {
+        let mut text = cipher.into_vec();
+        let size = text.len() - TAG_SIZE;
+        let mut tag = [0u8; TAG_SIZE];
+        tag.copy_from_slice(&text[size..]);
+        text.truncate(size);
+        self.decipher(&mut text);
+        (text, tag)
     }
 }

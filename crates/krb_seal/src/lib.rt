@@ -10,6 +10,8 @@ mod frame;
 mod keys;
 mod kinds;
 mod laws;
+mod limit;
+mod opener;
 mod refusal;
 mod seal_error;
 mod sealer;
@@ -18,6 +20,7 @@ mod session;
 
 pub use kinds::{Aes128Sealer, Aes256Sealer};
 pub use laws::{one_outcome, opens_at_its_number_alone};
+pub use opener::Opener;
 pub use refusal::Refusal;
 pub use seal_error::SealError;
 pub use sealer::Sealer;

@@ -3,6 +3,7 @@
 ghost use Rattle.std.specs.Prelude.{◌≡◌, Some};
 ghost use Rattle.krb_seal.specs.Refusal.{code_of, name_of};
 
+use std::alloc::AllocError;
 use std::error::Error;
 use std::fmt;
 
@@ -95,3 +96,13 @@ impl fmt::Display for Refusal {
 }
 
 impl Error for Refusal {}
+
+impl From<AllocError> for Refusal {
+    ghost use Rattle.krb_seal.specs.declared.refusal.Refusal.TheVariants.{Memory};
+
+    ghost from_gives = { λ _ refusal. refusal ≡ Memory };
+
+    fn from(_error: AllocError) -> Refusal {
+        Refusal::Memory
+    }
+}
