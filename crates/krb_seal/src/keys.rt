@@ -63,7 +63,7 @@ pub struct Keys {
 
 impl Model for Keys {
     ghost use Rattle.krb_seal.specs.Opens.{IsEncryption};
-ghost use Rattle.krb_seal.specs.HeldKeys.{HeldKeys};
+    ghost use Rattle.krb_seal.specs.HeldKeys.{HeldKeys};
 
     ghost Value = { HeldKeys };
 

@@ -1,14 +1,14 @@
 //! What opens the frames of a session.
 
-ghost use Rattle.std.specs.Prelude.{◌≡◌, ◌⊎◌, ◌≤◌, false, Err, pos, length, replicate, IfOk};
+ghost use Rattle.std.specs.Prelude.{◌≡◌, ◌≤◌, false, pos, length, replicate, IfOk};
 ghost use Rattle.krb_base.specs.Limits.{frame_limit};
 ghost use Rattle.krb_der.specs.declared.message.Message.TheVariants as messages;
 ghost use Rattle.krb_der.specs.Body.{InRange};
-ghost use Rattle.krb_der.specs.Safe.{safe, IsSafe};
-ghost use Rattle.krb_seal.specs.declared.refusal.Refusal.TheVariants.{Memory};
+ghost use Rattle.krb_der.specs.Safe.{safe};
+ghost use Rattle.krb_der.specs.Message.{SpellsPart};
 ghost use Rattle.krb_seal.specs.Etype.{number_of};
 ghost use Rattle.krb_seal.specs.Seals.{safe_checksum};
-ghost use Rattle.krb_seal.specs.Opens.{OpenerState, Opens, OpensMessage, opener_of, safe_checks};
+ghost use Rattle.krb_seal.specs.Opens.{Opens, OpensMessage, OpensPart, Read, opener_of, safe_checks};
 ghost use Rattle.krb_seal.specs.Unseals.{Checked, OrMemory};
 
 use crate::checks::{check_body, check_priv_header, check_safe_header};
@@ -22,6 +22,9 @@ use krb_der::{Body, DerError, Message, Moment, PrivMsg, SafeMsg, decode, decode_
 use krb_keys::mac_equal;
 use std::alloc::{AllocError, Global};
 use std::marker::Model;
+
+/// How many bytes stand before an encrypted part (RFC 3961 section 5.3).
+const CONFOUNDER_SIZE: usize = 16;
 
 /// Opens the frames of one sender. Its drop overwrites all its keys.
 pub struct Opener {
@@ -89,6 +92,71 @@ fn check_safe(
     Ok(())
 }
 
+/// What a KRB-SAFE gives.
+fn open_safe(
+    alloc: Global,
+    etype: Etype,
+    keys: &Keys,
+    expect: &Expect,
+    m: SafeMsg,
+    number: u64,
+    now: u64,
+) -> Result<Vec<u8>, Refusal>
+    requires live { keys.now.wiped ≡ false }
+    requires range { InRange m.body }
+    requires short { length (safe m) ≤ frame_limit }
+    ensures { OrMemory (OpensMessage (opener_of (number_of etype) keys.now.key expect.now)
+        number now (messages.Safe m)) result }
+{
+    check_safe(alloc, etype, keys, expect, &m, number, now)?;
+    let SafeMsg { body, .. } = m;
+    let Body { user_data, .. } = body;
+    Ok(user_data.into_vec())
+}
+
+/// What an encrypted part gives.
+fn open_part(
+    alloc: Global,
+    expect: &Expect,
+    part: &[u8],
+    number: u64,
+    now: u64,
+) -> Result<Vec<u8>, Refusal>
+    ensures { OrMemory (Read SpellsPart part.now (OpensPart expect.now number now)) result }
+{
+    let body = match decode_part(alloc, part) {
+        Ok(body) => body,
+        Err(DerError::Memory) => return Err(Refusal::Memory),
+        Err(DerError::TooLong | DerError::Malformed) => return Err(Refusal::Malformed),
+    };
+    check_body(expect, number, now, &body)?;
+    let Body { user_data, .. } = body;
+    Ok(user_data.into_vec())
+}
+
+/// What a KRB-PRIV gives.
+fn open_priv(
+    alloc: Global,
+    etype: Etype,
+    keys: &Keys,
+    expect: &Expect,
+    m: PrivMsg,
+    number: u64,
+    now: u64,
+) -> Result<Vec<u8>, Refusal>
+    requires live { keys.now.wiped ≡ false }
+    ensures { OrMemory (OpensMessage (opener_of (number_of etype) keys.now.key expect.now)
+        number now (messages.Priv m)) result }
+{
+    check_priv_header(etype, expect, &m)?;
+    let PrivMsg { cipher, .. } = m;
+    let (text, tag) = keys.decrypted(cipher);
+    if !mac_equal(&tag, &keys.tag(&text)) {
+        return Err(Refusal::BadIntegrity);
+    }
+    open_part(alloc, expect, &text[CONFOUNDER_SIZE..], number, now)
+}
+
 impl Opener {
     /// Takes the key of encryption type 17: the caller's bytes are zero afterwards.
     pub fn new_128(key: &mut [u8; 16], expect: Expect) -> Opener
@@ -115,6 +183,30 @@ impl Opener {
             etype: Etype::Aes256,
             keys: Keys::new(held),
             expect,
+        }
+    }
+
+    /// The user data of a frame that carries the sequence number `number`, at the moment `now`.
+    ///
+    /// The refusal is that of the first check which the frame fails. No frame carries a number
+    /// over [`LAST_NUMBER`](krb_base::LAST_NUMBER).
+    pub fn unseal(
+        &self,
+        alloc: Global,
+        frame: &[u8],
+        number: u64,
+        now: Moment,
+    ) -> Result<Vec<u8>, Refusal>
+        ensures { OrMemory (Opens self.now number now frame.now) result }
+    {
+        let (keys, expect) = (&self.keys, &self.expect);
+        let now = now.micros();
+        match decode(alloc, frame) {
+            Ok(Message::Safe(m)) => open_safe(alloc, self.etype, keys, expect, m, number, now),
+            Ok(Message::Priv(m)) => open_priv(alloc, self.etype, keys, expect, m, number, now),
+            Err(DerError::TooLong) => Err(Refusal::FieldTooLong),
+            Err(DerError::Malformed) => Err(Refusal::Malformed),
+            Err(DerError::Memory) => Err(Refusal::Memory),
         }
     }
 }
