@@ -25,3 +25,6 @@ pub use refusal::Refusal;
 pub use seal_error::SealError;
 pub use sealer::Sealer;
 pub use session::{Expect, Mode, Session};
+
+#[cfg(test)]
+mod tests;

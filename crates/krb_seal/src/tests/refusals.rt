@@ -1,0 +1,46 @@
+use crate::{Refusal, SealError};
+use std::test::Fail;
+
+#[test]
+fn refusals_have_numbers_and_names(rt: HostRuntime) -> Result<(), Fail> {
+    let table = [
+        (Refusal::FieldTooLong, 61, "FIELD_TOOLONG"),
+        (Refusal::Malformed, 901, "MALFORMED"),
+        (Refusal::BadVersion, 39, "BADVERSION"),
+        (Refusal::MsgType, 40, "MSG_TYPE"),
+        (Refusal::EtypeNoSupp, 14, "ETYPE_NOSUPP"),
+        (Refusal::BadIntegrity, 31, "BAD_INTEGRITY"),
+        (Refusal::InappCksum, 50, "INAPP_CKSUM"),
+        (Refusal::BadAddr, 38, "BADADDR"),
+        (Refusal::Skew, 37, "SKEW"),
+        (Refusal::BadOrder, 42, "BADORDER"),
+        (Refusal::Modified, 41, "MODIFIED"),
+        (Refusal::BadRecord, 902, "BAD_RECORD"),
+        (Refusal::AfterClose, 903, "AFTER_CLOSE"),
+        (Refusal::Memory, 904, "MEMORY"),
+    ];
+    for (refusal, code, name) in table {
+        assert_eq!(rt; (refusal.code(), refusal.name()), (code, name));
+        assert_eq!(rt; format!(in rt.alloc(); "{refusal}")?.as_str(), name);
+    }
+    Ok(())
+}
+
+#[test]
+fn errors_have_numbers_and_words(rt: HostRuntime) -> Result<(), Fail> {
+    let table = [
+        (SealError::Wiped, 1, "the sealer was wiped"),
+        (
+            SealError::TooLong,
+            2,
+            "longer than the user data of a message may be",
+        ),
+        (SealError::Exhausted, 3, "no sequence number is left"),
+        (SealError::Memory, 4, "out of memory"),
+    ];
+    for (error, code, words) in table {
+        assert_eq!(rt; error.code(), code);
+        assert_eq!(rt; format!(in rt.alloc(); "{error}")?.as_str(), words);
+    }
+    Ok(())
+}

@@ -1,0 +1,99 @@
+//! Both ends of a session.
+
+ghost use Rattle.std.specs.Prelude.{IfOk};
+ghost use Rattle.krb_seal.specs.Session.{HasShortAddresses, IsShortAddress};
+
+use krb_der::{Bytes, HostAddress, Moment};
+use krb_seal::{Aes128Sealer, Aes256Sealer, Expect, Mode, Opener, SealError, Sealer, Session};
+use std::alloc::{AllocError, Global};
+
+/// 2023-11-14T22:13:20Z and 5 microseconds.
+const MICROS: u64 = 1_700_000_000_000_005;
+
+/// The address 10.0.0.`host`.
+fn address(alloc: Global, host: u8) -> Result<HostAddress, AllocError>
+    ensures { IfOk result IsShortAddress }
+{
+    Ok(HostAddress {
+        kind: 2,
+        bytes: Bytes::new(Vec::from_slice(alloc, &[10, 0, 0, host])?),
+    })
+}
+
+fn session(alloc: Global, mode: Mode) -> Result<Session, AllocError>
+    ensures { IfOk result HasShortAddresses }
+{
+    Ok(Session {
+        mode,
+        s_addr: address(alloc, 1)?,
+        r_addr: None,
+        first: 0,
+    })
+}
+
+fn expectation(alloc: Global, mode: Mode) -> Result<Expect, AllocError> {
+    Ok(Expect {
+        mode,
+        s_addr: address(alloc, 1)?,
+        r_addr: address(alloc, 2)?,
+        require_r: false,
+        expect_time: true,
+        skew: 300,
+    })
+}
+
+/// The two ends of a session of encryption type 17.
+pub fn ends_128(alloc: Global, mode: Mode) -> Result<(Aes128Sealer, Opener), AllocError> {
+    let key = *b"chicken teriyaki";
+    Ok((
+        Aes128Sealer::new(&mut { key }, session(alloc, mode)?),
+        Opener::new_128(&mut { key }, expectation(alloc, mode)?),
+    ))
+}
+
+/// The two ends of a session of encryption type 18.
+pub fn ends_256(alloc: Global, mode: Mode) -> Result<(Aes256Sealer, Opener), AllocError> {
+    let key = *b"chicken teriyaki and wonton soup";
+    Ok((
+        Aes256Sealer::new(&mut { key }, session(alloc, mode)?),
+        Opener::new_256(&mut { key }, expectation(alloc, mode)?),
+    ))
+}
+
+/// Seals the data so many times, and gives the last frame.
+pub fn seal_often<S: Sealer>(
+    alloc: Global,
+    sealer: &mut S,
+    data: &[u8],
+    at: Moment,
+    times: u32,
+) -> Result<Vec<u8>, SealError> {
+    let mut last = Vec::new(alloc);
+    for _ in 0..times {
+        last = sealer.seal(alloc, data, at, [7; 16])?;
+    }
+    Ok(last)
+}
+
+/// Opens the frame so many times, and says how often it gave its data.
+pub fn open_often(
+    alloc: Global,
+    opener: &Opener,
+    frame: &[u8],
+    number: u64,
+    at: Moment,
+    times: u32,
+) -> u32 {
+    let mut opened = 0u32;
+    for _ in 0..times {
+        if opener.unseal(alloc, frame, number, at).is_ok() {
+            opened = opened.saturating_add(1);
+        }
+    }
+    opened
+}
+
+/// The moment of each message.
+pub fn moment() -> Option<Moment> {
+    Moment::from_micros(MICROS)
+}
