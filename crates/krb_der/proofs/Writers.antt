@@ -5,6 +5,9 @@ use Rattle.std.proofs.lemmas.List.{append-nil}
 use Rattle.krb_der.specs.Length.{length_octets}
 use Rattle.krb_der.specs.Element.{header, tagged, element_size, joined, sequence, octets}
 use Rattle.krb_der.specs.Integer.{width, int_octets, integer}
+use Rattle.krb_der.specs.declared.safe.SafeMsg.{SafeMsg}
+use Rattle.krb_der.specs.Body.{body}
+use Rattle.krb_der.specs.Safe.{safe_before_data, safe_behind_data, safe_input}
 use Rattle.krb_der.specs.Reading.{signed}
 use Rattle.krb_der.proofs.Numbers.{length-big_endian, length-complement}
 use Rattle.krb_der.proofs.Readers.{size-tagged}
@@ -45,3 +48,9 @@ pub message_written : (tag n k : ℕ) (fields : List (List ℕ)) (s0 s1 s2 s3 : 
 message_written tag n k fields s0 s1 s2 s3 none size around first second third =
     let outer : k ≡ length (sequence fields) = around ∙ ap element_size size ∙ sym (size-tagged 0x30 (joined fields)) in
     begun tag k (sequence fields) s0 s1 s3 outer first (begun 0x30 n (joined fields) s1 s2 s3 size second third) ∙ ap (λ s. s ++ tagged tag (sequence fields)) none
+
+-- what is under a checksum, with the data between what stands around it
+pub covered_is : (m : SafeMsg) (before behind : List ℕ) → before ≡ safe_before_data m → behind ≡ safe_behind_data m
+    → before ++ (m.body.user_data ++ behind) ≡ safe_input m
+unfolding tagged body
+covered_is m before behind a b = grind (arith, append_assoc, append-nil)

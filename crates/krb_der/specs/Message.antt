@@ -5,10 +5,12 @@ use Rattle.krb_base.specs.Limits.{frame_limit}
 use Rattle.krb_der.specs.declared.error.DerError.{DerError}
 use Rattle.krb_der.specs.declared.error.DerError.TheVariants as errors
 use Rattle.krb_der.specs.declared.body.Body.{Body}
+use Rattle.krb_der.specs.declared.safe.SafeMsg.{SafeMsg}
+use Rattle.krb_der.specs.declared.safe.Covered.{Covered}
 use Rattle.krb_der.specs.declared.message.Message.{Message}
 use Rattle.krb_der.specs.declared.message.Message.TheVariants.{Safe, Priv}
 use Rattle.krb_der.specs.Body.{part, IsBody}
-use Rattle.krb_der.specs.Safe.{safe, IsSafe}
+use Rattle.krb_der.specs.Safe.{safe, safe_input, IsSafe}
 use Rattle.krb_der.specs.Private.{private, IsPrivate}
 
 abbrev pub message : Message → List ℕ
@@ -46,6 +48,20 @@ Encodes Spelt spelling v (Ok bytes) = Spelt v bytes.items
 Encodes Spelt spelling v (Err errors.TooLong) = frame_limit < length (spelling v)
 Encodes Spelt spelling v (Err errors.Malformed) = ⊥
 Encodes Spelt spelling v (Err errors.Memory) = length (spelling v) ≤ frame_limit
+
+-- What writing a body as an encrypted part behind other bytes answers.
+abbrev pub EncodesBehind : List ℕ → Body → Result (Vec ℕ) DerError → Type 0
+EncodesBehind front b (Ok bytes) = (bytes.items ≡ front ++ part b) × SpellsPart b (part b)
+EncodesBehind front b (Err errors.TooLong) = frame_limit < length (part b)
+EncodesBehind front b (Err errors.Malformed) = ⊥
+EncodesBehind front b (Err errors.Memory) = length (part b) ≤ frame_limit
+
+-- What is under a checksum is these bytes with the data between them.
+abbrev pub Covers : SafeMsg → Result Covered DerError → Type 0
+Covers m (Ok around) = around.before.items ++ (m.body.user_data ++ around.behind.items) ≡ safe_input m
+Covers m (Err errors.TooLong) = frame_limit < length (safe_input m)
+Covers m (Err errors.Malformed) = ⊥
+Covers m (Err errors.Memory) = length (safe_input m) ≤ frame_limit
 
 -- One spelling for each value, one value for each spelling, and no spelling begins another.
 abbrev pub UniqueSpelling : {V : Type 0} → (V → List ℕ → Type 0) → Type 0

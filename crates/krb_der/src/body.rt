@@ -1,4 +1,4 @@
-ghost use Rattle.std.specs.Prelude.{◌≡◌, ◌↔◌, ◌<◌, ◌≤◌, ◌+◌, ◌*◌, ◌++◌, length, IfOk, OnOk, IfSome, IsTrue, MatchResult};
+ghost use Rattle.std.specs.Prelude.{◌≡◌, ◌↔◌, ◌<◌, ◌≤◌, ◌+◌, ◌*◌, ◌++◌, length, Err, IfOk, OnOk, OnErr, IfSome, IsTrue, MatchResult};
 ghost use Rattle.krb_der.specs.declared.body.Body.{Body as BodyValue};
 ghost use Rattle.krb_der.specs.declared.error.DerError.TheVariants.{Memory};
 ghost use Rattle.krb_base.specs.Limits.{frame_limit};
@@ -6,8 +6,8 @@ ghost use Rattle.krb_der.specs.Element.{joined, optional};
 ghost use Rattle.krb_der.specs.Time;
 ghost use Rattle.krb_der.specs.Time.{IsSecond};
 ghost use Rattle.krb_der.specs.Address.{host_address, IsAddress};
-ghost use Rattle.krb_der.specs.Body.{InRange, IsBody, IsShort, IsShortBody, body, body_fields, part};
-ghost use Rattle.krb_der.specs.Message.{Decodes, Encodes, SpellsPart};
+ghost use Rattle.krb_der.specs.Body.{InRange, IsBody, IsShort, IsShortBody, before_data, body, body_fields, fields_behind_data, part};
+ghost use Rattle.krb_der.specs.Message.{Decodes, Encodes, EncodesBehind, SpellsPart};
 ghost use Rattle.krb_der.specs.Reading.{Gives, Takes, time_element_of, optional_at, address_of, body_of, part_of};
 
 use crate::address::{HostAddress, known_address, read_address};
@@ -22,6 +22,9 @@ use crate::typed::{typed_size, write_typed_field};
 use crate::writer::{Writer, octets_field_size, size_around};
 use krb_base::{Bytes, FRAME_LIMIT};
 use std::alloc::{AllocError, Global};
+
+/// How many bytes the code behind a cipher has (RFC 3962 section 6).
+const CODE_SIZE: usize = 12;
 
 /// The first number of microseconds that is a second.
 const MICROSECONDS_LIMIT: u32 = 1_000_000;
@@ -226,15 +229,24 @@ impl Body {
         size_around(self.fields_size())
     }
 
-    /// Adds it.
-    #[tactic(auto, unfolding(crate::specs::Body::body))]
-    pub(crate) fn write(&self, out: &mut Writer) -> Result<(), AllocError>
+    /// Adds what stands before the data.
+    pub(crate) fn write_before_data(&self, out: &mut Writer) -> Result<(), AllocError>
         requires short { IsShortBody self.now }
         requires time { IfSome self.now.time IsSecond }
-        ensures { OnOk result (out.new ≡ out.old ++ body self.now) }
+        ensures { OnOk result (out.new ≡ out.old ++ before_data self.now) }
     {
+        let data = self.user_data.as_slice().len();
         out.begin(tag::SEQUENCE, self.fields_size())?;
-        out.octets_field(tag::FIELD_0, self.user_data.as_slice())?;
+        out.begin(tag::FIELD_0, size_around(data))?;
+        out.begin(tag::OCTET_STRING, data)
+    }
+
+    /// Adds the fields behind the data.
+    pub(crate) fn write_behind_data(&self, out: &mut Writer) -> Result<(), AllocError>
+        requires short { IsShortBody self.now }
+        requires time { IfSome self.now.time IsSecond }
+        ensures { OnOk result (out.new ≡ out.old ++ joined (fields_behind_data self.now)) }
+    {
         write_optional_time(out, tag::FIELD_1, self.time)?;
         write_natural_field(out, tag::FIELD_2, self.usec)?;
         write_natural_field(out, tag::FIELD_3, self.seq)?;
@@ -245,6 +257,17 @@ impl Body {
             self.s_addr.bytes.as_slice(),
         )?;
         write_optional_address(out, tag::FIELD_5, &self.r_addr)
+    }
+
+    /// Adds it.
+    pub(crate) fn write(&self, out: &mut Writer) -> Result<(), AllocError>
+        requires short { IsShortBody self.now }
+        requires time { IfSome self.now.time IsSecond }
+        ensures { OnOk result (out.new ≡ out.old ++ body self.now) }
+    {
+        self.write_before_data(out)?;
+        out.put(self.user_data.as_slice())?;
+        self.write_behind_data(out)
     }
 }
 
@@ -258,13 +281,35 @@ impl Body {
         size_around(self.size())
     }
 
-    /// Its spelling as an encrypted part, in a `Vec` with room for so many bytes.
-    fn part_spelling(&self, alloc: Global, size: usize) -> Result<Vec<u8>, AllocError>
+    /// The same, where it is within the limit.
+    fn limited_part_size(&self) -> Result<usize, DerError>
+        requires { InRange self.now }
+        ensures value { IfOk result (λ size. size ≡ length (part self.now)) }
+        ensures limit { IfOk result (λ size. size ≤ frame_limit) }
+        ensures short { OnOk result (IsShortBody self.now) }
+        ensures body { OnOk result (IsBody self.now) }
+        ensures too_long { OnErr result (frame_limit < length (part self.now)) }
+        ensures err { OnErr result (result ≡ Err DerError.TooLong) }
+    {
+        self.known();
+        if !self.is_short() {
+            return Err(DerError::TooLong);
+        }
+        let size = self.part_size();
+        if size > FRAME_LIMIT {
+            return Err(DerError::TooLong);
+        }
+        Ok(size)
+    }
+
+    /// Its spelling as an encrypted part behind other bytes, in a `Vec` with room for so many.
+    fn part_spelling(&self, alloc: Global, front: &[u8], room: usize) -> Result<Vec<u8>, AllocError>
         requires short { IsShortBody self.now }
         requires time { IfSome self.now.time IsSecond }
-        ensures { IfOk result (λ v. v.items ≡ part self.now) }
+        ensures { IfOk result (λ v. v.items ≡ front.now ++ part self.now) }
     {
-        let mut out = Writer::with_capacity(alloc, size)?;
+        let mut out = Writer::with_capacity(alloc, room)?;
+        out.put(front)?;
         out.begin(tag::ENC_KRB_PRIV_PART, self.size())?;
         self.write(&mut out)?;
         Ok(out.into_vec())
@@ -279,15 +324,27 @@ pub fn encode_part(alloc: Global, b: &Body) -> Result<Vec<u8>, DerError>
     requires { InRange b.now }
     ensures { Encodes SpellsPart part b.now result }
 {
-    b.known();
-    if !b.is_short() {
-        return Err(DerError::TooLong);
-    }
-    let size = b.part_size();
-    if size > FRAME_LIMIT {
-        return Err(DerError::TooLong);
-    }
-    Ok(b.part_spelling(alloc, size)?)
+    let size = b.limited_part_size()?;
+    Ok(b.part_spelling(alloc, &[], size)?)
+}
+
+/// A confounder and, behind it, the spelling of the body as [`encode_part`] gives it, in a `Vec`
+/// that has room for a message code of 12 bytes more: what is enciphered in place (RFC 3961
+/// section 5.3, RFC 3962 section 6).
+///
+/// [`DerError::TooLong`] is answered exactly where the part has over 65,000 bytes, before any
+/// memory is taken.
+pub fn encode_part_behind(
+    alloc: Global,
+    confounder: [u8; 16],
+    b: &Body,
+) -> Result<Vec<u8>, DerError>
+    requires { InRange b.now }
+    ensures { EncodesBehind confounder b.now result }
+{
+    let size = b.limited_part_size()?;
+    let room = confounder.len() + size + CODE_SIZE;
+    Ok(b.part_spelling(alloc, &confounder, room)?)
 }
 
 #[tactic(auto, unfolding(crate::specs::Reading::part_of))]

@@ -29,14 +29,14 @@ mod typed;
 mod writer;
 
 pub use address::HostAddress;
-pub use body::{Body, decode_part, encode_part};
+pub use body::{Body, decode_part, encode_part, encode_part_behind};
 pub use error::DerError;
 pub use krb_base::Bytes;
 pub use laws::{size_laws, unique_spelling};
 pub use message::{Message, decode};
 pub use moment::Moment;
 pub use private::{PrivMsg, encode_priv};
-pub use safe::{SafeMsg, encode_safe, safe_input};
+pub use safe::{Covered, SafeMsg, encode_safe, safe_input, safe_input_around};
 pub use time::{LAST_SECOND, kerberos_time, kerberos_time_names_its_second, read_kerberos_time};
 
 #[cfg(test)]

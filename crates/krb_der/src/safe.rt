@@ -1,12 +1,12 @@
-ghost use Rattle.std.specs.Prelude.{◌≡◌, ◌≤◌, ◌+◌, ◌*◌, ◌++◌, [], length, pos, IfOk, IfSome, OnOk};
+ghost use Rattle.std.specs.Prelude.{◌≡◌, ◌<◌, ◌≤◌, ◌+◌, ◌*◌, ◌++◌, [], length, pos, Err, IfOk, IfSome, OnOk, OnErr};
 ghost use Rattle.krb_base.specs.Limits.{frame_limit};
 ghost use Rattle.krb_der.specs.declared.message.Message.TheVariants.{Safe};
 ghost use Rattle.krb_der.specs.Element.{joined};
 ghost use Rattle.krb_der.specs.Integer.{IsInt32};
 ghost use Rattle.krb_der.specs.Time.{IsSecond};
 ghost use Rattle.krb_der.specs.Body.{InRange, IsBody, IsShort, IsShortBody};
-ghost use Rattle.krb_der.specs.Safe.{safe, safe_fields, with_checksum};
-ghost use Rattle.krb_der.specs.Message.{Encodes, Spells, message};
+ghost use Rattle.krb_der.specs.Safe.{safe, safe_before_data, safe_behind_data, safe_fields, safe_input, with_checksum};
+ghost use Rattle.krb_der.specs.Message.{Covers, Encodes, Spells, message};
 ghost use Rattle.krb_der.specs.Reading.{Gives, safe_of};
 
 use crate::body::{Body, is_short, read_body};
@@ -18,6 +18,9 @@ use crate::typed::{read_typed, typed_size, write_typed_field};
 use crate::writer::{Writer, size_around};
 use krb_base::{Bytes, FRAME_LIMIT};
 use std::alloc::{AllocError, Global};
+
+/// Room for the tags, lengths and numbers before the data of a KRB-SAFE.
+const HEADERS_SIZE: usize = 64;
 
 /// A message KRB-SAFE (RFC 4120 section 5.6.1).
 #[derive(Debug, Drop)]
@@ -51,6 +54,16 @@ pub fn read_safe(alloc: Global, bytes: &[u8]) -> Result<SafeMsg, DerError>
         cksum_type,
         checksum,
     })
+}
+
+/// The bytes under the checksum of a KRB-SAFE, without the data that stands in their middle: so
+/// the data needn't be copied to be hashed.
+#[derive(Debug, Drop)]
+pub struct Covered {
+    /// What stands before the data.
+    pub before: Vec<u8>,
+    /// What stands behind it.
+    pub behind: Vec<u8>,
 }
 
 impl SafeMsg {
@@ -152,6 +165,53 @@ impl SafeMsg {
         Ok(self.spelling(alloc, kind, checksum, size)?)
     }
 
+    /// How many bytes its spelling with no checksum has, where they are within the limit.
+    fn limited_input_size(&self) -> Result<usize, DerError>
+        requires { InRange self.now.body }
+        ensures limit { OnOk result (length (safe_input self.now) ≤ frame_limit) }
+        ensures short { OnOk result (IsShortBody self.now.body) }
+        ensures too_long { OnErr result (frame_limit < length (safe_input self.now)) }
+        ensures err { OnErr result (result ≡ Err DerError.TooLong) }
+    {
+        if !self.body.is_short() {
+            return Err(DerError::TooLong);
+        }
+        let size = self.size(&0, &[]);
+        if size > FRAME_LIMIT {
+            return Err(DerError::TooLong);
+        }
+        Ok(size)
+    }
+
+    /// What stands before the data in its spelling with no checksum.
+    fn before_data(&self, alloc: Global) -> Result<Vec<u8>, AllocError>
+        requires short { IsShortBody self.now.body }
+        requires time { IfSome self.now.body.time IsSecond }
+        ensures { IfOk result (λ v. v.items ≡ safe_before_data self.now) }
+    {
+        let fields = self.fields_size(&0, &[]);
+        let mut out = Writer::with_capacity(alloc, HEADERS_SIZE)?;
+        out.begin(tag::KRB_SAFE, size_around(fields))?;
+        out.begin(tag::SEQUENCE, fields)?;
+        write_int32_field(&mut out, tag::FIELD_0, &self.pvno)?;
+        write_int32_field(&mut out, tag::FIELD_1, &self.msg_type)?;
+        out.begin(tag::FIELD_2, self.body.size())?;
+        self.body.write_before_data(&mut out)?;
+        Ok(out.into_vec())
+    }
+
+    /// What stands behind the data, in a `Vec` with room for so many bytes.
+    fn behind_data(&self, alloc: Global, room: usize) -> Result<Vec<u8>, AllocError>
+        requires short { IsShortBody self.now.body }
+        requires time { IfSome self.now.body.time IsSecond }
+        ensures { IfOk result (λ v. v.items ≡ safe_behind_data self.now) }
+    {
+        let mut out = Writer::with_capacity(alloc, room)?;
+        self.body.write_behind_data(&mut out)?;
+        write_typed_field(&mut out, tag::FIELD_3, &0, &[])?;
+        Ok(out.into_vec())
+    }
+
     /// What the types of its numbers say.
     fn known(&self)
         requires { InRange self.now.body }
@@ -183,4 +243,22 @@ pub fn safe_input(alloc: Global, m: &SafeMsg) -> Result<Vec<u8>, DerError>
     ensures { Encodes Spells message (Safe (with_checksum m.now (pos 0) [])) result }
 {
     m.encode_with(alloc, &0, &[])
+}
+
+/// The bytes under the checksum of the message, around its data: with the data between them they
+/// are what [`safe_input`] gives.
+///
+/// [`DerError::TooLong`] is answered exactly where they are over 65,000 bytes, before any memory is
+/// taken.
+pub fn safe_input_around(alloc: Global, m: &SafeMsg) -> Result<Covered, DerError>
+    requires { InRange m.now.body }
+    ensures { Covers m.now result }
+{
+    m.known();
+    let size = m.limited_input_size()?;
+    let room = size.saturating_sub(m.body.user_data.as_slice().len());
+    Ok(Covered {
+        before: m.before_data(alloc)?,
+        behind: m.behind_data(alloc, room)?,
+    })
 }

@@ -8,12 +8,13 @@ use Rattle.krb_der.specs.declared.error.DerError.TheVariants as errors
 use Rattle.krb_der.specs.declared.address.HostAddress.{HostAddress}
 use Rattle.krb_der.specs.declared.body.Body.{Body}
 use Rattle.krb_der.specs.declared.safe.SafeMsg.{SafeMsg}
+use Rattle.krb_der.specs.declared.safe.Covered.{Covered}
 use Rattle.krb_der.specs.declared.private.PrivMsg.{PrivMsg}
 use Rattle.krb_der.specs.declared.message.Message.TheVariants as messages
 use Rattle.krb_der.specs.Body.{part}
-use Rattle.krb_der.specs.Message.{message, Encodes, Spells, SpellsPart}
+use Rattle.krb_der.specs.Message.{message, Covers, Encodes, EncodesBehind, Spells}
 use Rattle.krb_der.specs.Size.{optional_size, carried}
-use Rattle.krb_der.specs.Safe.{safe, with_checksum}
+use Rattle.krb_der.specs.Safe.{safe, safe_input, with_checksum}
 use Rattle.krb_der.proofs.Sizes.{small_part, small_safe, small_private, shorter_input}
 use Rattle.krb_seal.specs.Session.{IsShortAddress}
 use Rattle.krb_seal.specs.Draft.{IsSmall}
@@ -40,14 +41,26 @@ memory_safe m r h small sum = memory_alone Spells message (messages.Safe m) r h 
 pub short_part : (b : Body) → IsSmall b → length (part b) ≤ 60265
 short_part b h = omega (arith, small_part b, carried-small b h)
 
-pub memory_part : (b : Body) (r : Result (Vec ℕ) DerError) → Encodes SpellsPart part b r → IsSmall b → (e : DerError) → r ≡ Err e → e ≡ errors.Memory
-memory_part b r h small = memory_alone SpellsPart part b r h (omega (arith, short_part b small))
+pub memory_part : (conf : List ℕ) (b : Body) (r : Result (Vec ℕ) DerError) → EncodesBehind conf b r → IsSmall b → (e : DerError) → r ≡ Err e → e ≡ errors.Memory
+memory_part conf b (Ok bytes) h small e is = absurd cc
+memory_part conf b (Err errors.TooLong) h small e is = absurd (omega (arith, short_part b small))
+memory_part conf b (Err errors.Malformed) h small e is = absurd h
+memory_part conf b (Err errors.Memory) h small e is = cc
 
 pub memory_priv : (m : PrivMsg) (r : Result (Vec ℕ) DerError) → Encodes Spells message (messages.Priv m) r → length m.cipher ≤ 60300
     → (e : DerError) → r ≡ Err e → e ≡ errors.Memory
 memory_priv m r h size = memory_alone Spells message (messages.Priv m) r h (omega (arith, small_private m))
 
--- what is under the checksum of a message that was read
-pub memory_input : (m : SafeMsg) (r : Result (Vec ℕ) DerError) → Encodes Spells message (messages.Safe (with_checksum m (pos 0) [])) r → length (safe m) ≤ frame_limit
-    → (e : DerError) → r ≡ Err e → e ≡ errors.Memory
-memory_input m r h short = memory_alone Spells message (messages.Safe (with_checksum m (pos 0) [])) r h (omega (arith, shorter_input m))
+-- what is under a checksum, where it is short
+memory_covered : (m : SafeMsg) (r : Result Covered DerError) → Covers m r → length (safe_input m) ≤ frame_limit → (e : DerError) → r ≡ Err e → e ≡ errors.Memory
+memory_covered m (Ok around) h le e is = absurd cc
+memory_covered m (Err errors.TooLong) h le e is = absurd (omega arith)
+memory_covered m (Err errors.Malformed) h le e is = absurd h
+memory_covered m (Err errors.Memory) h le e is = cc
+
+-- of a message that is sealed, and of one that was read
+pub memory_sealed : (m : SafeMsg) (r : Result Covered DerError) → Covers m r → IsSmall m.body → (e : DerError) → r ≡ Err e → e ≡ errors.Memory
+memory_sealed m r h small = memory_covered m r h (omega (arith, small_safe (with_checksum m (pos 0) []), carried-small m.body small))
+
+pub memory_input : (m : SafeMsg) (r : Result Covered DerError) → Covers m r → length (safe m) ≤ frame_limit → (e : DerError) → r ≡ Err e → e ≡ errors.Memory
+memory_input m r h short = memory_covered m r h (omega (arith, shorter_input m))

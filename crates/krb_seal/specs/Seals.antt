@@ -10,7 +10,7 @@ use Rattle.krb_der.specs.declared.message.Message.{Message}
 use Rattle.krb_der.specs.declared.message.Message.TheVariants as messages
 use Rattle.krb_der.specs.Moment.{secs_of, usec_of}
 use Rattle.krb_der.specs.Body.{part, IsBody}
-use Rattle.krb_der.specs.Safe.{safe, with_checksum}
+use Rattle.krb_der.specs.Safe.{safe_input}
 use Rattle.krb_der.specs.Message.{message, Spells}
 use Rattle.krb_seal.specs.declared.session.Mode.{Mode}
 use Rattle.krb_seal.specs.declared.session.Mode.TheVariants.{Safe, Priv}
@@ -21,10 +21,7 @@ use Rattle.krb_seal.specs.Keys.{checksum_key, encrypted}
 abbrev pub checksum_type : ℤ → ℤ
 checksum_type etype = if int_eq etype (pos 17) then pos 15 else pos 16
 
--- the bytes under the checksum of KRB-SAFE: the message with checksum type 0 and an empty checksum
-abbrev pub safe_input : SafeMsg → List ℕ
-safe_input m = safe (with_checksum m (pos 0) [])
-
+-- the checksum of KRB-SAFE, over the message with checksum type 0 and an empty checksum
 abbrev pub safe_checksum : List ℕ → SafeMsg → List ℕ
 safe_checksum key m = hmac96 (checksum_key key) (safe_input m)
 

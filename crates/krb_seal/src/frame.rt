@@ -12,7 +12,7 @@ use crate::etype::Etype;
 use crate::keys::Keys;
 use crate::limit::within_limit;
 use crate::session::Mode;
-use krb_der::{Body, Bytes, PrivMsg, SafeMsg, encode_part, encode_priv};
+use krb_der::{Body, Bytes, PrivMsg, SafeMsg, encode_part_behind, encode_priv, safe_input_around};
 use std::alloc::{AllocError, Global};
 
 /// The KRB-SAFE of a draft.
@@ -30,8 +30,9 @@ fn safe_frame(
     ensures { IfOk result (λ frame. SealsBody Safe (number_of etype) keys.now.key confounder
         draft.now.body frame.items) }
 {
-    let covered = within_limit(draft.encode_with_checksum(alloc, 0, &[]))?;
-    let checksum = keys.checksum(&covered);
+    let around = within_limit(safe_input_around(alloc, draft))?;
+    let data = draft.body.user_data.as_slice();
+    let checksum = keys.checksum(&[&around.before, data, &around.behind]);
     within_limit(draft.encode_with_checksum(alloc, etype.checksum_type(), &checksum))
 }
 
@@ -49,10 +50,7 @@ fn text_of(alloc: Global, body: &Body, confounder: [u8; 16]) -> Result<Vec<u8>, 
     ensures body { OnOk result (IsBody body.now) }
     ensures short { IfOk result (λ text. length text.items ≤ 60281) }
 {
-    let part = within_limit(encode_part(alloc, body))?;
-    let mut text = Vec::with_capacity(alloc, confounder.len() + part.len() + 12)?;
-    text.extend_from_slice(&confounder)?;
-    text.extend_from_slice(&part)?;
+    let text = within_limit(encode_part_behind(alloc, confounder, body))?;
     known_bytes(&text);
     Ok(text)
 }

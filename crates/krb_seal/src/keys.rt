@@ -4,7 +4,7 @@ ghost use Rattle.std.specs.Prelude.{◌≡◌, ◌≤◌, ◌++◌, false, lengt
 ghost use Rattle.krb_aes.specs.Keys.{expanded_key};
 ghost use Rattle.krb_aes.specs.Stealing.{cts_of};
 ghost use Rattle.krb_aes.specs.Words.{AreBytes};
-ghost use Rattle.krb_keys.specs.Hmac.{hmac96};
+ghost use Rattle.krb_keys.specs.Hmac.{hmac96, joined};
 ghost use Rattle.krb_keys.specs.MacKey.{HoldsKey};
 ghost use Rattle.krb_keys.specs.Derivation.{dk};
 ghost use Rattle.krb_seal.specs.Keys.{checksum_key, encryption_key, tag_of};
@@ -128,12 +128,12 @@ impl Keys {
         encryption.spend();
     }
 
-    /// The checksum of KRB-SAFE over these bytes.
-    pub fn checksum(&self, bytes: &[u8]) -> [u8; 12]
+    /// The checksum of KRB-SAFE over these parts, one after another.
+    pub fn checksum(&self, parts: &[&[u8]]) -> [u8; 12]
         requires { self.now.wiped ≡ false }
-        ensures { result ≡ hmac96 (checksum_key self.now.key) bytes.now }
+        ensures { result ≡ hmac96 (checksum_key self.now.key) (joined parts.now) }
     {
-        self.checksum.hmac96(&[bytes])
+        self.checksum.hmac96(parts)
     }
 
     /// The code of a text that is encrypted beside it.

@@ -8,12 +8,12 @@ use krb_der::DerError;
 use std::alloc::AllocError;
 
 /// A spelling within the limit fails for want of memory alone.
-pub fn within_limit(spelling: Result<Vec<u8>, DerError>) -> Result<Vec<u8>, AllocError>
+pub fn within_limit<T>(spelling: Result<T, DerError>) -> Result<T, AllocError>
     requires { ForErr spelling (λ e. e ≡ errors.Memory) }
     ensures { IfOk result (λ v. spelling ≡ Ok v) }
 {
     match spelling {
-        Ok(bytes) => Ok(bytes),
+        Ok(spelling) => Ok(spelling),
         Err(_) => Err(AllocError),
     }
 }

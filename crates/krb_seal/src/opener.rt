@@ -18,7 +18,9 @@ use crate::limit::within_limit;
 use crate::refusal::Refusal;
 use crate::session::Expect;
 use krb_aes::CipherKey;
-use krb_der::{Body, DerError, Message, Moment, PrivMsg, SafeMsg, decode, decode_part, safe_input};
+use krb_der::{
+    Body, DerError, Message, Moment, PrivMsg, SafeMsg, decode, decode_part, safe_input_around,
+};
 use krb_keys::mac_equal;
 use std::alloc::{AllocError, Global};
 use std::marker::Model;
@@ -63,8 +65,9 @@ fn checksum_of(alloc: Global, keys: &Keys, m: &SafeMsg) -> Result<[u8; 12], Allo
     requires short { length (safe m.now) ≤ frame_limit }
     ensures { IfOk result (λ sum. sum ≡ safe_checksum keys.now.key m.now) }
 {
-    let covered = within_limit(safe_input(alloc, m))?;
-    Ok(keys.checksum(&covered))
+    let around = within_limit(safe_input_around(alloc, m))?;
+    let data = m.body.user_data.as_slice();
+    Ok(keys.checksum(&[&around.before, data, &around.behind]))
 }
 
 /// All checks of a KRB-SAFE.

@@ -1,0 +1,39 @@
+use super::{PART, SAFE, decode_safe};
+use crate::{encode_part_behind, safe_input_around};
+use std::test::Fail;
+
+#[test]
+fn part_stands_behind_its_confounder(rt: HostRuntime) -> Result<(), Fail> {
+    let m = decode_safe(rt.alloc(), &SAFE)?;
+    assert!(rt; m.body.in_range());
+    let text = encode_part_behind(rt.alloc(), [7; 16], &m.body)?;
+    assert!(rt; text.starts_with(&[7; 16]) && text.ends_with(&PART));
+    assert_eq!(rt; (text.len(), text.capacity()), (73, 85));
+    Ok(())
+}
+
+#[test]
+fn bytes_under_a_checksum_stand_around_the_data(rt: HostRuntime) -> Result<(), Fail> {
+    let m = decode_safe(rt.alloc(), &SAFE)?;
+    assert!(rt; m.body.in_range());
+    let around = safe_input_around(rt.alloc(), &m)?;
+    // The data are the three bytes from place 22 on.
+    assert_eq!(rt; around.before.as_slice(), &SAFE[..22]);
+    assert_eq!(rt; around.behind.as_slice(), &SAFE[25..]);
+    Ok(())
+}
+
+#[test]
+fn message_has_the_checksum_that_it_is_given(rt: HostRuntime) -> Result<(), Fail> {
+    let m = decode_safe(rt.alloc(), &SAFE)?;
+    assert!(rt; m.body.in_range());
+    let bytes = m.encode_with_checksum(rt.alloc(), 15, &[0xa5; 12])?;
+    let again = decode_safe(rt.alloc(), &bytes)?;
+    assert_eq!(rt; (bytes.len(), again.cksum_type), (96, 15));
+    assert_eq!(rt; again.checksum.as_slice(), [0xa5; 12].as_slice());
+    assert_eq!(rt;
+        m.encode_with_checksum(rt.alloc(), 0, &[])?.as_slice(),
+        SAFE.as_slice()
+    );
+    Ok(())
+}
