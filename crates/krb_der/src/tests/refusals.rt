@@ -1,4 +1,4 @@
-use super::{PART, PRIV, PRIV_WITH_KVNO, SAFE, SAFE_TO_RECEIVER};
+use super::{PART, PRIV, PRIV_WITH_KVNO, SAFE, SAFE_TO_RECEIVER, repeated};
 use crate::{DerError, decode, decode_part};
 use std::alloc::{AllocError, Global};
 use std::test::Fail;
@@ -107,13 +107,19 @@ fn field_that_krb_priv_lacks_is_malformed(rt: HostRuntime) {
     assert_eq!(rt; answer(rt.alloc(), &bytes), 2);
 }
 
+/// What `decode` and `decode_part` answer to so many zeros.
+fn answers_to_zeros(alloc: Global, count: usize) -> Result<(u32, u32), AllocError> {
+    let zeros = repeated(alloc, 0, count)?;
+    Ok((
+        answer(alloc, zeros.as_slice()),
+        part_answer(alloc, zeros.as_slice()),
+    ))
+}
+
 #[test]
 fn more_than_the_limit_is_too_long(rt: HostRuntime) -> Result<(), Fail> {
-    let zeros = vec![in rt.alloc(); 0u8; 65_001]?;
-    assert_eq!(rt; answer(rt.alloc(), &zeros), 1);
-    assert_eq!(rt; part_answer(rt.alloc(), &zeros), 1);
-    assert_eq!(rt; answer(rt.alloc(), &zeros.as_slice()[..65_000]), 2);
-    assert_eq!(rt; part_answer(rt.alloc(), &zeros.as_slice()[..65_000]), 2);
+    assert_eq!(rt; answers_to_zeros(rt.alloc(), 65_001)?, (1, 1));
+    assert_eq!(rt; answers_to_zeros(rt.alloc(), 65_000)?, (2, 2));
     Ok(())
 }
 
@@ -153,12 +159,18 @@ fn every_proper_prefix_is_malformed(rt: HostRuntime) {
 
 #[test]
 fn bit_flips_are_read_as_an_independent_reader_does(rt: HostRuntime) -> Result<(), Fail> {
-    assert_eq!(rt; answers_to_flips(rt.alloc(), &SAFE)?, (135, 537));
-    assert_eq!(rt;
-        answers_to_flips(rt.alloc(), &SAFE_TO_RECEIVER)?,
-        (135, 489)
-    );
-    assert_eq!(rt; answers_to_flips(rt.alloc(), &PRIV)?, (24, 192));
-    assert_eq!(rt; answers_to_flips(rt.alloc(), &PRIV_WITH_KVNO)?, (31, 225));
+    let answers: [(&[u8], (u32, u32)); 4] = [
+        (&SAFE, (135, 537)),
+        (&SAFE_TO_RECEIVER, (135, 489)),
+        (&PRIV, (24, 192)),
+        (&PRIV_WITH_KVNO, (31, 225)),
+    ];
+    for (message, expected) in answers {
+        assert_eq!(rt;
+            answers_to_flips(rt.alloc(), message)?,
+            expected,
+            "{message:?}"
+        );
+    }
     Ok(())
 }
