@@ -76,14 +76,28 @@ fn safe_spelling(alloc: Global, m: &SafeMsg) -> Result<Vec<u8>, DerError> {
     encode_safe(alloc, m)
 }
 
-/// Whether `encode_safe` writes these bytes.
-fn is_safe_spelling(alloc: Global, m: &SafeMsg, bytes: &[u8]) -> Result<bool, DerError> {
-    Ok(safe_spelling(alloc, m)?.as_slice() == bytes)
+/// The message that the bytes spell, written again.
+fn safe_again(alloc: Global, bytes: &[u8]) -> Result<Vec<u8>, DerError> {
+    let m = decode_safe(alloc, bytes)?;
+    safe_spelling(alloc, &m)
 }
 
 /// What `encode_priv` writes.
 fn priv_spelling(alloc: Global, m: &PrivMsg) -> Result<Vec<u8>, DerError> {
     encode_priv(alloc, m)
+}
+
+/// Whether these bytes were written.
+fn is_written(written: Result<Vec<u8>, DerError>, bytes: &[u8]) -> bool {
+    match written {
+        Ok(written) => written.as_slice() == bytes,
+        Err(_) => false,
+    }
+}
+
+/// How many bytes were written.
+fn size(written: Result<Vec<u8>, DerError>) -> Result<usize, DerError> {
+    Ok(written?.len())
 }
 
 /// Whether the body has this text, time and number.

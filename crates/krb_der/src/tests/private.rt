@@ -1,30 +1,38 @@
 use super::{
-    PART, PRIV, PRIV_WITH_KVNO, SAFE, carries, decode_priv, decode_safe, priv_spelling, repeated,
+    PART, PRIV, PRIV_WITH_KVNO, SAFE, carries, decode_priv, decode_safe, is_written, priv_spelling,
+    repeated, size,
 };
-use crate::{Body, DerError, PrivMsg, decode_part, encode_part, unique_spelling};
+use crate::{Body, DerError, decode_part, encode_part, unique_spelling};
 use std::alloc::Global;
-use std::test::Fail;
 
-/// Whether `encode_priv` writes these bytes.
-fn is_spelling(alloc: Global, m: &PrivMsg, bytes: &[u8]) -> Result<bool, DerError> {
-    Ok(priv_spelling(alloc, m)?.as_slice() == bytes)
+/// Whether the bytes spell a message of protocol version 5, kind 21 and encryption type 17 with
+/// an empty cipher, under this version of the key.
+fn is_read(alloc: Global, bytes: &[u8], kvno: Option<u32>) -> Result<bool, DerError> {
+    let m = decode_priv(alloc, bytes)?;
+    Ok(
+        (m.pvno, m.msg_type, m.etype) == (5, 21, 17)
+            && m.kvno == kvno
+            && m.cipher.as_slice().is_empty(),
+    )
+}
+
+/// The message that the bytes spell, written again.
+fn priv_again(alloc: Global, bytes: &[u8]) -> Result<Vec<u8>, DerError> {
+    let m = decode_priv(alloc, bytes)?;
+    priv_spelling(alloc, &m)
 }
 
 #[test]
-fn message_is_read_and_written_back(rt: HostRuntime) -> Result<(), Fail> {
-    let m = decode_priv(rt.alloc(), &PRIV)?;
-    assert_eq!(rt; (m.pvno, m.msg_type, m.etype), (5, 21, 17));
-    assert!(rt; m.kvno.is_none() && m.cipher.as_slice().is_empty());
-    assert!(rt; is_spelling(rt.alloc(), &m, &PRIV)?);
-    Ok(())
+fn message_is_read_and_written_back(rt: HostRuntime) {
+    assert!(rt; is_read(rt.alloc(), &PRIV, None) == Ok(true));
+    assert!(rt; is_written(priv_again(rt.alloc(), &PRIV), &PRIV));
 }
 
 #[test]
-fn key_version_is_read_and_written_back(rt: HostRuntime) -> Result<(), Fail> {
-    let m = decode_priv(rt.alloc(), &PRIV_WITH_KVNO)?;
-    assert_eq!(rt; m.kvno, Some(3));
-    assert!(rt; is_spelling(rt.alloc(), &m, &PRIV_WITH_KVNO)?);
-    Ok(())
+fn key_version_is_read_and_written_back(rt: HostRuntime) {
+    assert!(rt; is_read(rt.alloc(), &PRIV_WITH_KVNO, Some(3)) == Ok(true));
+    let again = priv_again(rt.alloc(), &PRIV_WITH_KVNO);
+    assert!(rt; is_written(again, &PRIV_WITH_KVNO));
 }
 
 /// What `encode_part` writes; `Malformed` for a body that is out of range.
@@ -35,54 +43,53 @@ fn part_spelling(alloc: Global, body: &Body) -> Result<Vec<u8>, DerError> {
     encode_part(alloc, body)
 }
 
-/// Whether the body of this message is written as this part.
-fn is_part_of(alloc: Global, part: &[u8], message: &[u8]) -> Result<bool, DerError> {
-    let m = decode_safe(alloc, message)?;
-    Ok(part_spelling(alloc, &m.body)?.as_slice() == part)
+/// The body of the message that the bytes spell, written as an encrypted part.
+fn part_of(alloc: Global, bytes: &[u8]) -> Result<Vec<u8>, DerError> {
+    let m = decode_safe(alloc, bytes)?;
+    part_spelling(alloc, &m.body)
 }
 
-/// Whether the sender's address is that of this message, and there is no receiver's.
-fn is_from_sender_of(alloc: Global, body: &Body, message: &[u8]) -> Result<bool, DerError> {
+/// Whether the body has text, time and number of `SAFE`, the sender of this one, and no receiver.
+fn is_as_sent(body: &Body, sent: &Body) -> bool {
+    let time = (Some(1_700_000_000), Some(5));
+    carries(body, &[0x44, 0x68, 0x69], time, Some(7))
+        && body.s_addr.same(&sent.s_addr)
+        && body.r_addr.is_none()
+}
+
+/// Whether the part is read as the body of this message.
+fn is_part_read(alloc: Global, part: &[u8], message: &[u8]) -> Result<bool, DerError> {
+    let body = decode_part(alloc, part)?;
     let m = decode_safe(alloc, message)?;
-    Ok(body.s_addr.same(&m.body.s_addr) && body.r_addr.is_none())
+    Ok(is_as_sent(&body, &m.body))
 }
 
 #[test]
-fn part_is_the_body_of_the_message(rt: HostRuntime) -> Result<(), Fail> {
-    assert!(rt; is_part_of(rt.alloc(), &PART, &SAFE)?);
-    let body = decode_part(rt.alloc(), &PART)?;
-    let time = (Some(1_700_000_000), Some(5));
-    assert!(rt; carries(&body, &[0x44, 0x68, 0x69], time, Some(7)));
-    assert!(rt; is_from_sender_of(rt.alloc(), &body, &SAFE)?);
-    Ok(())
+fn part_is_the_body_of_the_message(rt: HostRuntime) {
+    assert!(rt; is_written(part_of(rt.alloc(), &SAFE), &PART));
+    assert!(rt; is_part_read(rt.alloc(), &PART, &SAFE) == Ok(true));
 }
 
 /// What `encode_priv` answers for a cipher of so many bytes: how many the message has, or the
 /// error.
-fn size_with_cipher(alloc: Global, size: usize) -> Result<usize, DerError> {
+fn size_with_cipher(alloc: Global, count: usize) -> Result<usize, DerError> {
     let mut m = decode_priv(alloc, &PRIV)?;
-    m.cipher = repeated(alloc, 0, size)?;
-    Ok(priv_spelling(alloc, &m)?.len())
+    m.cipher = repeated(alloc, 0, count)?;
+    size(priv_spelling(alloc, &m))
 }
 
 /// The same of `encode_part` for a text of so many bytes.
-fn size_of_part_with_text(alloc: Global, size: usize) -> Result<usize, DerError> {
+fn size_of_part_with_text(alloc: Global, count: usize) -> Result<usize, DerError> {
     let mut body = decode_part(alloc, &PART)?;
-    body.user_data = repeated(alloc, 0, size)?;
-    Ok(part_spelling(alloc, &body)?.len())
+    body.user_data = repeated(alloc, 0, count)?;
+    size(part_spelling(alloc, &body))
 }
 
 #[test]
 fn what_is_over_the_limit_is_not_written(rt: HostRuntime) {
-    assert_eq!(rt; size_with_cipher(rt.alloc(), 65_000 - 39), Ok(65_000));
-    assert_eq!(rt;
-        size_with_cipher(rt.alloc(), 65_000 - 38),
-        Err(DerError::TooLong)
-    );
-    assert_eq!(rt;
-        size_of_part_with_text(rt.alloc(), 65_001),
-        Err(DerError::TooLong)
-    );
+    assert!(rt; size_with_cipher(rt.alloc(), 65_000 - 39) == Ok(65_000));
+    assert!(rt; size_with_cipher(rt.alloc(), 65_000 - 38) == Err(DerError::TooLong));
+    assert!(rt; size_of_part_with_text(rt.alloc(), 65_001) == Err(DerError::TooLong));
 }
 
 #[test]

@@ -1,26 +1,34 @@
 use super::{
-    PART, SAFE, SAFE_TO_RECEIVER, carries, decode_safe, is_at, is_safe_spelling, repeated,
-    safe_spelling,
+    PART, SAFE, SAFE_TO_RECEIVER, carries, decode_safe, is_at, is_written, repeated, safe_again,
+    safe_spelling, size,
 };
 use crate::{DerError, HostAddress, SafeMsg, decode, safe_input};
 use std::alloc::Global;
-use std::test::Fail;
 
 /// Whether the address has this type and these bytes.
 fn is_address(address: &HostAddress, kind: i32, bytes: &[u8]) -> bool {
     address.kind == kind && address.bytes.as_slice() == bytes
 }
 
-#[test]
-fn message_is_read_and_written_back(rt: HostRuntime) -> Result<(), Fail> {
-    let m = decode_safe(rt.alloc(), &SAFE)?;
-    assert_eq!(rt; (m.pvno, m.msg_type, m.cksum_type), (5, 20, 0));
+/// Whether the message is what is said of `SAFE`.
+fn is_as_said(m: &SafeMsg) -> bool {
     let time = (Some(1_700_000_000), Some(5));
-    assert!(rt; carries(&m.body, b"Dhi", time, Some(7)));
-    assert!(rt; is_address(&m.body.s_addr, 2, &[10, 0, 0, 1]));
-    assert!(rt; m.body.r_addr.is_none() && m.checksum.as_slice().is_empty());
-    assert!(rt; is_safe_spelling(rt.alloc(), &m, &SAFE)?);
-    Ok(())
+    (m.pvno, m.msg_type, m.cksum_type) == (5, 20, 0)
+        && carries(&m.body, b"Dhi", time, Some(7))
+        && is_address(&m.body.s_addr, 2, &[10, 0, 0, 1])
+        && m.body.r_addr.is_none()
+        && m.checksum.as_slice().is_empty()
+}
+
+fn is_read_as_said(alloc: Global) -> Result<bool, DerError> {
+    let m = decode_safe(alloc, &SAFE)?;
+    Ok(is_as_said(&m))
+}
+
+#[test]
+fn message_is_read_and_written_back(rt: HostRuntime) {
+    assert!(rt; is_read_as_said(rt.alloc()) == Ok(true));
+    assert!(rt; is_written(safe_again(rt.alloc(), &SAFE), &SAFE));
 }
 
 /// Whether the message names a receiver with these bytes, who is not the sender.
@@ -35,16 +43,21 @@ fn has_receiver(m: &SafeMsg, bytes: &[u8]) -> bool {
     }
 }
 
+/// Whether `SAFE_TO_RECEIVER` is read as what is said of it.
+fn is_read_with_receiver(alloc: Global) -> Result<bool, DerError> {
+    let m = decode_safe(alloc, &SAFE_TO_RECEIVER)?;
+    Ok(
+        m.cksum_type == 15
+            && carries(&m.body, &[], (None, None), Some(4_294_967_295))
+            && has_receiver(&m, &[10, 0, 0, 255]),
+    )
+}
+
 #[test]
-fn message_to_a_receiver_without_time_is_read_and_written_back(
-    rt: HostRuntime,
-) -> Result<(), Fail> {
-    let m = decode_safe(rt.alloc(), &SAFE_TO_RECEIVER)?;
-    assert_eq!(rt; m.cksum_type, 15);
-    assert!(rt; carries(&m.body, &[], (None, None), Some(4_294_967_295)));
-    assert!(rt; has_receiver(&m, &[10, 0, 0, 255]));
-    assert!(rt; is_safe_spelling(rt.alloc(), &m, &SAFE_TO_RECEIVER)?);
-    Ok(())
+fn message_to_a_receiver_without_time_is_read_and_written_back(rt: HostRuntime) {
+    assert!(rt; is_read_with_receiver(rt.alloc()) == Ok(true));
+    let again = safe_again(rt.alloc(), &SAFE_TO_RECEIVER);
+    assert!(rt; is_written(again, &SAFE_TO_RECEIVER));
 }
 
 /// The message `SAFE` under a checksum of 12 bytes.
@@ -55,21 +68,26 @@ fn under_checksum(alloc: Global) -> Result<SafeMsg, DerError> {
     Ok(m)
 }
 
-/// Whether `safe_input` writes these bytes.
-fn is_input(alloc: Global, m: &SafeMsg, bytes: &[u8]) -> Result<bool, DerError> {
+/// What `safe_input` writes of it.
+fn input_under_checksum(alloc: Global) -> Result<Vec<u8>, DerError> {
+    let m = under_checksum(alloc)?;
     if !m.body.in_range() {
         return Err(DerError::Malformed);
     }
-    Ok(safe_input(alloc, m)?.as_slice() == bytes)
+    safe_input(alloc, &m)
+}
+
+/// What `encode_safe` writes of it.
+fn spelling_under_checksum(alloc: Global) -> Result<Vec<u8>, DerError> {
+    let m = under_checksum(alloc)?;
+    safe_spelling(alloc, &m)
 }
 
 #[test]
-fn bytes_under_any_checksum_are_those_under_none(rt: HostRuntime) -> Result<(), Fail> {
-    let m = under_checksum(rt.alloc())?;
-    assert!(rt; is_input(rt.alloc(), &m, &SAFE)?);
-    assert!(rt; !is_safe_spelling(rt.alloc(), &m, &SAFE)?);
-    assert_eq!(rt; safe_spelling(rt.alloc(), &m)?.len(), 96);
-    Ok(())
+fn bytes_under_any_checksum_are_those_under_none(rt: HostRuntime) {
+    assert!(rt; is_written(input_under_checksum(rt.alloc()), &SAFE));
+    assert!(rt; size(spelling_under_checksum(rt.alloc())) == Ok(96));
+    assert!(rt; !is_written(spelling_under_checksum(rt.alloc()), &SAFE));
 }
 
 /// The message `SAFE` with a text of so many bytes, all the same.
@@ -79,45 +97,50 @@ fn with_text(alloc: Global, byte: u8, count: usize) -> Result<SafeMsg, DerError>
     Ok(m)
 }
 
-/// Whether the bytes spell a message with the text of this one.
-fn has_text_of(alloc: Global, bytes: &[u8], m: &SafeMsg) -> Result<bool, DerError> {
-    let again = decode_safe(alloc, bytes)?;
-    Ok(again.body.user_data.as_slice() == m.body.user_data.as_slice())
+/// What `encode_safe` writes of it.
+fn spelling_with_text(alloc: Global, byte: u8, count: usize) -> Result<Vec<u8>, DerError> {
+    let m = with_text(alloc, byte, count)?;
+    safe_spelling(alloc, &m)
+}
+
+/// Whether the bytes spell a message with this text.
+fn has_text(alloc: Global, bytes: &[u8], text: &[u8]) -> Result<bool, DerError> {
+    let m = decode_safe(alloc, bytes)?;
+    Ok(m.body.user_data.as_slice() == text)
+}
+
+/// Whether the message with this text begins with these bytes, and is read with the text.
+fn is_carried(alloc: Global, byte: u8, count: usize, begin: &[u8]) -> Result<bool, DerError> {
+    let bytes = spelling_with_text(alloc, byte, count)?;
+    let text = repeated(alloc, byte, count)?;
+    Ok(is_at(bytes.as_slice(), 0, begin) && has_text(alloc, bytes.as_slice(), text.as_slice())?)
 }
 
 #[test]
-fn text_of_60000_bytes_is_carried(rt: HostRuntime) -> Result<(), Fail> {
-    let m = with_text(rt.alloc(), 0x61, 60_001)?;
-    let bytes = safe_spelling(rt.alloc(), &m)?;
+fn text_of_60000_bytes_is_carried(rt: HostRuntime) {
     // Lengths of 60,090, 60,086, 60,059, 60,055, 60,005 and 60,001.
     let begin = [
         0x74, 0x82, 0xea, 0xba, 0x30, 0x82, 0xea, 0xb6, 0xa0, 0x03, 0x02, 0x01, 0x05, 0xa1, 0x03,
         0x02, 0x01, 0x14, 0xa2, 0x82, 0xea, 0x9b, 0x30, 0x82, 0xea, 0x97, 0xa0, 0x82, 0xea, 0x65,
         0x04, 0x82, 0xea, 0x61, 0x61,
     ];
-    assert_eq!(rt; bytes.len(), 60_094);
-    assert!(rt; is_at(bytes.as_slice(), 0, &begin));
-    assert!(rt; has_text_of(rt.alloc(), bytes.as_slice(), &m)?);
-    Ok(())
+    assert!(rt; size_with_text(rt.alloc(), 0x61, 60_001) == Ok(60_094));
+    assert!(rt; is_carried(rt.alloc(), 0x61, 60_001, &begin) == Ok(true));
 }
 
 /// What `encode_safe` answers for a text of so many bytes: how many the message has, or the error.
-fn size_with_text(alloc: Global, size: usize) -> Result<usize, DerError> {
-    let m = with_text(alloc, 0, size)?;
-    Ok(safe_spelling(alloc, &m)?.len())
+fn size_with_text(alloc: Global, byte: u8, count: usize) -> Result<usize, DerError> {
+    size(spelling_with_text(alloc, byte, count))
 }
 
 #[test]
 fn message_over_the_limit_is_not_written(rt: HostRuntime) {
-    assert_eq!(rt; size_with_text(rt.alloc(), 65_000 - 93), Ok(65_000));
-    assert_eq!(rt;
-        size_with_text(rt.alloc(), 65_000 - 92),
-        Err(DerError::TooLong)
-    );
-    assert_eq!(rt; size_with_text(rt.alloc(), 70_000), Err(DerError::TooLong));
+    assert!(rt; size_with_text(rt.alloc(), 0, 65_000 - 93) == Ok(65_000));
+    assert!(rt; size_with_text(rt.alloc(), 0, 65_000 - 92) == Err(DerError::TooLong));
+    assert!(rt; size_with_text(rt.alloc(), 0, 70_000) == Err(DerError::TooLong));
 }
 
 #[test]
 fn part_is_no_message(rt: HostRuntime) {
-    assert_eq!(rt; decode(rt.alloc(), &PART).err(), Some(DerError::Malformed));
+    assert!(rt; decode(rt.alloc(), &PART).err() == Some(DerError::Malformed));
 }
