@@ -110,6 +110,12 @@ fn repeated(alloc: Global, byte: u8, count: usize) -> Result<Bytes, AllocError> 
     Ok(Bytes::new(vec![in alloc; byte; count]?))
 }
 
+/// Gives the body a text of so many bytes, all the same.
+fn set_text(alloc: Global, body: &mut Body, byte: u8, count: usize) -> Result<(), AllocError> {
+    body.user_data = repeated(alloc, byte, count)?;
+    Ok(())
+}
+
 /// Whether the bytes from `start` on begin with the element.
 fn is_at(bytes: &[u8], start: usize, element: &[u8]) -> bool {
     bytes.get(start..).unwrap_or(&[]).starts_with(element)

@@ -1,8 +1,8 @@
 use super::{
     PART, PRIV, PRIV_WITH_KVNO, SAFE, carries, decode_priv, decode_safe, is_written, priv_spelling,
-    repeated, size,
+    repeated, set_text, size,
 };
-use crate::{Body, DerError, decode_part, encode_part, unique_spelling};
+use crate::{Body, DerError, HostAddress, decode_part, encode_part, unique_spelling};
 use std::alloc::Global;
 
 /// Whether the bytes spell a message of protocol version 5, kind 21 and encryption type 17 with
@@ -49,25 +49,27 @@ fn part_of(alloc: Global, bytes: &[u8]) -> Result<Vec<u8>, DerError> {
     part_spelling(alloc, &m.body)
 }
 
-/// Whether the body has text, time and number of `SAFE`, the sender of this one, and no receiver.
-fn is_as_sent(body: &Body, sent: &Body) -> bool {
-    let time = (Some(1_700_000_000), Some(5));
-    carries(body, &[0x44, 0x68, 0x69], time, Some(7))
-        && body.s_addr.same(&sent.s_addr)
-        && body.r_addr.is_none()
+/// Whether the address is that of the message's sender.
+fn is_sender(alloc: Global, address: &HostAddress, bytes: &[u8]) -> Result<bool, DerError> {
+    let m = decode_safe(alloc, bytes)?;
+    Ok(address.same(&m.body.s_addr))
 }
 
-/// Whether the part is read as the body of this message.
-fn is_part_read(alloc: Global, part: &[u8], message: &[u8]) -> Result<bool, DerError> {
+/// Whether the part is read with text, time, number and sender of `SAFE`, and no receiver.
+fn is_part_read(alloc: Global, part: &[u8]) -> Result<bool, DerError> {
     let body = decode_part(alloc, part)?;
-    let m = decode_safe(alloc, message)?;
-    Ok(is_as_sent(&body, &m.body))
+    let time = (Some(1_700_000_000), Some(5));
+    Ok(
+        carries(&body, &[0x44, 0x68, 0x69], time, Some(7))
+            && is_sender(alloc, &body.s_addr, &SAFE)?
+            && body.r_addr.is_none(),
+    )
 }
 
 #[test]
 fn part_is_the_body_of_the_message(rt: HostRuntime) {
     assert!(rt; is_written(part_of(rt.alloc(), &SAFE), &PART));
-    assert!(rt; is_part_read(rt.alloc(), &PART, &SAFE) == Ok(true));
+    assert!(rt; is_part_read(rt.alloc(), &PART) == Ok(true));
 }
 
 /// What `encode_priv` answers for a cipher of so many bytes: how many the message has, or the
@@ -81,7 +83,7 @@ fn size_with_cipher(alloc: Global, count: usize) -> Result<usize, DerError> {
 /// The same of `encode_part` for a text of so many bytes.
 fn size_of_part_with_text(alloc: Global, count: usize) -> Result<usize, DerError> {
     let mut body = decode_part(alloc, &PART)?;
-    body.user_data = repeated(alloc, 0, count)?;
+    set_text(alloc, &mut body, 0, count)?;
     size(part_spelling(alloc, &body))
 }
 

@@ -1,6 +1,6 @@
 use super::{
     PART, SAFE, SAFE_TO_RECEIVER, carries, decode_safe, is_at, is_written, repeated, safe_again,
-    safe_spelling, size,
+    safe_spelling, set_text, size,
 };
 use crate::{DerError, HostAddress, SafeMsg, decode, safe_input};
 use std::alloc::Global;
@@ -93,7 +93,7 @@ fn bytes_under_any_checksum_are_those_under_none(rt: HostRuntime) {
 /// The message `SAFE` with a text of so many bytes, all the same.
 fn with_text(alloc: Global, byte: u8, count: usize) -> Result<SafeMsg, DerError> {
     let mut m = decode_safe(alloc, &SAFE)?;
-    m.body.user_data = repeated(alloc, byte, count)?;
+    set_text(alloc, &mut m.body, byte, count)?;
     Ok(m)
 }
 
