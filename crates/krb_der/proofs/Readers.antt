@@ -1,13 +1,13 @@
 -- Readers of a whole content: what is read was spelled so, and what is spelled is read again.
-use Rattle.std.proofs.Common.{◌≡◌, ◌⊎◌, ℕ, ◌^◌, ◌<◌, ◌≤◌, Bool, true, false, eqb, List, [], ◌∷◌, ◌++◌, length, Option, Some, None, refl, sym, ap, subst, ◌∙◌, arith, inl, inr}
+use Rattle.std.proofs.Common.{◌≡◌, ◌⊎◌, ℕ, ◌+◌, ◌^◌, ◌<◌, ◌≤◌, Bool, true, false, eqb, List, [], ◌∷◌, ◌++◌, length, Option, Some, None, refl, sym, ap, subst, ◌∙◌, arith, inl, inr, lit≤}
 use Rattle.std.specs.Prelude.{IfSome}
 use Rattle.std.proofs.lemmas.Bool.{eqb-true}
 use Rattle.std.proofs.lemmas.List.{length-append, append-nil}
-use Rattle.krb_der.specs.Length.{length_octets}
+use Rattle.krb_der.specs.Length.{big_endian, length_octets}
 use Rattle.krb_der.specs.Element.{header, tagged, element_size, joined, optional}
 use Rattle.krb_der.specs.Steps.{◌>>=◌}
 use Rattle.krb_der.specs.Reading.{ended, tagged_at, alone, with_field, starts_with, optional_at}
-use Rattle.krb_der.proofs.Numbers.{IsBytes}
+use Rattle.krb_der.proofs.Numbers.{IsBytes, if_case}
 use Rattle.krb_der.proofs.OptionSteps.{bind_some, some_is}
 use Rattle.krb_der.proofs.Elements.{tagged-again, tagged-found, eqb-same}
 
@@ -49,6 +49,17 @@ no_field low K x known only = record {
 pub length-tagged : (tag : ℕ) (content : List ℕ) → length content < length (tagged tag content)
 unfolding tagged header
 length-tagged tag content = omega (arith, length-append (length_octets (length content)) content)
+
+pub length-length_octets : (n : ℕ) → length (length_octets n) ≤ 4
+unfolding length_octets
+length-length_octets n =
+    if_case (λ (s : List ℕ). length s ≤ 4) n 128 (n ∷ []) _ (λ _. lit≤ tt) (λ _.
+    if_case (λ (s : List ℕ). length s ≤ 4) n 256 (0x81 ∷ big_endian 1 n) _ (λ _. lit≤ tt) (λ _.
+    if_case (λ (s : List ℕ). length s ≤ 4) n 65536 (0x82 ∷ big_endian 2 n) (0x83 ∷ big_endian 3 n) (λ _. lit≤ tt) (λ _. lit≤ tt)))
+
+pub tagged-short : (tag : ℕ) (content : List ℕ) → length (tagged tag content) ≤ length content + 5
+unfolding tagged header
+tagged-short tag content = omega (arith, length-append (length_octets (length content)) content, length-length_octets (length content))
 
 glue : (tag : ℕ) (a b x y : List ℕ) → a ≡ x → b ≡ y → tagged tag a ++ b ≡ tagged tag x ++ y
 glue tag a b x y p q = rw (p, q) refl
