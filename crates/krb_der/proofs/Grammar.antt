@@ -171,7 +171,7 @@ body_reads =
     (λ v h. record { time = h.1.0; usec = h.1.1.0; seq = h.1.1.1.0; s_addr = h.1.1.1.1.0; r_addr = h.1.1.1.1.1.0 })
     (λ v h. (tt, (h.time, (h.usec, (h.seq, (h.s_addr, (h.r_addr, tt))))))))
 
-part_reads : Reads IsBody part part_of
+pub part_reads : Reads IsBody part part_of
 unfolding part_of
 part_reads = under_tag 0x7C IsBody body body_of body_reads
 

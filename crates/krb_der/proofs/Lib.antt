@@ -8,3 +8,4 @@ pub mod DateTimes
 pub mod Grammar
 pub mod Lengths
 pub mod Writers
+pub mod Sizes

@@ -14,3 +14,4 @@ pub mod Private
 pub mod Message
 pub mod Reading
 pub mod Error
+pub mod Size

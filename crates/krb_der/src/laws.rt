@@ -1,8 +1,19 @@
 ghost use Rattle.krb_der.specs.Message.{Spells, SpellsPart, UniqueSpelling};
+ghost use Rattle.krb_der.specs.Size.{SmallPart, SmallSafe, SmallPrivate, ShorterInput};
 
 /// One spelling for each value, one value for each spelling, and no spelling begins another: of
 /// messages, and of encrypted parts.
 pub fn unique_spelling()
     ensures messages { UniqueSpelling Spells }
     ensures parts { UniqueSpelling SpellsPart }
+{}
+
+/// How long a spelling can be: tags, lengths and numbers take few bytes beside the data, the
+/// addresses, the checksum and the cipher. So whoever keeps to the limits of these never meets
+/// [`DerError::TooLong`](crate::DerError::TooLong).
+pub fn size_laws()
+    ensures part { SmallPart }
+    ensures safe { SmallSafe }
+    ensures private { SmallPrivate }
+    ensures covered { ShorterInput }
 {}

@@ -32,7 +32,7 @@ pub use address::HostAddress;
 pub use body::{Body, decode_part, encode_part};
 pub use error::DerError;
 pub use krb_base::Bytes;
-pub use laws::unique_spelling;
+pub use laws::{size_laws, unique_spelling};
 pub use message::{Message, decode};
 pub use moment::Moment;
 pub use private::{PrivMsg, encode_priv};

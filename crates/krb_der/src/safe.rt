@@ -114,6 +114,23 @@ impl SafeMsg {
         Ok(out.into_vec())
     }
 
+    /// Its spelling with this type of checksum and this checksum in place of its own: one value
+    /// gives both what is under a checksum and the message that has it.
+    ///
+    /// [`DerError::TooLong`] is answered exactly where it has over 65,000 bytes, before any memory
+    /// is taken.
+    pub fn encode_with_checksum(
+        &self,
+        alloc: Global,
+        kind: i32,
+        checksum: &[u8],
+    ) -> Result<Vec<u8>, DerError>
+        requires { InRange self.now.body }
+        ensures { Encodes Spells message (Safe (with_checksum self.now kind checksum.now)) result }
+    {
+        self.encode_with(alloc, &kind, checksum)
+    }
+
     /// Its spelling with this checksum in place of its own.
     fn encode_with(&self, alloc: Global, kind: &i32, checksum: &[u8]) -> Result<Vec<u8>, DerError>
         requires { InRange self.now.body }

@@ -1,0 +1,53 @@
+-- From the spellings that the code wrote to the frame.
+use Rattle.std.proofs.Common.{◌≡◌, ℕ, ◌+◌, ◌≤◌, pos, List, [], length, Option, Some, None, Result, Ok, Err, refl, subst, arith}
+use Rattle.std.specs.Global.{Vec}
+use Rattle.std.specs.Option.{ForSome}
+use Rattle.krb_base.specs.Limits.{frame_limit}
+use Rattle.krb_der.specs.declared.error.DerError.{DerError}
+use Rattle.krb_der.specs.declared.error.DerError.TheVariants as errors
+use Rattle.krb_der.specs.declared.address.HostAddress.{HostAddress}
+use Rattle.krb_der.specs.declared.body.Body.{Body}
+use Rattle.krb_der.specs.declared.safe.SafeMsg.{SafeMsg}
+use Rattle.krb_der.specs.declared.private.PrivMsg.{PrivMsg}
+use Rattle.krb_der.specs.declared.message.Message.TheVariants as messages
+use Rattle.krb_der.specs.Body.{part}
+use Rattle.krb_der.specs.Message.{message, Encodes, Spells, SpellsPart}
+use Rattle.krb_der.specs.Size.{optional_size, carried}
+use Rattle.krb_der.specs.Safe.{safe, with_checksum}
+use Rattle.krb_der.proofs.Sizes.{small_part, small_safe, small_private, shorter_input}
+use Rattle.krb_seal.specs.Session.{IsShortAddress}
+use Rattle.krb_seal.specs.Draft.{IsSmall}
+
+-- a writing within the limit fails for want of memory alone
+memory_alone : {V : Type 0} (Spelt : V → List ℕ → Type 0) (spelling : V → List ℕ) (v : V) (r : Result (Vec ℕ) DerError)
+    → Encodes Spelt spelling v r → length (spelling v) ≤ frame_limit → (e : DerError) → r ≡ Err e → e ≡ errors.Memory
+memory_alone Spelt spelling v (Ok bytes) h le e is = absurd cc
+memory_alone Spelt spelling v (Err errors.TooLong) h le e is = absurd (omega arith)
+memory_alone Spelt spelling v (Err errors.Malformed) h le e is = absurd h
+memory_alone Spelt spelling v (Err errors.Memory) h le e is = cc
+
+optional-small : (r : Option HostAddress) → ForSome r IsShortAddress → optional_size r ≤ 32
+optional-small None h = omega arith
+optional-small (Some a) h = h a refl
+
+carried-small : (b : Body) → IsSmall b → carried b ≤ 60065
+carried-small b h = omega (arith, h.user, h.sender, optional-small b.r_addr h.receiver)
+
+pub memory_safe : (m : SafeMsg) (r : Result (Vec ℕ) DerError) → Encodes Spells message (messages.Safe m) r → IsSmall m.body → length m.checksum ≤ 12
+    → (e : DerError) → r ≡ Err e → e ≡ errors.Memory
+memory_safe m r h small sum = memory_alone Spells message (messages.Safe m) r h (omega (arith, small_safe m, carried-small m.body small))
+
+pub short_part : (b : Body) → IsSmall b → length (part b) ≤ 60265
+short_part b h = omega (arith, small_part b, carried-small b h)
+
+pub memory_part : (b : Body) (r : Result (Vec ℕ) DerError) → Encodes SpellsPart part b r → IsSmall b → (e : DerError) → r ≡ Err e → e ≡ errors.Memory
+memory_part b r h small = memory_alone SpellsPart part b r h (omega (arith, short_part b small))
+
+pub memory_priv : (m : PrivMsg) (r : Result (Vec ℕ) DerError) → Encodes Spells message (messages.Priv m) r → length m.cipher ≤ 60300
+    → (e : DerError) → r ≡ Err e → e ≡ errors.Memory
+memory_priv m r h size = memory_alone Spells message (messages.Priv m) r h (omega (arith, small_private m))
+
+-- what is under the checksum of a message that was read
+pub memory_input : (m : SafeMsg) (r : Result (Vec ℕ) DerError) → Encodes Spells message (messages.Safe (with_checksum m (pos 0) [])) r → length (safe m) ≤ frame_limit
+    → (e : DerError) → r ≡ Err e → e ≡ errors.Memory
+memory_input m r h short = memory_alone Spells message (messages.Safe (with_checksum m (pos 0) [])) r h (omega (arith, shorter_input m))

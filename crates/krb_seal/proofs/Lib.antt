@@ -1,0 +1,6 @@
+pub mod CipherTexts
+pub mod Outcomes
+pub mod SealedFrames
+pub mod Openings
+pub mod Frames
+pub mod Checking

@@ -1,0 +1,9 @@
+use Rattle.std.proofs.Common.{arith}
+use Rattle.krb_seal.proofs.Frames.{memory_safe}
+use Rattle.krb_seal.proofs.frame.safe_frame.Goals as goal
+
+pub within_limit-requires : goal.within_limit-requires
+within_limit-requires c = memory_safe _ c.encode_with_checksum.result c.encode_with_checksum.ensures c.requires.small (omega arith)
+
+pub within_limit-requires-2 : goal.within_limit-requires-2
+within_limit-requires-2 c = memory_safe _ c.encode_with_checksum-2.result c.encode_with_checksum-2.ensures c.requires.small (omega arith)

@@ -1,0 +1,12 @@
+-- A message that waits for its checksum, or for its encryption.
+use Rattle.std.specs.Prelude.{◌≤◌, length}
+use Rattle.std.specs.Option.{ForSome}
+use Rattle.krb_base.specs.Limits.{user_data_limit}
+use Rattle.krb_der.specs.declared.body.Body.{Body}
+use Rattle.krb_seal.specs.Session.{IsShortAddress}
+
+-- the data and the addresses of a body are within the limits
+pub record IsSmall (b : Body) : Type 0 where
+  pub user : length b.user_data ≤ user_data_limit
+  pub sender : IsShortAddress b.s_addr
+  pub receiver : ForSome b.r_addr IsShortAddress

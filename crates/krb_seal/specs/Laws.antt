@@ -1,0 +1,43 @@
+-- What holds of sealing and opening.
+use Rattle.std.specs.Prelude.{◌≡◌, ℕ, ◌*◌, ◌≤◌, ◌↔◌, ℤ, List, Option, Some, None, Ok, false}
+use Rattle.krb_aes.specs.Words.{AreBytes}
+use Rattle.krb_der.specs.declared.address.HostAddress.{HostAddress}
+use Rattle.krb_seal.specs.declared.session.Session.{Session}
+use Rattle.krb_seal.specs.declared.session.Expect.{Expect}
+use Rattle.krb_seal.specs.Seals.{Seals, sealed}
+use Rattle.krb_seal.specs.Opens.{OpenerState, Outcome, Opens, opener_of, distance}
+use Rattle.krb_seal.specs.Opening.{opens}
+
+-- each frame has one outcome at each number and moment, and `opens` is it
+abbrev pub OneOutcome : Type 0
+OneOutcome = (o : OpenerState) (number now : ℕ) (bytes : List ℕ) (outcome : Outcome)
+    → AreBytes bytes → Opens o number now bytes outcome ↔ (outcome ≡ opens o number now bytes)
+
+-- a sealed frame is one list of bytes
+abbrev pub OneFrame : Type 0
+OneFrame = (etype : ℤ) (key : List ℕ) (s : Session) (number : ℕ) (user : List ℕ) (at : ℕ) (conf bytes : List ℕ)
+    → Seals etype key s number user at conf bytes → bytes ≡ sealed etype key s number user at conf
+
+-- the receiver's address is told, or it is left out and not required
+abbrev pub ReceiverAgrees : Expect → Option HostAddress → Type 0
+ReceiverAgrees x None = x.require_r ≡ false
+ReceiverAgrees x (Some a) = a ≡ x.r_addr
+
+-- both ends speak of one mode and of the same addresses, and the moments lie within the skew
+pub record Agree (s : Session) (x : Expect) (at now : ℕ) : Type 0 where
+  pub mode : s.mode ≡ x.mode
+  pub sender : s.s_addr ≡ x.s_addr
+  pub receiver : ReceiverAgrees x s.r_addr
+  pub current : distance now at ≤ 1_000_000 * x.skew
+
+-- whatever an opener with the sealer's key expects, a sealed frame gives nothing but its data, at its own number
+abbrev pub NowhereElse : Type 0
+NowhereElse = (etype : ℤ) (key : List ℕ) (s : Session) (x : Expect) (q at now number : ℕ) (user conf bytes given : List ℕ)
+    → Seals etype key s q user at conf bytes
+    → Opens (opener_of etype key x) number now bytes (Ok given) → (number ≡ q) × (given ≡ user)
+
+-- and it gives its data at its own number where the ends agree
+abbrev pub AtItsNumber : Type 0
+AtItsNumber = (etype : ℤ) (key : List ℕ) (s : Session) (x : Expect) (q at now : ℕ) (user conf bytes : List ℕ)
+    → Seals etype key s q user at conf bytes → Agree s x at now
+    → Opens (opener_of etype key x) q now bytes (Ok user)

@@ -1,0 +1,15 @@
+pub mod Refusal
+pub mod SealError
+pub mod Session
+pub mod Keys
+pub mod Seals
+pub mod Sealer
+pub mod Etype
+pub mod HeldKeys
+pub mod KeysInside
+pub mod Opens
+pub mod Opening
+pub mod Draft
+pub mod SealingInside
+pub mod Unseals
+pub mod Laws

@@ -1,0 +1,154 @@
+-- What opening a frame gives: the user data, or the refusal of the first check that it fails
+-- (RFC 4120 sections 3.4.2 and 3.5.2; RFC 3961 section 5.3).
+use Rattle.std.specs.Prelude.{◌≡◌, ℕ, ◌+◌, ◌-◌, ◌*◌, ◌≤◌, ℤ, pos, List, [], ◌∷◌, ◌++◌, length, drop, Option, Some, None, Result, Ok, Err, Bool, true, false, not, ◌&&◌, ◌⊎◌, nat_le, nat_eq}
+use Rattle.std.specs.Ordering.{int_eq}
+use Rattle.std.specs.Str.{bytes_eq}
+use Rattle.krb_aes.specs.Words.{AreBytes}
+use Rattle.krb_aes.specs.Stealing.{cts_of}
+use Rattle.krb_base.specs.Limits.{frame_limit}
+use Rattle.krb_der.specs.declared.address.HostAddress.{HostAddress}
+use Rattle.krb_der.specs.declared.body.Body.{Body}
+use Rattle.krb_der.specs.declared.safe.SafeMsg.{SafeMsg}
+use Rattle.krb_der.specs.declared.private.PrivMsg.{PrivMsg}
+use Rattle.krb_der.specs.declared.message.Message.{Message}
+use Rattle.krb_der.specs.declared.message.Message.TheVariants as messages
+use Rattle.krb_der.specs.Moment.{moment_of}
+use Rattle.krb_der.specs.Message.{Spells, SpellsPart}
+use Rattle.krb_seal.specs.declared.session.Mode.{Mode}
+use Rattle.krb_seal.specs.declared.session.Mode.TheVariants.{Safe, Priv}
+use Rattle.krb_seal.specs.declared.session.Expect.{Expect}
+use Rattle.krb_seal.specs.declared.refusal.Refusal.{Refusal}
+use Rattle.krb_seal.specs.declared.refusal.Refusal.TheVariants.{FieldTooLong, Malformed, BadVersion, MsgType, EtypeNoSupp, BadIntegrity, InappCksum, BadAddr, Skew, BadOrder, Modified}
+use Rattle.krb_seal.specs.Keys.{encryption_key, tag_of}
+use Rattle.krb_seal.specs.Seals.{safe_checksum, checksum_type}
+
+-- what contracts see of an opener
+pub record OpenerState : Type 0 where
+  pub etype : ℤ
+  pub key : List ℕ
+  pub expect : Expect
+
+abbrev pub opener_of : ℤ → List ℕ → Expect → OpenerState
+opener_of etype key x = record { etype = etype; key = key; expect = x }
+
+-- the user data, or a refusal
+abbrev pub Outcome : Type 0
+Outcome = Result (List ℕ) Refusal
+
+-- ---- the tests
+
+abbrev pub same_address : HostAddress → HostAddress → Bool
+same_address a b = int_eq a.kind b.kind && bytes_eq a.bytes b.bytes
+
+abbrev pub receiver_fits : Expect → Option HostAddress → Bool
+receiver_fits x None = not x.require_r
+receiver_fits x (Some a) = same_address a x.r_addr
+
+abbrev pub addresses_fit : Expect → Body → Bool
+addresses_fit x b = same_address b.s_addr x.s_addr && receiver_fits x b.r_addr
+
+abbrev pub distance : ℕ → ℕ → ℕ
+distance a b = (a - b) + (b - a)
+
+-- in whole microseconds, and both ends of the window are current
+abbrev pub is_current : Expect → ℕ → Option ℕ → Option ℕ → Bool
+is_current x now (Some secs) (Some usec) = nat_le (distance now (moment_of secs usec)) (1_000_000 * x.skew)
+is_current x now None None = not x.expect_time
+is_current x now (Some secs) None = false
+is_current x now None (Some usec) = false
+
+abbrev pub is_number : ℕ → Option ℕ → Bool
+is_number number None = false
+is_number number (Some n) = nat_eq n number
+
+abbrev pub is_safe : Mode → Bool
+is_safe Safe = true
+is_safe Priv = false
+
+-- ---- the checks, in their order: a test, and the refusal where it is not met
+
+abbrev pub Checks : Type 0
+Checks = List (Bool × Refusal)
+
+abbrev pub frame_checks : List ℕ → Checks
+frame_checks bytes = (nat_le (length bytes) frame_limit, FieldTooLong) ∷ []
+
+-- of KRB-SAFE, before its body
+abbrev pub safe_header : ℤ → Expect → SafeMsg → Checks
+safe_header etype x m =
+    (int_eq m.pvno (pos 5), BadVersion)
+    ∷ (is_safe x.mode && int_eq m.msg_type (pos 20), MsgType)
+    ∷ (int_eq m.cksum_type (checksum_type etype), InappCksum)
+    ∷ []
+
+-- of KRB-PRIV, before it is deciphered
+abbrev pub priv_header : ℤ → Expect → PrivMsg → Checks
+priv_header etype x m =
+    (int_eq m.pvno (pos 5), BadVersion)
+    ∷ (not (is_safe x.mode) && int_eq m.msg_type (pos 21), MsgType)
+    ∷ (int_eq m.etype etype, EtypeNoSupp)
+    ∷ (nat_le 28 (length m.cipher), BadIntegrity)
+    ∷ []
+
+-- of what both kinds carry
+abbrev pub body_checks : Expect → ℕ → ℕ → Body → Checks
+body_checks x number now b =
+    (addresses_fit x b, BadAddr)
+    ∷ (is_current x now b.time b.usec, Skew)
+    ∷ (is_number number b.seq, BadOrder)
+    ∷ []
+
+-- of KRB-SAFE, all of them
+abbrev pub safe_checks : OpenerState → ℕ → ℕ → SafeMsg → Checks
+safe_checks o number now m =
+    safe_header o.etype o.expect m
+    ++ body_checks o.expect number now m.body
+    ++ (bytes_eq m.checksum (safe_checksum o.key m), Modified)
+    ∷ []
+
+-- of a deciphered text and the code that stood behind its cipher
+abbrev pub text_checks : List ℕ → List ℕ → List ℕ → Checks
+text_checks key text tag = (bytes_eq tag (tag_of key text), BadIntegrity) ∷ []
+
+-- ---- what an outcome is
+
+-- the refusal of the first test that is not met, else as Then says
+abbrev pub Passes : Checks → (Outcome → Type 0) → Outcome → Type 0
+Passes [] Then outcome = Then outcome
+Passes ((true, r) ∷ rest) Then outcome = Passes rest Then outcome
+Passes ((false, r) ∷ rest) Then outcome = outcome ≡ Err r
+
+-- Malformed where nothing is spelt so, else as Then says of the value
+abbrev pub Read : {V : Type 0} → (V → List ℕ → Type 0) → List ℕ → (V → Outcome → Type 0) → Outcome → Type 0
+Read Spelt bytes Then outcome =
+    (((v : _) → Spelt v bytes → ⊥) × (outcome ≡ Err Malformed)) ⊎ ((v : _) × Spelt v bytes × Then v outcome)
+
+-- the cipher is that of a text, followed by a code of 12 bytes
+pub record IsEncryption (key cipher text tag : List ℕ) : Type 0 where
+  pub bytes : AreBytes text
+  pub long : 16 ≤ length text
+  pub twelve : length tag ≡ 12
+  pub image : cipher ≡ cts_of (encryption_key key) text ++ tag
+
+-- as Then says of the one text and code of a cipher
+abbrev pub Decrypt : List ℕ → List ℕ → (List ℕ → List ℕ → Outcome → Type 0) → Outcome → Type 0
+Decrypt key cipher Then outcome =
+    (text : List ℕ) × (tag : List ℕ) × IsEncryption key cipher text tag × Then text tag outcome
+
+abbrev pub OpensPart : Expect → ℕ → ℕ → Body → Outcome → Type 0
+OpensPart x number now b outcome = Passes (body_checks x number now b) (λ y. y ≡ Ok b.user_data) outcome
+
+-- a text is its confounder of 16 bytes and the encrypted part
+abbrev pub OpensText : OpenerState → ℕ → ℕ → List ℕ → List ℕ → Outcome → Type 0
+OpensText o number now text tag outcome =
+    Passes (text_checks o.key text tag) (Read SpellsPart (drop 16 text) (OpensPart o.expect number now)) outcome
+
+abbrev pub OpensMessage : OpenerState → ℕ → ℕ → Message → Outcome → Type 0
+OpensMessage o number now (messages.Safe m) outcome =
+    Passes (safe_checks o number now m) (λ y. y ≡ Ok m.body.user_data) outcome
+OpensMessage o number now (messages.Priv m) outcome =
+    Passes (priv_header o.etype o.expect m) (Decrypt o.key m.cipher (OpensText o number now)) outcome
+
+-- The outcome of opening bytes at a demanded number and a moment.
+abbrev pub Opens : OpenerState → ℕ → ℕ → List ℕ → Outcome → Type 0
+Opens o number now bytes outcome = Passes (frame_checks bytes) (Read Spells bytes (OpensMessage o number now)) outcome

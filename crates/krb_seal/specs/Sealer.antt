@@ -1,0 +1,32 @@
+-- What a caller knows of a sealer.
+use Rattle.std.specs.Prelude.{◌≡◌, ℕ, ◌+◌, ◌≤◌, ℤ, List, length, replicate, Bool, true, false}
+use Rattle.krb_base.specs.Limits.{last_number}
+use Rattle.krb_seal.specs.declared.session.Session.{Session}
+use Rattle.krb_seal.specs.Seals.{Seals}
+
+pub record SealerState : Type 0 where
+  pub etype : ℤ
+  pub key : List ℕ
+  pub session : Session
+  pub next : ℕ
+  pub wiped : Bool
+
+-- one over the last number, which no message has
+abbrev pub end_of_numbers : ℕ
+end_of_numbers = last_number + 1
+
+-- a new sealer
+abbrev pub new_state : ℤ → List ℕ → Session → SealerState
+new_state etype key session = record { etype = etype; key = key; session = session; next = session.first; wiped = false }
+
+-- after a sealed frame
+abbrev pub advanced : SealerState → SealerState
+advanced s = record s { next = s.next + 1 }
+
+-- after a wipe
+abbrev pub wiped_state : SealerState → SealerState
+wiped_state s = record s { key = replicate (length s.key) 0; wiped = true }
+
+-- the bytes seal this data at the next number
+abbrev pub SealsNext : SealerState → List ℕ → ℕ → List ℕ → List ℕ → Type 0
+SealsNext s user at conf bytes = Seals s.etype s.key s.session s.next user at conf bytes

@@ -1,0 +1,74 @@
+-- What a frame is, from what it carries (RFC 4120 sections 3.4 and 3.5).
+use Rattle.std.specs.Prelude.{◌≡◌, ℕ, ℤ, pos, List, [], ◌++◌, length, Some, None, if◌then◌else◌}
+use Rattle.std.specs.Ordering.{int_eq}
+use Rattle.krb_aes.specs.Words.{AreBytes}
+use Rattle.krb_keys.specs.Hmac.{hmac96}
+use Rattle.krb_der.specs.declared.body.Body.{Body}
+use Rattle.krb_der.specs.declared.safe.SafeMsg.{SafeMsg}
+use Rattle.krb_der.specs.declared.private.PrivMsg.{PrivMsg}
+use Rattle.krb_der.specs.declared.message.Message.{Message}
+use Rattle.krb_der.specs.declared.message.Message.TheVariants as messages
+use Rattle.krb_der.specs.Moment.{secs_of, usec_of}
+use Rattle.krb_der.specs.Body.{part, IsBody}
+use Rattle.krb_der.specs.Safe.{safe, with_checksum}
+use Rattle.krb_der.specs.Message.{message, Spells}
+use Rattle.krb_seal.specs.declared.session.Mode.{Mode}
+use Rattle.krb_seal.specs.declared.session.Mode.TheVariants.{Safe, Priv}
+use Rattle.krb_seal.specs.declared.session.Session.{Session}
+use Rattle.krb_seal.specs.Keys.{checksum_key, encrypted}
+
+-- the checksum's type (RFC 3962 section 7): 15 for encryption type 17, 16 for 18
+abbrev pub checksum_type : ℤ → ℤ
+checksum_type etype = if int_eq etype (pos 17) then pos 15 else pos 16
+
+-- the bytes under the checksum of KRB-SAFE: the message with checksum type 0 and an empty checksum
+abbrev pub safe_input : SafeMsg → List ℕ
+safe_input m = safe (with_checksum m (pos 0) [])
+
+abbrev pub safe_checksum : List ℕ → SafeMsg → List ℕ
+safe_checksum key m = hmac96 (checksum_key key) (safe_input m)
+
+-- what a message carries: the data, its moment and number, and the session's addresses
+abbrev pub body_of : Session → ℕ → List ℕ → ℕ → Body
+body_of s number user at = record {
+  user_data = user;
+  time = Some (secs_of at);
+  usec = Some (usec_of at);
+  seq = Some number;
+  s_addr = s.s_addr;
+  r_addr = s.r_addr;
+}
+
+-- KRB-SAFE before it has its checksum
+abbrev pub unsigned : ℤ → Body → SafeMsg
+unsigned etype b = record { pvno = pos 5; msg_type = pos 20; body = b; cksum_type = checksum_type etype; checksum = [] }
+
+abbrev pub sealed_safe : ℤ → List ℕ → Body → SafeMsg
+sealed_safe etype key b = record (unsigned etype b) { checksum = safe_checksum key (unsigned etype b) }
+
+abbrev pub sealed_priv : ℤ → List ℕ → List ℕ → Body → PrivMsg
+sealed_priv etype key conf b = record { pvno = pos 5; msg_type = pos 21; etype = etype; kvno = None; cipher = encrypted key (conf ++ part b) }
+
+abbrev pub sealed_as : Mode → ℤ → List ℕ → List ℕ → Body → Message
+sealed_as Safe etype key conf b = messages.Safe (sealed_safe etype key b)
+sealed_as Priv etype key conf b = messages.Priv (sealed_priv etype key conf b)
+
+-- the message that carries data at a number and a moment, under a confounder
+abbrev pub sealed_message : ℤ → List ℕ → Session → ℕ → List ℕ → ℕ → List ℕ → Message
+sealed_message etype key s number user at conf = sealed_as s.mode etype key conf (body_of s number user at)
+
+-- its bytes
+unfoldable pub sealed : ℤ → List ℕ → Session → ℕ → List ℕ → ℕ → List ℕ → List ℕ
+sealed etype key s number user at conf = message (sealed_message etype key s number user at conf)
+
+-- The bytes are the message that carries a body: what goes in is in range, what is enciphered is bytes, and the
+-- message is spelt so.
+pub record SealsBody (mode : Mode) (etype : ℤ) (key conf : List ℕ) (b : Body) (bytes : List ℕ) : Type 0 where
+  pub body : IsBody b
+  pub confounder : length conf ≡ 16
+  pub plain : mode ≡ Priv → AreBytes (conf ++ part b)
+  pub spelt : Spells (sealed_as mode etype key conf b) bytes
+
+-- The bytes are the frame of this data at a number and a moment.
+abbrev pub Seals : ℤ → List ℕ → Session → ℕ → List ℕ → ℕ → List ℕ → List ℕ → Type 0
+Seals etype key s number user at conf bytes = SealsBody s.mode etype key conf (body_of s number user at) bytes

@@ -1,0 +1,123 @@
+//! The checks of a message, in their order.
+
+ghost use Rattle.std.specs.Prelude.{◌≡◌};
+ghost use Rattle.krb_der.specs.Body.{InRange};
+ghost use Rattle.krb_seal.specs.Etype.{number_of};
+ghost use Rattle.krb_seal.specs.Opens.{addresses_fit, body_checks, is_current, is_number, is_safe, priv_header, receiver_fits, safe_header, same_address};
+ghost use Rattle.krb_seal.specs.Unseals.{first_unmet, refusal_of};
+
+use crate::etype::Etype;
+use crate::refusal::Refusal;
+use crate::session::{Expect, Mode};
+use krb_der::{Body, HostAddress, PrivMsg, SafeMsg};
+
+/// The fewest bytes of a cipher: a confounder, and the code behind it.
+const LEAST_CIPHER: usize = 28;
+
+const MICROS_PER_SECOND: u64 = 1_000_000;
+
+fn same_address(a: &HostAddress, b: &HostAddress) -> bool
+    ensures { result ≡ same_address a.now b.now }
+{
+    a.kind == b.kind && a.bytes.as_slice() == b.bytes.as_slice()
+}
+
+fn receiver_fits(expect: &Expect, r_addr: &Option<HostAddress>) -> bool
+    ensures { result ≡ receiver_fits expect.now r_addr.now }
+{
+    match r_addr {
+        None => !expect.require_r,
+        Some(address) => same_address(address, &expect.r_addr),
+    }
+}
+
+fn addresses_fit(expect: &Expect, body: &Body) -> bool
+    ensures { result ≡ addresses_fit expect.now body.now }
+{
+    same_address(&body.s_addr, &expect.s_addr) && receiver_fits(expect, &body.r_addr)
+}
+
+fn is_current(expect: &Expect, now: u64, body: &Body) -> bool
+    requires { InRange body.now }
+    ensures { result ≡ is_current expect.now now body.now.time body.now.usec }
+{
+    match (body.time, body.usec) {
+        (Some(secs), Some(usec)) => {
+            let at = MICROS_PER_SECOND * secs + u64::from(usec);
+            now.abs_diff(at) <= MICROS_PER_SECOND * u64::from(expect.skew)
+        }
+        (None, None) => !expect.expect_time,
+        (Some(_), None) => false,
+        (None, Some(_)) => false,
+    }
+}
+
+fn is_number(number: u64, seq: Option<u32>) -> bool
+    ensures { result ≡ is_number number seq }
+{
+    match seq {
+        None => false,
+        Some(n) => u64::from(n) == number,
+    }
+}
+
+fn is_safe(mode: Mode) -> bool
+    ensures { result ≡ is_safe mode }
+{
+    match mode {
+        Mode::Safe => true,
+        Mode::Priv => false,
+    }
+}
+
+/// The version, the kind of message and the checksum's type of KRB-SAFE.
+pub fn check_safe_header(etype: Etype, expect: &Expect, m: &SafeMsg) -> Result<(), Refusal>
+    ensures { first_unmet (safe_header (number_of etype) expect.now m.now) ≡ refusal_of result }
+{
+    if m.pvno != 5 {
+        return Err(Refusal::BadVersion);
+    }
+    if !(is_safe(expect.mode) && m.msg_type == 20) {
+        return Err(Refusal::MsgType);
+    }
+    if m.cksum_type != etype.checksum_type() {
+        return Err(Refusal::InappCksum);
+    }
+    Ok(())
+}
+
+/// The version, the kind of message, the encryption type and the size of a cipher of KRB-PRIV.
+pub fn check_priv_header(etype: Etype, expect: &Expect, m: &PrivMsg) -> Result<(), Refusal>
+    ensures { first_unmet (priv_header (number_of etype) expect.now m.now) ≡ refusal_of result }
+{
+    if m.pvno != 5 {
+        return Err(Refusal::BadVersion);
+    }
+    if is_safe(expect.mode) || m.msg_type != 21 {
+        return Err(Refusal::MsgType);
+    }
+    if m.etype != etype.number() {
+        return Err(Refusal::EtypeNoSupp);
+    }
+    if m.cipher.as_slice().len() < LEAST_CIPHER {
+        return Err(Refusal::BadIntegrity);
+    }
+    Ok(())
+}
+
+/// The addresses, the time and the number of what both kinds carry.
+pub fn check_body(expect: &Expect, number: u64, now: u64, body: &Body) -> Result<(), Refusal>
+    requires { InRange body.now }
+    ensures { first_unmet (body_checks expect.now number now body.now) ≡ refusal_of result }
+{
+    if !addresses_fit(expect, body) {
+        return Err(Refusal::BadAddr);
+    }
+    if !is_current(expect, now, body) {
+        return Err(Refusal::Skew);
+    }
+    if !is_number(number, body.seq) {
+        return Err(Refusal::BadOrder);
+    }
+    Ok(())
+}

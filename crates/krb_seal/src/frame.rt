@@ -1,0 +1,108 @@
+//! A message and its protection.
+
+ghost use Rattle.std.specs.Prelude.{◌≡◌, ◌≤◌, ◌++◌, false, length, IfOk, OnOk};
+ghost use Rattle.krb_der.specs.Body.{InRange, IsBody, part};
+ghost use Rattle.krb_seal.specs.declared.session.Mode.TheVariants.{Safe, Priv};
+ghost use Rattle.krb_aes.specs.Words.{AreBytes};
+ghost use Rattle.krb_seal.specs.Etype.{number_of};
+ghost use Rattle.krb_seal.specs.Seals.{SealsBody, unsigned};
+ghost use Rattle.krb_seal.specs.Draft.{IsSmall};
+
+use crate::etype::Etype;
+use crate::keys::Keys;
+use crate::limit::within_limit;
+use crate::session::Mode;
+use krb_der::{Body, Bytes, PrivMsg, SafeMsg, encode_part, encode_priv};
+use std::alloc::{AllocError, Global};
+
+/// The KRB-SAFE of a draft.
+fn safe_frame(
+    alloc: Global,
+    keys: &Keys,
+    etype: Etype,
+    draft: &SafeMsg,
+    confounder: [u8; 16],
+) -> Result<Vec<u8>, AllocError>
+    requires live { keys.now.wiped ≡ false }
+    requires draft { draft.now ≡ unsigned (number_of etype) draft.now.body }
+    requires range { InRange draft.now.body }
+    requires small { IsSmall draft.now.body }
+    ensures { IfOk result (λ frame. SealsBody Safe (number_of etype) keys.now.key confounder
+        draft.now.body frame.items) }
+{
+    let covered = within_limit(draft.encode_with_checksum(alloc, 0, &[]))?;
+    let checksum = keys.checksum(&covered);
+    within_limit(draft.encode_with_checksum(alloc, etype.checksum_type(), &checksum))
+}
+
+/// What the type of its elements says.
+fn known_bytes(bytes: &[u8])
+    ensures { AreBytes bytes.now }
+{}
+
+/// A confounder and the encrypted part behind it, with room for the code.
+fn text_of(alloc: Global, body: &Body, confounder: [u8; 16]) -> Result<Vec<u8>, AllocError>
+    requires range { InRange body.now }
+    requires small { IsSmall body.now }
+    ensures value { IfOk result (λ text. text.items ≡ confounder ++ part body.now) }
+    ensures bytes { IfOk result (λ text. AreBytes text.items) }
+    ensures body { OnOk result (IsBody body.now) }
+    ensures short { IfOk result (λ text. length text.items ≤ 60281) }
+{
+    let part = within_limit(encode_part(alloc, body))?;
+    let mut text = Vec::with_capacity(alloc, confounder.len() + part.len() + 12)?;
+    text.extend_from_slice(&confounder)?;
+    text.extend_from_slice(&part)?;
+    known_bytes(&text);
+    Ok(text)
+}
+
+/// The KRB-PRIV that carries a body.
+fn priv_frame(
+    alloc: Global,
+    keys: &Keys,
+    etype: Etype,
+    body: &Body,
+    confounder: [u8; 16],
+) -> Result<Vec<u8>, AllocError>
+    requires live { keys.now.wiped ≡ false }
+    requires range { InRange body.now }
+    requires small { IsSmall body.now }
+    ensures { IfOk result (λ frame. SealsBody Priv (number_of etype) keys.now.key confounder
+        body.now frame.items) }
+{
+    let mut cipher = text_of(alloc, body, confounder)?;
+    let tag = keys.tag(&cipher);
+    keys.encipher(&mut cipher);
+    cipher.extend_from_slice(&tag)?;
+    let message = PrivMsg {
+        pvno: 5,
+        msg_type: 21,
+        etype: etype.number(),
+        kvno: None,
+        cipher: Bytes::new(cipher),
+    };
+    within_limit(encode_priv(alloc, &message))
+}
+
+/// The message of a draft in a mode.
+pub fn frame_of(
+    alloc: Global,
+    keys: &Keys,
+    etype: Etype,
+    mode: Mode,
+    draft: &SafeMsg,
+    confounder: [u8; 16],
+) -> Result<Vec<u8>, AllocError>
+    requires live { keys.now.wiped ≡ false }
+    requires draft { draft.now ≡ unsigned (number_of etype) draft.now.body }
+    requires range { InRange draft.now.body }
+    requires small { IsSmall draft.now.body }
+    ensures { IfOk result (λ frame. SealsBody mode (number_of etype) keys.now.key confounder
+        draft.now.body frame.items) }
+{
+    match mode {
+        Mode::Safe => safe_frame(alloc, keys, etype, draft, confounder),
+        Mode::Priv => priv_frame(alloc, keys, etype, &draft.body, confounder),
+    }
+}

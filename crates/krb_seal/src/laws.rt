@@ -1,0 +1,20 @@
+//! Laws of the definitions: what a user may rest on without reading any code.
+
+ghost use Rattle.krb_seal.specs.Laws.{OneOutcome, OneFrame, NowhereElse, AtItsNumber};
+
+/// Each frame has one outcome at each number and moment, and each message sealed has one frame.
+pub fn one_outcome()
+    ensures outcome { OneOutcome }
+    ensures frame { OneFrame }
+{}
+
+/// A frame opens at its own number alone.
+///
+/// Opened at any other number by an opener with the sealer's key and encryption type, whatever
+/// else that opener expects, a sealed frame is refused; at its own number it gives the data that
+/// was sealed or is refused (`nothing_else`). It gives the data where both ends agree on mode and
+/// addresses and the moment lies within the skew (`opens`).
+pub fn opens_at_its_number_alone()
+    ensures nothing_else { NowhereElse }
+    ensures opens { AtItsNumber }
+{}

@@ -1,0 +1,129 @@
+//! What both kinds of sealers share.
+
+ghost use Rattle.std.specs.Prelude.{◌≡◌, ◌≤◌, ◌<◌, ◌↔◌, true, false, length, IfOk, OnOk, OnErr};
+ghost use Rattle.krb_base.specs.Limits.{user_data_limit};
+ghost use Rattle.krb_seal.specs.Etype.{number_of};
+ghost use Rattle.krb_seal.specs.Session.{HasShortAddresses};
+ghost use Rattle.krb_seal.specs.Sealer.{SealerState, SealsNext, advanced, end_of_numbers, new_state, wiped_state};
+
+use crate::draft::{draft_of, take_back};
+use crate::etype::Etype;
+use crate::frame::frame_of;
+use crate::keys::Keys;
+use crate::seal_error::SealError;
+use crate::session::Session;
+use krb_aes::CipherKey;
+use krb_base::{LAST_NUMBER, USER_DATA_LIMIT};
+use krb_der::{Bytes, Moment};
+use std::alloc::Global;
+use std::marker::Model;
+
+/// The keys, the session and the next number of a sealer.
+///
+/// It isn't `Drop`: it ends by [`Sealing::spend`].
+pub struct Sealing {
+    etype: Etype,
+    keys: Keys,
+    session: Session,
+    next: u64,
+}
+
+impl Model for Sealing {
+    ghost use Rattle.krb_seal.specs.Sealer.{SealerState};
+
+    ghost Value = { SealerState };
+
+    ghost use Rattle.krb_seal.specs.SealingInside.{state_of, IsReady};
+
+    ghost view = { state_of };
+
+    ghost invariant = { IsReady };
+}
+
+impl Sealing {
+    /// A sealing that has sealed nothing.
+    pub fn new(etype: Etype, key: CipherKey, session: Session) -> Sealing
+        requires { HasShortAddresses session }
+        ensures { result ≡ new_state (number_of etype) key session }
+    {
+        Sealing {
+            etype,
+            keys: Keys::new(key),
+            next: u64::from(session.first),
+            session,
+        }
+    }
+
+    /// The number of the encryption type.
+    pub fn etype(&self) -> i32
+        ensures { result ≡ self.now.etype }
+    {
+        self.etype.number()
+    }
+
+    /// The next sequence number.
+    pub fn next(&self) -> u64
+        ensures value { result ≡ self.now.next }
+        ensures in_range { self.now.next ≤ end_of_numbers }
+    {
+        self.next
+    }
+
+    /// As [`Sealer::seal`](crate::Sealer::seal).
+    pub fn seal(
+        &mut self,
+        alloc: Global,
+        bytes: &[u8],
+        at: Moment,
+        confounder: [u8; 16],
+    ) -> Result<Vec<u8>, SealError>
+        ensures sealed { IfOk result (λ frame.
+            SealsNext self.old bytes.now at confounder frame.items) }
+        ensures advanced { OnOk result (self.new ≡ advanced self.old) }
+
+        ensures wiped { (result ≡ Err SealError.Wiped) ↔ (self.old.wiped ≡ true) }
+        ensures too_long { (result ≡ Err SealError.TooLong)
+            ↔ ((self.old.wiped ≡ false) × (user_data_limit < length bytes.now)) }
+        ensures exhausted { (result ≡ Err SealError.Exhausted)
+            ↔ ((self.old.wiped ≡ false) × (length bytes.now ≤ user_data_limit)
+            × (self.old.next ≡ end_of_numbers)) }
+        ensures unchanged { OnErr result (self.new ≡ self.old) }
+    {
+        if self.keys.is_wiped() {
+            return Err(SealError::Wiped);
+        }
+        if bytes.len() > USER_DATA_LIMIT {
+            return Err(SealError::TooLong);
+        }
+        if self.next > LAST_NUMBER {
+            return Err(SealError::Exhausted);
+        }
+        let user_data = Bytes::new(Vec::from_slice(alloc, bytes)?);
+        let number = self.next as u32;
+        let mode = self.session.mode;
+        let draft = draft_of(alloc, self.etype, &mut self.session, number, user_data, at);
+        let frame = frame_of(alloc, &self.keys, self.etype, mode, &draft, confounder);
+        take_back(&mut self.session, draft);
+        let frame = frame?;
+        self.next += 1;
+        Ok(frame)
+    }
+
+    /// Overwrites all keys.
+    pub fn wipe(&mut self)
+        ensures { self.new ≡ wiped_state self.old }
+    {
+        self.keys.wipe();
+    }
+
+    /// Overwrites and ends all keys.
+    pub fn spend(self) {
+        let Sealing {
+            etype: _,
+            keys,
+            session: _,
+            next: _,
+        } = self;
+        keys.spend();
+    }
+}

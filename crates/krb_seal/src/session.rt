@@ -1,0 +1,43 @@
+//! What both ends of a session agree on.
+
+use krb_der::HostAddress;
+
+/// How the texts of a session are protected.
+#[derive(Clone, Copy, Debug, PartialEq, Eq)]
+pub enum Mode {
+    /// By a checksum: the messages are KRB-SAFE (RFC 4120 section 3.4).
+    Safe,
+    /// By encryption: the messages are KRB-PRIV (RFC 4120 section 3.5).
+    Priv,
+}
+
+/// What a sealer writes into each message. An address has at most 32 bytes.
+#[derive(Debug, Drop)]
+pub struct Session {
+    /// The kind of message.
+    pub mode: Mode,
+    /// The sender's address.
+    pub s_addr: HostAddress,
+    /// The receiver's address, if the messages tell it.
+    pub r_addr: Option<HostAddress>,
+    /// The first sequence number.
+    pub first: u32,
+}
+
+/// What an opener demands of each message. An address has at most 32 bytes, and the skew is at
+/// most a day.
+#[derive(Debug, Drop)]
+pub struct Expect {
+    /// The kind of message.
+    pub mode: Mode,
+    /// The sender's address.
+    pub s_addr: HostAddress,
+    /// The receiver's address.
+    pub r_addr: HostAddress,
+    /// Whether a message must tell the receiver's address.
+    pub require_r: bool,
+    /// Whether a message must tell its time.
+    pub expect_time: bool,
+    /// How many seconds a message's time may be off.
+    pub skew: u32,
+}
