@@ -146,9 +146,6 @@ tagged-found tag (t ∷ rest) x fits e =
 
 -- ---- whole numbers
 
-eq-eqb' : (a b : ℕ) → a ≡ b → eqb a b ≡ true
-eq-eqb' a b e = rw e (eqb-same b)
-
 pub int-found : (content : List ℕ) (x : Bool × ℕ) → IsBytes content → int_of content ≡ Some x → content ≡ int_octets (signed x.0 x.1)
 unfolding int_of int_octets
 int-found content x fits e =

@@ -3,7 +3,7 @@ use Rattle.std.proofs.Common.{◌≡◌, ◌↔◌, ◌⊎◌, inl, inr, ℕ, ze
 use Rattle.std.proofs.lemmas.Bool.{lt-ltb}
 use Rattle.std.proofs.lemmas.List.{append-nil}
 use Rattle.krb_der.specs.Length.{length_octets}
-use Rattle.krb_der.specs.Element.{header, tagged, element_size, joined, sequence, octets}
+use Rattle.krb_der.specs.Element.{header, tagged, element_size, joined, sequence}
 use Rattle.krb_der.specs.Integer.{width, int_octets, integer}
 use Rattle.krb_der.specs.declared.safe.SafeMsg.{SafeMsg}
 use Rattle.krb_der.specs.Body.{body}
@@ -27,10 +27,6 @@ length-int_octets true n = length-complement _ ∙ length-big_endian (width n) n
 pub size-integer : (negative : Bool) (n w : ℕ) → w ≡ width n → w ≤ 5 → length (integer (signed negative n)) ≡ 2 + w
 size-integer negative n w e le =
     size-tagged 0x02 (int_octets (signed negative n)) ∙ ap element_size (length-int_octets negative n ∙ sym e) ∙ size-short w (omega arith)
-
--- an octet string under the tag of a field
-pub size-octets_field : (n : ℕ) (tag : ℕ) (bytes : List ℕ) → n ≡ element_size (element_size (length bytes)) → n ≡ length (tagged tag (octets bytes))
-size-octets_field n tag bytes e = e ∙ sym (size-tagged tag (octets bytes) ∙ ap element_size (size-tagged 0x04 bytes))
 
 -- ---- writing
 

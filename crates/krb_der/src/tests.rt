@@ -7,8 +7,8 @@ mod private;
 mod refusals;
 mod safe;
 
-use crate::{DerError, Message, PrivMsg, SafeMsg, decode};
-use std::alloc::Global;
+use crate::{Body, Bytes, DerError, Message, PrivMsg, SafeMsg, decode, encode_priv, encode_safe};
+use std::alloc::{AllocError, Global};
 
 /// Text 44 68 69 at 2023-11-14T22:13:20Z and 5 microseconds, number 7, from 10.0.0.1, with an empty
 /// checksum of type 0.
@@ -64,4 +64,60 @@ fn decode_priv(alloc: Global, bytes: &[u8]) -> Result<PrivMsg, DerError> {
         Message::Priv(m) => Ok(m),
         Message::Safe(_) => Err(DerError::Malformed),
     }
+}
+
+// The functions below have no contract and few calls, so that the tests which stand on them are
+// cheap to check.
+
+/// What `encode_safe` writes; `Malformed` for a body that is out of range.
+fn safe_spelling(alloc: Global, m: &SafeMsg) -> Result<Vec<u8>, DerError> {
+    if !m.body.in_range() {
+        return Err(DerError::Malformed);
+    }
+    encode_safe(alloc, m)
+}
+
+/// The message that the bytes spell, written again.
+fn safe_again(alloc: Global, bytes: &[u8]) -> Result<Vec<u8>, DerError> {
+    let m = decode_safe(alloc, bytes)?;
+    safe_spelling(alloc, &m)
+}
+
+/// What `encode_priv` writes.
+fn priv_spelling(alloc: Global, m: &PrivMsg) -> Result<Vec<u8>, DerError> {
+    encode_priv(alloc, m)
+}
+
+/// Whether these bytes were written.
+fn is_written(written: Result<Vec<u8>, DerError>, bytes: &[u8]) -> bool {
+    match written {
+        Ok(written) => written.as_slice() == bytes,
+        Err(_) => false,
+    }
+}
+
+/// How many bytes were written.
+fn size(written: Result<Vec<u8>, DerError>) -> Result<usize, DerError> {
+    Ok(written?.len())
+}
+
+/// Whether the body has this text, time and number.
+fn carries(body: &Body, text: &[u8], time: (Option<u64>, Option<u32>), seq: Option<u32>) -> bool {
+    body.user_data.as_slice() == text && (body.time, body.usec) == time && body.seq == seq
+}
+
+/// So many bytes, all the same.
+fn repeated(alloc: Global, byte: u8, count: usize) -> Result<Bytes, AllocError> {
+    Ok(Bytes::new(vec![in alloc; byte; count]?))
+}
+
+/// Gives the body a text of so many bytes, all the same.
+fn set_text(alloc: Global, body: &mut Body, byte: u8, count: usize) -> Result<(), AllocError> {
+    body.user_data = repeated(alloc, byte, count)?;
+    Ok(())
+}
+
+/// Whether the bytes from `start` on begin with the element.
+fn is_at(bytes: &[u8], start: usize, element: &[u8]) -> bool {
+    bytes.get(start..).unwrap_or(&[]).starts_with(element)
 }

@@ -152,6 +152,13 @@ pub fn kerberos_time_names_its_second()
 mod tests {
     use super::*;
 
+    /// Whether the text is written for the second, and the second read of it.
+    fn is_time_of(secs: u64, text: &[u8; 15]) -> bool {
+        secs <= LAST_SECOND
+            && kerberos_time(secs) == *text
+            && read_kerberos_time(text) == Some(secs)
+    }
+
     // The seconds are those of Python's datetime. The time of 1985 is the example of RFC 4120
     // section 5.2.3, "6 minutes, 27 seconds after 9 pm on 6 November 1985".
     #[test]
@@ -168,9 +175,7 @@ mod tests {
             (4_294_967_296, b"21060207062816Z"),
             (253_402_300_799, b"99991231235959Z"),
         ] {
-            assert!(rt; secs <= LAST_SECOND);
-            assert_eq!(rt; kerberos_time(secs), *text, "at {secs}");
-            assert_eq!(rt; read_kerberos_time(text), Some(secs), "at {secs}");
+            assert!(rt; is_time_of(secs, text), "at {secs}");
         }
     }
 
@@ -198,7 +203,7 @@ mod tests {
             b"19691231235959Z",
         ];
         for (at, text) in refused.iter().enumerate() {
-            assert_eq!(rt; read_kerberos_time(text), None, "at {at}");
+            assert!(rt; read_kerberos_time(text).is_none(), "at {at}");
         }
     }
 }

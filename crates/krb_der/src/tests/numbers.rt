@@ -1,32 +1,59 @@
-use super::{PRIV, SAFE, decode_priv, decode_safe};
-use crate::{encode_priv, encode_safe};
-use std::test::Fail;
+use super::{PRIV, SAFE, decode_priv, decode_safe, is_at, priv_spelling, safe_spelling};
+use crate::{DerError, SafeMsg};
+use std::alloc::Global;
+
+fn spelling_with_pvno(alloc: Global, pvno: i32) -> Result<Vec<u8>, DerError> {
+    let mut m = decode_priv(alloc, &PRIV)?;
+    m.pvno = pvno;
+    priv_spelling(alloc, &m)
+}
+
+fn pvno_of(alloc: Global, bytes: &[u8]) -> Result<i32, DerError> {
+    Ok(decode_priv(alloc, bytes)?.pvno)
+}
 
 /// The protocol version is spelt so, and read back.
-fn is_int32(rt: &HostRuntime, z: i32, element: &[u8]) -> Result<bool, Fail> {
-    let mut m = decode_priv(rt.alloc(), &PRIV)?;
-    m.pvno = z;
-    let bytes = encode_priv(rt.alloc(), &m)?;
-    let again = decode_priv(rt.alloc(), bytes.as_slice())?;
-    let field = bytes.get(6..).unwrap_or(&[]);
-    Ok(field.starts_with(element) && again.pvno == z)
+fn is_int32(alloc: Global, z: i32, element: &[u8]) -> Result<bool, DerError> {
+    let bytes = spelling_with_pvno(alloc, z)?;
+    let again = pvno_of(alloc, bytes.as_slice())?;
+    Ok(is_at(bytes.as_slice(), 6, element) && again == z)
+}
+
+/// The message `SAFE` with these numbers.
+fn with_numbers(
+    alloc: Global,
+    time: Option<u64>,
+    usec: Option<u32>,
+    seq: Option<u32>,
+) -> Result<SafeMsg, DerError> {
+    let mut m = decode_safe(alloc, &SAFE)?;
+    m.body.time = time;
+    m.body.usec = usec;
+    m.body.seq = seq;
+    Ok(m)
+}
+
+/// That message, written.
+fn spelling(alloc: Global, usec: Option<u32>, seq: Option<u32>) -> Result<Vec<u8>, DerError> {
+    let m = with_numbers(alloc, Some(1_700_000_000), usec, seq)?;
+    safe_spelling(alloc, &m)
+}
+
+/// The microseconds and the sequence number of the message that the bytes spell.
+fn numbers_of(alloc: Global, bytes: &[u8]) -> Result<(Option<u32>, Option<u32>), DerError> {
+    let m = decode_safe(alloc, bytes)?;
+    Ok((m.body.usec, m.body.seq))
 }
 
 /// The sequence number is spelt so, and read back.
-fn is_uint32(rt: &HostRuntime, n: u32, element: &[u8]) -> Result<bool, Fail> {
-    let mut m = decode_safe(rt.alloc(), &SAFE)?;
-    m.body.seq = Some(n);
-    if !m.body.in_range() {
-        return Ok(false);
-    }
-    let bytes = encode_safe(rt.alloc(), &m)?;
-    let again = decode_safe(rt.alloc(), bytes.as_slice())?;
-    let field = bytes.get(51..).unwrap_or(&[]);
-    Ok(field.starts_with(element) && again.body.seq == Some(n))
+fn is_uint32(alloc: Global, n: u32, element: &[u8]) -> Result<bool, DerError> {
+    let bytes = spelling(alloc, Some(5), Some(n))?;
+    let (_, again) = numbers_of(alloc, bytes.as_slice())?;
+    Ok(is_at(bytes.as_slice(), 51, element) && again == Some(n))
 }
 
 #[test]
-fn integers_have_the_fewest_octets(rt: HostRuntime) -> Result<(), Fail> {
+fn integers_have_the_fewest_octets(rt: HostRuntime) {
     let int32s: [(i32, &[u8]); 9] = [
         (0, &[0x02, 0x01, 0x00]),
         (127, &[0x02, 0x01, 0x7f]),
@@ -39,7 +66,7 @@ fn integers_have_the_fewest_octets(rt: HostRuntime) -> Result<(), Fail> {
         (i32::MIN, &[0x02, 0x04, 0x80, 0x00, 0x00, 0x00]),
     ];
     for (z, element) in int32s {
-        assert!(rt; is_int32(&rt, z, element)?, "{z}");
+        assert!(rt; is_int32(rt.alloc(), z, element) == Ok(true), "{z}");
     }
     let uint32s: [(u32, &[u8]); 3] = [
         (0, &[0x02, 0x01, 0x00]),
@@ -47,23 +74,27 @@ fn integers_have_the_fewest_octets(rt: HostRuntime) -> Result<(), Fail> {
         (u32::MAX, &[0x02, 0x05, 0x00, 0xff, 0xff, 0xff, 0xff]),
     ];
     for (n, element) in uint32s {
-        assert!(rt; is_uint32(&rt, n, element)?, "{n}");
+        assert!(rt; is_uint32(rt.alloc(), n, element) == Ok(true), "{n}");
     }
-    Ok(())
+}
+
+/// Whether the microseconds are written and read back.
+fn is_usec(alloc: Global, usec: u32) -> Result<bool, DerError> {
+    let bytes = spelling(alloc, Some(usec), Some(7))?;
+    let (again, _) = numbers_of(alloc, bytes.as_slice())?;
+    Ok(again == Some(usec))
+}
+
+/// Whether a body is in range at this time.
+fn is_in_range(alloc: Global, time: u64, usec: Option<u32>) -> Result<bool, DerError> {
+    let m = with_numbers(alloc, Some(time), usec, Some(7))?;
+    Ok(m.body.in_range())
 }
 
 #[test]
-fn microseconds_end_below_a_second(rt: HostRuntime) -> Result<(), Fail> {
-    let mut m = decode_safe(rt.alloc(), &SAFE)?;
-    m.body.usec = Some(999_999);
-    assert!(rt; m.body.in_range());
-    let bytes = encode_safe(rt.alloc(), &m)?;
-    let again = decode_safe(rt.alloc(), bytes.as_slice())?;
-    assert_eq!(rt; again.body.usec, Some(999_999));
-    m.body.usec = Some(1_000_000);
-    assert!(rt; !m.body.in_range());
-    m.body.usec = None;
-    m.body.time = Some(253_402_300_800);
-    assert!(rt; !m.body.in_range());
-    Ok(())
+fn microseconds_end_below_a_second(rt: HostRuntime) {
+    assert!(rt; is_usec(rt.alloc(), 999_999) == Ok(true));
+    assert!(rt; is_in_range(rt.alloc(), 1_700_000_000, Some(999_999)) == Ok(true));
+    assert!(rt; is_in_range(rt.alloc(), 1_700_000_000, Some(1_000_000)) == Ok(false));
+    assert!(rt; is_in_range(rt.alloc(), 253_402_300_800, None) == Ok(false));
 }

@@ -1,63 +1,97 @@
-use super::{PART, PRIV, PRIV_WITH_KVNO, SAFE, decode_priv, decode_safe};
-use crate::{Bytes, DerError, decode_part, encode_part, encode_priv, unique_spelling};
-use std::test::Fail;
+use super::{
+    PART, PRIV, PRIV_WITH_KVNO, SAFE, carries, decode_priv, decode_safe, is_written, priv_spelling,
+    repeated, set_text, size,
+};
+use crate::{Body, DerError, HostAddress, decode_part, encode_part, unique_spelling};
+use std::alloc::Global;
 
-#[test]
-fn message_is_read_and_written_back(rt: HostRuntime) -> Result<(), Fail> {
-    let m = decode_priv(rt.alloc(), &PRIV)?;
-    assert_eq!(rt; m.pvno, 5);
-    assert_eq!(rt; m.msg_type, 21);
-    assert_eq!(rt; m.etype, 17);
-    assert_eq!(rt; m.kvno, None);
-    assert_eq!(rt; m.cipher.as_slice().len(), 0);
-    assert_eq!(rt; encode_priv(rt.alloc(), &m)?.as_slice(), PRIV.as_slice());
-    Ok(())
+/// Whether the bytes spell a message of protocol version 5, kind 21 and encryption type 17 with
+/// an empty cipher, under this version of the key.
+fn is_read(alloc: Global, bytes: &[u8], kvno: Option<u32>) -> Result<bool, DerError> {
+    let m = decode_priv(alloc, bytes)?;
+    Ok(
+        (m.pvno, m.msg_type, m.etype) == (5, 21, 17)
+            && m.kvno == kvno
+            && m.cipher.as_slice().is_empty(),
+    )
+}
+
+/// The message that the bytes spell, written again.
+fn priv_again(alloc: Global, bytes: &[u8]) -> Result<Vec<u8>, DerError> {
+    let m = decode_priv(alloc, bytes)?;
+    priv_spelling(alloc, &m)
 }
 
 #[test]
-fn key_version_is_read_and_written_back(rt: HostRuntime) -> Result<(), Fail> {
-    let m = decode_priv(rt.alloc(), &PRIV_WITH_KVNO)?;
-    assert_eq!(rt; m.kvno, Some(3));
-    assert_eq!(rt;
-        encode_priv(rt.alloc(), &m)?.as_slice(),
-        PRIV_WITH_KVNO.as_slice()
-    );
-    Ok(())
+fn message_is_read_and_written_back(rt: HostRuntime) {
+    assert!(rt; is_read(rt.alloc(), &PRIV, None) == Ok(true));
+    assert!(rt; is_written(priv_again(rt.alloc(), &PRIV), &PRIV));
 }
 
 #[test]
-fn part_is_the_body_of_the_message(rt: HostRuntime) -> Result<(), Fail> {
-    let m = decode_safe(rt.alloc(), &SAFE)?;
-    assert!(rt; m.body.in_range());
-    assert_eq!(rt;
-        encode_part(rt.alloc(), &m.body)?.as_slice(),
-        PART.as_slice()
-    );
-    let body = decode_part(rt.alloc(), &PART)?;
-    assert_eq!(rt; body.user_data.as_slice(), [0x44, 0x68, 0x69].as_slice());
-    assert_eq!(rt; body.time, Some(1_700_000_000));
-    assert_eq!(rt; body.usec, Some(5));
-    assert_eq!(rt; body.seq, Some(7));
-    assert!(rt; body.s_addr.same(&m.body.s_addr));
-    assert!(rt; body.r_addr.is_none());
-    Ok(())
+fn key_version_is_read_and_written_back(rt: HostRuntime) {
+    assert!(rt; is_read(rt.alloc(), &PRIV_WITH_KVNO, Some(3)) == Ok(true));
+    let again = priv_again(rt.alloc(), &PRIV_WITH_KVNO);
+    assert!(rt; is_written(again, &PRIV_WITH_KVNO));
+}
+
+/// What `encode_part` writes; `Malformed` for a body that is out of range.
+fn part_spelling(alloc: Global, body: &Body) -> Result<Vec<u8>, DerError> {
+    if !body.in_range() {
+        return Err(DerError::Malformed);
+    }
+    encode_part(alloc, body)
+}
+
+/// The body of the message that the bytes spell, written as an encrypted part.
+fn part_of(alloc: Global, bytes: &[u8]) -> Result<Vec<u8>, DerError> {
+    let m = decode_safe(alloc, bytes)?;
+    part_spelling(alloc, &m.body)
+}
+
+/// Whether the address is that of the message's sender.
+fn is_sender(alloc: Global, address: &HostAddress, bytes: &[u8]) -> Result<bool, DerError> {
+    let m = decode_safe(alloc, bytes)?;
+    Ok(address.same(&m.body.s_addr))
+}
+
+/// Whether the part is read with text, time, number and sender of `SAFE`, and no receiver.
+fn is_part_read(alloc: Global, part: &[u8]) -> Result<bool, DerError> {
+    let body = decode_part(alloc, part)?;
+    let time = (Some(1_700_000_000), Some(5));
+    Ok(
+        carries(&body, &[0x44, 0x68, 0x69], time, Some(7))
+            && is_sender(alloc, &body.s_addr, &SAFE)?
+            && body.r_addr.is_none(),
+    )
 }
 
 #[test]
-fn what_is_over_the_limit_is_not_written(rt: HostRuntime) -> Result<(), Fail> {
-    let mut m = decode_priv(rt.alloc(), &PRIV)?;
-    m.cipher = Bytes::new(vec![in rt.alloc(); 0; 65_000 - 39]?);
-    assert_eq!(rt; encode_priv(rt.alloc(), &m)?.len(), 65_000);
-    m.cipher = Bytes::new(vec![in rt.alloc(); 0; 65_000 - 38]?);
-    assert_eq!(rt; encode_priv(rt.alloc(), &m).err(), Some(DerError::TooLong));
-    let mut body = decode_part(rt.alloc(), &PART)?;
-    body.user_data = Bytes::new(vec![in rt.alloc(); 0; 65_001]?);
-    assert!(rt; body.in_range());
-    assert_eq!(rt;
-        encode_part(rt.alloc(), &body).err(),
-        Some(DerError::TooLong)
-    );
-    Ok(())
+fn part_is_the_body_of_the_message(rt: HostRuntime) {
+    assert!(rt; is_written(part_of(rt.alloc(), &SAFE), &PART));
+    assert!(rt; is_part_read(rt.alloc(), &PART) == Ok(true));
+}
+
+/// What `encode_priv` answers for a cipher of so many bytes: how many the message has, or the
+/// error.
+fn size_with_cipher(alloc: Global, count: usize) -> Result<usize, DerError> {
+    let mut m = decode_priv(alloc, &PRIV)?;
+    m.cipher = repeated(alloc, 0, count)?;
+    size(priv_spelling(alloc, &m))
+}
+
+/// The same of `encode_part` for a text of so many bytes.
+fn size_of_part_with_text(alloc: Global, count: usize) -> Result<usize, DerError> {
+    let mut body = decode_part(alloc, &PART)?;
+    set_text(alloc, &mut body, 0, count)?;
+    size(part_spelling(alloc, &body))
+}
+
+#[test]
+fn what_is_over_the_limit_is_not_written(rt: HostRuntime) {
+    assert!(rt; size_with_cipher(rt.alloc(), 65_000 - 39) == Ok(65_000));
+    assert!(rt; size_with_cipher(rt.alloc(), 65_000 - 38) == Err(DerError::TooLong));
+    assert!(rt; size_of_part_with_text(rt.alloc(), 65_001) == Err(DerError::TooLong));
 }
 
 #[test]
