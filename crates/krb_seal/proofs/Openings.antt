@@ -1,12 +1,11 @@
 -- What the function `opens` gives is the outcome.
-use Rattle.std.proofs.Common.{◌≡◌, ℕ, zero, suc, ◌+◌, ◌-◌, ◌<◌, ◌≤◌, Bool, true, false, List, [], ◌∷◌, ◌++◌, length, take, drop, get_or, Option, Some, None, Result, Ok, Err, refl, sym, ap, subst, ◌∙◌, inl, inr, arith, ◌⊎◌, length-drop, length-append}
+use Rattle.std.proofs.Common.{◌≡◌, ℕ, zero, suc, ◌-◌, ◌<◌, ◌≤◌, true, false, List, [], ◌∷◌, ◌++◌, length, take, drop, get_or, Option, Some, None, Ok, refl, sym, ap, subst, ◌∙◌, inl, inr, arith, length-drop, length-append}
 use Rattle.std.proofs.lemmas.List.{take-append-drop, length-take-le}
 use Rattle.std.proofs.lemmas.Bool.{leb-true}
 use Rattle.std.proofs.lemmas.Option.{none-some}
 use Rattle.krb_aes.specs.Words.{AreBytes}
 use Rattle.krb_aes.specs.Keys.{expanded_key}
 use Rattle.krb_aes.specs.Stealing.{cts}
-use Rattle.krb_aes.specs.Unstealing.{uncts}
 use Rattle.krb_aes.proofs.StealingLemmas.{cts_is, length-cts}
 use Rattle.krb_aes.proofs.Opening.{uncts_is}
 use Rattle.krb_aes.proofs.UniqueLemmas.{AreBytes-take, AreBytes-drop}
@@ -19,9 +18,9 @@ use Rattle.krb_der.specs.Tag.{context, application, sequence_tag, octet_string_t
 use Rattle.krb_der.specs.Length.{length_octets}
 use Rattle.krb_der.specs.Element.{header, tagged, octets, optional, joined, sequence}
 use Rattle.krb_der.specs.Integer.{integer, natural}
-use Rattle.krb_der.specs.Body.{part, IsBody}
+use Rattle.krb_der.specs.Body.{part}
 use Rattle.krb_der.specs.Private.{private, private_fields, encrypted_data, encrypted_fields}
-use Rattle.krb_der.specs.Message.{message, IsMessage, Spells, SpellsPart}
+use Rattle.krb_der.specs.Message.{message, Spells, SpellsPart}
 use Rattle.krb_der.specs.Reading.{message_of, part_of}
 use Rattle.krb_der.proofs.Grammar.{message_reads, part_reads}
 use Rattle.krb_seal.specs.Keys.{encryption_key}

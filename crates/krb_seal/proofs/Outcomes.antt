@@ -1,11 +1,10 @@
 -- Each input has one outcome.
-use Rattle.std.proofs.Common.{◌≡◌, ℕ, Bool, true, false, List, [], ◌∷◌, ◌++◌, drop, Option, Some, None, Result, Ok, Err, refl, sym, ap, subst, ◌∙◌, inl, inr, arith, ◌⊎◌}
+use Rattle.std.proofs.Common.{◌≡◌, ℕ, true, false, List, [], ◌∷◌, drop, Ok, refl, sym, subst, ◌∙◌, inl, inr}
 use Rattle.krb_der.specs.declared.message.Message.{Message}
 use Rattle.krb_der.specs.declared.message.Message.TheVariants as messages
 use Rattle.krb_der.specs.Message.{Spells, SpellsPart, UniqueSpelling}
 use Rattle.krb_der.proofs.Grammar.{messages_unique, parts_unique}
-use Rattle.krb_seal.specs.declared.refusal.Refusal.{Refusal}
-use Rattle.krb_seal.specs.Opens.{OpenerState, Outcome, Checks, Passes, Read, Decrypt, IsEncryption, OpensPart, OpensText, OpensMessage, Opens, frame_checks, safe_checks, priv_header, text_checks, body_checks}
+use Rattle.krb_seal.specs.Opens.{OpenerState, Outcome, Checks, Passes, Read, Decrypt, OpensPart, OpensText, OpensMessage, Opens, frame_checks, safe_checks, priv_header, text_checks, body_checks}
 use Rattle.krb_seal.proofs.CipherTexts.{one_text}
 
 abbrev pub Unique : (Outcome → Type 0) → Type 0

@@ -1,12 +1,12 @@
 -- What opening a sealed frame gives.
-use Rattle.std.proofs.Common.{◌≡◌, ℕ, suc, ◌+◌, ◌-◌, ◌*◌, ◌/◌, ◌%◌, ◌<◌, ◌≤◌, ℤ, pos, Bool, true, false, not, ◌&&◌, List, [], ◌∷◌, ◌++◌, length, drop, Option, Some, None, Result, Ok, Err, refl, sym, ap, ap₂, subst, ◌∙◌, inl, inr, arith, ◌⊎◌, length-append}
+use Rattle.std.proofs.Common.{◌≡◌, ℕ, ◌*◌, ◌≤◌, ℤ, Bool, true, false, not, ◌&&◌, List, [], ◌∷◌, ◌++◌, length, drop, Option, Some, None, Ok, refl, sym, ap, subst, ◌∙◌, inl, inr, arith, length-append}
 use Rattle.std.specs.Ordering.{int_eq}
 use Rattle.std.specs.Str.{bytes_eq}
 use Rattle.std.proofs.lemmas.Bool.{eqb-true, eq-eqb, le-leb}
 use Rattle.std.proofs.lemmas.Bool.Decides.{Decides-int_eq}
 use Rattle.std.proofs.lemmas.Slice.Eq.{bytes_eq-Decides}
 use Rattle.std.proofs.lemmas.List.{drop_at}
-use Rattle.krb_aes.specs.Stealing.{cts, cts_of}
+use Rattle.krb_aes.specs.Stealing.{cts}
 use Rattle.krb_aes.specs.Keys.{expanded_key}
 use Rattle.krb_aes.proofs.StealingLemmas.{length-cts}
 use Rattle.krb_keys.proofs.HmacLemmas.{length-hmac96}
@@ -31,7 +31,7 @@ use Rattle.krb_seal.specs.declared.session.Session.{Session}
 use Rattle.krb_seal.specs.declared.session.Expect.{Expect}
 use Rattle.krb_seal.specs.Keys.{encryption_key, tag_of, encrypted}
 use Rattle.krb_seal.specs.Seals.{safe_checksum, checksum_type, body_of, sealed_safe, sealed_priv, sealed_as, sealed_message, sealed, Seals}
-use Rattle.krb_seal.specs.Opens.{OpenerState, Outcome, Checks, Passes, Read, Decrypt, IsEncryption, OpensPart, OpensText, OpensMessage, Opens, opener_of, frame_checks, safe_checks, priv_header, text_checks, body_checks, same_address, receiver_fits, addresses_fit, is_current, is_number, is_safe, distance}
+use Rattle.krb_seal.specs.Opens.{OpenerState, Outcome, Checks, Passes, Read, Decrypt, IsEncryption, OpensPart, OpensText, OpensMessage, opener_of, frame_checks, safe_checks, priv_header, text_checks, body_checks, same_address, receiver_fits, addresses_fit, is_current, is_number, is_safe, distance}
 use Rattle.krb_seal.specs.Laws.{ReceiverAgrees, Agree, OneFrame, NowhereElse, AtItsNumber}
 use Rattle.krb_seal.proofs.CipherTexts.{one_text}
 

@@ -1,5 +1,5 @@
 -- What a caller knows of a sealer.
-use Rattle.std.specs.Prelude.{◌≡◌, ℕ, ◌+◌, ◌≤◌, ℤ, List, length, replicate, Bool, true, false}
+use Rattle.std.specs.Prelude.{ℕ, ◌+◌, ℤ, List, length, replicate, Bool, true, false}
 use Rattle.krb_base.specs.Limits.{last_number}
 use Rattle.krb_seal.specs.declared.session.Session.{Session}
 use Rattle.krb_seal.specs.Seals.{Seals}
