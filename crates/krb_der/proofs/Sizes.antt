@@ -48,8 +48,16 @@ unfolding typed_octets
 typed-small kind bytes =
     let k : List ℕ = tagged (context 0) (integer kind) in
     let b : List ℕ = tagged (context 1) (octets bytes) in
-    omega (arith, integer-small kind, tagged-short (context 0) (integer kind), tagged-short octet_string_tag bytes, tagged-short (context 1) (octets bytes),
-      length-append b [], length-append k (joined (b ∷ [])), tagged-short sequence_tag (joined (typed_fields kind bytes)))
+    omega (
+      arith,
+      integer-small kind,
+      tagged-short (context 0) (integer kind),
+      tagged-short octet_string_tag bytes,
+      tagged-short (context 1) (octets bytes),
+      length-append b [],
+      length-append k (joined (b ∷ [])),
+      tagged-short sequence_tag (joined (typed_fields kind bytes)),
+    )
 
 address-small : (tag : ℕ) (o : Option HostAddress) → length (optional tag host_address o) ≤ optional_size o + 35
 address-small tag None = omega arith
@@ -64,10 +72,24 @@ body-small b =
     let number : List ℕ = optional (context 3) natural b.seq in
     let sender : List ℕ = tagged (context 4) (host_address b.s_addr) in
     let receiver : List ℕ = optional (context 5) host_address b.r_addr in
-    omega (arith, tagged-short octet_string_tag b.user_data, tagged-short (context 0) (octets b.user_data), time-small (context 1) b.time, natural-small (context 2) b.usec, natural-small (context 3) b.seq,
-      typed-small b.s_addr.kind b.s_addr.bytes, tagged-short (context 4) (host_address b.s_addr), address-small (context 5) b.r_addr,
-      length-append receiver [], length-append sender (joined (receiver ∷ [])), length-append number (joined (sender ∷ receiver ∷ [])), length-append usec (joined (number ∷ sender ∷ receiver ∷ [])),
-      length-append secs (joined (usec ∷ number ∷ sender ∷ receiver ∷ [])), length-append user (joined (secs ∷ usec ∷ number ∷ sender ∷ receiver ∷ [])), tagged-short sequence_tag (joined (body_fields b)))
+    omega (
+      arith,
+      tagged-short octet_string_tag b.user_data,
+      tagged-short (context 0) (octets b.user_data),
+      time-small (context 1) b.time,
+      natural-small (context 2) b.usec,
+      natural-small (context 3) b.seq,
+      typed-small b.s_addr.kind b.s_addr.bytes,
+      tagged-short (context 4) (host_address b.s_addr),
+      address-small (context 5) b.r_addr,
+      length-append receiver [],
+      length-append sender (joined (receiver ∷ [])),
+      length-append number (joined (sender ∷ receiver ∷ [])),
+      length-append usec (joined (number ∷ sender ∷ receiver ∷ [])),
+      length-append secs (joined (usec ∷ number ∷ sender ∷ receiver ∷ [])),
+      length-append user (joined (secs ∷ usec ∷ number ∷ sender ∷ receiver ∷ [])),
+      tagged-short sequence_tag (joined (body_fields b)),
+    )
 
 pub small_part : SmallPart
 small_part b = omega (arith, body-small b, tagged-short (application 28) (body b))
@@ -78,9 +100,23 @@ small_safe m =
     let kind : List ℕ = tagged (context 1) (integer m.msg_type) in
     let inner : List ℕ = tagged (context 2) (body m.body) in
     let sum : List ℕ = tagged (context 3) (checksum m.cksum_type m.checksum) in
-    omega (arith, integer-small m.pvno, tagged-short (context 0) (integer m.pvno), integer-small m.msg_type, tagged-short (context 1) (integer m.msg_type), body-small m.body, tagged-short (context 2) (body m.body),
-      typed-small m.cksum_type m.checksum, tagged-short (context 3) (checksum m.cksum_type m.checksum), length-append sum [], length-append inner (joined (sum ∷ [])), length-append kind (joined (inner ∷ sum ∷ [])),
-      length-append pvno (joined (kind ∷ inner ∷ sum ∷ [])), tagged-short sequence_tag (joined (safe_fields m)), tagged-short (application 20) (sequence (safe_fields m)))
+    omega (
+      arith,
+      integer-small m.pvno,
+      tagged-short (context 0) (integer m.pvno),
+      integer-small m.msg_type,
+      tagged-short (context 1) (integer m.msg_type),
+      body-small m.body,
+      tagged-short (context 2) (body m.body),
+      typed-small m.cksum_type m.checksum,
+      tagged-short (context 3) (checksum m.cksum_type m.checksum),
+      length-append sum [],
+      length-append inner (joined (sum ∷ [])),
+      length-append kind (joined (inner ∷ sum ∷ [])),
+      length-append pvno (joined (kind ∷ inner ∷ sum ∷ [])),
+      tagged-short sequence_tag (joined (safe_fields m)),
+      tagged-short (application 20) (sequence (safe_fields m)),
+    )
 
 pub small_private : SmallPrivate
 unfolding encrypted_data
@@ -91,10 +127,28 @@ small_private m =
     let pvno : List ℕ = tagged (context 0) (integer m.pvno) in
     let kind : List ℕ = tagged (context 1) (integer m.msg_type) in
     let inner : List ℕ = tagged (context 3) (encrypted_data m.etype m.kvno m.cipher) in
-    omega (arith, integer-small m.etype, tagged-short (context 0) (integer m.etype), natural-small (context 1) m.kvno, tagged-short octet_string_tag m.cipher, tagged-short (context 2) (octets m.cipher),
-      length-append cipher [], length-append kvno (joined (cipher ∷ [])), length-append etype (joined (kvno ∷ cipher ∷ [])), tagged-short sequence_tag (joined (encrypted_fields m.etype m.kvno m.cipher)),
-      tagged-short (context 3) (encrypted_data m.etype m.kvno m.cipher), integer-small m.pvno, tagged-short (context 0) (integer m.pvno), integer-small m.msg_type, tagged-short (context 1) (integer m.msg_type),
-      length-append inner [], length-append kind (joined (inner ∷ [])), length-append pvno (joined (kind ∷ inner ∷ [])), tagged-short sequence_tag (joined (private_fields m)), tagged-short (application 21) (sequence (private_fields m)))
+    omega (
+      arith,
+      integer-small m.etype,
+      tagged-short (context 0) (integer m.etype),
+      natural-small (context 1) m.kvno,
+      tagged-short octet_string_tag m.cipher,
+      tagged-short (context 2) (octets m.cipher),
+      length-append cipher [],
+      length-append kvno (joined (cipher ∷ [])),
+      length-append etype (joined (kvno ∷ cipher ∷ [])),
+      tagged-short sequence_tag (joined (encrypted_fields m.etype m.kvno m.cipher)),
+      tagged-short (context 3) (encrypted_data m.etype m.kvno m.cipher),
+      integer-small m.pvno,
+      tagged-short (context 0) (integer m.pvno),
+      integer-small m.msg_type,
+      tagged-short (context 1) (integer m.msg_type),
+      length-append inner [],
+      length-append kind (joined (inner ∷ [])),
+      length-append pvno (joined (kind ∷ inner ∷ [])),
+      tagged-short sequence_tag (joined (private_fields m)),
+      tagged-short (application 21) (sequence (private_fields m)),
+    )
 
 -- ---- longer contents
 
@@ -140,7 +194,7 @@ typed-longer kind bytes =
     let number : length none ≤ length some = longer (context 0) (integer (pos 0)) (integer kind) (longer integer_tag (int_octets (pos 0)) (int_octets kind) (octets-some kind)) in
     let string : length empty ≤ length full = longer (context 1) (octets []) (octets bytes) (longer octet_string_tag [] bytes (omega arith)) in
     longer sequence_tag (joined (typed_fields (pos 0) [])) (joined (typed_fields kind bytes))
-      (omega (arith, number, string, length-append none (joined (empty ∷ [])), length-append empty [], length-append some (joined (full ∷ [])), length-append full []))
+    (omega (arith, number, string, length-append none (joined (empty ∷ [])), length-append empty [], length-append some (joined (full ∷ [])), length-append full []))
 
 pub shorter_input : ShorterInput
 shorter_input m =
@@ -151,6 +205,16 @@ shorter_input m =
     let sum : List ℕ = tagged (context 3) (checksum m.cksum_type m.checksum) in
     let less : length none ≤ length sum = longer (context 3) (checksum (pos 0) []) (checksum m.cksum_type m.checksum) (typed-longer m.cksum_type m.checksum) in
     longer (application 20) (sequence (safe_fields (with_checksum m (pos 0) []))) (sequence (safe_fields m))
-      (longer sequence_tag (joined (safe_fields (with_checksum m (pos 0) []))) (joined (safe_fields m))
-        (omega (arith, less, length-append none [], length-append inner (joined (none ∷ [])), length-append kind (joined (inner ∷ none ∷ [])), length-append pvno (joined (kind ∷ inner ∷ none ∷ [])),
-          length-append sum [], length-append inner (joined (sum ∷ [])), length-append kind (joined (inner ∷ sum ∷ [])), length-append pvno (joined (kind ∷ inner ∷ sum ∷ [])))))
+    (longer sequence_tag (joined (safe_fields (with_checksum m (pos 0) []))) (joined (safe_fields m))
+    (omega (
+      arith,
+      less,
+      length-append none [],
+      length-append inner (joined (none ∷ [])),
+      length-append kind (joined (inner ∷ none ∷ [])),
+      length-append pvno (joined (kind ∷ inner ∷ none ∷ [])),
+      length-append sum [],
+      length-append inner (joined (sum ∷ [])),
+      length-append kind (joined (inner ∷ sum ∷ [])),
+      length-append pvno (joined (kind ∷ inner ∷ sum ∷ [])),
+    )))
