@@ -1,4 +1,5 @@
-ghost use Rattle.std.specs.Prelude.{◌≡◌, ◌<◌, ◌^◌, ◌++◌, [], ◌∷◌, true, false, length, IfOk, IfErr, OnOk, OnErr};
+ghost use Rattle.std.specs.Prelude.{◌≡◌, ◌<◌, ◌^◌, ◌++◌, [], ◌∷◌, true, false, length};
+ghost use Rattle.std.specs.Prelude.{IfOk, IfErr, OnOk, OnErr};
 
 use crate::item::Item;
 use crate::passes::Sends;
@@ -30,7 +31,8 @@ impl Model for LaneTx {
 
     ghost view = { λ t. sent_side t.pass };
 
-    ghost invariant = { λ t. IsSender (sends_on t.sender) t.pass t.count × IsOpen (sends_on t.sender) t.pass };
+    ghost invariant = { λ t. IsSender (sends_on t.sender) t.pass t.count
+        × IsOpen (sends_on t.sender) t.pass };
 }
 
 /// The sending end of a lane once it sends nothing more.
@@ -59,7 +61,8 @@ impl LaneTx {
     /// Fewer than 2^60 frames, which is 1152921504606846976, were sent before.
     pub fn send(&mut self, rt: &impl Wait, bytes: Vec<u8>) -> Result<(), Vec<u8>>
         requires { length self.old.frames < 2 ^ 60 }
-        ensures ok { OnOk result (self.new ≡ record self.old { frames = self.old.frames ++ bytes.items ∷ [] }) }
+        ensures ok { OnOk result
+            (self.new ≡ record self.old { frames = self.old.frames ++ bytes.items ∷ [] }) }
         ensures err { OnErr result (self.new ≡ self.old) }
         ensures back { IfErr result (λ back. back.items ≡ bytes.items) }
     {
