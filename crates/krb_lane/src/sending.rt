@@ -4,6 +4,7 @@ ghost use Rattle.std.specs.Prelude.{IfOk, IfErr, OnOk, OnErr};
 use crate::item::Item;
 use crate::passes::Sends;
 use crate::rule::{Hand, LaneRule};
+use crate::sent::SentAll;
 use crossbeam_channel::{Pass, RuledSender};
 use krb_base::Bytes;
 use std::alloc::Global;
@@ -33,25 +34,6 @@ impl Model for LaneTx {
 
     ghost invariant = { λ t. IsSender (sends_on t.sender) t.pass t.count
         × IsOpen (sends_on t.sender) t.pass };
-}
-
-/// The sending end of a lane once it sends nothing more.
-#[derive(Drop)]
-pub struct SentAll {
-    pub(crate) sender: Front,
-    pub(crate) pass: Pass<Item, Hand>,
-    pub(crate) count: u64,
-}
-
-impl Model for SentAll {
-    ghost use Rattle.crossbeam_channel.specs.Ends.{sends_on};
-    ghost use Rattle.krb_lane.specs.Side.{Side, sent_side, IsSender};
-
-    ghost Value = { Side };
-
-    ghost view = { λ t. sent_side t.pass };
-
-    ghost invariant = { λ t. IsSender (sends_on t.sender) t.pass t.count };
 }
 
 impl LaneTx {
@@ -124,15 +106,6 @@ impl LaneTx {
         }
     }
 
-    /// How many frames were sent. Waits for nobody.
-    pub fn count(&self) -> u64
-        ensures { result ≡ length self.now.frames }
-    {
-        self.count
-    }
-}
-
-impl SentAll {
     /// How many frames were sent. Waits for nobody.
     pub fn count(&self) -> u64
         ensures { result ≡ length self.now.frames }
