@@ -1,3 +1,4 @@
+pub mod Errors
 pub mod Items
 pub mod Rule
 pub mod Side

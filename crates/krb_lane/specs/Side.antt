@@ -17,7 +17,8 @@ pub record LaneId : Type 0 where
   pub table : TableId
   pub key : Badge (Key Item)
 
--- an end of a lane: the bytes of the frames that this end sent or got, and whether it sent or got End
+-- an end of a lane: the bytes of the frames that this end sent or got, and whether it sent or got
+-- End
 pub record Side : Type 0 where
   pub lane : LaneId
   pub capacity : ℕ
@@ -27,12 +28,17 @@ pub record Side : Type 0 where
 abbrev pub lane_of : Pass Item Hand → LaneId
 lane_of p = record { table = p.table_id; key = p.me.0.of }
 
--- what a receive that answers an item leaves: a frame has the number of frames got before as its index
+-- what a receive that answers an item leaves: a frame has the number of frames got before as its
+-- index
 abbrev pub Takes : Side → Side → Item → Type 0
-Takes old new (Frame i b) = (old.ended ≡ false) × (i ≡ length old.frames) × (new ≡ record old { frames = old.frames ++ b ∷ [] })
+Takes old new (Frame i b) =
+    (old.ended ≡ false) × (i ≡ length old.frames)
+    × (new ≡ record old { frames = old.frames ++ b ∷ [] })
 Takes old new End = new ≡ record old { ended = true }
 
-module _ {Q M L A : Type 0} (c : Rows (Badge (Key Item)) (Doing Item Hand) Q M (Key Item) L A) (p : Pass Item Hand) where
+module _
+    {Q M L A : Type 0} (c : Rows (Badge (Key Item)) (Doing Item Hand) Q M (Key Item) L A)
+    (p : Pass Item Hand) where
   -- p is the sender's pass of the channel c, and has sent `count` frames
   pub record IsSender (count : ℕ) : Type 0 where
     pub seat : IsSeatAt c p
@@ -52,7 +58,19 @@ module _ {Q M L A : Type 0} (c : Rows (Badge (Key Item)) (Doing Item Hand) Q M (
     pub ends : has_end (view p).got ≡ ended
 
 abbrev pub sent_side : Pass Item Hand → Side
-sent_side p = record { lane = lane_of p; capacity = (view p).capacity; frames = frames_of (view p).sent; ended = has_end (view p).sent }
+sent_side p =
+    record {
+      lane = lane_of p;
+      capacity = (view p).capacity;
+      frames = frames_of (view p).sent;
+      ended = has_end (view p).sent;
+    }
 
 abbrev pub got_side : Pass Item Hand → Side
-got_side p = record { lane = lane_of p; capacity = (view p).capacity; frames = frames_of (view p).got; ended = has_end (view p).got }
+got_side p =
+    record {
+      lane = lane_of p;
+      capacity = (view p).capacity;
+      frames = frames_of (view p).got;
+      ended = has_end (view p).got;
+    }

@@ -22,13 +22,15 @@ mod passes;
 mod receiving;
 mod rule;
 mod sending;
+mod sent;
 
 pub use item::Item;
 pub use meeting::{Met, meet};
 pub use opening::{LaneError, lane};
 pub use receiving::{LaneRx, Lost};
 pub use rule::every_step;
-pub use sending::{LaneTx, SentAll};
+pub use sending::LaneTx;
+pub use sent::SentAll;
 
 #[cfg(test)]
 mod tests;

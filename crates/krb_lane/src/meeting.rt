@@ -3,7 +3,7 @@ ghost use Rattle.krb_base.specs.Prefix.{IsPrefix};
 
 use crate::passes::{Total, Whole};
 use crate::receiving::LaneRx;
-use crate::sending::SentAll;
+use crate::sent::SentAll;
 
 /// How many frames were sent into a lane and how many were got, End not counted.
 #[derive(Clone, Copy, Debug, PartialEq, Eq)]

@@ -1,6 +1,7 @@
-ghost use Rattle.std.specs.Prelude.{◌≡◌, ◌<◌, ◌≤◌, [], ◌∷◌, true, false, IfOk};
+ghost use Rattle.std.specs.Prelude.{◌≡◌, ◌<◌, ◌≤◌, [], ◌∷◌, true, false, Some, IfOk};
 ghost use Rattle.crossbeam_channel.specs.Claims.{view, IsSeatAt};
 ghost use Rattle.crossbeam_channel.specs.Ends.{sends_on, ruled_capacity};
+ghost use Rattle.krb_lane.specs.Errors.{words_of_lane_error};
 ghost use Rattle.krb_lane.specs.Rule.{hand, uncut};
 
 use crate::item::Item;
@@ -9,7 +10,9 @@ use crate::receiving::LaneRx;
 use crate::rule::{Hand, LaneRule};
 use crate::sending::{Front, LaneTx};
 use crossbeam_channel::{Pass, bounded_with};
-use std::alloc::Global;
+use std::alloc::{AllocError, Global};
+use std::error::Error;
+use std::fmt;
 use std::marker::Brand;
 
 /// Why [`lane`] makes no lane.
@@ -30,12 +33,35 @@ impl LaneError {
     }
 }
 
+impl fmt::Display for LaneError {
+    ghost output = { λ error. Some (words_of_lane_error error) };
+
+    fn fmt<W: fmt::Write>(&self, f: &mut fmt::Formatter<W>) -> fmt::Result {
+        match self {
+            LaneError::Memory => write!(f, "out of memory"),
+        }
+    }
+}
+
+impl Error for LaneError {}
+
+impl From<AllocError> for LaneError {
+    ghost use Rattle.krb_lane.specs.declared.opening.LaneError.TheVariants.{Memory};
+
+    ghost from_gives = { λ _ e. e ≡ Memory };
+
+    fn from(_: AllocError) -> LaneError {
+        LaneError::Memory
+    }
+}
+
 // Cuts the first pass into the sender's and the receiver's.
 fn cut<B: Room>(sender: &Front, pass: &mut Pass<Item, Hand>) -> Pass<Item, Hand>
     requires channel { IsSeatAt (sends_on sender.now) pass.old }
     requires fresh { view pass.old ≡ uncut }
     requires room { B.capacity ≡ ruled_capacity (sends_on sender.now) }
-    ensures channel { IsSeatAt (sends_on sender.now) pass.new × IsSeatAt (sends_on sender.now) result }
+    ensures channel { IsSeatAt (sends_on sender.now) pass.new
+        × IsSeatAt (sends_on sender.now) result }
     ensures sends { view pass.new ≡ hand true false (ruled_capacity (sends_on sender.now)) [] [] }
     ensures takes { view result ≡ hand false true (ruled_capacity (sends_on sender.now)) [] [] }
 {
@@ -55,11 +81,9 @@ pub fn lane<R>(rt: &R, alloc: Global, capacity: usize) -> Result<(LaneTx, LaneRx
 {
     // Every call of a lane is passed the handle, and this one has no use for it.
     let _ = rt;
-    let Ok((sender, receiver, mut pass)) = bounded_with::<Item, Hand, LaneRule, Global>(
+    let (sender, receiver, mut pass) = bounded_with::<Item, Hand, LaneRule, Global>(
         alloc, capacity,
-    ) else {
-        return Err(LaneError::Memory);
-    };
+    )?;
     let other = cut::<Brand>(&sender, &mut pass);
     let tx = LaneTx {
         sender,

@@ -1,4 +1,5 @@
-ghost use Rattle.std.specs.Prelude.{◌≡◌, true, length, Ok, IfOk, OnErr};
+ghost use Rattle.std.specs.Prelude.{◌≡◌, true, length, Some, Ok, IfOk, OnErr};
+ghost use Rattle.krb_lane.specs.Errors.{words_of_lost};
 ghost use Rattle.krb_lane.specs.Side.{Takes as Taken};
 
 use crate::item::Item;
@@ -6,6 +7,8 @@ use crate::passes::Takes;
 use crate::rule::{Hand, LaneRule};
 use crossbeam_channel::{Pass, RuledReceiver};
 use std::alloc::Global;
+use std::error::Error;
+use std::fmt;
 use std::marker::Model;
 use std::sync::Wait;
 
@@ -23,6 +26,16 @@ impl Lost {
         1
     }
 }
+
+impl fmt::Display for Lost {
+    ghost output = { λ error. Some (words_of_lost error) };
+
+    fn fmt<W: fmt::Write>(&self, f: &mut fmt::Formatter<W>) -> fmt::Result {
+        write!(f, "the sending end is gone, and sent no End")
+    }
+}
+
+impl Error for Lost {}
 
 /// The receiving end of a lane.
 ///

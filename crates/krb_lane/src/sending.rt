@@ -1,8 +1,10 @@
-ghost use Rattle.std.specs.Prelude.{◌≡◌, ◌<◌, ◌^◌, ◌++◌, [], ◌∷◌, true, false, length, IfOk, IfErr, OnOk, OnErr};
+ghost use Rattle.std.specs.Prelude.{◌≡◌, ◌<◌, ◌^◌, ◌++◌, [], ◌∷◌, true, false, length};
+ghost use Rattle.std.specs.Prelude.{IfOk, IfErr, OnOk, OnErr};
 
 use crate::item::Item;
 use crate::passes::Sends;
 use crate::rule::{Hand, LaneRule};
+use crate::sent::SentAll;
 use crossbeam_channel::{Pass, RuledSender};
 use krb_base::Bytes;
 use std::alloc::Global;
@@ -30,26 +32,8 @@ impl Model for LaneTx {
 
     ghost view = { λ t. sent_side t.pass };
 
-    ghost invariant = { λ t. IsSender (sends_on t.sender) t.pass t.count × IsOpen (sends_on t.sender) t.pass };
-}
-
-/// The sending end of a lane once it sends nothing more.
-#[derive(Drop)]
-pub struct SentAll {
-    pub(crate) sender: Front,
-    pub(crate) pass: Pass<Item, Hand>,
-    pub(crate) count: u64,
-}
-
-impl Model for SentAll {
-    ghost use Rattle.crossbeam_channel.specs.Ends.{sends_on};
-    ghost use Rattle.krb_lane.specs.Side.{Side, sent_side, IsSender};
-
-    ghost Value = { Side };
-
-    ghost view = { λ t. sent_side t.pass };
-
-    ghost invariant = { λ t. IsSender (sends_on t.sender) t.pass t.count };
+    ghost invariant = { λ t. IsSender (sends_on t.sender) t.pass t.count
+        × IsOpen (sends_on t.sender) t.pass };
 }
 
 impl LaneTx {
@@ -59,7 +43,8 @@ impl LaneTx {
     /// Fewer than 2^60 frames, which is 1152921504606846976, were sent before.
     pub fn send(&mut self, rt: &impl Wait, bytes: Vec<u8>) -> Result<(), Vec<u8>>
         requires { length self.old.frames < 2 ^ 60 }
-        ensures ok { OnOk result (self.new ≡ record self.old { frames = self.old.frames ++ bytes.items ∷ [] }) }
+        ensures ok { OnOk result
+            (self.new ≡ record self.old { frames = self.old.frames ++ bytes.items ∷ [] }) }
         ensures err { OnErr result (self.new ≡ self.old) }
         ensures back { IfErr result (λ back. back.items ≡ bytes.items) }
     {
@@ -121,15 +106,6 @@ impl LaneTx {
         }
     }
 
-    /// How many frames were sent. Waits for nobody.
-    pub fn count(&self) -> u64
-        ensures { result ≡ length self.now.frames }
-    {
-        self.count
-    }
-}
-
-impl SentAll {
     /// How many frames were sent. Waits for nobody.
     pub fn count(&self) -> u64
         ensures { result ≡ length self.now.frames }

@@ -118,8 +118,20 @@ fn ten_thousand_frames_pass_between_two_threads(rt: HostRuntime) -> Result<(), F
 }
 
 #[test]
-fn errors_have_their_numbers(rt: HostRuntime) {
-    assert_eq!(rt; LaneError::Memory.code(), 1);
+fn errors_have_numbers_and_words(rt: HostRuntime) -> Result<(), Fail> {
+    let alloc = rt.alloc();
+    let memory = LaneError::Memory;
+    assert_eq!(rt; memory.code(), 1);
+    assert_eq!(rt; format!(in alloc; "{memory}")?.as_str(), "out of memory");
     assert_eq!(rt; Lost.code(), 1);
+    assert_eq!(rt;
+        format!(in alloc; "{Lost}")?.as_str(),
+        "the sending end is gone, and sent no End"
+    );
+    Ok(())
+}
+
+#[test]
+fn the_law_is_there() {
     every_step();
 }

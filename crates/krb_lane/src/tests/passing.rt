@@ -28,7 +28,8 @@ struct SentOf {
 impl Promise<SentAll> for SentOf {
     ghost use Rattle.std.specs.Prelude.{◌≡◌, ◌++◌, true};
 
-    ghost kept_by = { λ p sent. (sent.lane ≡ p.tx.value.lane) × (sent.ended ≡ true → sent.frames ≡ p.tx.value.frames ++ p.frames.value.items) };
+    ghost kept_by = { λ p sent. (sent.lane ≡ p.tx.value.lane)
+        × (sent.ended ≡ true → sent.frames ≡ p.tx.value.frames ++ p.frames.value.items) };
 }
 
 // Sends all frames and End, as far as the other end is there.
@@ -85,7 +86,8 @@ pub fn pass_on<R: Threads + Wait + Sync>(
     requires capacity { (0 < capacity) × (capacity ≤ 64) }
     requires few { length frames.items < 2 ^ 60 }
     ensures frames { IfOk result (λ passed. passed.0.items ≡ frames.items) }
-    ensures met { IfOk result (λ passed. (passed.1.sent ≡ length frames.items) × (passed.1.got ≡ length frames.items)) }
+    ensures sent { IfOk result (λ passed. passed.1.sent ≡ length frames.items) }
+    ensures got { IfOk result (λ passed. passed.1.got ≡ length frames.items) }
 {
     let Ok((tx, rx)) = lane(rt, alloc, capacity) else {
         return Err(Fault::Memory);
@@ -96,7 +98,8 @@ pub fn pass_on<R: Threads + Wait + Sync>(
         move |scope| -> Result<(Vec<Bytes>, Met), Fault>
             requires { (length frames.items < 2 ^ 60) × (tx ≡ rx) × (tx.frames ≡ []) }
             ensures frames { IfOk result (λ passed. passed.0.items ≡ frames.items) }
-            ensures met { IfOk result (λ passed. (passed.1.sent ≡ length frames.items) × (passed.1.got ≡ length frames.items)) }
+            ensures sent { IfOk result (λ passed. passed.1.sent ≡ length frames.items) }
+            ensures got { IfOk result (λ passed. passed.1.got ≡ length frames.items) }
         {
             let promise = SentOf {
                 tx: Snapshot::of(&tx),

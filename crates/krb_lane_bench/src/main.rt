@@ -1,0 +1,138 @@
+//! Counts the frames a second that pass through a lane of krb_lane between two threads.
+//!
+//! `krb_lane_bench FRAMES` passes that many frames of 100 bytes through a lane of capacity 1, 8 and
+//! 64 in turn, from a worker to the calling thread, and prints one line for each. Each frame is
+//! allocated by the worker and freed by the calling thread. With no argument it does nothing.
+#![tactic(auto)]
+
+ghost use Rattle.std.specs.Prelude.{◌≡◌, ◌<◌, ◌≤◌, ◌+◌, ◌^◌, [], true, length, IfSome};
+
+use krb_lane::{Item, LaneRx, LaneTx, SentAll, lane, meet};
+use std::alloc::Global;
+use std::snapshot::Snapshot;
+use std::sync::Wait;
+use std::thread::{Promise, Threads};
+use std::time::Instant;
+use std::{env, io, thread};
+
+/// How many bytes a frame has.
+const SIZE: usize = 100;
+
+/// The most frames of a run.
+const MOST: u64 = 1 << 32;
+
+// What a worker promises: it sends at this end, and this many frames where it sends End.
+#[derive(Drop)]
+struct SentFrom {
+    tx: Snapshot<LaneTx>,
+    frames: u64,
+}
+
+impl Promise<SentAll> for SentFrom {
+    ghost use Rattle.std.specs.Prelude.{◌≡◌, ◌+◌, true, length};
+
+    ghost kept_by = { λ p sent. (sent.lane ≡ p.tx.value.lane)
+        × (sent.ended ≡ true → length sent.frames ≡ length p.tx.value.frames + p.frames) };
+}
+
+// Sends so many frames and End, as far as there is memory and the other end is there.
+fn send_frames(rt: &impl Wait, alloc: Global, tx: LaneTx, frames: u64) -> SentAll
+    requires { length tx.frames + frames < 2 ^ 60 }
+    ensures lane { result.lane ≡ tx.lane }
+    ensures whole { result.ended ≡ true → length result.frames ≡ length tx.frames + frames }
+{
+    let mut tx = tx;
+    for _ in 0..frames {
+        let Ok(bytes) = vec![in alloc; 0x61; SIZE] else {
+            return tx.stop();
+        };
+        let Ok(()) = tx.send(rt, bytes) else {
+            return tx.stop();
+        };
+    }
+    match tx.end(rt) {
+        Ok(sent) => sent,
+        Err(tx) => tx.stop(),
+    }
+}
+
+// Takes all frames up to End.
+fn take_frames(rt: &impl Wait, rx: LaneRx) -> Option<LaneRx>
+    ensures lane { IfSome result (λ taken. taken.lane ≡ rx.lane) }
+    ensures ended { IfSome result (λ taken. taken.ended ≡ true) }
+{
+    let mut rx = rx;
+    for _ in rt.forever() {
+        match rx.take(rt) {
+            Ok(Item::Frame { .. }) => {}
+            Ok(Item::End) => return Some(rx),
+            Err(_) => return None,
+        }
+    }
+    unreachable!()
+}
+
+// How many frames came out of a lane of this capacity: all that a worker was to send.
+fn pass_frames<R: Threads + Wait + Sync>(
+    rt: &R,
+    alloc: Global,
+    capacity: usize,
+    frames: u64,
+) -> Option<u64>
+    requires capacity { (0 < capacity) × (capacity ≤ 64) }
+    requires frames { frames < 2 ^ 60 }
+    ensures { IfSome result (λ got. got ≡ frames) }
+{
+    let Ok((tx, rx)) = lane(rt, alloc, capacity) else {
+        return None;
+    };
+    thread::scope(
+        thread::scope_env(),
+        rt,
+        move |scope| -> Option<u64>
+            requires { (frames < 2 ^ 60) × (tx ≡ rx) × (tx.frames ≡ []) }
+            ensures { IfSome result (λ got. got ≡ frames) }
+        {
+            let promise = SentFrom {
+                tx: Snapshot::of(&tx),
+                frames,
+            };
+            let work = move || -> SentAll
+                requires { length tx.frames + frames < 2 ^ 60 }
+                ensures lane { result.lane ≡ tx.lane }
+                ensures whole { result.ended ≡ true
+                    → length result.frames ≡ length tx.frames + frames }
+            { send_frames(rt, alloc, tx, frames) };
+            let Ok(worker) = scope.spawn_with(promise, work) else {
+                return None;
+            };
+            let taken = take_frames(rt, rx);
+            let sent = worker.join(rt);
+            let met = meet(sent, taken?);
+            Some(met.got)
+        },
+    )
+}
+
+fn main(rt: HostRuntime) -> io::Result<()> {
+    let Some(frames) = env::args(&rt)?.nth(1) else {
+        return Ok(());
+    };
+    let frames = frames.parse().unwrap_or(1).min(MOST);
+    for capacity in [1, 8, 64] {
+        let start = Instant::now(&rt)?;
+        let passed = pass_frames(&rt, rt.alloc(), capacity, frames);
+        let micros = start.elapsed(&rt)?.as_micros().max(1);
+        match passed {
+            None => println!(rt; "capacity {capacity}: no memory, or no thread")?,
+            Some(got) => {
+                let speed = u128::from(got) * 1_000_000 / micros;
+                let millis = micros / 1000;
+                println!(rt;
+                    "capacity {capacity}: {got} frames in {millis} ms: {speed} frames a second"
+                )?;
+            }
+        }
+    }
+    Ok(())
+}
