@@ -139,7 +139,8 @@ impl Schedule {
     /// The one block whose cipher is `block` (FIPS 197, section 5.3).
     pub fn decrypt_block(&self, block: &[u8; 16]) -> [u8; 16]
         ensures image { cipher self.now result ≡ block.now }
-        ensures only { (text : List ℕ) → IsBlock text → cipher self.now text ≡ block.now → text ≡ result }
+        ensures only { (text : List ℕ) → IsBlock text → cipher self.now text ≡ block.now
+            → text ≡ result }
     {
         inverse_cipher::decrypt(self.words(), self.inverse_words(), block)
     }

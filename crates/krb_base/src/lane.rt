@@ -16,6 +16,8 @@ pub fn lane_laws<F>()
     ensures begins { Always F (λ lane. IsPrefix lane.got lane.sent) }
     ensures whole { Always F (λ lane. has_end lane.got ≡ true → lane.got ≡ lane.sent) }
     ensures capacity { (n : ℕ) (events : List (Event F)) → (after (empty n) events).capacity ≡ n }
-    ensures possible { (lane : Lane F) (event : Event F) → is_possible lane event ≡ true → after_event lane event ≡ moved lane event }
-    ensures impossible { (lane : Lane F) (event : Event F) → is_possible lane event ≡ false → after_event lane event ≡ lane }
+    ensures possible { (lane : Lane F) (event : Event F)
+        → is_possible lane event ≡ true → after_event lane event ≡ moved lane event }
+    ensures impossible { (lane : Lane F) (event : Event F)
+        → is_possible lane event ≡ false → after_event lane event ≡ lane }
 {}

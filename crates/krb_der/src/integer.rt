@@ -125,7 +125,8 @@ pub fn read_optional_natural(
     limit: u64,
 ) -> Result<Option<u32>, DerError>
     requires { limit ≤ 2 ^ 32 }
-    ensures { Takes (λ x. x) result fields.new (optional_at tag (below_element_of limit) fields.old) }
+    ensures { Takes (λ x. x) result fields.new
+        (optional_at tag (below_element_of limit) fields.old) }
 {
     if !fields.is_at(tag) {
         return Ok(None);

@@ -8,7 +8,8 @@ use std::io::Write;
 
 /// Writes all of the bytes, or a prefix of them where the writer fails or takes nothing.
 pub fn write_all<W: Write>(writer: &mut W, bytes: &[u8]) -> Result<(), Fault>
-    ensures written { OnOk result (Appends (W.contents writer.old) (W.contents writer.new) bytes.now) }
+    ensures written { OnOk result
+        (Appends (W.contents writer.old) (W.contents writer.new) bytes.now) }
     ensures prefix { OnErr result
         (AppendsPrefix (W.contents writer.old) (W.contents writer.new) bytes.now) }
     ensures fault { IfErr result (λ fault. fault ≡ Fault.Write) }

@@ -51,7 +51,8 @@ fn show_lines<W: Write>(alloc: Global, input: &[u8], writer: &mut W) -> Result<u
         Shows input.now (W.contents writer.old) (W.contents writer.new) status) }
     ensures prefix { OnErr result
         (ShowsPrefix input.now (W.contents writer.old) (W.contents writer.new)) }
-    ensures faults { IfErr result (λ fault. (¬ (fault ≡ Fault.Read)) × (¬ (fault ≡ Fault.TooLong))) }
+    ensures faults { IfErr result
+        (λ fault. (¬ (fault ≡ Fault.Read)) × (¬ (fault ≡ Fault.TooLong))) }
 {
     let mut rest = input;
     let mut all_messages = true;
@@ -75,7 +76,8 @@ fn show_line<W: Write>(alloc: Global, line: &[u8], writer: &mut W) -> Result<boo
         ShowsLine line.now (W.contents writer.old) (W.contents writer.new) spelt) }
     ensures prefix { OnErr result
         (ShowsLinePrefix line.now (W.contents writer.old) (W.contents writer.new)) }
-    ensures faults { IfErr result (λ fault. (¬ (fault ≡ Fault.Read)) × (¬ (fault ≡ Fault.TooLong))) }
+    ensures faults { IfErr result
+        (λ fault. (¬ (fault ≡ Fault.Read)) × (¬ (fault ≡ Fault.TooLong))) }
 {
     let reading = Reading::of_line(alloc, line)?;
     print_reading(alloc, reading, writer)
@@ -89,7 +91,8 @@ fn print_reading<W: Write>(alloc: Global, reading: Reading, writer: &mut W) -> R
     ensures spelt { IfOk result (λ spelt. spelt ≡ is_message reading) }
     ensures prefix { OnErr result
         (AppendsPrefix (W.contents writer.old) (W.contents writer.new) (printed_line reading)) }
-    ensures faults { IfErr result (λ fault. (¬ (fault ≡ Fault.Read)) × (¬ (fault ≡ Fault.TooLong))) }
+    ensures faults { IfErr result
+        (λ fault. (¬ (fault ≡ Fault.Read)) × (¬ (fault ≡ Fault.TooLong))) }
 {
     let line = reading.line(alloc)?;
     write_all(writer, line.as_str().as_bytes())?;

@@ -37,7 +37,8 @@ pub fn vectors<W: Write>(alloc: Global, writer: &mut W) -> Result<u8, Fault>
     ensures status { IfOk result (λ status. status ≡ 0) }
     ensures prefix { OnErr result
         (AppendsPrefix (W.contents writer.old) (W.contents writer.new) vectors_text) }
-    ensures faults { IfErr result (λ fault. (¬ (fault ≡ Fault.Read)) × (¬ (fault ≡ Fault.TooLong))) }
+    ensures faults { IfErr result
+        (λ fault. (¬ (fault ≡ Fault.Read)) × (¬ (fault ≡ Fault.TooLong))) }
 {
     let mut text = String::new(alloc);
     push_aes_lines(alloc, &mut text)?;
