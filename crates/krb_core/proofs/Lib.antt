@@ -2,3 +2,4 @@ pub mod RecordLemmas
 pub mod OrderLemmas
 pub mod AcceptedLemmas
 pub mod AcceptedPrefix
+pub mod LogLemmas

@@ -2,3 +2,6 @@ pub mod Record
 pub mod Demand
 pub mod Order
 pub mod Accepted
+pub mod LogState
+pub mod Log
+pub mod LogIndex

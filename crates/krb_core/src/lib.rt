@@ -11,10 +11,12 @@
 #![tactic(auto)]
 
 mod laws;
+mod log;
 mod order;
 mod record;
 
 pub use krb_base::{LAST_NUMBER, TEXT_LIMIT, USER_DATA_LIMIT};
 pub use laws::{accepted_laws, record_laws};
+pub use log::{Entry, Event, Log, Status};
 pub use order::{Order, OrderRefusal};
 pub use record::{Record, RecordError, read_record, record_bytes};
