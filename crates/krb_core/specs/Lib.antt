@@ -5,3 +5,4 @@ pub mod Accepted
 pub mod LogState
 pub mod Log
 pub mod LogIndex
+pub mod Plan

@@ -10,13 +10,17 @@
 //! ```
 #![tactic(auto)]
 
+mod emission;
 mod laws;
 mod log;
 mod order;
+mod plan;
 mod record;
 
+pub use emission::emit;
 pub use krb_base::{LAST_NUMBER, TEXT_LIMIT, USER_DATA_LIMIT};
 pub use laws::{accepted_laws, record_laws};
 pub use log::{Entry, Event, Log, Status};
 pub use order::{Order, OrderRefusal};
+pub use plan::{Emit, EmitError};
 pub use record::{Record, RecordError, read_record, record_bytes};
