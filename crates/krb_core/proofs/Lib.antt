@@ -3,3 +3,4 @@ pub mod OrderLemmas
 pub mod AcceptedLemmas
 pub mod AcceptedPrefix
 pub mod LogLemmas
+pub mod DrawsLemmas

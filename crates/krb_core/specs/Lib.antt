@@ -6,3 +6,4 @@ pub mod LogState
 pub mod Log
 pub mod LogIndex
 pub mod Plan
+pub mod Draws

@@ -10,6 +10,7 @@
 //! ```
 #![tactic(auto)]
 
+mod confounder;
 mod emission;
 mod laws;
 mod log;
