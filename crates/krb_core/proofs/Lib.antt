@@ -4,3 +4,4 @@ pub mod AcceptedLemmas
 pub mod AcceptedPrefix
 pub mod LogLemmas
 pub mod DrawsLemmas
+pub mod VerdictLemmas

@@ -7,3 +7,6 @@ pub mod Log
 pub mod LogIndex
 pub mod Plan
 pub mod Draws
+pub mod Sender
+pub mod Verdicts
+pub mod Headline

@@ -11,6 +11,7 @@
 #![tactic(auto)]
 
 mod confounder;
+mod delivery;
 mod emission;
 mod laws;
 mod log;
@@ -18,6 +19,7 @@ mod order;
 mod plan;
 mod record;
 
+pub use delivery::Delivery;
 pub use emission::emit;
 pub use krb_base::{LAST_NUMBER, TEXT_LIMIT, USER_DATA_LIMIT};
 pub use laws::{accepted_laws, record_laws};
