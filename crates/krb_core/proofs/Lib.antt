@@ -5,3 +5,4 @@ pub mod AcceptedPrefix
 pub mod LogLemmas
 pub mod DrawsLemmas
 pub mod VerdictLemmas
+pub mod HeadlineLemmas

@@ -8,14 +8,19 @@ use Rattle.std.proofs.lemmas.List.Concat.{flat_map-append}
 use Rattle.krb_base.specs.Limits.{text_limit}
 use Rattle.krb_seal.specs.declared.refusal.Refusal.{Refusal}
 use Rattle.krb_seal.specs.declared.refusal.Refusal.TheVariants as refusals
-use Rattle.krb_seal.specs.Opens.{Outcome}
+use Rattle.krb_aes.specs.Words.{AreBytes}
+use Rattle.krb_seal.specs.Opens.{OpenerState, Outcome, Opens}
+use Rattle.krb_seal.specs.Opening.{opens}
+use Rattle.krb_seal.proofs.Openings.{one_outcome}
+use Rattle.krb_seal.proofs.Outcomes.{Unique, outcomes_unique}
 use Rattle.krb_core.specs.declared.record.Record.{Record}
 use Rattle.krb_core.specs.declared.record.Record.TheVariants as records
 use Rattle.krb_core.specs.declared.delivery.Delivery.{Delivery}
 use Rattle.krb_core.specs.declared.delivery.Delivery.TheVariants.{Text, Closed}
 use Rattle.krb_core.specs.Demand.{Demand}
 use Rattle.krb_core.specs.Record.{SpellsRecord, is_close, bytes_of}
-use Rattle.krb_core.specs.Verdicts.{Verdict, record_of, accepted_by, records_of, behind, IsNoRecord, IsVerdict, AreVerdicts, delivery_in, judged, opened, verdict_on, demand_behind, verdict, verdicts}
+use Rattle.krb_core.specs.Sender.{moment_at}
+use Rattle.krb_core.specs.Verdicts.{Verdict, AllBytes, record_of, accepted_by, records_of, behind, IsNoRecord, IsVerdict, AreVerdicts, delivery_in, judged, opened, verdict_on, demand_behind, verdict, verdicts}
 
 -- ---- what user data delivers
 
@@ -63,45 +68,74 @@ no_delivery user h records.Close spelled = let e = delivery_spelled Closed user 
 -- ---- one verdict
 
 -- `IsVerdict`, by whether a close was accepted and by what opening gives
-abbrev CarriesBy : Bool → Outcome → Delivery → Type 0
-CarriesBy closed outcome delivery = (closed ≡ false) × ((user : List ℕ) × (outcome ≡ Ok user) × SpellsRecord (record_of delivery) user)
+abbrev CarriesBy : Bool → (Outcome → Type 0) → Delivery → Type 0
+CarriesBy closed Opened delivery = (closed ≡ false) × ((user : List ℕ) × Opened (Ok user) × SpellsRecord (record_of delivery) user)
 
-abbrev FailsBy : Bool → Outcome → Refusal → Type 0
-FailsBy closed outcome refusal =
+abbrev FailsBy : Bool → (Outcome → Type 0) → Refusal → Type 0
+FailsBy closed Opened refusal =
     ((closed ≡ true) × (refusal ≡ refusals.AfterClose))
-    ⊎ ((closed ≡ false) × ((outcome ≡ Err refusal)
-    ⊎ ((user : List ℕ) × (outcome ≡ Ok user) × IsNoRecord user × (refusal ≡ refusals.BadRecord))))
+    ⊎ ((closed ≡ false) × (Opened (Err refusal)
+    ⊎ ((user : List ℕ) × Opened (Ok user) × IsNoRecord user × (refusal ≡ refusals.BadRecord))))
 
-abbrev IsVerdictBy : Bool → Outcome → Verdict → Type 0
-IsVerdictBy closed outcome v = MatchResult v (CarriesBy closed outcome) (FailsBy closed outcome)
+abbrev IsVerdictBy : Bool → (Outcome → Type 0) → Verdict → Type 0
+IsVerdictBy closed Opened v = MatchResult v (CarriesBy closed Opened) (FailsBy closed Opened)
 
-right_judged : (user : List ℕ) (found : Option Delivery) → delivery_in user ≡ found → IsVerdictBy false (Ok user) (judged found)
-right_judged user (Some d) h = (refl, (user, refl, delivery_found user d h))
-right_judged user None h = inr (refl, inr (user, refl, no_delivery user h, refl))
+right_judged : (Opened : Outcome → Type 0) (user : List ℕ) → Opened (Ok user) → (found : Option Delivery) → delivery_in user ≡ found → IsVerdictBy false Opened (judged found)
+right_judged Opened user is (Some d) h = (refl, (user, is, delivery_found user d h))
+right_judged Opened user is None h = inr (refl, inr (user, is, no_delivery user h, refl))
 
-right_by : (closed : Bool) (outcome : Outcome) → IsVerdictBy closed outcome (verdict_on closed outcome)
-right_by true outcome = inl (refl, refl)
-right_by false (Err refusal) = inr (refl, inl refl)
-right_by false (Ok user) = right_judged user (delivery_in user) refl
+right_by : (Opened : Outcome → Type 0) (closed : Bool) (outcome : Outcome) → Opened outcome → IsVerdictBy closed Opened (verdict_on closed outcome)
+right_by Opened true outcome is = inl (refl, refl)
+right_by Opened false (Err refusal) is = inr (refl, inl is)
+right_by Opened false (Ok user) is = right_judged Opened user is (delivery_in user) refl
 
 not_delivered : (user : List ℕ) (found : Option Delivery) → delivery_in user ≡ found → IsNoRecord user → judged found ≡ Err refusals.BadRecord
 not_delivered user None h none = refl
 not_delivered user (Some d) h none = absurd (none (record_of d) (delivery_found user d h))
 
-alone_by : (closed : Bool) (outcome : Outcome) (v : Verdict) → IsVerdictBy closed outcome v → v ≡ verdict_on closed outcome
-alone_by closed outcome (Ok d) h = rw (h.0, h.1.1, delivery_spelled d h.1.0 h.1.2) refl
-alone_by closed outcome (Err refusal) (inl h) = rw (h.0, h.1) refl
-alone_by closed outcome (Err refusal) (inr h) =
+alone_by : (Opened : Outcome → Type 0) (closed : Bool) (outcome : Outcome) → ((o : Outcome) → Opened o → o ≡ outcome) → (v : Verdict) → IsVerdictBy closed Opened v → v ≡ verdict_on closed outcome
+alone_by Opened closed outcome only (Ok d) h =
+    let is : outcome ≡ Ok h.1.0 = sym (only (Ok h.1.0) h.1.1) in
+    rw (h.0, is, delivery_spelled d h.1.0 h.1.2) refl
+alone_by Opened closed outcome only (Err refusal) (inl h) = rw (h.0, h.1) refl
+alone_by Opened closed outcome only (Err refusal) (inr h) =
     elim h.1 [
-      inl refused ↦ rw (h.0, refused) refl
-    | inr bad ↦ rw (h.0, bad.1, bad.3) (sym (not_delivered bad.0 (delivery_in bad.0) refl bad.2))
+      | inl refused ↦ let is : outcome ≡ Err refusal = sym (only (Err refusal) refused) in rw (h.0, is) refl
+      | inr bad ↦ let is : outcome ≡ Ok bad.0 = sym (only (Ok bad.0) bad.1) in rw (h.0, is, bad.3) (sym (not_delivered bad.0 (delivery_in bad.0) refl bad.2))
     ]
 
-pub right_verdict : (opening : ℕ → ℕ → List ℕ → Outcome) (demand : Demand) (place : ℕ) (frame : List ℕ) → IsVerdict opening demand place frame (verdict opening demand place frame)
-right_verdict opening demand place frame = right_by demand.closed (opening demand.expected place frame)
+pub right_verdict : (opener : OpenerState) (demand : Demand) (now : ℕ) (frame : List ℕ) → AreBytes frame → IsVerdict opener demand now frame (verdict opener demand now frame)
+right_verdict opener demand now frame bytes =
+    let outcome = opens opener demand.expected now frame in
+    right_by (Opens opener demand.expected now frame) demand.closed outcome ((one_outcome opener demand.expected now frame outcome bytes).1 refl)
 
-pub one_verdict : (opening : ℕ → ℕ → List ℕ → Outcome) (demand : Demand) (place : ℕ) (frame : List ℕ) (v : Verdict) → IsVerdict opening demand place frame v → v ≡ verdict opening demand place frame
-one_verdict opening demand place frame v h = alone_by demand.closed (opening demand.expected place frame) v h
+pub one_verdict : (opener : OpenerState) (demand : Demand) (now : ℕ) (frame : List ℕ) (v : Verdict) → AreBytes frame → IsVerdict opener demand now frame v → v ≡ verdict opener demand now frame
+one_verdict opener demand now frame v bytes is =
+    alone_by (Opens opener demand.expected now frame) demand.closed (opens opener demand.expected now frame) (λ o h. (one_outcome opener demand.expected now frame o bytes).0 h) v is
+
+-- there is one verdict, whatever the frame is
+closed_alone : (Opened : Outcome → Type 0) (closed : Bool) (v : Verdict) → closed ≡ true → IsVerdictBy closed Opened v → v ≡ Err refusals.AfterClose
+closed_alone Opened closed (Ok d) is h = absurd (let e = h.0 in cc)
+closed_alone Opened closed (Err refusal) is (inl h) = ap (λ r. Err r) h.1
+closed_alone Opened closed (Err refusal) is (inr h) = absurd (let e = h.0 in cc)
+
+outcome_by : (Opened : Outcome → Type 0) (closed : Bool) (v : Verdict) → IsVerdictBy closed Opened v → (closed ≡ true) ⊎ ((o : Outcome) × Opened o)
+outcome_by Opened closed (Ok d) h = inr (Ok h.1.0, h.1.1)
+outcome_by Opened closed (Err refusal) (inl h) = inl h.0
+outcome_by Opened closed (Err refusal) (inr h) = elim h.1 [ inl refused ↦ inr (Err refusal, refused) | inr bad ↦ inr (Ok bad.0, bad.1) ]
+
+unique_by : (Opened : Outcome → Type 0) → Unique Opened → (closed : Bool) (v w : Verdict) → IsVerdictBy closed Opened v → IsVerdictBy closed Opened w → v ≡ w
+unique_by Opened unique closed v w is-v is-w =
+    elim (outcome_by Opened closed v is-v) [
+      | inl shut ↦ closed_alone Opened closed v shut is-v ∙ sym (closed_alone Opened closed w shut is-w)
+      | inr one ↦
+          let only : (o : Outcome) → Opened o → o ≡ one.0 = λ o h. unique o one.0 h one.1 in
+          alone_by Opened closed one.0 only v is-v ∙ sym (alone_by Opened closed one.0 only w is-w)
+    ]
+
+pub unique_verdict : (opener : OpenerState) (demand : Demand) (now : ℕ) (frame : List ℕ) (v w : Verdict) → IsVerdict opener demand now frame v → IsVerdict opener demand now frame w → v ≡ w
+unique_verdict opener demand now frame v w is-v is-w =
+    unique_by (Opens opener demand.expected now frame) (outcomes_unique opener demand.expected now frame) demand.closed v w is-v is-w
 
 -- ---- what is demanded
 
@@ -127,11 +161,11 @@ behind-append demand xs ys =
 
 -- ---- all verdicts
 
-module _ (opening : ℕ → ℕ → List ℕ → Outcome) where
-  follow_each : (demand : Demand) (place : ℕ) (g : List ℕ) (frames : List (List ℕ)) (v : Verdict) (vs : List Verdict) → IsVerdict opening demand place g v
-      → AreVerdicts opening (demand_behind demand v) (place + 1) frames vs
+module _ (opener : OpenerState) (nows : List ℕ) where
+  follow_each : (demand : Demand) (place : ℕ) (g : List ℕ) (frames : List (List ℕ)) (v : Verdict) (vs : List Verdict) → IsVerdict opener demand (moment_at nows place) g v
+      → AreVerdicts opener nows (demand_behind demand v) (place + 1) frames vs
       → (i : ℕ) (frame : List ℕ) (w : Verdict) → slice_get (g ∷ frames) i ≡ Some frame → slice_get (v ∷ vs) i ≡ Some w
-      → IsVerdict opening (behind demand (records_of (take i (v ∷ vs)))) (place + i) frame w
+      → IsVerdict opener (behind demand (records_of (take i (v ∷ vs)))) (moment_at nows (place + i)) frame w
   follow_each demand place g frames v vs is later zero frame w at-f at-v =
       let same-f : g ≡ frame = cc in
       let same-v : v ≡ w = cc in
@@ -141,45 +175,53 @@ module _ (opening : ℕ → ℕ → List ℕ → Outcome) where
       let p : place + suc i ≡ place + 1 + i = omega arith in
       rw (p, ← behind-append demand (accepted_by v) (records_of (take i vs))) (later.each i frame w at-f at-v)
 
-  pub verdicts_follow : (demand : Demand) (place : ℕ) (frames : List (List ℕ)) → AreVerdicts opening demand place frames (verdicts opening demand place frames)
-  verdicts_follow demand place [] = record { one_each = refl; each = λ i frame w at-f at-v. absurd (let e = at-f in cc) }
-  verdicts_follow demand place (g ∷ frames) =
-      let v = verdict opening demand place g in
-      let later = verdicts_follow (demand_behind demand v) (place + 1) frames in
+  pub verdicts_follow : (demand : Demand) (place : ℕ) (frames : List (List ℕ)) → AllBytes frames → AreVerdicts opener nows demand place frames (verdicts opener nows demand place frames)
+  verdicts_follow demand place [] bytes = record { one_each = refl; each = λ i frame w at-f at-v. absurd (let e = at-f in cc) }
+  verdicts_follow demand place (g ∷ frames) bytes =
+      let v = verdict opener demand (moment_at nows place) g in
+      let later = verdicts_follow (demand_behind demand v) (place + 1) frames bytes.1 in
       record {
         one_each = ap suc later.one_each;
-        each = follow_each demand place g frames v (verdicts opening (demand_behind demand v) (place + 1) frames) (right_verdict opening demand place g) later;
+        each = follow_each demand place g frames v (verdicts opener nows (demand_behind demand v) (place + 1) frames) (right_verdict opener demand (moment_at nows place) g bytes.0) later;
       }
 
-  -- there is one such list
-  pub follow_same : (demand : Demand) (place : ℕ) (frames : List (List ℕ)) (vs : List Verdict) → AreVerdicts opening demand place frames vs → vs ≡ verdicts opening demand place frames
-  follow_same demand place [] [] h = refl
-  follow_same demand place [] (v ∷ vs) h = absurd (let e = h.one_each in omega arith)
-  follow_same demand place (g ∷ frames) [] h = absurd (let e = h.one_each in omega arith)
-  follow_same demand place (g ∷ frames) (v ∷ vs) h =
+  -- the verdicts behind the first
+  pub AreVerdicts-behind : (demand : Demand) (place : ℕ) (g : List ℕ) (frames : List (List ℕ)) (v : Verdict) (vs : List Verdict) → AreVerdicts opener nows demand place (g ∷ frames) (v ∷ vs)
+      → IsVerdict opener demand (moment_at nows place) g v × AreVerdicts opener nows (demand_behind demand v) (place + 1) frames vs
+  AreVerdicts-behind demand place g frames v vs h =
       let p : place + 0 ≡ place = omega arith in
-      let first : IsVerdict opening demand place g v = rw (p, behind-nil demand) at (h.each 0 g v refl refl) in
-      let head : v ≡ verdict opening demand place g = one_verdict opening demand place g v first in
-      let rest : AreVerdicts opening (demand_behind demand v) (place + 1) frames vs = record {
+      let first : IsVerdict opener demand (moment_at nows place) g v = rw (p, behind-nil demand) at (h.each 0 g v refl refl) in
+      let rest : AreVerdicts opener nows (demand_behind demand v) (place + 1) frames vs = record {
         one_each = (let e : suc (length vs) ≡ suc (length frames) = h.one_each in omega arith);
         each = λ i frame w at-f at-v.
-          let q : place + 1 + i ≡ place + suc i = omega arith in
-          rw (q, behind-append demand (accepted_by v) (records_of (take i vs))) (h.each (suc i) frame w at-f at-v);
+            let q : place + 1 + i ≡ place + suc i = omega arith in
+            rw (q, behind-append demand (accepted_by v) (records_of (take i vs))) (h.each (suc i) frame w at-f at-v);
       } in
-      let tail = follow_same (demand_behind demand v) (place + 1) frames vs rest in
-      let P : Verdict → Type 0 = λ x. v ∷ vs ≡ x ∷ verdicts opening (demand_behind demand x) (place + 1) frames in
+      (first, rest)
+
+  -- there is one such list
+  pub follow_same : (demand : Demand) (place : ℕ) (frames : List (List ℕ)) (vs : List Verdict) → AllBytes frames → AreVerdicts opener nows demand place frames vs → vs ≡ verdicts opener nows demand place frames
+  follow_same demand place [] [] bytes h = refl
+  follow_same demand place [] (v ∷ vs) bytes h = absurd (let e = h.one_each in omega arith)
+  follow_same demand place (g ∷ frames) [] bytes h = absurd (let e = h.one_each in omega arith)
+  follow_same demand place (g ∷ frames) (v ∷ vs) bytes h =
+      let both = AreVerdicts-behind demand place g frames v vs h in
+      let head : v ≡ verdict opener demand (moment_at nows place) g = one_verdict opener demand (moment_at nows place) g v bytes.0 both.0 in
+      let tail = follow_same (demand_behind demand v) (place + 1) frames vs bytes.1 both.1 in
+      let P : Verdict → Type 0 = λ x. v ∷ vs ≡ x ∷ verdicts opener nows (demand_behind demand x) (place + 1) frames in
       subst P head (ap (λ z. v ∷ z) tail)
 
   -- one frame more
   pub verdicts-push : (demand : Demand) (place : ℕ) (frames : List (List ℕ)) (frame : List ℕ)
-      → verdicts opening demand place (frames ++ frame ∷ []) ≡ verdicts opening demand place frames ++ verdict opening (behind demand (records_of (verdicts opening demand place frames))) (place + length frames) frame ∷ []
+      → verdicts opener nows demand place (frames ++ frame ∷ [])
+      ≡ verdicts opener nows demand place frames ++ verdict opener (behind demand (records_of (verdicts opener nows demand place frames))) (moment_at nows (place + length frames)) frame ∷ []
   verdicts-push demand place [] frame =
-      sym (ap₂ (λ (d : Demand) (p : ℕ). verdict opening d p frame ∷ []) (behind-nil demand) (let e : place + 0 ≡ place = omega arith in e))
+      sym (ap₂ (λ (d : Demand) (p : ℕ). verdict opener d (moment_at nows p) frame ∷ []) (behind-nil demand) (let e : place + 0 ≡ place = omega arith in e))
   verdicts-push demand place (g ∷ frames) frame =
-      let v = verdict opening demand place g in
-      let vs = verdicts opening (demand_behind demand v) (place + 1) frames in
+      let v = verdict opener demand (moment_at nows place) g in
+      let vs = verdicts opener nows (demand_behind demand v) (place + 1) frames in
       let p : place + 1 + length frames ≡ place + suc (length frames) = omega arith in
       ap (λ z. v ∷ z) (
-        verdicts-push (demand_behind demand v) (place + 1) frames frame
-        ∙ ap₂ (λ (d : Demand) (n : ℕ). vs ++ verdict opening d n frame ∷ []) (behind-append demand (accepted_by v) (records_of vs)) p
+      verdicts-push (demand_behind demand v) (place + 1) frames frame
+      ∙ ap₂ (λ (d : Demand) (n : ℕ). vs ++ verdict opener d (moment_at nows n) frame ∷ []) (behind-append demand (accepted_by v) (records_of vs)) p
       )

@@ -12,8 +12,8 @@ use Rattle.krb_core.specs.declared.plan.Emit.TheVariants.{Frame, Flip, Raw}
 use Rattle.krb_core.specs.Log.{texts_in, has_closed}
 use Rattle.krb_core.specs.Demand.{Demand}
 use Rattle.krb_core.specs.Plan.{wire}
-use Rattle.krb_core.specs.Sender.{Source, sealed_texts, records, AreFrames}
-use Rattle.krb_core.specs.Verdicts.{Verdict, record_of, records_of, events_of, delivered, behind, Fails, AreVerdicts, opens_at}
+use Rattle.krb_core.specs.Sender.{Source, moment_at, sealed_texts, records, AreFrames}
+use Rattle.krb_core.specs.Verdicts.{Verdict, record_of, records_of, events_of, delivered, behind, Fails, AreVerdicts}
 
 -- the emission at a place is none of the sender's own frames
 abbrev pub is_altered : Emit → Bool
@@ -53,7 +53,7 @@ pub record IsRun (source : Source) (opener : OpenerState) (demand : Demand) (now
   -- so many frames of the wire were taken
   pub n : ℕ
   pub taken : took ≡ take n (wire frames source.plan)
-  pub judged : AreVerdicts (opens_at opener nows) demand 0 took verdicts
+  pub judged : AreVerdicts opener nows demand 0 took verdicts
 
 -- what is delivered is a prefix of the texts that are sealed: in order, and each once
 abbrev pub DeliversPrefix : Source → List Verdict → Type 0
@@ -72,10 +72,17 @@ DeliversAllWhereClosed source verdicts = has_closed (events_of verdicts) ≡ tru
 abbrev pub RefusesExactly : OpenerState → Demand → List ℕ → List (List ℕ) → List Verdict → Type 0
 RefusesExactly opener demand nows took verdicts =
     (i : ℕ) (frame : List ℕ) (refusal : Refusal) → slice_get took i ≡ Some frame
-    → (slice_get verdicts i ≡ Some (Err refusal)) ↔ Fails (opens_at opener nows) (behind demand (records_of (take i verdicts))) i frame refusal
+    → (slice_get verdicts i ≡ Some (Err refusal)) ↔ Fails opener (behind demand (records_of (take i verdicts))) (moment_at nows i) frame refusal
 
 -- a refusal delivers nothing and moves no number: without it, the same is delivered and demanded
 abbrev pub RefusalsDeliverNothing : Demand → List Verdict → Type 0
 RefusalsDeliverNothing demand verdicts =
     (front back : List Verdict) (refusal : Refusal) → verdicts ≡ front ++ Err refusal ∷ back
     → (delivered verdicts ≡ delivered (front ++ back)) × (behind demand (records_of verdicts) ≡ behind demand (records_of (front ++ back)))
+
+-- it holds of each run of a paired lane in which altered frames are honest
+abbrev pub OfEachRun : (Source → List Verdict → Type 0) → Type 0
+OfEachRun Claim =
+    (source : Source) (opener : OpenerState) (demand : Demand) (nows : List ℕ) (took : List (List ℕ)) (verdicts : List Verdict)
+    → IsPaired source opener demand → IsRun source opener demand nows took verdicts → AlteredAreHonest source verdicts
+    → Claim source verdicts

@@ -2,10 +2,11 @@
 use Rattle.std.specs.Prelude.{◌≡◌, ℕ, ◌+◌, ◌==◌, nat_le, ◌&&◌, ◌||◌, ◌⊎◌, Bool, true, false, List, [], ◌∷◌, ◌++◌, length, take, slice_get, Option, Some, None, Result, Ok, Err, if◌then◌else◌}
 use Rattle.std.specs.Result.{MatchResult}
 use Rattle.std.specs.List.{flat_map, list_any}
+use Rattle.krb_aes.specs.Words.{AreBytes}
 use Rattle.krb_base.specs.Limits.{text_limit}
 use Rattle.krb_seal.specs.declared.refusal.Refusal.{Refusal}
 use Rattle.krb_seal.specs.declared.refusal.Refusal.TheVariants as refusals
-use Rattle.krb_seal.specs.Opens.{Outcome, OpenerState}
+use Rattle.krb_seal.specs.Opens.{Outcome, OpenerState, Opens}
 use Rattle.krb_seal.specs.Opening.{opens}
 use Rattle.krb_core.specs.declared.record.Record.{Record}
 use Rattle.krb_core.specs.declared.record.Record.TheVariants as records
@@ -54,36 +55,40 @@ delivered verdicts = texts_in (events_of verdicts)
 abbrev pub behind : Demand → List Record → Demand
 behind demand accepted = record { expected = demand.expected + length accepted; closed = demand.closed || list_any is_close accepted }
 
--- ---- what a verdict is: `opening number place frame` is the outcome of opening the frame that is
--- taken at this place, under the demanded number
+-- ---- what a verdict is: on a frame that is taken at a moment, where this is demanded
 
 abbrev pub IsNoRecord : List ℕ → Type 0
 IsNoRecord user = (r : Record) → ¬ SpellsRecord r user
 
 -- the frame fails a check, and this is the refusal of the first: a close was accepted before, or
 -- the opener refuses it, or its user data is no record
-abbrev pub Fails : (ℕ → ℕ → List ℕ → Outcome) → Demand → ℕ → List ℕ → Refusal → Type 0
-Fails opening demand place frame refusal =
+abbrev pub Fails : OpenerState → Demand → ℕ → List ℕ → Refusal → Type 0
+Fails opener demand now frame refusal =
     ((demand.closed ≡ true) × (refusal ≡ refusals.AfterClose))
-    ⊎ ((demand.closed ≡ false) × ((opening demand.expected place frame ≡ Err refusal)
-    ⊎ ((user : List ℕ) × (opening demand.expected place frame ≡ Ok user) × IsNoRecord user × (refusal ≡ refusals.BadRecord))))
+    ⊎ ((demand.closed ≡ false) × (Opens opener demand.expected now frame (Err refusal)
+    ⊎ ((user : List ℕ) × Opens opener demand.expected now frame (Ok user) × IsNoRecord user × (refusal ≡ refusals.BadRecord))))
 
 -- the frame passes them all, and carries this
-abbrev pub Carries : (ℕ → ℕ → List ℕ → Outcome) → Demand → ℕ → List ℕ → Delivery → Type 0
-Carries opening demand place frame delivery =
-    (demand.closed ≡ false) × ((user : List ℕ) × (opening demand.expected place frame ≡ Ok user) × SpellsRecord (record_of delivery) user)
+abbrev pub Carries : OpenerState → Demand → ℕ → List ℕ → Delivery → Type 0
+Carries opener demand now frame delivery =
+    (demand.closed ≡ false) × ((user : List ℕ) × Opens opener demand.expected now frame (Ok user) × SpellsRecord (record_of delivery) user)
 
-abbrev pub IsVerdict : (ℕ → ℕ → List ℕ → Outcome) → Demand → ℕ → List ℕ → Verdict → Type 0
-IsVerdict opening demand place frame verdict = MatchResult verdict (Carries opening demand place frame) (Fails opening demand place frame)
+abbrev pub IsVerdict : OpenerState → Demand → ℕ → List ℕ → Verdict → Type 0
+IsVerdict opener demand now frame verdict = MatchResult verdict (Carries opener demand now frame) (Fails opener demand now frame)
 
--- one verdict for each frame, by the records accepted before it; the first frame is taken at this place
-pub record AreVerdicts (opening : ℕ → ℕ → List ℕ → Outcome) (demand : Demand) (place : ℕ) (frames : List (List ℕ)) (verdicts : List Verdict) : Type 0 where
+-- one verdict for each frame, by the records accepted before it; the first frame is taken at this
+-- place, and each is opened at the moment of its place
+pub record AreVerdicts (opener : OpenerState) (nows : List ℕ) (demand : Demand) (place : ℕ) (frames : List (List ℕ)) (verdicts : List Verdict) : Type 0 where
   pub one_each : length verdicts ≡ length frames
   pub each :
       (i : ℕ) (frame : List ℕ) (verdict : Verdict) → slice_get frames i ≡ Some frame → slice_get verdicts i ≡ Some verdict
-      → IsVerdict opening (behind demand (records_of (take i verdicts))) (place + i) frame verdict
+      → IsVerdict opener (behind demand (records_of (take i verdicts))) (moment_at nows (place + i)) frame verdict
 
--- ---- the same as a function: the law `verdict_laws` says that it gives the one such list
+abbrev pub AllBytes : List (List ℕ) → Type 0
+AllBytes [] = Unit {0}
+AllBytes (frame ∷ frames) = AreBytes frame × AllBytes frames
+
+-- ---- the same as a function: the law `verdict_laws` says that it gives the one such list of frames of bytes
 
 -- what the user data delivers, where it is the bytes of a record
 abbrev pub delivery_in : List ℕ → Option Delivery
@@ -109,17 +114,11 @@ verdict_on false outcome = opened outcome
 abbrev pub demand_behind : Demand → Verdict → Demand
 demand_behind demand verdict = behind demand (accepted_by verdict)
 
-module _ (opening : ℕ → ℕ → List ℕ → Outcome) where
-  abbrev pub verdict : Demand → ℕ → List ℕ → Verdict
-  verdict demand place frame = verdict_on demand.closed (opening demand.expected place frame)
+abbrev pub verdict : OpenerState → Demand → ℕ → List ℕ → Verdict
+verdict opener demand now frame = verdict_on demand.closed (opens opener demand.expected now frame)
 
-  abbrev pub verdicts : Demand → ℕ → List (List ℕ) → List Verdict
-  verdicts demand place [] = []
-  verdicts demand place (frame ∷ frames) =
-      let v = verdict demand place frame in
-      v ∷ verdicts (demand_behind demand v) (place + 1) frames
-
--- ---- of a receiver: each frame is opened at the moment of its place
-
-abbrev pub opens_at : OpenerState → List ℕ → ℕ → ℕ → List ℕ → Outcome
-opens_at opener nows number place frame = opens opener number (moment_at nows place) frame
+abbrev pub verdicts : OpenerState → List ℕ → Demand → ℕ → List (List ℕ) → List Verdict
+verdicts opener nows demand place [] = []
+verdicts opener nows demand place (frame ∷ frames) =
+    let v = verdict opener demand (moment_at nows place) frame in
+    v ∷ verdicts opener nows (demand_behind demand v) (place + 1) frames

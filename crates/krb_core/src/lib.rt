@@ -13,6 +13,7 @@
 mod confounder;
 mod delivery;
 mod emission;
+mod headline;
 mod laws;
 mod log;
 mod order;
@@ -21,6 +22,7 @@ mod record;
 
 pub use delivery::Delivery;
 pub use emission::emit;
+pub use headline::{headline_laws, verdict_laws};
 pub use krb_base::{LAST_NUMBER, TEXT_LIMIT, USER_DATA_LIMIT};
 pub use laws::{accepted_laws, record_laws};
 pub use log::{Entry, Event, Log, Status};
