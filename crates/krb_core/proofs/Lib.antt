@@ -6,3 +6,5 @@ pub mod LogLemmas
 pub mod DrawsLemmas
 pub mod VerdictLemmas
 pub mod HeadlineLemmas
+pub mod NumberLemmas
+pub mod ReceiverLemmas

@@ -10,3 +10,5 @@ pub mod Draws
 pub mod Sender
 pub mod Verdicts
 pub mod Headline
+pub mod ReceiverState
+pub mod Receiver

@@ -18,6 +18,7 @@ mod laws;
 mod log;
 mod order;
 mod plan;
+mod receiver;
 mod record;
 
 pub use delivery::Delivery;
@@ -28,4 +29,5 @@ pub use laws::{accepted_laws, record_laws};
 pub use log::{Entry, Event, Log, Status};
 pub use order::{Order, OrderRefusal};
 pub use plan::{Emit, EmitError};
+pub use receiver::Receiver;
 pub use record::{Record, RecordError, read_record, record_bytes};
