@@ -8,3 +8,4 @@ pub mod VerdictLemmas
 pub mod HeadlineLemmas
 pub mod NumberLemmas
 pub mod ReceiverLemmas
+pub mod SendingLemmas

@@ -34,6 +34,6 @@ pub opens_in_range : (o : OpenerState) (number now : ℕ) (bytes given : List �
 opens_in_range o number now bytes given h =
     let a = met_all (frame_checks bytes) (Read Spells bytes (OpensMessage o number now)) given h in
     elim a.1 [
-      inl r ↦ absurd (let e = r.1 in cc)
-    | inr r ↦ message_small o number now given r.0 r.1.in_range r.2
+      | inl r ↦ absurd (let e = r.1 in cc)
+      | inr r ↦ message_small o number now given r.0 r.1.in_range r.2
     ]

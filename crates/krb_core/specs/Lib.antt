@@ -12,3 +12,4 @@ pub mod Verdicts
 pub mod Headline
 pub mod ReceiverState
 pub mod Receiver
+pub mod Sending

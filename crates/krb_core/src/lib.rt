@@ -20,6 +20,7 @@ mod order;
 mod plan;
 mod receiver;
 mod record;
+mod sending;
 
 pub use delivery::Delivery;
 pub use emission::emit;
@@ -31,3 +32,4 @@ pub use order::{Order, OrderRefusal};
 pub use plan::{Emit, EmitError};
 pub use receiver::Receiver;
 pub use record::{Record, RecordError, read_record, record_bytes};
+pub use sending::{Ending, Sending, Sent};

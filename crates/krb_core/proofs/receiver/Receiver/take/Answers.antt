@@ -21,7 +21,7 @@ returns-in_err-accept-clause-verdict c =
     let receiver : ReceiverState = record { opener = c.self.inside.opener; demand = c.self.inside.order } in
     let live : receiver.demand.closed ≡ false = search rules in
     let opened : Opens receiver.opener c.expected-number.result c.args.now c.args.frame.now (Ok c.in_ok-user_data.user_data.items) =
-        opened_is receiver.opener c.expected-number.result c.args.now c.args.frame.now c.unseal.result c.in_ok-user_data.user_data c.unseal.ensures c.in_ok-user_data.was in
+    opened_is receiver.opener c.expected-number.result c.args.now c.args.frame.now c.unseal.result c.in_ok-user_data.user_data c.unseal.ensures c.in_ok-user_data.was in
     absurd (accept_never receiver.opener receiver.demand c.expected-number.result c.args.now c.args.frame.now c.in_ok-user_data.user_data.items c.in_err-accept.field-0.0 live c.expected-number.ensures.number opened
     (λ e. c.in_err-accept.ensures.after_close.0 (ap (λ x. Err x) e))
     (λ e. (c.in_err-accept.ensures.bad_order.0 (ap (λ x. Err x) e)).1))
@@ -32,11 +32,11 @@ returns-clause-verdict c =
     let live : receiver.demand.closed ≡ false = search rules in
     let user = c.in_ok-user_data.user_data in
     let opened : Opens receiver.opener c.expected-number.result c.args.now c.args.frame.now (Ok user.items) =
-        opened_is receiver.opener c.expected-number.result c.args.now c.args.frame.now c.unseal.result user c.unseal.ensures c.in_ok-user_data.was in
+    opened_is receiver.opener c.expected-number.result c.args.now c.args.frame.now c.unseal.result user c.unseal.ensures c.in_ok-user_data.was in
     let spelled : SpellsRecord c.in-Ok.record user.items = search rules in
     elim c.match-record-2.branch [
-      in-Text w ↦ rw (w.result-is, ← c.self.view_is)
-      (carried_is receiver c.expected-number.result c.args.now c.args.frame.now user.items c.in-Ok.record _ live c.expected-number.ensures.number opened spelled w.in-Text.is)
-    | in-Close w ↦ rw (w.result-is, ← c.self.view_is)
-      (carried_is receiver c.expected-number.result c.args.now c.args.frame.now user.items c.in-Ok.record _ live c.expected-number.ensures.number opened spelled w.in-Close.is)
+      | in-Text w ↦ rw (w.result-is, ← c.self.view_is)
+          (carried_is receiver c.expected-number.result c.args.now c.args.frame.now user.items c.in-Ok.record _ live c.expected-number.ensures.number opened spelled w.in-Text.is)
+      | in-Close w ↦ rw (w.result-is, ← c.self.view_is)
+          (carried_is receiver c.expected-number.result c.args.now c.args.frame.now user.items c.in-Ok.record _ live c.expected-number.ensures.number opened spelled w.in-Close.is)
     ]
