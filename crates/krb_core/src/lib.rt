@@ -30,6 +30,6 @@ pub use laws::{accepted_laws, record_laws};
 pub use log::{Entry, Event, Log, Status};
 pub use order::{Order, OrderRefusal};
 pub use plan::{Emit, EmitError};
-pub use receiver::Receiver;
+pub use receiver::{Receiver, Receiving};
 pub use record::{Record, RecordError, read_record, record_bytes};
 pub use sending::{Ending, Sending, Sent};

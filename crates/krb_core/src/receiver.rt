@@ -23,6 +23,16 @@ pub struct Receiver {
     order: Order,
 }
 
+/// A receiver and the moments at which it takes frames: entry i for the i-th, refused ones counted,
+/// and the last one for all others. There is at least one.
+#[derive(Drop)]
+pub struct Receiving {
+    /// What takes the frames.
+    pub receiver: Receiver,
+    /// The moments, in order.
+    pub nows: Vec<Moment>,
+}
+
 impl Model for Receiver {
     ghost use Rattle.krb_core.specs.ReceiverState.{ReceiverState};
 

@@ -6,7 +6,8 @@ ghost use Rattle.krb_base.specs.Limits.{user_data_limit};
 ghost use Rattle.krb_seal.specs.Sealer.{SealsNext};
 ghost use Rattle.krb_core.specs.Record.{bytes_of};
 ghost use Rattle.krb_core.specs.Draws.{after_words, confounder_at};
-ghost use Rattle.krb_core.specs.Sender.{Source, records, moment_at};
+ghost use Rattle.krb_core.specs.Plan.{contents};
+ghost use Rattle.krb_core.specs.Sender.{Source, AreFrames, records, moment_at};
 ghost use Rattle.krb_core.specs.Sending.{source_of, sealed_of, before, behind, IsSender, HasSealed};
 
 use crate::confounder::draw_confounder;
@@ -125,6 +126,27 @@ impl<S: Sealer> Sending<S> {
         let at = self.ats[k.min(self.ats.len() - 1)];
         let confounder = draw_confounder(&mut self.draws);
         self.sealer.seal(alloc, &bytes, at, confounder)
+    }
+
+    /// Seals all records, the close last.
+    ///
+    /// The errors are those of [`seal_record`](Sending::seal_record); the first ends it.
+    pub fn seal_all(&mut self, alloc: Global) -> Result<Vec<Vec<u8>>, SealError>
+        requires { IsSender (source_of S.state self.old) }
+        ensures frames { IfOk result (λ frames. AreFrames (source_of S.state self.old)
+            (records (source_of S.state self.old)) (contents frames.items)) }
+        ensures wiped { (S.state self.old.sealer).wiped ≡ true → IsErr result }
+        ensures errors { IfErr result (λ e.
+            ((e ≡ SealError.Wiped) × ((S.state self.old.sealer).wiped ≡ true))
+            ⊎ (e ≡ SealError.Memory)) }
+    {
+        let count = self.records();
+        let mut frames = Vec::with_capacity(alloc, count)?;
+        for k in 0..count {
+            let frame = self.seal_record(alloc, k)?;
+            frames.push(frame).map_err(AllocError::from)?;
+        }
+        Ok(frames)
     }
 
     /// The bytes of record `k`, which has the sealer's next number.
