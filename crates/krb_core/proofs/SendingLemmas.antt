@@ -1,9 +1,12 @@
 -- The records and the frames of a sender, one after another.
-use Rattle.std.proofs.Common.{◌≡◌, ℕ, zero, suc, ◌+◌, ◌-◌, ◌*◌, ◌<◌, ◌≤◌, min, List, [], ◌∷◌, ◌++◌, length, map, take, get_or, slice_get, Option, Some, None, Result, Ok, Err, IfOk, IfErr, OnOk, Vec, true, false, ◌⊎◌, inl, inr, refl, sym, ap, ap₂, subst, ◌∙◌, arith, length-append}
+use Rattle.std.proofs.Common.{◌≡◌, ℕ, zero, suc, ◌+◌, ◌-◌, ◌*◌, ◌<◌, ◌≤◌, min, List, [], ◌∷◌, ◌++◌, length, map, take, get_or, slice_get, Option, Some, None, Result, Ok, Err, IfOk, IfErr, OnOk, Vec, Bool, true, false, ◌&&◌, nat_le, All, ◌⊎◌, inl, inr, refl, sym, ap, ap₂, subst, ◌∙◌, arith, length-append}
 use Rattle.std.proofs.lemmas.Option.{slice_get_within, slice_get-get_or}
 use Rattle.std.proofs.lemmas.List.{get_or-map, get_or_read}
 use Rattle.rand_chacha.specs.ChaCha.{ChaCha}
-use Rattle.krb_base.specs.Limits.{last_number, user_data_limit}
+use Rattle.std.specs.List.{list_all}
+use Rattle.std.proofs.lemmas.Bool.{leb-true}
+use Rattle.std.proofs.lemmas.List.Elements.{All-cons}
+use Rattle.krb_base.specs.Limits.{last_number, user_data_limit, text_limit}
 use Rattle.krb_seal.specs.declared.seal_error.SealError.{SealError}
 use Rattle.krb_seal.specs.declared.seal_error.SealError.TheVariants.{Wiped, TooLong, Exhausted, Memory}
 use Rattle.krb_seal.specs.Sealer.{SealerState, SealsNext, end_of_numbers}
@@ -180,3 +183,15 @@ pub moment_read : (ats : List ℕ) (k i at : ℕ) → 0 < length ats → i ≡ m
 moment_read ats k i at some place read =
     let within : i < length ats = omega arith in
     get_or_read ats i at within read 0 ∙ ap (λ j. get_or ats j 0) place
+
+-- texts that pass the test of their lengths
+pub short_texts : {A : Type 0} (vecs : List (Vec ℕ A)) → list_all (λ v. nat_le (length v.items) text_limit) vecs ≡ true
+    → All (λ text. length text ≤ text_limit) (contents vecs)
+short_texts [] all = λ k d h. absurd (omega arith)
+short_texts (v ∷ vecs) all =
+    let both = both_true (nat_le (length v.items) text_limit) (list_all (λ x. nat_le (length x.items) text_limit) vecs) all in
+    All-cons (λ text. length text ≤ text_limit) v.items (contents vecs) (leb-true (length v.items) text_limit both.0) (short_texts vecs both.1)
+  where
+    both_true : (a b : Bool) → (a && b) ≡ true → (a ≡ true) × (b ≡ true)
+    both_true true b h = (refl, h)
+    both_true false b h = absurd (let e = h in cc)

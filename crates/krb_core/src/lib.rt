@@ -33,3 +33,6 @@ pub use plan::{Emit, EmitError};
 pub use receiver::{Receiver, Receiving};
 pub use record::{Record, RecordError, read_record, record_bytes};
 pub use sending::{Ending, Sending, Sent};
+
+#[cfg(test)]
+mod tests;

@@ -12,9 +12,9 @@ loop-k-preserved g c =
     record {
       sealed = rw (pushed, map-append) (c.in_ok-frame.ensures.frames _ _ c.loop-k.invariant.sealed);
       none_if_wiped = λ wiped.
-        let still : (g.S.Sealer.state c.loop-k.self.sealer).wiped ≡ true = ap (λ s. s.sealer.wiped) c.loop-k.invariant.sealed.state ∙ wiped in
-        let failed : IsErr c.seal_record.result = c.seal_record.ensures.wiped still in
-        absurd (search rules);
+          let still : (g.S.Sealer.state c.loop-k.self.sealer).wiped ≡ true = ap (λ s. s.sealer.wiped) c.loop-k.invariant.sealed.state ∙ wiped in
+          let failed : IsErr c.seal_record.result = c.seal_record.ensures.wiped still in
+          absurd (search rules);
     }
 
 pub returns-clause-wiped : goal.returns-clause-wiped
