@@ -1,8 +1,10 @@
 -- One verdict for each frame, and no other.
-use Rattle.std.proofs.Common.{◌≡◌, ℕ, zero, suc, ◌+◌, ◌≤◌, ◌||◌, ◌&&◌, ◌⊎◌, nat_le, leb, eqb, cond, Bool, true, false, List, [], ◌∷◌, ◌++◌, length, take, slice_get, Option, Some, None, Result, Ok, Err, inl, inr, refl, sym, ap, ap₂, subst, ◌∙◌, arith, append_assoc, append-nil, length-append}
+use Rattle.std.proofs.Common.{◌≡◌, ℕ, zero, suc, ◌+◌, ◌≤◌, ◌||◌, ◌&&◌, ◌⊎◌, nat_le, leb, eqb, cond, Bool, true, false, List, [], ◌∷◌, ◌++◌, length, take, slice_get, Option, Some, None, Result, Ok, Err, inl, inr, refl, sym, ap, ap₂, subst, ◌∙◌, arith, append_assoc, append-nil, length-append, ◌<◌}
 use Rattle.std.specs.Result.{MatchResult}
 use Rattle.std.specs.List.{flat_map, list_any}
 use Rattle.std.proofs.lemmas.Bool.{eqb-true, leb-true, le-leb}
+use Rattle.std.proofs.lemmas.List.{take-append-le, take_all}
+use Rattle.std.proofs.lemmas.Option.{slice_get_within}
 use Rattle.std.proofs.lemmas.List.Folds.{list_any-append}
 use Rattle.std.proofs.lemmas.List.Concat.{flat_map-append}
 use Rattle.krb_base.specs.Limits.{text_limit}
@@ -225,3 +227,45 @@ module _ (opener : OpenerState) (nows : List ℕ) where
       verdicts-push (demand_behind demand v) (place + 1) frames frame
       ∙ ap₂ (λ (d : Demand) (n : ℕ). vs ++ verdict opener d (moment_at nows n) frame ∷ []) (behind-append demand (accepted_by v) (records_of vs)) p
       )
+
+-- ---- one frame more, by what the verdict is
+
+slice_get-front : {X : Type 0} (xs : List X) (y : X) (j : ℕ) → j < length xs → slice_get (xs ++ y ∷ []) j ≡ slice_get xs j
+slice_get-front [] y j h = absurd (omega arith)
+slice_get-front (x ∷ xs) y zero h = refl
+slice_get-front (x ∷ xs) y (suc j) h = slice_get-front xs y j (omega arith)
+
+slice_get-end : {X : Type 0} (xs : List X) (y z : X) (j : ℕ) → j ≡ length xs → slice_get (xs ++ y ∷ []) j ≡ Some z → y ≡ z
+slice_get-end [] y z zero e h = cc
+slice_get-end [] y z (suc j) e h = absurd (omega arith)
+slice_get-end (x ∷ xs) y z zero e h = absurd (omega arith)
+slice_get-end (x ∷ xs) y z (suc j) e h = slice_get-end xs y z j (omega arith) h
+
+lt_or_same : (j k : ℕ) → j < k + 1 → (j < k) ⊎ (j ≡ k)
+lt_or_same zero zero h = inr refl
+lt_or_same zero (suc k) h = inl (omega arith)
+lt_or_same (suc j) zero h = absurd (omega arith)
+lt_or_same (suc j) (suc k) h = elim (lt_or_same j k (omega arith)) [ inl below ↦ inl (omega (arith, below)) | inr same ↦ inr (ap suc same) ]
+
+pub AreVerdicts-push : (opener : OpenerState) (nows : List ℕ) (demand : Demand) (place : ℕ) (frames : List (List ℕ)) (vs : List Verdict) (frame : List ℕ) (v : Verdict)
+    → AreVerdicts opener nows demand place frames vs → IsVerdict opener (behind demand (records_of vs)) (moment_at nows (place + length frames)) frame v
+    → AreVerdicts opener nows demand place (frames ++ frame ∷ []) (vs ++ v ∷ [])
+AreVerdicts-push opener nows demand place frames vs frame v are is = record {
+  one_each = omega (arith, are.one_each, length-append vs (v ∷ []), length-append frames (frame ∷ []));
+  each = λ i f w at-f at-w.
+    let small : i < length frames + 1 = omega (arith, slice_get_within (frames ++ frame ∷ []) i f at-f, length-append frames (frame ∷ [])) in
+    elim (lt_or_same i (length frames) small) [
+      inl below ↦
+        let inside : i < length vs = omega (arith, below, are.one_each) in
+        let short : i ≤ length vs = omega (arith, inside) in
+        rw (take-append-le i vs (v ∷ []) short)
+        (are.each i f w (sym (slice_get-front frames frame i below) ∙ at-f) (sym (slice_get-front vs v i inside) ∙ at-w))
+    | inr same ↦
+        let long : i ≡ length vs = omega (arith, same, are.one_each) in
+        let short : i ≤ length vs = omega (arith, long) in
+        let whole : length vs ≤ i = omega (arith, long) in
+        let same-f : frame ≡ f = slice_get-end frames frame f i same at-f in
+        let same-v : v ≡ w = slice_get-end vs v w i long at-w in
+        rw (take-append-le i vs (v ∷ []) short, take_all i vs whole, same, ← same-f, ← same-v) is
+    ];
+}

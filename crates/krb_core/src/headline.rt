@@ -12,9 +12,9 @@ ghost use Rattle.krb_core.specs.Headline.{OfEachRun, DeliversPrefix, DeliversNot
 
 /// The laws of verdicts and of frames.
 ///
-/// A frame of bytes has one verdict (`one`), frames of bytes have one list of verdicts (`all`), and
-/// with one frame more comes one verdict more, by what is demanded then (`next`). The frames of a
-/// sender's records are one list (`frames`).
+/// A frame of bytes has one verdict (`one`), and frames of bytes have one list of verdicts (`all`).
+/// With one frame more comes one verdict more, by what is demanded then (`goes_on`, and `next` of the
+/// list as it is computed). The frames of a sender's records are one list (`frames`).
 pub fn verdict_laws()
     ensures one { (opener : OpenerState) (demand : Demand) (now : ℕ) (frame : List ℕ) (v : Verdict)
         → AreBytes frame → IsVerdict opener demand now frame v ↔ (v ≡ verdict opener demand now frame) }
@@ -22,6 +22,11 @@ pub fn verdict_laws()
         → (frames : List (List ℕ)) (answers : List Verdict) → AllBytes frames
         → AreVerdicts opener nows demand 0 frames answers ↔ (answers ≡ verdicts opener nows demand 0 frames) }
 
+    ensures goes_on { (opener : OpenerState) (nows : List ℕ) (demand : Demand)
+        → (frames : List (List ℕ)) (answers : List Verdict) (frame : List ℕ) (v : Verdict)
+        → AreVerdicts opener nows demand 0 frames answers
+        → IsVerdict opener (behind demand (records_of answers)) (moment_at nows (length frames)) frame v
+        → AreVerdicts opener nows demand 0 (frames ++ frame ∷ []) (answers ++ v ∷ []) }
     ensures next { (opener : OpenerState) (nows : List ℕ) (demand : Demand)
         → (frames : List (List ℕ)) (frame : List ℕ)
         → let before = verdicts opener nows demand 0 frames in

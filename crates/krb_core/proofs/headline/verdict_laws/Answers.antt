@@ -1,7 +1,7 @@
 use Rattle.std.proofs.Common.{◌≡◌, ◌+◌, length, subst, arith}
 use Rattle.krb_core.specs.Sender.{moment_at}
 use Rattle.krb_core.specs.Verdicts.{IsVerdict, AreVerdicts, verdict, verdicts}
-use Rattle.krb_core.proofs.VerdictLemmas.{right_verdict, one_verdict, verdicts_follow, follow_same, verdicts-push}
+use Rattle.krb_core.proofs.VerdictLemmas.{right_verdict, one_verdict, verdicts_follow, follow_same, verdicts-push, AreVerdicts-push}
 use Rattle.krb_core.proofs.HeadlineLemmas.{same_frames}
 use Rattle.krb_core.proofs.headline.verdict_laws.Goals as goal
 
@@ -15,6 +15,9 @@ returns c = record {
     λ are. follow_same opener nows demand 0 frames answers bytes are,
     λ same. rw same (verdicts_follow opener nows demand 0 frames bytes),
   );
+  goes_on = λ opener nows demand frames answers frame v are is.
+    let zero_more : 0 + length frames ≡ length frames = omega arith in
+    AreVerdicts-push opener nows demand 0 frames answers frame v are (rw zero_more is);
   next = λ opener nows demand frames frame.
       let zero_more : 0 + length frames ≡ length frames = omega arith in
       rw zero_more at (verdicts-push opener nows demand 0 frames frame);
