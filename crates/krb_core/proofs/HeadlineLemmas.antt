@@ -25,29 +25,9 @@ use Rattle.krb_core.specs.Sender as sender
 use Rattle.krb_core.specs.Verdicts.{Verdict, record_of, accepted_by, events_by, records_of, events_of, delivered, behind, Carries, Fails, IsVerdict, AreVerdicts, demand_behind}
 use Rattle.krb_core.specs.Headline.{is_altered, is_altered_one, altered_at, AlteredAreHonest, IsPaired, IsRun, DeliversPrefix, DeliversNothingAfterClose, DeliversAllWhereClosed, RefusesExactly, RefusalsDeliverNothing}
 use Rattle.krb_core.proofs.VerdictLemmas.{AreVerdicts-behind, unique_verdict}
+use Rattle.krb_core.proofs.ListLemmas.{or_true, slice_get-take, drop_get, all_pass, same_lists}
 
 -- ---- lists
-
-slice_get-take : {X : Type 0} (n i : ℕ) (xs : List X) (x : X) → slice_get (take n xs) i ≡ Some x → slice_get xs i ≡ Some x
-slice_get-take zero i xs x h = absurd (let e = h in cc)
-slice_get-take (suc n) i [] x h = absurd (let e = h in cc)
-slice_get-take (suc n) zero (y ∷ xs) x h = h
-slice_get-take (suc n) (suc i) (y ∷ xs) x h = slice_get-take n i xs x h
-
-drop_get : {X : Type 0} (xs : List X) (k : ℕ) (x : X) → slice_get xs k ≡ Some x → drop k xs ≡ x ∷ drop (suc k) xs
-drop_get [] k x h = absurd (let e = h in cc)
-drop_get (y ∷ xs) zero x h = let e : y ≡ x = cc in ap (λ z. z ∷ xs) e
-drop_get (y ∷ xs) (suc k) x h = drop_get xs k x h
-
-both_true : (a b : Bool) → (a && b) ≡ true → (a ≡ true) × (b ≡ true)
-both_true true b h = (refl, h)
-both_true false b h = absurd (let e = h in cc)
-
--- what stands in a list, at the place of one that passes too
-all_pass : {X : Type 0} (p : X → Bool) (xs : List X) (i : ℕ) (x : X) → list_all p xs ≡ true → slice_get xs i ≡ Some x → p x ≡ true
-all_pass p [] i x all h = absurd (let e = h in cc)
-all_pass p (y ∷ xs) zero x all h = let e : y ≡ x = cc in ap p (sym e) ∙ (both_true (p y) (list_all p xs) all).0
-all_pass p (y ∷ xs) (suc i) x all h = all_pass p xs i x (both_true (p y) (list_all p xs) all).1 h
 
 -- an item of a mapped list
 pub record IsImage {X Y : Type 0} (f : X → Y) (xs : List X) (i : ℕ) (y : Y) : Type 0 where
@@ -204,10 +184,6 @@ module _ (opener : OpenerState) (nows : List ℕ) where
   quiet_closed demand place (g ∷ took) (Err refusal ∷ vs) are closed =
       quiet_closed (demand_behind demand (Err refusal)) (place + 1) took vs (AreVerdicts-behind opener nows demand place g took (Err refusal) vs are).1 (ap (λ b. b || false) closed)
 
-  or_true : (a : Bool) → (a || true) ≡ true
-  or_true true = refl
-  or_true false = refl
-
   pub quiet_after : (demand : Demand) (place : ℕ) (took : List (List ℕ)) (vs : List Verdict) → AreVerdicts opener nows demand place took vs → DeliversNothingAfterClose vs
   quiet_after demand place took [] are [] back h = absurd (let e : [] ≡ events.Closed ∷ back = h in cc)
   quiet_after demand place took [] are (x ∷ front) back h = absurd (let e : [] ≡ x ∷ (front ++ events.Closed ∷ back) = h in cc)
@@ -264,14 +240,6 @@ refusal_nothing demand vs front back refusal is =
     (ap delivered is ∙ w.0, ap (λ z. behind demand (records_of z)) is ∙ ap (λ z. behind demand z) w.1)
 
 -- ---- the frames of records are one list
-
-same_lists : {X : Type 0} (xs ys : List X) → length xs ≡ length ys → ((k : ℕ) (x y : X) → slice_get xs k ≡ Some x → slice_get ys k ≡ Some y → x ≡ y) → xs ≡ ys
-same_lists [] [] long each = refl
-same_lists [] (y ∷ ys) long each = absurd (let e = long in omega arith)
-same_lists (x ∷ xs) [] long each = absurd (let e = long in omega arith)
-same_lists (x ∷ xs) (y ∷ ys) long each =
-    let e : suc (length xs) ≡ suc (length ys) = long in
-    ap₂ (λ a b. a ∷ b) (each 0 x y refl refl) (same_lists xs ys (let f = e in omega arith) (λ k v w. each (suc k) v w))
 
 pub same_frames : (source : Source) (carried : List Record) (some others : List (List ℕ)) → AreFrames source carried some → AreFrames source carried others → some ≡ others
 same_frames source carried some others a b =

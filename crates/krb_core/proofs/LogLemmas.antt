@@ -10,6 +10,7 @@ use Rattle.krb_core.specs.declared.log.Event.TheVariants.{Text, Closed, Refused}
 use Rattle.krb_core.specs.declared.log.Entry.{Entry}
 use Rattle.krb_core.specs.Log.{lane_limit, events_of, texts_in, texts_of, has_closed, is_closed}
 use Rattle.krb_core.specs.LogIndex.{text_place, places_from, IsIndexed}
+use Rattle.krb_core.proofs.ListLemmas.{or_assoc, or_false, or_true}
 
 -- the place that an entry adds to those of a lane's texts
 abbrev added_place : ℕ → ℕ → Entry → List ℕ
@@ -38,18 +39,6 @@ has_closed-cons : (event : Event) (events : List Event) → has_closed (event �
 has_closed-cons (Text text) events = refl
 has_closed-cons Closed events = refl
 has_closed-cons (Refused refusal) events = refl
-
-or_assoc : (a b c : Bool) → ((a || b) || c) ≡ (a || (b || c))
-or_assoc true b c = refl
-or_assoc false b c = refl
-
-or_true : (a : Bool) → (a || true) ≡ true
-or_true true = refl
-or_true false = refl
-
-or_false : (a : Bool) → (a || false) ≡ a
-or_false true = refl
-or_false false = refl
 
 is_closed-cons : (lane : ℕ) (x : Entry) (entries : List Entry) → is_closed lane (x ∷ entries) ≡ (closes_lane lane x || is_closed lane entries)
 is_closed-cons lane x entries =

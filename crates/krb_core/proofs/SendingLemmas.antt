@@ -18,17 +18,7 @@ use Rattle.krb_core.specs.Plan.{contents}
 use Rattle.krb_core.specs.Sender.{Source, sealed_count, sealed_texts, records_for, records, moment_at, IsFrame, AreFrames}
 use Rattle.krb_core.specs.Sending.{sealed_of, before, behind, HasSealed}
 use Rattle.krb_core.proofs.DrawsLemmas.{confounder_at-later, after_words-add}
-
-length-take : {X : Type 0} (n : ℕ) (xs : List X) → length (take n xs) ≡ min n (length xs)
-length-take zero xs = omega arith
-length-take (suc n) [] = omega arith
-length-take (suc n) (x ∷ xs) = omega (arith, length-take n xs)
-
-get_or-take : {X : Type 0} (n k : ℕ) (xs : List X) (d : X) → k < n → get_or (take n xs) k d ≡ get_or xs k d
-get_or-take zero k xs d h = absurd (omega arith)
-get_or-take (suc n) k [] d h = refl
-get_or-take (suc n) zero (x ∷ xs) d h = refl
-get_or-take (suc n) (suc k) (x ∷ xs) d h = get_or-take n k xs d (omega arith)
+use Rattle.krb_core.proofs.ListLemmas.{both_true, slice_get-front, slice_get-end, lt_or_same, slice_get-take, take-below, length-take, get_or-take}
 
 length-map-text : (texts : List (List ℕ)) → length (map Text texts ++ Close ∷ []) ≡ length texts + 1
 length-map-text [] = omega arith
@@ -71,36 +61,6 @@ past_is_close source k r past at =
     close_at (take m source.texts) k r (omega (arith, length-take m source.texts)) at
 
 -- ---- one frame more
-
-slice_get-front : {X : Type 0} (xs : List X) (y : X) (j : ℕ) → j < length xs → slice_get (xs ++ y ∷ []) j ≡ slice_get xs j
-slice_get-front [] y j h = absurd (omega arith)
-slice_get-front (x ∷ xs) y zero h = refl
-slice_get-front (x ∷ xs) y (suc j) h = slice_get-front xs y j (omega arith)
-
-slice_get-end : {X : Type 0} (xs : List X) (y z : X) (j : ℕ) → j ≡ length xs → slice_get (xs ++ y ∷ []) j ≡ Some z → y ≡ z
-slice_get-end [] y z zero e h = cc
-slice_get-end [] y z (suc j) e h = absurd (omega arith)
-slice_get-end (x ∷ xs) y z zero e h = absurd (omega arith)
-slice_get-end (x ∷ xs) y z (suc j) e h = slice_get-end xs y z j (omega arith) h
-
--- what stands in the first k stands in the list, and what stands in the list below k stands in the first k
-slice_get-take : {X : Type 0} (n i : ℕ) (xs : List X) (x : X) → slice_get (take n xs) i ≡ Some x → slice_get xs i ≡ Some x
-slice_get-take zero i xs x h = absurd (let e = h in cc)
-slice_get-take (suc n) i [] x h = absurd (let e = h in cc)
-slice_get-take (suc n) zero (y ∷ xs) x h = h
-slice_get-take (suc n) (suc i) (y ∷ xs) x h = slice_get-take n i xs x h
-
-take-below : {X : Type 0} (n i : ℕ) (xs : List X) (x : X) → i < n → slice_get xs i ≡ Some x → slice_get (take n xs) i ≡ Some x
-take-below zero i xs x h at = absurd (omega arith)
-take-below (suc n) i [] x h at = absurd (let e = at in cc)
-take-below (suc n) zero (y ∷ xs) x h at = at
-take-below (suc n) (suc i) (y ∷ xs) x h at = take-below n i xs x (omega arith) at
-
-lt_or_same : (j k : ℕ) → j < k + 1 → (j < k) ⊎ (j ≡ k)
-lt_or_same zero zero h = inr refl
-lt_or_same zero (suc k) h = inl (omega arith)
-lt_or_same (suc j) zero h = absurd (omega arith)
-lt_or_same (suc j) (suc k) h = elim (lt_or_same j k (omega arith)) [ inl below ↦ inl (omega (arith, below)) | inr same ↦ inr (ap suc same) ]
 
 pub AreFrames-push : (source : Source) (k : ℕ) (frames : List (List ℕ)) (frame : List ℕ) → k < length (records source) → AreFrames source (take k (records source)) frames
     → ((r : Record) → slice_get (records source) k ≡ Some r → IsFrame source k r frame)
@@ -191,7 +151,3 @@ short_texts [] all = λ k d h. absurd (omega arith)
 short_texts (v ∷ vecs) all =
     let both = both_true (nat_le (length v.items) text_limit) (list_all (λ x. nat_le (length x.items) text_limit) vecs) all in
     All-cons (λ text. length text ≤ text_limit) v.items (contents vecs) (leb-true (length v.items) text_limit both.0) (short_texts vecs both.1)
-  where
-    both_true : (a b : Bool) → (a && b) ≡ true → (a ≡ true) × (b ≡ true)
-    both_true true b h = (refl, h)
-    both_true false b h = absurd (let e = h in cc)

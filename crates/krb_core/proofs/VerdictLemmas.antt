@@ -23,6 +23,7 @@ use Rattle.krb_core.specs.Demand.{Demand}
 use Rattle.krb_core.specs.Record.{SpellsRecord, is_close, bytes_of}
 use Rattle.krb_core.specs.Sender.{moment_at}
 use Rattle.krb_core.specs.Verdicts.{Verdict, AllBytes, record_of, accepted_by, records_of, behind, IsNoRecord, IsVerdict, AreVerdicts, delivery_in, judged, opened, verdict_on, demand_behind, verdict, verdicts}
+use Rattle.krb_core.proofs.ListLemmas.{or_assoc, or_false, both_true, slice_get-front, slice_get-end, lt_or_same}
 
 -- ---- what user data delivers
 
@@ -31,10 +32,6 @@ delivery_spelled (Text text) user h =
     let short : leb (length text) text_limit ≡ true = le-leb (length text) text_limit h.0 in
     rw (h.1, short) refl
 delivery_spelled Closed user h = rw h.1 refl
-
-both_true : (a b : Bool) → (a && b) ≡ true → (a ≡ true) × (b ≡ true)
-both_true true b h = (refl, h)
-both_true false b h = absurd (let e = h in cc)
 
 empty : (rest : List ℕ) → length rest ≡ 0 → rest ≡ []
 empty [] h = refl
@@ -141,14 +138,6 @@ unique_verdict opener demand now frame v w is-v is-w =
 
 -- ---- what is demanded
 
-or_assoc : (a b c : Bool) → ((a || b) || c) ≡ (a || (b || c))
-or_assoc true b c = refl
-or_assoc false b c = refl
-
-or_false : (a : Bool) → (a || false) ≡ a
-or_false true = refl
-or_false false = refl
-
 same_demand : (a b : ℕ) (c d : Bool) → a ≡ b → c ≡ d → (let x : Demand = record { expected = a; closed = c } in x) ≡ record { expected = b; closed = d }
 same_demand a b c d e f = ap₂ (λ (x : ℕ) (y : Bool). let z : Demand = record { expected = x; closed = y } in z) e f
 
@@ -229,23 +218,6 @@ module _ (opener : OpenerState) (nows : List ℕ) where
       )
 
 -- ---- one frame more, by what the verdict is
-
-slice_get-front : {X : Type 0} (xs : List X) (y : X) (j : ℕ) → j < length xs → slice_get (xs ++ y ∷ []) j ≡ slice_get xs j
-slice_get-front [] y j h = absurd (omega arith)
-slice_get-front (x ∷ xs) y zero h = refl
-slice_get-front (x ∷ xs) y (suc j) h = slice_get-front xs y j (omega arith)
-
-slice_get-end : {X : Type 0} (xs : List X) (y z : X) (j : ℕ) → j ≡ length xs → slice_get (xs ++ y ∷ []) j ≡ Some z → y ≡ z
-slice_get-end [] y z zero e h = cc
-slice_get-end [] y z (suc j) e h = absurd (omega arith)
-slice_get-end (x ∷ xs) y z zero e h = absurd (omega arith)
-slice_get-end (x ∷ xs) y z (suc j) e h = slice_get-end xs y z j (omega arith) h
-
-lt_or_same : (j k : ℕ) → j < k + 1 → (j < k) ⊎ (j ≡ k)
-lt_or_same zero zero h = inr refl
-lt_or_same zero (suc k) h = inl (omega arith)
-lt_or_same (suc j) zero h = absurd (omega arith)
-lt_or_same (suc j) (suc k) h = elim (lt_or_same j k (omega arith)) [ inl below ↦ inl (omega (arith, below)) | inr same ↦ inr (ap suc same) ]
 
 pub AreVerdicts-push : (opener : OpenerState) (nows : List ℕ) (demand : Demand) (place : ℕ) (frames : List (List ℕ)) (vs : List Verdict) (frame : List ℕ) (v : Verdict)
     → AreVerdicts opener nows demand place frames vs → IsVerdict opener (behind demand (records_of vs)) (moment_at nows (place + length frames)) frame v
