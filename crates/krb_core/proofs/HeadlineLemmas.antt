@@ -76,10 +76,10 @@ same_record records.Close (records.Text u) e = absurd (omega (arith, same_head 0
 same_record records.Close records.Close e = refl
 
 -- one of the sender's own frames carries its own record, and no other number opens it
-own_record : (source : Source) (opener : OpenerState) (demand : Demand) (count : ℕ) (frames : List (List ℕ)) → IsPaired source opener demand → AreFrames source (take count (sender.records source)) frames
-    → (k : ℕ) (frame : List ℕ) → slice_get frames k ≡ Some frame → (c now : ℕ) (user : List ℕ) → Opens opener (demand.expected + c) now frame (Ok user)
+own_record : (source : Source) (opener : OpenerState) (start : Demand) (count : ℕ) (frames : List (List ℕ)) → IsPaired source opener start → AreFrames source (take count (sender.records source)) frames
+    → (k : ℕ) (frame : List ℕ) → slice_get frames k ≡ Some frame → (c now : ℕ) (user : List ℕ) → Opens opener (start.expected + c) now frame (Ok user)
     → (r : Record) → SpellsRecord r user → slice_get (sender.records source) c ≡ Some r
-own_record source opener demand count frames paired sealed k frame at c now user opened r spelled =
+own_record source opener start count frames paired sealed k frame at c now user opened r spelled =
     let carried = take count (sender.records source) in
     let s = source.sealer in
     let within : k < length carried = omega (arith, slice_get_within frames k frame at, sealed.one_each) in
@@ -92,10 +92,10 @@ own_record source opener demand count frames paired sealed k frame at c now user
     let same : it ≡ r = same_record it r (sym w.1 ∙ spelled.1) in
     rw place (slice_get-take count k (sender.records source) it at-r ∙ ap (λ x. Some x) same)
 
-each_record : (source : Source) (opener : OpenerState) (demand : Demand) (nows : List ℕ) (took : List (List ℕ)) (vs : List Verdict)
-    → IsPaired source opener demand → IsRun source opener demand nows took vs → AlteredAreHonest source vs
+each_record : (source : Source) (opener : OpenerState) (start : Demand) (nows : List ℕ) (took : List (List ℕ)) (vs : List Verdict)
+    → IsPaired source opener start → IsRun source opener start nows took vs → AlteredAreHonest source vs
     → (i : ℕ) (d : Delivery) → slice_get vs i ≡ Some (Ok d) → slice_get (sender.records source) (length (records_of (take i vs))) ≡ Some (record_of d)
-each_record source opener demand nows took vs paired run honest i d at =
+each_record source opener start nows took vs paired run honest i d at =
     let within : i < length took = omega (arith, slice_get_within vs i (Ok d) at, run.judged.one_each) in
     let frame = get_or took i [] in
     let at-f : slice_get took i ≡ Some frame = slice_get-get_or took i [] within in
@@ -103,7 +103,7 @@ each_record source opener demand nows took vs paired run honest i d at =
     let on_wire : slice_get (wire run.frames source.plan) i ≡ Some frame =
     slice_get-take run.n i (wire run.frames source.plan) frame (ap (λ fs. slice_get fs i) (sym run.taken) ∙ at-f) in
     elim (origin run.frames source.plan i frame on_wire) [
-      | own k at-k ↦ own_record source opener demand run.count run.frames paired run.sealed k frame at-k (length (records_of (take i vs))) _ carries.1.0 carries.1.1 (record_of d) carries.1.2
+      | own k at-k ↦ own_record source opener start run.count run.frames paired run.sealed k frame at-k (length (records_of (take i vs))) _ carries.1.0 carries.1.1 (record_of d) carries.1.2
       | altered is ↦ honest i d is at
     ]
 
@@ -122,12 +122,12 @@ records_from carried (Ok d ∷ vs) c h =
     (w.0, drop_get carried c (record_of d) at ∙ ap (λ z. record_of d ∷ z) w.1)
 records_from carried (Err refusal ∷ vs) c h = records_from carried vs c (λ i e is. h (suc i) e is)
 
-pub records_prefix : (source : Source) (opener : OpenerState) (demand : Demand) (nows : List ℕ) (took : List (List ℕ)) (vs : List Verdict)
-    → IsPaired source opener demand → IsRun source opener demand nows took vs → AlteredAreHonest source vs → IsPrefix (records_of vs) (sender.records source)
-records_prefix source opener demand nows took vs paired run honest =
+pub records_prefix : (source : Source) (opener : OpenerState) (start : Demand) (nows : List ℕ) (took : List (List ℕ)) (vs : List Verdict)
+    → IsPaired source opener start → IsRun source opener start nows took vs → AlteredAreHonest source vs → IsPrefix (records_of vs) (sender.records source)
+records_prefix source opener start nows took vs paired run honest =
     records_from (sender.records source) vs 0 (λ i d at.
     let n : 0 + length (records_of (take i vs)) ≡ length (records_of (take i vs)) = omega arith in
-    rw n (each_record source opener demand nows took vs paired run honest i d at))
+    rw n (each_record source opener start nows took vs paired run honest i d at))
 
 -- ---- so the texts are a prefix, and all where a close was accepted
 
@@ -175,52 +175,52 @@ delivered_whole (Err refusal ∷ vs) texts h closed = delivered_whole vs texts h
 -- ---- nothing after a close
 
 module _ (opener : OpenerState) (nows : List ℕ) where
-  quiet_closed : (demand : Demand) (place : ℕ) (took : List (List ℕ)) (vs : List Verdict) → AreVerdicts opener nows demand place took vs → demand.closed ≡ true
+  quiet_closed : (start : Demand) (place : ℕ) (took : List (List ℕ)) (vs : List Verdict) → AreVerdicts opener nows start place took vs → start.closed ≡ true
       → (delivered vs ≡ []) × (has_closed (events_of vs) ≡ false)
-  quiet_closed demand place took [] are closed = (refl, refl)
-  quiet_closed demand place [] (v ∷ vs) are closed = absurd (let e = are.one_each in omega arith)
-  quiet_closed demand place (g ∷ took) (Ok d ∷ vs) are closed =
-      absurd (let e : demand.closed ≡ false = (AreVerdicts-behind opener nows demand place g took (Ok d) vs are).0.0 in cc)
-  quiet_closed demand place (g ∷ took) (Err refusal ∷ vs) are closed =
-      quiet_closed (demand_behind demand (Err refusal)) (place + 1) took vs (AreVerdicts-behind opener nows demand place g took (Err refusal) vs are).1 (ap (λ b. b || false) closed)
+  quiet_closed start place took [] are closed = (refl, refl)
+  quiet_closed start place [] (v ∷ vs) are closed = absurd (let e = are.one_each in omega arith)
+  quiet_closed start place (g ∷ took) (Ok d ∷ vs) are closed =
+      absurd (let e : start.closed ≡ false = (AreVerdicts-behind opener nows start place g took (Ok d) vs are).0.0 in cc)
+  quiet_closed start place (g ∷ took) (Err refusal ∷ vs) are closed =
+      quiet_closed (demand_behind start (Err refusal)) (place + 1) took vs (AreVerdicts-behind opener nows start place g took (Err refusal) vs are).1 (ap (λ b. b || false) closed)
 
-  pub quiet_after : (demand : Demand) (place : ℕ) (took : List (List ℕ)) (vs : List Verdict) → AreVerdicts opener nows demand place took vs → DeliversNothingAfterClose vs
-  quiet_after demand place took [] are [] back h = absurd (let e : [] ≡ events.Closed ∷ back = h in cc)
-  quiet_after demand place took [] are (x ∷ front) back h = absurd (let e : [] ≡ x ∷ (front ++ events.Closed ∷ back) = h in cc)
-  quiet_after demand place [] (v ∷ vs) are front back h = absurd (let e = are.one_each in omega arith)
-  quiet_after demand place (g ∷ took) (Ok (Text t) ∷ vs) are [] back h = absurd (let e : events.Text t ∷ events_of vs ≡ events.Closed ∷ back = h in cc)
-  quiet_after demand place (g ∷ took) (Ok (Text t) ∷ vs) are (x ∷ front) back h =
+  pub quiet_after : (start : Demand) (place : ℕ) (took : List (List ℕ)) (vs : List Verdict) → AreVerdicts opener nows start place took vs → DeliversNothingAfterClose vs
+  quiet_after start place took [] are [] back h = absurd (let e : [] ≡ events.Closed ∷ back = h in cc)
+  quiet_after start place took [] are (x ∷ front) back h = absurd (let e : [] ≡ x ∷ (front ++ events.Closed ∷ back) = h in cc)
+  quiet_after start place [] (v ∷ vs) are front back h = absurd (let e = are.one_each in omega arith)
+  quiet_after start place (g ∷ took) (Ok (Text t) ∷ vs) are [] back h = absurd (let e : events.Text t ∷ events_of vs ≡ events.Closed ∷ back = h in cc)
+  quiet_after start place (g ∷ took) (Ok (Text t) ∷ vs) are (x ∷ front) back h =
       let e : events.Text t ∷ events_of vs ≡ x ∷ (front ++ events.Closed ∷ back) = h in
       let tail : events_of vs ≡ front ++ events.Closed ∷ back = cc in
-      quiet_after (demand_behind demand (Ok (Text t))) (place + 1) took vs (AreVerdicts-behind opener nows demand place g took (Ok (Text t)) vs are).1 front back tail
-  quiet_after demand place (g ∷ took) (Ok Closed ∷ vs) are [] back h =
+      quiet_after (demand_behind start (Ok (Text t))) (place + 1) took vs (AreVerdicts-behind opener nows start place g took (Ok (Text t)) vs are).1 front back tail
+  quiet_after start place (g ∷ took) (Ok Closed ∷ vs) are [] back h =
       let e : events.Closed ∷ events_of vs ≡ events.Closed ∷ back = h in
       let tail : events_of vs ≡ back = cc in
-      let w = quiet_closed (demand_behind demand (Ok Closed)) (place + 1) took vs (AreVerdicts-behind opener nows demand place g took (Ok Closed) vs are).1 (or_true demand.closed) in
+      let w = quiet_closed (demand_behind start (Ok Closed)) (place + 1) took vs (AreVerdicts-behind opener nows start place g took (Ok Closed) vs are).1 (or_true start.closed) in
       let P : List Event → Type 0 = λ z. (texts_in z ≡ []) × (has_closed z ≡ false) in
       subst P tail w
-  quiet_after demand place (g ∷ took) (Ok Closed ∷ vs) are (x ∷ front) back h =
+  quiet_after start place (g ∷ took) (Ok Closed ∷ vs) are (x ∷ front) back h =
       let e : events.Closed ∷ events_of vs ≡ x ∷ (front ++ events.Closed ∷ back) = h in
       let tail : events_of vs ≡ front ++ events.Closed ∷ back = cc in
-      quiet_after (demand_behind demand (Ok Closed)) (place + 1) took vs (AreVerdicts-behind opener nows demand place g took (Ok Closed) vs are).1 front back tail
-  quiet_after demand place (g ∷ took) (Err refusal ∷ vs) are [] back h = absurd (let e : events.Refused refusal ∷ events_of vs ≡ events.Closed ∷ back = h in cc)
-  quiet_after demand place (g ∷ took) (Err refusal ∷ vs) are (x ∷ front) back h =
+      quiet_after (demand_behind start (Ok Closed)) (place + 1) took vs (AreVerdicts-behind opener nows start place g took (Ok Closed) vs are).1 front back tail
+  quiet_after start place (g ∷ took) (Err refusal ∷ vs) are [] back h = absurd (let e : events.Refused refusal ∷ events_of vs ≡ events.Closed ∷ back = h in cc)
+  quiet_after start place (g ∷ took) (Err refusal ∷ vs) are (x ∷ front) back h =
       let e : events.Refused refusal ∷ events_of vs ≡ x ∷ (front ++ events.Closed ∷ back) = h in
       let tail : events_of vs ≡ front ++ events.Closed ∷ back = cc in
-      quiet_after (demand_behind demand (Err refusal)) (place + 1) took vs (AreVerdicts-behind opener nows demand place g took (Err refusal) vs are).1 front back tail
+      quiet_after (demand_behind start (Err refusal)) (place + 1) took vs (AreVerdicts-behind opener nows start place g took (Err refusal) vs are).1 front back tail
 
   -- ---- a frame is refused exactly where it fails a check
 
-  pub refuses : (demand : Demand) (took : List (List ℕ)) (vs : List Verdict) → AreVerdicts opener nows demand 0 took vs → RefusesExactly opener demand nows took vs
-  refuses demand took vs are i frame refusal at-f =
+  pub refuses : (start : Demand) (took : List (List ℕ)) (vs : List Verdict) → AreVerdicts opener nows start 0 took vs → RefusesExactly opener start nows took vs
+  refuses start took vs are i frame refusal at-f =
       let zero_more : 0 + i ≡ i = omega arith in
       let within : i < length vs = omega (arith, slice_get_within took i frame at-f, are.one_each) in
       let it = get_or vs i (Err refusal) in
       let at-v : slice_get vs i ≡ Some it = slice_get-get_or vs i (Err refusal) within in
-      let here : IsVerdict opener (behind demand (records_of (take i vs))) (moment_at nows i) frame it =
+      let here : IsVerdict opener (behind start (records_of (take i vs))) (moment_at nows i) frame it =
       rw zero_more at (are.each i frame it at-f at-v) in (
         λ at. rw zero_more at (are.each i frame (Err refusal) at-f at),
-        λ fails. at-v ∙ ap (λ v. Some v) (unique_verdict opener (behind demand (records_of (take i vs))) (moment_at nows i) frame it (Err refusal) here fails),
+        λ fails. at-v ∙ ap (λ v. Some v) (unique_verdict opener (behind start (records_of (take i vs))) (moment_at nows i) frame it (Err refusal) here fails),
       )
 
 -- ---- a refusal delivers nothing
@@ -234,10 +234,10 @@ refusal_by_front (Ok Closed ∷ front) back refusal =
     let w = refusal_by_front front back refusal in (w.0, ap (λ z. records.Close ∷ z) w.1)
 refusal_by_front (Err other ∷ front) back refusal = refusal_by_front front back refusal
 
-pub refusal_nothing : (demand : Demand) (vs : List Verdict) → RefusalsDeliverNothing demand vs
-refusal_nothing demand vs front back refusal is =
+pub refusal_nothing : (start : Demand) (vs : List Verdict) → RefusalsDeliverNothing start vs
+refusal_nothing start vs front back refusal is =
     let w = refusal_by_front front back refusal in
-    (ap delivered is ∙ w.0, ap (λ z. behind demand (records_of z)) is ∙ ap (λ z. behind demand z) w.1)
+    (ap delivered is ∙ w.0, ap (λ z. behind start (records_of z)) is ∙ ap (λ z. behind start z) w.1)
 
 -- ---- the frames of records are one list
 

@@ -225,19 +225,19 @@ pub AreVerdicts-push : (opener : OpenerState) (nows : List ℕ) (demand : Demand
 AreVerdicts-push opener nows demand place frames vs frame v are is = record {
   one_each = omega (arith, are.one_each, length-append vs (v ∷ []), length-append frames (frame ∷ []));
   each = λ i f w at-f at-w.
-    let small : i < length frames + 1 = omega (arith, slice_get_within (frames ++ frame ∷ []) i f at-f, length-append frames (frame ∷ [])) in
-    elim (lt_or_same i (length frames) small) [
-      inl below ↦
-        let inside : i < length vs = omega (arith, below, are.one_each) in
-        let short : i ≤ length vs = omega (arith, inside) in
-        rw (take-append-le i vs (v ∷ []) short)
-        (are.each i f w (sym (slice_get-front frames frame i below) ∙ at-f) (sym (slice_get-front vs v i inside) ∙ at-w))
-    | inr same ↦
-        let long : i ≡ length vs = omega (arith, same, are.one_each) in
-        let short : i ≤ length vs = omega (arith, long) in
-        let whole : length vs ≤ i = omega (arith, long) in
-        let same-f : frame ≡ f = slice_get-end frames frame f i same at-f in
-        let same-v : v ≡ w = slice_get-end vs v w i long at-w in
-        rw (take-append-le i vs (v ∷ []) short, take_all i vs whole, same, ← same-f, ← same-v) is
-    ];
+      let small : i < length frames + 1 = omega (arith, slice_get_within (frames ++ frame ∷ []) i f at-f, length-append frames (frame ∷ [])) in
+      elim (lt_or_same i (length frames) small) [
+        | inl below ↦
+            let inside : i < length vs = omega (arith, below, are.one_each) in
+            let short : i ≤ length vs = omega (arith, inside) in
+            rw (take-append-le i vs (v ∷ []) short)
+            (are.each i f w (sym (slice_get-front frames frame i below) ∙ at-f) (sym (slice_get-front vs v i inside) ∙ at-w))
+        | inr same ↦
+            let long : i ≡ length vs = omega (arith, same, are.one_each) in
+            let short : i ≤ length vs = omega (arith, long) in
+            let whole : length vs ≤ i = omega (arith, long) in
+            let same-f : frame ≡ f = slice_get-end frames frame f i same at-f in
+            let same-v : v ≡ w = slice_get-end vs v w i long at-w in
+            rw (take-append-le i vs (v ∷ []) short, take_all i vs whole, same, ← same-f, ← same-v) is
+      ];
 }

@@ -38,14 +38,14 @@ AlteredAreHonest source verdicts =
     → slice_get (records source) (length (records_of (take place verdicts))) ≡ Some (record_of d)
 
 -- the lane is paired: both ends have one key, and the number demanded first is the sealer's next one
-pub record IsPaired (source : Source) (opener : OpenerState) (demand : Demand) : Type 0 where
+pub record IsPaired (source : Source) (opener : OpenerState) (start : Demand) : Type 0 where
   pub etype : opener.etype ≡ source.sealer.etype
   pub key : opener.key ≡ source.sealer.key
-  pub expected : demand.expected ≡ source.sealer.next
-  pub closed : demand.closed ≡ false
+  pub expected : start.expected ≡ source.sealer.next
+  pub closed : start.closed ≡ false
 
 -- what a receiver took of a wire, and its verdicts
-pub record IsRun (source : Source) (opener : OpenerState) (demand : Demand) (nows : List ℕ) (took : List (List ℕ)) (verdicts : List Verdict) : Type 0 where
+pub record IsRun (source : Source) (opener : OpenerState) (start : Demand) (nows : List ℕ) (took : List (List ℕ)) (verdicts : List Verdict) : Type 0 where
   -- so many records were sealed, and these are their frames
   pub count : ℕ
   pub frames : List (List ℕ)
@@ -53,7 +53,7 @@ pub record IsRun (source : Source) (opener : OpenerState) (demand : Demand) (now
   -- so many frames of the wire were taken
   pub n : ℕ
   pub taken : took ≡ take n (wire frames source.plan)
-  pub judged : AreVerdicts opener nows demand 0 took verdicts
+  pub judged : AreVerdicts opener nows start 0 took verdicts
 
 -- what is delivered is a prefix of the texts that are sealed: in order, and each once
 abbrev pub DeliversPrefix : Source → List Verdict → Type 0
@@ -70,19 +70,19 @@ DeliversAllWhereClosed source verdicts = has_closed (events_of verdicts) ≡ tru
 
 -- a frame is refused exactly where it fails a check, by the first that it fails
 abbrev pub RefusesExactly : OpenerState → Demand → List ℕ → List (List ℕ) → List Verdict → Type 0
-RefusesExactly opener demand nows took verdicts =
+RefusesExactly opener start nows took verdicts =
     (i : ℕ) (frame : List ℕ) (refusal : Refusal) → slice_get took i ≡ Some frame
-    → (slice_get verdicts i ≡ Some (Err refusal)) ↔ Fails opener (behind demand (records_of (take i verdicts))) (moment_at nows i) frame refusal
+    → (slice_get verdicts i ≡ Some (Err refusal)) ↔ Fails opener (behind start (records_of (take i verdicts))) (moment_at nows i) frame refusal
 
 -- a refusal delivers nothing and moves no number: without it, the same is delivered and demanded
 abbrev pub RefusalsDeliverNothing : Demand → List Verdict → Type 0
-RefusalsDeliverNothing demand verdicts =
+RefusalsDeliverNothing start verdicts =
     (front back : List Verdict) (refusal : Refusal) → verdicts ≡ front ++ Err refusal ∷ back
-    → (delivered verdicts ≡ delivered (front ++ back)) × (behind demand (records_of verdicts) ≡ behind demand (records_of (front ++ back)))
+    → (delivered verdicts ≡ delivered (front ++ back)) × (behind start (records_of verdicts) ≡ behind start (records_of (front ++ back)))
 
 -- it holds of each run of a paired lane in which altered frames are honest
 abbrev pub OfEachRun : (Source → List Verdict → Type 0) → Type 0
 OfEachRun Claim =
-    (source : Source) (opener : OpenerState) (demand : Demand) (nows : List ℕ) (took : List (List ℕ)) (verdicts : List Verdict)
-    → IsPaired source opener demand → IsRun source opener demand nows took verdicts → AlteredAreHonest source verdicts
+    (source : Source) (opener : OpenerState) (start : Demand) (nows : List ℕ) (took : List (List ℕ)) (verdicts : List Verdict)
+    → IsPaired source opener start → IsRun source opener start nows took verdicts → AlteredAreHonest source verdicts
     → Claim source verdicts

@@ -10,9 +10,11 @@ use std::alloc::{AllocError, Global};
 ///
 /// `BadPlan` comes exactly where the plan is bad, before any memory is taken.
 pub fn emit(alloc: Global, frames: &[Vec<u8>], plan: &[Emit]) -> Result<Vec<Vec<u8>>, EmitError>
-    ensures ok { IfOk result (λ emitted. contents emitted.items ≡ wire (contents frames.now) (Some plan.now)) }
+    ensures ok { IfOk result (λ emitted.
+        contents emitted.items ≡ wire (contents frames.now) (Some plan.now)) }
     ensures good { OnOk result (IsTrue (is_good (contents frames.now) plan.now)) }
-    ensures bad { (result ≡ Err EmitError.BadPlan) ↔ IsFalse (is_good (contents frames.now) plan.now) }
+    ensures bad { (result ≡ Err EmitError.BadPlan)
+        ↔ IsFalse (is_good (contents frames.now) plan.now) }
 {
     if !is_good(frames, plan) {
         return Err(EmitError::BadPlan);
@@ -42,7 +44,8 @@ fn is_good_emission(frames: &[Vec<u8>], emission: &Emit) -> bool
 /// The emissions of a good plan.
 fn emit_all(alloc: Global, frames: &[Vec<u8>], plan: &[Emit]) -> Result<Vec<Vec<u8>>, AllocError>
     requires { IsTrue (is_good (contents frames.now) plan.now) }
-    ensures { IfOk result (λ emitted. contents emitted.items ≡ emissions (contents frames.now) plan.now) }
+    ensures { IfOk result (λ emitted.
+        contents emitted.items ≡ emissions (contents frames.now) plan.now) }
 {
     let mut emitted = Vec::with_capacity(alloc, plan.len())?;
     for emission in plan {

@@ -1,5 +1,5 @@
-//! What is claimed of a lane, over the definitions alone: its sender's frames, the plan of its wire,
-//! and the verdicts of its receiver.
+//! What is claimed of a lane, over the definitions alone: its sender's frames, the plan of its
+//! wire, and the verdicts of its receiver.
 
 ghost use Rattle.std.specs.Prelude.{◌≡◌, ◌↔◌, ◌+◌, ◌++◌, ◌∷◌, [], ℕ, List, length};
 ghost use Rattle.krb_aes.specs.Words.{AreBytes};
@@ -13,25 +13,29 @@ ghost use Rattle.krb_core.specs.Headline.{OfEachRun, DeliversPrefix, DeliversNot
 /// The laws of verdicts and of frames.
 ///
 /// A frame of bytes has one verdict (`one`), and frames of bytes have one list of verdicts (`all`).
-/// With one frame more comes one verdict more, by what is demanded then (`goes_on`, and `next` of the
-/// list as it is computed). The frames of a sender's records are one list (`frames`).
+/// With one frame more comes one verdict more, by what is demanded then (`goes_on`, and `next` of
+/// the list as it is computed). The frames of a sender's records are one list (`frames`).
 pub fn verdict_laws()
-    ensures one { (opener : OpenerState) (demand : Demand) (now : ℕ) (frame : List ℕ) (v : Verdict)
-        → AreBytes frame → IsVerdict opener demand now frame v ↔ (v ≡ verdict opener demand now frame) }
-    ensures all { (opener : OpenerState) (nows : List ℕ) (demand : Demand)
+    ensures one { (opener : OpenerState) (start : Demand) (now : ℕ) (frame : List ℕ) (v : Verdict)
+        → AreBytes frame
+        → IsVerdict opener start now frame v ↔ (v ≡ verdict opener start now frame) }
+    ensures all { (opener : OpenerState) (nows : List ℕ) (start : Demand)
         → (frames : List (List ℕ)) (answers : List Verdict) → AllBytes frames
-        → AreVerdicts opener nows demand 0 frames answers ↔ (answers ≡ verdicts opener nows demand 0 frames) }
+        → AreVerdicts opener nows start 0 frames answers
+        ↔ (answers ≡ verdicts opener nows start 0 frames) }
 
-    ensures goes_on { (opener : OpenerState) (nows : List ℕ) (demand : Demand)
+    ensures goes_on { (opener : OpenerState) (nows : List ℕ) (start : Demand)
         → (frames : List (List ℕ)) (answers : List Verdict) (frame : List ℕ) (v : Verdict)
-        → AreVerdicts opener nows demand 0 frames answers
-        → IsVerdict opener (behind demand (records_of answers)) (moment_at nows (length frames)) frame v
-        → AreVerdicts opener nows demand 0 (frames ++ frame ∷ []) (answers ++ v ∷ []) }
-    ensures next { (opener : OpenerState) (nows : List ℕ) (demand : Demand)
+        → AreVerdicts opener nows start 0 frames answers
+        → IsVerdict opener (behind start (records_of answers)) (moment_at nows (length frames))
+        frame v
+        → AreVerdicts opener nows start 0 (frames ++ frame ∷ []) (answers ++ v ∷ []) }
+    ensures next { (opener : OpenerState) (nows : List ℕ) (start : Demand)
         → (frames : List (List ℕ)) (frame : List ℕ)
-        → let before = verdicts opener nows demand 0 frames in
-        verdicts opener nows demand 0 (frames ++ frame ∷ []) ≡ before
-        ++ verdict opener (behind demand (records_of before)) (moment_at nows (length frames)) frame ∷ [] }
+        → let before = verdicts opener nows start 0 frames in
+        let now = moment_at nows (length frames) in
+        verdicts opener nows start 0 (frames ++ frame ∷ [])
+        ≡ before ++ verdict opener (behind start (records_of before)) now frame ∷ [] }
     ensures frames { (source : Source) (records : List Record) (some others : List (List ℕ))
         → AreFrames source records some → AreFrames source records others → some ≡ others }
 {}
@@ -45,19 +49,20 @@ pub fn verdict_laws()
 ///
 /// What is delivered is a prefix of the texts sealed, in order and each once (`delivered_prefix`).
 /// Nothing is delivered after a close (`nothing_after_close`). All texts are delivered where the
-/// close was accepted (`all_where_closed`). A frame is refused exactly where it fails a check, by the
-/// first that it fails (`refused_exactly`), and then it delivers nothing and moves no number
+/// close was accepted (`all_where_closed`). A frame is refused exactly where it fails a check, by
+/// the first that it fails (`refused_exactly`), and then it delivers nothing and moves no number
 /// (`refusals_deliver_nothing`).
 pub fn headline_laws()
     ensures delivered_prefix { OfEachRun DeliversPrefix }
     ensures all_where_closed { OfEachRun DeliversAllWhereClosed }
 
-    ensures nothing_after_close { (opener : OpenerState) (nows : List ℕ) (demand : Demand)
+    ensures nothing_after_close { (opener : OpenerState) (nows : List ℕ) (start : Demand)
         → (took : List (List ℕ)) (answers : List Verdict)
-        → AreVerdicts opener nows demand 0 took answers → DeliversNothingAfterClose answers }
-    ensures refused_exactly { (opener : OpenerState) (nows : List ℕ) (demand : Demand)
+        → AreVerdicts opener nows start 0 took answers → DeliversNothingAfterClose answers }
+    ensures refused_exactly { (opener : OpenerState) (nows : List ℕ) (start : Demand)
         → (took : List (List ℕ)) (answers : List Verdict)
-        → AreVerdicts opener nows demand 0 took answers → RefusesExactly opener demand nows took answers }
-    ensures refusals_deliver_nothing { (demand : Demand) (answers : List Verdict)
-        → RefusalsDeliverNothing demand answers }
+        → AreVerdicts opener nows start 0 took answers
+        → RefusesExactly opener start nows took answers }
+    ensures refusals_deliver_nothing { (start : Demand) (answers : List Verdict)
+        → RefusalsDeliverNothing start answers }
 {}

@@ -1,12 +1,16 @@
-//! Records and their order: what the relay's messages carry, without any cryptography.
+//! Senders, receivers and logs of the relay: what its messages carry, and what becomes of them.
 //!
-//! The user data of a message is a [`Record`], a text or the close. An [`Order`] demands the
-//! numbers of the messages one after another, and accepts nothing behind a close.
+//! The user data of a message is a [`Record`], a text or the close. A [`Sending`] seals its texts
+//! as records of rising numbers, and a plan ([`emit`]) may disturb the frames on purpose. A
+//! [`Receiver`] demands the numbers one after another ([`Order`]), and accepts nothing behind a
+//! close. A [`Log`] keeps what became of the frames of each lane. [`headline_laws`] says what is
+//! delivered and refused, whatever the plan.
 //!
 //! ```text
-//! let mut order = Order::new(7);
-//! let record = read_record(alloc, b"D")?; // hexadecimal 44: the empty text
-//! order.accept(7, &record)?;
+//! let frames = sending.seal_all(alloc)?;
+//! let wire = emit(alloc, &frames, &[Emit::Frame(0), Emit::Frame(0)])?;
+//! let first = receiver.take(alloc, &wire[0], now)?; // Delivery::Text
+//! let again = receiver.take(alloc, &wire[1], now); // Err(Refusal::BadOrder)
 //! ```
 #![tactic(auto)]
 

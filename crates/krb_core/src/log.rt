@@ -138,7 +138,8 @@ impl Log {
     /// The text of `lane` at place `i`, from 0 on, where there is one.
     pub fn text(&self, lane: u32, i: usize) -> Option<&[u8]>
         requires { lane < self.now.lanes }
-        ensures { option_map (λ text. text.now) result ≡ slice_get (texts_of lane self.now.entries) i }
+        ensures { option_map (λ text. text.now) result
+            ≡ slice_get (texts_of lane self.now.entries) i }
     {
         let place = self.texts[lane as usize].get(i)?;
         match &self.entries[*place].event {

@@ -94,8 +94,8 @@ impl<S: Sealer> Sending<S> {
     /// Seals record `k` at the sealer's next number, under the next four words of `draws`.
     ///
     /// Record 0 is the one at the number `k` before the next: the records are those of a sender who
-    /// has sealed `k` of them. The only errors are `Wiped`, where the sealer was wiped, and `Memory`.
-    /// Each leaves the sealer as it was, but the generator may have moved.
+    /// has sealed `k` of them. The only errors are `Wiped`, where the sealer was wiped, and
+    /// `Memory`. Each leaves the sealer as it was, but the generator may have moved.
     pub fn seal_record(&mut self, alloc: Global, k: usize) -> Result<Vec<u8>, SealError>
         requires sender { IsSender (source_of S.state self.old) }
         requires begun { k ≤ (S.state self.old.sealer).next }

@@ -1,5 +1,6 @@
-//! Frames as the sealer of `tools/frames.py` makes them: the text 68 69 and the close, from 10.0.0.1,
-//! at 2023-11-14T22:13:20Z and 5 microseconds, under encryption type 17 and the key 00 to 0f.
+//! Frames as the sealer of `tools/frames.py` makes them: the text 68 69 and the close, from
+//! 10.0.0.1, at 2023-11-14T22:13:20Z and 5 microseconds, under encryption type 17 and the key 00 to
+//! 0f.
 
 /// The text, at number 7, as KRB-SAFE.
 pub const SAFE_TEXT: [u8; 96] = [

@@ -4,11 +4,11 @@ use Rattle.krb_core.proofs.headline.headline_laws.Goals as goal
 
 pub returns : goal.returns
 returns c = record {
-  delivered_prefix = λ source opener demand nows took vs paired run honest.
-      delivered_prefix vs (sealed_texts source) (records_prefix source opener demand nows took vs paired run honest);
-  all_where_closed = λ source opener demand nows took vs paired run honest.
-      delivered_whole vs (sealed_texts source) (records_prefix source opener demand nows took vs paired run honest);
-  nothing_after_close = λ opener nows demand took vs are. quiet_after opener nows demand 0 took vs are;
-  refused_exactly = λ opener nows demand took vs are. refuses opener nows demand took vs are;
-  refusals_deliver_nothing = λ demand vs. refusal_nothing demand vs;
+  delivered_prefix = λ source opener start nows took vs paired run honest.
+      delivered_prefix vs (sealed_texts source) (records_prefix source opener start nows took vs paired run honest);
+  all_where_closed = λ source opener start nows took vs paired run honest.
+      delivered_whole vs (sealed_texts source) (records_prefix source opener start nows took vs paired run honest);
+  nothing_after_close = λ opener nows start took vs are. quiet_after opener nows start 0 took vs are;
+  refused_exactly = λ opener nows start took vs are. refuses opener nows start took vs are;
+  refusals_deliver_nothing = λ start vs. refusal_nothing start vs;
 }
