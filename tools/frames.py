@@ -1,6 +1,7 @@
 #!/usr/bin/env python3
 """An independent sealer of KRB-SAFE and KRB-PRIV messages, in plain Python over the package
-`cryptography` and the standard library. It prints the frames that krb_seal's tests expect.
+`cryptography` and the standard library. It prints the frames that the tests of krb_seal and krb_core
+expect.
 
 It shares no code with the crates: the definitions are those of RFC 4120, 3961, 3962 and 2104.
 """
@@ -145,8 +146,16 @@ def main():
     def without(*tags):
         return body(b"Dhi", MICROS, 7, SENDER, left_out=tags)
 
+    # The first 32 bytes that ChaCha20 gives for a key of zeros (RFC 8439 appendix A.1): what
+    # krb_core's tests draw for the first two records.
+    drawn = bytes.fromhex("76b8e0ada0f13d90405d6ae55386bd28bdd219b8a08ded1aa836efcc8b770dc7")
+    second = body(b"C", MICROS, 8, SENDER)
+
     lines = [
         ("safe 17", seal_safe(KEY_128, inner)),
+        ("safe 17, the close behind it", seal_safe(KEY_128, second)),
+        ("priv 17, first drawn confounder", seal_priv(KEY_128, inner, drawn[:16])),
+        ("priv 17, the close behind it", seal_priv(KEY_128, second, drawn[16:])),
         ("safe 17, to the receiver", seal_safe(KEY_128, told)),
         ("safe 18", seal_safe(KEY_256, inner)),
         ("safe 17, last number", seal_safe(KEY_128, close)),

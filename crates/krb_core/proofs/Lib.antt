@@ -1,4 +1,12 @@
+pub mod ListLemmas
 pub mod RecordLemmas
 pub mod OrderLemmas
 pub mod AcceptedLemmas
 pub mod AcceptedPrefix
+pub mod LogLemmas
+pub mod DrawsLemmas
+pub mod VerdictLemmas
+pub mod HeadlineLemmas
+pub mod NumberLemmas
+pub mod ReceiverLemmas
+pub mod SendingLemmas

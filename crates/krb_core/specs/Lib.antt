@@ -2,3 +2,14 @@ pub mod Record
 pub mod Demand
 pub mod Order
 pub mod Accepted
+pub mod LogState
+pub mod Log
+pub mod LogIndex
+pub mod Plan
+pub mod Draws
+pub mod Sender
+pub mod Verdicts
+pub mod Headline
+pub mod ReceiverState
+pub mod Receiver
+pub mod Sending

@@ -1,7 +1,8 @@
 //! Records, and the bytes that stand for them.
 
-ghost use Rattle.std.specs.Prelude.{◌≡◌, ◌≢◌, ◌↔◌, IfOk, MatchResult, Some};
-ghost use Rattle.krb_core.specs.Record.{FitsLimits, SpellsRecord, code_of, words_of};
+ghost use Rattle.std.specs.Prelude.{◌≡◌, ◌≢◌, ◌↔◌, ◌≤◌, length, IfOk, MatchResult, Some};
+ghost use Rattle.krb_base.specs.Limits.{text_limit};
+ghost use Rattle.krb_core.specs.Record.{FitsLimits, SpellsRecord, bytes_of, code_of, words_of};
 
 use krb_base::{Bytes, TEXT_LIMIT};
 use std::alloc::{AllocError, Global};
@@ -75,15 +76,27 @@ pub fn record_bytes(alloc: Global, record: &Record) -> Result<Vec<u8>, AllocErro
     ensures { IfOk result (λ bytes. SpellsRecord «record».now bytes.items) }
 {
     match record {
-        Record::Text(text) => {
-            let text = text.as_slice();
-            let mut bytes = Vec::with_capacity(alloc, 1 + text.len())?;
-            bytes.push(TEXT_TAG)?;
-            bytes.extend_from_slice(text)?;
-            Ok(bytes)
-        }
-        Record::Close => Vec::from_slice(alloc, &[CLOSE_TAG]),
+        Record::Text(text) => text_record(alloc, text.as_slice()),
+        Record::Close => close_record(alloc),
     }
+}
+
+/// The bytes of a text, as a record.
+pub(crate) fn text_record(alloc: Global, text: &[u8]) -> Result<Vec<u8>, AllocError>
+    requires { length text.now ≤ text_limit }
+    ensures { IfOk result (λ bytes. bytes.items ≡ bytes_of (Record.Text text.now)) }
+{
+    let mut bytes = Vec::with_capacity(alloc, 1 + text.len())?;
+    bytes.push(TEXT_TAG)?;
+    bytes.extend_from_slice(text)?;
+    Ok(bytes)
+}
+
+/// The bytes of the close.
+pub(crate) fn close_record(alloc: Global) -> Result<Vec<u8>, AllocError>
+    ensures { IfOk result (λ bytes. bytes.items ≡ bytes_of Record.Close) }
+{
+    Vec::from_slice(alloc, &[CLOSE_TAG])
 }
 
 /// The record that `bytes` stand for.

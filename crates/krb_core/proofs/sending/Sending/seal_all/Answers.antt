@@ -1,0 +1,24 @@
+-- Frame after frame, and none under a wiped sealer.
+use Rattle.std.proofs.Common.{◌≡◌, ◌<◌, ◌++◌, ◌∷◌, [], true, IsErr, ap, sym, ◌∙◌, length, arith, rules}
+use Rattle.std.proofs.lemmas.List.{map-append}
+use Rattle.krb_core.specs.Sender.{records}
+use Rattle.krb_core.specs.Sending.{source_of}
+use Rattle.krb_core.proofs.SendingLemmas.{length-records}
+use Rattle.krb_core.proofs.sending.Sending.seal_all.Goals as goal
+
+pub loop-k-preserved : goal.loop-k-preserved
+loop-k-preserved g c =
+    let pushed : c.push.new.self.items ≡ c.loop-k.frames.items ++ c.in_ok-frame.frame ∷ [] = search rules in
+    record {
+      sealed = rw (pushed, map-append) (c.in_ok-frame.ensures.frames _ _ c.loop-k.invariant.sealed);
+      none_if_wiped = λ wiped.
+          let still : (g.S.Sealer.state c.loop-k.self.sealer).wiped ≡ true = ap (λ s. s.sealer.wiped) c.loop-k.invariant.sealed.state ∙ wiped in
+          let failed : IsErr c.seal_record.result = c.seal_record.ensures.wiped still in
+          absurd (search rules);
+    }
+
+pub returns-clause-wiped : goal.returns-clause-wiped
+returns-clause-wiped g c = λ wiped.
+    let none = c.loop-k.invariant.none_if_wiped wiped in
+    let some = length-records (source_of g.S.Sealer.state c.args.self.now) in
+    absurd (omega (arith, c.records-count.ensures))

@@ -1,0 +1,11 @@
+-- What was tested makes a sender.
+use Rattle.std.proofs.Common.{◌≡◌, true, ◌∙◌, sym, rules}
+use Rattle.krb_core.proofs.SendingLemmas.{short_texts}
+use Rattle.krb_core.proofs.tests.sealed.Goals as goal
+
+pub seal_all-requires : goal.seal_all-requires
+seal_all-requires g c = record {
+  texts = short_texts c.args.sending.now.texts.items (search rules);
+  ats = search rules;
+  next = search rules;
+}

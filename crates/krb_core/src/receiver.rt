@@ -1,0 +1,114 @@
+//! The receiver of a lane.
+
+ghost use Rattle.std.specs.Prelude.{◌≡◌, ◌+◌, ◌≤◌, IfOk, OnOk, OnErr};
+ghost use Rattle.krb_base.specs.Limits.{last_number};
+ghost use Rattle.krb_core.specs.Record.{is_close};
+ghost use Rattle.krb_core.specs.Verdicts.{record_of};
+ghost use Rattle.krb_core.specs.Receiver.{first_demand, IsAnswer, receiver_behind};
+
+use crate::delivery::Delivery;
+use crate::order::{Order, OrderRefusal};
+use crate::record::{Record, RecordError, read_record};
+use krb_der::Moment;
+use krb_seal::{Opener, Refusal};
+use std::alloc::Global;
+use std::marker::Model;
+
+/// Opens the frames of one sender, and accepts only the next number.
+///
+/// Contracts see it as its opener, and what it demands.
+#[derive(Drop)]
+pub struct Receiver {
+    opener: Opener,
+    order: Order,
+}
+
+/// A receiver and the moments at which it takes frames: entry i for the i-th, refused ones counted,
+/// and the last one for all others. There is at least one.
+#[derive(Drop)]
+pub struct Receiving {
+    /// What takes the frames.
+    pub receiver: Receiver,
+    /// The moments, in order.
+    pub nows: Vec<Moment>,
+}
+
+impl Model for Receiver {
+    ghost use Rattle.krb_core.specs.ReceiverState.{ReceiverState};
+
+    ghost Value = { ReceiverState };
+
+    ghost view = { λ receiver. record { opener = receiver.opener; demand = receiver.order } };
+}
+
+impl From<OrderRefusal> for Refusal {
+    ghost use Rattle.std.specs.Prelude.{◌≡◌};
+    ghost use Rattle.krb_core.specs.Order.{refusal_of};
+
+    ghost from_gives = { λ order refusal. refusal ≡ refusal_of order };
+
+    fn from(refusal: OrderRefusal) -> Refusal {
+        match refusal {
+            OrderRefusal::AfterClose => Refusal::AfterClose,
+            OrderRefusal::BadOrder => Refusal::BadOrder,
+        }
+    }
+}
+
+impl Receiver {
+    /// A receiver that has taken nothing, and demands the number `first`.
+    pub fn new(opener: Opener, first: u32) -> Receiver
+        ensures opener { result.opener ≡ opener }
+        ensures demand { result.demand ≡ first_demand first }
+    {
+        Receiver {
+            opener,
+            order: Order::new(first),
+        }
+    }
+
+    /// The number that is demanded next: at most one over the last, which no message has.
+    pub fn expected(&self) -> u64
+        ensures number { result ≡ self.now.demand.expected }
+        ensures in_range { result ≤ last_number + 1 }
+    {
+        self.order.expected()
+    }
+
+    /// Whether a close was accepted.
+    pub fn closed(&self) -> bool
+        ensures { result ≡ self.now.demand.closed }
+    {
+        self.order.closed()
+    }
+
+    /// Takes a frame at the moment `now`: what it carries, or the refusal of the first check that
+    /// it fails.
+    ///
+    /// `Memory` comes where a growth was refused. Each refusal leaves the receiver as it was.
+    pub fn take(&mut self, alloc: Global, frame: &[u8], now: Moment) -> Result<Delivery, Refusal>
+        ensures verdict { IsAnswer self.old now frame.now result }
+        ensures behind { self.new ≡ receiver_behind self.old result }
+
+        ensures number { OnOk result (self.new.demand.expected ≡ self.old.demand.expected + 1) }
+        ensures closed { IfOk result (λ carried.
+            self.new.demand.closed ≡ is_close (record_of carried)) }
+        ensures err { OnErr result (self.new ≡ self.old) }
+    {
+        if self.order.closed() {
+            return Err(Refusal::AfterClose);
+        }
+        let number = self.order.expected();
+        let user_data = self.opener.unseal(alloc, frame, number, now)?;
+        let record = match read_record(alloc, &user_data) {
+            Ok(record) => record,
+            Err(RecordError::BadRecord) => return Err(Refusal::BadRecord),
+            Err(RecordError::Memory) => return Err(Refusal::Memory),
+        };
+        self.order.accept(number, &record)?;
+        Ok(match record {
+            Record::Text(text) => Delivery::Text(text),
+            Record::Close => Delivery::Closed,
+        })
+    }
+}

@@ -1,0 +1,119 @@
+use super::{MICROS, answers, is_answer, moment, receiver, sealed, sealer, sending};
+use crate::{Emit, emit};
+use krb_base::Bytes;
+use krb_seal::{Mode, Sealer};
+use std::alloc::Global;
+use std::process::Abort;
+use std::test::Fail;
+
+/// Whether the receiver answers so to what the plan makes of the frames of these texts.
+fn lane_answers(
+    rt: &impl Abort,
+    alloc: Global,
+    mode: Mode,
+    texts: &[&[u8]],
+    plan: &[Emit],
+    expected: &[&str],
+) -> Result<bool, Fail> {
+    let mut sending = sending(alloc, sealer(alloc, mode, 7)?, texts, &[MICROS])?;
+    let frames = sealed(rt, alloc, &mut sending)?;
+    let wire = emit(alloc, frames.as_slice(), plan)?;
+    let mut receiver = receiver(alloc, mode, 7)?;
+    answers(alloc, &mut receiver, wire.as_slice(), expected)
+}
+
+const TWO: [&[u8]; 2] = [b"a", b"b"];
+
+#[test]
+fn repeated_frame_is_bad_order(rt: HostRuntime) -> Result<(), Fail> {
+    let plan = [
+        Emit::Frame(0),
+        Emit::Frame(0),
+        Emit::Frame(1),
+        Emit::Frame(2),
+    ];
+    let words = ["a", "BADORDER", "b", "closed"];
+    assert!(rt; lane_answers(&rt, rt.alloc(), Mode::Safe, &TWO, &plan, &words)?);
+    Ok(())
+}
+
+#[test]
+fn frames_that_were_overtaken(rt: HostRuntime) -> Result<(), Fail> {
+    let plan = [Emit::Frame(1), Emit::Frame(0), Emit::Frame(2)];
+    let words = ["BADORDER", "a", "BADORDER"];
+    assert!(rt; lane_answers(&rt, rt.alloc(), Mode::Priv, &TWO, &plan, &words)?);
+    Ok(())
+}
+
+#[test]
+fn dropped_frame(rt: HostRuntime) -> Result<(), Fail> {
+    let plan = [Emit::Frame(0), Emit::Frame(2)];
+    let words = ["a", "BADORDER"];
+    assert!(rt; lane_answers(&rt, rt.alloc(), Mode::Safe, &TWO, &plan, &words)?);
+    Ok(())
+}
+
+#[test]
+fn frames_after_the_close(rt: HostRuntime) -> Result<(), Fail> {
+    let raw = Bytes::new(Vec::from_slice(rt.alloc(), b"no message")?);
+    let plan = [
+        Emit::Frame(0),
+        Emit::Frame(1),
+        Emit::Frame(1),
+        Emit::Raw(raw),
+    ];
+    let words = ["hi", "closed", "AFTER_CLOSE", "AFTER_CLOSE"];
+    assert!(rt; lane_answers(&rt, rt.alloc(), Mode::Safe, &[b"hi"], &plan, &words)?);
+    Ok(())
+}
+
+#[test]
+fn changed_frames(rt: HostRuntime) -> Result<(), Fail> {
+    let flip = |at: usize| Emit::Flip { k: 0, at, mask: 1 };
+    for (mode, at, word) in [
+        (Mode::Safe, 95, "MODIFIED"),
+        (Mode::Priv, 111, "BAD_INTEGRITY"),
+        (Mode::Priv, 0, "MALFORMED"),
+    ] {
+        let plan = [flip(at), Emit::Frame(1)];
+        let words = [word, "BADORDER"];
+        assert!(rt; lane_answers(&rt, rt.alloc(), mode, &[b"hi"], &plan, &words)?);
+        let plan = [flip(at), Emit::Frame(0), Emit::Frame(1)];
+        let words = [word, "hi", "closed"];
+        assert!(rt; lane_answers(&rt, rt.alloc(), mode, &[b"hi"], &plan, &words)?);
+    }
+    Ok(())
+}
+
+#[test]
+fn made_up_frame(rt: HostRuntime) -> Result<(), Fail> {
+    // The first frame with the checksum's type 0 and no checksum.
+    let mut raw = Vec::from_slice(rt.alloc(), &super::frames::SAFE_TEXT[..71])?;
+    raw.extend_from_slice(b"\xa3\x0b\x30\x09\xa0\x03\x02\x01\x00\xa1\x02\x04\x00")?;
+    assert_eq!(rt; raw.len(), 84);
+    raw[1] = 0x52;
+    raw[3] = 0x50;
+    let plan = [Emit::Raw(Bytes::new(raw)), Emit::Frame(0)];
+    let words = ["INAPP_CKSUM", "hi"];
+    assert!(rt; lane_answers(&rt, rt.alloc(), Mode::Safe, &[b"hi"], &plan, &words)?);
+    Ok(())
+}
+
+#[test]
+fn no_record_moves_no_number(rt: HostRuntime) -> Result<(), Fail> {
+    let (at, confounder) = (moment(MICROS)?, [0; 16]);
+    let mut receiver = receiver(rt.alloc(), Mode::Priv, 7)?;
+    for (user_data, word, expected) in [
+        (b"X".as_slice(), "BAD_RECORD", 7),
+        (b"", "BAD_RECORD", 7),
+        (b"CC", "BAD_RECORD", 7),
+        (b"Dhi", "hi", 8),
+    ] {
+        let mut sealer = sealer(rt.alloc(), Mode::Priv, 7)?;
+        let frame = sealer.seal(rt.alloc(), user_data, at, confounder)?;
+        let answer = receiver.take(rt.alloc(), frame.as_slice(), at);
+        assert!(rt; is_answer(&answer, word), "at {user_data:?}");
+        assert!(rt; receiver.expected() == expected && !receiver.closed());
+    }
+    Ok(())
+}
