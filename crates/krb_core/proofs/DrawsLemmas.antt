@@ -1,7 +1,7 @@
 -- Words and confounders of a generator.
-use Rattle.std.proofs.Common.{◌≡◌, ℕ, zero, suc, ◌+◌, ◌*◌, List, [], ◌∷◌, ◌++◌, length, get_or, refl, ap, sym, ◌∙◌, arith, append_assoc, append-nil}
+use Rattle.std.proofs.Common.{◌≡◌, ℕ, zero, suc, ◌+◌, ◌*◌, List, [], ◌∷◌, ◌++◌, length, get_or, refl, ap, ◌∙◌, arith, append_assoc, append-nil}
 use Rattle.rand_chacha.specs.ChaCha.{ChaCha}
-use Rattle.krb_core.specs.Draws.{word_bytes, after_word, after_words, word_from, confounder_at}
+use Rattle.krb_core.specs.Draws.{after_word, after_words, confounder_at}
 
 -- four items in front of a rest
 spread : (a rest : List ℕ) → length a ≡ 4

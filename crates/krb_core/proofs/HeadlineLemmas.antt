@@ -1,12 +1,10 @@
 -- What is claimed of a lane.
-use Rattle.std.proofs.Common.{◌≡◌, ◌↔◌, ℕ, zero, suc, ◌+◌, ◌≤◌, ◌<◌, ◌||◌, ◌&&◌, ◌⊎◌, cond, if◌then◌else◌, nat_lt, ltb, Bool, true, false, List, [], ◌∷◌, ◌++◌, length, map, take, drop, get_or, slice_get, Option, Some, None, option_map, Result, Ok, Err, inl, inr, refl, sym, ap, ap₂, subst, ◌∙◌, arith, append_assoc, append-nil, length-append}
-use Rattle.std.specs.List.{flat_map, list_any, list_all}
+use Rattle.std.proofs.Common.{◌≡◌, ℕ, zero, suc, ◌+◌, ◌<◌, ◌||◌, if◌then◌else◌, Bool, true, false, List, [], ◌∷◌, ◌++◌, length, map, take, drop, get_or, slice_get, Option, Some, None, Ok, Err, refl, sym, ap, subst, ◌∙◌, arith, append-nil}
 use Rattle.std.proofs.lemmas.Bool.{ltb-true}
 use Rattle.std.proofs.lemmas.Option.{slice_get-get_or, slice_get_within}
-use Rattle.std.proofs.lemmas.List.Concat.{flat_map-append}
 use Rattle.krb_base.specs.Prefix.{IsPrefix}
 use Rattle.krb_seal.specs.declared.refusal.Refusal.{Refusal}
-use Rattle.krb_seal.specs.Opens.{OpenerState, Outcome, Opens, opener_of}
+use Rattle.krb_seal.specs.Opens.{OpenerState, Opens, opener_of}
 use Rattle.krb_seal.proofs.SealedFrames.{nowhere_else, one_frame}
 use Rattle.krb_core.specs.declared.record.Record.{Record}
 use Rattle.krb_core.specs.declared.record.Record.TheVariants as records
@@ -17,13 +15,13 @@ use Rattle.krb_core.specs.declared.log.Event.TheVariants as events
 use Rattle.krb_core.specs.declared.plan.Emit.{Emit}
 use Rattle.krb_core.specs.declared.plan.Emit.TheVariants.{Frame, Flip, Raw}
 use Rattle.krb_core.specs.Demand.{Demand}
-use Rattle.krb_core.specs.Record.{SpellsRecord, bytes_of, is_close}
+use Rattle.krb_core.specs.Record.{SpellsRecord, bytes_of}
 use Rattle.krb_core.specs.Log.{texts_in, has_closed}
-use Rattle.krb_core.specs.Plan.{is_good, is_good_emission, emission, emissions, frame_at, wire}
+use Rattle.krb_core.specs.Plan.{is_good, is_good_emission, emission, emissions, wire}
 use Rattle.krb_core.specs.Sender.{Source, sealed_texts, records_for, AreFrames, moment_at}
 use Rattle.krb_core.specs.Sender as sender
-use Rattle.krb_core.specs.Verdicts.{Verdict, record_of, accepted_by, events_by, records_of, events_of, delivered, behind, Carries, Fails, IsVerdict, AreVerdicts, demand_behind}
-use Rattle.krb_core.specs.Headline.{is_altered, is_altered_one, altered_at, AlteredAreHonest, IsPaired, IsRun, DeliversPrefix, DeliversNothingAfterClose, DeliversAllWhereClosed, RefusesExactly, RefusalsDeliverNothing}
+use Rattle.krb_core.specs.Verdicts.{Verdict, record_of, records_of, events_of, delivered, behind, IsVerdict, AreVerdicts, demand_behind}
+use Rattle.krb_core.specs.Headline.{is_altered_one, altered_at, AlteredAreHonest, IsPaired, IsRun, DeliversNothingAfterClose, RefusesExactly, RefusalsDeliverNothing}
 use Rattle.krb_core.proofs.VerdictLemmas.{AreVerdicts-behind, unique_verdict}
 use Rattle.krb_core.proofs.ListLemmas.{or_true, slice_get-take, drop_get, all_pass, same_lists}
 

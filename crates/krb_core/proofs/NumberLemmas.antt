@@ -1,8 +1,7 @@
 -- No frame opens at a number over the last.
-use Rattle.std.proofs.Common.{◌≡◌, ℕ, ◌≤◌, ◌<◌, ◌^◌, true, List, Option, Some, None, Ok, IfSome, inl, inr, arith, drop}
+use Rattle.std.proofs.Common.{◌≡◌, ℕ, ◌≤◌, true, List, Option, Some, None, Ok, IfSome, inl, inr, arith, drop}
 use Rattle.std.proofs.lemmas.Bool.{eqb-true}
 use Rattle.krb_base.specs.Limits.{last_number}
-use Rattle.krb_der.specs.declared.body.Body.{Body}
 use Rattle.krb_der.specs.declared.message.Message.{Message}
 use Rattle.krb_der.specs.declared.message.Message.TheVariants as messages
 use Rattle.krb_der.specs.Integer.{IsUInt32}

@@ -1,21 +1,18 @@
 -- What a receiver answers.
-use Rattle.std.proofs.Common.{◌≡◌, ℕ, ◌≤◌, ◌<◌, ◌⊎◌, ◌≢◌, Bool, true, false, List, Result, Ok, Err, inl, inr, refl, sym, ap, ◌∙◌, arith}
+use Rattle.std.proofs.Common.{◌≡◌, ℕ, ◌<◌, ◌⊎◌, ◌≢◌, true, false, List, Result, Ok, Err, inl, inr, refl, arith}
 use Rattle.std.specs.Global.{Vec}
 use Rattle.krb_base.specs.Limits.{last_number}
 use Rattle.krb_seal.specs.declared.refusal.Refusal.{Refusal}
-use Rattle.krb_seal.specs.declared.refusal.Refusal.TheVariants as refusals
 use Rattle.krb_seal.specs.Opens.{OpenerState, Opens}
 use Rattle.krb_seal.specs.Unseals.{OrMemory}
 use Rattle.krb_core.specs.declared.record.Record.{Record}
-use Rattle.krb_core.specs.declared.record.Record.TheVariants as records
 use Rattle.krb_core.specs.declared.delivery.Delivery.{Delivery}
 use Rattle.krb_core.specs.declared.order.OrderRefusal.{OrderRefusal}
 use Rattle.krb_core.specs.declared.order.OrderRefusal.TheVariants.{AfterClose, BadOrder}
 use Rattle.krb_core.specs.Demand.{Demand}
 use Rattle.krb_core.specs.Record.{SpellsRecord}
-use Rattle.krb_core.specs.Order.{Offer, offer, answer_to}
 use Rattle.krb_core.specs.ReceiverState.{ReceiverState}
-use Rattle.krb_core.specs.Verdicts.{Verdict, record_of}
+use Rattle.krb_core.specs.Verdicts.{record_of}
 use Rattle.krb_core.specs.Receiver.{IsAnswer}
 use Rattle.krb_core.proofs.NumberLemmas.{opens_in_range}
 

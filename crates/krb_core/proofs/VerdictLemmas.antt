@@ -1,12 +1,11 @@
 -- One verdict for each frame, and no other.
-use Rattle.std.proofs.Common.{◌≡◌, ℕ, zero, suc, ◌+◌, ◌≤◌, ◌||◌, ◌&&◌, ◌⊎◌, nat_le, leb, eqb, cond, Bool, true, false, List, [], ◌∷◌, ◌++◌, length, take, slice_get, Option, Some, None, Result, Ok, Err, inl, inr, refl, sym, ap, ap₂, subst, ◌∙◌, arith, append_assoc, append-nil, length-append, ◌<◌}
+use Rattle.std.proofs.Common.{◌≡◌, ℕ, zero, suc, ◌+◌, ◌≤◌, ◌||◌, ◌&&◌, ◌⊎◌, leb, eqb, cond, Bool, true, false, List, [], ◌∷◌, ◌++◌, length, take, slice_get, Option, Some, None, Ok, Err, inl, inr, refl, sym, ap, ap₂, subst, ◌∙◌, arith, length-append, ◌<◌}
 use Rattle.std.specs.Result.{MatchResult}
-use Rattle.std.specs.List.{flat_map, list_any}
+use Rattle.std.specs.List.{list_any}
 use Rattle.std.proofs.lemmas.Bool.{eqb-true, leb-true, le-leb}
 use Rattle.std.proofs.lemmas.List.{take-append-le, take_all}
 use Rattle.std.proofs.lemmas.Option.{slice_get_within}
 use Rattle.std.proofs.lemmas.List.Folds.{list_any-append}
-use Rattle.std.proofs.lemmas.List.Concat.{flat_map-append}
 use Rattle.krb_base.specs.Limits.{text_limit}
 use Rattle.krb_seal.specs.declared.refusal.Refusal.{Refusal}
 use Rattle.krb_seal.specs.declared.refusal.Refusal.TheVariants as refusals
@@ -20,9 +19,9 @@ use Rattle.krb_core.specs.declared.record.Record.TheVariants as records
 use Rattle.krb_core.specs.declared.delivery.Delivery.{Delivery}
 use Rattle.krb_core.specs.declared.delivery.Delivery.TheVariants.{Text, Closed}
 use Rattle.krb_core.specs.Demand.{Demand}
-use Rattle.krb_core.specs.Record.{SpellsRecord, is_close, bytes_of}
+use Rattle.krb_core.specs.Record.{SpellsRecord, is_close}
 use Rattle.krb_core.specs.Sender.{moment_at}
-use Rattle.krb_core.specs.Verdicts.{Verdict, AllBytes, record_of, accepted_by, records_of, behind, IsNoRecord, IsVerdict, AreVerdicts, delivery_in, judged, opened, verdict_on, demand_behind, verdict, verdicts}
+use Rattle.krb_core.specs.Verdicts.{Verdict, AllBytes, record_of, accepted_by, records_of, behind, IsNoRecord, IsVerdict, AreVerdicts, delivery_in, judged, verdict_on, demand_behind, verdict, verdicts}
 use Rattle.krb_core.proofs.ListLemmas.{or_assoc, or_false, both_true, slice_get-front, slice_get-end, lt_or_same}
 
 -- ---- what user data delivers

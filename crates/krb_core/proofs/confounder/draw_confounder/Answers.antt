@@ -1,5 +1,5 @@
 -- Four words, one after another.
-use Rattle.std.proofs.Common.{◌≡◌, ap, ◌∙◌}
+use Rattle.std.proofs.Common.{ap, ◌∙◌}
 use Rattle.krb_core.specs.Draws.{word_bytes, after_word}
 use Rattle.krb_core.proofs.DrawsLemmas.{sixteen}
 use Rattle.krb_core.proofs.confounder.draw_confounder.Goals as goal

@@ -1,6 +1,4 @@
-use Rattle.std.proofs.Common.{◌≡◌, ◌+◌, length, subst, arith}
-use Rattle.krb_core.specs.Sender.{moment_at}
-use Rattle.krb_core.specs.Verdicts.{IsVerdict, AreVerdicts, verdict, verdicts}
+use Rattle.std.proofs.Common.{◌≡◌, ◌+◌, length, arith}
 use Rattle.krb_core.proofs.VerdictLemmas.{right_verdict, one_verdict, verdicts_follow, follow_same, verdicts-push, AreVerdicts-push}
 use Rattle.krb_core.proofs.HeadlineLemmas.{same_frames}
 use Rattle.krb_core.proofs.headline.verdict_laws.Goals as goal

@@ -1,5 +1,5 @@
 -- What was tested makes a sender.
-use Rattle.std.proofs.Common.{◌≡◌, true, ◌∙◌, sym, rules}
+use Rattle.std.proofs.Common.{rules}
 use Rattle.krb_core.proofs.SendingLemmas.{short_texts}
 use Rattle.krb_core.proofs.tests.sealed.Goals as goal
 

@@ -1,5 +1,5 @@
 -- Each answer is the verdict on the frame, or want of memory.
-use Rattle.std.proofs.Common.{◌≡◌, false, Ok, Err, ap, sym, ◌∙◌, rules}
+use Rattle.std.proofs.Common.{◌≡◌, false, Ok, Err, ap, rules}
 use Rattle.std.proofs.lemmas.Result.{err_from_is_err_and}
 use Rattle.krb_seal.specs.Opens.{Opens}
 use Rattle.krb_core.specs.Record.{SpellsRecord}

@@ -4,8 +4,6 @@ use Rattle.std.proofs.lemmas.List.{length-map}
 use Rattle.std.proofs.lemmas.Result.{IfOk-weaker}
 use Rattle.krb_base.specs.Limits.{text_limit, last_number}
 use Rattle.krb_core.specs.Record.{bytes_of}
-use Rattle.krb_core.specs.Plan.{contents}
-use Rattle.krb_core.specs.Sender.{Source}
 use Rattle.krb_core.specs.Sending.{source_of}
 use Rattle.krb_core.proofs.SendingLemmas.{record_is_text, record_is_close, past_is_close, text_read}
 use Rattle.krb_core.proofs.sending.Sending.record_at.Goals as goal

@@ -1,7 +1,6 @@
 -- Frame after frame, and none under a wiped sealer.
-use Rattle.std.proofs.Common.{◌≡◌, ◌<◌, ◌++◌, ◌∷◌, [], true, IsErr, ap, sym, ◌∙◌, length, arith, rules}
+use Rattle.std.proofs.Common.{◌≡◌, ◌++◌, ◌∷◌, [], true, IsErr, ap, ◌∙◌, arith, rules}
 use Rattle.std.proofs.lemmas.List.{map-append}
-use Rattle.krb_core.specs.Sender.{records}
 use Rattle.krb_core.specs.Sending.{source_of}
 use Rattle.krb_core.proofs.SendingLemmas.{length-records}
 use Rattle.krb_core.proofs.sending.Sending.seal_all.Goals as goal

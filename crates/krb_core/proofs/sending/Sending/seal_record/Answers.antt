@@ -1,11 +1,10 @@
 -- The frame is that of the record, and goes on where the frames before it ended.
-use Rattle.std.proofs.Common.{◌≡◌, ◌≤◌, length, List, ℕ, Some, slice_get, IfOk, ap₂, ◌∙◌, rules}
+use Rattle.std.proofs.Common.{◌≡◌, ◌≤◌, length, ap₂, ◌∙◌, rules}
 use Rattle.krb_base.specs.Limits.{user_data_limit}
 use Rattle.rand_chacha.specs.ChaCha.{ChaCha}
 use Rattle.krb_seal.specs.Sealer.{SealerState}
 use Rattle.krb_core.specs.Record.{bytes_of}
 use Rattle.krb_core.specs.Sender.{Source, moment_at}
-use Rattle.krb_core.specs.declared.record.Record.{Record}
 use Rattle.krb_core.specs.Sending.{source_of}
 use Rattle.krb_core.proofs.SendingLemmas.{HasSealed-push, moment_read, both_ok, errors_are}
 use Rattle.krb_core.proofs.sending.Sending.seal_record.Goals as goal
