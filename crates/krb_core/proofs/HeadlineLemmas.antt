@@ -1,5 +1,5 @@
 -- What is claimed of a lane.
-use Rattle.std.proofs.Common.{◌≡◌, ℕ, zero, suc, ◌+◌, ◌<◌, ◌||◌, if◌then◌else◌, Bool, true, false, List, [], ◌∷◌, ◌++◌, length, map, take, drop, get_or, slice_get, Option, Some, None, Ok, Err, refl, sym, ap, subst, ◌∙◌, arith, append-nil}
+use Rattle.std.proofs.Common.{◌≡◌, ℕ, zero, suc, ◌+◌, ◌<◌, ◌||◌, if◌then◌else◌, Bool, true, false, List, [], ◌∷◌, ◌++◌, length, map, take, drop, get_or, slice_get, Option, Some, None, Ok, Err, refl, sym, ap, subst, ◌∙◌, arith, append-nil, ◌⊎◌, inl, inr}
 use Rattle.std.proofs.lemmas.Bool.{ltb-true}
 use Rattle.std.proofs.lemmas.Option.{slice_get-get_or, slice_get_within}
 use Rattle.krb_base.specs.Prefix.{IsPrefix}
@@ -76,7 +76,7 @@ same_record records.Close records.Close e = refl
 -- one of the sender's own frames carries its own record, and no other number opens it
 own_record : (source : Source) (opener : OpenerState) (start : Demand) (count : ℕ) (frames : List (List ℕ)) → IsPaired source opener start → AreFrames source (take count (sender.records source)) frames
     → (k : ℕ) (frame : List ℕ) → slice_get frames k ≡ Some frame → (c now : ℕ) (user : List ℕ) → Opens opener (start.expected + c) now frame (Ok user)
-    → (r : Record) → SpellsRecord r user → slice_get (sender.records source) c ≡ Some r
+    → (r : Record) → SpellsRecord r user → slice_get (take count (sender.records source)) c ≡ Some r
 own_record source opener start count frames paired sealed k frame at c now user opened r spelled =
     let carried = take count (sender.records source) in
     let s = source.sealer in
@@ -88,12 +88,14 @@ own_record source opener start count frames paired sealed k frame at c now user 
     let w = nowhere_else s.etype s.key s.session opener.expect (s.next + k) _ now (s.next + c) (bytes_of it) _ frame user (sealed.each k it frame at-r at) as_sealer in
     let place : c ≡ k = omega (arith, w.0) in
     let same : it ≡ r = same_record it r (sym w.1 ∙ spelled.1) in
-    rw place (slice_get-take count k (sender.records source) it at-r ∙ ap (λ x. Some x) same)
+    rw place (at-r ∙ ap (λ x. Some x) same)
 
-each_record : (source : Source) (opener : OpenerState) (start : Demand) (nows : List ℕ) (took : List (List ℕ)) (vs : List Verdict)
-    → IsPaired source opener start → IsRun source opener start nows took vs → AlteredAreHonest source vs
-    → (i : ℕ) (d : Delivery) → slice_get vs i ≡ Some (Ok d) → slice_get (sender.records source) (length (records_of (take i vs))) ≡ Some (record_of d)
-each_record source opener start nows took vs paired run honest i d at =
+-- what is accepted is a sealed record, or its frame was altered
+accepted_own : (source : Source) (opener : OpenerState) (start : Demand) (nows : List ℕ) (took : List (List ℕ)) (vs : List Verdict)
+    → IsPaired source opener start → (run : IsRun source opener start nows took vs)
+    → (i : ℕ) (d : Delivery) → slice_get vs i ≡ Some (Ok d)
+    → (slice_get (take run.count (sender.records source)) (length (records_of (take i vs))) ≡ Some (record_of d)) ⊎ (altered_at source.plan i ≡ true)
+accepted_own source opener start nows took vs paired run i d at =
     let within : i < length took = omega (arith, slice_get_within vs i (Ok d) at, run.judged.one_each) in
     let frame = get_or took i [] in
     let at-f : slice_get took i ≡ Some frame = slice_get-get_or took i [] within in
@@ -101,8 +103,27 @@ each_record source opener start nows took vs paired run honest i d at =
     let on_wire : slice_get (wire run.frames source.plan) i ≡ Some frame =
     slice_get-take run.n i (wire run.frames source.plan) frame (ap (λ fs. slice_get fs i) (sym run.taken) ∙ at-f) in
     elim (origin run.frames source.plan i frame on_wire) [
-      | own k at-k ↦ own_record source opener start run.count run.frames paired run.sealed k frame at-k (length (records_of (take i vs))) _ carries.1.0 carries.1.1 (record_of d) carries.1.2
-      | altered is ↦ honest i d is at
+      | own k at-k ↦ inl (own_record source opener start run.count run.frames paired run.sealed k frame at-k (length (records_of (take i vs))) _ carries.1.0 carries.1.1 (record_of d) carries.1.2)
+      | altered is ↦ inr is
+    ]
+
+each_record : (source : Source) (opener : OpenerState) (start : Demand) (nows : List ℕ) (took : List (List ℕ)) (vs : List Verdict)
+    → IsPaired source opener start → IsRun source opener start nows took vs → AlteredAreHonest source vs
+    → (i : ℕ) (d : Delivery) → slice_get vs i ≡ Some (Ok d) → slice_get (sender.records source) (length (records_of (take i vs))) ≡ Some (record_of d)
+each_record source opener start nows took vs paired run honest i d at =
+    elim (accepted_own source opener start nows took vs paired run i d at) [
+      | inl sealed ↦ slice_get-take run.count (length (records_of (take i vs))) (sender.records source) (record_of d) sealed
+      | inr is ↦ honest i d is at
+    ]
+
+-- without a plan no frame is altered
+each_sealed : (source : Source) (opener : OpenerState) (start : Demand) (nows : List ℕ) (took : List (List ℕ)) (vs : List Verdict)
+    → IsPaired source opener start → (run : IsRun source opener start nows took vs) → source.plan ≡ None
+    → (i : ℕ) (d : Delivery) → slice_get vs i ≡ Some (Ok d) → slice_get (take run.count (sender.records source)) (length (records_of (take i vs))) ≡ Some (record_of d)
+each_sealed source opener start nows took vs paired run none i d at =
+    elim (accepted_own source opener start nows took vs paired run i d at) [
+      | inl sealed ↦ sealed
+      | inr is ↦ absurd (let e : false ≡ true = ap (λ p. altered_at p i) (sym none) ∙ is in cc)
     ]
 
 -- ---- what is accepted is a prefix of the records
@@ -126,6 +147,13 @@ records_prefix source opener start nows took vs paired run honest =
     records_from (sender.records source) vs 0 (λ i d at.
     let n : 0 + length (records_of (take i vs)) ≡ length (records_of (take i vs)) = omega arith in
     rw n (each_record source opener start nows took vs paired run honest i d at))
+
+pub sealed_prefix : (source : Source) (opener : OpenerState) (start : Demand) (nows : List ℕ) (took : List (List ℕ)) (vs : List Verdict)
+    → IsPaired source opener start → (run : IsRun source opener start nows took vs) → source.plan ≡ None → IsPrefix (records_of vs) (take run.count (sender.records source))
+sealed_prefix source opener start nows took vs paired run none =
+    records_from (take run.count (sender.records source)) vs 0 (λ i d at.
+    let n : 0 + length (records_of (take i vs)) ≡ length (records_of (take i vs)) = omega arith in
+    rw n (each_sealed source opener start nows took vs paired run none i d at))
 
 -- ---- so the texts are a prefix, and all where a close was accepted
 

@@ -1,14 +1,15 @@
 //! What is claimed of a lane, over the definitions alone: its sender's frames, the plan of its
 //! wire, and the verdicts of its receiver.
 
-ghost use Rattle.std.specs.Prelude.{◌≡◌, ◌↔◌, ◌+◌, ◌++◌, ◌∷◌, [], ℕ, List, length};
+ghost use Rattle.std.specs.Prelude.{◌≡◌, ◌↔◌, ◌+◌, ◌++◌, ◌∷◌, [], ℕ, List, length, take, None};
+ghost use Rattle.krb_base.specs.Prefix.{IsPrefix};
 ghost use Rattle.krb_aes.specs.Words.{AreBytes};
 ghost use Rattle.krb_seal.specs.Opens.{OpenerState};
 ghost use Rattle.krb_core.specs.declared.record.Record.{Record};
 ghost use Rattle.krb_core.specs.Demand.{Demand};
-ghost use Rattle.krb_core.specs.Sender.{Source, AreFrames, moment_at};
+ghost use Rattle.krb_core.specs.Sender.{Source, AreFrames, moment_at, records};
 ghost use Rattle.krb_core.specs.Verdicts.{Verdict, AllBytes, AreVerdicts, IsVerdict, verdict, verdicts, records_of, behind};
-ghost use Rattle.krb_core.specs.Headline.{OfEachRun, DeliversPrefix, DeliversNothingAfterClose, DeliversAllWhereClosed, RefusesExactly, RefusalsDeliverNothing};
+ghost use Rattle.krb_core.specs.Headline.{IsPaired, IsRun, OfEachRun, DeliversPrefix, DeliversNothingAfterClose, DeliversAllWhereClosed, RefusesExactly, RefusalsDeliverNothing};
 
 /// The laws of verdicts and of frames.
 ///
@@ -47,7 +48,8 @@ pub fn verdict_laws()
 /// a paired lane, and that no changed or made-up frame is accepted unless it carries the record of
 /// its number.
 ///
-/// What is delivered is a prefix of the texts sealed, in order and each once (`delivered_prefix`).
+/// What is delivered is a prefix of the texts sealed, in order and each once (`delivered_prefix`);
+/// without a plan, of those sealed until then where sealing was stopped (`sealed_only`).
 /// Nothing is delivered after a close (`nothing_after_close`). All texts are delivered where the
 /// close was accepted (`all_where_closed`). A frame is refused exactly where it fails a check, by
 /// the first that it fails (`refused_exactly`), and then it delivers nothing and moves no number
@@ -55,6 +57,10 @@ pub fn verdict_laws()
 pub fn headline_laws()
     ensures delivered_prefix { OfEachRun DeliversPrefix }
     ensures all_where_closed { OfEachRun DeliversAllWhereClosed }
+    ensures sealed_only { (source : Source) (opener : OpenerState) (start : Demand) (nows : List ℕ)
+        → (took : List (List ℕ)) (answers : List Verdict) → IsPaired source opener start
+        → (run : IsRun source opener start nows took answers) → source.plan ≡ None
+        → IsPrefix (records_of answers) (take run.count (records source)) }
 
     ensures nothing_after_close { (opener : OpenerState) (nows : List ℕ) (start : Demand)
         → (took : List (List ℕ)) (answers : List Verdict)
