@@ -10,3 +10,5 @@ pub mod HeadlineLemmas
 pub mod NumberLemmas
 pub mod ReceiverLemmas
 pub mod SendingLemmas
+pub mod TrackLemmas
+pub mod ReceiveLemmas
