@@ -12,3 +12,4 @@ pub mod ReceiverLemmas
 pub mod SendingLemmas
 pub mod TrackLemmas
 pub mod ReceiveLemmas
+pub mod SteppedLemmas

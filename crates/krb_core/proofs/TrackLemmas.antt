@@ -1,6 +1,7 @@
 -- A lane by two places in what its sender emits.
-use Rattle.std.proofs.Common.{◌≡◌, ◌↔◌, ℕ, zero, suc, ◌+◌, ◌-◌, ◌≤◌, ◌<◌, ◌&&◌, not, nat_lt, Bool, true, false, List, [], ◌∷◌, ◌++◌, length, take, drop, get_or, slice_get, Some, None, refl, sym, ap, ap₂, ◌∙◌, arith}
+use Rattle.std.proofs.Common.{◌≡◌, ◌↔◌, ℕ, zero, suc, ◌+◌, ◌-◌, ◌≤◌, ◌<◌, ◌&&◌, not, nat_lt, Bool, true, false, List, [], ◌∷◌, ◌++◌, length, take, drop, get_or, slice_get, Some, None, refl, sym, ap, ap₂, ◌∙◌, arith, inl, inr}
 use Rattle.std.proofs.lemmas.Bool.{lt-ltb}
+use Rattle.std.proofs.lemmas.Bool.Decides.{leb_tells}
 use Rattle.std.proofs.lemmas.List.{drop-append-le, length-drop, drop_all}
 use Rattle.std.specs.Prelude.{Vec}
 use Rattle.krb_base.specs.Lane.{Item, Lane, Frame, End, Send, Take, has_end, is_possible, taken, moved, after_event}
@@ -190,3 +191,11 @@ module _ (wire : List (List ℕ)) (capacity s t : ℕ) (receiver : ReceiverState
         log_is = ap (λ q. log_behind log number here q) (sym none);
         waits = (λ e. off, λ x. refl);
       }
+
+-- whether End was taken
+pub done_by : (wire : List (List ℕ)) (t : ℕ) → nat_lt (length wire) t ≡ has_end (take t (items_of wire))
+done_by wire t =
+    elim (leb_tells (suc (length wire)) t) [
+      | inl h ↦ h.0 ∙ sym (with_end wire t (let e = h.1 in omega arith))
+      | inr h ↦ h.0 ∙ sym (no_end wire t (let e = h.1 in omega arith))
+    ]

@@ -15,3 +15,4 @@ pub mod Receiver
 pub mod Sending
 pub mod Track
 pub mod TrackPlaces
+pub mod Stepped

@@ -95,6 +95,13 @@ impl Track {
         self.taken += 1;
         Ok(Did::Moved)
     }
+
+    /// Whether the end was taken.
+    pub(crate) fn is_done(&self) -> bool
+        ensures { result ≡ has_end self.now.lane.got }
+    {
+        self.taken > self.wire.len()
+    }
 }
 
 /// The moment of a place: the last one serves all later places.
