@@ -13,3 +13,4 @@ pub mod SendingLemmas
 pub mod TrackLemmas
 pub mod ReceiveLemmas
 pub mod SteppedLemmas
+pub mod StartLemmas

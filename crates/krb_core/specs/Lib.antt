@@ -16,3 +16,4 @@ pub mod Sending
 pub mod Track
 pub mod TrackPlaces
 pub mod Stepped
+pub mod Start
