@@ -4,7 +4,7 @@ use Rattle.std.specs.Prelude.{Vec, IsTrue, option_map}
 use Rattle.krb_core.specs.declared.plan.Emit.{Emit}
 use Rattle.krb_core.specs.Plan.{is_good, wire}
 use Rattle.krb_core.specs.Sender.{Source, records, AreFrames}
-use Rattle.krb_core.specs.Start.{is_planned, IsWire}
+use Rattle.krb_core.specs.Start.{IsWire}
 
 -- what a good plan emits is the wire
 pub wire_planned : {A : Type 0} (held : Option (Vec Emit A)) (plan : Vec Emit A) (source : Source) → source.plan ≡ option_map (λ p. p.items) held → (frames emitted : List (List ℕ)) → held ≡ Some plan

@@ -1,5 +1,5 @@
 -- What a wire makes of a sender's frames: a plan disturbs them on purpose.
-use Rattle.std.specs.Prelude.{◌≡◌, ℕ, ◌==◌, nat_lt, Bool, true, false, not, ◌&&◌, List, [], ◌∷◌, map, length, codes, Vec, Option, Some, None, slice_index, slice_index_or, slice_set, bit_xor, if◌then◌else◌}
+use Rattle.std.specs.Prelude.{ℕ, ◌==◌, nat_lt, Bool, true, not, ◌&&◌, List, [], map, length, codes, Vec, Option, Some, None, slice_index, slice_index_or, slice_set, bit_xor, if◌then◌else◌}
 use Rattle.std.specs.List.{list_all}
 use Rattle.krb_core.specs.declared.plan.Emit.{Emit}
 use Rattle.krb_core.specs.declared.plan.Emit.TheVariants.{Frame, Flip, Raw}

@@ -1,5 +1,5 @@
 -- A sender as the code holds it.
-use Rattle.std.specs.Prelude.{◌≡◌, ◌≤◌, ◌<◌, ◌↔◌, ℕ, ◌+◌, ◌-◌, ◌*◌, List, [], ◌∷◌, ◌++◌, length, take, option_map, slice_get, All}
+use Rattle.std.specs.Prelude.{◌≡◌, ◌≤◌, ◌<◌, ℕ, ◌+◌, ◌-◌, ◌*◌, List, length, take, option_map, All}
 use Rattle.krb_base.specs.Limits.{text_limit, last_number}
 use Rattle.krb_seal.specs.Sealer.{SealerState}
 use Rattle.krb_core.specs.declared.sending.Sending.{Sending}

@@ -1,5 +1,5 @@
 -- How a relay that is stepped begins.
-use Rattle.std.specs.Prelude.{◌≡◌, ℕ, Bool, true, false, List, codes, Option, Some, None}
+use Rattle.std.specs.Prelude.{◌≡◌, ℕ, Bool, true, false, List, Option, Some, None}
 use Rattle.krb_base.specs.Lane.{empty}
 use Rattle.krb_core.specs.declared.plan.Emit.{Emit}
 use Rattle.krb_core.specs.declared.start.StartError.{StartError}

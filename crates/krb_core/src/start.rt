@@ -42,7 +42,10 @@ impl fmt::Display for StartError {
         match self {
             StartError::Memory => write!(f, "out of memory"),
             StartError::BadPlan { lane } => {
-                write!(f, "the plan of lane {lane} names what its frames don't have")
+                write!(
+                    f,
+                    "the plan of lane {lane} names what its frames don't have"
+                )
             }
             StartError::Wiped { lane } => write!(f, "the sealer of lane {lane} was wiped"),
         }

@@ -1,8 +1,8 @@
 //! One lane of a relay that is stepped: what its sender emits, how far that has come, and its
 //! receiver.
 
-ghost use Rattle.std.specs.Prelude.{◌≡◌, ◌↔◌, ◌<◌, ◌≤◌, [], length, true, false, OnOk, OnErr, IfOk};
-ghost use Rattle.krb_base.specs.Lane.{Take, empty, has_end, is_possible};
+ghost use Rattle.std.specs.Prelude.{◌≡◌, ◌↔◌, ◌<◌, length, false, OnOk, OnErr, IfOk};
+ghost use Rattle.krb_base.specs.Lane.{Take, has_end, is_possible};
 ghost use Rattle.krb_core.specs.Plan.{contents};
 ghost use Rattle.krb_core.specs.Receiver.{receiver_behind};
 ghost use Rattle.krb_core.specs.Sender.{moment_at};
@@ -52,7 +52,8 @@ impl Track {
     /// Puts the next item into the queue, where there is room and the end wasn't sent.
     pub(crate) fn send(&mut self) -> Did
         ensures after { self.new ≡ after_send self.old }
-        ensures waits { (result ≡ Did.Waits) ↔ (is_possible self.old.lane (next_send self.old) ≡ false) }
+        ensures waits { (result ≡ Did.Waits)
+            ↔ (is_possible self.old.lane (next_send self.old) ≡ false) }
     {
         if self.sent <= self.wire.len() && self.sent - self.taken < self.capacity {
             self.sent += 1;
