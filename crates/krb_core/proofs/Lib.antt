@@ -10,3 +10,7 @@ pub mod HeadlineLemmas
 pub mod NumberLemmas
 pub mod ReceiverLemmas
 pub mod SendingLemmas
+pub mod TrackLemmas
+pub mod ReceiveLemmas
+pub mod SteppedLemmas
+pub mod StartLemmas

@@ -13,3 +13,7 @@ pub mod Headline
 pub mod ReceiverState
 pub mod Receiver
 pub mod Sending
+pub mod Track
+pub mod TrackPlaces
+pub mod Stepped
+pub mod Start

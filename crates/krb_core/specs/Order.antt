@@ -1,5 +1,5 @@
 -- One step of an order: what is demanded, what an offer is answered, and what is demanded then.
-use Rattle.std.specs.Prelude.{ℕ, ◌+◌, ◌==◌, ◌&&◌, nat_le, List, [], ◌∷◌, codes, Result, Ok, Err, ⊤, if◌then◌else◌}
+use Rattle.std.specs.Prelude.{ℕ, Bool, ◌+◌, ◌==◌, ◌&&◌, nat_le, List, [], ◌∷◌, codes, Result, Ok, Err, ⊤, if◌then◌else◌}
 use Rattle.krb_core.specs.declared.record.Record.{Record}
 use Rattle.krb_core.specs.declared.order.OrderRefusal.{OrderRefusal}
 use Rattle.krb_core.specs.declared.order.OrderRefusal.TheVariants.{AfterClose, BadOrder}
@@ -26,6 +26,10 @@ abbrev pub answer_to : Demand → Offer → Answer
 answer_to demand offer =
     if demand.closed then Err AfterClose
     else (if (offer.number == demand.expected) && nat_le offer.number last_number then Ok tt else Err BadOrder)
+
+-- what is demanded behind an accepted record: the next number, and whether it was the close is noted
+abbrev pub next_demand : Demand → Bool → Demand
+next_demand demand close = record { expected = demand.expected + 1; closed = close }
 
 -- what is demanded after an answer: a refusal changes nothing
 abbrev pub demand_after : Demand → Offer → Answer → Demand

@@ -1,7 +1,8 @@
 -- What a receiver answers in code.
-use Rattle.std.specs.Prelude.{◌≡◌, ◌⊎◌, ℕ, List, Err, false}
+use Rattle.std.specs.Prelude.{◌≡◌, ◌⊎◌, ℕ, Bool, List, Err, false}
 use Rattle.krb_seal.specs.declared.refusal.Refusal.TheVariants.{Memory}
 use Rattle.krb_core.specs.Demand.{Demand}
+use Rattle.krb_core.specs.Order.{next_demand}
 use Rattle.krb_core.specs.ReceiverState.{ReceiverState}
 use Rattle.krb_core.specs.Verdicts.{Verdict, IsVerdict, demand_behind}
 
@@ -16,3 +17,7 @@ IsAnswer receiver now frame answer = (answer ≡ Err Memory) ⊎ IsVerdict recei
 -- behind a verdict the next number is demanded, or the same one
 abbrev pub receiver_behind : ReceiverState → Verdict → ReceiverState
 receiver_behind receiver answer = record receiver { demand = demand_behind receiver.demand answer }
+
+-- and behind an accepted record, which was the close or wasn't
+abbrev pub advanced : ReceiverState → Bool → ReceiverState
+advanced receiver close = record receiver { demand = next_demand receiver.demand close }

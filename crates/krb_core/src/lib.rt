@@ -25,6 +25,10 @@ mod plan;
 mod receiver;
 mod record;
 mod sending;
+mod start;
+mod stepped;
+mod track;
+mod turn;
 
 pub use delivery::Delivery;
 pub use emission::emit;
@@ -37,6 +41,9 @@ pub use plan::{Emit, EmitError};
 pub use receiver::{Receiver, Receiving};
 pub use record::{Record, RecordError, read_record, record_bytes};
 pub use sending::{Ending, Sending, Sent};
+pub use start::StartError;
+pub use stepped::Stepped;
+pub use turn::{Did, Turn};
 
 #[cfg(test)]
 mod tests;

@@ -2,7 +2,7 @@
 
 ghost use Rattle.std.specs.Prelude.{◌≡◌, ◌≢◌, ◌↔◌, ◌⊎◌, ℕ, ◌+◌, ◌≤◌, ◌<◌, List, [], ◌∷◌, ◌++◌, IsTrue, IsFalse, OnOk, OnErr, Some};
 ghost use Rattle.krb_base.specs.Limits.{last_number};
-ghost use Rattle.krb_core.specs.Order.{Offer, Answer, offer, answer_to, code_of, words_of};
+ghost use Rattle.krb_core.specs.Order.{Offer, Answer, offer, answer_to, next_demand, code_of, words_of};
 ghost use Rattle.krb_core.specs.Accepted.{HasAnswered};
 ghost use Rattle.krb_core.specs.Record.{is_close};
 
@@ -120,9 +120,17 @@ impl Order {
         if number != self.expected || number > LAST_NUMBER {
             return Err(OrderRefusal::BadOrder);
         }
-        self.expected += 1;
-        self.closed = matches!(offered, Record::Close);
+        self.advance(matches!(offered, Record::Close));
         Ok(())
+    }
+
+    /// Moves on behind an accepted record: the next number is demanded, and a close is noted.
+    pub(crate) fn advance(&mut self, close: bool)
+        requires { self.old.expected ≤ last_number }
+        ensures { self.new ≡ next_demand self.old close }
+    {
+        self.expected += 1;
+        self.closed = close;
     }
 }
 

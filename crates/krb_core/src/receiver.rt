@@ -4,7 +4,7 @@ ghost use Rattle.std.specs.Prelude.{◌≡◌, ◌+◌, ◌≤◌, IfOk, OnOk, O
 ghost use Rattle.krb_base.specs.Limits.{last_number};
 ghost use Rattle.krb_core.specs.Record.{is_close};
 ghost use Rattle.krb_core.specs.Verdicts.{record_of};
-ghost use Rattle.krb_core.specs.Receiver.{first_demand, IsAnswer, receiver_behind};
+ghost use Rattle.krb_core.specs.Receiver.{first_demand, IsAnswer, receiver_behind, advanced};
 
 use crate::delivery::Delivery;
 use crate::order::{Order, OrderRefusal};
@@ -95,6 +95,21 @@ impl Receiver {
             self.new.demand.closed ≡ is_close (record_of carried)) }
         ensures err { OnErr result (self.new ≡ self.old) }
     {
+        let delivery = self.judge(alloc, frame, now)?;
+        self.advance(matches!(delivery, Delivery::Closed));
+        Ok(delivery)
+    }
+
+    /// What [`take`](Receiver::take) would answer now. Nothing changes.
+    pub(crate) fn judge(
+        &self,
+        alloc: Global,
+        frame: &[u8],
+        now: Moment,
+    ) -> Result<Delivery, Refusal>
+        ensures verdict { IsAnswer self.now now frame.now result }
+        ensures in_range { OnOk result (self.now.demand.expected ≤ last_number) }
+    {
         if self.order.closed() {
             return Err(Refusal::AfterClose);
         }
@@ -105,10 +120,18 @@ impl Receiver {
             Err(RecordError::BadRecord) => return Err(Refusal::BadRecord),
             Err(RecordError::Memory) => return Err(Refusal::Memory),
         };
-        self.order.accept(number, &record)?;
         Ok(match record {
             Record::Text(text) => Delivery::Text(text),
             Record::Close => Delivery::Closed,
         })
+    }
+
+    /// Moves on behind what [`judge`](Receiver::judge) delivered: the next number is demanded, and a
+    /// close is noted.
+    pub(crate) fn advance(&mut self, close: bool)
+        requires { self.old.demand.expected ≤ last_number }
+        ensures { self.new ≡ advanced self.old close }
+    {
+        self.order.advance(close);
     }
 }

@@ -1,0 +1,70 @@
+-- One lane of a relay that is stepped.
+use Rattle.std.specs.Prelude.{◌≡◌, ℕ, true, List, [], ◌∷◌, ◌++◌, length, map, slice_get, Option, Some, None}
+use Rattle.krb_base.specs.Lane.{Item, Lane, Event, Frame, End, Send, Take, after_event}
+use Rattle.krb_core.specs.declared.log.Entry.{Entry}
+use Rattle.krb_core.specs.Log.{ended_at, is_closed}
+use Rattle.krb_core.specs.LogState.{LogState}
+use Rattle.krb_core.specs.ReceiverState.{ReceiverState}
+use Rattle.krb_core.specs.Receiver.{receiver_behind}
+use Rattle.krb_core.specs.Sender.{moment_at}
+use Rattle.krb_core.specs.Verdicts.{Verdict, events_by, verdict}
+
+-- what its sender emits, how far that has come, what takes it, and when
+pub record TrackState : Type 0 where
+  pub wire : List (List ℕ)
+  pub lane : Lane (List ℕ)
+  pub receiver : ReceiverState
+  pub nows : List ℕ
+
+-- what is sent at a place: the frame there, and End behind them all
+abbrev pub item_of : Option (List ℕ) → Item (List ℕ)
+item_of (Some frame) = Frame frame
+item_of None = End
+
+abbrev pub item_at : List (List ℕ) → ℕ → Item (List ℕ)
+item_at wire place = item_of (slice_get wire place)
+
+abbrev pub next_send : TrackState → Event (List ℕ)
+next_send track = Send (item_at track.wire (length track.lane.sent))
+
+abbrev pub after_send : TrackState → TrackState
+after_send track = record track { lane = after_event track.lane (next_send track) }
+
+-- the verdict on a frame that is taken now
+unfoldable pub verdict_by : ReceiverState → ℕ → List ℕ → Verdict
+verdict_by receiver now frame = verdict receiver.opener receiver.demand now frame
+
+abbrev pub verdict_now : TrackState → List ℕ → Verdict
+verdict_now track frame = verdict_by track.receiver (moment_at track.nows (length track.lane.got)) frame
+
+-- the receiver behind what is taken from the front of a queue
+abbrev pub receiver_after : TrackState → List (Item (List ℕ)) → ReceiverState
+receiver_after track [] = track.receiver
+receiver_after track (Frame frame ∷ queue) = receiver_behind track.receiver (verdict_now track frame)
+receiver_after track (End ∷ queue) = track.receiver
+
+abbrev pub after_take : TrackState → TrackState
+after_take track = record track {
+  lane = after_event track.lane Take;
+  receiver = receiver_after track track.lane.queue;
+}
+
+-- the log behind a verdict on a frame of this lane: one entry more
+abbrev pub entries_by : ℕ → Verdict → List Entry
+entries_by lane v = map (λ event. record { lane = lane; event = event }) (events_by v)
+
+abbrev pub noted : LogState → ℕ → Verdict → LogState
+noted log lane v = record log { entries = log.entries ++ entries_by lane v }
+
+-- and behind what is taken: End adds no entry
+abbrev pub log_behind : LogState → ℕ → TrackState → List (Item (List ℕ)) → LogState
+log_behind log lane track [] = log
+log_behind log lane track (Frame frame ∷ queue) = noted log lane (verdict_now track frame)
+log_behind log lane track (End ∷ queue) = ended_at log lane
+
+abbrev pub log_after : LogState → ℕ → TrackState → LogState
+log_after log lane track = log_behind log lane track track.lane.queue
+
+-- where a close of the lane stands in the log, its receiver accepts no more
+abbrev pub IsShut : LogState → ℕ → ReceiverState → Type 0
+IsShut log lane receiver = is_closed lane log.entries ≡ true → receiver.demand.closed ≡ true

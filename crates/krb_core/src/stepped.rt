@@ -1,0 +1,96 @@
+//! A relay that is stepped: one event of one lane at a time, in any order that the caller likes.
+
+ghost use Rattle.std.specs.Prelude.{◌≡◌, ◌↔◌, ◌<◌, ℕ, length, take, Some, false, slice_get, All, IfOk, OnOk, OnErr};
+ghost use Rattle.krb_core.specs.Stepped.{lane_of, turned, after, may_move, is_done};
+
+use crate::log::Log;
+use crate::sending::Sent;
+use crate::track::Track;
+use crate::turn::{Did, Turn};
+use std::alloc::{AllocError, Global};
+use std::marker::Model;
+
+/// Senders, each with a lane to its receiver, and one log.
+///
+/// All frames are sealed when it is made. Each [`Turn`] is one event of one lane.
+#[derive(Drop)]
+pub struct Stepped {
+    alloc: Global,
+    tracks: Vec<Track>,
+    log: Log,
+    sents: Vec<Sent>,
+}
+
+impl Model for Stepped {
+    ghost use Rattle.krb_core.specs.Stepped.{Relay, IsRelay};
+
+    ghost Value = { Relay };
+
+    ghost view = { λ stepped. record {
+      tracks = stepped.tracks.items;
+      log = stepped.log;
+      sents = stepped.sents.items;
+    } };
+
+    ghost invariant = { λ stepped.
+        IsRelay stepped.tracks.items stepped.log stepped.sents.items };
+}
+
+impl Stepped {
+    /// One turn: the next event of its lane, which is there.
+    ///
+    /// A send puts the lane's next frame into the queue, and behind the last one the end. A take
+    /// gives the frame at the front to the lane's receiver, and what became of it to the log, or
+    /// notes the end there. An impossible event changes nothing, and neither does want of memory,
+    /// which is the only error.
+    pub fn step(&mut self, turn: Turn) -> Result<Did, AllocError>
+        requires { lane_of turn < length self.old.tracks }
+        ensures ok { OnOk result (self.new ≡ turned self.old turn) }
+        ensures waits { IfOk result (λ did. (did ≡ Did.Waits) ↔ (may_move self.old turn ≡ false)) }
+        ensures err { OnErr result (self.new ≡ self.old) }
+    {
+        match turn {
+            Turn::Send(lane) => Ok(self.tracks[lane as usize].send()),
+            Turn::Take(lane) => {
+                let track = &mut self.tracks[lane as usize];
+                track.take(self.alloc, lane, &mut self.log)
+            }
+        }
+    }
+
+    /// All turns, one after another.
+    ///
+    /// The first want of memory ends it, with the earlier turns done.
+    pub fn run(&mut self, turns: &[Turn]) -> Result<(), AllocError>
+        requires { All (λ turn. lane_of turn < length self.old.tracks) turns.now }
+        ensures { (n : ℕ) × (self.new ≡ after self.old (take n turns.now))
+            × OnOk result (n ≡ length turns.now) }
+    {
+        for turn in turns {
+            self.step(*turn)?;
+        }
+        Ok(())
+    }
+
+    /// What became of the frames so far.
+    pub fn log(&self) -> &Log
+        ensures { result.now ≡ self.now.log }
+    {
+        &self.log
+    }
+
+    /// Whether every lane's end was taken.
+    pub fn done(&self) -> bool
+        ensures { result ≡ is_done self.now }
+    {
+        self.tracks.iter().all(|track| track.is_done())
+    }
+
+    /// How much the sender of `lane` sealed. The lane is there.
+    pub fn sent(&self, lane: u32) -> Sent
+        requires { lane < length self.now.tracks }
+        ensures { slice_get self.now.sents lane ≡ Some result }
+    {
+        self.sents[lane as usize]
+    }
+}

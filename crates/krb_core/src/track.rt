@@ -1,0 +1,150 @@
+//! One lane of a relay that is stepped: what its sender emits, how far that has come, and its
+//! receiver.
+
+ghost use Rattle.std.specs.Prelude.{◌≡◌, ◌↔◌, ◌<◌, length, false, OnOk, OnErr, IfOk};
+ghost use Rattle.krb_base.specs.Lane.{Take, has_end, is_possible};
+ghost use Rattle.krb_core.specs.Plan.{contents};
+ghost use Rattle.krb_core.specs.Receiver.{receiver_behind};
+ghost use Rattle.krb_core.specs.Sender.{moment_at};
+ghost use Rattle.krb_core.specs.Track.{next_send, after_send, after_take, log_after, verdict_by, noted, IsShut};
+
+use crate::delivery::Delivery;
+use crate::log::{Event, Log};
+use crate::receiver::{Receiver, Receiving};
+use crate::turn::Did;
+use krb_der::Moment;
+use krb_seal::Refusal;
+use std::alloc::{AllocError, Global};
+use std::marker::Model;
+
+/// A lane whose frames stay where they are: two places say what was sent, and what of it was taken.
+///
+/// Behind the last frame stands the end, as one item more.
+#[derive(Drop)]
+pub(crate) struct Track {
+    wire: Vec<Vec<u8>>,
+    receiving: Receiving,
+    capacity: usize,
+    sent: usize,
+    taken: usize,
+}
+
+impl Model for Track {
+    ghost use Rattle.std.specs.Prelude.{◌<◌, length};
+    ghost use Rattle.krb_core.specs.Plan.{contents};
+    ghost use Rattle.krb_core.specs.Track.{TrackState};
+    ghost use Rattle.krb_core.specs.TrackPlaces.{lane_at, ArePlaces};
+
+    ghost Value = { TrackState };
+
+    ghost view = { λ track. record {
+      wire = contents track.wire.items;
+      lane = lane_at track.capacity (contents track.wire.items) track.sent track.taken;
+      receiver = track.receiving.receiver;
+      nows = track.receiving.nows.items;
+    } };
+
+    ghost invariant = { λ track. ArePlaces (contents track.wire.items) track.sent track.taken
+        × (0 < length track.receiving.nows.items) };
+}
+
+impl Track {
+    /// Puts the next item into the queue, where there is room and the end wasn't sent.
+    pub(crate) fn send(&mut self) -> Did
+        ensures after { self.new ≡ after_send self.old }
+        ensures waits { (result ≡ Did.Waits)
+            ↔ (is_possible self.old.lane (next_send self.old) ≡ false) }
+    {
+        if self.sent <= self.wire.len() && self.sent - self.taken < self.capacity {
+            self.sent += 1;
+            Did::Moved
+        } else {
+            Did::Waits
+        }
+    }
+
+    /// Takes what is at the front of the queue, where there is something.
+    ///
+    /// A frame is judged by the receiver at the moment of its place, and what became of it goes to
+    /// the log. The end is noted there. Want of memory changes nothing.
+    pub(crate) fn take(
+        &mut self,
+        alloc: Global,
+        lane: u32,
+        log: &mut Log,
+    ) -> Result<Did, AllocError>
+        requires lane { lane < log.old.lanes }
+        requires shut { IsShut log.old lane self.old.receiver }
+        ensures after { OnOk result (self.new ≡ after_take self.old) }
+        ensures log { OnOk result (log.new ≡ log_after log.old lane self.old) }
+        ensures waits { IfOk result (λ did.
+            (did ≡ Did.Waits) ↔ (is_possible self.old.lane Take ≡ false)) }
+        ensures unchanged { OnErr result (self.new ≡ self.old) }
+        ensures unwritten { OnErr result (log.new ≡ log.old) }
+    {
+        if self.taken == self.sent {
+            return Ok(Did::Waits);
+        }
+        match self.wire.get(self.taken) {
+            Some(frame) => {
+                let now = moment_at(self.receiving.nows.as_slice(), self.taken);
+                let receiver = &mut self.receiving.receiver;
+                receive(receiver, alloc, frame.as_slice(), now, lane, log)?;
+            }
+            None => log.end(lane),
+        }
+        self.taken += 1;
+        Ok(Did::Moved)
+    }
+
+    /// Whether the end was taken.
+    pub(crate) fn is_done(&self) -> bool
+        ensures { result ≡ has_end self.now.lane.got }
+    {
+        self.taken > self.wire.len()
+    }
+}
+
+/// The moment of a place: the last one serves all later places.
+fn moment_at(moments: &[Moment], place: usize) -> Moment
+    requires { 0 < length moments.now }
+    ensures { result ≡ moment_at moments.now place }
+{
+    moments[place.min(moments.len() - 1)]
+}
+
+/// Judges a frame, and notes what became of it in the log.
+///
+/// Every growth comes before the first change, so want of memory changes nothing.
+pub(crate) fn receive(
+    receiver: &mut Receiver,
+    alloc: Global,
+    frame: &[u8],
+    now: Moment,
+    lane: u32,
+    log: &mut Log,
+) -> Result<(), AllocError>
+    requires lane { lane < log.old.lanes }
+    requires shut { IsShut log.old lane receiver.old }
+    ensures receiver { OnOk result
+        (receiver.new ≡ receiver_behind receiver.old (verdict_by receiver.old now frame.now)) }
+    ensures log { OnOk result (log.new ≡ noted log.old lane (verdict_by receiver.old now frame.now)) }
+    ensures unchanged { OnErr result (receiver.new ≡ receiver.old) }
+    ensures unwritten { OnErr result (log.new ≡ log.old) }
+{
+    match receiver.judge(alloc, frame, now) {
+        Ok(Delivery::Text(text)) => {
+            log.push(lane, Event::Text(text))?;
+            receiver.advance(false);
+        }
+        Ok(Delivery::Closed) => {
+            log.push(lane, Event::Closed)?;
+            receiver.advance(true);
+        }
+        Err(refusal) => match refusal {
+            Refusal::Memory => return Err(AllocError),
+            other => log.push(lane, Event::Refused(other))?,
+        },
+    }
+    Ok(())
+}
