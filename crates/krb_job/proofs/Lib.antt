@@ -1,0 +1,4 @@
+pub mod DataLemmas
+pub mod DecimalLemmas
+pub mod FailLemmas
+pub mod ListLemmas

@@ -1,0 +1,9 @@
+pub mod Address
+pub mod Checks
+pub mod Decimal
+pub mod Emission
+pub mod Lists
+pub mod Place
+pub mod Steps
+pub mod Text
+pub mod Values

@@ -1,0 +1,15 @@
+//! Job files: what the commands `seal`, `open` and `relay` are told, read from the tree of a TOML
+//! document.
+#![tactic(auto)]
+
+mod address;
+mod decimal;
+mod emission;
+mod job;
+mod lists;
+mod place;
+mod text;
+mod values;
+
+pub use job::{Command, Emission};
+pub use place::Place;
