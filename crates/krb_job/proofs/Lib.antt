@@ -2,3 +2,5 @@ pub mod DataLemmas
 pub mod DecimalLemmas
 pub mod FailLemmas
 pub mod ListLemmas
+pub mod SenderLemmas
+pub mod KeyLemmas

@@ -2,8 +2,11 @@ pub mod Address
 pub mod Checks
 pub mod Decimal
 pub mod Emission
+pub mod Keys
 pub mod Lists
 pub mod Place
+pub mod Sender
+pub mod SenderView
 pub mod Steps
 pub mod Text
 pub mod Values

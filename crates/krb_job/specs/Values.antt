@@ -1,6 +1,7 @@
 -- What the values of a job stand for.
-use Rattle.std.specs.Prelude.{ℕ, pos, nat_le, Bool, ◌&&◌, List, length, codes, Option, Some, None, if◌then◌else◌}
+use Rattle.std.specs.Prelude.{ℕ, ◌==◌, pos, nat_le, Bool, ◌&&◌, List, length, codes, Option, Some, None, if◌then◌else◌}
 use Rattle.std.specs.Result.{result_ok}
+use Rattle.std.specs.List.{list_any}
 use Rattle.std.specs.Str.{bytes_eq}
 use Rattle.toml.specs.Data.{Data, string, integer, boolean}
 use Rattle.hex.specs.Hex.{decode_of, decode_sized}
@@ -40,3 +41,14 @@ bytes_of low high _ = None
 abbrev pub seed_of : Data → Option (List ℕ)
 seed_of (string text) = result_ok (decode_sized text 32)
 seed_of _ = None
+
+-- 16 bytes for encryption type 17, 32 for 18 (RFC 3962 section 6)
+abbrev pub key_size : ℕ → ℕ
+key_size etype = if etype == 17 then 16 else 32
+
+-- a key that no earlier sender has
+abbrev pub unused : List (List ℕ) → List ℕ → Option (List ℕ)
+unused earlier key = if list_any (bytes_eq key) earlier then None else Some key
+
+abbrev pub key_of : ℕ → List (List ℕ) → Data → Option (List ℕ)
+key_of etype earlier d = bytes_of (key_size etype) (key_size etype) d >>= unused earlier

@@ -7,9 +7,12 @@ mod decimal;
 mod emission;
 mod job;
 mod lists;
+mod parts;
 mod place;
+mod sender;
+mod table;
 mod text;
 mod values;
 
-pub use job::{Command, Emission};
+pub use job::{Command, Emission, SenderJob};
 pub use place::Place;

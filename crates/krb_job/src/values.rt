@@ -1,6 +1,6 @@
 //! The values of a job.
 
-ghost use Rattle.std.specs.Prelude.{◌≡◌, ok_or};
+ghost use Rattle.std.specs.Prelude.{◌≡◌, ◌≤◌, ok_or, IfSome};
 ghost use Rattle.toml.specs.View.{view};
 ghost use Rattle.krb_job.specs.Checks.{Gives};
 ghost use Rattle.krb_job.specs.Values.{number_of, flag_of, mode_of, mode_named, hex_of, bytes_of, seed_of};
@@ -14,7 +14,9 @@ use toml::Value;
 
 /// A whole number from `low` to `high`.
 pub(crate) fn read_number(value: &Value, low: u64, high: u64) -> Option<u64>
-    ensures { result ≡ number_of low high (view value.now) }
+    ensures value { result ≡ number_of low high (view value.now) }
+    ensures low { IfSome result (λ n. low ≤ n) }
+    ensures high { IfSome result (λ n. n ≤ high) }
 {
     let number = u64::try_from(value.as_integer()?).ok()?;
     if low <= number && number <= high {
