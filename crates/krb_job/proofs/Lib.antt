@@ -4,3 +4,5 @@ pub mod FailLemmas
 pub mod ListLemmas
 pub mod SenderLemmas
 pub mod KeyLemmas
+pub mod JobLemmas
+pub mod TreeLemmas

@@ -8,9 +8,9 @@ use Rattle.std.proofs.lemmas.List.{at_drop_all}
 use Rattle.krb_job.specs.Steps.{◌>>=◌}
 use Rattle.krb_job.specs.Lists.{count, each}
 
-pub count-view : (vs : List Value) → count (items_view vs) ≡ length vs
-count-view [] = refl
-count-view (v ∷ vs) = grind (arith, count-view vs)
+pub count_view : (vs : List Value) → count (items_view vs) ≡ length vs
+count_view [] = refl
+count_view (v ∷ vs) = grind (arith, count_view vs)
 
 -- these, and then the others
 abbrev pub behind : {A : Type 0} → List A → Option (List A) → Option (List A)

@@ -1,7 +1,9 @@
 pub mod Address
+pub mod BadInput
 pub mod Checks
 pub mod Decimal
 pub mod Emission
+pub mod Job
 pub mod Keys
 pub mod Lists
 pub mod Place

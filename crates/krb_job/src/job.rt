@@ -81,3 +81,12 @@ pub struct SenderJob {
     /// What is opened.
     pub frames: Vec<Bytes>,
 }
+
+/// A job.
+#[derive(Debug, Drop)]
+pub struct Job {
+    /// How many frames a lane holds, 1 to 64.
+    pub capacity: usize,
+    /// The senders, 1 to 8 for `relay`, one for the other commands.
+    pub senders: Vec<SenderJob>,
+}

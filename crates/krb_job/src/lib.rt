@@ -3,16 +3,21 @@
 #![tactic(auto)]
 
 mod address;
+mod bad_input;
 mod decimal;
 mod emission;
 mod job;
 mod lists;
 mod parts;
 mod place;
+mod read;
 mod sender;
 mod table;
 mod text;
+mod tree;
 mod values;
 
-pub use job::{Command, Emission, SenderJob};
+pub use bad_input::{BadInput, JobError};
+pub use job::{Command, Emission, Job, SenderJob};
 pub use place::Place;
+pub use read::read_job;

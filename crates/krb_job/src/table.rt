@@ -4,6 +4,7 @@ ghost use Rattle.std.specs.Prelude.{◌≡◌, ◌≤◌, [], map, ok_or, option
 ghost use Rattle.std.specs.BTreeMap.{keys};
 ghost use Rattle.std.specs.List.{list_all, list_any};
 ghost use Rattle.std.specs.Str.{bytes_eq};
+ghost use Rattle.toml.specs.Data.{get_member};
 ghost use Rattle.toml.specs.View.{view, table_view};
 ghost use Rattle.krb_job.specs.Checks.{Gives};
 ghost use Rattle.krb_job.specs.Values.{number_of, flag_of, mode_of, seed_of};
@@ -22,11 +23,18 @@ use krb_seal::Mode;
 use std::alloc::Global;
 use toml::{Table, Value};
 
-/// The value of a key.
+/// The value of a key of any table.
+pub(crate) fn get<'a>(table: &'a Table, key: &str) -> Option<&'a Value>
+    ensures { option_map (λ v. view v.now) result ≡ get_member key.now (table_view table.now) }
+{
+    table.get(key)
+}
+
+/// The value of a key of a sender.
 pub(crate) fn entry<'a>(table: &'a Table, place: Place) -> Option<&'a Value>
     ensures { option_map (λ v. view v.now) result ≡ at_key place (table_view table.now) }
 {
-    table.get(place.name())
+    get(table, place.name())
 }
 
 pub(crate) fn number(table: &Table, place: Place, low: u64, high: u64) -> Result<u64, KeyError>
