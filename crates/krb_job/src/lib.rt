@@ -21,3 +21,6 @@ pub use bad_input::{BadInput, JobError};
 pub use job::{Command, Emission, Job, SenderJob};
 pub use place::Place;
 pub use read::read_job;
+
+#[cfg(test)]
+mod tests;
