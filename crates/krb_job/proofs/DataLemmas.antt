@@ -1,5 +1,5 @@
 -- The tree of a document, by its accessors.
-use Rattle.std.proofs.Common.{◌≡◌, ℕ, nat_le, ◌&&◌, cond, length, List, Option, Some, None, refl, ap}
+use Rattle.std.proofs.Common.{◌≡◌, ℕ, nat_le, ◌&&◌, cond, length, List, Some, None, refl, ap}
 use Rattle.toml.specs.Data.{Data, string, integer, float, boolean, datetime, array, table, as_str, as_array}
 use Rattle.toml.specs.View.{items_view}
 use Rattle.toml.specs.declared.value.Value.{Value}

@@ -1,5 +1,5 @@
 -- A failure passed on.
-use Rattle.std.proofs.Common.{◌≡◌, Option, Some, None, Result, Ok, Err, IsErr, ok_or, refl, ap, ◌∙◌}
+use Rattle.std.proofs.Common.{◌≡◌, Option, Some, None, Result, Ok, Err, IsErr, ok_or, refl}
 use Rattle.std.specs.Result.{IsErrAnd}
 use Rattle.krb_job.specs.declared.place.Place.{Place}
 use Rattle.krb_job.specs.declared.place.KeyError.{KeyError}

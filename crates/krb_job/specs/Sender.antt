@@ -1,10 +1,7 @@
 -- One sender of a job: its keys in the order in which they are checked, unknown keys last.
-use Rattle.std.specs.Prelude.{ℕ, ◌==◌, ℤ, pos, Bool, true, false, List, [], ◌∷◌, map, Option, Some, None, Result, Ok, Err, if◌then◌else◌}
-use Rattle.std.specs.List.{list_any}
-use Rattle.std.specs.Str.{bytes_eq}
-use Rattle.toml.specs.Data.{Data, Members}
+use Rattle.std.specs.Prelude.{ℕ, ℤ, pos, Bool, true, false, List, [], ◌∷◌, map, Option, None, Result, Ok, Err}
+use Rattle.toml.specs.Data.{Members}
 use Rattle.krb_der.specs.declared.address.HostAddress.{HostAddress}
-use Rattle.krb_der.specs.Moment.{last_moment}
 use Rattle.krb_seal.specs.declared.session.Mode.{Mode as ModeOf}
 use Rattle.krb_job.specs.declared.place.Place.{Place}
 use Rattle.krb_job.specs.declared.place.Place.TheVariants.{Etype, Key, Mode, First, From, To, WriteTo, RequireTo, ExpectTime, Skew, Seed, At, Now, Texts, Plan, Frames, UnknownKey}

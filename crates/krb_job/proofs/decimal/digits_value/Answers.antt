@@ -1,4 +1,4 @@
-use Rattle.std.proofs.Common.{◌≡◌, ◌+◌, ◌*◌, ◌^◌, ◌<◌, ◌≤◌, None, Some, length, get_or, sym, ◌∙◌, arith}
+use Rattle.std.proofs.Common.{◌≡◌, None, Some, get_or, sym, ◌∙◌, arith}
 use Rattle.std.proofs.lemmas.Grind.{common_steps, pow_more}
 use Rattle.krb_job.specs.Decimal.{digit_of}
 use Rattle.krb_job.proofs.DecimalLemmas.{digit_step, digit_stop, digits_end}

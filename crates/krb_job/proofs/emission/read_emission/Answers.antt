@@ -1,4 +1,3 @@
-use Rattle.std.proofs.Common.{rules, ◌≡◌, sym, ◌∙◌}
 use Rattle.krb_job.proofs.DataLemmas.{is_text}
 use Rattle.krb_job.proofs.emission.read_emission.Goals as goal
 

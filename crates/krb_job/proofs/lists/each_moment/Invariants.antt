@@ -1,8 +1,6 @@
 use Rattle.std.proofs.Common.{◌≡◌, drop}
 use Rattle.toml.specs.View.{items_view}
 use Rattle.krb_job.specs.Lists.{each, moment_of}
-use Rattle.krb_job.specs.Values.{bytes_of}
-use Rattle.krb_job.specs.Emission.{emission_of}
 use Rattle.krb_job.proofs.ListLemmas.{behind}
 use Rattle.krb_job.proofs.lists.each_moment.Given as goal
 

@@ -1,4 +1,4 @@
-use Rattle.std.proofs.Common.{◌≡◌, map, ap, ◌∙◌}
+use Rattle.std.proofs.Common.{map, ap, ◌∙◌}
 use Rattle.toml.specs.View.{table_view}
 use Rattle.krb_job.specs.Keys.{has_only}
 use Rattle.krb_job.proofs.sender.has_sender_keys.Goals as goal

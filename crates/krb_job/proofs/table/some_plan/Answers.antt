@@ -1,5 +1,4 @@
-use Rattle.std.proofs.Common.{◌≡◌, None, arith}
-use Rattle.std.proofs.lemmas.Grind.{common_steps}
+use Rattle.std.proofs.Common.{◌≡◌, None}
 use Rattle.toml.specs.View.{view}
 use Rattle.krb_job.specs.Lists.{plan_of}
 use Rattle.krb_job.specs.Keys.{some}
