@@ -1,0 +1,58 @@
+-- The senders one after another.
+use Rattle.std.proofs.Common.{◌≡◌, ℕ, ◌+◌, ◌<◌, List, [], ◌∷◌, ◌++◌, length, drop, map, get_or, refl, sym, ap, ◌∙◌, append_assoc, Result, Ok, Err}
+use Rattle.toml.specs.View.{view, items_view}
+use Rattle.toml.specs.declared.value.Value.{Value}
+use Rattle.toml.proofs.Views.{items_view-drop}
+use Rattle.krb_job.specs.declared.job.Command.{Command}
+use Rattle.krb_job.specs.declared.job.SenderJob.{SenderJob}
+use Rattle.krb_job.specs.declared.bad_input.BadInput.{BadInput}
+use Rattle.krb_job.specs.Checks.{◌>>=◌}
+use Rattle.krb_job.specs.Sender.{Sender}
+use Rattle.krb_job.specs.SenderView.{sender_view, keys_of}
+use Rattle.krb_job.specs.Job.{sender_at, senders_from}
+
+-- these, and then the others
+abbrev pub behind_ok : List Sender → Result (List Sender) BadInput → Result (List Sender) BadInput
+behind_ok done (Ok xs) = Ok (done ++ xs)
+behind_ok done (Err e) = Err e
+
+pub behind_ok-nothing : (r : Result (List Sender) BadInput) → r ≡ behind_ok [] r
+behind_ok-nothing (Ok xs) = refl
+behind_ok-nothing (Err e) = refl
+
+behind_ok-one : (done : List Sender) (s : Sender) (r : Result (List Sender) BadInput)
+    → behind_ok done (r >>= λ xs. Ok (s ∷ xs)) ≡ behind_ok (done ++ s ∷ []) r
+behind_ok-one done s (Ok xs) = ap Ok (sym (append_assoc done (s ∷ []) xs))
+behind_ok-one done s (Err e) = refl
+
+senders_at : (command : Command) (vs : List Value) (j : ℕ) (earlier : List (List ℕ)) (v : Value) → j < length vs → get_or vs j v ≡ v
+    → senders_from command j earlier (items_view (drop j vs))
+    ≡ (sender_at command j earlier (view v) >>= λ s. senders_from command (j + 1) (earlier ++ s.key ∷ []) (items_view (drop (j + 1) vs)) >>= λ others. Ok (s ∷ others))
+senders_at command vs j earlier v within at =
+    ap (senders_from command j earlier) (items_view-drop vs j v within)
+    ∙ ap (λ w. sender_at command j earlier (view w) >>= λ s. senders_from command (j + 1) (earlier ++ s.key ∷ []) (items_view (drop (j + 1) vs)) >>= λ others. Ok (s ∷ others)) at
+
+keys_of-more : (done : List SenderJob) (s : SenderJob) → keys_of (done ++ s ∷ []) ≡ keys_of done ++ s.key ∷ []
+keys_of-more [] s = refl
+keys_of-more (x ∷ done) s = ap (λ ks. x.key ∷ ks) (keys_of-more done s)
+
+views-more : (done : List SenderJob) (s : SenderJob) → map sender_view (done ++ s ∷ []) ≡ map sender_view done ++ sender_view s ∷ []
+views-more [] s = refl
+views-more (x ∷ done) s = ap (λ ks. sender_view x ∷ ks) (views-more done s)
+
+pub senders_more : (command : Command) (vs : List Value) (j : ℕ) (v : Value) (done : List SenderJob) (s : SenderJob)
+    → j < length vs → get_or vs j v ≡ v → sender_at command j (keys_of done) (view v) ≡ Ok (sender_view s)
+    → senders_from command 0 [] (items_view vs) ≡ behind_ok (map sender_view done) (senders_from command j (keys_of done) (items_view (drop j vs)))
+    → senders_from command 0 [] (items_view vs) ≡ behind_ok (map sender_view (done ++ s ∷ [])) (senders_from command (j + 1) (keys_of (done ++ s ∷ [])) (items_view (drop (j + 1) vs)))
+senders_more command vs j v done s within at is so_far =
+    let step = senders_at command vs j (keys_of done) v within at ∙ ap (λ r. r >>= λ t. senders_from command (j + 1) (keys_of done ++ t.key ∷ []) (items_view (drop (j + 1) vs)) >>= λ others. Ok (t ∷ others)) is in
+    rw (views-more done s, keys_of-more done s)
+    (so_far ∙ ap (behind_ok (map sender_view done)) step ∙ behind_ok-one (map sender_view done) (sender_view s) (senders_from command (j + 1) (keys_of done ++ s.key ∷ []) (items_view (drop (j + 1) vs))))
+
+pub senders_bad : (command : Command) (vs : List Value) (j : ℕ) (v : Value) (done : List SenderJob) (b : BadInput)
+    → j < length vs → get_or vs j v ≡ v → sender_at command j (keys_of done) (view v) ≡ Err b
+    → senders_from command 0 [] (items_view vs) ≡ behind_ok (map sender_view done) (senders_from command j (keys_of done) (items_view (drop j vs)))
+    → senders_from command 0 [] (items_view vs) ≡ Err b
+senders_bad command vs j v done b within at is so_far =
+    let step = senders_at command vs j (keys_of done) v within at ∙ ap (λ r. r >>= λ t. senders_from command (j + 1) (keys_of done ++ t.key ∷ []) (items_view (drop (j + 1) vs)) >>= λ others. Ok (t ∷ others)) is in
+    so_far ∙ ap (behind_ok (map sender_view done)) step

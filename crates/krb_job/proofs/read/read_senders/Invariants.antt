@@ -1,0 +1,9 @@
+use Rattle.std.proofs.Common.{◌≡◌, [], drop, map}
+use Rattle.toml.specs.View.{items_view}
+use Rattle.krb_job.specs.SenderView.{sender_view, keys_of}
+use Rattle.krb_job.specs.Job.{senders_from}
+use Rattle.krb_job.proofs.JobLemmas.{behind_ok}
+use Rattle.krb_job.proofs.read.read_senders.Given as goal
+
+abbrev pub invariant-loop-j : goal.invariant-loop-j
+invariant-loop-j l = senders_from l.command 0 [] (items_view l.items) ≡ behind_ok (map sender_view l.senders.items) (senders_from l.command l.j (keys_of l.senders.items) (items_view (drop l.j l.items)))

@@ -1,0 +1,7 @@
+use Rattle.std.proofs.Common.{map, ap, ◌∙◌}
+use Rattle.toml.specs.View.{table_view}
+use Rattle.krb_job.specs.Keys.{has_only}
+use Rattle.krb_job.proofs.sender.has_sender_keys.Goals as goal
+
+pub returns : goal.returns
+returns c = c.has_only.ensures ∙ ap (λ keys. has_only (map (λ k. k.now) keys) (table_view c.args.table.now)) c.as_slice.ensures

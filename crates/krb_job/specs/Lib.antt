@@ -1,0 +1,14 @@
+pub mod Address
+pub mod BadInput
+pub mod Checks
+pub mod Decimal
+pub mod Emission
+pub mod Job
+pub mod Keys
+pub mod Lists
+pub mod Place
+pub mod Sender
+pub mod SenderView
+pub mod Steps
+pub mod Text
+pub mod Values

@@ -1,0 +1,134 @@
+-- One sender of a job: its keys in the order in which they are checked, unknown keys last.
+use Rattle.std.specs.Prelude.{ℕ, ℤ, pos, Bool, true, false, List, [], ◌∷◌, map, Option, None, Result, Ok, Err}
+use Rattle.toml.specs.Data.{Members}
+use Rattle.krb_der.specs.declared.address.HostAddress.{HostAddress}
+use Rattle.krb_seal.specs.declared.session.Mode.{Mode as ModeOf}
+use Rattle.krb_job.specs.declared.place.Place.{Place}
+use Rattle.krb_job.specs.declared.place.Place.TheVariants.{Etype, Key, Mode, First, From, To, WriteTo, RequireTo, ExpectTime, Skew, Seed, At, Now, Texts, Plan, Frames, UnknownKey}
+use Rattle.krb_job.specs.declared.job.Command.{Command}
+use Rattle.krb_job.specs.declared.job.Command.TheVariants.{Seal, Open, Relay}
+use Rattle.krb_job.specs.declared.job.Emission.{Emission}
+use Rattle.krb_job.specs.Checks.{◌>>=◌}
+use Rattle.krb_job.specs.Place.{name_of}
+use Rattle.krb_job.specs.Values.{number_of, flag_of, mode_of, key_of, seed_of}
+use Rattle.krb_job.specs.Address.{address_of}
+use Rattle.krb_job.specs.Lists.{moments_of, texts_of, plan_of, frames_of}
+use Rattle.krb_job.specs.Keys.{needed, optional, only_if, some, has_only}
+
+-- how the texts are protected
+pub record Protection : Type 0 where
+  pub etype : ℕ
+  pub key : List ℕ
+  pub mode : ModeOf
+  pub first : ℕ
+
+-- who speaks to whom, and what the receiver demands
+pub record Ends : Type 0 where
+  pub from : HostAddress
+  pub to : HostAddress
+  pub write_to : Bool
+  pub require_to : Bool
+  pub expect_time : Bool
+  pub skew : ℕ
+
+-- what is sent or opened
+pub record Traffic : Type 0 where
+  pub seed : Option (List ℕ)
+  pub ats : List ℕ
+  pub nows : List ℕ
+  pub texts : List (List ℕ)
+  pub plan : Option (List Emission)
+  pub frames : List (List ℕ)
+
+-- a sender as the job states it
+pub record Sender : Type 0 where
+  pub etype : ℤ
+  pub key : List ℕ
+  pub mode : ModeOf
+  pub first : ℕ
+  pub from : HostAddress
+  pub to : HostAddress
+  pub write_to : Bool
+  pub require_to : Bool
+  pub expect_time : Bool
+  pub skew : ℕ
+  pub seed : Option (List ℕ)
+  pub ats : List ℕ
+  pub nows : List ℕ
+  pub texts : List (List ℕ)
+  pub plan : Option (List Emission)
+  pub frames : List (List ℕ)
+
+abbrev pub seals : Command → Bool
+seals Seal = true
+seals Open = false
+seals Relay = true
+
+abbrev pub opens : Command → Bool
+opens Seal = false
+opens Open = true
+opens Relay = false
+
+-- the keys of earlier senders are not repeated
+unfoldable pub protection_of : List (List ℕ) → Members → Result Protection Place
+protection_of earlier ms = do
+  etype ← needed Etype (number_of 17 18) ms
+  key ← needed Key (key_of etype earlier) ms
+  mode ← needed Mode mode_of ms
+  first ← needed First (number_of 0 4294967295) ms
+  Ok (record { etype = etype; key = key; mode = mode; first = first })
+
+unfoldable pub ends_of : Members → Result Ends Place
+ends_of ms = do
+  from ← needed From address_of ms
+  to ← needed To address_of ms
+  write_to ← optional false WriteTo flag_of ms
+  require_to ← optional false RequireTo flag_of ms
+  expect_time ← optional true ExpectTime flag_of ms
+  skew ← needed Skew (number_of 0 86400) ms
+  Ok (record { from = from; to = to; write_to = write_to; require_to = require_to; expect_time = expect_time; skew = skew })
+
+unfoldable pub traffic_of : Command → Members → Result Traffic Place
+traffic_of command ms = do
+  seed ← only_if (seals command) None Seed (needed Seed (some seed_of) ms) ms
+  ats ← only_if (seals command) [] At (needed At moments_of ms) ms
+  nows ← only_if (seals command) [] Now (needed Now moments_of ms) ms
+  texts ← only_if (seals command) [] Texts (needed Texts texts_of ms) ms
+  plan ← only_if (seals command) None Plan (optional None Plan (some plan_of) ms) ms
+  frames ← only_if (opens command) [] Frames (needed Frames frames_of ms) ms
+  Ok (record { seed = seed; ats = ats; nows = nows; texts = texts; plan = plan; frames = frames })
+
+-- the keys that a sender may have
+abbrev pub sender_keys : List (List ℕ)
+sender_keys = map name_of (Etype ∷ Key ∷ Mode ∷ First ∷ From ∷ To ∷ WriteTo ∷ RequireTo ∷ ExpectTime ∷ Skew ∷ Seed ∷ At ∷ Now ∷ Texts ∷ Plan ∷ Frames ∷ [])
+
+abbrev pub together : Protection → Ends → Traffic → Sender
+together p e t = record {
+  etype = pos p.etype;
+  key = p.key;
+  mode = p.mode;
+  first = p.first;
+  from = e.from;
+  to = e.to;
+  write_to = e.write_to;
+  require_to = e.require_to;
+  expect_time = e.expect_time;
+  skew = e.skew;
+  seed = t.seed;
+  ats = t.ats;
+  nows = t.nows;
+  texts = t.texts;
+  plan = t.plan;
+  frames = t.frames;
+}
+
+abbrev pub if_known : {A : Type 0} → Bool → A → Result A Place
+if_known true x = Ok x
+if_known false x = Err UnknownKey
+
+unfoldable pub sender_of : Command → List (List ℕ) → Members → Result Sender Place
+sender_of command earlier ms = do
+  protection ← protection_of earlier ms
+  ends ← ends_of ms
+  traffic ← traffic_of command ms
+  if_known (has_only sender_keys ms) (together protection ends traffic)

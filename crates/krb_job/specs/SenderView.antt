@@ -1,0 +1,47 @@
+-- What was read, as its definition sees it: each vector is its list.
+use Rattle.std.specs.Prelude.{ℕ, List, map, option_map}
+use Rattle.krb_job.specs.declared.job.SenderJob.{SenderJob}
+use Rattle.krb_job.specs.declared.parts.Protection.{Protection as ReadProtection}
+use Rattle.krb_job.specs.declared.parts.Ends.{Ends as ReadEnds}
+use Rattle.krb_job.specs.declared.parts.Traffic.{Traffic as ReadTraffic}
+use Rattle.krb_job.specs.Sender.{Sender, Protection, Ends, Traffic}
+
+abbrev pub protection_view : ReadProtection → Protection
+protection_view p = record { etype = p.etype; key = p.key; mode = p.mode; first = p.first }
+
+abbrev pub ends_view : ReadEnds → Ends
+ends_view e = record { from = e.from; to = e.to; write_to = e.write_to; require_to = e.require_to; expect_time = e.expect_time; skew = e.skew }
+
+abbrev pub traffic_view : ReadTraffic → Traffic
+traffic_view t = record {
+  seed = t.seed;
+  ats = t.ats.items;
+  nows = t.nows.items;
+  texts = t.texts.items;
+  plan = option_map (λ v. v.items) t.plan;
+  frames = t.frames.items;
+}
+
+abbrev pub sender_view : SenderJob → Sender
+sender_view s = record {
+  etype = s.etype;
+  key = s.key;
+  mode = s.mode;
+  first = s.first;
+  from = s.from;
+  to = s.to;
+  write_to = s.write_to;
+  require_to = s.require_to;
+  expect_time = s.expect_time;
+  skew = s.skew;
+  seed = s.seed;
+  ats = s.ats.items;
+  nows = s.nows.items;
+  texts = s.texts.items;
+  plan = option_map (λ v. v.items) s.plan;
+  frames = s.frames.items;
+}
+
+-- the keys of senders
+abbrev pub keys_of : List SenderJob → List (List ℕ)
+keys_of senders = map (λ s. s.key) senders

@@ -1,0 +1,54 @@
+-- What the values of a job stand for.
+use Rattle.std.specs.Prelude.{ℕ, ◌==◌, pos, nat_le, Bool, ◌&&◌, List, length, codes, Option, Some, None, if◌then◌else◌}
+use Rattle.std.specs.Result.{result_ok}
+use Rattle.std.specs.List.{list_any}
+use Rattle.std.specs.Str.{bytes_eq}
+use Rattle.toml.specs.Data.{Data, string, integer, boolean}
+use Rattle.hex.specs.Hex.{decode_of, decode_sized}
+use Rattle.krb_seal.specs.declared.session.Mode.{Mode}
+use Rattle.krb_seal.specs.declared.session.Mode.TheVariants as modes
+use Rattle.krb_job.specs.Steps.{◌>>=◌}
+
+-- a whole number from low to high
+abbrev pub number_of : ℕ → ℕ → Data → Option ℕ
+number_of low high (integer (pos n)) = if nat_le low n && nat_le n high then Some n else None
+number_of low high _ = None
+
+abbrev pub flag_of : Data → Option Bool
+flag_of (boolean b) = Some b
+flag_of _ = None
+
+abbrev pub mode_named : List ℕ → Option Mode
+mode_named text = if bytes_eq text (codes "safe") then Some modes.Safe else if bytes_eq text (codes "priv") then Some modes.Priv else None
+
+abbrev pub mode_of : Data → Option Mode
+mode_of (string text) = mode_named text
+mode_of _ = None
+
+-- bytes of which there are as many as allowed
+abbrev pub sized : ℕ → ℕ → List ℕ → Option (List ℕ)
+sized low high bytes = if nat_le low (length bytes) && nat_le (length bytes) high then Some bytes else None
+
+-- the bytes of hexadecimal digits, low to high bytes
+abbrev pub hex_of : ℕ → ℕ → List ℕ → Option (List ℕ)
+hex_of low high text = result_ok (decode_of text) >>= sized low high
+
+abbrev pub bytes_of : ℕ → ℕ → Data → Option (List ℕ)
+bytes_of low high (string text) = hex_of low high text
+bytes_of low high _ = None
+
+-- 32 bytes
+abbrev pub seed_of : Data → Option (List ℕ)
+seed_of (string text) = result_ok (decode_sized text 32)
+seed_of _ = None
+
+-- 16 bytes for encryption type 17, 32 for 18 (RFC 3962 section 6)
+abbrev pub key_size : ℕ → ℕ
+key_size etype = if etype == 17 then 16 else 32
+
+-- a key that no earlier sender has
+abbrev pub unused : List (List ℕ) → List ℕ → Option (List ℕ)
+unused earlier key = if list_any (bytes_eq key) earlier then None else Some key
+
+abbrev pub key_of : ℕ → List (List ℕ) → Data → Option (List ℕ)
+key_of etype earlier d = bytes_of (key_size etype) (key_size etype) d >>= unused earlier

@@ -1,0 +1,92 @@
+//! Jobs, as the commands use them.
+
+ghost use Rattle.std.specs.Prelude.{◌≡◌};
+ghost use Rattle.krb_job.specs.Sender.{seals, opens};
+
+use krb_base::Bytes;
+use krb_der::{HostAddress, Moment};
+use krb_seal::Mode;
+
+/// The commands that read a job.
+#[derive(Clone, Copy, Debug, PartialEq, Eq)]
+pub enum Command {
+    /// Seals the texts of one sender.
+    Seal,
+    /// Opens the frames of one sender.
+    Open,
+    /// Relays the texts of one to eight senders.
+    Relay,
+}
+
+impl Command {
+    /// Whether the command seals texts.
+    pub(crate) fn seals(self) -> bool
+        ensures { result ≡ seals self }
+    {
+        matches!(self, Command::Seal | Command::Relay)
+    }
+
+    /// Whether the command opens the frames of the job.
+    pub(crate) fn opens(self) -> bool
+        ensures { result ≡ opens self }
+    {
+        matches!(self, Command::Open)
+    }
+}
+
+/// One emission of a plan: what is put on the wire next.
+#[derive(Debug, Drop)]
+pub enum Emission {
+    /// Frame `k` of the sender, as it is.
+    Frame(usize),
+    /// Frame `k` with its byte `at` changed by exclusive or with `mask`.
+    Flip { k: usize, at: usize, mask: u8 },
+    /// These bytes, whatever was sealed.
+    Raw(Bytes),
+}
+
+/// One sender of a job. What the command does not allow is `None` or empty.
+#[derive(Debug, Drop)]
+pub struct SenderJob {
+    /// The encryption type, 17 or 18 (RFC 3962 section 7).
+    pub etype: i32,
+    /// The key, 16 bytes for 17 and 32 for 18.
+    pub key: Bytes,
+    /// How the texts are protected.
+    pub mode: Mode,
+    /// The first sequence number.
+    pub first: u32,
+    /// The sender's address.
+    pub from: HostAddress,
+    /// The receiver's address.
+    pub to: HostAddress,
+    /// Whether the messages tell the receiver's address.
+    pub write_to: bool,
+    /// Whether a message must tell the receiver's address.
+    pub require_to: bool,
+    /// Whether a message must tell its time.
+    pub expect_time: bool,
+    /// How many seconds a message's time may be off.
+    pub skew: u32,
+    /// What the confounders are drawn from.
+    pub seed: Option<[u8; 32]>,
+    /// When the frames are sealed.
+    pub ats: Vec<Moment>,
+    /// When the frames are opened.
+    pub nows: Vec<Moment>,
+    /// What is sent.
+    pub texts: Vec<Bytes>,
+    /// What is put on the wire, if not each frame once.
+    pub plan: Option<Vec<Emission>>,
+    /// What is opened.
+    pub frames: Vec<Bytes>,
+}
+
+/// A job.
+#[derive(Debug, Drop)]
+pub struct Job {
+    /// How many frames a lane holds, 1 to 64.
+    pub capacity: usize,
+    /// The senders, 1 to 8 for `relay`, one for the other commands.
+    pub senders: Vec<SenderJob>,
+}

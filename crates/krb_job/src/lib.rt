@@ -1,0 +1,26 @@
+//! Job files: what the commands `seal`, `open` and `relay` are told, read from the tree of a TOML
+//! document.
+#![tactic(auto)]
+
+mod address;
+mod bad_input;
+mod decimal;
+mod emission;
+mod job;
+mod lists;
+mod parts;
+mod place;
+mod read;
+mod sender;
+mod table;
+mod text;
+mod tree;
+mod values;
+
+pub use bad_input::{BadInput, JobError};
+pub use job::{Command, Emission, Job, SenderJob};
+pub use place::Place;
+pub use read::read_job;
+
+#[cfg(test)]
+mod tests;

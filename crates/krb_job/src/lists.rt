@@ -1,0 +1,136 @@
+//! Lists of a job.
+
+ghost use Rattle.std.specs.Prelude.{◌≡◌, ok_or, option_map};
+ghost use Rattle.toml.specs.View.{view, array_view, items_view};
+ghost use Rattle.krb_job.specs.Checks.{Gives};
+ghost use Rattle.krb_job.specs.Values.{bytes_of};
+ghost use Rattle.krb_job.specs.Emission.{emission_of};
+ghost use Rattle.krb_job.specs.Lists.{each, items_of, moment_of, moments_of, texts_of, plan_of, frames_of};
+
+use crate::emission::read_emission;
+use crate::job::Emission;
+use crate::place::{KeyError, Place};
+use crate::values::{read_bytes, read_number};
+use krb_base::{Bytes, RAW_LIMIT, TEXT_LIMIT};
+use krb_der::Moment;
+use std::alloc::Global;
+use toml::Value;
+use toml::value::Array;
+
+/// The most texts of a sender.
+const MOST_TEXTS: usize = 1000;
+
+/// The most moments, and the most emissions or frames, of a sender.
+const MOST_ITEMS: usize = 2000;
+
+/// The last moment of the year 9999, in microseconds since 1970-01-01T00:00:00Z.
+const LAST_MOMENT: u64 = 253_402_300_799_999_999;
+
+/// 1 to 2000 moments, each a number of microseconds since 1970-01-01T00:00:00Z.
+pub(crate) fn read_moments(
+    alloc: Global,
+    place: Place,
+    value: &Value,
+) -> Result<Vec<Moment>, KeyError>
+    ensures { Gives (λ v. v.items) result (ok_or (moments_of (view value.now)) place) }
+{
+    match items_of(value, 1, MOST_ITEMS) {
+        Some(items) => each_moment(alloc, place, items.as_slice()),
+        None => Err(KeyError::Bad(place)),
+    }
+}
+
+/// At most 1000 texts.
+pub(crate) fn read_texts(alloc: Global, place: Place, value: &Value) -> Result<Vec<Bytes>, KeyError>
+    ensures { Gives (λ v. v.items) result (ok_or (texts_of (view value.now)) place) }
+{
+    match items_of(value, 0, MOST_TEXTS) {
+        Some(items) => each_bytes(alloc, place, items.as_slice(), TEXT_LIMIT),
+        None => Err(KeyError::Bad(place)),
+    }
+}
+
+/// At most 2000 frames.
+pub(crate) fn read_frames(
+    alloc: Global,
+    place: Place,
+    value: &Value,
+) -> Result<Vec<Bytes>, KeyError>
+    ensures { Gives (λ v. v.items) result (ok_or (frames_of (view value.now)) place) }
+{
+    match items_of(value, 0, MOST_ITEMS) {
+        Some(items) => each_bytes(alloc, place, items.as_slice(), RAW_LIMIT),
+        None => Err(KeyError::Bad(place)),
+    }
+}
+
+/// At most 2000 emissions.
+pub(crate) fn read_plan(
+    alloc: Global,
+    place: Place,
+    value: &Value,
+) -> Result<Vec<Emission>, KeyError>
+    ensures { Gives (λ v. v.items) result (ok_or (plan_of (view value.now)) place) }
+{
+    match items_of(value, 0, MOST_ITEMS) {
+        Some(items) => each_emission(alloc, place, items.as_slice()),
+        None => Err(KeyError::Bad(place)),
+    }
+}
+
+/// The items of a list of `low` to `high` items.
+fn items_of(value: &Value, low: usize, high: usize) -> Option<&Array>
+    ensures { option_map (λ v. array_view v.now) result ≡ items_of low high (view value.now) }
+{
+    let items = value.as_array()?;
+    if low <= items.len() && items.len() <= high {
+        Some(items)
+    } else {
+        None
+    }
+}
+
+fn read_moment(value: &Value) -> Option<Moment>
+    ensures { result ≡ moment_of (view value.now) }
+{
+    Moment::from_micros(read_number(value, 0, LAST_MOMENT)?)
+}
+
+fn each_moment(alloc: Global, place: Place, items: &[Value]) -> Result<Vec<Moment>, KeyError>
+    ensures { Gives (λ v. v.items) result (ok_or (each moment_of (items_view items.now)) place) }
+{
+    let mut moments = Vec::new(alloc);
+    for item in items {
+        let moment = read_moment(item).ok_or(KeyError::Bad(place))?;
+        moments.push(moment)?;
+    }
+    Ok(moments)
+}
+
+fn each_bytes(
+    alloc: Global,
+    place: Place,
+    items: &[Value],
+    high: usize,
+) -> Result<Vec<Bytes>, KeyError>
+    ensures { Gives (λ v. v.items) result
+        (ok_or (each (bytes_of 0 high) (items_view items.now)) place) }
+{
+    let mut texts = Vec::new(alloc);
+    for item in items {
+        let text = read_bytes(alloc, place, item, 0, high)?;
+        texts.push(text)?;
+    }
+    Ok(texts)
+}
+
+fn each_emission(alloc: Global, place: Place, items: &[Value]) -> Result<Vec<Emission>, KeyError>
+    ensures { Gives (λ v. v.items) result (ok_or (each emission_of (items_view items.now)) place) }
+{
+    let mut plan = Vec::new(alloc);
+    for item in items {
+        let emission = read_emission(alloc, place, item)?;
+        plan.push(emission)?;
+    }
+    Ok(plan)
+}

@@ -1,0 +1,199 @@
+//! One sender of a job.
+
+ghost use Rattle.std.specs.Prelude.{◌≡◌, ◌≤◌, ◌<◌, map, ok_or, IfOk, option_map};
+ghost use Rattle.std.specs.List.{list_any};
+ghost use Rattle.std.specs.Str.{bytes_eq};
+ghost use Rattle.toml.specs.View.{view, table_view};
+ghost use Rattle.krb_job.specs.Checks.{Gives};
+ghost use Rattle.krb_job.specs.Values.{key_size, key_of};
+ghost use Rattle.krb_job.specs.Keys.{needed, has_only};
+ghost use Rattle.krb_job.specs.Sender.{protection_of, ends_of, traffic_of, sender_of, sender_keys, together};
+ghost use Rattle.krb_job.specs.SenderView.{keys_of, protection_view, ends_view, traffic_view, sender_view};
+
+use crate::job::{Command, SenderJob};
+use crate::parts::{Ends, Protection, Traffic};
+use crate::place::{KeyError, Place};
+use crate::table::{
+    address, entry, flag, frames, has_only, mode, moments, number, plan, seed, texts,
+};
+use crate::values::read_bytes;
+use krb_base::Bytes;
+use std::alloc::Global;
+use toml::{Table, Value};
+
+/// Whether a sender has the key.
+fn is_used(key: &[u8], earlier: &[SenderJob]) -> bool
+    ensures { result ≡ list_any (λ s. bytes_eq key.now s.key) earlier.now }
+{
+    earlier.iter().any(|sender| key == sender.key.as_slice())
+}
+
+fn key_size(etype: u64) -> usize
+    ensures { result ≡ key_size etype }
+{
+    if etype == 17 { 16 } else { 32 }
+}
+
+fn read_key(
+    alloc: Global,
+    value: &Value,
+    etype: u64,
+    earlier: &[SenderJob],
+) -> Result<Bytes, KeyError>
+    ensures { Gives (λ b. b) result
+        (ok_or (key_of etype (keys_of earlier.now) (view value.now)) Place.Key) }
+{
+    let size = key_size(etype);
+    let key = read_bytes(alloc, Place::Key, value, size, size)?;
+    if is_used(key.as_slice(), earlier) {
+        Err(KeyError::Bad(Place::Key))
+    } else {
+        Ok(key)
+    }
+}
+
+fn key(alloc: Global, table: &Table, etype: u64, earlier: &[SenderJob]) -> Result<Bytes, KeyError>
+    ensures { Gives (λ b. b) result
+        (needed Place.Key (key_of etype (keys_of earlier.now)) (table_view table.now)) }
+{
+    match entry(table, Place::Key) {
+        Some(value) => read_key(alloc, value, etype, earlier),
+        None => Err(KeyError::Bad(Place::Key)),
+    }
+}
+
+#[tactic(auto, unfolding(crate::specs::Sender::protection_of))]
+fn read_protection(
+    alloc: Global,
+    table: &Table,
+    earlier: &[SenderJob],
+) -> Result<Protection, KeyError>
+    ensures { Gives protection_view result
+        (protection_of (keys_of earlier.now) (table_view table.now)) }
+{
+    let etype = number(table, Place::Etype, 17, 18)?;
+    let key = key(alloc, table, etype, earlier)?;
+    let mode = mode(table, Place::Mode)?;
+    let first = number(table, Place::First, 0, 4_294_967_295)?;
+    Ok(Protection {
+        etype,
+        key,
+        mode,
+        first,
+    })
+}
+
+#[tactic(auto, unfolding(crate::specs::Sender::ends_of))]
+fn read_ends(alloc: Global, table: &Table) -> Result<Ends, KeyError>
+    ensures { Gives ends_view result (ends_of (table_view table.now)) }
+{
+    let from = address(alloc, table, Place::From)?;
+    let to = address(alloc, table, Place::To)?;
+    let write_to = flag(table, Place::WriteTo, false)?;
+    let require_to = flag(table, Place::RequireTo, false)?;
+    let expect_time = flag(table, Place::ExpectTime, true)?;
+    let skew = number(table, Place::Skew, 0, 86_400)?;
+    Ok(Ends {
+        from,
+        to,
+        write_to,
+        require_to,
+        expect_time,
+        skew,
+    })
+}
+
+#[tactic(auto, unfolding(crate::specs::Sender::traffic_of))]
+fn read_traffic(alloc: Global, table: &Table, command: Command) -> Result<Traffic, KeyError>
+    ensures { Gives traffic_view result (traffic_of command (table_view table.now)) }
+{
+    let seals = command.seals();
+    let seed = seed(table, Place::Seed, seals)?;
+    let ats = moments(alloc, table, Place::At, seals)?;
+    let nows = moments(alloc, table, Place::Now, seals)?;
+    let texts = texts(alloc, table, Place::Texts, seals)?;
+    let plan = plan(alloc, table, Place::Plan, seals)?;
+    let frames = frames(alloc, table, Place::Frames, command.opens())?;
+    Ok(Traffic {
+        seed,
+        ats,
+        nows,
+        texts,
+        plan,
+        frames,
+    })
+}
+
+/// The keys that a sender may have.
+static SENDER_KEYS: [&str; 16] = [
+    "etype",
+    "key",
+    "mode",
+    "first",
+    "from",
+    "to",
+    "write_to",
+    "require_to",
+    "expect_time",
+    "skew",
+    "seed",
+    "at",
+    "now",
+    "texts",
+    "plan",
+    "frames",
+];
+
+fn has_sender_keys(table: &Table) -> bool
+    ensures { result ≡ has_only sender_keys (table_view table.now) }
+{
+    has_only(table, SENDER_KEYS.as_slice())
+}
+
+/// The sender that a table states, for the command. No earlier sender has its key.
+///
+/// An error names the first key, in the order of [`Place`], that is absent, is not allowed or
+/// stands for nothing, or the keys that no sender has.
+#[tactic(auto, unfolding(crate::specs::Sender::sender_of))]
+pub(crate) fn read_sender(
+    alloc: Global,
+    table: &Table,
+    command: Command,
+    earlier: &[SenderJob],
+) -> Result<SenderJob, KeyError>
+    ensures { Gives sender_view result
+        (sender_of command (keys_of earlier.now) (table_view table.now)) }
+{
+    let protection = read_protection(alloc, table, earlier)?;
+    let ends = read_ends(alloc, table)?;
+    let traffic = read_traffic(alloc, table, command)?;
+    if has_sender_keys(table) {
+        Ok(together(protection, ends, traffic))
+    } else {
+        Err(KeyError::Bad(Place::UnknownKey))
+    }
+}
+
+fn together(protection: Protection, ends: Ends, traffic: Traffic) -> SenderJob
+    ensures { sender_view result
+        ≡ together (protection_view protection) (ends_view ends) (traffic_view traffic) }
+{
+    SenderJob {
+        etype: protection.etype as i32,
+        key: protection.key,
+        mode: protection.mode,
+        first: protection.first as u32,
+        from: ends.from,
+        to: ends.to,
+        write_to: ends.write_to,
+        require_to: ends.require_to,
+        expect_time: ends.expect_time,
+        skew: ends.skew as u32,
+        seed: traffic.seed,
+        ats: traffic.ats,
+        nows: traffic.nows,
+        texts: traffic.texts,
+        plan: traffic.plan,
+        frames: traffic.frames,
+    }
+}

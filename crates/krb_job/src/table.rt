@@ -1,0 +1,189 @@
+//! The keys of a table.
+
+ghost use Rattle.std.specs.Prelude.{◌≡◌, ◌≤◌, [], map, ok_or, option_map, string_bytes, IfOk};
+ghost use Rattle.std.specs.BTreeMap.{keys};
+ghost use Rattle.std.specs.List.{list_all, list_any};
+ghost use Rattle.std.specs.Str.{bytes_eq};
+ghost use Rattle.toml.specs.Data.{get_member};
+ghost use Rattle.toml.specs.View.{view, table_view};
+ghost use Rattle.krb_job.specs.Checks.{Gives};
+ghost use Rattle.krb_job.specs.Values.{number_of, flag_of, mode_of, seed_of};
+ghost use Rattle.krb_job.specs.Address.{address_of};
+ghost use Rattle.krb_job.specs.Lists.{moments_of, texts_of, plan_of, frames_of};
+ghost use Rattle.krb_job.specs.Keys.{at_key, needed, optional, only_if, some, has_only};
+
+use crate::address::read_address;
+use crate::job::Emission;
+use crate::lists::{read_frames, read_moments, read_plan, read_texts};
+use crate::place::{KeyError, Place};
+use crate::values::{read_flag, read_mode, read_number, read_seed};
+use krb_base::Bytes;
+use krb_der::{HostAddress, Moment};
+use krb_seal::Mode;
+use std::alloc::Global;
+use toml::{Table, Value};
+
+/// The value of a key of any table.
+pub(crate) fn get<'a>(table: &'a Table, key: &str) -> Option<&'a Value>
+    ensures { option_map (λ v. view v.now) result ≡ get_member key.now (table_view table.now) }
+{
+    table.get(key)
+}
+
+/// The value of a key of a sender.
+pub(crate) fn entry<'a>(table: &'a Table, place: Place) -> Option<&'a Value>
+    ensures { option_map (λ v. view v.now) result ≡ at_key place (table_view table.now) }
+{
+    get(table, place.name())
+}
+
+pub(crate) fn number(table: &Table, place: Place, low: u64, high: u64) -> Result<u64, KeyError>
+    ensures value { Gives (λ n. n) result (needed place (number_of low high) (table_view table.now)) }
+    ensures low { IfOk result (λ n. low ≤ n) }
+    ensures high { IfOk result (λ n. n ≤ high) }
+{
+    match entry(table, place) {
+        Some(value) => read_number(value, low, high).ok_or(KeyError::Bad(place)),
+        None => Err(KeyError::Bad(place)),
+    }
+}
+
+pub(crate) fn flag(table: &Table, place: Place, absent: bool) -> Result<bool, KeyError>
+    ensures { Gives (λ b. b) result (optional absent place flag_of (table_view table.now)) }
+{
+    match entry(table, place) {
+        Some(value) => read_flag(value).ok_or(KeyError::Bad(place)),
+        None => Ok(absent),
+    }
+}
+
+pub(crate) fn mode(table: &Table, place: Place) -> Result<Mode, KeyError>
+    ensures { Gives (λ m. m) result (needed place mode_of (table_view table.now)) }
+{
+    match entry(table, place) {
+        Some(value) => read_mode(value).ok_or(KeyError::Bad(place)),
+        None => Err(KeyError::Bad(place)),
+    }
+}
+
+pub(crate) fn address(alloc: Global, table: &Table, place: Place) -> Result<HostAddress, KeyError>
+    ensures { Gives (λ a. a) result (needed place address_of (table_view table.now)) }
+{
+    match entry(table, place) {
+        Some(value) => read_address(alloc, place, value),
+        None => Err(KeyError::Bad(place)),
+    }
+}
+
+pub(crate) fn seed(table: &Table, place: Place, allowed: bool) -> Result<Option<[u8; 32]>, KeyError>
+    ensures { Gives (λ s. s) result
+        (only_if allowed None place (needed place (some seed_of) (table_view table.now))
+        (table_view table.now)) }
+{
+    match entry(table, place) {
+        Some(value) if allowed => match read_seed(value) {
+            Some(seed) => Ok(Some(seed)),
+            None => Err(KeyError::Bad(place)),
+        },
+        None if !allowed => Ok(None),
+        _ => Err(KeyError::Bad(place)),
+    }
+}
+
+pub(crate) fn moments(
+    alloc: Global,
+    table: &Table,
+    place: Place,
+    allowed: bool,
+) -> Result<Vec<Moment>, KeyError>
+    ensures { Gives (λ v. v.items) result
+        (only_if allowed [] place (needed place moments_of (table_view table.now))
+        (table_view table.now)) }
+{
+    match entry(table, place) {
+        Some(value) if allowed => read_moments(alloc, place, value),
+        None if !allowed => Ok(Vec::new(alloc)),
+        _ => Err(KeyError::Bad(place)),
+    }
+}
+
+pub(crate) fn texts(
+    alloc: Global,
+    table: &Table,
+    place: Place,
+    allowed: bool,
+) -> Result<Vec<Bytes>, KeyError>
+    ensures { Gives (λ v. v.items) result
+        (only_if allowed [] place (needed place texts_of (table_view table.now))
+        (table_view table.now)) }
+{
+    match entry(table, place) {
+        Some(value) if allowed => read_texts(alloc, place, value),
+        None if !allowed => Ok(Vec::new(alloc)),
+        _ => Err(KeyError::Bad(place)),
+    }
+}
+
+pub(crate) fn frames(
+    alloc: Global,
+    table: &Table,
+    place: Place,
+    allowed: bool,
+) -> Result<Vec<Bytes>, KeyError>
+    ensures { Gives (λ v. v.items) result
+        (only_if allowed [] place (needed place frames_of (table_view table.now))
+        (table_view table.now)) }
+{
+    match entry(table, place) {
+        Some(value) if allowed => read_frames(alloc, place, value),
+        None if !allowed => Ok(Vec::new(alloc)),
+        _ => Err(KeyError::Bad(place)),
+    }
+}
+
+pub(crate) fn plan(
+    alloc: Global,
+    table: &Table,
+    place: Place,
+    allowed: bool,
+) -> Result<Option<Vec<Emission>>, KeyError>
+    ensures { Gives (λ o. option_map (λ v. v.items) o) result
+        (only_if allowed None place (optional None place (some plan_of) (table_view table.now))
+        (table_view table.now)) }
+{
+    match entry(table, place) {
+        Some(value) if allowed => some_plan(alloc, place, value),
+        None => Ok(None),
+        _ => Err(KeyError::Bad(place)),
+    }
+}
+
+fn some_plan(alloc: Global, place: Place, value: &Value) -> Result<Option<Vec<Emission>>, KeyError>
+    ensures { Gives (λ o. option_map (λ v. v.items) o) result
+        (ok_or (some plan_of (view value.now)) place) }
+{
+    match read_plan(alloc, place, value) {
+        Ok(plan) => Ok(Some(plan)),
+        Err(error) => Err(error),
+    }
+}
+
+/// Whether each key of the table is among these.
+pub(crate) fn has_only(table: &Table, known: &[&str]) -> bool
+    ensures { result ≡ has_only (map (λ k. k.now) known.now) (table_view table.now) }
+{
+    names_pass(table, known)
+}
+
+fn names_pass(table: &Table, known: &[&str]) -> bool
+    ensures { result ≡ list_all
+        (λ name. list_any (λ k. bytes_eq (string_bytes name) k.now) known.now) (keys table.now) }
+{
+    table.keys().all(|name| is_among(name.as_str(), known))
+}
+
+fn is_among(name: &str, known: &[&str]) -> bool
+    ensures { result ≡ list_any (λ k. bytes_eq name.now k.now) known.now }
+{
+    known.iter().any(|key| name == *key)
+}
