@@ -128,7 +128,8 @@ pub(crate) fn receive(
     requires shut { IsShut log.old lane receiver.old }
     ensures receiver { OnOk result
         (receiver.new ≡ receiver_behind receiver.old (verdict_by receiver.old now frame.now)) }
-    ensures log { OnOk result (log.new ≡ noted log.old lane (verdict_by receiver.old now frame.now)) }
+    ensures log { OnOk result
+        (log.new ≡ noted log.old lane (verdict_by receiver.old now frame.now)) }
     ensures unchanged { OnErr result (receiver.new ≡ receiver.old) }
     ensures unwritten { OnErr result (log.new ≡ log.old) }
 {
