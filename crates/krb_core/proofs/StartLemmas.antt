@@ -1,10 +1,22 @@
 -- How a lane begins.
-use Rattle.std.proofs.Common.{◌≡◌, ℕ, List, Option, Some, refl, ap, ◌∙◌}
-use Rattle.std.specs.Prelude.{Vec, IsTrue, option_map}
+use Rattle.std.proofs.Common.{◌≡◌, ℕ, suc, true, List, [], ◌∷◌, ◌++◌, length, Option, Some, Result, Ok, Err, inr, refl, sym, ap, ap₂, subst, ◌∙◌, arith, append_assoc, length-append}
+use Rattle.krb_core.specs.Sending.{source_of}
+use Rattle.std.specs.List.{zip}
+use Rattle.std.specs.Prelude.{Vec, IsTrue, IfErr, IsErrAnd, option_map}
 use Rattle.krb_core.specs.declared.plan.Emit.{Emit}
 use Rattle.krb_core.specs.Plan.{is_good, wire}
 use Rattle.krb_core.specs.Sender.{Source, records, AreFrames}
-use Rattle.krb_core.specs.Start.{IsWire}
+use Rattle.krb_seal.specs.Sealer.{SealerState}
+use Rattle.krb_core.specs.declared.receiver.Receiving.{Receiving}
+use Rattle.krb_core.specs.declared.sending.Sending.{Sending}
+use Rattle.krb_core.specs.declared.sending.Sent.{Sent}
+use Rattle.krb_core.specs.declared.start.StartError.{StartError}
+use Rattle.krb_core.specs.declared.log.Entry.{Entry}
+use Rattle.krb_core.specs.Log.{is_closed}
+use Rattle.krb_core.specs.LogState.{LogState}
+use Rattle.krb_core.specs.Track.{TrackState}
+use Rattle.krb_core.specs.Stepped.{IsRelay}
+use Rattle.krb_core.specs.Start.{IsWire, IsReason, begins, AreBegun, Fails}
 
 -- what a good plan emits is the wire
 pub wire_planned : {A : Type 0} (held : Option (Vec Emit A)) (plan : Vec Emit A) (source : Source) → source.plan ≡ option_map (λ p. p.items) held → (frames emitted : List (List ℕ)) → held ≡ Some plan
@@ -17,3 +29,73 @@ wire_planned held plan source plan_is frames emitted some sealed good is =
       planned = rw e good;
       wire_is = is ∙ rw e refl;
     }
+
+-- one lane more begins
+pub AreBegun-push : {S : Type 0} (state : S → SealerState) (capacity : ℕ) (lanes : List (Sending S × Receiving)) (tracks : List TrackState) (sents : List Sent) (ends : Sending S × Receiving) (track : TrackState) (sent : Sent)
+    → AreBegun state capacity lanes tracks sents → begins state capacity ends track sent → AreBegun state capacity (lanes ++ ends ∷ []) (tracks ++ track ∷ []) (sents ++ sent ∷ [])
+AreBegun-push state capacity [] [] [] ends track sent h b = (b, tt)
+AreBegun-push state capacity [] [] (x ∷ xs) ends track sent h b = absurd h
+AreBegun-push state capacity [] (t ∷ ts) sents ends track sent h b = absurd h
+AreBegun-push state capacity (e ∷ es) [] sents ends track sent h b = absurd h
+AreBegun-push state capacity (e ∷ es) (t ∷ ts) [] ends track sent h b = absurd h
+AreBegun-push state capacity (e ∷ es) (t ∷ ts) (x ∷ xs) ends track sent h b = (h.0, AreBegun-push state capacity es ts xs ends track sent h.1 b)
+
+-- as many lanes as senders
+pub record SameLengths (n tracks sents : ℕ) : Type 0 where
+  pub tracks_are : tracks ≡ n
+  pub sents_are : sents ≡ n
+
+pub AreBegun-length : {S : Type 0} (state : S → SealerState) (capacity : ℕ) (lanes : List (Sending S × Receiving)) (tracks : List TrackState) (sents : List Sent)
+    → AreBegun state capacity lanes tracks sents → SameLengths (length lanes) (length tracks) (length sents)
+AreBegun-length state capacity [] [] [] h = record { tracks_are = refl; sents_are = refl }
+AreBegun-length state capacity [] [] (x ∷ xs) h = absurd h
+AreBegun-length state capacity [] (t ∷ ts) sents h = absurd h
+AreBegun-length state capacity (e ∷ es) [] sents h = absurd h
+AreBegun-length state capacity (e ∷ es) (t ∷ ts) [] h = absurd h
+AreBegun-length state capacity (e ∷ es) (t ∷ ts) (x ∷ xs) h =
+    let l = AreBegun-length state capacity es ts xs h.1 in
+    record { tracks_are = ap suc l.tracks_are; sents_are = ap suc l.sents_are }
+
+pub length-zip : {A B : Type 0} (xs : List A) (ys : List B) → length xs ≡ length ys → length (zip xs ys) ≡ length xs
+length-zip [] ys e = refl
+length-zip (x ∷ xs) [] e = absurd (omega (arith, e))
+length-zip (x ∷ xs) (y ∷ ys) e = ap suc (length-zip xs ys (omega (arith, e)))
+
+-- a relay that begins: its log is empty, so nothing is shut
+pub is_relay : (tracks : List TrackState) (log : LogState) (sents : List Sent) → length tracks ≡ log.lanes → length sents ≡ length tracks → log.entries ≡ [] → IsRelay tracks log sents
+is_relay tracks log sents lanes sealed none = record {
+  lanes = lanes;
+  sealed = sealed;
+  shut = λ lane track there shut. absurd (let e : is_closed lane [] ≡ true = subst (λ (entries : List Entry). is_closed lane entries ≡ true) none shut in cc);
+}
+
+-- what is left of two lists that go side by side
+pub zip_next : {A B : Type 0} (whole done : List (A × B)) (xs rest : List A) (ys others : List B) (x : A) (y : B) → whole ≡ done ++ zip xs ys → xs ≡ x ∷ rest → ys ≡ y ∷ others
+    → whole ≡ (done ++ (x, y) ∷ []) ++ zip rest others
+zip_next whole done xs rest ys others x y e a b =
+    e ∙ ap₂ (λ l r. done ++ zip l r) a b ∙ sym (append_assoc done ((x, y) ∷ []) (zip rest others))
+
+-- where nothing is left, all went by
+pub all_done : {A B : Type 0} (xs rest : List A) (ys others : List B) (done : List (A × B)) → length xs ≡ length ys → zip xs ys ≡ done ++ zip rest others → length rest ≡ length others → length rest ≡ 0
+    → length done ≡ length xs
+all_done xs rest ys others done same e left none =
+    omega (arith, ap length e, length-zip xs ys same, length-append done (zip rest others), length-zip rest others left)
+
+-- a lane that doesn't begin, behind those that do
+pub lane_fails : {S : Type 0} (state : S → SealerState) (capacity : ℕ) (lanes before behind : List (Sending S × Receiving)) (ends : Sending S × Receiving) (tracks : List TrackState) (sents : List Sent) (lane : ℕ) (error : StartError)
+    → lanes ≡ (before ++ ends ∷ []) ++ behind → AreBegun state capacity before tracks sents → lane ≡ length before → IsReason (source_of state (ends.0)) lane error → Fails state capacity lanes error
+lane_fails state capacity lanes before behind ends tracks sents lane error e begun at reason =
+    inr (record {
+      before = before;
+      ends = ends;
+      behind = behind;
+      lanes_are = e ∙ append_assoc before (ends ∷ []) behind;
+      tracks = tracks;
+      sents = sents;
+      begun = begun;
+      reason = subst (λ (n : ℕ). IsReason (source_of state (ends.0)) n error) at reason;
+    })
+
+pub if_err : {A E : Type 0} (P : E → Type 0) (e : E) (r : Result A E) → IsErrAnd r (λ x. x ≡ e) → P e → IfErr r P
+if_err P e (Ok x) h p = absurd h
+if_err P e (Err x) h p = subst P (sym h) p

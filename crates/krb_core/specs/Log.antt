@@ -1,5 +1,5 @@
 -- The log of a relay.
-use Rattle.std.specs.Prelude.{◌≡◌, ℕ, ◌==◌, Bool, true, false, List, [], ◌∷◌, ◌++◌, slice_set, slice_index_or, if◌then◌else◌}
+use Rattle.std.specs.Prelude.{◌≡◌, ℕ, ◌==◌, Bool, true, false, List, [], ◌∷◌, ◌++◌, replicate, slice_set, slice_index_or, if◌then◌else◌}
 use Rattle.krb_core.specs.declared.log.Event.{Event}
 use Rattle.krb_core.specs.declared.log.Event.TheVariants.{Text, Closed, Refused}
 use Rattle.krb_core.specs.declared.log.Entry.{Entry}
@@ -43,6 +43,10 @@ abbrev pub MayFollow : Event → ℕ → List Entry → Type 0
 MayFollow (Text text) lane entries = is_closed lane entries ≡ false
 MayFollow Closed lane entries = is_closed lane entries ≡ false
 MayFollow (Refused refusal) lane entries = Unit {0}
+
+-- nothing became of any frame yet
+abbrev pub new_log : ℕ → LogState
+new_log lanes = record { lanes = lanes; entries = []; ended = replicate lane_limit false }
 
 -- one entry more
 abbrev pub appended : LogState → ℕ → Event → LogState

@@ -1,13 +1,15 @@
 //! How a relay that is stepped begins: all is sealed, and each plan is followed.
 
-ghost use Rattle.std.specs.Prelude.{◌≡◌, false, IfOk, IfErr};
+ghost use Rattle.std.specs.Prelude.{◌≡◌, ◌<◌, false, length, IfOk, IfErr};
 ghost use Rattle.krb_core.specs.Plan.{contents};
 ghost use Rattle.krb_core.specs.Sending.{source_of, IsSender};
-ghost use Rattle.krb_core.specs.Start.{code_of, IsWire, IsReason};
+ghost use Rattle.krb_core.specs.Start.{code_of, IsBegun, IsWire, IsReason};
 
 use crate::emission::emit;
 use crate::plan::EmitError;
-use crate::sending::Sending;
+use crate::receiver::Receiving;
+use crate::sending::{Sending, Sent};
+use crate::track::Track;
 use krb_seal::{SealError, Sealer};
 use std::alloc::{AllocError, Global};
 use std::error::Error;
@@ -89,6 +91,25 @@ pub(crate) fn emit_sealed<S: Sealer>(
         Err(EmitError::BadPlan) => Err(StartError::BadPlan { lane }),
         Err(EmitError::Memory) => Err(StartError::Memory),
     }
+}
+
+/// The lane of a sender and its receiver, through which nothing went, and how much is sealed.
+pub(crate) fn begin_lane<S: Sealer>(
+    alloc: Global,
+    lane: u32,
+    sending: Sending<S>,
+    receiving: Receiving,
+    capacity: usize,
+) -> Result<(Track, Sent), StartError>
+    requires sender { IsSender (source_of S.state sending) }
+    requires moments { 0 < length receiving.nows.items }
+    ensures ok { IfOk result (λ begun. IsBegun (source_of S.state sending)
+        receiving.receiver receiving.nows.items capacity begun.0 begun.1) }
+    ensures err { IfErr result (λ error. IsReason (source_of S.state sending) lane error) }
+{
+    let sent = sending.sent();
+    let wire = emit_sealed(alloc, lane, sending)?;
+    Ok((Track::new(wire, receiving, capacity), sent))
 }
 
 #[cfg(test)]

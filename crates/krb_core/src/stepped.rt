@@ -1,12 +1,19 @@
 //! A relay that is stepped: one event of one lane at a time, in any order that the caller likes.
 
-ghost use Rattle.std.specs.Prelude.{◌≡◌, ◌↔◌, ◌<◌, ℕ, length, take, Some, false, slice_get, All, IfOk, OnOk, OnErr};
+ghost use Rattle.std.specs.Prelude.{◌≡◌, ◌↔◌, ◌<◌, ◌≤◌, ℕ, length, take, Some, false, slice_get, All, IfOk, IfErr, OnOk, OnErr};
+ghost use Rattle.std.specs.List.{zip};
+ghost use Rattle.krb_core.specs.Log.{lane_limit, new_log};
+ghost use Rattle.krb_core.specs.Sending.{source_of, IsSender};
+ghost use Rattle.krb_core.specs.Start.{AreBegun, Fails};
 ghost use Rattle.krb_core.specs.Stepped.{lane_of, turned, after, may_move, is_done};
 
 use crate::log::Log;
-use crate::sending::Sent;
+use crate::receiver::Receiving;
+use crate::sending::{Sending, Sent};
+use crate::start::{StartError, begin_lane};
 use crate::track::Track;
 use crate::turn::{Did, Turn};
+use krb_seal::Sealer;
 use std::alloc::{AllocError, Global};
 use std::marker::Model;
 
@@ -37,6 +44,47 @@ impl Model for Stepped {
 }
 
 impl Stepped {
+    /// Seals and emits all, lane by lane, and sends nothing yet.
+    ///
+    /// There are one to eight lanes, with as many receivers as senders, each within its limits. The
+    /// first error that is met ends it: want of memory, or the least lane whose plan is bad or whose
+    /// sealer was wiped.
+    pub fn new<S: Sealer>(
+        alloc: Global,
+        sendings: Vec<Sending<S>>,
+        receivings: Vec<Receiving>,
+        capacity: usize,
+    ) -> Result<Stepped, StartError>
+        requires same { length sendings.items ≡ length receivings.items }
+        requires some { 1 ≤ length sendings.items }
+        requires few { length sendings.items ≤ lane_limit }
+        requires senders { All (λ sending. IsSender (source_of S.state sending)) sendings.items }
+        requires moments { All (λ receiving. 0 < length receiving.nows.items) receivings.items }
+        ensures lanes { IfOk result (λ stepped. AreBegun S.state capacity
+            (zip sendings.items receivings.items) stepped.tracks stepped.sents) }
+        ensures count { IfOk result (λ stepped.
+            length stepped.tracks ≡ length sendings.items) }
+        ensures log { IfOk result (λ stepped. stepped.log ≡ new_log (length sendings.items)) }
+        ensures err { IfErr result (Fails S.state capacity (zip sendings.items receivings.items)) }
+    {
+        let count = sendings.len();
+        let log = Log::new(alloc, count as u32);
+        let mut tracks = Vec::with_capacity(alloc, count)?;
+        let mut sents = Vec::with_capacity(alloc, count)?;
+        for (sending, receiving) in sendings.into_iter().zip(receivings) {
+            let lane = tracks.len() as u32;
+            let (track, sent) = begin_lane(alloc, lane, sending, receiving, capacity)?;
+            tracks.push(track).map_err(AllocError::from)?;
+            sents.push(sent).map_err(AllocError::from)?;
+        }
+        Ok(Stepped {
+            alloc,
+            tracks,
+            log,
+            sents,
+        })
+    }
+
     /// One turn: the next event of its lane, which is there.
     ///
     /// A send puts the lane's next frame into the queue, and behind the last one the end. A take
@@ -48,6 +96,7 @@ impl Stepped {
         ensures ok { OnOk result (self.new ≡ turned self.old turn) }
         ensures waits { IfOk result (λ did. (did ≡ Did.Waits) ↔ (may_move self.old turn ≡ false)) }
         ensures err { OnErr result (self.new ≡ self.old) }
+        ensures lanes { length self.new.tracks ≡ length self.old.tracks }
     {
         match turn {
             Turn::Send(lane) => Ok(self.tracks[lane as usize].send()),

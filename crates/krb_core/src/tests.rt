@@ -4,6 +4,7 @@
 mod frames;
 mod lanes;
 mod senders;
+mod steps;
 
 ghost use Rattle.std.specs.Prelude.{◌≡◌, IfOk, nat_le, length};
 ghost use Rattle.std.specs.List.{list_all};

@@ -6,6 +6,7 @@ ghost use Rattle.krb_base.specs.Lane.{Take, has_end, is_possible};
 ghost use Rattle.krb_core.specs.Plan.{contents};
 ghost use Rattle.krb_core.specs.Receiver.{receiver_behind};
 ghost use Rattle.krb_core.specs.Sender.{moment_at};
+ghost use Rattle.krb_core.specs.Start.{fresh};
 ghost use Rattle.krb_core.specs.Track.{next_send, after_send, after_take, log_after, verdict_by, noted, IsShut};
 
 use crate::delivery::Delivery;
@@ -49,6 +50,21 @@ impl Model for Track {
 }
 
 impl Track {
+    /// A lane through which nothing went.
+    pub(crate) fn new(wire: Vec<Vec<u8>>, receiving: Receiving, capacity: usize) -> Track
+        requires { 0 < length receiving.nows.items }
+        ensures { result
+            ≡ fresh (contents wire.items) receiving.receiver receiving.nows.items capacity }
+    {
+        Track {
+            wire,
+            receiving,
+            capacity,
+            sent: 0,
+            taken: 0,
+        }
+    }
+
     /// Puts the next item into the queue, where there is room and the end wasn't sent.
     pub(crate) fn send(&mut self) -> Did
         ensures after { self.new ≡ after_send self.old }
