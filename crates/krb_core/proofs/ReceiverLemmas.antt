@@ -1,20 +1,15 @@
 -- What a receiver answers.
-use Rattle.std.proofs.Common.{◌≡◌, ℕ, ◌<◌, ◌⊎◌, ◌≢◌, true, false, List, Result, Ok, Err, inl, inr, refl, arith}
+use Rattle.std.proofs.Common.{◌≡◌, ℕ, false, List, Result, Ok, Err, inl, inr}
 use Rattle.std.specs.Global.{Vec}
-use Rattle.krb_base.specs.Limits.{last_number}
 use Rattle.krb_seal.specs.declared.refusal.Refusal.{Refusal}
 use Rattle.krb_seal.specs.Opens.{OpenerState, Opens}
 use Rattle.krb_seal.specs.Unseals.{OrMemory}
 use Rattle.krb_core.specs.declared.record.Record.{Record}
 use Rattle.krb_core.specs.declared.delivery.Delivery.{Delivery}
-use Rattle.krb_core.specs.declared.order.OrderRefusal.{OrderRefusal}
-use Rattle.krb_core.specs.declared.order.OrderRefusal.TheVariants.{AfterClose, BadOrder}
-use Rattle.krb_core.specs.Demand.{Demand}
 use Rattle.krb_core.specs.Record.{SpellsRecord}
 use Rattle.krb_core.specs.ReceiverState.{ReceiverState}
 use Rattle.krb_core.specs.Verdicts.{record_of}
 use Rattle.krb_core.specs.Receiver.{IsAnswer}
-use Rattle.krb_core.proofs.NumberLemmas.{opens_in_range}
 
 -- the user data that an answer gives was opened
 pub opened_is : (o : OpenerState) (number now : ℕ) (frame : List ℕ) (result : Result (Vec ℕ) Refusal) (user : Vec ℕ)
@@ -39,17 +34,3 @@ pub carried_is : (receiver : ReceiverState) (number now : ℕ) (frame : List ℕ
     → Opens receiver.opener number now frame (Ok user) → SpellsRecord r user → r ≡ record_of d → IsAnswer receiver now frame (Ok d)
 carried_is receiver number now frame user r d live same opened spelled is =
     inr (live, (user, rw (← same) opened, rw (← is) spelled))
-
--- the order accepts what was opened at its number
-pub never_refused : (o : OpenerState) (demand : Demand) (number now : ℕ) (frame user : List ℕ)
-    → number ≡ demand.expected → Opens o number now frame (Ok user)
-    → (number ≢ demand.expected) ⊎ (last_number < number) → ⊥
-never_refused o demand number now frame user same opened (inl other) = other same
-never_refused o demand number now frame user same opened (inr over) = omega (arith, opens_in_range o number now frame user opened)
-
-pub accept_never : (o : OpenerState) (demand : Demand) (number now : ℕ) (frame user : List ℕ) (e : OrderRefusal)
-    → demand.closed ≡ false → number ≡ demand.expected → Opens o number now frame (Ok user)
-    → (e ≡ AfterClose → demand.closed ≡ true)
-    → (e ≡ BadOrder → (number ≢ demand.expected) ⊎ (last_number < number)) → ⊥
-accept_never o demand number now frame user AfterClose live same opened shut out = let e = shut refl in cc
-accept_never o demand number now frame user BadOrder live same opened shut out = never_refused o demand number now frame user same opened (out refl)

@@ -18,7 +18,7 @@ use Rattle.krb_core.specs.Log.{events_of, has_closed, is_closed}
 use Rattle.krb_core.specs.LogState.{LogState}
 use Rattle.krb_core.specs.ReceiverState.{ReceiverState}
 use Rattle.krb_core.specs.Receiver.{receiver_behind}
-use Rattle.krb_core.specs.Verdicts.{Verdict, events_by}
+use Rattle.krb_core.specs.Verdicts.{Verdict}
 use Rattle.krb_core.specs.Track.{TrackState, entries_by, noted, receiver_after, log_behind, verdict_now, next_send, after_send, after_take, log_after, IsShut}
 use Rattle.krb_core.specs.Stepped.{Relay, lane_of, track_behind, turned_at, turned, after, may_move, IsRelay}
 
@@ -65,11 +65,6 @@ shut_same log lane r (Err refusal) h on =
 
 apart : (number lane : ℕ) → number ≢ lane → (number == lane) ≡ false
 apart number lane other = elim (eqb_tells number lane) [ inl same ↦ absurd (other same.1) | inr h ↦ h.0 ]
-
-one_event : (v : Verdict) → (e : Event) × (events_by v ≡ e ∷ [])
-one_event (Ok (deliveries.Text t)) = (Text t, refl)
-one_event (Ok deliveries.Closed) = (Closed, refl)
-one_event (Err refusal) = (Refused refusal, refl)
 
 -- another lane has no part in it
 pub events_of-other : (number lane : ℕ) (v : Verdict) → number ≢ lane → events_of lane (entries_by number v) ≡ []
@@ -129,16 +124,6 @@ get-get_or (z ∷ xs) zero x lt is = ap (λ y. Some y) (sym is)
 get-get_or (z ∷ xs) (suc k) x lt is = get-get_or xs k x (omega arith) is
 
 -- ---- a turn keeps the relay
-
-pub relay_sent : (tracks : List TrackState) (log : LogState) (sents : List Sent) (k : ℕ) (old : TrackState) → slice_get tracks k ≡ Some old → IsRelay tracks log sents → IsRelay (set tracks k (after_send old)) log sents
-relay_sent tracks log sents k old at h = record {
-  lanes = length-set tracks k (after_send old) ∙ h.lanes;
-  sealed = h.sealed ∙ sym (length-set tracks k (after_send old));
-  shut = λ lane track is. elim (read_set tracks k lane (after_send old) track is) [
-    | same e f ↦ rw (e, f) (h.shut k old at)
-    | other e f ↦ h.shut lane track f
-  ];
-}
 
 pub relay_taken : (tracks : List TrackState) (log : LogState) (sents : List Sent) (k : ℕ) (old : TrackState) → slice_get tracks k ≡ Some old → IsRelay tracks log sents → IsRelay (set tracks k (after_take old)) (log_after log k old) sents
 relay_taken tracks log sents k old at h = record {

@@ -3,8 +3,6 @@ use Rattle.std.specs.Prelude.{ℕ, Bool, ◌+◌, ◌==◌, ◌&&◌, nat_le, Li
 use Rattle.krb_core.specs.declared.record.Record.{Record}
 use Rattle.krb_core.specs.declared.order.OrderRefusal.{OrderRefusal}
 use Rattle.krb_core.specs.declared.order.OrderRefusal.TheVariants.{AfterClose, BadOrder}
-use Rattle.krb_seal.specs.declared.refusal.Refusal.{Refusal}
-use Rattle.krb_seal.specs.declared.refusal.Refusal.TheVariants as refusals
 use Rattle.krb_core.specs.Demand.{Demand}
 use Rattle.krb_base.specs.Limits.{last_number}
 use Rattle.krb_core.specs.Record.{is_close}
@@ -52,8 +50,3 @@ code_of BadOrder = 42
 abbrev pub words_of : OrderRefusal → List ℕ
 words_of AfterClose = codes "a close was accepted before"
 words_of BadOrder = codes "the number isn't the demanded one"
-
--- the same as a refusal of a frame
-abbrev pub refusal_of : OrderRefusal → Refusal
-refusal_of AfterClose = refusals.AfterClose
-refusal_of BadOrder = refusals.BadOrder

@@ -7,7 +7,7 @@ ghost use Rattle.krb_core.specs.Verdicts.{record_of};
 ghost use Rattle.krb_core.specs.Receiver.{first_demand, IsAnswer, receiver_behind, advanced};
 
 use crate::delivery::Delivery;
-use crate::order::{Order, OrderRefusal};
+use crate::order::Order;
 use crate::record::{Record, RecordError, read_record};
 use krb_der::Moment;
 use krb_seal::{Opener, Refusal};
@@ -39,20 +39,6 @@ impl Model for Receiver {
     ghost Value = { ReceiverState };
 
     ghost view = { λ receiver. record { opener = receiver.opener; demand = receiver.order } };
-}
-
-impl From<OrderRefusal> for Refusal {
-    ghost use Rattle.std.specs.Prelude.{◌≡◌};
-    ghost use Rattle.krb_core.specs.Order.{refusal_of};
-
-    ghost from_gives = { λ order refusal. refusal ≡ refusal_of order };
-
-    fn from(refusal: OrderRefusal) -> Refusal {
-        match refusal {
-            OrderRefusal::AfterClose => Refusal::AfterClose,
-            OrderRefusal::BadOrder => Refusal::BadOrder,
-        }
-    }
 }
 
 impl Receiver {

@@ -22,9 +22,3 @@ fails_within errors.Memory part whole place passes failed = tt
 pub err_within : {X Y A : Type 0} (view : X → Y) (r : Result X KeyError) (e : KeyError) (part : Option A) (whole : Option Y) (place : Place)
     → IsErr r × IsErrAnd r (λ x. x ≡ e) → (part ≡ None → whole ≡ None) → Fails e (ok_or part place) → Gives view r (ok_or whole place)
 err_within view r e part whole place same passes failed = err_gives view r e (ok_or whole place) same (fails_within e part whole place passes failed)
-
--- what failed one check fails the checks that go on from it
-pub err_passed : {X Y A : Type 0} (view : X → Y) (r : Result X KeyError) (e : KeyError) (part : Result A Place) (whole : Result Y Place)
-    → IsErr r × IsErrAnd r (λ x. x ≡ e) → ((p : Place) → part ≡ Err p → whole ≡ Err p) → Fails e part → Gives view r whole
-err_passed view r (errors.Bad p) part whole same passes failed = err_gives view r (errors.Bad p) whole same (passes p failed)
-err_passed view r errors.Memory part whole same passes failed = err_gives view r errors.Memory whole same tt

@@ -16,10 +16,6 @@ abbrev pub behind_ok : List Sender → Result (List Sender) BadInput → Result 
 behind_ok done (Ok xs) = Ok (done ++ xs)
 behind_ok done (Err e) = Err e
 
-pub behind_ok-nothing : (r : Result (List Sender) BadInput) → r ≡ behind_ok [] r
-behind_ok-nothing (Ok xs) = refl
-behind_ok-nothing (Err e) = refl
-
 behind_ok-one : (done : List Sender) (s : Sender) (r : Result (List Sender) BadInput)
     → behind_ok done (r >>= λ xs. Ok (s ∷ xs)) ≡ behind_ok (done ++ s ∷ []) r
 behind_ok-one done s (Ok xs) = ap Ok (sym (append_assoc done (s ∷ []) xs))
@@ -48,11 +44,3 @@ senders_more command vs j v done s within at is so_far =
     let step = senders_at command vs j (keys_of done) v within at ∙ ap (λ r. r >>= λ t. senders_from command (j + 1) (keys_of done ++ t.key ∷ []) (items_view (drop (j + 1) vs)) >>= λ others. Ok (t ∷ others)) is in
     rw (views-more done s, keys_of-more done s)
     (so_far ∙ ap (behind_ok (map sender_view done)) step ∙ behind_ok-one (map sender_view done) (sender_view s) (senders_from command (j + 1) (keys_of done ++ s.key ∷ []) (items_view (drop (j + 1) vs))))
-
-pub senders_bad : (command : Command) (vs : List Value) (j : ℕ) (v : Value) (done : List SenderJob) (b : BadInput)
-    → j < length vs → get_or vs j v ≡ v → sender_at command j (keys_of done) (view v) ≡ Err b
-    → senders_from command 0 [] (items_view vs) ≡ behind_ok (map sender_view done) (senders_from command j (keys_of done) (items_view (drop j vs)))
-    → senders_from command 0 [] (items_view vs) ≡ Err b
-senders_bad command vs j v done b within at is so_far =
-    let step = senders_at command vs j (keys_of done) v within at ∙ ap (λ r. r >>= λ t. senders_from command (j + 1) (keys_of done ++ t.key ∷ []) (items_view (drop (j + 1) vs)) >>= λ others. Ok (t ∷ others)) is in
-    so_far ∙ ap (behind_ok (map sender_view done)) step

@@ -200,11 +200,3 @@ merges pass v other u a b queue views h at two at' =
     let both : Hand = hand true true v.capacity v.sent u.got in
     let was : Knows views other u = ⊎_elim (λ x. absurd (two x.0)) (λ x. x.1) (at_set views pass other both u at') in
     (met_step queue views pass v other u h at was two a b).0
-
--- a pass with both rights knows all but the queue
-pub totals : (pass : ℕ) (v : Hand) → v.sends ≡ true → v.takes ≡ true → Learns IsLane pass v (λ queue. IsReached (running v.capacity v.sent v.got queue))
-totals pass v a b queue views h at =
-    let mine = h.each pass v at in
-    let s = mine.0 a in
-    let g = mine.1 b in
-    subst (λ (y : ℕ × (List Item × List Item)). IsReached (running y.0 y.1.0 y.1.1 queue)) (λ i. (sym s.1 i, (sym s.2 i, sym g.2 i))) h.state
