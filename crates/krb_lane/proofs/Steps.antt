@@ -4,7 +4,7 @@ use Rattle.std.proofs.lemmas.List.{map-append, length-map}
 use Rattle.std.proofs.lemmas.Bool.{lt-ltb}
 use mathlib.Core.Option.{some, some-ne-none}
 use lib.ListN.{get_elem?}
-use Rattle.crossbeam_channel.specs.Fifo.{Pushes, Pops, Forks, Merges, Learns}
+use Rattle.crossbeam_channel.specs.Fifo.{Pushes, Pops, Forks, Merges}
 use Rattle.atomic_table.proofs.Lists.{at_set, at_snoc}
 use Rattle.krb_base.specs.Lane.{Send, Take, empty, frames, is_possible, moved, after_event, IsReached, IsEndLast}
 use Rattle.krb_base.proofs.LaneLemmas.{after_possible, reached_empty, reached_moved, state_reached, may_send, frames-append, end_closes}

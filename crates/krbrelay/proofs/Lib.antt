@@ -1,8 +1,1 @@
 pub mod CommandLemmas
-pub mod LineLemmas
-pub mod OutputLemmas
-pub mod Readings
-pub mod ShowLemmas
-pub mod TextLemmas
-pub mod TimeText
-pub mod VectorLemmas

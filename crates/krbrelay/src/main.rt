@@ -8,22 +8,14 @@
 //! ```
 #![tactic(auto)]
 
-pub mod command;
-pub mod fault;
-pub mod help;
-pub mod input;
-pub mod lines;
-pub mod output;
-pub mod reading;
-pub mod show;
+mod command;
+mod help;
 #[cfg(test)]
 mod tests;
-pub mod text;
-pub mod vectors;
 
 use clap::error::ErrorKind;
 use command::{Cmd, command_of};
-use fault::Fault;
+use krb_commands::{Fault, show, vectors};
 use std::alloc::Global;
 use std::io;
 use std::io::{BufWriter, Write};
@@ -47,8 +39,8 @@ fn run(rt: &(impl Input + Print + Alloc<A = Global>), command: Cmd) -> Result<u8
         return Err(Fault::Memory);
     };
     let outcome = match command {
-        Cmd::Show => show::show(rt.alloc(), &mut reader, &mut writer),
-        Cmd::Vectors => vectors::vectors(rt.alloc(), &mut writer),
+        Cmd::Show => show(rt.alloc(), &mut reader, &mut writer),
+        Cmd::Vectors => vectors(rt.alloc(), &mut writer),
     };
     if writer.flush().is_err() {
         return Err(Fault::Write);

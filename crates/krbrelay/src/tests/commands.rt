@@ -1,7 +1,7 @@
 //! The command line, and the lines that are printed for faults.
 
 use crate::command::{Cmd, command_of};
-use crate::fault::Fault;
+use krb_commands::Fault;
 use clap::error::ErrorKind;
 use std::test::Fail;
 

@@ -1,0 +1,6 @@
+use Rattle.krb_commands.proofs.ShowLemmas.{on_err}
+use Rattle.krb_commands.proofs.messages.print_reading.Goals as goal
+
+pub returns-in_err-write_all-clause-prefix : goal.returns-in_err-write_all-clause-prefix
+returns-in_err-write_all-clause-prefix g c =
+    on_err _ c.from_residual-in_err-write_all.result (rw (c.as_bytes.ensures.value, c.as_str.ensures.value, c.in_ok-line.ensures) at c.in_err-write_all.ensures.prefix)

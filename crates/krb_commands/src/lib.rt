@@ -1,0 +1,26 @@
+//! The commands of the program `krbrelay`, each over a reader and a writer.
+//!
+//! [`show`] prints messages, [`vectors`] published values of the ciphers. Each answers the exit
+//! status, or the [`Fault`] that ended it.
+//!
+//! ```text
+//! let status = show(alloc, &mut reader, &mut writer)?; // 0 where each line spelt a message
+//! ```
+#![tactic(auto)]
+
+mod fault;
+mod input;
+mod lines;
+mod messages;
+mod output;
+mod published;
+mod reading;
+mod text;
+
+pub use fault::Fault;
+pub use input::{LIMIT, read_all};
+pub use messages::{one_reading, show};
+pub use published::vectors;
+
+#[cfg(test)]
+mod tests;

@@ -1,0 +1,7 @@
+//! What no clause says: that a call succeeds, what the printed lines look like, and that a fault is
+//! told only where the reader or the writer failed. The messages and their lines were written by
+//! hand from the grammar of RFC 4120.
+
+mod faulty;
+mod shows;
+mod vectors;

@@ -1,0 +1,126 @@
+//! Readers and writers over memory that fail at one of their calls, and that `show` tells so.
+ghost use Rattle.std.specs.Prelude.{Some};
+
+use crate::fault::Fault;
+use crate::messages::show;
+use crate::tests::shows::{SAFE_LINE, SAFE_TEXT};
+use std::io;
+use std::io::{ErrorKind, Read, Write};
+
+/// What happens at the call that fails.
+#[derive(Clone, Copy, PartialEq, Eq)]
+enum Failure {
+    Error,
+    Nothing,
+}
+
+/// Gives at most three bytes a call, and fails at one call.
+#[derive(Drop)]
+struct FaultyReader<'a> {
+    rest: &'a [u8],
+    calls: usize,
+    fails_at: usize,
+}
+
+impl<'a> Read for FaultyReader<'a> {
+    ghost remaining = { λ r. Some r.rest.now };
+
+    fn read(&mut self, buf: &mut [u8]) -> io::Result<usize> {
+        self.calls = self.calls.wrapping_add(1);
+        if self.calls == self.fails_at {
+            return Err(io::Error::from(ErrorKind::Other));
+        }
+        let most = buf.len().min(3);
+        self.rest.read(&mut buf[..most])
+    }
+}
+
+/// Takes at most two bytes a call, and fails or takes nothing at one call.
+#[derive(Drop)]
+struct FaultyWriter {
+    taken: Vec<u8>,
+    calls: usize,
+    fails_at: usize,
+    failure: Failure,
+}
+
+impl Write for FaultyWriter {
+    ghost contents = { λ w. Some w.taken.items };
+
+    fn write(&mut self, buf: &[u8]) -> io::Result<usize> {
+        self.calls = self.calls.wrapping_add(1);
+        if self.calls == self.fails_at {
+            return match self.failure {
+                Failure::Error => Err(io::Error::from(ErrorKind::Other)),
+                Failure::Nothing => Ok(0),
+            };
+        }
+        let most = buf.len().min(2);
+        self.taken.write(&buf[..most])
+    }
+
+    fn flush(&mut self) -> io::Result<()> {
+        Ok(())
+    }
+}
+
+/// What `show` answers and writes where the reader fails at this call.
+fn with_read_fault(rt: &HostRuntime, fails_at: usize) -> (Result<u8, Fault>, Vec<u8>) {
+    let mut reader = FaultyReader {
+        rest: SAFE_LINE.as_bytes(),
+        calls: 0,
+        fails_at,
+    };
+    let mut output = Vec::new(rt.alloc());
+    let result = show(rt.alloc(), &mut reader, &mut output);
+    (result, output)
+}
+
+/// The same where the writer fails.
+fn with_write_fault(
+    rt: &HostRuntime,
+    fails_at: usize,
+    failure: Failure,
+) -> (Result<u8, Fault>, Vec<u8>) {
+    let mut reader = SAFE_LINE.as_bytes();
+    let mut writer = FaultyWriter {
+        taken: Vec::new(rt.alloc()),
+        calls: 0,
+        fails_at,
+        failure,
+    };
+    let result = show(rt.alloc(), &mut reader, &mut writer);
+    (result, writer.taken)
+}
+
+#[test]
+fn each_read_fails_in_turn(rt: HostRuntime) {
+    // 169 bytes, three a call, and one call that finds the end
+    for call in 1..59 {
+        let (result, output) = with_read_fault(&rt, call);
+        assert_eq!(rt; result, Err(Fault::Read), "call {call}");
+        assert!(rt; output.is_empty(), "call {call}");
+    }
+    let (result, output) = with_read_fault(&rt, 59);
+    assert_eq!(rt; result, Ok(0));
+    assert_eq!(rt; output.as_slice(), SAFE_TEXT.as_bytes());
+}
+
+#[test]
+fn each_write_fails_or_takes_nothing_in_turn(rt: HostRuntime) {
+    for failure in [Failure::Error, Failure::Nothing] {
+        // 86 bytes, two a call
+        for call in 1..44 {
+            let (result, output) = with_write_fault(&rt, call, failure);
+            assert_eq!(rt; result, Err(Fault::Write), "call {call}");
+            assert_eq!(rt; output.len(), 2 * (call - 1));
+            assert!(rt;
+                SAFE_TEXT.as_bytes().starts_with(output.as_slice()),
+                "call {call}"
+            );
+        }
+        let (result, output) = with_write_fault(&rt, 44, failure);
+        assert_eq!(rt; result, Ok(0));
+        assert_eq!(rt; output.as_slice(), SAFE_TEXT.as_bytes());
+    }
+}

@@ -1,5 +1,0 @@
-use Rattle.krbrelay.proofs.Readings.{has_one_reading}
-use Rattle.krbrelay.proofs.show.one_reading.Goals as goal
-
-pub returns : goal.returns
-returns c = has_one_reading c.unique_spelling.ensures.messages

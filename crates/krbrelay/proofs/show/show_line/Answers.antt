@@ -1,5 +1,0 @@
-use Rattle.krbrelay.proofs.ShowLemmas.{nothing_printed, on_err}
-use Rattle.krbrelay.proofs.show.show_line.Goals as goal
-
-pub returns-in_err-reading-clause-prefix : goal.returns-in_err-reading-clause-prefix
-returns-in_err-reading-clause-prefix g c = on_err _ c.from_residual.result (nothing_printed _ c.args.line.now)
