@@ -41,7 +41,7 @@ pub use plan::{Emit, EmitError};
 pub use receiver::{Receiver, Receiving};
 pub use record::{Record, RecordError, read_record, record_bytes};
 pub use sending::{Ending, Sending, Sent};
-pub use start::StartError;
+pub use start::{StartError, emit_sealed};
 pub use stepped::Stepped;
 pub use turn::{Did, Turn};
 

@@ -1,17 +1,19 @@
 //! The receiver of a lane.
 
-ghost use Rattle.std.specs.Prelude.{◌≡◌, ◌+◌, ◌≤◌, IfOk, OnOk, OnErr};
+ghost use Rattle.std.specs.Prelude.{◌≡◌, ◌+◌, ◌<◌, ◌≤◌, IfOk, OnOk, OnErr};
 ghost use Rattle.krb_base.specs.Limits.{last_number};
 ghost use Rattle.krb_core.specs.Record.{is_close};
 ghost use Rattle.krb_core.specs.Verdicts.{record_of};
 ghost use Rattle.krb_core.specs.Receiver.{first_demand, IsAnswer, receiver_behind, advanced};
+ghost use Rattle.krb_core.specs.Track.{verdict_by, noted, IsShut};
 
 use crate::delivery::Delivery;
+use crate::log::{Event, Log};
 use crate::order::Order;
 use crate::record::{Record, RecordError, read_record};
 use krb_der::Moment;
 use krb_seal::{Opener, Refusal};
-use std::alloc::Global;
+use std::alloc::{AllocError, Global};
 use std::marker::Model;
 
 /// Opens the frames of one sender, and accepts only the next number.
@@ -86,8 +88,47 @@ impl Receiver {
         Ok(delivery)
     }
 
+    /// Takes a frame as [`take`](Receiver::take) does, and notes what became of it in the log as an
+    /// event of `lane`.
+    ///
+    /// Every growth comes before the first change, so want of memory, which is the only error, changes
+    /// nothing.
+    pub fn take_into(
+        &mut self,
+        log: &mut Log,
+        alloc: Global,
+        lane: u32,
+        frame: &[u8],
+        now: Moment,
+    ) -> Result<(), AllocError>
+        requires lane { lane < log.old.lanes }
+        requires shut { IsShut log.old lane self.old }
+        ensures receiver { OnOk result
+            (self.new ≡ receiver_behind self.old (verdict_by self.old now frame.now)) }
+        ensures log { OnOk result
+            (log.new ≡ noted log.old lane (verdict_by self.old now frame.now)) }
+        ensures unchanged { OnErr result (self.new ≡ self.old) }
+        ensures unwritten { OnErr result (log.new ≡ log.old) }
+    {
+        match self.judge(alloc, frame, now) {
+            Ok(Delivery::Text(text)) => {
+                log.push(lane, Event::Text(text))?;
+                self.advance(false);
+            }
+            Ok(Delivery::Closed) => {
+                log.push(lane, Event::Closed)?;
+                self.advance(true);
+            }
+            Err(refusal) => match refusal {
+                Refusal::Memory => return Err(AllocError),
+                other => log.push(lane, Event::Refused(other))?,
+            },
+        }
+        Ok(())
+    }
+
     /// What [`take`](Receiver::take) would answer now. Nothing changes.
-    pub(crate) fn judge(
+    fn judge(
         &self,
         alloc: Global,
         frame: &[u8],
@@ -114,7 +155,7 @@ impl Receiver {
 
     /// Moves on behind what [`judge`](Receiver::judge) delivered: the next number is demanded, and a
     /// close is noted.
-    pub(crate) fn advance(&mut self, close: bool)
+    fn advance(&mut self, close: bool)
         requires { self.old.demand.expected ≤ last_number }
         ensures { self.new ≡ advanced self.old close }
     {

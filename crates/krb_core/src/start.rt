@@ -67,7 +67,7 @@ impl From<AllocError> for StartError {
 }
 
 /// Seals all records of the sender of `lane`, and emits what its plan makes of the frames.
-pub(crate) fn emit_sealed<S: Sealer>(
+pub fn emit_sealed<S: Sealer>(
     alloc: Global,
     lane: u32,
     mut sending: Sending<S>,

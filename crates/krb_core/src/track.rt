@@ -4,17 +4,14 @@
 ghost use Rattle.std.specs.Prelude.{◌≡◌, ◌↔◌, ◌<◌, length, false, OnOk, OnErr, IfOk};
 ghost use Rattle.krb_base.specs.Lane.{Take, has_end, is_possible};
 ghost use Rattle.krb_core.specs.Plan.{contents};
-ghost use Rattle.krb_core.specs.Receiver.{receiver_behind};
 ghost use Rattle.krb_core.specs.Sender.{moment_at};
 ghost use Rattle.krb_core.specs.Start.{fresh};
-ghost use Rattle.krb_core.specs.Track.{next_send, after_send, after_take, log_after, verdict_by, noted, IsShut};
+ghost use Rattle.krb_core.specs.Track.{next_send, after_send, after_take, log_after, IsShut};
 
-use crate::delivery::Delivery;
-use crate::log::{Event, Log};
-use crate::receiver::{Receiver, Receiving};
+use crate::log::Log;
+use crate::receiver::Receiving;
 use crate::turn::Did;
 use krb_der::Moment;
-use krb_seal::Refusal;
 use std::alloc::{AllocError, Global};
 use std::marker::Model;
 
@@ -105,7 +102,7 @@ impl Track {
             Some(frame) => {
                 let now = moment_at(self.receiving.nows.as_slice(), self.taken);
                 let receiver = &mut self.receiving.receiver;
-                receive(receiver, alloc, frame.as_slice(), now, lane, log)?;
+                receiver.take_into(log, alloc, lane, frame.as_slice(), now)?;
             }
             None => log.end(lane),
         }
@@ -127,41 +124,4 @@ fn moment_at(moments: &[Moment], place: usize) -> Moment
     ensures { result ≡ moment_at moments.now place }
 {
     moments[place.min(moments.len() - 1)]
-}
-
-/// Judges a frame, and notes what became of it in the log.
-///
-/// Every growth comes before the first change, so want of memory changes nothing.
-pub(crate) fn receive(
-    receiver: &mut Receiver,
-    alloc: Global,
-    frame: &[u8],
-    now: Moment,
-    lane: u32,
-    log: &mut Log,
-) -> Result<(), AllocError>
-    requires lane { lane < log.old.lanes }
-    requires shut { IsShut log.old lane receiver.old }
-    ensures receiver { OnOk result
-        (receiver.new ≡ receiver_behind receiver.old (verdict_by receiver.old now frame.now)) }
-    ensures log { OnOk result
-        (log.new ≡ noted log.old lane (verdict_by receiver.old now frame.now)) }
-    ensures unchanged { OnErr result (receiver.new ≡ receiver.old) }
-    ensures unwritten { OnErr result (log.new ≡ log.old) }
-{
-    match receiver.judge(alloc, frame, now) {
-        Ok(Delivery::Text(text)) => {
-            log.push(lane, Event::Text(text))?;
-            receiver.advance(false);
-        }
-        Ok(Delivery::Closed) => {
-            log.push(lane, Event::Closed)?;
-            receiver.advance(true);
-        }
-        Err(refusal) => match refusal {
-            Refusal::Memory => return Err(AllocError),
-            other => log.push(lane, Event::Refused(other))?,
-        },
-    }
-    Ok(())
 }

@@ -5,7 +5,7 @@ use Rattle.krb_core.specs.Sender.{moment_at}
 use Rattle.krb_core.specs.Track.{TrackState, after_take, log_after}
 use Rattle.krb_core.proofs.TrackLemmas.{track_at, wire_frame, wire_over, take_frame, take_end}
 use Rattle.krb_core.proofs.track.Track.take.Goals as goal
-use Rattle.krb_core.proofs.track.Track.take.Goals.{in-Some+in_ok-receive-in-Some, in-None}
+use Rattle.krb_core.proofs.track.Track.take.Goals.{in-Some+in_ok-take_into-in-Some, in-None}
 
 pub returns-clause-after : goal.returns-clause-after
 returns-clause-after c =
@@ -15,16 +15,16 @@ returns-clause-after c =
     let within = places.taken_sent in
     let queued : old.taken < old.sent = omega (arith, c.if-self.false) in
     elim c.match-get.branch [
-      | in-Some+in_ok-receive-in-Some w ↦
+      | in-Some+in_ok-take_into-in-Some w ↦
           let frame = w.in-Some.frame.now in
           let at : slice_get wire old.taken ≡ Some frame.items =
           wire_frame old.wire.items old.taken frame (rw c.deref.ensures.value at w.in-Some.ensures.lookup.3.0) (rw c.deref.ensures.value at w.in-Some.ensures.lookup.1) in
           let moment : w.moment_at-now.result ≡ moment_at old.receiving.nows.items old.taken =
           w.moment_at-now.ensures ∙ ap (λ l. moment_at l old.taken) w.as_slice.ensures.value in
-          let is = take_frame wire old.capacity old.sent old.taken old.receiving.receiver old.receiving.nows.items c.args.log.now w.receive.new.log c.args.lane frame.items w.receive.new.receiver places queued at
-          (rw (moment, w.as_slice-in-Some.ensures.value) at w.in_ok-receive-in-Some.ensures.receiver)
-          (rw (moment, w.as_slice-in-Some.ensures.value) at w.in_ok-receive-in-Some.ensures.log) in
-          let P : TrackState → Type 0 = λ t. track_at wire old.capacity old.sent (old.taken + 1) w.receive.new.receiver old.receiving.nows.items ≡ after_take t in
+          let is = take_frame wire old.capacity old.sent old.taken old.receiving.receiver old.receiving.nows.items c.args.log.now w.take_into.new.log c.args.lane frame.items w.take_into.new.self places queued at
+          (rw (moment, w.as_slice-in-Some.ensures.value) at w.in_ok-take_into-in-Some.ensures.receiver)
+          (rw (moment, w.as_slice-in-Some.ensures.value) at w.in_ok-take_into-in-Some.ensures.log) in
+          let P : TrackState → Type 0 = λ t. track_at wire old.capacity old.sent (old.taken + 1) w.take_into.new.self old.receiving.nows.items ≡ after_take t in
           rw w.self-inside-is (subst P c.self.view_is is.after)
       | in-None w ↦
           let at : slice_get wire old.taken ≡ None = wire_over old.wire.items old.taken (rw c.deref.ensures.value at w.in-None.ensures.lookup.3) in
@@ -41,16 +41,16 @@ returns-clause-log c =
     let within = places.taken_sent in
     let queued : old.taken < old.sent = omega (arith, c.if-self.false) in
     elim c.match-get.branch [
-      | in-Some+in_ok-receive-in-Some w ↦
+      | in-Some+in_ok-take_into-in-Some w ↦
           let frame = w.in-Some.frame.now in
           let at : slice_get wire old.taken ≡ Some frame.items =
           wire_frame old.wire.items old.taken frame (rw c.deref.ensures.value at w.in-Some.ensures.lookup.3.0) (rw c.deref.ensures.value at w.in-Some.ensures.lookup.1) in
           let moment : w.moment_at-now.result ≡ moment_at old.receiving.nows.items old.taken =
           w.moment_at-now.ensures ∙ ap (λ l. moment_at l old.taken) w.as_slice.ensures.value in
-          let is = take_frame wire old.capacity old.sent old.taken old.receiving.receiver old.receiving.nows.items c.args.log.now w.receive.new.log c.args.lane frame.items w.receive.new.receiver places queued at
-          (rw (moment, w.as_slice-in-Some.ensures.value) at w.in_ok-receive-in-Some.ensures.receiver)
-          (rw (moment, w.as_slice-in-Some.ensures.value) at w.in_ok-receive-in-Some.ensures.log) in
-          let P : TrackState → Type 0 = λ t. w.receive.new.log ≡ log_after c.args.log.now c.args.lane t in
+          let is = take_frame wire old.capacity old.sent old.taken old.receiving.receiver old.receiving.nows.items c.args.log.now w.take_into.new.log c.args.lane frame.items w.take_into.new.self places queued at
+          (rw (moment, w.as_slice-in-Some.ensures.value) at w.in_ok-take_into-in-Some.ensures.receiver)
+          (rw (moment, w.as_slice-in-Some.ensures.value) at w.in_ok-take_into-in-Some.ensures.log) in
+          let P : TrackState → Type 0 = λ t. w.take_into.new.log ≡ log_after c.args.log.now c.args.lane t in
           w.log-is ∙ subst P c.self.view_is is.log_is
       | in-None w ↦
           let at : slice_get wire old.taken ≡ None = wire_over old.wire.items old.taken (rw c.deref.ensures.value at w.in-None.ensures.lookup.3) in

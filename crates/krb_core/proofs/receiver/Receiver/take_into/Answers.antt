@@ -1,30 +1,30 @@
 -- The answer is the verdict, and what follows is what a verdict leaves.
 use Rattle.krb_aes.specs.Words.{AreBytes}
 use Rattle.krb_core.proofs.ReceiveLemmas.{received_text, received_close, received_refusal}
-use Rattle.krb_core.proofs.track.receive.Goals as goal
+use Rattle.krb_core.proofs.receiver.Receiver.take_into.Goals as goal
 
 pub returns-in_ok-push-in-Ok-Text-clause-receiver : goal.returns-in_ok-push-in-Ok-Text-clause-receiver
 returns-in_ok-push-in-Ok-Text-clause-receiver c =
     let bytes : AreBytes c.args.frame.now = record { small = λ i. (c.type_inv.frame i).fits } in
-    (received_text c.args.receiver.now c.args.log.now c.args.lane c.args.now c.args.frame.now bytes c.in-Ok-Text.text _ _ (rw c.in-Ok-Text.field-0-is at c.in-Ok-Text.ensures.verdict) c.advance.ensures c.in_ok-push-in-Ok-Text.ensures.ok).receiver_is
+    (received_text c.args.self.now c.args.log.now c.args.lane c.args.now c.args.frame.now bytes c.in-Ok-Text.text _ _ (rw c.in-Ok-Text.field-0-is at c.in-Ok-Text.ensures.verdict) c.advance.ensures c.in_ok-push-in-Ok-Text.ensures.ok).receiver_is
 
 pub returns-in_ok-push-in-Ok-Text-clause-log : goal.returns-in_ok-push-in-Ok-Text-clause-log
 returns-in_ok-push-in-Ok-Text-clause-log c =
     let bytes : AreBytes c.args.frame.now = record { small = λ i. (c.type_inv.frame i).fits } in
-    (received_text c.args.receiver.now c.args.log.now c.args.lane c.args.now c.args.frame.now bytes c.in-Ok-Text.text _ _ (rw c.in-Ok-Text.field-0-is at c.in-Ok-Text.ensures.verdict) c.advance.ensures c.in_ok-push-in-Ok-Text.ensures.ok).log_is
+    (received_text c.args.self.now c.args.log.now c.args.lane c.args.now c.args.frame.now bytes c.in-Ok-Text.text _ _ (rw c.in-Ok-Text.field-0-is at c.in-Ok-Text.ensures.verdict) c.advance.ensures c.in_ok-push-in-Ok-Text.ensures.ok).log_is
 
 pub returns-in_ok-push-in-Ok-Closed-clause-receiver : goal.returns-in_ok-push-in-Ok-Closed-clause-receiver
 returns-in_ok-push-in-Ok-Closed-clause-receiver c =
     let bytes : AreBytes c.args.frame.now = record { small = λ i. (c.type_inv.frame i).fits } in
-    (received_close c.args.receiver.now c.args.log.now c.args.lane c.args.now c.args.frame.now bytes _ _ (rw c.in-Ok-Closed.field-0-is at c.in-Ok-Closed.ensures.verdict) c.advance-in-Ok-Closed.ensures c.in_ok-push-in-Ok-Closed.ensures.ok).receiver_is
+    (received_close c.args.self.now c.args.log.now c.args.lane c.args.now c.args.frame.now bytes _ _ (rw c.in-Ok-Closed.field-0-is at c.in-Ok-Closed.ensures.verdict) c.advance-in-Ok-Closed.ensures c.in_ok-push-in-Ok-Closed.ensures.ok).receiver_is
 
 pub returns-in_ok-push-in-Ok-Closed-clause-log : goal.returns-in_ok-push-in-Ok-Closed-clause-log
 returns-in_ok-push-in-Ok-Closed-clause-log c =
     let bytes : AreBytes c.args.frame.now = record { small = λ i. (c.type_inv.frame i).fits } in
-    (received_close c.args.receiver.now c.args.log.now c.args.lane c.args.now c.args.frame.now bytes _ _ (rw c.in-Ok-Closed.field-0-is at c.in-Ok-Closed.ensures.verdict) c.advance-in-Ok-Closed.ensures c.in_ok-push-in-Ok-Closed.ensures.ok).log_is
+    (received_close c.args.self.now c.args.log.now c.args.lane c.args.now c.args.frame.now bytes _ _ (rw c.in-Ok-Closed.field-0-is at c.in-Ok-Closed.ensures.verdict) c.advance-in-Ok-Closed.ensures c.in_ok-push-in-Ok-Closed.ensures.ok).log_is
 
 pub returns-in_ok-push-in_default : goal.returns-in_ok-push-in_default
 returns-in_ok-push-in_default c =
     let bytes : AreBytes c.args.frame.now = record { small = λ i. (c.type_inv.frame i).fits } in
-    let is = received_refusal c.args.receiver.now c.args.log.now c.args.lane c.args.now c.args.frame.now bytes c.in-Err.refusal c.push-in_default.new.self c.in_default.not-Memory c.in-Err.ensures.verdict c.in_ok-push-in_default.ensures.ok in
+    let is = received_refusal c.args.self.now c.args.log.now c.args.lane c.args.now c.args.frame.now bytes c.in-Err.refusal c.push-in_default.new.self c.in_default.not-Memory c.in-Err.ensures.verdict c.in_ok-push-in_default.ensures.ok in
     record { receiver = is.receiver_is; log = is.log_is; unchanged = tt; unwritten = tt }
