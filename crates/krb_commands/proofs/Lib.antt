@@ -1,6 +1,8 @@
 pub mod LineLemmas
+pub mod LinesLemmas
 pub mod OutputLemmas
 pub mod Readings
+pub mod SealedLemmas
 pub mod ShowLemmas
 pub mod TextLemmas
 pub mod TimeText

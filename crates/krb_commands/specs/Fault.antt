@@ -1,10 +1,38 @@
--- The exit status of a run that ends with a fault: 2 where the input is at fault, else 4.
+-- What ends a run before its output is whole.
 use Rattle.std.specs.Prelude.{ℕ}
+use Rattle.krb_core.specs.declared.start.StartError.{StartError}
+use Rattle.krb_core.specs.declared.start.StartError.TheVariants as start
+use Rattle.krb_job.specs.declared.bad_input.BadInput.{BadInput}
+use Rattle.krb_job.specs.declared.bad_input.BadInput.TheVariants as bad
+use Rattle.krb_job.specs.declared.bad_input.JobError.{JobError}
+use Rattle.krb_job.specs.declared.bad_input.JobError.TheVariants as job
+use Rattle.krb_job.specs.declared.place.Place.TheVariants.{Plan}
 use Rattle.krb_commands.specs.declared.fault.Fault.{Fault}
-use Rattle.krb_commands.specs.declared.fault.Fault.TheVariants.{TooLong, Memory, Read, Write}
+use Rattle.krb_commands.specs.declared.fault.Fault.TheVariants as fault
 
+-- the exit status: 2 where the input is at fault, else 4
 abbrev pub fault_status : Fault → ℕ
-fault_status TooLong = 2
-fault_status Memory = 4
-fault_status Read = 4
-fault_status Write = 4
+fault_status fault.TooLong = 2
+fault_status (fault.BadInput b) = 2
+fault_status fault.Memory = 4
+fault_status fault.Read = 4
+fault_status fault.Write = 4
+
+-- the plan of a sender names what its frames don't have
+abbrev pub bad_plan : ℕ → BadInput
+bad_plan lane = bad.InSender lane Plan
+
+abbrev pub of_job : JobError → Fault
+of_job (job.Bad b) = fault.BadInput b
+of_job job.Memory = fault.Memory
+
+-- no sealer was wiped
+abbrev pub IsLive : StartError → Type 0
+IsLive start.Memory = Unit {0}
+IsLive (start.BadPlan lane) = Unit {0}
+IsLive (start.Wiped lane) = ⊥
+
+abbrev pub of_start : StartError → Fault
+of_start start.Memory = fault.Memory
+of_start (start.BadPlan lane) = fault.BadInput (bad_plan lane)
+of_start (start.Wiped lane) = fault.Memory

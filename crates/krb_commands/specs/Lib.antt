@@ -1,8 +1,10 @@
 pub mod Fault
 pub mod Input
+pub mod JobLines
 pub mod Lines
 pub mod Output
 pub mod Printed
 pub mod Reading
+pub mod Sealed
 pub mod Show
 pub mod Vectors

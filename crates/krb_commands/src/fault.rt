@@ -1,17 +1,22 @@
 //! What ends a run before its output is whole.
 ghost use Rattle.std.specs.Prelude.{◌≡◌};
 ghost use Rattle.krb_commands.specs.declared.fault.Fault.TheVariants.{Memory};
-ghost use Rattle.krb_commands.specs.Fault.{fault_status};
+ghost use Rattle.krb_commands.specs.Fault.{fault_status, of_job, of_start, IsLive};
 
+use krb_core::StartError;
+use krb_job::{BadInput, JobError, Place};
 use std::alloc::AllocError;
 use thiserror::Error;
 
 /// A fault of the program, shown as its one line on standard error.
 #[derive(Clone, Copy, Debug, PartialEq, Eq, Error)]
 pub enum Fault {
-    /// The input has more than [`LIMIT`](crate::input::LIMIT) bytes.
+    /// The input has more than [`LIMIT`](crate::LIMIT) bytes.
     #[error("krbrelay: bad input: input")]
     TooLong,
+    /// The first check of a job that fails.
+    #[error("krbrelay: bad input: {0}")]
+    BadInput(BadInput),
     /// An allocation was refused.
     #[error("krbrelay: out of memory")]
     Memory,
@@ -29,8 +34,23 @@ impl Fault {
         ensures { result ≡ fault_status self.now }
     {
         match self {
-            Fault::TooLong => 2,
+            Fault::TooLong | Fault::BadInput(_) => 2,
             Fault::Memory | Fault::Read | Fault::Write => 4,
+        }
+    }
+
+    /// Why senders that weren't wiped don't begin, as a fault: a bad plan is bad input.
+    pub(crate) fn of_start(error: StartError) -> Fault
+        requires { IsLive error }
+        ensures { result ≡ of_start error }
+    {
+        match error {
+            StartError::Memory => Fault::Memory,
+            StartError::BadPlan { lane } => Fault::BadInput(BadInput::InSender {
+                sender: lane as usize,
+                place: Place::Plan,
+            }),
+            StartError::Wiped { .. } => unreachable!(),
         }
     }
 }
@@ -40,5 +60,45 @@ impl From<AllocError> for Fault {
 
     fn from(_error: AllocError) -> Fault {
         Fault::Memory
+    }
+}
+
+impl From<JobError> for Fault {
+    ghost from_gives = { λ error fault. fault ≡ of_job error };
+
+    fn from(error: JobError) -> Fault {
+        match error {
+            JobError::Bad(bad) => Fault::BadInput(bad),
+            JobError::Memory => Fault::Memory,
+        }
+    }
+}
+
+#[cfg(test)]
+mod tests {
+    use super::*;
+    use std::test::Fail;
+
+    #[test]
+    fn each_fault_has_its_line_and_status(rt: HostRuntime) -> Result<(), Fail> {
+        let plan = BadInput::InSender {
+            sender: 1,
+            place: Place::Plan,
+        };
+        let toml = Fault::from(JobError::Bad(BadInput::Toml));
+        let faults = [
+            (Fault::TooLong, "krbrelay: bad input: input", 2),
+            (toml, "krbrelay: bad input: toml", 2),
+            (Fault::BadInput(plan), "krbrelay: bad input: sender 1: plan", 2),
+            (Fault::from(JobError::Memory), "krbrelay: out of memory", 4),
+            (Fault::Read, "krbrelay: read fault", 4),
+            (Fault::Write, "krbrelay: write fault", 4),
+        ];
+        for (fault, line, status) in faults {
+            let text = format!(in rt.alloc(); "{fault}")?;
+            assert_eq!(rt; text.as_str(), line);
+            assert_eq!(rt; fault.status(), status);
+        }
+        Ok(())
     }
 }

@@ -10,17 +10,21 @@
 
 mod fault;
 mod input;
+mod job_lines;
+mod line;
 mod lines;
 mod messages;
 mod output;
 mod published;
 mod reading;
+mod sealing;
 mod text;
 
 pub use fault::Fault;
 pub use input::{LIMIT, read_all};
 pub use messages::{one_reading, show};
 pub use published::vectors;
+pub use sealing::seal_job;
 
 #[cfg(test)]
 mod tests;

@@ -1,0 +1,34 @@
+-- The lines of a list of items.
+use Rattle.std.proofs.Common.{◌≡◌, ℕ, ◌+◌, ◌<◌, ◌≤◌, List, [], ◌∷◌, ◌++◌, length, map, take, drop, get_or, Option, refl, sym, ap, ◌∙◌, arith, append-nil}
+use Rattle.std.proofs.lemmas.List.{take_more, take_all, take-append-drop, map-append}
+use Rattle.std.proofs.lemmas.List.Folds.{concat-append}
+use Rattle.std.specs.List.{concat}
+use Rattle.std.specs.Io.KnownBytes.{Appends}
+use Rattle.std.proofs.KnownBytes.{Appends-trans}
+use Rattle.krb_commands.specs.Output.{AppendsPrefix}
+use Rattle.krb_commands.proofs.OutputLemmas.{AppendsPrefix-after}
+
+module _ {X : Type 0} (line : X → List ℕ) where
+  lines-append : (xs ys : List X) → concat (map line (xs ++ ys)) ≡ concat (map line xs) ++ concat (map line ys)
+  lines-append xs ys = ap concat (map-append line xs ys) ∙ concat-append (map line xs) (map line ys)
+
+  -- the lines so far, and the next
+  lines-more : (xs : List X) (i : ℕ) (x : X) → i < length xs → x ≡ get_or xs i x
+      → concat (map line (take (i + 1) xs)) ≡ concat (map line (take i xs)) ++ line x
+  lines-more xs i x lt is =
+      ap (λ l. concat (map line l)) (take_more xs i x lt) ∙ lines-append (take i xs) (get_or xs i x ∷ [])
+      ∙ ap (λ y. concat (map line (take i xs)) ++ (line y ++ [])) (sym is) ∙ ap (λ l. concat (map line (take i xs)) ++ l) (append-nil (line x))
+
+  lines-cut : (xs : List X) (n : ℕ) → concat (map line xs) ≡ concat (map line (take n xs)) ++ concat (map line (drop n xs))
+  lines-cut xs n = ap (λ l. concat (map line l)) (sym (take-append-drop n xs)) ∙ lines-append (take n xs) (drop n xs)
+
+  pub printed-more : (old then now : Option (List ℕ)) (xs : List X) (i : ℕ) (x : X) → i < length xs → x ≡ get_or xs i x
+      → Appends old then (concat (map line (take i xs))) → Appends then now (line x) → Appends old now (concat (map line (take (i + 1) xs)))
+  printed-more old then now xs i x lt is done next =
+      rw (lines-more xs i x lt is) (Appends-trans old then now (concat (map line (take i xs))) (line x) done next)
+
+  pub printed-part : (old then now : Option (List ℕ)) (xs : List X) (i : ℕ) (x : X) → i < length xs → x ≡ get_or xs i x
+      → Appends old then (concat (map line (take i xs))) → AppendsPrefix then now (line x) → AppendsPrefix old now (concat (map line xs))
+  printed-part old then now xs i x lt is done next =
+      AppendsPrefix-after old then now (concat (map line (take i xs))) (line x) (concat (map line xs)) done next
+      (concat (map line (drop (i + 1) xs))) (lines-cut xs (i + 1) ∙ ap (λ l. l ++ concat (map line (drop (i + 1) xs))) (lines-more xs i x lt is))

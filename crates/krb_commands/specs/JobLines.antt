@@ -1,0 +1,59 @@
+-- The lines that are printed for a job.
+use Rattle.std.specs.Prelude.{ℕ, ◌==◌, Bool, List, ◌++◌, length, map, codes, if◌then◌else◌}
+use Rattle.std.specs.List.{concat}
+use Rattle.std.specs.Fmt.{decimal}
+use Rattle.hex.specs.Hex.{encode_lower}
+use Rattle.krb_seal.specs.declared.refusal.Refusal.{Refusal}
+use Rattle.krb_seal.specs.Refusal.{code_of, name_of}
+use Rattle.krb_core.specs.declared.log.Event.{Event}
+use Rattle.krb_core.specs.declared.log.Event.TheVariants.{Text, Closed, Refused}
+use Rattle.krb_core.specs.declared.log.Entry.{Entry}
+use Rattle.krb_core.specs.declared.sending.Sent.{Sent}
+use Rattle.krb_core.specs.declared.sending.Ending.{Ending}
+use Rattle.krb_core.specs.declared.sending.Ending.TheVariants.{Done, LastNumber}
+use Rattle.krb_core.specs.Sender.{Source}
+use Rattle.krb_core.specs.Sending.{sealed_of}
+
+-- a frame that is put on the wire
+abbrev pub frame_line : List ℕ → List ℕ
+frame_line frame = encode_lower frame ++ codes "\n"
+
+abbrev pub frame_lines : List (List ℕ) → List ℕ
+frame_lines frames = concat (map frame_line frames)
+
+abbrev pub refusal_text : Refusal → List ℕ
+refusal_text refusal = codes "refused " ++ decimal (code_of refusal) ++ codes " " ++ name_of refusal
+
+-- what became of a frame
+abbrev pub event_text : Event → List ℕ
+event_text (Text text) = codes "text " ++ encode_lower text
+event_text Closed = codes "closed"
+event_text (Refused refusal) = refusal_text refusal
+
+abbrev pub entry_line : Entry → List ℕ
+entry_line entry = codes "lane " ++ decimal entry.lane ++ codes " " ++ event_text entry.event ++ codes "\n"
+
+abbrev pub entry_lines : List Entry → List ℕ
+entry_lines entries = concat (map entry_line entries)
+
+-- how much of a sender's texts is sealed
+abbrev pub ending_name : Ending → List ℕ
+ending_name Done = codes "DONE"
+ending_name LastNumber = codes "LAST_NUMBER"
+
+abbrev pub sent_text : Sent → List ℕ
+sent_text sent = codes "sent " ++ decimal sent.k ++ codes " of " ++ decimal sent.n ++ codes " " ++ ending_name sent.ending
+
+abbrev pub sent_line : Sent → List ℕ
+sent_line sent = sent_text sent ++ codes "\n"
+
+abbrev pub sent_of : Source → Sent
+sent_of source = record {
+  k = sealed_of source;
+  n = length source.texts;
+  ending = if sealed_of source == length source.texts then Done else LastNumber;
+}
+
+-- whether a lane's close was accepted, once it has ended
+abbrev pub state_name : Bool → List ℕ
+state_name closed = if closed then codes "CLOSED" else codes "TRUNCATED"

@@ -1,0 +1,79 @@
+//! The lines that are printed for a job.
+
+ghost use Rattle.std.specs.Prelude.{◌≡◌, ◌++◌, codes, IfOk};
+ghost use Rattle.std.specs.String.{string_bytes};
+ghost use Rattle.krb_commands.specs.JobLines as lines;
+
+use crate::line::Line;
+use krb_core::{Ending, Entry, Event, Sent};
+use krb_seal::Refusal;
+use std::alloc::{AllocError, Global};
+
+/// A frame is printed as its digits.
+impl Line for Vec<u8> {
+    ghost text = { λ frame. lines.frame_line frame.items };
+
+    fn line(&self, alloc: Global) -> Result<String, AllocError> {
+        let digits = hex::encode(alloc, self.as_slice())?;
+        format!(in alloc; "{digits}\n")
+    }
+}
+
+/// An entry of a log.
+impl Line for Entry {
+    ghost text = { λ entry. lines.entry_line entry };
+
+    fn line(&self, alloc: Global) -> Result<String, AllocError> {
+        let lane = self.lane;
+        let event = event_text(alloc, &self.event)?;
+        format!(in alloc; "lane {lane} {event}\n")
+    }
+}
+
+fn event_text(alloc: Global, event: &Event) -> Result<String, AllocError>
+    ensures { IfOk result (λ text. string_bytes text ≡ lines.event_text event.now) }
+{
+    match event {
+        Event::Text(text) => {
+            let digits = hex::encode(alloc, text.as_slice())?;
+            format!(in alloc; "text {digits}")
+        }
+        Event::Closed => String::from_str(alloc, "closed"),
+        Event::Refused(refusal) => refusal_text(alloc, refusal),
+    }
+}
+
+fn refusal_text(alloc: Global, refusal: &Refusal) -> Result<String, AllocError>
+    ensures { IfOk result (λ text. string_bytes text ≡ lines.refusal_text refusal.now) }
+{
+    let code = refusal.code();
+    let name = refusal.name();
+    format!(in alloc; "refused {code} {name}")
+}
+
+/// How much of a sender's texts is sealed.
+impl Line for Sent {
+    ghost text = { λ sent. lines.sent_line sent };
+
+    fn line(&self, alloc: Global) -> Result<String, AllocError> {
+        let text = sent_text(alloc, self)?;
+        format!(in alloc; "{text}\n")
+    }
+}
+
+fn sent_text(alloc: Global, sent: &Sent) -> Result<String, AllocError>
+    ensures { IfOk result (λ text. string_bytes text ≡ lines.sent_text sent.now) }
+{
+    let (k, n) = (sent.k, sent.n);
+    let ending = ending_name(sent.ending);
+    format!(in alloc; "sent {k} of {n} {ending}")
+}
+
+fn ending_name(ending: Ending) -> &'static str
+    ensures { result.now ≡ lines.ending_name ending }
+{
+    match ending {
+        Ending::Done => "DONE",
+        Ending::LastNumber => "LAST_NUMBER",
+    }
+}

@@ -1,0 +1,58 @@
+//! What is printed as one line.
+
+ghost use Rattle.std.specs.Prelude.{◌≡◌, ◌⊎◌, ℕ, List, map, IfOk, IfErr, OnOk, OnErr};
+ghost use Rattle.std.specs.List.{concat};
+ghost use Rattle.std.specs.Io.KnownBytes.{Appends};
+ghost use Rattle.std.specs.String.{string_bytes};
+ghost use Rattle.krb_commands.specs.Output.{AppendsPrefix};
+
+use crate::fault::Fault;
+use crate::output::write_all;
+use std::alloc::{AllocError, Global};
+use std::io::Write;
+
+/// Something that is printed as one line.
+pub(crate) trait Line {
+    /// The line, with its line feed.
+    ghost text: { Self → List ℕ };
+
+    /// The line, with its line feed.
+    fn line(&self, alloc: Global) -> Result<String, AllocError>
+        ensures { IfOk result (λ line. string_bytes line ≡ text self.now) };
+}
+
+/// Prints the lines of the items, in order.
+///
+/// After a fault a prefix of them is written.
+pub(crate) fn print_lines<L: Line, W: Write>(
+    alloc: Global,
+    items: &[L],
+    writer: &mut W,
+) -> Result<(), Fault>
+    ensures printed { OnOk result
+        (Appends (W.contents writer.old) (W.contents writer.new) (concat (map L.text items.now))) }
+    ensures prefix { OnErr result (AppendsPrefix
+        (W.contents writer.old) (W.contents writer.new) (concat (map L.text items.now))) }
+    ensures faults { IfErr result (λ fault. (fault ≡ Fault.Memory) ⊎ (fault ≡ Fault.Write)) }
+{
+    for item in items {
+        print_line(alloc, item, writer)?;
+    }
+    Ok(())
+}
+
+/// Prints the line of one item.
+pub(crate) fn print_line<L: Line, W: Write>(
+    alloc: Global,
+    item: &L,
+    writer: &mut W,
+) -> Result<(), Fault>
+    ensures printed { OnOk result
+        (Appends (W.contents writer.old) (W.contents writer.new) (L.text item.now)) }
+    ensures prefix { OnErr result
+        (AppendsPrefix (W.contents writer.old) (W.contents writer.new) (L.text item.now)) }
+    ensures faults { IfErr result (λ fault. (fault ≡ Fault.Memory) ⊎ (fault ≡ Fault.Write)) }
+{
+    let line = item.line(alloc)?;
+    write_all(writer, line.as_bytes())
+}

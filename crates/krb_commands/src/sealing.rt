@@ -1,0 +1,51 @@
+//! The command `seal`.
+
+ghost use Rattle.std.specs.Prelude.{◌≡◌, false, IfOk, IfErr, OnOk, OnErr};
+ghost use Rattle.std.specs.Io.KnownBytes.{Keeps};
+ghost use Rattle.krb_job.specs.declared.bad_input.BadInput.{BadInput};
+ghost use Rattle.krb_core.specs.Sending.{source_of, IsSender};
+ghost use Rattle.krb_core.specs.Start.{IsBad};
+ghost use Rattle.krb_commands.specs.Fault.{bad_plan};
+ghost use Rattle.krb_commands.specs.Sealed.{PrintsSealed, PrintsSealedPrefix};
+
+use crate::fault::Fault;
+use crate::line::{print_line, print_lines};
+use krb_core::{Sending, emit_sealed};
+use krb_seal::Sealer;
+use std::alloc::Global;
+use std::io::Write;
+
+/// Seals the texts of one sender and its close, and prints what its plan puts on the wire, one frame
+/// a line, and how much was sealed.
+///
+/// The sender is within its limits, and its sealer wasn't wiped. The answer is the exit status 0. A
+/// bad plan is bad input, and nothing is printed. After another fault a prefix is printed, or nothing.
+pub fn seal_job<S: Sealer, W: Write>(
+    alloc: Global,
+    sending: Sending<S>,
+    writer: &mut W,
+) -> Result<u8, Fault>
+    requires sender { IsSender (source_of S.state sending) }
+    requires live { (S.state sending.sealer).wiped ≡ false }
+    ensures printed { OnOk result (PrintsSealed
+        (source_of S.state sending) (W.contents writer.old) (W.contents writer.new)) }
+    ensures status { IfOk result (λ status. status ≡ 0) }
+
+    ensures bad_plan { (bad : BadInput) → result ≡ Err (Fault.BadInput bad)
+        → (bad ≡ bad_plan 0) × IsBad (source_of S.state sending) }
+    ensures bad_plan_prints_nothing { (bad : BadInput) → result ≡ Err (Fault.BadInput bad)
+        → Keeps (W.contents writer.old) (W.contents writer.new) }
+    ensures prefix { OnErr result (PrintsSealedPrefix
+        (source_of S.state sending) (W.contents writer.old) (W.contents writer.new)) }
+    ensures faults { IfErr result
+        (λ fault. (¬ (fault ≡ Fault.Read)) × (¬ (fault ≡ Fault.TooLong))) }
+{
+    let sent = sending.sent();
+    let wire = match emit_sealed(alloc, 0, sending) {
+        Ok(wire) => wire,
+        Err(error) => return Err(Fault::of_start(error)),
+    };
+    print_lines(alloc, wire.as_slice(), writer)?;
+    print_line(alloc, &sent, writer)?;
+    Ok(0)
+}
