@@ -1,5 +1,6 @@
 pub mod LineLemmas
 pub mod LinesLemmas
+pub mod OpenedLemmas
 pub mod OutputLemmas
 pub mod Readings
 pub mod SealedLemmas

@@ -39,9 +39,9 @@ priv_joined pvno msg_type etype kvno cipher = simp append_assoc refl
 pub refusal_joined : (code name : List ℕ) → codes "refused " ++ (code ++ (codes " " ++ name)) ≡ codes "refused " ++ code ++ codes " " ++ name
 refusal_joined code name = simp append_assoc refl
 
-pub entry_joined : (lane event : List ℕ)
+pub lane_joined : (lane event : List ℕ)
     → codes "lane " ++ (lane ++ (codes " " ++ (event ++ codes "\n"))) ≡ codes "lane " ++ lane ++ codes " " ++ event ++ codes "\n"
-entry_joined lane event = simp append_assoc refl
+lane_joined lane event = simp append_assoc refl
 
 pub sent_joined : (k n ending : List ℕ)
     → codes "sent " ++ (k ++ (codes " of " ++ (n ++ (codes " " ++ ending)))) ≡ codes "sent " ++ k ++ codes " of " ++ n ++ codes " " ++ ending

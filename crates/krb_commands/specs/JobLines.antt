@@ -8,6 +8,8 @@ use Rattle.krb_seal.specs.Refusal.{code_of, name_of}
 use Rattle.krb_core.specs.declared.log.Event.{Event}
 use Rattle.krb_core.specs.declared.log.Event.TheVariants.{Text, Closed, Refused}
 use Rattle.krb_core.specs.declared.log.Entry.{Entry}
+use Rattle.krb_core.specs.declared.log.Status.{Status}
+use Rattle.krb_core.specs.declared.log.Status.TheVariants as status
 use Rattle.krb_core.specs.declared.sending.Sent.{Sent}
 use Rattle.krb_core.specs.declared.sending.Ending.{Ending}
 use Rattle.krb_core.specs.declared.sending.Ending.TheVariants.{Done, LastNumber}
@@ -54,6 +56,15 @@ sent_of source = record {
   ending = if sealed_of source == length source.texts then Done else LastNumber;
 }
 
--- whether a lane's close was accepted, once it has ended
-abbrev pub state_name : Bool → List ℕ
-state_name closed = if closed then codes "CLOSED" else codes "TRUNCATED"
+-- whether the close of a lane that has ended was accepted
+abbrev pub state_name : Status → List ℕ
+state_name status.Closed = codes "CLOSED"
+state_name status.Truncated = codes "TRUNCATED"
+state_name status.Live = codes "TRUNCATED"
+
+abbrev pub state_line : ℕ → Status → List ℕ
+state_line lane state = codes "lane " ++ decimal lane ++ codes " " ++ state_name state ++ codes "\n"
+
+-- how far a lane has come when it has ended
+abbrev pub state_by : Bool → Status
+state_by closed = if closed then status.Closed else status.Truncated

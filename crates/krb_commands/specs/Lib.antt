@@ -2,6 +2,7 @@ pub mod Fault
 pub mod Input
 pub mod JobLines
 pub mod Lines
+pub mod Opened
 pub mod Output
 pub mod Printed
 pub mod Reading

@@ -3,9 +3,10 @@
 ghost use Rattle.std.specs.Prelude.{◌≡◌, ◌++◌, codes, IfOk};
 ghost use Rattle.std.specs.String.{string_bytes};
 ghost use Rattle.krb_commands.specs.JobLines as lines;
+ghost use Rattle.krb_commands.specs.Opened.{exit_status};
 
 use crate::line::Line;
-use krb_core::{Ending, Entry, Event, Sent};
+use krb_core::{Ending, Entry, Event, Sent, Status};
 use krb_seal::Refusal;
 use std::alloc::{AllocError, Global};
 
@@ -75,5 +76,40 @@ fn ending_name(ending: Ending) -> &'static str
     match ending {
         Ending::Done => "DONE",
         Ending::LastNumber => "LAST_NUMBER",
+    }
+}
+
+/// How a lane ended.
+#[derive(Drop)]
+pub(crate) struct StateLine {
+    pub(crate) lane: u32,
+    pub(crate) status: Status,
+}
+
+impl Line for StateLine {
+    ghost text = { λ state. lines.state_line state.lane state.status };
+
+    fn line(&self, alloc: Global) -> Result<String, AllocError> {
+        let (lane, name) = (self.lane, state_name(self.status));
+        format!(in alloc; "lane {lane} {name}\n")
+    }
+}
+
+fn state_name(status: Status) -> &'static str
+    ensures { result.now ≡ lines.state_name status }
+{
+    match status {
+        Status::Closed => "CLOSED",
+        Status::Truncated | Status::Live => "TRUNCATED",
+    }
+}
+
+/// The exit status: 0 where the close was accepted, else 3.
+pub(crate) fn exit_status(status: Status) -> u8
+    ensures { result ≡ exit_status status }
+{
+    match status {
+        Status::Closed => 0,
+        Status::Truncated | Status::Live => 3,
     }
 }

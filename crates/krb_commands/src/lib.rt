@@ -14,6 +14,7 @@ mod job_lines;
 mod line;
 mod lines;
 mod messages;
+mod opening;
 mod output;
 mod published;
 mod reading;
@@ -23,6 +24,7 @@ mod text;
 pub use fault::Fault;
 pub use input::{LIMIT, read_all};
 pub use messages::{one_reading, show};
+pub use opening::open_job;
 pub use published::vectors;
 pub use sealing::seal_job;
 

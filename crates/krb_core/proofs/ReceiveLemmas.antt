@@ -10,15 +10,20 @@ use Rattle.krb_core.specs.Log.{appended}
 use Rattle.krb_core.specs.LogState.{LogState}
 use Rattle.krb_core.specs.ReceiverState.{ReceiverState}
 use Rattle.krb_core.specs.Receiver.{IsAnswer, receiver_behind, advanced}
-use Rattle.krb_core.specs.Verdicts.{Verdict}
+use Rattle.krb_core.specs.Verdicts.{Verdict, IsVerdict}
 use Rattle.krb_core.specs.Track.{verdict_by, noted}
-use Rattle.krb_core.proofs.VerdictLemmas.{one_verdict, behind-nil}
+use Rattle.krb_core.proofs.VerdictLemmas.{one_verdict, right_verdict, behind-nil}
 
 -- an answer that isn't want of memory is the verdict
 pub answer_is : (receiver : ReceiverState) (now : ℕ) (frame : List ℕ) (v : Verdict) → AreBytes frame → (v ≡ Err Memory → ⊥) → IsAnswer receiver now frame v → v ≡ verdict_by receiver now frame
 unfolding verdict_by
 answer_is receiver now frame v bytes other (inl h) = absurd (other h)
 answer_is receiver now frame v bytes other (inr h) = one_verdict receiver.opener receiver.demand now frame v bytes h
+
+-- and it is a verdict
+pub verdict_is : (receiver : ReceiverState) (now : ℕ) (frame : List ℕ) → AreBytes frame → IsVerdict receiver.opener receiver.demand now frame (verdict_by receiver now frame)
+unfolding verdict_by
+verdict_is receiver now frame bytes = right_verdict receiver.opener receiver.demand now frame bytes
 
 -- what an answer leaves
 pub record IsReceived (receiver receiver-now : ReceiverState) (log log-now : LogState) (lane now : ℕ) (frame : List ℕ) : Type 0 where

@@ -1,9 +1,10 @@
 //! The receiver of a lane.
 
-ghost use Rattle.std.specs.Prelude.{◌≡◌, ◌+◌, ◌<◌, ◌≤◌, IfOk, OnOk, OnErr};
+ghost use Rattle.std.specs.Prelude.{◌≡◌, ◌+◌, ◌<◌, ◌≤◌, length, IfOk, OnOk, OnErr};
 ghost use Rattle.krb_base.specs.Limits.{last_number};
 ghost use Rattle.krb_core.specs.Record.{is_close};
-ghost use Rattle.krb_core.specs.Verdicts.{record_of};
+ghost use Rattle.krb_core.specs.Sender.{moment_at};
+ghost use Rattle.krb_core.specs.Verdicts.{IsVerdict, record_of};
 ghost use Rattle.krb_core.specs.Receiver.{first_demand, IsAnswer, receiver_behind, advanced};
 ghost use Rattle.krb_core.specs.Track.{verdict_by, noted, IsShut};
 
@@ -33,6 +34,16 @@ pub struct Receiving {
     pub receiver: Receiver,
     /// The moments, in order.
     pub nows: Vec<Moment>,
+}
+
+impl Receiving {
+    /// The moment at which the frame of this place is taken: the last one serves all later places.
+    pub fn moment_at(&self, place: usize) -> Moment
+        requires { 0 < length self.now.nows.items }
+        ensures { result ≡ moment_at self.now.nows.items place }
+    {
+        self.nows[place.min(self.nows.len() - 1)]
+    }
 }
 
 impl Model for Receiver {
@@ -103,6 +114,8 @@ impl Receiver {
     ) -> Result<(), AllocError>
         requires lane { lane < log.old.lanes }
         requires shut { IsShut log.old lane self.old }
+        ensures verdict { OnOk result (IsVerdict self.old.opener self.old.demand now frame.now
+            (verdict_by self.old now frame.now)) }
         ensures receiver { OnOk result
             (self.new ≡ receiver_behind self.old (verdict_by self.old now frame.now)) }
         ensures log { OnOk result

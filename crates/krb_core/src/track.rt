@@ -4,14 +4,12 @@
 ghost use Rattle.std.specs.Prelude.{◌≡◌, ◌↔◌, ◌<◌, length, false, OnOk, OnErr, IfOk};
 ghost use Rattle.krb_base.specs.Lane.{Take, has_end, is_possible};
 ghost use Rattle.krb_core.specs.Plan.{contents};
-ghost use Rattle.krb_core.specs.Sender.{moment_at};
 ghost use Rattle.krb_core.specs.Start.{fresh};
 ghost use Rattle.krb_core.specs.Track.{next_send, after_send, after_take, log_after, IsShut};
 
 use crate::log::Log;
 use crate::receiver::Receiving;
 use crate::turn::Did;
-use krb_der::Moment;
 use std::alloc::{AllocError, Global};
 use std::marker::Model;
 
@@ -100,7 +98,7 @@ impl Track {
         }
         match self.wire.get(self.taken) {
             Some(frame) => {
-                let now = moment_at(self.receiving.nows.as_slice(), self.taken);
+                let now = self.receiving.moment_at(self.taken);
                 let receiver = &mut self.receiving.receiver;
                 receiver.take_into(log, alloc, lane, frame.as_slice(), now)?;
             }
@@ -116,12 +114,4 @@ impl Track {
     {
         self.taken > self.wire.len()
     }
-}
-
-/// The moment of a place: the last one serves all later places.
-fn moment_at(moments: &[Moment], place: usize) -> Moment
-    requires { 0 < length moments.now }
-    ensures { result ≡ moment_at moments.now place }
-{
-    moments[place.min(moments.len() - 1)]
 }

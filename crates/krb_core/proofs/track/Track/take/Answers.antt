@@ -19,11 +19,9 @@ returns-clause-after c =
           let frame = w.in-Some.frame.now in
           let at : slice_get wire old.taken ≡ Some frame.items =
           wire_frame old.wire.items old.taken frame (rw c.deref.ensures.value at w.in-Some.ensures.lookup.3.0) (rw c.deref.ensures.value at w.in-Some.ensures.lookup.1) in
-          let moment : w.moment_at-now.result ≡ moment_at old.receiving.nows.items old.taken =
-          w.moment_at-now.ensures ∙ ap (λ l. moment_at l old.taken) w.as_slice.ensures.value in
           let is = take_frame wire old.capacity old.sent old.taken old.receiving.receiver old.receiving.nows.items c.args.log.now w.take_into.new.log c.args.lane frame.items w.take_into.new.self places queued at
-          (rw (moment, w.as_slice-in-Some.ensures.value) at w.in_ok-take_into-in-Some.ensures.receiver)
-          (rw (moment, w.as_slice-in-Some.ensures.value) at w.in_ok-take_into-in-Some.ensures.log) in
+          (rw (w.moment_at-now.ensures, w.as_slice.ensures.value) at w.in_ok-take_into-in-Some.ensures.receiver)
+          (rw (w.moment_at-now.ensures, w.as_slice.ensures.value) at w.in_ok-take_into-in-Some.ensures.log) in
           let P : TrackState → Type 0 = λ t. track_at wire old.capacity old.sent (old.taken + 1) w.take_into.new.self old.receiving.nows.items ≡ after_take t in
           rw w.self-inside-is (subst P c.self.view_is is.after)
       | in-None w ↦
@@ -45,11 +43,9 @@ returns-clause-log c =
           let frame = w.in-Some.frame.now in
           let at : slice_get wire old.taken ≡ Some frame.items =
           wire_frame old.wire.items old.taken frame (rw c.deref.ensures.value at w.in-Some.ensures.lookup.3.0) (rw c.deref.ensures.value at w.in-Some.ensures.lookup.1) in
-          let moment : w.moment_at-now.result ≡ moment_at old.receiving.nows.items old.taken =
-          w.moment_at-now.ensures ∙ ap (λ l. moment_at l old.taken) w.as_slice.ensures.value in
           let is = take_frame wire old.capacity old.sent old.taken old.receiving.receiver old.receiving.nows.items c.args.log.now w.take_into.new.log c.args.lane frame.items w.take_into.new.self places queued at
-          (rw (moment, w.as_slice-in-Some.ensures.value) at w.in_ok-take_into-in-Some.ensures.receiver)
-          (rw (moment, w.as_slice-in-Some.ensures.value) at w.in_ok-take_into-in-Some.ensures.log) in
+          (rw (w.moment_at-now.ensures, w.as_slice.ensures.value) at w.in_ok-take_into-in-Some.ensures.receiver)
+          (rw (w.moment_at-now.ensures, w.as_slice.ensures.value) at w.in_ok-take_into-in-Some.ensures.log) in
           let P : TrackState → Type 0 = λ t. w.take_into.new.log ≡ log_after c.args.log.now c.args.lane t in
           w.log-is ∙ subst P c.self.view_is is.log_is
       | in-None w ↦

@@ -1,0 +1,60 @@
+-- What `open` prints.
+use Rattle.std.specs.Prelude.{◌≡◌, ◌⊎◌, ℕ, List, ◌++◌, length, map, take, Option, Result, OnOk}
+use Rattle.std.specs.Io.KnownBytes.{Appends}
+use Rattle.krb_core.specs.declared.log.Entry.{Entry}
+use Rattle.krb_core.specs.declared.log.Event.{Event}
+use Rattle.krb_core.specs.declared.log.Status.{Status}
+use Rattle.krb_core.specs.declared.log.Status.TheVariants as status
+use Rattle.krb_core.specs.Log.{new_log, has_closed}
+use Rattle.krb_core.specs.LogState.{LogState}
+use Rattle.krb_core.specs.ReceiverState.{ReceiverState}
+use Rattle.krb_core.specs.Verdicts.{Verdict, AreVerdicts, events_of}
+use Rattle.krb_commands.specs.JobLines.{entry_lines, state_line, state_by}
+use Rattle.krb_commands.specs.Output.{AppendsPrefix}
+
+-- events of one lane, as entries of a log
+abbrev pub entries_for : ℕ → List Event → List Entry
+entries_for lane events = map (λ event. record { lane = lane; event = event }) events
+
+-- the verdicts on the frames, in order; the first is taken at place 0
+abbrev pub AreOpened : ReceiverState → List ℕ → List (List ℕ) → List Verdict → Type 0
+AreOpened receiver nows frames verdicts = AreVerdicts receiver.opener nows receiver.demand 0 frames verdicts
+
+abbrev pub opened_lines : List Verdict → List ℕ
+opened_lines verdicts = entry_lines (entries_for 0 (events_of verdicts))
+
+-- what became of each frame, one a line, and whether the close was accepted
+abbrev pub opened_text : List Verdict → List ℕ
+opened_text verdicts = opened_lines verdicts ++ state_line 0 (state_by (has_closed (events_of verdicts)))
+
+-- 0 where the close was accepted, else 3
+abbrev pub exit_status : Status → ℕ
+exit_status status.Closed = 0
+exit_status status.Truncated = 3
+exit_status status.Live = 3
+
+abbrev pub opened_status : List Verdict → ℕ
+opened_status verdicts = exit_status (state_by (has_closed (events_of verdicts)))
+
+-- the verdicts on the frames are printed, and this is the status
+abbrev pub PrintsOpened : ReceiverState → List ℕ → List (List ℕ) → Option (List ℕ) → Option (List ℕ) → ℕ → Type 0
+PrintsOpened receiver nows frames old new status =
+    (verdicts : List Verdict) × AreOpened receiver nows frames verdicts
+    × Appends old new (opened_text verdicts) × (status ≡ opened_status verdicts)
+
+-- a prefix of that is printed, or of the lines of the first frames alone
+abbrev pub PrintsOpenedPrefix : ReceiverState → List ℕ → List (List ℕ) → Option (List ℕ) → Option (List ℕ) → Type 0
+PrintsOpenedPrefix receiver nows frames old new =
+    ((verdicts : List Verdict) × AreOpened receiver nows frames verdicts × AppendsPrefix old new (opened_text verdicts))
+    ⊎ ((n : ℕ) × (verdicts : List Verdict) × AreOpened receiver nows (take n frames) verdicts × AppendsPrefix old new (opened_lines verdicts))
+
+-- a log of one lane holds what became of the frames
+pub record HoldsFrames (receiver : ReceiverState) (nows : List ℕ) (frames : List (List ℕ)) (log : LogState) : Type 0 where
+  pub verdicts : List Verdict
+  pub opened : AreOpened receiver nows frames verdicts
+  pub entries : log ≡ record (new_log 1) { entries = entries_for 0 (events_of verdicts) }
+
+-- it holds that of the first frames, and of all where nothing failed
+abbrev pub LogsFrames : {A E : Type 0} → ReceiverState → List ℕ → List (List ℕ) → Result A E → LogState → Type 0
+LogsFrames receiver nows frames result log =
+    (n : ℕ) × HoldsFrames receiver nows (take n frames) log × OnOk result (n ≡ length frames)

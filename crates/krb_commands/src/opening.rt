@@ -1,0 +1,61 @@
+//! The command `open`.
+
+ghost use Rattle.std.specs.Prelude.{◌≡◌, ◌<◌, ◌⊎◌, length, IfOk, IfErr, OnErr};
+ghost use Rattle.krb_core.specs.Log.{new_log};
+ghost use Rattle.krb_commands.specs.Opened.{LogsFrames, PrintsOpened, PrintsOpenedPrefix};
+
+use crate::fault::Fault;
+use crate::job_lines::{StateLine, exit_status};
+use crate::line::{print_line, print_lines};
+use krb_base::Bytes;
+use krb_core::{Log, Receiving, Status};
+use std::alloc::{AllocError, Global};
+use std::io::Write;
+
+/// Gives the frames to a receiver, one after another, and prints what became of each, one a line, and
+/// whether the close was accepted.
+///
+/// There is at least one moment. The answer is the exit status: 0 where the close was accepted, else
+/// 3. After want of memory the lines of the frames until then are printed, and after a fault of
+/// printing a prefix.
+pub fn open_job<W: Write>(
+    alloc: Global,
+    receiving: Receiving,
+    frames: &[Bytes],
+    writer: &mut W,
+) -> Result<u8, Fault>
+    requires { 0 < length receiving.nows.items }
+    ensures printed { IfOk result (PrintsOpened receiving.receiver receiving.nows.items frames.now
+        (W.contents writer.old) (W.contents writer.new)) }
+    ensures prefix { OnErr result (PrintsOpenedPrefix receiving.receiver receiving.nows.items
+        frames.now (W.contents writer.old) (W.contents writer.new)) }
+    ensures faults { IfErr result (λ fault. (fault ≡ Fault.Memory) ⊎ (fault ≡ Fault.Write)) }
+{
+    let mut log = Log::new(alloc, 1);
+    let outcome = take_all(alloc, receiving, frames, &mut log);
+    print_lines(alloc, log.entries(), writer)?;
+    outcome?;
+    log.end(0);
+    let status = log.status(0);
+    print_line(alloc, &StateLine { lane: 0, status }, writer)?;
+    Ok(exit_status(status))
+}
+
+/// Gives each frame to the receiver at the moment of its place, and what became of it to a new log.
+fn take_all(
+    alloc: Global,
+    mut receiving: Receiving,
+    frames: &[Bytes],
+    log: &mut Log,
+) -> Result<(), AllocError>
+    requires moments { 0 < length receiving.nows.items }
+    requires log { log.old ≡ new_log 1 }
+    ensures { LogsFrames receiving.receiver receiving.nows.items frames.now result log.new }
+{
+    for (place, frame) in frames.iter().enumerate() {
+        let now = receiving.moment_at(place);
+        let receiver = &mut receiving.receiver;
+        receiver.take_into(log, alloc, 0, frame.as_slice(), now)?;
+    }
+    Ok(())
+}
