@@ -1,12 +1,15 @@
 -- What a log of one lane holds of the frames that its receiver took.
-use Rattle.std.proofs.Common.{◌≡◌, ℕ, zero, suc, ◌+◌, ◌-◌, ◌<◌, ◌≤◌, ◌||◌, min, cond, Bool, true, false, List, [], ◌∷◌, ◌++◌, length, map, take, drop, get_or, slice_get, Some, Option, Result, Ok, Err, OnOk, refl, sym, ap, ap₂, subst, ◌∙◌, arith, append-nil, append_assoc, inl, inr}
-use Rattle.std.specs.List.{flat_map, list_any}
+use Rattle.std.proofs.Common.{◌≡◌, ℕ, zero, suc, ◌+◌, ◌-◌, ◌<◌, ◌≤◌, ◌||◌, min, cond, Bool, true, false, List, [], ◌∷◌, ◌++◌, length, map, take, drop, get_or, slice_get, Some, Option, Result, Ok, Err, OnOk, refl, sym, ap, ap₂, subst, ◌∙◌, arith, append-nil, append_assoc, length-take-le, inl, inr}
+use Rattle.std.specs.Io.KnownBytes.{Appends}
+use Rattle.std.proofs.KnownBytes.{Appends-trans}
+use Rattle.std.specs.List.{concat, flat_map, list_any}
 use Rattle.std.proofs.lemmas.List.{take_more, take_all, map-append}
 use Rattle.krb_core.specs.declared.delivery.Delivery.TheVariants as deliveries
 use Rattle.krb_core.specs.declared.log.Entry.{Entry}
 use Rattle.krb_core.specs.declared.log.Event.{Event}
+use Rattle.krb_core.specs.declared.log.Status.{Status}
 use Rattle.krb_core.specs.declared.log.Event.TheVariants.{Text, Closed, Refused}
-use Rattle.krb_core.specs.Log.{events_of as events_in, has_closed, is_closed, new_log}
+use Rattle.krb_core.specs.Log.{events_of as events_in, has_closed, is_closed, new_log, status_of, ended_at}
 use Rattle.krb_core.specs.LogState.{LogState}
 use Rattle.krb_core.specs.Record.{is_close}
 use Rattle.krb_core.specs.Receiver.{receiver_behind}
@@ -15,7 +18,10 @@ use Rattle.krb_core.specs.Sender.{moment_at}
 use Rattle.krb_core.specs.Track.{verdict_by, noted, entries_by, IsShut}
 use Rattle.krb_core.specs.Verdicts.{Verdict, AreVerdicts, IsVerdict, events_by, events_of, records_of, accepted_by, behind}
 use Rattle.krb_core.proofs.VerdictLemmas.{AreVerdicts-push, behind-nil, behind-append}
-use Rattle.krb_commands.specs.Opened.{entries_for, AreOpened, HoldsFrames, LogsFrames}
+use Rattle.krb_commands.specs.JobLines.{entry_line, state_line, state_by}
+use Rattle.krb_commands.specs.Output.{AppendsPrefix}
+use Rattle.krb_commands.specs.Opened.{entries_for, AreOpened, opened_lines, opened_text, exit_status, PrintsOpened, PrintsOpenedPrefix, HoldsFrames, LogsFrames}
+use Rattle.krb_commands.proofs.OutputLemmas.{AppendsPrefix-after}
 
 -- the events of verdicts, joined
 pub events_of-append : (xs ys : List Verdict) → events_of (xs ++ ys) ≡ events_of xs ++ events_of ys
@@ -126,3 +132,62 @@ opened_next start nows frames place receiver log h frame now receiver-now log-no
     let count : place ≡ length (take place frames) = sym (length-take-le place frames (omega arith)) in
     subst P (ap (λ f. take place frames ++ f ∷ []) is ∙ sym (take_more frames place frame lt))
     (opened_more start nows (take place frames) receiver log h frame now receiver-now log-now right (at ∙ ap (moment_at nows) count) r l)
+
+-- ---- what is printed of it
+
+whole : (old now : Option (List ℕ)) (text : List ℕ) → Appends old now text → AppendsPrefix old now text
+whole old now text h = (text, h, ([], sym (append-nil text)))
+
+lines_are : (vs : List Verdict) (log : LogState) → log ≡ log_of (events_of vs) → concat (map entry_line log.entries) ≡ opened_lines vs
+lines_are vs log is = ap (λ l. concat (map entry_line l.entries)) is
+
+-- how the lane has come to its end
+pub state_is : (vs : List Verdict) (log : LogState) → log ≡ log_of (events_of vs) → status_of (ended_at log 0) 0 ≡ state_by (has_closed (events_of vs))
+state_is vs log is =
+    ap (λ l. status_of (ended_at l 0) 0) is
+    ∙ ap (λ e. state_by (has_closed e)) (events_in-entries (events_of vs))
+
+module _ {A E : Type 0} (start : ReceiverState) (nows : List ℕ) (frames : List (List ℕ)) (outcome : Result A E) (log : LogState) (h : LogsFrames start nows frames outcome log) (old then now : Option (List ℕ)) where
+  -- the entries so far, or a prefix of them
+  pub prefix_of_entries : AppendsPrefix old now (concat (map entry_line log.entries)) → PrintsOpenedPrefix start nows frames old now
+  prefix_of_entries p =
+      let P : List ℕ → Type 0 = λ l. AppendsPrefix old now l in
+      inr (h.0, h.1.verdicts, h.1.opened, subst P (lines_are h.1.verdicts log h.1.entries) p)
+
+  pub entries_alone : Appends old now (concat (map entry_line log.entries)) → PrintsOpenedPrefix start nows frames old now
+  entries_alone p = prefix_of_entries (whole old now (concat (map entry_line log.entries)) p)
+
+  module _ (ok : h.0 ≡ length frames) where
+    all_opened : AreOpened start nows frames h.1.verdicts
+    all_opened =
+        let P : List (List ℕ) → Type 0 = λ l. AreOpened start nows l h.1.verdicts in
+        let long : length frames ≤ h.0 = omega (arith, ok) in
+        subst P (take_all h.0 frames long) h.1.opened
+
+    entries_first : Appends old then (concat (map entry_line log.entries)) → Appends old then (opened_lines h.1.verdicts)
+    entries_first p = let P : List ℕ → Type 0 = λ l. Appends old then l in subst P (lines_are h.1.verdicts log h.1.entries) p
+
+    state_last : (status : Status) → status ≡ status_of (ended_at log 0) 0 → opened_lines h.1.verdicts ++ state_line 0 status ≡ opened_text h.1.verdicts
+    state_last status is = ap (λ s. opened_lines h.1.verdicts ++ state_line 0 s) (is ∙ state_is h.1.verdicts log h.1.entries)
+
+    -- and the state, or a prefix of it
+    pub prefix_of_state : Appends old then (concat (map entry_line log.entries)) → (status : Status) → status ≡ status_of (ended_at log 0) 0
+        → AppendsPrefix then now (state_line 0 status) → PrintsOpenedPrefix start nows frames old now
+    prefix_of_state p status is q =
+        inl (h.1.verdicts, all_opened, AppendsPrefix-after old then now (opened_lines h.1.verdicts) (state_line 0 status) (opened_text h.1.verdicts) (entries_first p) q
+        [] (sym (append-nil (opened_lines h.1.verdicts ++ state_line 0 status) ∙ state_last status is)))
+
+    pub all_printed : Appends old then (concat (map entry_line log.entries)) → (status : Status) → status ≡ status_of (ended_at log 0) 0
+        → Appends then now (state_line 0 status) → (code : ℕ) → code ≡ exit_status status → PrintsOpened start nows frames old now code
+    all_printed p status is q code code_is =
+        let P : List ℕ → Type 0 = λ l. Appends old now l in (
+          h.1.verdicts,
+          all_opened,
+          subst P (state_last status is) (Appends-trans old then now (opened_lines h.1.verdicts) (state_line 0 status) (entries_first p) q),
+          code_is ∙ ap exit_status (is ∙ state_is h.1.verdicts log h.1.entries),
+        )
+
+-- nothing failed
+pub took_all : {A E : Type 0} (start : ReceiverState) (nows : List ℕ) (frames : List (List ℕ)) (outcome : Result A E) (log : LogState) (h : LogsFrames start nows frames outcome log) (a : A)
+    → outcome ≡ Ok a → h.0 ≡ length frames
+took_all {A = A} {E = E} start nows frames outcome log h a is = let P : Result A E → Type 0 = λ r. OnOk r (h.0 ≡ length frames) in subst P is h.2

@@ -1,20 +1,26 @@
-use Rattle.std.proofs.Common.{rules, ◌≡◌, ◌<◌, ◌⊎◌, length, IfOk, IfErr, OnErr, ℕ, ◌+◌, ◌-◌, ◌*◌, ◌≤◌, ◌/◌, ◌%◌, Bool, true, false, nat_eq, nat_lt, List, [], ◌∷◌, ◌++◌, slice_index_or, slice_set, bit_and, bit_or, Fits, w8, w32, w64, Bor, MutBor}
-use Rattle.krb_core.specs.Log.{new_log}
-use Rattle.krb_commands.specs.Opened.{LogsFrames, PrintsOpened, PrintsOpenedPrefix}
+use Rattle.krb_commands.proofs.OpenedLemmas.{prefix_of_entries, entries_alone, prefix_of_state, all_printed, took_all}
+use Rattle.krb_commands.proofs.ShowLemmas.{on_err}
 use Rattle.krb_commands.proofs.opening.open_job.Goals as goal
 
--- src/opening.rt:36:5
 pub returns-in_err-print_lines-clause-prefix : goal.returns-in_err-print_lines-clause-prefix
-returns-in_err-print_lines-clause-prefix g c = ?
+returns-in_err-print_lines-clause-prefix g c =
+    on_err _ c.from_residual.result
+    (prefix_of_entries _ _ _ _ _ c.take_all-outcome.ensures _ (g.W.Write.contents c.args.writer.now) _ (rw c.entries.ensures at c.in_err-print_lines.ensures.prefix))
 
--- src/opening.rt:37:5
 pub returns-in_err-outcome-clause-prefix : goal.returns-in_err-outcome-clause-prefix
-returns-in_err-outcome-clause-prefix g c = ?
+returns-in_err-outcome-clause-prefix g c =
+    on_err _ c.from_residual-in_err-outcome.result
+    (entries_alone _ _ _ _ _ c.take_all-outcome.ensures _ (g.W.Write.contents c.args.writer.now) _ (rw c.entries.ensures at c.in_ok-print_lines.ensures.printed))
 
--- src/opening.rt:40:5
 pub returns-in_err-print_line-clause-prefix : goal.returns-in_err-print_line-clause-prefix
-returns-in_err-print_line-clause-prefix g c = ?
+returns-in_err-print_line-clause-prefix g c =
+    let all = took_all _ _ _ _ _ c.take_all-outcome.ensures _ c.in_ok-outcome.was in
+    on_err _ c.from_residual-in_err-print_line.result
+    (prefix_of_state _ _ _ _ _ c.take_all-outcome.ensures _ _ _ all (rw c.entries.ensures at c.in_ok-print_lines.ensures.printed)
+    c.status-status.result (rw c.end.ensures at c.status-status.ensures) c.in_err-print_line.ensures.prefix)
 
--- src/opening.rt:21:1
 pub returns-clause-printed : goal.returns-clause-printed
-returns-clause-printed g c = ?
+returns-clause-printed g c =
+    let all = took_all _ _ _ _ _ c.take_all-outcome.ensures _ c.in_ok-outcome.was in
+    all_printed _ _ _ _ _ c.take_all-outcome.ensures _ _ _ all (rw c.entries.ensures at c.in_ok-print_lines.ensures.printed)
+    c.status-status.result (rw c.end.ensures at c.status-status.ensures) c.in_ok-print_line.ensures.printed _ c.exit_status.ensures

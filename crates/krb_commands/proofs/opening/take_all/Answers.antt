@@ -1,11 +1,19 @@
-use Rattle.krb_commands.proofs.OpenedLemmas.{opened_none, opened_shut, opened_lanes, opened_next}
+use Rattle.std.proofs.Common.{refl, ap, ◌∙◌}
+use Rattle.krb_core.specs.Sender.{moment_at}
+use Rattle.krb_commands.proofs.OpenedLemmas.{opened_none, opened_shut, opened_next}
 use Rattle.krb_commands.proofs.opening.take_all.Goals as goal
 
 pub loop-place-init : goal.loop-place-init
-loop-place-init c = ?
+loop-place-init c = (opened_none _ _ _ c.requires.log, refl)
 
 pub take_into-requires-clause-shut : goal.take_into-requires-clause-shut
 take_into-requires-clause-shut c = opened_shut _ _ _ _ _ c.loop-place.invariant.0
 
 pub loop-place-preserved : goal.loop-place-preserved
-loop-place-preserved c = ?
+loop-place-preserved c =
+    let took = rw (c.as_slice.ensures) at c.in_ok-take_into.ensures.receiver in
+    let noted = rw (c.as_slice.ensures) at c.in_ok-take_into.ensures.log in
+    let right = rw (c.as_slice.ensures) at c.in_ok-take_into.ensures.verdict in
+    let at = c.moment_at-now.ensures ∙ ap (λ v. moment_at v.items c.loop-place.place) c.loop-place.invariant.1 in
+    (opened_next _ _ c.args.frames.now c.loop-place.place _ _ c.loop-place.invariant.0 c.index-frames-place.result c.moment_at-now.result _ _
+    c.loop-place-test.true c.index-frames-place.is right at took noted, c.loop-place.invariant.1)
