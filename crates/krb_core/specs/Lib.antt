@@ -10,6 +10,7 @@ pub mod Draws
 pub mod Sender
 pub mod Verdicts
 pub mod Headline
+pub mod Undisturbed
 pub mod ReceiverState
 pub mod Receiver
 pub mod Sending
