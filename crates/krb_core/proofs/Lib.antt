@@ -7,6 +7,7 @@ pub mod LogLemmas
 pub mod DrawsLemmas
 pub mod VerdictLemmas
 pub mod HeadlineLemmas
+pub mod UndisturbedLemmas
 pub mod NumberLemmas
 pub mod ReceiverLemmas
 pub mod SendingLemmas

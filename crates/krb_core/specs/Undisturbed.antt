@@ -8,7 +8,8 @@ use Rattle.krb_core.specs.declared.plan.Emit.TheVariants.{Frame}
 use Rattle.krb_core.specs.Demand.{Demand}
 use Rattle.krb_core.specs.Plan.{wire}
 use Rattle.krb_core.specs.Sender.{Source, moment_at, records, AreFrames}
-use Rattle.krb_core.specs.Headline.{IsPaired}
+use Rattle.krb_core.specs.Verdicts.{Verdict}
+use Rattle.krb_core.specs.Headline.{IsPaired, IsRun}
 
 -- each of so many frames once: 0, 1, ..
 abbrev pub in_order : ℕ → List Emit
@@ -36,3 +37,10 @@ pub record TakesAll (source : Source) (took : List (List ℕ)) : Type 0 where
   pub frames : List (List ℕ)
   pub sealed : AreFrames source (records source) frames
   pub whole : took ≡ wire frames source.plan
+
+-- it holds of each run of an undisturbed lane
+abbrev pub OfUndisturbed : (Source → Demand → List (List ℕ) → List Verdict → Type 0) → Type 0
+OfUndisturbed Claim =
+    (source : Source) (opener : OpenerState) (start : Demand) (nows : List ℕ) (took : List (List ℕ)) (verdicts : List Verdict)
+    → Undisturbed source opener start nows → IsRun source opener start nows took verdicts
+    → Claim source start took verdicts

@@ -29,6 +29,7 @@ mod start;
 mod stepped;
 mod track;
 mod turn;
+mod undisturbed;
 
 pub use delivery::Delivery;
 pub use emission::emit;
@@ -44,6 +45,7 @@ pub use sending::{Ending, Sending, Sent};
 pub use start::StartError;
 pub use stepped::Stepped;
 pub use turn::{Did, Turn};
+pub use undisturbed::undisturbed_laws;
 
 #[cfg(test)]
 mod tests;
