@@ -15,3 +15,4 @@ pub mod TrackLemmas
 pub mod ReceiveLemmas
 pub mod SteppedLemmas
 pub mod StartLemmas
+pub mod RelayedLemmas

@@ -18,3 +18,4 @@ pub mod Track
 pub mod TrackPlaces
 pub mod Stepped
 pub mod Start
+pub mod Relayed
