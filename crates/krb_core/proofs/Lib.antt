@@ -16,3 +16,4 @@ pub mod ReceiveLemmas
 pub mod SteppedLemmas
 pub mod StartLemmas
 pub mod RelayedLemmas
+pub mod RelayedClaims

@@ -4,6 +4,7 @@ use Rattle.krb_base.specs.Prefix.{IsPrefix}
 use Rattle.krb_base.specs.Lane.{Item, Frame, End, empty, frames, has_end}
 use Rattle.krb_base.specs.Lane as machine
 use Rattle.krb_seal.specs.declared.refusal.Refusal.{Refusal}
+use Rattle.krb_core.specs.declared.log.Entry.{Entry}
 use Rattle.krb_core.specs.declared.log.Event.{Event}
 use Rattle.krb_core.specs.declared.log.Event.TheVariants.{Closed}
 use Rattle.krb_core.specs.declared.turn.Turn.{Turn}
@@ -66,6 +67,10 @@ taker_at turn (Some track) = taker_by turn track
 abbrev pub takers : Relay → List Turn → List ℕ
 takers relay [] = []
 takers relay (turn ∷ turns) = taker_at turn (slice_get relay.tracks (lane_of turn)) ++ takers (turned relay turn) turns
+
+-- the lanes of entries, in order
+abbrev pub lanes_in : List Entry → List ℕ
+lanes_in entries = map (λ entry. entry.lane) entries
 
 -- ---- what is so of each lane
 
