@@ -15,19 +15,21 @@ use Rattle.krb_core.specs.declared.log.Entry.{Entry}
 use Rattle.krb_core.specs.declared.log.Event.{Event}
 use Rattle.krb_core.specs.declared.turn.Turn.{Turn}
 use Rattle.krb_core.specs.declared.turn.Turn.TheVariants.{Send, Take}
-use Rattle.krb_core.specs.Log.{texts_in, has_closed}
+use Rattle.krb_core.specs.Log.{events_of, texts_in, has_closed}
 use Rattle.krb_core.specs.LogState.{LogState}
 use Rattle.krb_core.specs.Plan.{wire}
 use Rattle.krb_core.specs.Sender.{sealed_texts, AreFrames}
 use Rattle.krb_core.specs.Sender as sender
 use Rattle.krb_core.specs.Verdicts.{Verdict}
+use Rattle.krb_core.specs.Verdicts as verdict
 use Rattle.krb_core.specs.Headline.{IsRun}
 use Rattle.krb_core.specs.Undisturbed.{TakesAll}
 use Rattle.krb_core.specs.Track.{TrackState, entries_by, log_behind}
 use Rattle.krb_core.specs.TrackPlaces.{items_of}
 use Rattle.krb_core.specs.Start.{Ends, fresh}
 use Rattle.krb_core.specs.Stepped.{Relay, lane_of, event_of, track_behind, turned_at, turned, after}
-use Rattle.krb_core.specs.Relayed.{HasBegun, HasTurned, event_at, turned_events, taker_of, taker_at, takers, lanes_in, has_ended, IsLane, IsLogged, Headline, HasHeadline, OfEachLane, HaveHeadline}
+use Rattle.krb_core.specs.Relayed.{HasBegun, HasTurned, event_at, turned_events, taker_of, taker_at, takers, lanes_in, IsLane, OfEachLane, HaveHeadline, GoesOn, KeepsHeadline}
+use Rattle.krb_core.specs.Claims.{has_ended, Headline}
 use Rattle.krb_core.proofs.HeadlineLemmas.{records_prefix, delivered_prefix, delivered_whole, quiet_after, refuses, refusal_nothing}
 use Rattle.krb_core.proofs.UndisturbedLemmas.{all_texts}
 use Rattle.krb_core.proofs.TrackLemmas.{no_end}
@@ -131,6 +133,27 @@ order_after (turn ∷ turns) relay =
 
 -- ---- the claims
 
+pub headline_of : (ends : Ends) (lane : ℕ) (took : List (List ℕ)) (vs : List Verdict) (log : LogState)
+    → IsRun ends.source ends.receiver.opener ends.receiver.demand ends.nows took vs → events_of lane log.entries ≡ verdict.events_of vs
+    → (has_ended lane log ≡ true → TakesAll ends.source took) → Headline ends lane took vs log
+headline_of ends lane took vs log run entries takes_all =
+    let source = ends.source in
+    let opener = ends.receiver.opener in
+    let start = ends.receiver.demand in
+    record {
+      delivered_prefix = λ paired honest.
+          let P : List Event → Type 0 = λ es. IsPrefix (texts_in es) (sealed_texts source) in
+          subst P (sym entries) (delivered_prefix vs (sealed_texts source) (records_prefix source opener start ends.nows took vs paired run honest));
+      nothing_after_close = λ front back is. quiet_after opener ends.nows start 0 took vs run.judged front back (sym entries ∙ is);
+      all_where_closed = λ paired honest closed.
+          ap texts_in entries ∙ delivered_whole vs (sealed_texts source) (records_prefix source opener start ends.nows took vs paired run honest) (ap has_closed (sym entries) ∙ closed);
+      all_where_undisturbed = λ calm ended. ap texts_in entries ∙ all_texts source opener start ends.nows calm took vs run (takes_all ended);
+      refused_exactly = λ place frame refusal at. refuses opener ends.nows start took vs run.judged place frame refusal at;
+      refusals_deliver_nothing = λ front back refusal is.
+          let w = refusal_nothing start vs front back refusal is in
+          (ap texts_in entries ∙ w.0, w.1);
+    }
+
 module _ (ends : Ends) (lane : ℕ) (track : TrackState) (log : LogState) (h : Stands ends lane track log) where
   abbrev took : List (List ℕ)
   took = frames track.lane.got
@@ -178,27 +201,6 @@ module _ (ends : Ends) (lane : ℕ) (track : TrackState) (log : LogState) (h : S
         whole = ap frames whole ∙ (sent_frames ∙ (take_all n track.wire over ∙ h.emits.wire_is));
       }
 
-  claims_of : Headline ends lane took h.verdicts log
-  claims_of =
-      let source = ends.source in
-      let opener = ends.receiver.opener in
-      let start = ends.receiver.demand in
-      let vs = h.verdicts in
-      let entries = h.logged.entries in
-      record {
-        delivered_prefix = λ paired honest.
-            let P : List Event → Type 0 = λ es. IsPrefix (texts_in es) (sealed_texts source) in
-            subst P (sym entries) (delivered_prefix vs (sealed_texts source) (records_prefix source opener start ends.nows took vs paired run_of honest));
-        nothing_after_close = λ front back is. quiet_after opener ends.nows start 0 took vs h.logged.judged front back (sym entries ∙ is);
-        all_where_closed = λ paired honest closed.
-            ap texts_in entries ∙ delivered_whole vs (sealed_texts source) (records_prefix source opener start ends.nows took vs paired run_of honest) (ap has_closed (sym entries) ∙ closed);
-        all_where_undisturbed = λ calm ended. ap texts_in entries ∙ all_texts source opener start ends.nows calm took vs run_of (takes_all ended);
-        refused_exactly = λ place frame refusal at. refuses opener ends.nows start took vs h.logged.judged place frame refusal at;
-        refusals_deliver_nothing = λ front back refusal is.
-            let w = refusal_nothing start vs front back refusal is in
-            (ap texts_in entries ∙ w.0, w.1);
-      }
-
 -- ---- of a relay that was turned
 
 module _ (lanes : List Ends) (capacity : ℕ) (turns : List Turn) (relay : Relay) (h : HasTurned lanes capacity turns relay) where
@@ -216,7 +218,7 @@ module _ (lanes : List Ends) (capacity : ℕ) (turns : List Turn) (relay : Relay
             (track, is, record {
               verdicts = stands.verdicts;
               logged = stands.logged;
-              claims = claims_of ends lane track relay.log stands;
+              claims = headline_of ends lane (frames track.lane.got) stands.verdicts relay.log (run_of ends lane track relay.log stands) stands.logged.entries (takes_all ends lane track relay.log stands);
             })
       ]
 
@@ -262,9 +264,22 @@ pub after-append : (relay : Relay) (xs ys : List Turn) → after relay (xs ++ ys
 after-append relay [] ys = refl
 after-append relay (x ∷ xs) ys = after-append (turned relay x) xs ys
 
-pub turned_more : (lanes : List Ends) (capacity : ℕ) (before turns : List Turn) (relay now : Relay) → HasTurned lanes capacity before relay → now ≡ after relay turns → HasTurned lanes capacity (before ++ turns) now
-turned_more lanes capacity before turns relay now h is = record {
+-- these turns, behind all that were before
+pub goes_on : (old now : Relay) (turns : List Turn) → now ≡ after old turns → GoesOn old turns now
+goes_on old now turns is lanes capacity before h = record {
   begun = h.begun;
   start = h.start;
   left = is ∙ (ap (λ r. after r turns) h.left ∙ sym (after-append h.begun before turns));
 }
+
+pub keeps_headline : (old now : Relay) (turns : List Turn) → now ≡ after old turns → KeepsHeadline old now
+keeps_headline old now turns is lanes capacity before h = headline_holds lanes capacity (before ++ turns) now (goes_on old now turns is lanes capacity before h)
+
+-- of one turn, or of none where memory is wanting
+pub goes_on_by : {X E : Type 0} (r : Result X E) (old now : Relay) (turn : Turn) → OnOk r (now ≡ turned old turn) → OnOk r (GoesOn old (turn ∷ []) now)
+goes_on_by (Ok x) old now turn is = goes_on old now (turn ∷ []) is
+goes_on_by (Err e) old now turn is = tt
+
+pub keeps_headline_by : {X E : Type 0} (r : Result X E) (old now : Relay) (turn : Turn) → OnOk r (now ≡ turned old turn) → OnErr r (now ≡ old) → KeepsHeadline old now
+keeps_headline_by (Ok x) old now turn is same = keeps_headline old now (turn ∷ []) is
+keeps_headline_by (Err e) old now turn is same = keeps_headline old now [] same

@@ -28,7 +28,8 @@ use Rattle.krb_core.specs.Track.{TrackState, item_at, next_send, after_send, ver
 use Rattle.krb_core.specs.TrackPlaces.{items_of}
 use Rattle.krb_core.specs.Start.{Ends, IsWire, fresh, IsBegun, AreBegun}
 use Rattle.krb_core.specs.Stepped.{Relay, lane_of, event_of, track_behind, log_behind_turn, turned_at, turned, after}
-use Rattle.krb_core.specs.Relayed.{HasBegun, HasTurned, has_ended, IsLogged}
+use Rattle.krb_core.specs.Claims.{has_ended, IsLogged}
+use Rattle.krb_core.specs.Relayed.{HasBegun, HasTurned}
 use Rattle.krb_core.proofs.ListLemmas.{both_true}
 use Rattle.krb_core.proofs.VerdictLemmas.{right_verdict, behind-nil, behind-append, AreVerdicts-push}
 use Rattle.krb_core.proofs.TrackLemmas.{take-item, with_end}

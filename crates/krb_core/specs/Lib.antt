@@ -18,4 +18,5 @@ pub mod Track
 pub mod TrackPlaces
 pub mod Stepped
 pub mod Start
+pub mod Claims
 pub mod Relayed
