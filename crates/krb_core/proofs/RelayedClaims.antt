@@ -1,6 +1,6 @@
 -- What is claimed of each lane of a relay that was turned.
-use Rattle.std.proofs.Common.{◌≡◌, ◌≢◌, ◌↔◌, ℕ, zero, suc, ◌+◌, ◌≤◌, ◌<◌, ◌⊎◌, Bool, true, false, List, [], ◌∷◌, ◌++◌, length, map, set, take, drop, slice_get, Option, Some, None, Result, Ok, Err, inl, inr, refl, sym, ap, ap₂, subst, ◌∙◌, arith, append_assoc, append-nil}
-use Rattle.std.specs.Prelude.{OnOk, OnErr, IfOk}
+use Rattle.std.proofs.Common.{◌≡◌, ◌≢◌, ℕ, zero, suc, ◌≤◌, ◌<◌, true, false, List, [], ◌∷◌, ◌++◌, length, set, take, drop, slice_get, Option, Some, None, Result, Ok, Err, inl, inr, refl, sym, ap, subst, ◌∙◌, arith, append_assoc, append-nil}
+use Rattle.std.specs.Prelude.{OnOk, OnErr}
 use Rattle.std.proofs.lemmas.List.{map-append, take_all, take-append-drop}
 use Rattle.std.proofs.Math.Seq.{take-append_seam}
 use Rattle.std.proofs.lemmas.Bool.Decides.{leb_tells, eqb_tells}
@@ -17,7 +17,6 @@ use Rattle.krb_core.specs.declared.turn.Turn.{Turn}
 use Rattle.krb_core.specs.declared.turn.Turn.TheVariants.{Send, Take}
 use Rattle.krb_core.specs.Log.{events_of, texts_in, has_closed}
 use Rattle.krb_core.specs.LogState.{LogState}
-use Rattle.krb_core.specs.Plan.{wire}
 use Rattle.krb_core.specs.Sender.{sealed_texts, AreFrames}
 use Rattle.krb_core.specs.Sender as sender
 use Rattle.krb_core.specs.Verdicts.{Verdict}
@@ -26,14 +25,13 @@ use Rattle.krb_core.specs.Headline.{IsRun}
 use Rattle.krb_core.specs.Undisturbed.{TakesAll}
 use Rattle.krb_core.specs.Track.{TrackState, entries_by, log_behind}
 use Rattle.krb_core.specs.TrackPlaces.{items_of}
-use Rattle.krb_core.specs.Start.{Ends, fresh}
+use Rattle.krb_core.specs.Start.{Ends}
 use Rattle.krb_core.specs.Stepped.{Relay, lane_of, event_of, track_behind, turned_at, turned, after}
 use Rattle.krb_core.specs.Relayed.{HasBegun, HasTurned, event_at, turned_events, taker_of, taker_at, takers, lanes_in, IsLane, OfEachLane, HaveHeadline, GoesOn, KeepsHeadline}
 use Rattle.krb_core.specs.Claims.{has_ended, Headline}
 use Rattle.krb_core.proofs.HeadlineLemmas.{records_prefix, delivered_prefix, delivered_whole, quiet_after, refuses, refusal_nothing}
 use Rattle.krb_core.proofs.UndisturbedLemmas.{all_texts}
 use Rattle.krb_core.proofs.TrackLemmas.{no_end}
-use Rattle.krb_core.proofs.SteppedLemmas.{after-push}
 use Rattle.krb_core.proofs.RelayedLemmas.{frames-take, Stands, stand_all, stand_begun, begun_at}
 
 -- ---- the lane's state by the events of its turns
@@ -82,10 +80,10 @@ left_at relay turn (Some old) lane track at is =
             left = behind_lane turn old ∙ ap (λ (l : Lane (List ℕ)). after_event l (event_of turn old)) (ap (λ (t : TrackState). t.lane) same-t);
           })
       | inr apart ↦ rw apart.0 (record {
-          track = track;
-          at = get_set_other relay.tracks (lane_of turn) lane (track_behind turn old) apart.1 ∙ is;
-          left = refl;
-        })
+        track = track;
+        at = get_set_other relay.tracks (lane_of turn) lane (track_behind turn old) apart.1 ∙ is;
+        left = refl;
+      })
     ]
 
 left_after : (turns : List Turn) (relay : Relay) (lane : ℕ) (track : TrackState) → slice_get relay.tracks lane ≡ Some track
@@ -214,12 +212,15 @@ module _ (lanes : List Ends) (capacity : ℕ) (turns : List Turn) (relay : Relay
   headline_holds lane ends at =
       elim (found_track lane ends at) [
         | here track is ↦
-            let stands = (stand_all lanes capacity turns relay h).each lane ends track at is in
-            (track, is, record {
-              verdicts = stands.verdicts;
-              logged = stands.logged;
-              claims = headline_of ends lane (frames track.lane.got) stands.verdicts relay.log (run_of ends lane track relay.log stands) stands.logged.entries (takes_all ends lane track relay.log stands);
-            })
+            let stands = (stand_all lanes capacity turns relay h).each lane ends track at is in (
+              track,
+              is,
+              record {
+                verdicts = stands.verdicts;
+                logged = stands.logged;
+                claims = headline_of ends lane (frames track.lane.got) stands.verdicts relay.log (run_of ends lane track relay.log stands) stands.logged.entries (takes_all ends lane track relay.log stands);
+              },
+            )
       ]
 
   pub ended_holds : OfEachLane lanes relay (λ ends lane track. has_ended lane relay.log ≡ has_end track.lane.got)
@@ -247,12 +248,15 @@ module _ (lanes : List Ends) (capacity : ℕ) (turns : List Turn) (relay : Relay
             let at-t : slice_get relay.tracks lane ≡ Some left.track = ap (λ r. slice_get r.tracks lane) h.left ∙ left.at in
             let stands = (stand_all lanes capacity turns relay h).each lane ends left.track at at-t in
             let events = turned_events lane h.begun turns in
-            let n = length left.track.lane.sent in
-            (left.track, at-t, record {
-              emits = stands.emits;
-              sent = (drop n (items_of left.track.wire), sym (take-append-drop n (items_of left.track.wire)) ∙ ap (λ l. l ++ drop n (items_of left.track.wire)) (sym stands.sent));
-              left = left.left ∙ ap (λ (t : TrackState). machine.after t.lane events) begun.is_fresh;
-            })
+            let n = length left.track.lane.sent in (
+              left.track,
+              at-t,
+              record {
+                emits = stands.emits;
+                sent = (drop n (items_of left.track.wire), sym (take-append-drop n (items_of left.track.wire)) ∙ ap (λ l. l ++ drop n (items_of left.track.wire)) (sym stands.sent));
+                left = left.left ∙ ap (λ (t : TrackState). machine.after t.lane events) begun.is_fresh;
+              },
+            )
       ]
 
 -- ---- turns on turns
