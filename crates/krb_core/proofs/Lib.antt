@@ -8,6 +8,7 @@ pub mod DrawsLemmas
 pub mod VerdictLemmas
 pub mod HeadlineLemmas
 pub mod UndisturbedLemmas
+pub mod RoundsLemmas
 pub mod NumberLemmas
 pub mod ReceiverLemmas
 pub mod SendingLemmas
