@@ -1,10 +1,9 @@
 //! A relay that is stepped: one event of one lane at a time, in any order that the caller likes.
 
 ghost use Rattle.std.specs.Prelude.{◌≡◌, ◌↔◌, ◌<◌, ◌≤◌, ℕ, length, take, Some, false, slice_get, All, IfOk, IfErr, OnOk, OnErr};
-ghost use Rattle.std.specs.List.{zip};
 ghost use Rattle.krb_core.specs.Log.{lane_limit, new_log};
 ghost use Rattle.krb_core.specs.Sending.{source_of, IsSender};
-ghost use Rattle.krb_core.specs.Start.{AreBegun, Fails};
+ghost use Rattle.krb_core.specs.Start.{lanes_of, AreBegun, Fails};
 ghost use Rattle.krb_core.specs.Stepped.{lane_of, turned, after, may_move, is_done};
 
 use crate::log::Log;
@@ -60,12 +59,13 @@ impl Stepped {
         requires few { length sendings.items ≤ lane_limit }
         requires senders { All (λ sending. IsSender (source_of S.state sending)) sendings.items }
         requires moments { All (λ receiving. 0 < length receiving.nows.items) receivings.items }
-        ensures lanes { IfOk result (λ stepped. AreBegun S.state capacity
-            (zip sendings.items receivings.items) stepped.tracks stepped.sents) }
+        ensures lanes { IfOk result (λ stepped. AreBegun capacity
+            (lanes_of S.state sendings.items receivings.items) stepped.tracks stepped.sents) }
         ensures count { IfOk result (λ stepped.
             length stepped.tracks ≡ length sendings.items) }
         ensures log { IfOk result (λ stepped. stepped.log ≡ new_log (length sendings.items)) }
-        ensures err { IfErr result (Fails S.state capacity (zip sendings.items receivings.items)) }
+        ensures err { IfErr result (Fails capacity
+            (lanes_of S.state sendings.items receivings.items)) }
     {
         let count = sendings.len();
         let log = Log::new(alloc, count as u32);

@@ -2,8 +2,8 @@ use Rattle.std.proofs.Common.{rules, inl, inr, ◌≡◌, ◌<◌, ◌≤◌, �
 use Rattle.std.specs.List.{zip}
 use Rattle.std.proofs.lemmas.List.Elements.{All-head, All-tail}
 use Rattle.krb_core.specs.Sending.{source_of, IsSender}
-use Rattle.krb_core.specs.Start.{Fails}
-use Rattle.krb_core.proofs.StartLemmas.{AreBegun-push, AreBegun-length, length-zip, is_relay, zip_next, all_done, lane_fails, if_err}
+use Rattle.krb_core.specs.Start.{lanes_of, Fails}
+use Rattle.krb_core.proofs.StartLemmas.{lanes_begun, lanes_begun-length, length-zip, is_relay, zip_next, all_done, lane_fails, if_err}
 use Rattle.krb_core.proofs.stepped.Stepped.new.Goals as goal
 
 pub begin_lane-requires-clause-sender : goal.begin_lane-requires-clause-sender
@@ -21,12 +21,12 @@ loop-sending-preserved g c =
       moments = All-tail (λ receiving. 0 < length receiving.nows.items) c.in-Some.receiving c.next.new.self.b.rest.items (rw (c.in-Some.ensures.steps.1.0) at c.loop-sending.invariant.moments);
       same = omega (arith, ap length c.in-Some.ensures.steps.0.0, ap length c.in-Some.ensures.steps.1.0, c.loop-sending.invariant.same);
       lanes = zip_next _ _ _ _ _ _ c.in-Some.sending c.in-Some.receiving c.loop-sending.invariant.lanes c.in-Some.ensures.steps.0.0 c.in-Some.ensures.steps.1.0;
-      begun = rw (first, second) (AreBegun-push g.S.Sealer.state c.args.capacity _ _ _ _ _ _ c.loop-sending.invariant.begun c.in_ok-track.ensures.ok);
+      begun = rw (first, second) (lanes_begun g.S.Sealer.state c.args.capacity _ _ _ _ _ _ c.loop-sending.invariant.begun c.in_ok-track.ensures.ok);
     }
 
 pub overflow_cast-lane : goal.overflow_cast-lane
 overflow_cast-lane g c =
-    let lengths = AreBegun-length g.S.Sealer.state c.args.capacity c.loop-sending.yielded c.loop-sending.tracks.items c.loop-sending.sents.items c.loop-sending.invariant.begun in
+    let lengths = lanes_begun-length g.S.Sealer.state c.args.capacity c.loop-sending.yielded c.loop-sending.tracks.items c.loop-sending.sents.items c.loop-sending.invariant.begun in
     let few : c.len-lane.result ≤ 8 = omega (arith, lengths.tracks_are, ap length c.loop-sending.invariant.lanes, length-append c.loop-sending.yielded (zip c.loop-sending.sending-iterator.a.rest.items c.loop-sending.sending-iterator.b.rest.items), length-zip c.args.sendings.items c.args.receivings.items c.requires.same, c.requires.few, c.len-lane.ensures) in
     search rules
 
@@ -34,7 +34,7 @@ pub invariant_of-result : goal.invariant_of-result
 invariant_of-result g c =
     let a = c.loop-sending.sending-iterator.a.rest in
     let b = c.loop-sending.sending-iterator.b.rest in
-    let lengths = AreBegun-length g.S.Sealer.state c.args.capacity c.loop-sending.yielded c.loop-sending.tracks.items c.loop-sending.sents.items c.loop-sending.invariant.begun in
+    let lengths = lanes_begun-length g.S.Sealer.state c.args.capacity c.loop-sending.yielded c.loop-sending.tracks.items c.loop-sending.sents.items c.loop-sending.invariant.begun in
     let first : length a.items ≡ a.len = search rules in
     let second : length b.items ≡ b.len = search rules in
     let none : length a.items ≡ 0 = elim c.in-None.ensures.steps [ inl h ↦ first ∙ h.1.0 | inr h ↦ c.loop-sending.invariant.same ∙ second ∙ h.1.0 ] in
@@ -43,10 +43,10 @@ invariant_of-result g c =
 
 pub returns-in_err-track-clause-err : goal.returns-in_err-track-clause-err
 returns-in_err-track-clause-err g c =
-    let lengths = AreBegun-length g.S.Sealer.state c.args.capacity c.loop-sending.yielded c.loop-sending.tracks.items c.loop-sending.sents.items c.loop-sending.invariant.begun in
+    let lengths = lanes_begun-length g.S.Sealer.state c.args.capacity c.loop-sending.yielded c.loop-sending.tracks.items c.loop-sending.sents.items c.loop-sending.invariant.begun in
     let e = c.in_err-track.field-0.0 in
     let whole = zip_next _ _ _ _ _ _ c.in-Some.sending c.in-Some.receiving c.loop-sending.invariant.lanes c.in-Some.ensures.steps.0.0 c.in-Some.ensures.steps.1.0 in
-    if_err (Fails g.S.Sealer.state c.args.capacity (zip c.args.sendings.items c.args.receivings.items)) e c.from_residual-in_err-track.result c.from_residual-in_err-track.ensures.1
+    if_err (Fails c.args.capacity (lanes_of g.S.Sealer.state c.args.sendings.items c.args.receivings.items)) e c.from_residual-in_err-track.result c.from_residual-in_err-track.ensures.1
     (lane_fails g.S.Sealer.state c.args.capacity _ c.loop-sending.yielded _ (c.in-Some.sending, c.in-Some.receiving) c.loop-sending.tracks.items c.loop-sending.sents.items c.len-lane.result e whole c.loop-sending.invariant.begun
     (omega (arith, lengths.tracks_are, c.len-lane.ensures)) c.in_err-track.ensures.err)
 
@@ -54,7 +54,7 @@ pub returns-clause-count : goal.returns-clause-count
 returns-clause-count g c =
     let a = c.loop-sending.sending-iterator.a.rest in
     let b = c.loop-sending.sending-iterator.b.rest in
-    let lengths = AreBegun-length g.S.Sealer.state c.args.capacity c.loop-sending.yielded c.loop-sending.tracks.items c.loop-sending.sents.items c.loop-sending.invariant.begun in
+    let lengths = lanes_begun-length g.S.Sealer.state c.args.capacity c.loop-sending.yielded c.loop-sending.tracks.items c.loop-sending.sents.items c.loop-sending.invariant.begun in
     let first : length a.items ≡ a.len = search rules in
     let second : length b.items ≡ b.len = search rules in
     let none : length a.items ≡ 0 = elim c.in-None.ensures.steps [ inl h ↦ first ∙ h.1.0 | inr h ↦ c.loop-sending.invariant.same ∙ second ∙ h.1.0 ] in
