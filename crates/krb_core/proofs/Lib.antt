@@ -16,3 +16,4 @@ pub mod TrackLemmas
 pub mod ReceiveLemmas
 pub mod SteppedLemmas
 pub mod StartLemmas
+pub mod FinishLemmas

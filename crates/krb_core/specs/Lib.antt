@@ -19,3 +19,4 @@ pub mod Track
 pub mod TrackPlaces
 pub mod Stepped
 pub mod Start
+pub mod Finish
