@@ -369,3 +369,27 @@ entries_grow relay [] = prefix_same relay.log.entries
 entries_grow relay (turn ∷ turns) =
     let next = turned relay turn in
     prefix_trans relay.log.entries next.log.entries (after next turns).log.entries (turn_grows relay turn (slice_get relay.tracks (lane_of turn))) (entries_grow next turns)
+
+-- ---- turns of which a part was taken
+
+-- of all turns these are left, and the others left this of a relay
+pub record HasServed (all left : List Turn) (begun now : Relay) : Type 0 where
+  pub done : List Turn
+  pub split : all ≡ done ++ left
+  pub leaves : now ≡ after begun done
+
+pub served_none : (all : List Turn) (relay : Relay) → HasServed all all relay relay
+served_none all relay = record { done = []; split = refl; leaves = refl }
+
+pub served_one : (all left : List Turn) (turn : Turn) (begun then now : Relay) → HasServed all (turn ∷ left) begun then → now ≡ turned then turn → HasServed all left begun now
+served_one all left turn begun then now h is = record {
+  done = h.done ++ turn ∷ [];
+  split = h.split ∙ sym (append_assoc h.done (turn ∷ []) left);
+  leaves = is ∙ (ap (λ r. turned r turn) h.leaves ∙ sym (after-append begun h.done (turn ∷ [])));
+}
+
+pub served_part : (all left : List Turn) (begun now : Relay) → HasServed all left begun now → (done : List Turn) × IsPrefix done all × (now ≡ after begun done)
+served_part all left begun now h = (h.done, (left, h.split), h.leaves)
+
+pub served_all : (all : List Turn) (begun now : Relay) → HasServed all [] begun now → now ≡ after begun all
+served_all all begun now h = h.leaves ∙ ap (λ ts. after begun ts) (sym (h.split ∙ append-nil h.done))

@@ -17,3 +17,4 @@ pub mod ReceiveLemmas
 pub mod SteppedLemmas
 pub mod StartLemmas
 pub mod FinishLemmas
+pub mod RelayedLemmas

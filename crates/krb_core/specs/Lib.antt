@@ -20,3 +20,4 @@ pub mod TrackPlaces
 pub mod Stepped
 pub mod Start
 pub mod Finish
+pub mod Relayed
