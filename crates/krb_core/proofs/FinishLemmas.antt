@@ -393,3 +393,11 @@ served_part all left begun now h = (h.done, (left, h.split), h.leaves)
 
 pub served_all : (all : List Turn) (begun now : Relay) → HasServed all [] begun now → now ≡ after begun all
 served_all all begun now h = h.leaves ∙ ap (λ ts. after begun ts) (sym (h.split ∙ append-nil h.done))
+
+-- the next lane of a round: its send, and the take behind it
+pub served_send : (n lane : ℕ) (begun then now : Relay) → lane < n → HasServed (round_turns 0 n) (round_turns lane (n - lane)) begun then → now ≡ turned then (Send lane)
+    → HasServed (round_turns 0 n) (Take lane ∷ round_turns (lane + 1) (n - (lane + 1))) begun now
+served_send n lane begun then now lt h is =
+    let e : n - lane ≡ suc (n - (lane + 1)) = omega (arith, lt) in
+    let P : ℕ → Type 0 = λ m. HasServed (round_turns 0 n) (round_turns lane m) begun then in
+    served_one (round_turns 0 n) (Take lane ∷ round_turns (lane + 1) (n - (lane + 1))) (Send lane) begun then now (subst P e h) is
