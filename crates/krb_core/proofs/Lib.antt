@@ -18,3 +18,4 @@ pub mod SteppedLemmas
 pub mod StartLemmas
 pub mod FinishLemmas
 pub mod RelayedLemmas
+pub mod RelayedClaims

@@ -28,7 +28,8 @@ use Rattle.krb_core.specs.Track.{TrackState, item_at, next_send, after_send, ver
 use Rattle.krb_core.specs.TrackPlaces.{items_of}
 use Rattle.krb_core.specs.Start.{Ends, IsWire, fresh, IsBegun, AreBegun}
 use Rattle.krb_core.specs.Stepped.{Relay, lane_of, event_of, track_behind, log_behind_turn, turned_at, turned, after}
-use Rattle.krb_core.specs.Relayed.{HasBegun, HasTurned, has_ended, IsLogged}
+use Rattle.krb_core.specs.Claims.{has_ended, IsLogged}
+use Rattle.krb_core.specs.Relayed.{HasBegun, HasTurned}
 use Rattle.krb_core.proofs.ListLemmas.{both_true}
 use Rattle.krb_core.proofs.VerdictLemmas.{right_verdict, behind-nil, behind-append, AreVerdicts-push}
 use Rattle.krb_core.proofs.TrackLemmas.{take-item, with_end}
@@ -37,7 +38,7 @@ use Rattle.krb_core.proofs.SteppedLemmas.{same, other, read_set, events_of-appen
 
 -- ---- frames and items
 
-frames-take : (wire : List (List ℕ)) (n : ℕ) → frames (take n (items_of wire)) ≡ take n wire
+pub frames-take : (wire : List (List ℕ)) (n : ℕ) → frames (take n (items_of wire)) ≡ take n wire
 frames-take wire zero = refl
 frames-take [] (suc zero) = refl
 frames-take [] (suc (suc n)) = refl
@@ -317,7 +318,7 @@ stand_after lanes relay (turn ∷ turns) h = stand_after lanes (turned relay tur
 
 -- ---- before the first turn
 
-begun_at : (capacity : ℕ) (lanes : List Ends) (tracks : List TrackState) (sents : List Sent) → AreBegun capacity lanes tracks sents
+pub begun_at : (capacity : ℕ) (lanes : List Ends) (tracks : List TrackState) (sents : List Sent) → AreBegun capacity lanes tracks sents
     → (lane : ℕ) (ends : Ends) (track : TrackState) → slice_get lanes lane ≡ Some ends → slice_get tracks lane ≡ Some track → (sent : Sent) × IsBegun ends capacity track sent
 begun_at capacity [] tracks sents h lane ends track at-e at-t = absurd (let e = at-e in cc)
 begun_at capacity (e ∷ es) [] sents h lane ends track at-e at-t = absurd (let e = at-t in cc)
@@ -351,7 +352,7 @@ stands_fresh ends capacity count lane wire small emits = record {
   ended = none_ended 8 lane;
 }
 
-stand_begun : (lanes : List Ends) (capacity : ℕ) (relay : Relay) → HasBegun lanes capacity relay → AllStand lanes relay
+pub stand_begun : (lanes : List Ends) (capacity : ℕ) (relay : Relay) → HasBegun lanes capacity relay → AllStand lanes relay
 stand_begun lanes capacity relay h = record {
   count = (AreBegun-length capacity lanes relay.tracks relay.sents h.lanes_are).tracks_are;
   each = λ lane ends track at-e at-t.

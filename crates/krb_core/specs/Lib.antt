@@ -20,4 +20,5 @@ pub mod TrackPlaces
 pub mod Stepped
 pub mod Start
 pub mod Finish
+pub mod Claims
 pub mod Relayed
