@@ -1,5 +1,6 @@
 -- What rounds of turns leave of a relay through which nothing went.
-use Rattle.std.proofs.Common.{◌≡◌, ℕ, zero, suc, ◌+◌, ◌-◌, ◌<◌, ◌≤◌, ◌⊎◌, min, max, true, List, [], ◌∷◌, ◌++◌, length, map, set, take, slice_get, Option, Some, None, Ok, Err, inl, inr, refl, sym, ap, ap₂, subst, ◌∙◌, arith, append-nil, append_assoc, length-append}
+use Rattle.std.proofs.Common.{◌≡◌, ℕ, zero, suc, ◌+◌, ◌-◌, ◌<◌, ◌≤◌, ◌⊎◌, min, max, true, List, [], ◌∷◌, ◌++◌, length, map, set, take, slice_get, Option, Some, None, Result, Ok, Err, inl, inr, refl, sym, ap, ap₂, subst, ◌∙◌, arith, append-nil, append_assoc, length-append}
+use Rattle.std.specs.Prelude.{OnOk}
 use Rattle.std.specs.List.{All, list_all}
 use Rattle.std.proofs.lemmas.List.{take_all, length-map}
 use Rattle.std.proofs.lemmas.List.Elements.{All-nil, All-cons, All-head, All-tail}
@@ -20,17 +21,21 @@ use Rattle.krb_core.specs.LogState.{LogState}
 use Rattle.krb_core.specs.ReceiverState.{ReceiverState}
 use Rattle.krb_core.specs.Receiver.{receiver_behind}
 use Rattle.krb_core.specs.Sender.{moment_at}
-use Rattle.krb_core.specs.Start.{fresh}
+use Rattle.krb_core.specs.Start.{fresh, Ends, AreBegun}
+use Rattle.krb_core.specs.Relayed.{HasTurned}
+use Rattle.krb_core.specs.Claims.{has_ended}
 use Rattle.krb_core.specs.Verdicts.{Verdict, accepted_by, records_of, behind, demand_behind, verdict, verdicts}
 use Rattle.krb_core.specs.Verdicts as verdict_words
 use Rattle.krb_core.specs.Track.{TrackState, after_send, after_take, verdict_by, verdict_now, noted, entries_by, log_behind, log_after}
 use Rattle.krb_core.specs.TrackPlaces.{items_of, lane_at, ArePlaces}
 use Rattle.krb_core.specs.Stepped.{Relay, lane_of, turned_at, turned, after, is_done}
 use Rattle.krb_core.specs.Rounds.{named, round, rounds_below, rounds, longest, NoneLonger}
-use Rattle.krb_core.specs.Finish.{round_turns, rounds_turns, longest_wire, finishing, events_over}
+use Rattle.krb_core.specs.Finish.{round_turns, rounds_turns, longest_wire, finishing, events_over, whole_log}
 use Rattle.krb_core.proofs.VerdictLemmas.{behind-nil, behind-append}
 use Rattle.krb_core.proofs.TrackLemmas.{track_at, send_moves, send_over, take_frame, take_end, take_none, with_end}
-use Rattle.krb_core.proofs.SteppedLemmas.{relay_of}
+use Rattle.krb_core.proofs.SteppedLemmas.{relay_of, turned_count}
+use Rattle.krb_core.proofs.RelayedLemmas.{stand_all}
+use Rattle.krb_core.proofs.ListLemmas.{all_pass}
 use Rattle.krb_core.proofs.RoundsLemmas.{rounds-from_below, NoneLonger-more}
 
 -- ---- the verdict on a frame of a wire
@@ -264,21 +269,24 @@ module _ (sents : List Sent) where
       ∙ (round_leaves (front ++ stepped track ∷ []) back log-now (k + 1) long
       ∙ ap (λ ts. relay_of ts (log_round (k + 1) log-now back) sents) (append_assoc front (stepped track ∷ []) (map stepped back)))
 
+abbrev IsOpen : TrackState → Type 0
+IsOpen track = 1 ≤ track.lane.capacity
+
 abbrev AreOpen : List TrackState → Type 0
-AreOpen begun = All (λ track. 1 ≤ track.lane.capacity) begun
+AreOpen begun = All IsOpen begun
 
 tracks_go : (n : ℕ) (begun : List TrackState) (log : LogState) → AreOpen begun → map stepped (map (λ track. at_round track n) begun) ≡ map (λ track. at_round track (suc n)) begun
 tracks_go n [] log h = refl
 tracks_go n (track ∷ begun) log h =
-    ap₂ (λ t ts. t ∷ ts) (round_goes track n 0 log (All-head (λ t. 1 ≤ t.lane.capacity) track begun h)).track_is (tracks_go n begun log (All-tail (λ t. 1 ≤ t.lane.capacity) track begun h))
+    ap₂ (λ t ts. t ∷ ts) (round_goes track n 0 log (All-head IsOpen track begun h)).track_is (tracks_go n begun log (All-tail IsOpen track begun h))
 
 entries_go : (n lane : ℕ) (begun : List TrackState) (log : LogState) → AreOpen begun
     → (log_round lane log (map (λ track. at_round track n) begun)).entries ≡ log.entries ++ round n lane (map events_over begun)
 entries_go n lane [] log h = sym (append-nil log.entries)
 entries_go n lane (track ∷ begun) log h =
     let log-now : LogState = log_after log lane (after_send (at_round track n)) in
-    entries_go n (lane + 1) begun log-now (All-tail (λ t. 1 ≤ t.lane.capacity) track begun h)
-    ∙ (ap (λ z. z ++ round n (lane + 1) (map events_over begun)) (round_goes track n lane log (All-head (λ t. 1 ≤ t.lane.capacity) track begun h)).entries_are
+    entries_go n (lane + 1) begun log-now (All-tail IsOpen track begun h)
+    ∙ (ap (λ z. z ++ round n (lane + 1) (map events_over begun)) (round_goes track n lane log (All-head IsOpen track begun h)).entries_are
     ∙ append_assoc log.entries (named lane (slice_get (events_over track) n)) (round n (lane + 1) (map events_over begun)))
 
 -- so many rounds were served of these lanes
@@ -313,14 +321,16 @@ many_rounds (suc m) begun n relay room h =
 
 -- ---- from the first to the last
 
-abbrev pub AreFresh : List TrackState → Type 0
-AreFresh begun = All (λ track. track ≡ fresh track.wire track.receiver track.nows track.lane.capacity) begun
+abbrev IsFresh : TrackState → Type 0
+IsFresh track = track ≡ fresh track.wire track.receiver track.nows track.lane.capacity
+
+abbrev AreFresh : List TrackState → Type 0
+AreFresh begun = All IsFresh begun
 
 none_begun : (begun : List TrackState) → AreFresh begun → map (λ track. at_round track 0) begun ≡ begun
 none_begun [] h = refl
 none_begun (track ∷ begun) h =
-    let P : TrackState → Type 0 = λ t. t ≡ fresh t.wire t.receiver t.nows t.lane.capacity in
-    ap₂ (λ t ts. t ∷ ts) (at_round-zero track (All-head P track begun h)) (none_begun begun (All-tail P track begun h))
+    ap₂ (λ t ts. t ∷ ts) (at_round-zero track (All-head IsFresh track begun h)) (none_begun begun (All-tail IsFresh track begun h))
 
 pub no_rounds : (relay : Relay) → AreFresh relay.tracks → relay.log.entries ≡ [] → InRounds relay.tracks 0 relay
 no_rounds relay are none = record { tracks_are = sym (none_begun relay.tracks are); entries_are = none }
@@ -401,3 +411,134 @@ served_send n lane begun then now lt h is =
     let e : n - lane ≡ suc (n - (lane + 1)) = omega (arith, lt) in
     let P : ℕ → Type 0 = λ m. HasServed (round_turns 0 n) (round_turns lane m) begun then in
     served_one (round_turns 0 n) (Take lane ∷ round_turns (lane + 1) (n - (lane + 1))) (Send lane) begun then now (subst P e h) is
+
+-- a round more, or a part of one
+pub served_many : (all xs ys : List Turn) (begun then now : Relay) → HasServed all (xs ++ ys) begun then → now ≡ after then xs → HasServed all ys begun now
+served_many all xs ys begun then now h is = record {
+  done = h.done ++ xs;
+  split = h.split ∙ sym (append_assoc h.done xs ys);
+  leaves = is ∙ (ap (λ r. after r xs) h.leaves ∙ sym (after-append begun h.done xs));
+}
+
+pub served_some : (all xs ys : List Turn) (begun then now : Relay) → HasServed all (xs ++ ys) begun then → (some : (done : List Turn) × IsPrefix done xs × (now ≡ after then done))
+    → (done : List Turn) × IsPrefix done all × (now ≡ after begun done)
+served_some all xs ys begun then now h some =
+    let rest = some.1.0 in
+    let e : xs ++ ys ≡ some.0 ++ (rest ++ ys) = ap (λ z. z ++ ys) some.1.1 ∙ append_assoc some.0 rest ys in
+    let P : List Turn → Type 0 = λ z. HasServed all z begun then in
+    served_part all (rest ++ ys) begun now (served_many all some.0 (rest ++ ys) begun then now (subst P e h) some.2)
+
+-- the rounds that are left when so many of all but the last are over
+abbrev pub left_over : ℕ → ℕ → ℕ → List Turn
+left_over all over count = rounds_turns (all - over + 1) count
+
+pub left_next : (all over count : ℕ) → over < all → left_over all over count ≡ round_turns 0 count ++ left_over all (over + 1) count
+left_next all over count lt =
+    let e : all - over + 1 ≡ suc (all - (over + 1) + 1) = omega (arith, lt) in
+    ap (λ n. rounds_turns n count) e
+
+pub left_last : (all over count : ℕ) → all ≤ over → left_over all over count ≡ round_turns 0 count ++ []
+left_last all over count le =
+    let e : all - over + 1 ≡ 1 = omega (arith, le) in
+    ap (λ n. rounds_turns n count) e
+
+pub after_count : (relay : Relay) (turns : List Turn) → length (after relay turns).tracks ≡ length relay.tracks
+after_count relay [] = refl
+after_count relay (turn ∷ turns) = after_count (turned relay turn) turns ∙ turned_count relay turn
+
+-- ---- a relay of which no turn was taken
+
+begun_fresh : (capacity : ℕ) (lanes : List Ends) (tracks : List TrackState) (sents : List Sent) → AreBegun capacity lanes tracks sents → 1 ≤ capacity → AreFresh tracks × AreOpen tracks
+begun_fresh capacity [] [] [] h room = (All-nil IsFresh, All-nil IsOpen)
+begun_fresh capacity [] [] (s ∷ sents) h room = absurd h
+begun_fresh capacity [] (t ∷ tracks) sents h room = absurd h
+begun_fresh capacity (e ∷ lanes) [] sents h room = absurd h
+begun_fresh capacity (e ∷ lanes) (t ∷ tracks) [] h room = absurd h
+begun_fresh capacity (e ∷ lanes) (t ∷ tracks) (s ∷ sents) h room =
+    let rest = begun_fresh capacity lanes tracks sents h.1 room in
+    let is = h.0.is_fresh in
+    let first : IsFresh t = subst IsFresh (sym is) refl in
+    let open_is : IsOpen t = subst IsOpen (sym is) room in
+    (All-cons IsFresh t tracks first rest.0, All-cons IsOpen t tracks open_is rest.1)
+
+pub from_start : (lanes : List Ends) (capacity : ℕ) (relay : Relay) → 1 ≤ capacity → HasTurned lanes capacity [] relay → HasFinished relay.tracks (after relay (finishing relay.tracks))
+from_start lanes capacity relay room h =
+    let begun = begun_fresh capacity lanes h.begun.tracks h.begun.sents h.start.lanes_are room in
+    let P : Relay → Type 0 = λ r. HasFinished r.tracks (after r (finishing r.tracks)) in
+    subst P (sym h.left) (finished h.begun begun.1 begun.0 (ap (λ (l : LogState). l.entries) h.start.log))
+
+data Found {X : Type 0} (xs : List X) (k : ℕ) : Type 0 where
+  found : (x : X) → slice_get xs k ≡ Some x → Found xs k
+
+there_is : {X : Type 0} (k : ℕ) (xs : List X) → k < length xs → Found xs k
+there_is k [] lt = absurd (omega (arith, lt))
+there_is zero (x ∷ xs) lt = found x refl
+there_is (suc k) (x ∷ xs) lt = elim (there_is k xs (omega (arith, lt))) [ found y at ↦ found y at ]
+
+-- then every lane is noted as ended
+pub all_ended : (lanes : List Ends) (capacity : ℕ) (before : List Turn) (relay : Relay) → HasTurned lanes capacity before relay → is_done relay ≡ true
+    → (lane : ℕ) → lane < length relay.tracks → has_ended lane relay.log ≡ true
+all_ended lanes capacity before relay h done lane lt =
+    let stand = stand_all lanes capacity before relay h in
+    let within : lane < length lanes = omega (arith, lt, stand.count) in
+    elim (there_is lane relay.tracks lt) [ found track at ↦
+      elim (there_is lane lanes within) [ found ends at-e ↦
+        (stand.each lane ends track at-e at).ended ∙ all_pass (λ t. has_end t.lane.got) relay.tracks lane track done at
+      ]
+    ]
+
+-- and a part of the turns leaves a part of the entries
+pub front_of : (relay : Relay) (done all : List Turn) → IsPrefix done all → IsPrefix (after relay done).log.entries (after relay all).log.entries
+front_of relay done all p =
+    let e : after (after relay done) p.0 ≡ after relay all = sym (after-append relay done p.0) ∙ ap (λ ts. after relay ts) (sym p.1) in
+    subst (λ (r : Relay). IsPrefix (after relay done).log.entries r.log.entries) e (entries_grow (after relay done) p.0)
+
+-- ---- the rounds of a relay that runs to its end
+
+abbrev pub IsPartOf : List Turn → Relay → Relay → Type 0
+IsPartOf all begun now = (done : List Turn) × IsPrefix done all × (now ≡ after begun done)
+
+module _ (begun then now : Relay) (rounds over : ℕ) (rest : List Turn) (same : length then.tracks ≡ length begun.tracks)
+    (next : left_over rounds over (length begun.tracks) ≡ round_turns 0 (length begun.tracks) ++ rest)
+    (served : HasServed (finishing begun.tracks) (left_over rounds over (length begun.tracks)) begun then) where
+  at_round_next : HasServed (finishing begun.tracks) (round_turns 0 (length begun.tracks) ++ rest) begun then
+  at_round_next = let P : List Turn → Type 0 = λ ts. HasServed (finishing begun.tracks) ts begun then in subst P next served
+
+  pub round_in_part : IsPartOf (round_turns 0 (length then.tracks)) then now → IsPartOf (finishing begun.tracks) begun now
+  round_in_part part =
+      let P : ℕ → Type 0 = λ n. IsPartOf (round_turns 0 n) then now in
+      served_some (finishing begun.tracks) (round_turns 0 (length begun.tracks)) rest begun then now at_round_next (subst P same part)
+
+  pub round_in_full : now ≡ after then (round_turns 0 (length then.tracks)) → HasServed (finishing begun.tracks) rest begun now
+  round_in_full is =
+      served_many (finishing begun.tracks) (round_turns 0 (length begun.tracks)) rest begun then now at_round_next (is ∙ ap (λ n. after then (round_turns 0 n)) same)
+
+  pub round_count : now ≡ after then (round_turns 0 (length then.tracks)) → length now.tracks ≡ length begun.tracks
+  round_count is = ap (λ (r : Relay). length r.tracks) is ∙ (after_count then (round_turns 0 (length then.tracks)) ∙ same)
+
+-- what follows from a good answer
+pub on_ok : {A E : Type 0} (P Q : Type 0) (r : Result A E) → (P → Q) → OnOk r P → OnOk r Q
+on_ok P Q (Ok x) f h = f h
+on_ok P Q (Err e) f h = tt
+
+module _ (lanes : List Ends) (capacity : ℕ) (relay now : Relay) (room : 1 ≤ capacity) (fresh_is : HasTurned lanes capacity [] relay) where
+  pub front_from : IsPartOf (finishing relay.tracks) relay now → IsPrefix now.log.entries (whole_log relay)
+  front_from part =
+      let all = finishing relay.tracks in
+      let whole : (after relay all).log.entries ≡ whole_log relay = (from_start lanes capacity relay room fresh_is).entries in
+      let P : Relay → Type 0 = λ r. IsPrefix r.log.entries (whole_log relay) in
+      subst P (sym part.2) (subst (λ es. IsPrefix (after relay part.0).log.entries es) whole (front_of relay part.0 all part.1))
+
+  pub entries_from : now ≡ after relay (finishing relay.tracks) → now.log.entries ≡ whole_log relay
+  entries_from is = ap (λ (r : Relay). r.log.entries) is ∙ (from_start lanes capacity relay room fresh_is).entries
+
+  pub done_from : now ≡ after relay (finishing relay.tracks) → is_done now ≡ true
+  done_from is = ap is_done is ∙ (from_start lanes capacity relay room fresh_is).done
+
+  pub ended_from : now ≡ after relay (finishing relay.tracks) → (lane : ℕ) → lane < length relay.tracks → has_ended lane now.log ≡ true
+  ended_from is lane lt =
+      let all = finishing relay.tracks in
+      let left : now ≡ after fresh_is.begun all = is ∙ ap (λ r. after r all) fresh_is.left in
+      let turned_is : HasTurned lanes capacity all now = record { begun = fresh_is.begun; start = fresh_is.start; left = left } in
+      let count : length now.tracks ≡ length relay.tracks = ap (λ (r : Relay). length r.tracks) is ∙ after_count relay all in
+      all_ended lanes capacity all now turned_is (done_from is) lane (omega (arith, lt, count))

@@ -16,6 +16,6 @@ pub mod TrackLemmas
 pub mod ReceiveLemmas
 pub mod SteppedLemmas
 pub mod StartLemmas
-pub mod FinishLemmas
 pub mod RelayedLemmas
 pub mod RelayedClaims
+pub mod FinishLemmas

@@ -19,6 +19,6 @@ pub mod Track
 pub mod TrackPlaces
 pub mod Stepped
 pub mod Start
-pub mod Finish
 pub mod Claims
 pub mod Relayed
+pub mod Finish
