@@ -1,5 +1,5 @@
 -- What rounds of turns leave of a relay through which nothing went.
-use Rattle.std.proofs.Common.{◌≡◌, ℕ, zero, suc, ◌+◌, ◌-◌, ◌<◌, ◌≤◌, ◌⊎◌, min, max, true, List, [], ◌∷◌, ◌++◌, length, map, set, take, slice_get, Option, Some, None, Result, Ok, Err, inl, inr, refl, sym, ap, ap₂, subst, ◌∙◌, arith, append-nil, append_assoc, length-append}
+use Rattle.std.proofs.Common.{◌≡◌, ℕ, zero, suc, ◌+◌, ◌-◌, ◌<◌, ◌≤◌, ◌⊎◌, min, true, List, [], ◌∷◌, ◌++◌, length, map, set, take, slice_get, Option, Some, None, Result, Ok, Err, inl, inr, refl, sym, ap, ap₂, subst, ◌∙◌, arith, append-nil, append_assoc, length-append}
 use Rattle.std.specs.Prelude.{OnOk}
 use Rattle.std.specs.List.{All, list_all}
 use Rattle.std.proofs.lemmas.List.{take_all, length-map}
@@ -11,7 +11,6 @@ use Rattle.krb_base.proofs.PrefixLemmas.{prefix_whole, prefix_same, prefix_trans
 use Rattle.krb_seal.specs.Opens.{OpenerState}
 use Rattle.krb_core.specs.declared.delivery.Delivery.TheVariants.{Text, Closed}
 use Rattle.krb_core.specs.declared.log.Event.{Event}
-use Rattle.krb_core.specs.declared.log.Entry.{Entry}
 use Rattle.krb_core.specs.declared.sending.Sent.{Sent}
 use Rattle.krb_core.specs.declared.turn.Turn.{Turn}
 use Rattle.krb_core.specs.declared.turn.Turn.TheVariants.{Send, Take}
@@ -27,16 +26,16 @@ use Rattle.krb_core.specs.Claims.{has_ended}
 use Rattle.krb_core.specs.Verdicts.{Verdict, accepted_by, records_of, behind, demand_behind, verdict, verdicts}
 use Rattle.krb_core.specs.Verdicts as verdict_words
 use Rattle.krb_core.specs.Track.{TrackState, after_send, after_take, verdict_by, verdict_now, noted, entries_by, log_behind, log_after}
-use Rattle.krb_core.specs.TrackPlaces.{items_of, lane_at, ArePlaces}
+use Rattle.krb_core.specs.TrackPlaces.{ArePlaces}
 use Rattle.krb_core.specs.Stepped.{Relay, lane_of, turned_at, turned, after, is_done}
-use Rattle.krb_core.specs.Rounds.{named, round, rounds_below, rounds, longest, NoneLonger}
+use Rattle.krb_core.specs.Rounds.{named, round, rounds_below, rounds, NoneLonger}
 use Rattle.krb_core.specs.Finish.{round_turns, rounds_turns, longest_wire, finishing, events_over, whole_log}
 use Rattle.krb_core.proofs.VerdictLemmas.{behind-nil, behind-append}
 use Rattle.krb_core.proofs.TrackLemmas.{track_at, send_moves, send_over, take_frame, take_end, take_none, with_end}
 use Rattle.krb_core.proofs.SteppedLemmas.{relay_of, turned_count}
 use Rattle.krb_core.proofs.RelayedLemmas.{stand_all}
 use Rattle.krb_core.proofs.ListLemmas.{all_pass}
-use Rattle.krb_core.proofs.RoundsLemmas.{rounds-from_below, NoneLonger-more}
+use Rattle.krb_core.proofs.RoundsLemmas.{rounds-from_below}
 
 -- ---- the verdict on a frame of a wire
 

@@ -1,6 +1,6 @@
 -- What is claimed of each lane of a relay that was turned.
-use Rattle.std.proofs.Common.{◌≡◌, ◌≢◌, ◌↔◌, ℕ, zero, suc, ◌+◌, ◌≤◌, ◌<◌, ◌⊎◌, Bool, true, false, List, [], ◌∷◌, ◌++◌, length, map, set, take, drop, slice_get, Option, Some, None, Result, Ok, Err, inl, inr, refl, sym, ap, ap₂, subst, ◌∙◌, arith, append_assoc, append-nil}
-use Rattle.std.specs.Prelude.{OnOk, OnErr, IfOk}
+use Rattle.std.proofs.Common.{◌≡◌, ◌≢◌, ℕ, zero, suc, ◌≤◌, ◌<◌, true, false, List, [], ◌∷◌, ◌++◌, length, set, take, drop, slice_get, Option, Some, None, Result, Ok, Err, inl, inr, refl, sym, ap, subst, ◌∙◌, arith, append_assoc, append-nil}
+use Rattle.std.specs.Prelude.{OnOk, OnErr}
 use Rattle.std.proofs.lemmas.List.{map-append, take_all, take-append-drop}
 use Rattle.std.proofs.Math.Seq.{take-append_seam}
 use Rattle.std.proofs.lemmas.Bool.Decides.{leb_tells, eqb_tells}
@@ -17,7 +17,6 @@ use Rattle.krb_core.specs.declared.turn.Turn.{Turn}
 use Rattle.krb_core.specs.declared.turn.Turn.TheVariants.{Send, Take}
 use Rattle.krb_core.specs.Log.{events_of, texts_in, has_closed}
 use Rattle.krb_core.specs.LogState.{LogState}
-use Rattle.krb_core.specs.Plan.{wire}
 use Rattle.krb_core.specs.Sender.{sealed_texts, AreFrames}
 use Rattle.krb_core.specs.Sender as sender
 use Rattle.krb_core.specs.Verdicts.{Verdict}
@@ -26,14 +25,13 @@ use Rattle.krb_core.specs.Headline.{IsRun}
 use Rattle.krb_core.specs.Undisturbed.{TakesAll}
 use Rattle.krb_core.specs.Track.{TrackState, entries_by, log_behind}
 use Rattle.krb_core.specs.TrackPlaces.{items_of}
-use Rattle.krb_core.specs.Start.{Ends, fresh}
+use Rattle.krb_core.specs.Start.{Ends}
 use Rattle.krb_core.specs.Stepped.{Relay, lane_of, event_of, track_behind, turned_at, turned, after}
 use Rattle.krb_core.specs.Relayed.{HasBegun, HasTurned, event_at, turned_events, taker_of, taker_at, takers, lanes_in, IsLane, OfEachLane, HaveHeadline, GoesOn, KeepsHeadline}
 use Rattle.krb_core.specs.Claims.{has_ended, Headline}
 use Rattle.krb_core.proofs.HeadlineLemmas.{records_prefix, delivered_prefix, delivered_whole, quiet_after, refuses, refusal_nothing}
 use Rattle.krb_core.proofs.UndisturbedLemmas.{all_texts}
 use Rattle.krb_core.proofs.TrackLemmas.{no_end}
-use Rattle.krb_core.proofs.SteppedLemmas.{after-push}
 use Rattle.krb_core.proofs.RelayedLemmas.{frames-take, Stands, stand_all, stand_begun, begun_at}
 
 -- ---- the lane's state by the events of its turns

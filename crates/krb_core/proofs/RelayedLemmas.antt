@@ -1,18 +1,15 @@
 -- What turns leave of each lane.
-use Rattle.std.proofs.Common.{◌≡◌, ◌≢◌, ◌↔◌, ℕ, zero, suc, ◌+◌, ◌≤◌, ◌<◌, ◌==◌, ◌&&◌, ◌⊎◌, not, cond, nat_lt, Bool, true, false, List, [], ◌∷◌, ◌++◌, length, map, set, get_or, take, drop, replicate, slice_get, Option, Some, None, Ok, Err, inl, inr, refl, sym, ap, ap₂, subst, ◌∙◌, arith, append_assoc, append-nil, length-append}
-use Rattle.std.proofs.lemmas.List.{length-set, map-append, take_all, get_or-set_same, get_or-set_other, length-replicate}
+use Rattle.std.proofs.Common.{◌≡◌, ◌≢◌, ℕ, zero, suc, ◌+◌, ◌≤◌, ◌<◌, ◌==◌, not, cond, nat_lt, Bool, true, false, List, [], ◌∷◌, ◌++◌, length, get_or, take, replicate, slice_get, Option, Some, None, Ok, Err, inl, inr, refl, sym, ap, ap₂, subst, ◌∙◌, arith, append-nil, length-append}
+use Rattle.std.proofs.lemmas.List.{length-set, get_or-set_same, get_or-set_other, length-replicate}
 use Rattle.std.proofs.lemmas.Bool.{lt-ltb}
 use Rattle.std.proofs.lemmas.Bool.Decides.{leb_tells, eqb_tells}
 use Rattle.std.proofs.lemmas.Option.{slice_get_within}
 use Rattle.std.proofs.lemmas.Grind.{flat_map-append}
-use Rattle.std.specs.Prelude.{slice_index_or, slice_set}
 use Rattle.krb_aes.specs.Words.{AreBytes}
-use Rattle.krb_base.specs.Prefix.{IsPrefix}
 use Rattle.krb_base.specs.Lane.{Item, Lane, Frame, End, empty, has_end, frames, is_possible, moved, taken, after_event, IsState}
 use Rattle.krb_base.specs.Lane as machine
-use Rattle.krb_base.proofs.LaneLemmas.{frames-append, has_end-append, behind_end, after-append, state_empty, state_event, state_moved, state_whole}
+use Rattle.krb_base.proofs.LaneLemmas.{frames-append, has_end-append, behind_end, state_empty, state_event, state_moved}
 use Rattle.krb_core.specs.declared.delivery.Delivery.TheVariants as deliveries
-use Rattle.krb_core.specs.declared.log.Entry.{Entry}
 use Rattle.krb_core.specs.declared.sending.Sent.{Sent}
 use Rattle.krb_core.specs.declared.turn.Turn.{Turn}
 use Rattle.krb_core.specs.declared.turn.Turn.TheVariants.{Send, Take}
@@ -27,7 +24,7 @@ use Rattle.krb_core.specs.Verdicts as verdict
 use Rattle.krb_core.specs.Track.{TrackState, item_at, next_send, after_send, verdict_by, verdict_now, receiver_after, after_take, entries_by, noted, log_behind, log_after}
 use Rattle.krb_core.specs.TrackPlaces.{items_of}
 use Rattle.krb_core.specs.Start.{Ends, IsWire, fresh, IsBegun, AreBegun}
-use Rattle.krb_core.specs.Stepped.{Relay, lane_of, event_of, track_behind, log_behind_turn, turned_at, turned, after}
+use Rattle.krb_core.specs.Stepped.{Relay, lane_of, track_behind, log_behind_turn, turned_at, turned, after}
 use Rattle.krb_core.specs.Claims.{has_ended, IsLogged}
 use Rattle.krb_core.specs.Relayed.{HasBegun, HasTurned}
 use Rattle.krb_core.proofs.ListLemmas.{both_true}

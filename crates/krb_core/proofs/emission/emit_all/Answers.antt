@@ -1,5 +1,5 @@
 -- One frame more, of bytes.
-use Rattle.std.proofs.Common.{rules, ◌≡◌, ◌+◌, ◌<◌, ◌++◌, ◌∷◌, [], length, take, get_or, sym, ap, ◌∙◌, arith}
+use Rattle.std.proofs.Common.{rules, ◌≡◌, ◌<◌, ◌++◌, ◌∷◌, [], length, take, get_or, sym, ap, ◌∙◌, arith}
 use Rattle.std.proofs.lemmas.List.{map_push, map-append, take_more}
 use Rattle.krb_core.specs.Plan.{contents, emission, emissions}
 use Rattle.krb_core.proofs.ListLemmas.{AllBytes-push}

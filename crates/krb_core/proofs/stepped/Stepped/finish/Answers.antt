@@ -1,10 +1,10 @@
 -- Round by round.
-use Rattle.std.proofs.Common.{rules, ◌≡◌, ◌+◌, ◌<◌, ◌≤◌, ◌++◌, ℕ, true, [], List, length, arith}
+use Rattle.std.proofs.Common.{◌≡◌, ◌+◌, ◌<◌, ◌≤◌, ℕ, true, [], List, length, arith}
 use Rattle.krb_core.specs.declared.turn.Turn.{Turn}
 use Rattle.krb_core.specs.Claims.{has_ended}
 use Rattle.krb_core.specs.Stepped.{after, is_done}
 use Rattle.krb_core.specs.Finish.{finishing, whole_log}
-use Rattle.krb_core.proofs.FinishLemmas.{IsPartOf, left_over, left_next, left_last, round_in_part, round_in_full, round_count, served_all, on_ok, front_from, entries_from, done_from, ended_from}
+use Rattle.krb_core.proofs.FinishLemmas.{left_over, left_next, left_last, round_in_part, round_in_full, round_count, served_all, on_ok, front_from, entries_from, done_from, ended_from}
 use Rattle.krb_core.proofs.stepped.Stepped.finish.Goals as goal
 
 pub returns-in_err-round-clause-turns : goal.returns-in_err-round-clause-turns
