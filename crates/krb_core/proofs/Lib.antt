@@ -8,6 +8,7 @@ pub mod DrawsLemmas
 pub mod VerdictLemmas
 pub mod HeadlineLemmas
 pub mod UndisturbedLemmas
+pub mod RoundsLemmas
 pub mod NumberLemmas
 pub mod ReceiverLemmas
 pub mod SendingLemmas
@@ -17,3 +18,4 @@ pub mod SteppedLemmas
 pub mod StartLemmas
 pub mod RelayedLemmas
 pub mod RelayedClaims
+pub mod FinishLemmas

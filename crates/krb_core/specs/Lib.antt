@@ -11,6 +11,7 @@ pub mod Sender
 pub mod Verdicts
 pub mod Headline
 pub mod Undisturbed
+pub mod Rounds
 pub mod ReceiverState
 pub mod Receiver
 pub mod Sending
@@ -20,3 +21,4 @@ pub mod Stepped
 pub mod Start
 pub mod Claims
 pub mod Relayed
+pub mod Finish

@@ -7,6 +7,8 @@ ghost use Rattle.krb_core.specs.Start.{lanes_of, AreBegun, Fails};
 ghost use Rattle.krb_core.specs.Relayed.{HasTurned, GoesOn, KeepsHeadline};
 ghost use Rattle.krb_core.specs.Stepped.{lane_of, turned, after, may_move, is_done};
 
+mod finish;
+
 use crate::log::Log;
 use crate::receiver::Receiving;
 use crate::sending::{Sending, Sent};
