@@ -33,7 +33,7 @@ pub record IsImage {X Y : Type 0} (f : X → Y) (xs : List X) (i : ℕ) (y : Y) 
   pub at : slice_get xs i ≡ Some source
   pub is : y ≡ f source
 
-image : {X Y : Type 0} (f : X → Y) (xs : List X) (i : ℕ) (y : Y) → slice_get (map f xs) i ≡ Some y → IsImage f xs i y
+pub image : {X Y : Type 0} (f : X → Y) (xs : List X) (i : ℕ) (y : Y) → slice_get (map f xs) i ≡ Some y → IsImage f xs i y
 image f [] i y h = absurd (let e = h in cc)
 image f (x ∷ xs) zero y h = record { source = x; at = refl; is = (let e : f x ≡ y = cc in sym e) }
 image f (x ∷ xs) (suc i) y h = let w = image f xs i y h in record { source = w.source; at = w.at; is = w.is }

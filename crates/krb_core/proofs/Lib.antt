@@ -7,6 +7,8 @@ pub mod LogLemmas
 pub mod DrawsLemmas
 pub mod VerdictLemmas
 pub mod HeadlineLemmas
+pub mod UndisturbedLemmas
+pub mod RoundsLemmas
 pub mod NumberLemmas
 pub mod ReceiverLemmas
 pub mod SendingLemmas
@@ -14,3 +16,6 @@ pub mod TrackLemmas
 pub mod ReceiveLemmas
 pub mod SteppedLemmas
 pub mod StartLemmas
+pub mod RelayedLemmas
+pub mod RelayedClaims
+pub mod FinishLemmas

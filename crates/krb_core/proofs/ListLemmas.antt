@@ -1,6 +1,8 @@
 -- Lists and tests that several proofs speak of.
 use Rattle.std.proofs.Common.{◌≡◌, ℕ, zero, suc, ◌+◌, ◌<◌, ◌⊎◌, ◌||◌, ◌&&◌, min, Bool, true, false, List, [], ◌∷◌, ◌++◌, length, take, drop, get_or, slice_get, Some, inl, inr, refl, sym, ap, ap₂, ◌∙◌, arith}
 use Rattle.std.specs.List.{list_all}
+use Rattle.krb_aes.specs.Words.{AreBytes}
+use Rattle.krb_core.specs.Verdicts.{AllBytes}
 
 pub or_assoc : (a b c : Bool) → ((a || b) || c) ≡ (a || (b || c))
 or_assoc true b c = refl
@@ -76,3 +78,7 @@ get_or-take zero k xs d h = absurd (omega arith)
 get_or-take (suc n) k [] d h = refl
 get_or-take (suc n) zero (x ∷ xs) d h = refl
 get_or-take (suc n) (suc k) (x ∷ xs) d h = get_or-take n k xs d (omega arith)
+
+pub AllBytes-push : (frames : List (List ℕ)) (frame : List ℕ) → AllBytes frames → AreBytes frame → AllBytes (frames ++ frame ∷ [])
+AllBytes-push [] frame all bytes = (bytes, tt)
+AllBytes-push (f ∷ frames) frame all bytes = (all.0, AllBytes-push frames frame all.1 bytes)

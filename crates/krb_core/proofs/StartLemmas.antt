@@ -1,5 +1,6 @@
 -- How a lane begins.
-use Rattle.std.proofs.Common.{◌≡◌, ℕ, suc, true, List, [], ◌∷◌, ◌++◌, length, Option, Some, Result, Ok, Err, inr, refl, sym, ap, ap₂, subst, ◌∙◌, arith, append_assoc, length-append}
+use Rattle.std.proofs.Common.{◌≡◌, ℕ, suc, true, List, [], ◌∷◌, ◌++◌, length, map, Option, Some, Result, Ok, Err, inr, refl, sym, ap, ap₂, subst, ◌∙◌, arith, append_assoc, append-nil, length-append, replicate, false}
+use Rattle.std.proofs.lemmas.List.{map_push, map-append, length-map}
 use Rattle.krb_core.specs.Sending.{source_of}
 use Rattle.std.specs.List.{zip}
 use Rattle.std.specs.Prelude.{Vec, IsTrue, IfErr, IsErrAnd, option_map}
@@ -12,49 +13,62 @@ use Rattle.krb_core.specs.declared.sending.Sending.{Sending}
 use Rattle.krb_core.specs.declared.sending.Sent.{Sent}
 use Rattle.krb_core.specs.declared.start.StartError.{StartError}
 use Rattle.krb_core.specs.declared.log.Entry.{Entry}
-use Rattle.krb_core.specs.Log.{is_closed}
+use Rattle.krb_core.specs.Log.{lane_limit, new_log, is_closed}
 use Rattle.krb_core.specs.LogState.{LogState}
 use Rattle.krb_core.specs.Track.{TrackState}
 use Rattle.krb_core.specs.Stepped.{IsRelay}
-use Rattle.krb_core.specs.Start.{IsWire, IsReason, begins, AreBegun, Fails}
+use Rattle.krb_core.specs.Verdicts.{AllBytes}
+use Rattle.krb_core.specs.Start.{Ends, ends_of, IsWire, IsReason, IsBegun, AreBegun, Fails}
 
 -- what a good plan emits is the wire
 pub wire_planned : {A : Type 0} (held : Option (Vec Emit A)) (plan : Vec Emit A) (source : Source) → source.plan ≡ option_map (λ p. p.items) held → (frames emitted : List (List ℕ)) → held ≡ Some plan
-    → AreFrames source (records source) frames → IsTrue (is_good frames plan.items) → emitted ≡ wire frames (Some plan.items) → IsWire source emitted
-wire_planned held plan source plan_is frames emitted some sealed good is =
+    → AreFrames source (records source) frames → IsTrue (is_good frames plan.items) → emitted ≡ wire frames (Some plan.items) → AllBytes emitted → IsWire source emitted
+wire_planned held plan source plan_is frames emitted some sealed good is bytes =
     let e : source.plan ≡ Some plan.items = plan_is ∙ ap (λ o. option_map (λ p. p.items) o) some in
     record {
       frames = frames;
       sealed = sealed;
       planned = rw e good;
       wire_is = is ∙ rw e refl;
+      bytes = bytes;
     }
 
 -- one lane more begins
-pub AreBegun-push : {S : Type 0} (state : S → SealerState) (capacity : ℕ) (lanes : List (Sending S × Receiving)) (tracks : List TrackState) (sents : List Sent) (ends : Sending S × Receiving) (track : TrackState) (sent : Sent)
-    → AreBegun state capacity lanes tracks sents → begins state capacity ends track sent → AreBegun state capacity (lanes ++ ends ∷ []) (tracks ++ track ∷ []) (sents ++ sent ∷ [])
-AreBegun-push state capacity [] [] [] ends track sent h b = (b, tt)
-AreBegun-push state capacity [] [] (x ∷ xs) ends track sent h b = absurd h
-AreBegun-push state capacity [] (t ∷ ts) sents ends track sent h b = absurd h
-AreBegun-push state capacity (e ∷ es) [] sents ends track sent h b = absurd h
-AreBegun-push state capacity (e ∷ es) (t ∷ ts) [] ends track sent h b = absurd h
-AreBegun-push state capacity (e ∷ es) (t ∷ ts) (x ∷ xs) ends track sent h b = (h.0, AreBegun-push state capacity es ts xs ends track sent h.1 b)
+pub AreBegun-push : (capacity : ℕ) (lanes : List Ends) (tracks : List TrackState) (sents : List Sent) (ends : Ends) (track : TrackState) (sent : Sent)
+    → AreBegun capacity lanes tracks sents → IsBegun ends capacity track sent → AreBegun capacity (lanes ++ ends ∷ []) (tracks ++ track ∷ []) (sents ++ sent ∷ [])
+AreBegun-push capacity [] [] [] ends track sent h b = (b, tt)
+AreBegun-push capacity [] [] (x ∷ xs) ends track sent h b = absurd h
+AreBegun-push capacity [] (t ∷ ts) sents ends track sent h b = absurd h
+AreBegun-push capacity (e ∷ es) [] sents ends track sent h b = absurd h
+AreBegun-push capacity (e ∷ es) (t ∷ ts) [] ends track sent h b = absurd h
+AreBegun-push capacity (e ∷ es) (t ∷ ts) (x ∷ xs) ends track sent h b = (h.0, AreBegun-push capacity es ts xs ends track sent h.1 b)
+
+-- of a sender and its receiver, as the code holds them
+pub lanes_begun : {S : Type 0} (state : S → SealerState) (capacity : ℕ) (lanes : List (Sending S × Receiving)) (tracks : List TrackState) (sents : List Sent) (pair : Sending S × Receiving) (track : TrackState) (sent : Sent)
+    → AreBegun capacity (map (ends_of state) lanes) tracks sents → IsBegun (ends_of state pair) capacity track sent → AreBegun capacity (map (ends_of state) (lanes ++ pair ∷ [])) (tracks ++ track ∷ []) (sents ++ sent ∷ [])
+lanes_begun state capacity lanes tracks sents pair track sent h b =
+    rw (map_push (ends_of state) lanes pair) (AreBegun-push capacity (map (ends_of state) lanes) tracks sents (ends_of state pair) track sent h b)
 
 -- as many lanes as senders
 pub record SameLengths (n tracks sents : ℕ) : Type 0 where
   pub tracks_are : tracks ≡ n
   pub sents_are : sents ≡ n
 
-pub AreBegun-length : {S : Type 0} (state : S → SealerState) (capacity : ℕ) (lanes : List (Sending S × Receiving)) (tracks : List TrackState) (sents : List Sent)
-    → AreBegun state capacity lanes tracks sents → SameLengths (length lanes) (length tracks) (length sents)
-AreBegun-length state capacity [] [] [] h = record { tracks_are = refl; sents_are = refl }
-AreBegun-length state capacity [] [] (x ∷ xs) h = absurd h
-AreBegun-length state capacity [] (t ∷ ts) sents h = absurd h
-AreBegun-length state capacity (e ∷ es) [] sents h = absurd h
-AreBegun-length state capacity (e ∷ es) (t ∷ ts) [] h = absurd h
-AreBegun-length state capacity (e ∷ es) (t ∷ ts) (x ∷ xs) h =
-    let l = AreBegun-length state capacity es ts xs h.1 in
+pub AreBegun-length : (capacity : ℕ) (lanes : List Ends) (tracks : List TrackState) (sents : List Sent)
+    → AreBegun capacity lanes tracks sents → SameLengths (length lanes) (length tracks) (length sents)
+AreBegun-length capacity [] [] [] h = record { tracks_are = refl; sents_are = refl }
+AreBegun-length capacity [] [] (x ∷ xs) h = absurd h
+AreBegun-length capacity [] (t ∷ ts) sents h = absurd h
+AreBegun-length capacity (e ∷ es) [] sents h = absurd h
+AreBegun-length capacity (e ∷ es) (t ∷ ts) [] h = absurd h
+AreBegun-length capacity (e ∷ es) (t ∷ ts) (x ∷ xs) h =
+    let l = AreBegun-length capacity es ts xs h.1 in
     record { tracks_are = ap suc l.tracks_are; sents_are = ap suc l.sents_are }
+
+pub lanes_begun-length : {S : Type 0} (state : S → SealerState) (capacity : ℕ) (lanes : List (Sending S × Receiving)) (tracks : List TrackState) (sents : List Sent)
+    → AreBegun capacity (map (ends_of state) lanes) tracks sents → SameLengths (length lanes) (length tracks) (length sents)
+lanes_begun-length state capacity lanes tracks sents h =
+    rw (length-map lanes (ends_of state)) at (AreBegun-length capacity (map (ends_of state) lanes) tracks sents h)
 
 pub length-zip : {A B : Type 0} (xs : List A) (ys : List B) → length xs ≡ length ys → length (zip xs ys) ≡ length xs
 length-zip [] ys e = refl
@@ -81,19 +95,32 @@ pub all_done : {A B : Type 0} (xs rest : List A) (ys others : List B) (done : Li
 all_done xs rest ys others done same e left none =
     omega (arith, ap length e, length-zip xs ys same, length-append done (zip rest others), length-zip rest others left)
 
+pub whole_done : {A B : Type 0} (whole done : List (A × B)) (rest : List A) (others : List B) → whole ≡ done ++ zip rest others → length rest ≡ 0 → whole ≡ done
+whole_done whole done [] others e none = e ∙ append-nil done
+whole_done whole done (x ∷ rest) others e none = absurd (omega (arith, none))
+
+-- the log of a relay that begins is empty
+pub is_new_log : (log : LogState) (count lanes : ℕ) → log.lanes ≡ count → log.entries ≡ [] → log.ended ≡ replicate lane_limit false → lanes ≡ count → log ≡ new_log lanes
+is_new_log log count lanes l e d same =
+    ap₂ (λ n es. let z : LogState = record { lanes = n; entries = es; ended = log.ended } in z) (l ∙ sym same) e
+    ∙ ap (λ d. let z : LogState = record { lanes = lanes; entries = []; ended = d } in z) d
+
 -- a lane that doesn't begin, behind those that do
-pub lane_fails : {S : Type 0} (state : S → SealerState) (capacity : ℕ) (lanes before behind : List (Sending S × Receiving)) (ends : Sending S × Receiving) (tracks : List TrackState) (sents : List Sent) (lane : ℕ) (error : StartError)
-    → lanes ≡ (before ++ ends ∷ []) ++ behind → AreBegun state capacity before tracks sents → lane ≡ length before → IsReason (source_of state (ends.0)) lane error → Fails state capacity lanes error
-lane_fails state capacity lanes before behind ends tracks sents lane error e begun at reason =
+pub lane_fails : {S : Type 0} (state : S → SealerState) (capacity : ℕ) (lanes before behind : List (Sending S × Receiving)) (pair : Sending S × Receiving) (tracks : List TrackState) (sents : List Sent) (lane : ℕ) (error : StartError)
+    → lanes ≡ (before ++ pair ∷ []) ++ behind → AreBegun capacity (map (ends_of state) before) tracks sents → lane ≡ length before → IsReason (source_of state (pair.0)) lane error
+    → Fails capacity (map (ends_of state) lanes) error
+lane_fails state capacity lanes before behind pair tracks sents lane error e begun at reason =
+    let f = ends_of state in
+    let place : lane ≡ length (map f before) = at ∙ sym (length-map before f) in
     inr (record {
-      before = before;
-      ends = ends;
-      behind = behind;
-      lanes_are = e ∙ append_assoc before (ends ∷ []) behind;
+      before = map f before;
+      ends = f pair;
+      behind = map f behind;
+      lanes_are = ap (map f) (e ∙ append_assoc before (pair ∷ []) behind) ∙ map-append f before (pair ∷ behind);
       tracks = tracks;
       sents = sents;
       begun = begun;
-      reason = subst (λ (n : ℕ). IsReason (source_of state (ends.0)) n error) at reason;
+      reason = subst (λ (n : ℕ). IsReason (source_of state (pair.0)) n error) place reason;
     })
 
 pub if_err : {A E : Type 0} (P : E → Type 0) (e : E) (r : Result A E) → IsErrAnd r (λ x. x ≡ e) → P e → IfErr r P

@@ -25,7 +25,7 @@ length-sent [] (suc zero) h = refl
 length-sent [] (suc (suc n)) h = absurd (omega arith)
 length-sent (f ∷ wire) (suc n) h = ap suc (length-sent wire n (omega arith))
 
-take-item : (wire : List (List ℕ)) (n : ℕ) → n ≤ length wire → take (n + 1) (items_of wire) ≡ take n (items_of wire) ++ item_at wire n ∷ []
+pub take-item : (wire : List (List ℕ)) (n : ℕ) → n ≤ length wire → take (n + 1) (items_of wire) ≡ take n (items_of wire) ++ item_at wire n ∷ []
 take-item [] zero h = refl
 take-item [] (suc n) h = absurd (omega arith)
 take-item (f ∷ wire) zero h = refl

@@ -10,6 +10,8 @@ pub mod Draws
 pub mod Sender
 pub mod Verdicts
 pub mod Headline
+pub mod Undisturbed
+pub mod Rounds
 pub mod ReceiverState
 pub mod Receiver
 pub mod Sending
@@ -17,3 +19,6 @@ pub mod Track
 pub mod TrackPlaces
 pub mod Stepped
 pub mod Start
+pub mod Claims
+pub mod Relayed
+pub mod Finish

@@ -1,7 +1,9 @@
 //! What a plan puts on the wire.
 
 ghost use Rattle.std.specs.Prelude.{◌≡◌, ◌↔◌, IsTrue, IsFalse, IfOk, OnOk, Some};
+ghost use Rattle.krb_aes.specs.Words.{AreBytes};
 ghost use Rattle.krb_core.specs.Plan.{contents, is_good, is_good_emission, emission, emissions, wire};
+ghost use Rattle.krb_core.specs.Verdicts.{AllBytes};
 
 use crate::plan::{Emit, EmitError};
 use std::alloc::{AllocError, Global};
@@ -15,6 +17,7 @@ pub fn emit(alloc: Global, frames: &[Vec<u8>], plan: &[Emit]) -> Result<Vec<Vec<
     ensures good { OnOk result (IsTrue (is_good (contents frames.now) plan.now)) }
     ensures bad { (result ≡ Err EmitError.BadPlan)
         ↔ IsFalse (is_good (contents frames.now) plan.now) }
+    ensures bytes { IfOk result (λ emitted. AllBytes (contents emitted.items)) }
 {
     if !is_good(frames, plan) {
         return Err(EmitError::BadPlan);
@@ -44,15 +47,23 @@ fn is_good_emission(frames: &[Vec<u8>], emission: &Emit) -> bool
 /// The emissions of a good plan.
 fn emit_all(alloc: Global, frames: &[Vec<u8>], plan: &[Emit]) -> Result<Vec<Vec<u8>>, AllocError>
     requires { IsTrue (is_good (contents frames.now) plan.now) }
-    ensures { IfOk result (λ emitted.
+    ensures ok { IfOk result (λ emitted.
         contents emitted.items ≡ emissions (contents frames.now) plan.now) }
+    ensures bytes { IfOk result (λ emitted. AllBytes (contents emitted.items)) }
 {
     let mut emitted = Vec::with_capacity(alloc, plan.len())?;
     for emission in plan {
-        emitted.push(emit_one(alloc, frames, emission)?)?;
+        let frame = emit_one(alloc, frames, emission)?;
+        known_bytes(frame.as_slice());
+        emitted.push(frame)?;
     }
     Ok(emitted)
 }
+
+/// What the type of its elements says.
+pub(crate) fn known_bytes(frame: &[u8])
+    ensures { AreBytes frame.now }
+{}
 
 /// One good emission.
 fn emit_one(alloc: Global, frames: &[Vec<u8>], one: &Emit) -> Result<Vec<u8>, AllocError>

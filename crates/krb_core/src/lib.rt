@@ -24,11 +24,14 @@ mod order;
 mod plan;
 mod receiver;
 mod record;
+mod relayed;
+mod rounds;
 mod sending;
 mod start;
 mod stepped;
 mod track;
 mod turn;
+mod undisturbed;
 
 pub use delivery::Delivery;
 pub use emission::emit;
@@ -40,10 +43,13 @@ pub use order::{Order, OrderRefusal};
 pub use plan::{Emit, EmitError};
 pub use receiver::{Receiver, Receiving};
 pub use record::{Record, RecordError, read_record, record_bytes};
+pub use relayed::stepped_laws;
+pub use rounds::rounds_laws;
 pub use sending::{Ending, Sending, Sent};
 pub use start::{StartError, emit_sealed};
 pub use stepped::Stepped;
 pub use turn::{Did, Turn};
+pub use undisturbed::undisturbed_laws;
 
 #[cfg(test)]
 mod tests;

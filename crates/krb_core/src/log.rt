@@ -120,6 +120,13 @@ impl Log {
         self.ended[lane as usize] = true;
     }
 
+    /// How many lanes it has.
+    pub fn lanes(&self) -> u32
+        ensures { result ≡ self.now.lanes }
+    {
+        self.lanes
+    }
+
     /// The entries, oldest first.
     pub fn entries(&self) -> &[Entry]
         ensures { result.now ≡ self.now.entries }

@@ -8,9 +8,11 @@ ghost use Rattle.krb_core.specs.Record.{bytes_of};
 ghost use Rattle.krb_core.specs.Draws.{after_words, confounder_at};
 ghost use Rattle.krb_core.specs.Plan.{contents};
 ghost use Rattle.krb_core.specs.Sender.{Source, AreFrames, records, moment_at};
+ghost use Rattle.krb_core.specs.Verdicts.{AllBytes};
 ghost use Rattle.krb_core.specs.Sending.{source_of, sealed_of, before, behind, IsSender, HasSealed};
 
 use crate::confounder::draw_confounder;
+use crate::emission::known_bytes;
 use crate::plan::Emit;
 use crate::record::{close_record, text_record};
 use krb_base::LAST_NUMBER;
@@ -135,6 +137,7 @@ impl<S: Sealer> Sending<S> {
         requires { IsSender (source_of S.state self.old) }
         ensures frames { IfOk result (λ frames. AreFrames (source_of S.state self.old)
             (records (source_of S.state self.old)) (contents frames.items)) }
+        ensures bytes { IfOk result (λ frames. AllBytes (contents frames.items)) }
         ensures wiped { (S.state self.old.sealer).wiped ≡ true → IsErr result }
         ensures errors { IfErr result (λ e.
             ((e ≡ SealError.Wiped) × ((S.state self.old.sealer).wiped ≡ true))
@@ -144,6 +147,7 @@ impl<S: Sealer> Sending<S> {
         let mut frames = Vec::with_capacity(alloc, count)?;
         for k in 0..count {
             let frame = self.seal_record(alloc, k)?;
+            known_bytes(frame.as_slice());
             frames.push(frame).map_err(AllocError::from)?;
         }
         Ok(frames)

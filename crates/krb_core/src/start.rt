@@ -1,9 +1,9 @@
 //! How a relay that is stepped begins: all is sealed, and each plan is followed.
 
-ghost use Rattle.std.specs.Prelude.{◌≡◌, ◌<◌, false, length, IfOk, IfErr};
+ghost use Rattle.std.specs.Prelude.{◌≡◌, ◌<◌, false, length, Some, IfOk, IfErr};
 ghost use Rattle.krb_core.specs.Plan.{contents};
 ghost use Rattle.krb_core.specs.Sending.{source_of, IsSender};
-ghost use Rattle.krb_core.specs.Start.{code_of, IsBegun, IsWire, IsReason};
+ghost use Rattle.krb_core.specs.Start.{code_of, words_of, ends_of, IsBegun, IsWire, IsReason};
 
 use crate::emission::emit;
 use crate::plan::EmitError;
@@ -40,6 +40,8 @@ impl StartError {
 }
 
 impl fmt::Display for StartError {
+    ghost output = { λ error. Some (words_of error) };
+
     fn fmt<W: fmt::Write>(&self, f: &mut fmt::Formatter<W>) -> fmt::Result {
         match self {
             StartError::Memory => write!(f, "out of memory"),
@@ -103,8 +105,8 @@ pub(crate) fn begin_lane<S: Sealer>(
 ) -> Result<(Track, Sent), StartError>
     requires sender { IsSender (source_of S.state sending) }
     requires moments { 0 < length receiving.nows.items }
-    ensures ok { IfOk result (λ begun. IsBegun (source_of S.state sending)
-        receiving.receiver receiving.nows.items capacity begun.0 begun.1) }
+    ensures ok { IfOk result (λ begun.
+        IsBegun (ends_of S.state (sending, receiving)) capacity begun.0 begun.1) }
     ensures err { IfErr result (λ error. IsReason (source_of S.state sending) lane error) }
 {
     let sent = sending.sent();

@@ -5,6 +5,7 @@ mod frames;
 mod lanes;
 mod senders;
 mod steps;
+mod undisturbed;
 
 ghost use Rattle.std.specs.Prelude.{◌≡◌, IfOk, nat_le, length};
 ghost use Rattle.std.specs.List.{list_all};

@@ -108,6 +108,13 @@ impl Track {
         Ok(Did::Moved)
     }
 
+    /// How many frames its sender emits.
+    pub(crate) fn frames(&self) -> usize
+        ensures { result ≡ length self.now.wire }
+    {
+        self.wire.len()
+    }
+
     /// Whether the end was taken.
     pub(crate) fn is_done(&self) -> bool
         ensures { result ≡ has_end self.now.lane.got }

@@ -2,6 +2,7 @@
 use Rattle.std.proofs.Common.{◌≡◌, ◌++◌, ◌∷◌, [], true, IsErr, ap, ◌∙◌, arith, rules}
 use Rattle.std.proofs.lemmas.List.{map-append}
 use Rattle.krb_core.specs.Sending.{source_of}
+use Rattle.krb_core.proofs.ListLemmas.{AllBytes-push}
 use Rattle.krb_core.proofs.SendingLemmas.{length-records}
 use Rattle.krb_core.proofs.sending.Sending.seal_all.Goals as goal
 
@@ -10,6 +11,7 @@ loop-k-preserved g c =
     let pushed : c.push.new.self.items ≡ c.loop-k.frames.items ++ c.in_ok-frame.frame ∷ [] = search rules in
     record {
       sealed = rw (pushed, map-append) (c.in_ok-frame.ensures.frames _ _ c.loop-k.invariant.sealed);
+      bytes = rw (pushed, map-append) (AllBytes-push _ _ c.loop-k.invariant.bytes (rw c.as_slice.ensures.value at c.known_bytes.ensures));
       none_if_wiped = λ wiped.
           let still : (g.S.Sealer.state c.loop-k.self.sealer).wiped ≡ true = ap (λ s. s.sealer.wiped) c.loop-k.invariant.sealed.state ∙ wiped in
           let failed : IsErr c.seal_record.result = c.seal_record.ensures.wiped still in

@@ -1,0 +1,289 @@
+-- What rounds are.
+use Rattle.std.proofs.Common.{◌≡◌, ℕ, zero, suc, ◌+◌, ◌-◌, ◌<◌, ◌≤◌, max, List, [], ◌∷◌, ◌++◌, length, take, slice_get, Option, Some, None, inl, inr, refl, sym, ap, ap₂, subst, ◌∙◌, arith, append-nil, append_assoc}
+use Rattle.std.specs.List.{All, Contains, flat_map}
+use Rattle.std.proofs.lemmas.List.{take_all}
+use Rattle.std.proofs.lemmas.List.Concat.{flat_map-append}
+use Rattle.std.proofs.lemmas.List.Elements.{All-nil, All-cons, All-head, All-tail, All-append, All-weaker, Contains-append_left, Contains-append_right}
+use Rattle.std.proofs.lemmas.Option.{slice_get_past, slice_get_within}
+use Rattle.std.proofs.lemmas.Bool.Decides.{eqb_tells}
+use Rattle.krb_core.specs.declared.log.Event.{Event}
+use Rattle.krb_core.specs.Log.{events_of}
+use Rattle.krb_core.specs.Rounds.{entry, named, round, rounds_below, longest, rounds, NoneLonger, list_of, Spot, IsSpot, entry_at, IsBefore, Rises, AreRounds}
+use Rattle.krb_core.proofs.ListLemmas.{slice_get-front, lt_or_same}
+use Rattle.krb_core.proofs.SteppedLemmas.{events_of-append}
+
+-- ---- past the longest list nothing comes
+
+abbrev Within : ℕ → List Event → Type 0
+Within n events = length events ≤ n
+
+none-head : (n : ℕ) (events : List Event) (rest : List (List Event)) → NoneLonger n (events ∷ rest) → length events ≤ n
+none-head n events rest h = All-head (Within n) events rest h
+
+none-tail : (n : ℕ) (events : List Event) (rest : List (List Event)) → NoneLonger n (events ∷ rest) → NoneLonger n rest
+none-tail n events rest h = All-tail (Within n) events rest h
+
+pub NoneLonger-more : (n m : ℕ) (lists : List (List Event)) → n ≤ m → NoneLonger n lists → NoneLonger m lists
+NoneLonger-more n m lists le h = All-weaker (Within n) (Within m) (λ events short. omega (arith, short, le)) lists h
+
+pub NoneLonger-longest : (lists : List (List Event)) → NoneLonger (longest lists) lists
+NoneLonger-longest [] = All-nil (Within 0)
+NoneLonger-longest (events ∷ rest) =
+    let n : ℕ = max (length events) (longest rest) in
+    All-cons (Within n) events rest (omega arith) (NoneLonger-more (longest rest) n rest (omega arith) (NoneLonger-longest rest))
+
+longest_least : (n : ℕ) (lists : List (List Event)) → NoneLonger n lists → longest lists ≤ n
+longest_least n [] h = omega arith
+longest_least n (events ∷ rest) h = omega (arith, none-head n events rest h, longest_least n rest (none-tail n events rest h))
+
+round-past : (n lane : ℕ) (lists : List (List Event)) → NoneLonger n lists → round n lane lists ≡ []
+round-past n lane [] h = refl
+round-past n lane (events ∷ rest) h = rw (slice_get_past events n (none-head n events rest h)) (round-past n (lane + 1) rest (none-tail n events rest h))
+
+rounds_below-past : (n : ℕ) (lists : List (List Event)) → NoneLonger n lists → (m : ℕ) → rounds_below (m + n) lists ≡ rounds_below n lists
+rounds_below-past n lists h zero = let e : 0 + n ≡ n = omega arith in rw e refl
+rounds_below-past n lists h (suc m) =
+    let e : suc m + n ≡ suc (m + n) = omega arith in
+    rw (e, round-past (m + n) 0 lists (NoneLonger-more n (m + n) lists (omega arith) h)) (append-nil (rounds_below (m + n) lists) ∙ rounds_below-past n lists h m)
+
+-- from the longest list on, so many rounds are all rounds
+pub rounds-from_below : (n : ℕ) (lists : List (List Event)) → NoneLonger n lists → rounds lists ≡ rounds_below n lists
+rounds-from_below n lists h =
+    let le : longest lists ≤ n = longest_least n lists h in
+    let e : (n - longest lists) + longest lists ≡ n = omega (arith, le) in
+    sym (rounds_below-past (longest lists) lists (NoneLonger-longest lists) (n - longest lists)) ∙ ap (λ k. rounds_below k lists) e
+
+-- ---- one event more
+
+slice_get-push : {V : Type 0} (xs : List V) (x : V) → slice_get (xs ++ x ∷ []) (length xs) ≡ Some x
+slice_get-push [] x = refl
+slice_get-push (y ∷ xs) x = slice_get-push xs x
+
+-- an earlier round is as before
+round-earlier : (n lane : ℕ) (front : List (List Event)) (events : List Event) (event : Event) (back : List (List Event)) → n < length events
+    → round n lane (front ++ (events ++ event ∷ []) ∷ back) ≡ round n lane (front ++ events ∷ back)
+round-earlier n lane [] events event back h = rw (slice_get-front events event n h) refl
+round-earlier n lane (f ∷ front) events event back h = ap (λ r. named lane (slice_get f n) ++ r) (round-earlier n (lane + 1) front events event back h)
+
+-- in its own round the event comes last
+round-push : (lane : ℕ) (front : List (List Event)) (events : List Event) (event : Event) (back : List (List Event)) → NoneLonger (length events) back
+    → round (length events) lane (front ++ (events ++ event ∷ []) ∷ back) ≡ round (length events) lane (front ++ events ∷ back) ++ entry (lane + length front) event ∷ []
+round-push lane [] events event back h =
+    let e : length events ≤ length events = omega arith in
+    let n : lane ≡ lane + 0 = omega arith in
+    rw (slice_get-push events event, slice_get_past events (length events) e, round-past (length events) (lane + 1) back h) (ap (λ k. entry k event ∷ []) n)
+round-push lane (f ∷ front) events event back h =
+    let e : lane + 1 + length front ≡ lane + suc (length front) = omega arith in
+    rw (round-push (lane + 1) front events event back h, e) (sym (append_assoc (named lane (slice_get f (length events))) (round (length events) (lane + 1) (front ++ events ∷ back)) (entry (lane + suc (length front)) event ∷ [])))
+
+rounds_below-earlier : (n : ℕ) (front : List (List Event)) (events : List Event) (event : Event) (back : List (List Event)) → n ≤ length events
+    → rounds_below n (front ++ (events ++ event ∷ []) ∷ back) ≡ rounds_below n (front ++ events ∷ back)
+rounds_below-earlier zero front events event back h = refl
+rounds_below-earlier (suc n) front events event back h =
+    rw (rounds_below-earlier n front events event back (omega (arith, h)), round-earlier n 0 front events event back (omega (arith, h))) refl
+
+-- one event more, of a lane whose followers have no more than it had, is the last entry
+pub rounds_below-push : (front : List (List Event)) (events : List Event) (event : Event) (back : List (List Event)) → NoneLonger (length events) back
+    → rounds_below (suc (length events)) (front ++ (events ++ event ∷ []) ∷ back) ≡ rounds_below (suc (length events)) (front ++ events ∷ back) ++ entry (length front) event ∷ []
+rounds_below-push front events event back h =
+    let e : 0 + length front ≡ length front = omega arith in
+    rw (rounds_below-earlier (length events) front events event back (omega arith), round-push 0 front events event back h, e)
+    (sym (append_assoc (rounds_below (length events) (front ++ events ∷ back)) (round (length events) 0 (front ++ events ∷ back)) (entry (length front) event ∷ [])))
+
+-- ---- the events of one lane
+
+apart : (lane other : ℕ) (o : Option Event) → (lane ≡ other → ⊥) → events_of other (named lane o) ≡ []
+apart lane other None h = refl
+apart lane other (Some event) h = elim (eqb_tells lane other) [ inl same ↦ absurd (h same.1) | inr off ↦ rw (off.0) refl ]
+
+single : Option Event → List Event
+single None = []
+single (Some event) = event ∷ []
+
+own : (lane : ℕ) (o : Option Event) → events_of lane (named lane o) ≡ single o
+unfolding single
+own lane None = refl
+own lane (Some event) = elim (eqb_tells lane lane) [ inl same ↦ rw (same.0) refl | inr off ↦ absurd (off.1 refl) ]
+
+no_events : (n lane other : ℕ) (lists : List (List Event)) → other < lane → events_of other (round n lane lists) ≡ []
+no_events n lane other [] h = refl
+no_events n lane other (events ∷ rest) h =
+    events_of-append other (named lane (slice_get events n)) (round n (lane + 1) rest)
+    ∙ ap₂ (λ a b. a ++ b) (apart lane other (slice_get events n) (λ e. omega (arith, e, h))) (no_events n (lane + 1) other rest (omega (arith, h)))
+
+events_at : (n lane i : ℕ) (lists : List (List Event)) → events_of (lane + i) (round n lane lists) ≡ single (slice_get (list_of lists i) n)
+unfolding single
+events_at n lane i [] = refl
+events_at n lane zero (events ∷ rest) =
+    let e : lane + 0 ≡ lane = omega arith in
+    rw e (events_of-append lane (named lane (slice_get events n)) (round n (lane + 1) rest)
+    ∙ ap₂ (λ a b. a ++ b) (own lane (slice_get events n)) (no_events n (lane + 1) lane rest (omega arith))
+    ∙ append-nil (single (slice_get events n)))
+events_at n lane (suc i) (events ∷ rest) =
+    let e : lane + suc i ≡ lane + 1 + i = omega arith in
+    events_of-append (lane + suc i) (named lane (slice_get events n)) (round n (lane + 1) rest)
+    ∙ ap₂ (λ a b. a ++ b) (apart lane (lane + suc i) (slice_get events n) (λ f. omega (arith, f))) (ap (λ k. events_of k (round n (lane + 1) rest)) e ∙ events_at n (lane + 1) i rest)
+
+take-single : (n : ℕ) (xs : List Event) → take (suc n) xs ≡ take n xs ++ single (slice_get xs n)
+unfolding single
+take-single zero [] = refl
+take-single (suc n) [] = refl
+take-single zero (x ∷ xs) = refl
+take-single (suc n) (x ∷ xs) = ap (λ z. x ∷ z) (take-single n xs)
+
+pub events_below : (n lane : ℕ) (lists : List (List Event)) → events_of lane (rounds_below n lists) ≡ take n (list_of lists lane)
+events_below zero lane lists = refl
+events_below (suc n) lane lists =
+    let e : 0 + lane ≡ lane = omega arith in
+    events_of-append lane (rounds_below n lists) (round n 0 lists)
+    ∙ ap₂ (λ a b. a ++ b) (events_below n lane lists) (ap (λ k. events_of k (round n 0 lists)) (sym e) ∙ events_at n 0 lane lists)
+    ∙ sym (take-single n (list_of lists lane))
+
+short : (lists : List (List Event)) (lane : ℕ) → length (list_of lists lane) ≤ longest lists
+short [] lane = omega arith
+short (events ∷ rest) zero = omega arith
+short (events ∷ rest) (suc lane) = omega (arith, short rest lane)
+
+pub of_lane : (lists : List (List Event)) (lane : ℕ) → events_of lane (rounds lists) ≡ list_of lists lane
+of_lane lists lane = events_below (longest lists) lane lists ∙ take_all (longest lists) (list_of lists lane) (short lists lane)
+
+-- ---- by places and lanes
+
+abbrev spot : ℕ → ℕ → Spot
+spot place lane = record { place = place; lane = lane }
+
+abbrev spot_at : ℕ → ℕ → Option Event → List Spot
+spot_at place lane None = []
+spot_at place lane (Some event) = spot place lane ∷ []
+
+abbrev spots_in : ℕ → ℕ → List (List Event) → List Spot
+spots_in place lane [] = []
+spots_in place lane (events ∷ rest) = spot_at place lane (slice_get events place) ++ spots_in place (lane + 1) rest
+
+abbrev spots_below : ℕ → List (List Event) → List Spot
+spots_below zero lists = []
+spots_below (suc n) lists = spots_below n lists ++ spots_in n 0 lists
+
+-- the lists from a lane on
+abbrev AreFrom : List (List Event) → ℕ → List (List Event) → Type 0
+AreFrom all lane lists = (i : ℕ) → list_of lists i ≡ list_of all (lane + i)
+
+from-first : (all : List (List Event)) → AreFrom all 0 all
+from-first all i = let e : i ≡ 0 + i = omega arith in ap (list_of all) e
+
+there_is : (n : ℕ) (events : List Event) → n < length events → (event : Event) × (slice_get events n ≡ Some event)
+there_is n [] h = absurd (omega (arith, h))
+there_is zero (event ∷ events) h = (event, refl)
+there_is (suc n) (event ∷ events) h = there_is n events (omega (arith, h))
+
+here_in : (n lane : ℕ) (o : Option Event) → (event : Event) × (o ≡ Some event) → Contains (spot_at n lane o) (spot n lane)
+here_in n lane None h = absurd (let e = h.1 in cc)
+here_in n lane (Some event) h = (0, (omega arith), refl)
+
+module _ (all : List (List Event)) where
+  from-next : (lane : ℕ) (events : List Event) (rest : List (List Event)) → AreFrom all lane (events ∷ rest) → AreFrom all (lane + 1) rest
+  from-next lane events rest h i = let e : lane + suc i ≡ lane + 1 + i = omega arith in h (suc i) ∙ ap (list_of all) e
+
+  from-head : (lane : ℕ) (events : List Event) (rest : List (List Event)) → AreFrom all lane (events ∷ rest) → list_of all lane ≡ events
+  from-head lane events rest h = let e : lane ≡ lane + 0 = omega arith in ap (list_of all) e ∙ sym (h 0)
+
+  entries_here : (n lane : ℕ) (o : Option Event) → slice_get (list_of all lane) n ≡ o → flat_map (entry_at all) (spot_at n lane o) ≡ named lane o
+  entries_here n lane None h = refl
+  entries_here n lane (Some event) h = rw h refl
+
+  entries_in : (n lane : ℕ) (lists : List (List Event)) → AreFrom all lane lists → flat_map (entry_at all) (spots_in n lane lists) ≡ round n lane lists
+  entries_in n lane [] h = refl
+  entries_in n lane (events ∷ rest) h =
+      flat_map-append (entry_at all) (spot_at n lane (slice_get events n)) (spots_in n (lane + 1) rest)
+      ∙ ap₂ (λ a b. a ++ b) (entries_here n lane (slice_get events n) (ap (λ z. slice_get z n) (from-head lane events rest h))) (entries_in n (lane + 1) rest (from-next lane events rest h))
+
+  entries_below : (n : ℕ) → flat_map (entry_at all) (spots_below n all) ≡ rounds_below n all
+  entries_below zero = refl
+  entries_below (suc n) =
+      flat_map-append (entry_at all) (spots_below n all) (spots_in n 0 all) ∙ ap₂ (λ a b. a ++ b) (entries_below n) (entries_in n 0 all (from-first all))
+
+  -- what stands in one round
+  record IsIn (n lane : ℕ) (s : Spot) : Type 0 where
+    pub place_is : s.place ≡ n
+    pub from : lane ≤ s.lane
+    pub there : IsSpot all s
+
+  there_here : (n lane : ℕ) (o : Option Event) → slice_get (list_of all lane) n ≡ o → All (IsIn n lane) (spot_at n lane o)
+  there_here n lane None h = All-nil (IsIn n lane)
+  there_here n lane (Some event) h =
+      All-cons (IsIn n lane) (spot n lane) [] (record { place_is = refl; from = omega arith; there = slice_get_within (list_of all lane) n event h }) (All-nil (IsIn n lane))
+
+  there_in : (n lane : ℕ) (lists : List (List Event)) → AreFrom all lane lists → All (IsIn n lane) (spots_in n lane lists)
+  there_in n lane [] h = All-nil (IsIn n lane)
+  there_in n lane (events ∷ rest) h =
+      All-append (IsIn n lane) (spot_at n lane (slice_get events n)) (spots_in n (lane + 1) rest)
+      (there_here n lane (slice_get events n) (ap (λ z. slice_get z n) (from-head lane events rest h)))
+      (All-weaker (IsIn n (lane + 1)) (IsIn n lane) (λ s is. record { place_is = is.place_is; from = omega (arith, is.from); there = is.there }) (spots_in n (lane + 1) rest) (there_in n (lane + 1) rest (from-next lane events rest h)))
+
+  record IsBelow (n : ℕ) (s : Spot) : Type 0 where
+    pub place_below : s.place < n
+    pub there : IsSpot all s
+
+  there_below : (n : ℕ) → All (IsBelow n) (spots_below n all)
+  there_below zero = All-nil (IsBelow 0)
+  there_below (suc n) =
+      All-append (IsBelow (suc n)) (spots_below n all) (spots_in n 0 all)
+      (All-weaker (IsBelow n) (IsBelow (suc n)) (λ s is. record { place_below = omega (arith, is.place_below); there = is.there }) (spots_below n all) (there_below n))
+      (All-weaker (IsIn n 0) (IsBelow (suc n)) (λ s is. record { place_below = omega (arith, is.place_is); there = is.there }) (spots_in n 0 all) (there_in n 0 all (from-first all)))
+
+  each_in : (n lane i : ℕ) (lists : List (List Event)) → n < length (list_of lists i) → Contains (spots_in n lane lists) (spot n (lane + i))
+  each_in n lane i [] h = absurd (omega (arith, h))
+  each_in n lane zero (events ∷ rest) h =
+      let e : lane + 0 ≡ lane = omega arith in
+      let here : Contains (spot_at n lane (slice_get events n)) (spot n lane) = here_in n lane (slice_get events n) (there_is n events h) in
+      rw e (Contains-append_left (spot_at n lane (slice_get events n)) (spots_in n (lane + 1) rest) (spot n lane) here)
+  each_in n lane (suc i) (events ∷ rest) h =
+      let e : lane + 1 + i ≡ lane + suc i = omega arith in
+      Contains-append_right (spot_at n lane (slice_get events n)) (spots_in n (lane + 1) rest) (spot n (lane + suc i)) (rw e at (each_in n (lane + 1) i rest h))
+
+  each_below : (n : ℕ) (s : Spot) → s.place < n → IsSpot all s → Contains (spots_below n all) s
+  each_below zero s lt h = absurd (omega (arith, lt))
+  each_below (suc n) s lt h =
+      elim (lt_or_same s.place n (omega (arith, lt))) [
+        | inl below ↦ Contains-append_left (spots_below n all) (spots_in n 0 all) s (each_below n s below h)
+        | inr same ↦
+            let e : spot n (0 + s.lane) ≡ s = ap₂ (λ p l. spot p l) (sym same) (let f : 0 + s.lane ≡ s.lane = omega arith in f) in
+            let here : Contains (spots_in n 0 all) (spot n (0 + s.lane)) = each_in n 0 s.lane all (let P : ℕ → Type 0 = λ p. p < length (list_of all s.lane) in subst P same h) in
+            Contains-append_right (spots_below n all) (spots_in n 0 all) s (subst (λ z. Contains (spots_in n 0 all) z) e here)
+      ]
+
+  Rises-append : (xs ys : List Spot) → Rises xs → Rises ys → All (λ x. All (IsBefore x) ys) xs → Rises (xs ++ ys)
+  Rises-append [] ys a b c = b
+  Rises-append (x ∷ xs) ys a b c = (
+    All-append (IsBefore x) xs ys a.0 (All-head (λ z. All (IsBefore z) ys) x xs c),
+    Rises-append xs ys a.1 b (All-tail (λ z. All (IsBefore z) ys) x xs c),
+  )
+
+  rises_here : (n lane : ℕ) (o : Option Event) (rest : List Spot) → All (IsIn n (lane + 1)) rest → Rises rest → Rises (spot_at n lane o ++ rest)
+  rises_here n lane None rest later rises = rises
+  rises_here n lane (Some event) rest later rises =
+      (All-weaker (IsIn n (lane + 1)) (IsBefore (spot n lane)) (λ s is. inr (sym is.place_is, omega (arith, is.from))) rest later, rises)
+
+  rises_in : (n lane : ℕ) (lists : List (List Event)) → AreFrom all lane lists → Rises (spots_in n lane lists)
+  rises_in n lane [] h = tt
+  rises_in n lane (events ∷ rest) h =
+      rises_here n lane (slice_get events n) (spots_in n (lane + 1) rest) (there_in n (lane + 1) rest (from-next lane events rest h)) (rises_in n (lane + 1) rest (from-next lane events rest h))
+
+  rises_below : (n : ℕ) → Rises (spots_below n all)
+  rises_below zero = tt
+  rises_below (suc n) =
+      Rises-append (spots_below n all) (spots_in n 0 all) (rises_below n) (rises_in n 0 all (from-first all))
+      (All-weaker (IsBelow n) (λ x. All (IsBefore x) (spots_in n 0 all)) (λ x is.
+      All-weaker (IsIn n 0) (IsBefore x) (λ y in-round. inl (omega (arith, is.place_below, in-round.place_is))) (spots_in n 0 all) (there_in n 0 all (from-first all)))
+      (spots_below n all) (there_below n))
+
+pub by_places : (lists : List (List Event)) → AreRounds lists (rounds lists)
+by_places lists =
+    let n : ℕ = longest lists in
+    record {
+      spots = spots_below n lists;
+      there = All-weaker (IsBelow lists n) (IsSpot lists) (λ s is. is.there) (spots_below n lists) (there_below lists n);
+      each = λ s h. each_below lists n s (omega (arith, h, short lists s.lane)) h;
+      rises = rises_below lists n;
+      entries_are = sym (entries_below lists n);
+    }

@@ -1,0 +1,64 @@
+-- What is claimed of a lane, by what a log has of it.
+use Rattle.std.specs.Prelude.{◌≡◌, ◌↔◌, ℕ, Bool, true, false, List, [], ◌∷◌, ◌++◌, take, slice_get, slice_index_or, Some, Err}
+use Rattle.krb_base.specs.Prefix.{IsPrefix}
+use Rattle.krb_seal.specs.declared.refusal.Refusal.{Refusal}
+use Rattle.krb_core.specs.declared.log.Event.{Event}
+use Rattle.krb_core.specs.declared.log.Event.TheVariants.{Closed}
+use Rattle.krb_core.specs.Log.{events_of, texts_of, texts_in, has_closed, is_closed}
+use Rattle.krb_core.specs.LogState.{LogState}
+use Rattle.krb_core.specs.ReceiverState.{ReceiverState}
+use Rattle.krb_core.specs.Sender.{moment_at, sealed_texts}
+use Rattle.krb_core.specs.Verdicts.{Verdict, Fails, AreVerdicts, records_of, delivered, behind}
+use Rattle.krb_core.specs.Verdicts as verdict
+use Rattle.krb_core.specs.Headline.{IsPaired, AlteredAreHonest}
+use Rattle.krb_core.specs.Undisturbed.{Undisturbed}
+use Rattle.krb_core.specs.Start.{Ends}
+
+-- the log notes that the lane's End was taken
+abbrev pub has_ended : ℕ → LogState → Bool
+has_ended lane log = slice_index_or log.ended lane false
+
+-- These are the verdicts on the frames that a lane's receiver took, each by the records accepted before
+-- it and at the moment of its place, and the log has of the lane what they bring, in order. The
+-- receiver demands what they leave.
+pub record IsLogged (ends : Ends) (lane : ℕ) (took : List (List ℕ)) (log : LogState) (receiver : ReceiverState) (verdicts : List Verdict) : Type 0 where
+  pub judged : AreVerdicts ends.receiver.opener ends.nows ends.receiver.demand 0 took verdicts
+  pub entries : events_of lane log.entries ≡ verdict.events_of verdicts
+  pub receiver_is : receiver ≡ record ends.receiver { demand = behind ends.receiver.demand (records_of verdicts) }
+
+-- the lane is paired: both ends have one key, and the number demanded first is the sealer's next one
+abbrev pub ArePaired : Ends → Type 0
+ArePaired ends = IsPaired ends.source ends.receiver.opener ends.receiver.demand
+
+-- nothing disturbs the lane
+abbrev pub AreUndisturbed : Ends → Type 0
+AreUndisturbed ends = Undisturbed ends.source ends.receiver.opener ends.receiver.demand ends.nows
+
+-- What is claimed of a lane, of which the log has these verdicts on these frames.
+pub record Headline (ends : Ends) (lane : ℕ) (took : List (List ℕ)) (verdicts : List Verdict) (log : LogState) : Type 0 where
+  -- what is delivered is a prefix of the texts that were sealed: in order, and each once
+  pub delivered_prefix :
+      ArePaired ends → AlteredAreHonest ends.source verdicts
+      → IsPrefix (texts_of lane log.entries) (sealed_texts ends.source)
+  -- nothing is delivered and no close is accepted after a close
+  pub nothing_after_close :
+      (front back : List Event) → events_of lane log.entries ≡ front ++ Closed ∷ back
+      → (texts_in back ≡ []) × (has_closed back ≡ false)
+  -- all texts are delivered where the close was accepted
+  pub all_where_closed :
+      ArePaired ends → AlteredAreHonest ends.source verdicts → is_closed lane log.entries ≡ true
+      → texts_of lane log.entries ≡ sealed_texts ends.source
+  -- all texts are delivered where nothing disturbs the lane and its End was taken
+  pub all_where_undisturbed :
+      AreUndisturbed ends → has_ended lane log ≡ true
+      → texts_of lane log.entries ≡ sealed_texts ends.source
+  -- a frame is refused exactly where it fails a check, by the first that it fails
+  pub refused_exactly :
+      (place : ℕ) (frame : List ℕ) (refusal : Refusal) → slice_get took place ≡ Some frame
+      → let demanded = behind ends.receiver.demand (records_of (take place verdicts)) in
+      (slice_get verdicts place ≡ Some (Err refusal)) ↔ Fails ends.receiver.opener demanded (moment_at ends.nows place) frame refusal
+  -- a refusal delivers nothing and moves no number: without it, the same is delivered and demanded
+  pub refusals_deliver_nothing :
+      (front back : List Verdict) (refusal : Refusal) → verdicts ≡ front ++ Err refusal ∷ back
+      → (texts_of lane log.entries ≡ delivered (front ++ back))
+      × (behind ends.receiver.demand (records_of verdicts) ≡ behind ends.receiver.demand (records_of (front ++ back)))

@@ -1,0 +1,108 @@
+-- What is so of a relay that is stepped, whatever its turns.
+use Rattle.std.specs.Prelude.{◌≡◌, ◌≤◌, ℕ, ◌==◌, List, [], ◌∷◌, ◌++◌, length, map, slice_get, Option, Some, None, if◌then◌else◌}
+use Rattle.krb_base.specs.Prefix.{IsPrefix}
+use Rattle.krb_base.specs.Lane.{Item, Frame, End, empty, frames}
+use Rattle.krb_base.specs.Lane as machine
+use Rattle.krb_core.specs.declared.log.Entry.{Entry}
+use Rattle.krb_core.specs.declared.turn.Turn.{Turn}
+use Rattle.krb_core.specs.declared.turn.Turn.TheVariants.{Send, Take}
+use Rattle.krb_core.specs.Log.{lane_limit, new_log}
+use Rattle.krb_core.specs.LogState.{LogState}
+use Rattle.krb_core.specs.Verdicts.{Verdict}
+use Rattle.krb_core.specs.Claims.{IsLogged, Headline}
+use Rattle.krb_core.specs.Track.{TrackState}
+use Rattle.krb_core.specs.TrackPlaces.{items_of}
+use Rattle.krb_core.specs.Start.{Ends, IsWire, AreBegun}
+use Rattle.krb_core.specs.Stepped.{Relay, lane_of, event_of, turned, after}
+
+-- ---- what turns left
+
+-- all lanes have begun, and the log is empty
+pub record HasBegun (lanes : List Ends) (capacity : ℕ) (relay : Relay) : Type 0 where
+  pub few : length lanes ≤ lane_limit
+  pub lanes_are : AreBegun capacity lanes relay.tracks relay.sents
+  pub log : relay.log ≡ new_log (length lanes)
+
+-- a relay of these lanes has begun, and these turns left this of it
+pub record HasTurned (lanes : List Ends) (capacity : ℕ) (turns : List Turn) (relay : Relay) : Type 0 where
+  pub begun : Relay
+  pub start : HasBegun lanes capacity begun
+  pub left : relay ≡ after begun turns
+
+-- ---- the events of turns
+
+-- the event of a turn, where it is one of this lane
+abbrev pub event_at : ℕ → Turn → Option TrackState → List (machine.Event (List ℕ))
+event_at lane turn None = []
+event_at lane turn (Some track) = if lane_of turn == lane then event_of turn track ∷ [] else []
+
+-- the events of a lane, in the order of its turns
+abbrev pub turned_events : ℕ → Relay → List Turn → List (machine.Event (List ℕ))
+turned_events lane relay [] = []
+turned_events lane relay (turn ∷ turns) =
+    event_at lane turn (slice_get relay.tracks (lane_of turn)) ++ turned_events lane (turned relay turn) turns
+
+-- the lane of a take, where a frame is at the front of its queue
+abbrev pub taker_of : ℕ → List (Item (List ℕ)) → List ℕ
+taker_of lane [] = []
+taker_of lane (Frame frame ∷ queue) = lane ∷ []
+taker_of lane (End ∷ queue) = []
+
+abbrev pub taker_by : Turn → TrackState → List ℕ
+taker_by (Send lane) track = []
+taker_by (Take lane) track = taker_of lane track.lane.queue
+
+abbrev pub taker_at : Turn → Option TrackState → List ℕ
+taker_at turn None = []
+taker_at turn (Some track) = taker_by turn track
+
+-- the lane of each turn that took a frame, in the order of the turns
+abbrev pub takers : Relay → List Turn → List ℕ
+takers relay [] = []
+takers relay (turn ∷ turns) = taker_at turn (slice_get relay.tracks (lane_of turn)) ++ takers (turned relay turn) turns
+
+-- the lanes of entries, in order
+abbrev pub lanes_in : List Entry → List ℕ
+lanes_in entries = map (λ entry. entry.lane) entries
+
+-- ---- what is so of each lane
+
+-- the lane is what these events leave of an empty one, and what was sent begins what its sender emits and then End
+pub record IsLane (ends : Ends) (capacity : ℕ) (events : List (machine.Event (List ℕ))) (track : TrackState) : Type 0 where
+  pub emits : IsWire ends.source track.wire
+  pub sent : IsPrefix track.lane.sent (items_of track.wire)
+  pub left : track.lane ≡ machine.after (empty capacity) events
+
+-- ---- the headline
+
+-- the log has the verdicts on what the lane's receiver took, and the claims hold of them
+pub record HasHeadline (ends : Ends) (lane : ℕ) (track : TrackState) (log : LogState) : Type 0 where
+  pub verdicts : List Verdict
+  pub logged : IsLogged ends lane (frames track.lane.got) log track.receiver verdicts
+  pub claims : Headline ends lane (frames track.lane.got) verdicts log
+
+-- ---- of all lanes
+
+-- it holds of each lane of a relay
+abbrev pub OfEachLane : List Ends → Relay → (Ends → ℕ → TrackState → Type 0) → Type 0
+OfEachLane lanes relay Claim =
+    (lane : ℕ) (ends : Ends) → slice_get lanes lane ≡ Some ends
+    → (track : TrackState) × (slice_get relay.tracks lane ≡ Some track) × Claim ends lane track
+
+-- the headline holds of each lane
+abbrev pub HaveHeadline : List Ends → Relay → Type 0
+HaveHeadline lanes relay = OfEachLane lanes relay (λ ends lane track. HasHeadline ends lane track relay.log)
+
+-- ---- from turns to turns
+
+-- whatever was turned before, these turns come behind
+abbrev pub GoesOn : Relay → List Turn → Relay → Type 0
+GoesOn old turns now =
+    (lanes : List Ends) (capacity : ℕ) (before : List Turn) → HasTurned lanes capacity before old
+    → HasTurned lanes capacity (before ++ turns) now
+
+-- whatever was turned before, the headline holds
+abbrev pub KeepsHeadline : Relay → Relay → Type 0
+KeepsHeadline old now =
+    (lanes : List Ends) (capacity : ℕ) (before : List Turn) → HasTurned lanes capacity before old
+    → HaveHeadline lanes now

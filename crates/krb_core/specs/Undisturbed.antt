@@ -1,0 +1,46 @@
+-- A lane that nothing disturbs: what its sender sealed is what its receiver expects, and the wire carries it as it is.
+use Rattle.std.specs.Prelude.{◌≡◌, ℕ, zero, suc, ◌<◌, ◌≤◌, List, [], ◌∷◌, ◌++◌, length, Option, Some, None, All}
+use Rattle.krb_base.specs.Limits.{text_limit}
+use Rattle.krb_seal.specs.Opens.{OpenerState}
+use Rattle.krb_seal.specs.Laws.{Agree}
+use Rattle.krb_core.specs.declared.plan.Emit.{Emit}
+use Rattle.krb_core.specs.declared.plan.Emit.TheVariants.{Frame}
+use Rattle.krb_core.specs.Demand.{Demand}
+use Rattle.krb_core.specs.Plan.{wire}
+use Rattle.krb_core.specs.Sender.{Source, moment_at, records, AreFrames}
+use Rattle.krb_core.specs.Verdicts.{Verdict}
+use Rattle.krb_core.specs.Headline.{IsPaired, IsRun}
+
+-- each of so many frames once: 0, 1, ..
+abbrev pub in_order : ℕ → List Emit
+in_order zero = []
+in_order (suc n) = in_order n ++ Frame n ∷ []
+
+-- the wire carries so many frames as they are: without a plan, or by the plan that says so
+abbrev pub IsInOrder : Option (List Emit) → ℕ → Type 0
+IsInOrder None n = Unit {0}
+IsInOrder (Some plan) n = plan ≡ in_order n
+
+-- The lane is paired, and both ends speak of one mode and of the same addresses. The k-th frame is
+-- taken within the skew of the moment at which record k is sealed. No text is too long, and the wire
+-- carries the frames as they are.
+pub record Undisturbed (source : Source) (opener : OpenerState) (start : Demand) (nows : List ℕ) : Type 0 where
+  pub paired : IsPaired source opener start
+  pub agree :
+      (k : ℕ) → k < length (records source)
+      → Agree source.sealer.session opener.expect (moment_at source.ats k) (moment_at nows k)
+  pub short : All (λ text. length text ≤ text_limit) source.texts
+  pub plan : IsInOrder source.plan (length (records source))
+
+-- all that the wire carries was taken, of the frames of all records
+pub record TakesAll (source : Source) (took : List (List ℕ)) : Type 0 where
+  pub frames : List (List ℕ)
+  pub sealed : AreFrames source (records source) frames
+  pub whole : took ≡ wire frames source.plan
+
+-- it holds of each run of an undisturbed lane
+abbrev pub OfUndisturbed : (Source → Demand → List (List ℕ) → List Verdict → Type 0) → Type 0
+OfUndisturbed Claim =
+    (source : Source) (opener : OpenerState) (start : Demand) (nows : List ℕ) (took : List (List ℕ)) (verdicts : List Verdict)
+    → Undisturbed source opener start nows → IsRun source opener start nows took verdicts
+    → Claim source start took verdicts

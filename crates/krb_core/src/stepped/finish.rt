@@ -1,0 +1,64 @@
+//! Running to the end.
+
+ghost use Rattle.std.specs.Prelude.{◌≡◌, ◌<◌, ℕ, true, List, length, OnOk};
+ghost use Rattle.krb_base.specs.Prefix.{IsPrefix};
+ghost use Rattle.krb_core.specs.declared.turn.Turn.{Turn};
+ghost use Rattle.krb_core.specs.Claims.{has_ended};
+ghost use Rattle.krb_core.specs.Stepped.{after, is_done};
+ghost use Rattle.krb_core.specs.Finish.{round_turns, finishing, longest_wire, FromStart, whole_log};
+
+use super::Stepped;
+use crate::turn::Turn;
+use std::alloc::AllocError;
+
+impl Stepped {
+    /// Steps a send and a take of each lane in turn, round after round, until every end was taken.
+    ///
+    /// Of a relay through which nothing went, the log is then all that becomes of the frames, in
+    /// rounds: the first frame of each lane, by lane number, then the second of each, and so on.
+    /// Each queue needs room for one frame. The first want of memory ends it, with the earlier
+    /// turns done: the log has a front of those entries.
+    pub fn finish(&mut self) -> Result<(), AllocError>
+        ensures turns { (done : List Turn) × IsPrefix done (finishing self.old.tracks)
+            × (self.new ≡ after self.old done) }
+        ensures ok { OnOk result (self.new ≡ after self.old (finishing self.old.tracks)) }
+
+        ensures rounds { FromStart self.old (OnOk result
+            (self.new.log.entries ≡ whole_log self.old)) }
+        ensures done { FromStart self.old (OnOk result (is_done self.new ≡ true)) }
+        ensures ended { FromStart self.old (OnOk result ((lane : ℕ)
+            → lane < length self.old.tracks → has_ended lane self.new.log ≡ true)) }
+        ensures front { FromStart self.old (IsPrefix self.new.log.entries (whole_log self.old)) }
+    {
+        for _ in 0..self.longest() {
+            self.round()?;
+        }
+        self.round()
+    }
+
+    /// A send and a take of each lane, by lane number.
+    fn round(&mut self) -> Result<(), AllocError>
+        ensures turns { (done : List Turn)
+            × IsPrefix done (round_turns 0 (length self.old.tracks))
+            × (self.new ≡ after self.old done) }
+        ensures ok { OnOk result
+            (self.new ≡ after self.old (round_turns 0 (length self.old.tracks))) }
+    {
+        for lane in 0..self.log.lanes() {
+            self.step(Turn::Send(lane))?;
+            self.step(Turn::Take(lane))?;
+        }
+        Ok(())
+    }
+
+    /// How many frames the longest wire has.
+    fn longest(&self) -> usize
+        ensures { result ≡ longest_wire self.now.tracks }
+    {
+        let mut longest = 0;
+        for track in &self.tracks {
+            longest = longest.max(track.frames());
+        }
+        longest
+    }
+}
