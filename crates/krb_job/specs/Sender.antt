@@ -7,7 +7,7 @@ use Rattle.krb_job.specs.declared.place.Place.{Place}
 use Rattle.krb_job.specs.declared.place.Place.TheVariants.{Etype, Key, Mode, First, From, To, WriteTo, RequireTo, ExpectTime, Skew, Seed, At, Now, Texts, Plan, Frames, UnknownKey}
 use Rattle.krb_job.specs.declared.job.Command.{Command}
 use Rattle.krb_job.specs.declared.job.Command.TheVariants.{Seal, Open, Relay}
-use Rattle.krb_job.specs.declared.job.Emission.{Emission}
+use Rattle.krb_core.specs.declared.plan.Emit.{Emit}
 use Rattle.krb_job.specs.Checks.{◌>>=◌}
 use Rattle.krb_job.specs.Place.{name_of}
 use Rattle.krb_job.specs.Values.{number_of, flag_of, mode_of, key_of, seed_of}
@@ -37,7 +37,7 @@ pub record Traffic : Type 0 where
   pub ats : List ℕ
   pub nows : List ℕ
   pub texts : List (List ℕ)
-  pub plan : Option (List Emission)
+  pub plan : Option (List Emit)
   pub frames : List (List ℕ)
 
 -- a sender as the job states it
@@ -56,7 +56,7 @@ pub record Sender : Type 0 where
   pub ats : List ℕ
   pub nows : List ℕ
   pub texts : List (List ℕ)
-  pub plan : Option (List Emission)
+  pub plan : Option (List Emit)
   pub frames : List (List ℕ)
 
 abbrev pub seals : Command → Bool

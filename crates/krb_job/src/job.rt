@@ -4,6 +4,7 @@ ghost use Rattle.std.specs.Prelude.{◌≡◌};
 ghost use Rattle.krb_job.specs.Sender.{seals, opens};
 
 use krb_base::Bytes;
+use krb_core::Emit;
 use krb_der::{HostAddress, Moment};
 use krb_seal::Mode;
 
@@ -32,17 +33,6 @@ impl Command {
     {
         matches!(self, Command::Open)
     }
-}
-
-/// One emission of a plan: what is put on the wire next.
-#[derive(Debug, Drop)]
-pub enum Emission {
-    /// Frame `k` of the sender, as it is.
-    Frame(usize),
-    /// Frame `k` with its byte `at` changed by exclusive or with `mask`.
-    Flip { k: usize, at: usize, mask: u8 },
-    /// These bytes, whatever was sealed.
-    Raw(Bytes),
 }
 
 /// One sender of a job. What the command does not allow is `None` or empty.
@@ -77,7 +67,7 @@ pub struct SenderJob {
     /// What is sent.
     pub texts: Vec<Bytes>,
     /// What is put on the wire, if not each frame once.
-    pub plan: Option<Vec<Emission>>,
+    pub plan: Option<Vec<Emit>>,
     /// What is opened.
     pub frames: Vec<Bytes>,
 }

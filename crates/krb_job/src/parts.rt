@@ -2,8 +2,8 @@
 
 ghost use Rattle.std.specs.Prelude.{◌≤◌};
 
-use crate::job::Emission;
 use krb_base::Bytes;
+use krb_core::Emit;
 use krb_der::{HostAddress, Moment};
 use krb_seal::Mode;
 
@@ -37,6 +37,6 @@ pub(crate) struct Traffic {
     pub(crate) ats: Vec<Moment>,
     pub(crate) nows: Vec<Moment>,
     pub(crate) texts: Vec<Bytes>,
-    pub(crate) plan: Option<Vec<Emission>>,
+    pub(crate) plan: Option<Vec<Emit>>,
     pub(crate) frames: Vec<Bytes>,
 }

@@ -13,11 +13,11 @@ ghost use Rattle.krb_job.specs.Lists.{moments_of, texts_of, plan_of, frames_of};
 ghost use Rattle.krb_job.specs.Keys.{at_key, needed, optional, only_if, some, has_only};
 
 use crate::address::read_address;
-use crate::job::Emission;
 use crate::lists::{read_frames, read_moments, read_plan, read_texts};
 use crate::place::{KeyError, Place};
 use crate::values::{read_flag, read_mode, read_number, read_seed};
 use krb_base::Bytes;
+use krb_core::Emit;
 use krb_der::{HostAddress, Moment};
 use krb_seal::Mode;
 use std::alloc::Global;
@@ -146,7 +146,7 @@ pub(crate) fn plan(
     table: &Table,
     place: Place,
     allowed: bool,
-) -> Result<Option<Vec<Emission>>, KeyError>
+) -> Result<Option<Vec<Emit>>, KeyError>
     ensures { Gives (λ o. option_map (λ v. v.items) o) result
         (only_if allowed None place (optional None place (some plan_of) (table_view table.now))
         (table_view table.now)) }
@@ -158,7 +158,7 @@ pub(crate) fn plan(
     }
 }
 
-fn some_plan(alloc: Global, place: Place, value: &Value) -> Result<Option<Vec<Emission>>, KeyError>
+fn some_plan(alloc: Global, place: Place, value: &Value) -> Result<Option<Vec<Emit>>, KeyError>
     ensures { Gives (λ o. option_map (λ v. v.items) o) result
         (ok_or (some plan_of (view value.now)) place) }
 {

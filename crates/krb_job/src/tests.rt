@@ -1,4 +1,5 @@
-use crate::{BadInput, Command, Emission, Job, JobError, Place, read_job};
+use crate::{BadInput, Command, Job, JobError, Place, read_job};
+use krb_core::Emit;
 use krb_seal::Mode;
 use std::alloc::{AllocError, Global};
 use std::test::Fail;
@@ -244,11 +245,11 @@ fn whole_job(rt: HostRuntime) -> Result<(), Fail> {
     assert_eq!(rt; sender.frames.len(), 0);
     let plan = sender.plan.as_ref().ok_or("a plan")?;
     assert_eq!(rt; plan.len(), 3);
-    assert!(rt; matches!(&plan[0], Emission::Frame(1)));
+    assert!(rt; matches!(&plan[0], Emit::Frame(1)));
     assert!(rt;
         matches!(
             &plan[1],
-            Emission::Flip {
+            Emit::Flip {
                 k: 0,
                 at: 9,
                 mask: 10
