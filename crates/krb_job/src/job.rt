@@ -1,6 +1,10 @@
 //! Jobs, as the commands use them.
 
-ghost use Rattle.std.specs.Prelude.{◌≡◌};
+ghost use Rattle.std.specs.Prelude.{◌≡◌, ◌≤◌, ◌<◌, length, IsSome};
+ghost use Rattle.std.proofs.Props.{props};
+ghost use Rattle.krb_seal.specs.Session.{IsShortAddress};
+ghost use Rattle.krb_job.specs.Limits.{IsKeyOf, IsKeyOf-prop, AreShortTexts, skew_limit};
+ghost use Rattle.krb_job.specs.Limits.{capacity_limit, sender_limit};
 ghost use Rattle.krb_job.specs.Sender.{seals, opens};
 
 use krb_base::Bytes;
@@ -70,6 +74,14 @@ pub struct SenderJob {
     pub plan: Option<Vec<Emit>>,
     /// What is opened.
     pub frames: Vec<Bytes>,
+    // Each limit was checked when the job was read.
+    pub ghost key_fits: { IsKeyOf etype key } by { IsKeyOf-prop etype key },
+    pub ghost from_short: { IsShortAddress from },
+    pub ghost to_short: { IsShortAddress to },
+    pub ghost skew_fits: { skew ≤ skew_limit },
+    pub ghost texts_short: { AreShortTexts texts.items } by { Prim.hlevel props },
+    pub ghost has_nows: { 0 < length nows.items },
+    pub ghost has_ats: { IsSome seed → 0 < length ats.items },
 }
 
 /// A job.
@@ -79,4 +91,8 @@ pub struct Job {
     pub capacity: usize,
     /// The senders, 1 to 8 for `relay`, one for the other commands.
     pub senders: Vec<SenderJob>,
+    pub ghost capacity_fits: { capacity ≤ capacity_limit },
+    pub ghost has_capacity: { 1 ≤ capacity },
+    pub ghost senders_fit: { length senders.items ≤ sender_limit },
+    pub ghost has_sender: { 1 ≤ length senders.items },
 }

@@ -14,7 +14,7 @@ use crate::job::{Command, SenderJob};
 use crate::parts::{Ends, Protection, Traffic};
 use crate::place::{KeyError, Place};
 use crate::table::{
-    address, entry, flag, frames, has_only, mode, moments, number, plan, seed, texts,
+    address, entry, flag, frames, has_only, mode, moments, moments_if, number, plan, seed, texts,
 };
 use crate::values::read_bytes;
 use krb_base::Bytes;
@@ -109,8 +109,8 @@ fn read_traffic(alloc: Global, table: &Table, command: Command) -> Result<Traffi
 {
     let seals = command.seals();
     let seed = seed(table, Place::Seed, seals)?;
-    let ats = moments(alloc, table, Place::At, seals)?;
-    let nows = moments(alloc, table, Place::Now, seals)?;
+    let ats = moments_if(alloc, table, Place::At, seals)?;
+    let nows = moments(alloc, table, Place::Now)?;
     let texts = texts(alloc, table, Place::Texts, seals)?;
     let plan = plan(alloc, table, Place::Plan, seals)?;
     let frames = frames(alloc, table, Place::Frames, command.opens())?;

@@ -90,7 +90,16 @@ pub(crate) fn seed(table: &Table, place: Place, allowed: bool) -> Result<Option<
     }
 }
 
-pub(crate) fn moments(
+pub(crate) fn moments(alloc: Global, table: &Table, place: Place) -> Result<Vec<Moment>, KeyError>
+    ensures { Gives (λ v. v.items) result (needed place moments_of (table_view table.now)) }
+{
+    match entry(table, place) {
+        Some(value) => read_moments(alloc, place, value),
+        None => Err(KeyError::Bad(place)),
+    }
+}
+
+pub(crate) fn moments_if(
     alloc: Global,
     table: &Table,
     place: Place,

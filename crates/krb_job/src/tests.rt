@@ -27,7 +27,7 @@ const SENT: [(&str, &str); 4] = [
 ];
 
 /// What a sender has besides for `open`.
-const OPENED: [(&str, &str); 1] = [("frames", "frames = [\"74\"]\n")];
+const OPENED: [(&str, &str); 2] = [("now", "now = [0]\n"), ("frames", "frames = [\"74\"]\n")];
 
 /// A sender's table with the lines but the one of `key`, and with `line` in its place.
 fn sender(
@@ -151,7 +151,7 @@ fn bad_keys_of_open(rt: HostRuntime) -> Result<(), Fail> {
     let table = [
         (Place::Seed, "seed = \"00\""),
         (Place::At, "at = [1]"),
-        (Place::Now, "now = [1]"),
+        (Place::Now, ""),
         (Place::Texts, "texts = []"),
         (Place::Plan, "plan = []"),
         (Place::Frames, ""),
