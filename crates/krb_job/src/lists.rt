@@ -5,7 +5,8 @@ ghost use Rattle.toml.specs.View.{view, array_view, items_view};
 ghost use Rattle.krb_job.specs.Checks.{Gives};
 ghost use Rattle.krb_job.specs.Values.{bytes_of};
 ghost use Rattle.krb_job.specs.Emission.{emission_of};
-ghost use Rattle.krb_job.specs.Lists.{each, items_of, moment_of, moments_of, texts_of, plan_of, frames_of};
+ghost use Rattle.krb_job.specs.Lists.{each, items_of, moment_of, moments_of, texts_of, plan_of};
+ghost use Rattle.krb_job.specs.Lists.{frames_of};
 
 use crate::emission::read_emission;
 use crate::place::{KeyError, Place};

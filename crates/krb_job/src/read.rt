@@ -4,7 +4,8 @@ ghost use Rattle.std.specs.Prelude.{◌≡◌, [], map, true, length, IsSome, If
 ghost use Rattle.toml.specs.View.{view, items_view, table_view};
 ghost use Rattle.krb_job.specs.SenderView.{keys_of, sender_view};
 ghost use Rattle.toml.specs.Data.{Members};
-ghost use Rattle.krb_job.specs.Job.{GivesJob, IsTree, job_of, job_view, most_senders, sender_at, senders_from};
+ghost use Rattle.krb_job.specs.Job.{GivesJob, IsTree, job_of, job_view, most_senders, sender_at};
+ghost use Rattle.krb_job.specs.Job.{senders_from};
 ghost use Rattle.krb_job.specs.Sender.{seals};
 
 use crate::bad_input::{BadInput, JobError};

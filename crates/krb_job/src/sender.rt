@@ -7,8 +7,10 @@ ghost use Rattle.toml.specs.View.{view, table_view};
 ghost use Rattle.krb_job.specs.Checks.{Gives};
 ghost use Rattle.krb_job.specs.Values.{key_size, key_of};
 ghost use Rattle.krb_job.specs.Keys.{needed, has_only};
-ghost use Rattle.krb_job.specs.Sender.{protection_of, ends_of, traffic_of, sender_of, sender_keys, together};
-ghost use Rattle.krb_job.specs.SenderView.{keys_of, protection_view, ends_view, traffic_view, sender_view};
+ghost use Rattle.krb_job.specs.Sender.{protection_of, ends_of, traffic_of, sender_of};
+ghost use Rattle.krb_job.specs.Sender.{sender_keys, together};
+ghost use Rattle.krb_job.specs.SenderView.{keys_of, protection_view, ends_view, traffic_view};
+ghost use Rattle.krb_job.specs.SenderView.{sender_view};
 
 use crate::job::{Command, SenderJob};
 use crate::parts::{Ends, Protection, Traffic};

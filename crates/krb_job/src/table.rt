@@ -38,7 +38,8 @@ pub(crate) fn entry<'a>(table: &'a Table, place: Place) -> Option<&'a Value>
 }
 
 pub(crate) fn number(table: &Table, place: Place, low: u64, high: u64) -> Result<u64, KeyError>
-    ensures value { Gives (λ n. n) result (needed place (number_of low high) (table_view table.now)) }
+    ensures value { Gives (λ n. n) result
+        (needed place (number_of low high) (table_view table.now)) }
     ensures low { IfOk result (λ n. low ≤ n) }
     ensures high { IfOk result (λ n. n ≤ high) }
 {
