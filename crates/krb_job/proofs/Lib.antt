@@ -3,6 +3,9 @@ pub mod DecimalLemmas
 pub mod FailLemmas
 pub mod ListLemmas
 pub mod SenderLemmas
+pub mod Given
+pub mod JobLimits
 pub mod KeyLemmas
+pub mod LimitLemmas
 pub mod JobLemmas
 pub mod TreeLemmas

@@ -2,14 +2,11 @@
 use Rattle.std.specs.Prelude.{ℕ, List, Option, Some, None}
 use Rattle.toml.specs.Data.{Data, string}
 use Rattle.krb_der.specs.declared.address.HostAddress.{HostAddress}
+use Rattle.krb_seal.specs.Session.{address_limit}
 use Rattle.krb_job.specs.Steps.{◌>>=◌}
 use Rattle.krb_job.specs.Decimal.{int32_of}
 use Rattle.krb_job.specs.Text.{split_at}
 use Rattle.krb_job.specs.Values.{hex_of}
-
--- the most bytes of an address
-abbrev pub address_limit : ℕ
-address_limit = 32
 
 -- a colon is 58
 abbrev pub address_named : List ℕ → Option HostAddress

@@ -17,6 +17,7 @@ use Rattle.krb_job.specs.declared.bad_input.JobError.{JobError}
 use Rattle.krb_job.specs.declared.bad_input.JobError.TheVariants as errors
 use Rattle.krb_job.specs.Checks.{◌>>=◌}
 use Rattle.krb_job.specs.Values.{number_of}
+use Rattle.krb_job.specs.Limits.{capacity_limit, sender_limit}
 use Rattle.krb_job.specs.Lists.{count}
 use Rattle.krb_job.specs.Keys.{has_only}
 use Rattle.krb_job.specs.Sender.{Sender, sender_of}
@@ -32,7 +33,7 @@ job_view job = record { capacity = job.capacity; senders = map sender_view job.s
 -- 1 where the key is absent
 abbrev pub capacity_if_there : Option Data → Option ℕ
 capacity_if_there None = Some 1
-capacity_if_there (Some d) = number_of 1 64 d
+capacity_if_there (Some d) = number_of 1 capacity_limit d
 
 abbrev pub capacity_of : Members → Result ℕ BadInput
 capacity_of ms = ok_or (capacity_if_there (get_member (codes "capacity") ms)) bad.Capacity
@@ -48,7 +49,7 @@ are_tables (item d ds) = is_table d && are_tables ds
 abbrev pub most_senders : Command → ℕ
 most_senders Seal = 1
 most_senders Open = 1
-most_senders Relay = 8
+most_senders Relay = sender_limit
 
 -- tables, as many as the command allows
 abbrev pub are_senders : Command → Items → Bool

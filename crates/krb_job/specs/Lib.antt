@@ -5,6 +5,7 @@ pub mod Decimal
 pub mod Emission
 pub mod Job
 pub mod Keys
+pub mod Limits
 pub mod Lists
 pub mod Place
 pub mod Sender

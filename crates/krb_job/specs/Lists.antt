@@ -3,7 +3,7 @@ use Rattle.std.specs.Prelude.{ℕ, ◌+◌, nat_le, ◌&&◌, List, [], ◌∷�
 use Rattle.toml.specs.Data.{Data, array, Items, no_items, item}
 use Rattle.krb_base.specs.Limits.{text_limit, raw_limit}
 use Rattle.krb_der.specs.Moment.{last_moment}
-use Rattle.krb_job.specs.declared.job.Emission.{Emission}
+use Rattle.krb_core.specs.declared.plan.Emit.{Emit}
 use Rattle.krb_job.specs.Steps.{◌>>=◌}
 use Rattle.krb_job.specs.Emission.{emission_of}
 use Rattle.krb_job.specs.Values.{number_of, bytes_of}
@@ -38,7 +38,7 @@ moments_of = list_of 1 2000 moment_of
 abbrev pub texts_of : Data → Option (List (List ℕ))
 texts_of = list_of 0 1000 (bytes_of 0 text_limit)
 
-abbrev pub plan_of : Data → Option (List Emission)
+abbrev pub plan_of : Data → Option (List Emit)
 plan_of = list_of 0 2000 emission_of
 
 abbrev pub frames_of : Data → Option (List (List ℕ))

@@ -1,14 +1,16 @@
 -- One sender of a job: its keys in the order in which they are checked, unknown keys last.
 use Rattle.std.specs.Prelude.{ℕ, ℤ, pos, Bool, true, false, List, [], ◌∷◌, map, Option, None, Result, Ok, Err}
 use Rattle.toml.specs.Data.{Members}
+use Rattle.krb_base.specs.Limits.{last_number}
 use Rattle.krb_der.specs.declared.address.HostAddress.{HostAddress}
 use Rattle.krb_seal.specs.declared.session.Mode.{Mode as ModeOf}
 use Rattle.krb_job.specs.declared.place.Place.{Place}
 use Rattle.krb_job.specs.declared.place.Place.TheVariants.{Etype, Key, Mode, First, From, To, WriteTo, RequireTo, ExpectTime, Skew, Seed, At, Now, Texts, Plan, Frames, UnknownKey}
 use Rattle.krb_job.specs.declared.job.Command.{Command}
 use Rattle.krb_job.specs.declared.job.Command.TheVariants.{Seal, Open, Relay}
-use Rattle.krb_job.specs.declared.job.Emission.{Emission}
+use Rattle.krb_core.specs.declared.plan.Emit.{Emit}
 use Rattle.krb_job.specs.Checks.{◌>>=◌}
+use Rattle.krb_job.specs.Limits.{skew_limit}
 use Rattle.krb_job.specs.Place.{name_of}
 use Rattle.krb_job.specs.Values.{number_of, flag_of, mode_of, key_of, seed_of}
 use Rattle.krb_job.specs.Address.{address_of}
@@ -37,7 +39,7 @@ pub record Traffic : Type 0 where
   pub ats : List ℕ
   pub nows : List ℕ
   pub texts : List (List ℕ)
-  pub plan : Option (List Emission)
+  pub plan : Option (List Emit)
   pub frames : List (List ℕ)
 
 -- a sender as the job states it
@@ -56,7 +58,7 @@ pub record Sender : Type 0 where
   pub ats : List ℕ
   pub nows : List ℕ
   pub texts : List (List ℕ)
-  pub plan : Option (List Emission)
+  pub plan : Option (List Emit)
   pub frames : List (List ℕ)
 
 abbrev pub seals : Command → Bool
@@ -75,7 +77,7 @@ protection_of earlier ms = do
   etype ← needed Etype (number_of 17 18) ms
   key ← needed Key (key_of etype earlier) ms
   mode ← needed Mode mode_of ms
-  first ← needed First (number_of 0 4294967295) ms
+  first ← needed First (number_of 0 last_number) ms
   Ok (record { etype = etype; key = key; mode = mode; first = first })
 
 unfoldable pub ends_of : Members → Result Ends Place
@@ -85,14 +87,14 @@ ends_of ms = do
   write_to ← optional false WriteTo flag_of ms
   require_to ← optional false RequireTo flag_of ms
   expect_time ← optional true ExpectTime flag_of ms
-  skew ← needed Skew (number_of 0 86400) ms
+  skew ← needed Skew (number_of 0 skew_limit) ms
   Ok (record { from = from; to = to; write_to = write_to; require_to = require_to; expect_time = expect_time; skew = skew })
 
 unfoldable pub traffic_of : Command → Members → Result Traffic Place
 traffic_of command ms = do
   seed ← only_if (seals command) None Seed (needed Seed (some seed_of) ms) ms
   ats ← only_if (seals command) [] At (needed At moments_of ms) ms
-  nows ← only_if (seals command) [] Now (needed Now moments_of ms) ms
+  nows ← needed Now moments_of ms
   texts ← only_if (seals command) [] Texts (needed Texts texts_of ms) ms
   plan ← only_if (seals command) None Plan (optional None Plan (some plan_of) ms) ms
   frames ← only_if (opens command) [] Frames (needed Frames frames_of ms) ms

@@ -3,7 +3,7 @@
 ghost use Rattle.std.specs.Prelude.{◌≡◌, ok_or};
 ghost use Rattle.toml.specs.View.{view};
 ghost use Rattle.krb_job.specs.Checks.{Gives};
-ghost use Rattle.krb_job.specs.Address.{address_limit, address_named, address_of};
+ghost use Rattle.krb_job.specs.Address.{address_named, address_of};
 
 use crate::decimal::read_int32;
 use crate::place::{KeyError, Place};

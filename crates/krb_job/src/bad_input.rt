@@ -20,8 +20,8 @@ pub enum BadInput {
     Sender,
     /// A key at the top that no job has.
     UnknownKey,
-    /// A key of a sender, counted from 0, is absent, not allowed or of another value, or is one that
-    /// no sender has.
+    /// A key of a sender, counted from 0, is absent, not allowed or of another value, or is one
+    /// that no sender has.
     InSender { sender: usize, place: Place },
 }
 

@@ -1,7 +1,8 @@
 //! Decimal numbers with one spelling each.
 
 ghost use Rattle.std.specs.Prelude.{◌≡◌, ◌≤◌, ◌<◌, length, IfSome};
-ghost use Rattle.krb_job.specs.Decimal.{digit_of, is_plain, digits_from, decimal_of, negative, not_negative, int32_of};
+ghost use Rattle.krb_job.specs.Decimal.{digit_of, is_plain, digits_from, decimal_of, negative};
+ghost use Rattle.krb_job.specs.Decimal.{not_negative, int32_of};
 
 /// The most digits of a number that is read here.
 const MOST_DIGITS: usize = 10;

@@ -6,11 +6,11 @@ ghost use Rattle.krb_job.specs.Checks.{Gives};
 ghost use Rattle.krb_job.specs.Emission.{mask_of, flip_of, emission_named, emission_of};
 
 use crate::decimal::read_decimal;
-use crate::job::Emission;
 use crate::place::{KeyError, Place};
 use crate::text::split_at;
 use crate::values::read_hex;
 use krb_base::RAW_LIMIT;
+use krb_core::Emit;
 use std::alloc::Global;
 use toml::Value;
 
@@ -18,11 +18,7 @@ use toml::Value;
 const NUMBER_DIGITS: usize = 9;
 
 /// The emission that a text as `0`, `flip 0 9 01` or `raw 74` names.
-pub(crate) fn read_emission(
-    alloc: Global,
-    place: Place,
-    value: &Value,
-) -> Result<Emission, KeyError>
+pub(crate) fn read_emission(alloc: Global, place: Place, value: &Value) -> Result<Emit, KeyError>
     ensures { Gives (λ e. e) result (ok_or (emission_of (view value.now)) place) }
 {
     match value.as_str() {
@@ -32,21 +28,21 @@ pub(crate) fn read_emission(
 }
 
 #[tactic(auto, unfolding(crate::specs::Emission::emission_named))]
-fn emission_named(alloc: Global, place: Place, text: &[u8]) -> Result<Emission, KeyError>
+fn emission_named(alloc: Global, place: Place, text: &[u8]) -> Result<Emit, KeyError>
     ensures { Gives (λ e. e) result (ok_or (emission_named text.now) place) }
 {
     if text.starts_with(b"flip ") {
         flip_of(&text[5..]).ok_or(KeyError::Bad(place))
     } else if text.starts_with(b"raw ") {
         let bytes = read_hex(alloc, place, &text[4..], 0, RAW_LIMIT)?;
-        Ok(Emission::Raw(bytes))
+        Ok(Emit::Raw(bytes))
     } else {
         let k = read_decimal(text, NUMBER_DIGITS).ok_or(KeyError::Bad(place))?;
-        Ok(Emission::Frame(k as usize))
+        Ok(Emit::Frame(k as usize))
     }
 }
 
-fn flip_of(text: &[u8]) -> Option<Emission>
+fn flip_of(text: &[u8]) -> Option<Emit>
     ensures { result ≡ flip_of text.now }
 {
     let (k, others) = split_at(b' ', text)?;
@@ -54,7 +50,7 @@ fn flip_of(text: &[u8]) -> Option<Emission>
     let (at, mask) = split_at(b' ', others)?;
     let at = read_decimal(at, NUMBER_DIGITS)? as usize;
     let mask = read_mask(mask)?;
-    Some(Emission::Flip { k, at, mask })
+    Some(Emit::Flip { k, at, mask })
 }
 
 fn read_mask(digits: &[u8]) -> Option<u8>

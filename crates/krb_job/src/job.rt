@@ -1,9 +1,14 @@
 //! Jobs, as the commands use them.
 
-ghost use Rattle.std.specs.Prelude.{◌≡◌};
+ghost use Rattle.std.specs.Prelude.{◌≡◌, ◌≤◌, ◌<◌, length, IsSome};
+ghost use Rattle.std.proofs.Props.{props};
+ghost use Rattle.krb_seal.specs.Session.{IsShortAddress};
+ghost use Rattle.krb_job.specs.Limits.{IsKeyOf, IsKeyOf-prop, AreShortTexts, skew_limit};
+ghost use Rattle.krb_job.specs.Limits.{capacity_limit, sender_limit};
 ghost use Rattle.krb_job.specs.Sender.{seals, opens};
 
 use krb_base::Bytes;
+use krb_core::Emit;
 use krb_der::{HostAddress, Moment};
 use krb_seal::Mode;
 
@@ -32,17 +37,6 @@ impl Command {
     {
         matches!(self, Command::Open)
     }
-}
-
-/// One emission of a plan: what is put on the wire next.
-#[derive(Debug, Drop)]
-pub enum Emission {
-    /// Frame `k` of the sender, as it is.
-    Frame(usize),
-    /// Frame `k` with its byte `at` changed by exclusive or with `mask`.
-    Flip { k: usize, at: usize, mask: u8 },
-    /// These bytes, whatever was sealed.
-    Raw(Bytes),
 }
 
 /// One sender of a job. What the command does not allow is `None` or empty.
@@ -77,9 +71,17 @@ pub struct SenderJob {
     /// What is sent.
     pub texts: Vec<Bytes>,
     /// What is put on the wire, if not each frame once.
-    pub plan: Option<Vec<Emission>>,
+    pub plan: Option<Vec<Emit>>,
     /// What is opened.
     pub frames: Vec<Bytes>,
+    // Each limit was checked when the job was read.
+    pub ghost key_fits: { IsKeyOf etype key } by { IsKeyOf-prop etype key },
+    pub ghost from_short: { IsShortAddress from },
+    pub ghost to_short: { IsShortAddress to },
+    pub ghost skew_fits: { skew ≤ skew_limit },
+    pub ghost texts_short: { AreShortTexts texts.items } by { Prim.hlevel props },
+    pub ghost has_nows: { 0 < length nows.items },
+    pub ghost has_ats: { IsSome seed → 0 < length ats.items },
 }
 
 /// A job.
@@ -89,4 +91,8 @@ pub struct Job {
     pub capacity: usize,
     /// The senders, 1 to 8 for `relay`, one for the other commands.
     pub senders: Vec<SenderJob>,
+    pub ghost capacity_fits: { capacity ≤ capacity_limit },
+    pub ghost has_capacity: { 1 ≤ capacity },
+    pub ghost senders_fit: { length senders.items ≤ sender_limit },
+    pub ghost has_sender: { 1 ≤ length senders.items },
 }

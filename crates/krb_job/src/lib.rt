@@ -18,7 +18,7 @@ mod tree;
 mod values;
 
 pub use bad_input::{BadInput, JobError};
-pub use job::{Command, Emission, Job, SenderJob};
+pub use job::{Command, Job, SenderJob};
 pub use place::Place;
 pub use read::read_job;
 

@@ -5,13 +5,14 @@ ghost use Rattle.toml.specs.View.{view, array_view, items_view};
 ghost use Rattle.krb_job.specs.Checks.{Gives};
 ghost use Rattle.krb_job.specs.Values.{bytes_of};
 ghost use Rattle.krb_job.specs.Emission.{emission_of};
-ghost use Rattle.krb_job.specs.Lists.{each, items_of, moment_of, moments_of, texts_of, plan_of, frames_of};
+ghost use Rattle.krb_job.specs.Lists.{each, items_of, moment_of, moments_of, texts_of, plan_of};
+ghost use Rattle.krb_job.specs.Lists.{frames_of};
 
 use crate::emission::read_emission;
-use crate::job::Emission;
 use crate::place::{KeyError, Place};
 use crate::values::{read_bytes, read_number};
 use krb_base::{Bytes, RAW_LIMIT, TEXT_LIMIT};
+use krb_core::Emit;
 use krb_der::Moment;
 use std::alloc::Global;
 use toml::Value;
@@ -65,11 +66,7 @@ pub(crate) fn read_frames(
 }
 
 /// At most 2000 emissions.
-pub(crate) fn read_plan(
-    alloc: Global,
-    place: Place,
-    value: &Value,
-) -> Result<Vec<Emission>, KeyError>
+pub(crate) fn read_plan(alloc: Global, place: Place, value: &Value) -> Result<Vec<Emit>, KeyError>
     ensures { Gives (λ v. v.items) result (ok_or (plan_of (view value.now)) place) }
 {
     match items_of(value, 0, MOST_ITEMS) {
@@ -124,7 +121,7 @@ fn each_bytes(
     Ok(texts)
 }
 
-fn each_emission(alloc: Global, place: Place, items: &[Value]) -> Result<Vec<Emission>, KeyError>
+fn each_emission(alloc: Global, place: Place, items: &[Value]) -> Result<Vec<Emit>, KeyError>
     ensures { Gives (λ v. v.items) result (ok_or (each emission_of (items_view items.now)) place) }
 {
     let mut plan = Vec::new(alloc);

@@ -1,9 +1,13 @@
 //! The parts of a sender, as they are read.
 
-ghost use Rattle.std.specs.Prelude.{◌≤◌};
+ghost use Rattle.std.specs.Prelude.{◌≤◌, ◌<◌, pos, length, IsSome};
+ghost use Rattle.std.proofs.Props.{props};
+ghost use Rattle.krb_base.specs.Limits.{last_number};
+ghost use Rattle.krb_seal.specs.Session.{IsShortAddress};
+ghost use Rattle.krb_job.specs.Limits.{IsKeyOf, IsKeyOf-prop, AreShortTexts, skew_limit};
 
-use crate::job::Emission;
 use krb_base::Bytes;
+use krb_core::Emit;
 use krb_der::{HostAddress, Moment};
 use krb_seal::Mode;
 
@@ -14,8 +18,8 @@ pub(crate) struct Protection {
     pub(crate) key: Bytes,
     pub(crate) mode: Mode,
     pub(crate) first: u64,
-    ghost etype_fits: { etype ≤ 18 },
-    ghost first_fits: { first ≤ 4294967295 },
+    ghost key_fits: { IsKeyOf (pos etype) key } by { IsKeyOf-prop (pos etype) key },
+    ghost first_fits: { first ≤ last_number },
 }
 
 /// Who speaks to whom, and what the receiver demands.
@@ -27,7 +31,9 @@ pub(crate) struct Ends {
     pub(crate) require_to: bool,
     pub(crate) expect_time: bool,
     pub(crate) skew: u64,
-    ghost skew_fits: { skew ≤ 86400 },
+    ghost from_short: { IsShortAddress from },
+    ghost to_short: { IsShortAddress to },
+    ghost skew_fits: { skew ≤ skew_limit },
 }
 
 /// What is sent or opened.
@@ -37,6 +43,9 @@ pub(crate) struct Traffic {
     pub(crate) ats: Vec<Moment>,
     pub(crate) nows: Vec<Moment>,
     pub(crate) texts: Vec<Bytes>,
-    pub(crate) plan: Option<Vec<Emission>>,
+    pub(crate) plan: Option<Vec<Emit>>,
     pub(crate) frames: Vec<Bytes>,
+    ghost texts_short: { AreShortTexts texts.items } by { Prim.hlevel props },
+    ghost has_nows: { 0 < length nows.items },
+    ghost has_ats: { IsSome seed → 0 < length ats.items },
 }

@@ -1,10 +1,12 @@
 //! Whole jobs.
 
-ghost use Rattle.std.specs.Prelude.{◌≡◌, [], map};
+ghost use Rattle.std.specs.Prelude.{◌≡◌, [], map, true, length, IsSome, IfOk, All};
 ghost use Rattle.toml.specs.View.{view, items_view, table_view};
 ghost use Rattle.krb_job.specs.SenderView.{keys_of, sender_view};
 ghost use Rattle.toml.specs.Data.{Members};
-ghost use Rattle.krb_job.specs.Job.{GivesJob, IsTree, job_of, job_view, sender_at, senders_from};
+ghost use Rattle.krb_job.specs.Job.{GivesJob, IsTree, job_of, job_view, most_senders, sender_at};
+ghost use Rattle.krb_job.specs.Job.{senders_from};
+ghost use Rattle.krb_job.specs.Sender.{seals};
 
 use crate::bad_input::{BadInput, JobError};
 use crate::job::{Command, Job, SenderJob};
@@ -24,6 +26,12 @@ pub fn read_job(alloc: Global, bytes: &[u8], command: Command) -> Result<Job, Jo
         → GivesJob job_view result (job_of command ms) }
     ensures none { ((ms : Members) → ¬ IsTree bytes.now ms)
         → GivesJob job_view result (Err BadInput.Toml) }
+
+    // A command of one sender has one, and each sender of a command that seals has a seed.
+    ensures one { most_senders command ≡ 1
+        → IfOk result (λ job. length job.senders.items ≡ 1) }
+    ensures seeds { seals command ≡ true
+        → IfOk result (λ job. All (λ sender. IsSome sender.seed) job.senders.items) }
 {
     match read_tree(alloc, bytes) {
         Ok(table) => read_members(alloc, &table, command),

@@ -7,14 +7,16 @@ ghost use Rattle.toml.specs.View.{view, table_view};
 ghost use Rattle.krb_job.specs.Checks.{Gives};
 ghost use Rattle.krb_job.specs.Values.{key_size, key_of};
 ghost use Rattle.krb_job.specs.Keys.{needed, has_only};
-ghost use Rattle.krb_job.specs.Sender.{protection_of, ends_of, traffic_of, sender_of, sender_keys, together};
-ghost use Rattle.krb_job.specs.SenderView.{keys_of, protection_view, ends_view, traffic_view, sender_view};
+ghost use Rattle.krb_job.specs.Sender.{protection_of, ends_of, traffic_of, sender_of};
+ghost use Rattle.krb_job.specs.Sender.{sender_keys, together};
+ghost use Rattle.krb_job.specs.SenderView.{keys_of, protection_view, ends_view, traffic_view};
+ghost use Rattle.krb_job.specs.SenderView.{sender_view};
 
 use crate::job::{Command, SenderJob};
 use crate::parts::{Ends, Protection, Traffic};
 use crate::place::{KeyError, Place};
 use crate::table::{
-    address, entry, flag, frames, has_only, mode, moments, number, plan, seed, texts,
+    address, entry, flag, frames, has_only, mode, moments, moments_if, number, plan, seed, texts,
 };
 use crate::values::read_bytes;
 use krb_base::Bytes;
@@ -109,8 +111,8 @@ fn read_traffic(alloc: Global, table: &Table, command: Command) -> Result<Traffi
 {
     let seals = command.seals();
     let seed = seed(table, Place::Seed, seals)?;
-    let ats = moments(alloc, table, Place::At, seals)?;
-    let nows = moments(alloc, table, Place::Now, seals)?;
+    let ats = moments_if(alloc, table, Place::At, seals)?;
+    let nows = moments(alloc, table, Place::Now)?;
     let texts = texts(alloc, table, Place::Texts, seals)?;
     let plan = plan(alloc, table, Place::Plan, seals)?;
     let frames = frames(alloc, table, Place::Frames, command.opens())?;

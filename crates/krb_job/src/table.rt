@@ -13,11 +13,11 @@ ghost use Rattle.krb_job.specs.Lists.{moments_of, texts_of, plan_of, frames_of};
 ghost use Rattle.krb_job.specs.Keys.{at_key, needed, optional, only_if, some, has_only};
 
 use crate::address::read_address;
-use crate::job::Emission;
 use crate::lists::{read_frames, read_moments, read_plan, read_texts};
 use crate::place::{KeyError, Place};
 use crate::values::{read_flag, read_mode, read_number, read_seed};
 use krb_base::Bytes;
+use krb_core::Emit;
 use krb_der::{HostAddress, Moment};
 use krb_seal::Mode;
 use std::alloc::Global;
@@ -38,7 +38,8 @@ pub(crate) fn entry<'a>(table: &'a Table, place: Place) -> Option<&'a Value>
 }
 
 pub(crate) fn number(table: &Table, place: Place, low: u64, high: u64) -> Result<u64, KeyError>
-    ensures value { Gives (λ n. n) result (needed place (number_of low high) (table_view table.now)) }
+    ensures value { Gives (λ n. n) result
+        (needed place (number_of low high) (table_view table.now)) }
     ensures low { IfOk result (λ n. low ≤ n) }
     ensures high { IfOk result (λ n. n ≤ high) }
 {
@@ -90,7 +91,16 @@ pub(crate) fn seed(table: &Table, place: Place, allowed: bool) -> Result<Option<
     }
 }
 
-pub(crate) fn moments(
+pub(crate) fn moments(alloc: Global, table: &Table, place: Place) -> Result<Vec<Moment>, KeyError>
+    ensures { Gives (λ v. v.items) result (needed place moments_of (table_view table.now)) }
+{
+    match entry(table, place) {
+        Some(value) => read_moments(alloc, place, value),
+        None => Err(KeyError::Bad(place)),
+    }
+}
+
+pub(crate) fn moments_if(
     alloc: Global,
     table: &Table,
     place: Place,
@@ -146,7 +156,7 @@ pub(crate) fn plan(
     table: &Table,
     place: Place,
     allowed: bool,
-) -> Result<Option<Vec<Emission>>, KeyError>
+) -> Result<Option<Vec<Emit>>, KeyError>
     ensures { Gives (λ o. option_map (λ v. v.items) o) result
         (only_if allowed None place (optional None place (some plan_of) (table_view table.now))
         (table_view table.now)) }
@@ -158,7 +168,7 @@ pub(crate) fn plan(
     }
 }
 
-fn some_plan(alloc: Global, place: Place, value: &Value) -> Result<Option<Vec<Emission>>, KeyError>
+fn some_plan(alloc: Global, place: Place, value: &Value) -> Result<Option<Vec<Emit>>, KeyError>
     ensures { Gives (λ o. option_map (λ v. v.items) o) result
         (ok_or (some plan_of (view value.now)) place) }
 {

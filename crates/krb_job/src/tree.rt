@@ -4,7 +4,8 @@ ghost use Rattle.std.specs.Prelude.{◌≡◌, nat_le, ◌&&◌, is_some};
 ghost use Rattle.std.specs.List.{list_all};
 ghost use Rattle.toml.specs.Data.{as_table};
 ghost use Rattle.toml.specs.View.{view, items_view, array_view, table_view};
-ghost use Rattle.krb_job.specs.Job.{IsTree, ReadsTree, GivesJob, capacity_of, items_of_senders, are_tables, are_senders, most_senders, has_top_keys};
+ghost use Rattle.krb_job.specs.Job.{IsTree, ReadsTree, GivesJob, capacity_of, items_of_senders};
+ghost use Rattle.krb_job.specs.Job.{are_tables, are_senders, most_senders, has_top_keys};
 
 use crate::bad_input::{BadInput, JobError};
 use crate::job::Command;

@@ -3,7 +3,8 @@
 ghost use Rattle.std.specs.Prelude.{◌≡◌, ◌≤◌, ok_or, IfSome};
 ghost use Rattle.toml.specs.View.{view};
 ghost use Rattle.krb_job.specs.Checks.{Gives};
-ghost use Rattle.krb_job.specs.Values.{number_of, flag_of, mode_of, mode_named, hex_of, bytes_of, seed_of};
+ghost use Rattle.krb_job.specs.Values.{number_of, flag_of, mode_of, mode_named, hex_of, bytes_of};
+ghost use Rattle.krb_job.specs.Values.{seed_of};
 
 use crate::place::{KeyError, Place};
 use hex::FromHexError;

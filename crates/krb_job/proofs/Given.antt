@@ -1,0 +1,31 @@
+-- What a check was given, where it gave something.
+use Rattle.std.proofs.Common.{◌≡◌, Bool, true, false, cond, Option, Some, None, Result, Ok, Err, ok_or, refl, ap}
+use Rattle.toml.specs.Data.{Data, Members}
+use Rattle.krb_job.specs.declared.place.Place.{Place}
+use Rattle.krb_job.specs.Steps.{◌>>=◌}
+use Rattle.krb_job.specs.Checks.{◌>>=◌ as ◌then◌}
+use Rattle.krb_job.specs.Keys.{at_key, needed, barred}
+
+pub bound : {A B : Type 0} (o : Option A) (f : A → Option B) (y : B) → (o >>= f) ≡ Some y → (x : A) × (o ≡ Some x) × (f x ≡ Some y)
+bound None f y e = absurd cc
+bound (Some x) f y e = (x, refl, e)
+
+pub checked : {A B E : Type 0} (r : Result A E) (f : A → Result B E) (y : B) → (r then f) ≡ Ok y → (x : A) × (r ≡ Ok x) × (f x ≡ Ok y)
+checked (Err fault) f y e = absurd cc
+checked (Ok x) f y e = (x, refl, e)
+
+pub given : {A E : Type 0} (o : Option A) (fault : E) (x : A) → ok_or o fault ≡ Ok x → o ≡ Some x
+given None fault x e = absurd cc
+given (Some y) fault x e = let same : y ≡ x = cc in ap Some same
+
+pub within : {A : Type 0} (fits : Bool) (value x : A) → cond fits (Some value) None ≡ Some x → (fits ≡ true) × (value ≡ x)
+within true value x e = (refl, cc)
+within false value x e = absurd cc
+
+-- the value of a key that has to be there
+pub value_at : {A : Type 0} (place : Place) (of : Data → Option A) (ms : Members) (x : A) → needed place of ms ≡ Ok x → (d : Data) × (of d ≡ Some x)
+value_at place of ms x e = let b = bound (at_key place ms) of x (given (at_key place ms >>= of) place x e) in (b.0, b.2)
+
+pub barred-absent : {A : Type 0} (absent : A) (place : Place) (o : Option Data) (x : A) → barred absent place o ≡ Ok x → absent ≡ x
+barred-absent absent place None x e = cc
+barred-absent absent place (Some d) x e = absurd cc

@@ -1,0 +1,194 @@
+-- What the checks of a whole job let through keeps its limits.
+use Rattle.std.proofs.Common.{◌≡◌, ◌≤◌, ℕ, ◌+◌, nat_le, pos, negsuc, lit≤, Bool, true, false, ◌&&◌, List, [], ◌∷◌, ◌++◌, length, map, codes, Option, Some, None, Result, Ok, Err, option_map, IsSome, IfOk, All, refl, sym, ap, ◌∙◌, arith}
+use Rattle.std.proofs.lemmas.Bool.Decides.{nat_tests}
+use Rattle.std.proofs.lemmas.List.{length-map}
+use Rattle.std.proofs.Math.ListN.{get_or-map}
+use Rattle.std.proofs.lemmas.List.Elements.{All-nil, All-cons}
+use Rattle.toml.specs.Data.{Data, string, integer, float, boolean, datetime, array, table, Items, no_items, item, Members, get_member}
+use Rattle.krb_job.specs.declared.bad_input.BadInput.{BadInput}
+use Rattle.krb_job.specs.declared.bad_input.JobError.{JobError}
+use Rattle.krb_job.specs.declared.job.Job.{Job as ReadJob}
+use Rattle.krb_job.specs.declared.bad_input.BadInput.TheVariants as bad
+use Rattle.krb_job.specs.declared.job.SenderJob.{SenderJob}
+use Rattle.krb_job.specs.declared.job.Command.{Command}
+use Rattle.krb_job.specs.declared.job.Command.TheVariants.{Seal, Open, Relay}
+use Rattle.krb_job.specs.declared.place.Place.{Place}
+use Rattle.krb_job.specs.declared.place.Place.TheVariants.{Seed, At, Now, Texts, Plan, Frames}
+use Rattle.krb_job.specs.Checks.{◌>>=◌}
+use Rattle.krb_job.specs.Limits.{capacity_limit, sender_limit}
+use Rattle.krb_job.specs.Values.{number_of, seed_of}
+use Rattle.krb_job.specs.Lists.{count, moments_of, texts_of, plan_of, frames_of}
+use Rattle.krb_job.specs.Keys.{needed, optional, some, only_if, has_only}
+use Rattle.krb_job.specs.Sender.{Sender, Traffic, seals, opens, sender_of, protection_of, ends_of, traffic_of, sender_keys, together, if_known}
+use Rattle.krb_job.specs.Job.{Job, capacity_of, capacity_if_there, are_tables, are_senders, most_senders, senders_if_there, items_of_senders, sender_at, senders_from, in_sender, GivesJob, job_view, has_top_keys, if_top_known, job_of}
+use Rattle.krb_job.specs.SenderView.{sender_view}
+use Rattle.krb_job.proofs.Given.{checked, given, within, value_at}
+
+between : (low n high : ℕ) → (nat_le low n && nat_le n high) ≡ true → (low ≤ n) × (n ≤ high)
+between low n high e = (grind (arith, nat_tests), grind (arith, nat_tests))
+
+number-within : (low high : ℕ) (d : Data) (n : ℕ) → number_of low high d ≡ Some n → (low ≤ n) × (n ≤ high)
+number-within low high (integer (pos m)) n e = let fit = within (nat_le low m && nat_le m high) m n e in rw (← fit.1) (between low m high fit.0)
+number-within low high (integer (negsuc m)) n e = absurd cc
+number-within low high (string text) n e = absurd cc
+number-within low high (float x) n e = absurd cc
+number-within low high (boolean x) n e = absurd cc
+number-within low high (datetime dt) n e = absurd cc
+number-within low high (array ds) n e = absurd cc
+number-within low high (table ms) n e = absurd cc
+
+capacity-within : (o : Option Data) (n : ℕ) → capacity_if_there o ≡ Some n → (1 ≤ n) × (n ≤ capacity_limit)
+capacity-within None n e = let same : 1 ≡ n = cc in (omega arith, omega arith)
+capacity-within (Some d) n e = number-within 1 capacity_limit d n e
+
+pub capacity_fits : (ms : Members) (n : ℕ) → capacity_of ms ≡ Ok n → (1 ≤ n) × (n ≤ capacity_limit)
+capacity_fits ms n e = let o = get_member (codes "capacity") ms in capacity-within o n (given (capacity_if_there o) bad.Capacity n e)
+
+and_right : (a b : Bool) → (a && b) ≡ true → b ≡ true
+and_right true b e = e
+and_right false b e = absurd cc
+
+count-within : (command : Command) (o : Option Data) (ds : Items) → senders_if_there command o ≡ Some ds → (1 ≤ count ds) × (count ds ≤ most_senders command)
+count-within command None ds e = absurd cc
+count-within command (Some (array es)) ds e =
+    let fit = within (are_senders command es) es ds e in
+    rw (← fit.1) (between 1 (count es) (most_senders command) (and_right (are_tables es) (nat_le 1 (count es) && nat_le (count es) (most_senders command)) fit.0))
+count-within command (Some (string text)) ds e = absurd cc
+count-within command (Some (integer z)) ds e = absurd cc
+count-within command (Some (float x)) ds e = absurd cc
+count-within command (Some (boolean x)) ds e = absurd cc
+count-within command (Some (datetime dt)) ds e = absurd cc
+count-within command (Some (table ms)) ds e = absurd cc
+
+-- as many senders as the command allows
+pub count_fits : (command : Command) (ms : Members) (ds : Items) → items_of_senders command ms ≡ Ok ds → (1 ≤ count ds) × (count ds ≤ most_senders command)
+count_fits command ms ds e = let o = get_member (codes "sender") ms in count-within command o ds (given (senders_if_there command o) bad.Sender ds e)
+
+pub most_senders-≤ : (command : Command) → most_senders command ≤ sender_limit
+most_senders-≤ Seal = lit≤ tt
+most_senders-≤ Open = lit≤ tt
+most_senders-≤ Relay = lit≤ tt
+
+pub length-senders : (command : Command) (j : ℕ) (earlier : List (List ℕ)) (ds : Items) (senders : List Sender)
+    → senders_from command j earlier ds ≡ Ok senders → length senders ≡ count ds
+length-senders command j earlier no_items senders e = let same : [] ≡ senders = cc in rw (← same) refl
+length-senders command j earlier (item d ds) senders e =
+    let first = checked (sender_at command j earlier d) (λ s. senders_from command (j + 1) (earlier ++ s.key ∷ []) ds >>= λ others. Ok (s ∷ others)) senders e in
+    let others = checked (senders_from command (j + 1) (earlier ++ first.0.key ∷ []) ds) (λ others. Ok (first.0 ∷ others)) senders first.2 in
+    let same : first.0 ∷ others.0 ≡ senders = cc in
+    rw (← same) (grind (arith, length-senders command (j + 1) (earlier ++ first.0.key ∷ []) ds others.0 others.1))
+
+-- as many senders were read as the command allows
+pub senders-count : (command : Command) (ms : Members) (ds : Items) (senders : List Sender)
+    → items_of_senders command ms ≡ Ok ds → senders_from command 0 [] ds ≡ Ok senders → (1 ≤ length senders) × (length senders ≤ most_senders command)
+senders-count command ms ds senders there read = rw (length-senders command 0 [] ds senders read) (count_fits command ms ds there)
+
+pub senders_fit : (command : Command) (ms : Members) (ds : Items) (senders : List SenderJob)
+    → items_of_senders command ms ≡ Ok ds → senders_from command 0 [] ds ≡ Ok (map sender_view senders) → (1 ≤ length senders) × (length senders ≤ sender_limit)
+senders_fit command ms ds senders there read =
+    let fits = rw (length-map senders sender_view) at (senders-count command ms ds (map sender_view senders) there read) in
+    let most = most_senders-≤ command in
+    (fits.0, omega arith)
+
+seed-there : (o : Option (List ℕ)) (seed : Option (List ℕ)) → option_map Some o ≡ Some seed → IsSome seed
+seed-there None seed e = absurd cc
+seed-there (Some s) seed e = let same : Some s ≡ seed = cc in rw (← same) refl
+
+value-ok : {A E : Type 0} (x y : A) → ◌≡◌ {A = Result A E} (Ok x) (Ok y) → x ≡ y
+value-ok x y e = cc
+
+known-ok : (known : Bool) (x s : Sender) → if_known known x ≡ Ok s → x ≡ s
+known-ok true x s e = cc
+known-ok false x s e = absurd cc
+
+allowed-ok : {A : Type 0} (allowed : Bool) (place : Place) (r : Result (Option A) Place) (ms : Members) (x : Option A)
+    → allowed ≡ true → only_if allowed None place r ms ≡ Ok x → r ≡ Ok x
+allowed-ok true place r ms x is e = e
+allowed-ok false place r ms x is e = absurd cc
+
+seed_of-traffic : (command : Command) (ms : Members) (t : Traffic) → seals command ≡ true → traffic_of command ms ≡ Ok t → IsSome t.seed
+unfolding traffic_of
+seed_of-traffic command ms t sealing e =
+    let seed = checked (only_if (seals command) None Seed (needed Seed (some seed_of) ms) ms) _ t e in
+    let ats = checked (only_if (seals command) [] At (needed At moments_of ms) ms) _ t seed.2 in
+    let nows = checked (needed Now moments_of ms) _ t ats.2 in
+    let texts = checked (only_if (seals command) [] Texts (needed Texts texts_of ms) ms) _ t nows.2 in
+    let plan = checked (only_if (seals command) None Plan (optional None Plan (some plan_of) ms) ms) _ t texts.2 in
+    let frames = checked (only_if (opens command) [] Frames (needed Frames frames_of ms) ms) _ t plan.2 in
+    let there = value_at Seed (some seed_of) ms seed.0 (allowed-ok (seals command) Seed (needed Seed (some seed_of) ms) ms seed.0 sealing seed.1) in
+    let same : seed.0 ≡ t.seed = ap (λ (x : Traffic). x.seed) (value-ok _ t frames.2) in
+    rw (← same) (seed-there (seed_of there.0) seed.0 there.1)
+
+seed_of-sender : (command : Command) (earlier : List (List ℕ)) (ms : Members) (s : Sender) → seals command ≡ true → sender_of command earlier ms ≡ Ok s → IsSome s.seed
+unfolding sender_of
+seed_of-sender command earlier ms s sealing e =
+    let protection = checked (protection_of earlier ms) _ s e in
+    let ends = checked (ends_of ms) _ s protection.2 in
+    let traffic = checked (traffic_of command ms) _ s ends.2 in
+    let known = known-ok (has_only sender_keys ms) (together protection.0 ends.0 traffic.0) s traffic.2 in
+    let same : traffic.0.seed ≡ s.seed = ap (λ (x : Sender). x.seed) known in
+    rw (← same) (seed_of-traffic command ms traffic.0 sealing traffic.1)
+
+in_sender-ok : (j : ℕ) (r : Result Sender Place) (s : Sender) → in_sender j r ≡ Ok s → r ≡ Ok s
+in_sender-ok j (Ok x) s e = let same : x ≡ s = cc in ap Ok same
+in_sender-ok j (Err place) s e = absurd cc
+
+seed_at : (command : Command) (j : ℕ) (earlier : List (List ℕ)) (d : Data) (s : Sender) → seals command ≡ true → sender_at command j earlier d ≡ Ok s → IsSome s.seed
+seed_at command j earlier (table ms) s sealing e = seed_of-sender command earlier ms s sealing (in_sender-ok j (sender_of command earlier ms) s e)
+seed_at command j earlier (string text) s sealing e = absurd cc
+seed_at command j earlier (integer z) s sealing e = absurd cc
+seed_at command j earlier (float x) s sealing e = absurd cc
+seed_at command j earlier (boolean x) s sealing e = absurd cc
+seed_at command j earlier (datetime dt) s sealing e = absurd cc
+seed_at command j earlier (array ds) s sealing e = absurd cc
+
+pub seeds_of-senders : (command : Command) (j : ℕ) (earlier : List (List ℕ)) (ds : Items) (senders : List Sender)
+    → seals command ≡ true → senders_from command j earlier ds ≡ Ok senders → All (λ s. IsSome s.seed) senders
+seeds_of-senders command j earlier no_items senders sealing e = let same : [] ≡ senders = cc in rw (← same) (All-nil (λ s. IsSome s.seed))
+seeds_of-senders command j earlier (item d ds) senders sealing e =
+    let first = checked (sender_at command j earlier d) (λ s. senders_from command (j + 1) (earlier ++ s.key ∷ []) ds >>= λ others. Ok (s ∷ others)) senders e in
+    let others = checked (senders_from command (j + 1) (earlier ++ first.0.key ∷ []) ds) (λ others. Ok (first.0 ∷ others)) senders first.2 in
+    let same : first.0 ∷ others.0 ≡ senders = cc in
+    rw (← same) (All-cons (λ s. IsSome s.seed) first.0 others.0 (seed_at command j earlier d first.0 sealing first.1) (seeds_of-senders command (j + 1) (earlier ++ first.0.key ∷ []) ds others.0 sealing others.1))
+
+top_known-ok : (known : Bool) (r : Result (List Sender) BadInput) (senders : List Sender) → if_top_known known r ≡ Ok senders → r ≡ Ok senders
+top_known-ok true r senders e = e
+top_known-ok false r senders e = absurd cc
+
+-- what a job is made of
+parts_of-job : (command : Command) (ms : Members) (job : Job) → job_of command ms ≡ Ok job
+    → (ds : Items) × (items_of_senders command ms ≡ Ok ds) × (senders_from command 0 [] ds ≡ Ok job.senders)
+unfolding job_of
+parts_of-job command ms job e =
+    let capacity = checked (capacity_of ms) _ job e in
+    let items = checked (items_of_senders command ms) _ job capacity.2 in
+    let senders = checked (if_top_known (has_top_keys ms) (senders_from command 0 [] items.0)) _ job items.2 in
+    let same : senders.0 ≡ job.senders = ap (λ (x : Job). x.senders) (value-ok _ job senders.2) in
+    (items.0, items.1, top_known-ok (has_top_keys ms) (senders_from command 0 [] items.0) senders.0 senders.1 ∙ ap Ok same)
+
+-- a command of one sender has one
+pub one_of-job : (command : Command) (ms : Members) (job : Job) → most_senders command ≡ 1 → job_of command ms ≡ Ok job → length job.senders ≡ 1
+one_of-job command ms job one e =
+    let parts = parts_of-job command ms job e in
+    let fits = senders-count command ms parts.0 job.senders parts.1 parts.2 in
+    omega arith
+
+-- each sender has a seed where the command seals
+pub seeds_of-job : (command : Command) (ms : Members) (job : Job) → seals command ≡ true → job_of command ms ≡ Ok job → All (λ s. IsSome s.seed) job.senders
+seeds_of-job command ms job sealing e =
+    let parts = parts_of-job command ms job e in
+    seeds_of-senders command 0 [] parts.0 job.senders sealing parts.2
+
+-- what holds of each job that the checks give holds of the one that was read
+pub of_checks : {X Y : Type 0} (view : X → Y) (r : Result X JobError) (checks : Result Y BadInput) (Q : X → Type 0)
+    → GivesJob view r checks → ((x : X) → checks ≡ Ok (view x) → Q x) → IfOk r Q
+of_checks view (Ok x) checks Q gives holds = holds x gives
+of_checks view (Err e) checks Q gives holds = tt
+
+pub one_read : (command : Command) (ms : Members) (job : ReadJob) → most_senders command ≡ 1 → job_of command ms ≡ Ok (job_view job) → length job.senders.items ≡ 1
+one_read command ms job one e = sym (length-map job.senders.items sender_view) ∙ one_of-job command ms (job_view job) one e
+
+pub seeds_read : (command : Command) (ms : Members) (job : ReadJob) → seals command ≡ true → job_of command ms ≡ Ok (job_view job) → All (λ s. IsSome s.seed) job.senders.items
+seeds_read command ms job sealing e = λ k d there.
+    let seeds = seeds_of-job command ms (job_view job) sealing e k (sender_view d) (rw (length-map job.senders.items sender_view) there) in
+    rw (get_or-map sender_view job.senders.items k d) at seeds

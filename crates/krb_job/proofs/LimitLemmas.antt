@@ -1,0 +1,81 @@
+-- What the checks let through keeps the limits of a job's types.
+use Rattle.std.proofs.Common.{◌≡◌, ◌≤◌, ◌<◌, ℕ, nat_le, Bool, true, false, ◌&&◌, List, [], ◌∷◌, length, Option, Some, None, Result, Ok, IsSome, All, refl, arith}
+use Rattle.std.proofs.lemmas.Grind.{common_steps}
+use Rattle.std.proofs.lemmas.Bool.Decides.{nat_tests}
+use Rattle.std.proofs.lemmas.List.Elements.{All-nil, All-cons}
+use Rattle.std.specs.Result.{result_ok}
+use Rattle.hex.specs.Hex.{decode_of}
+use Rattle.toml.specs.Data.{Data, string, integer, float, boolean, datetime, array, table, Items, no_items, item, Members}
+use Rattle.krb_base.specs.Limits.{text_limit}
+use Rattle.krb_job.specs.declared.place.Place.{Place}
+use Rattle.krb_job.specs.Steps.{◌>>=◌}
+use Rattle.krb_job.specs.Limits.{AreShortTexts}
+use Rattle.krb_job.specs.Values.{sized, bytes_of}
+use Rattle.krb_job.specs.Lists.{count, each, items_of, moment_of, moments_of, texts_of}
+use Rattle.krb_job.specs.Keys.{at_key, needed, only_if}
+use Rattle.krb_job.proofs.Given.{bound, within, value_at, barred-absent}
+
+most-bytes : (high : ℕ) (d : Data) (b : List ℕ) → bytes_of 0 high d ≡ Some b → length b ≤ high
+most-bytes high (string text) b e =
+    let s = bound (result_ok (decode_of text)) (sized 0 high) b e in
+    let fit = within (nat_le 0 (length s.0) && nat_le (length s.0) high) s.0 b s.2 in
+    grind (arith, nat_tests, common_steps)
+most-bytes high (integer z) b e = absurd cc
+most-bytes high (float x) b e = absurd cc
+most-bytes high (boolean x) b e = absurd cc
+most-bytes high (datetime dt) b e = absurd cc
+most-bytes high (array ds) b e = absurd cc
+most-bytes high (table ms) b e = absurd cc
+
+All-each : {A : Type 0} (P : A → Type 0) (of : Data → Option A) → ((d : Data) (x : A) → of d ≡ Some x → P x)
+    → (ds : Items) (xs : List A) → each of ds ≡ Some xs → All P xs
+All-each P of fits no_items xs e = let same : [] ≡ xs = cc in rw (← same) (All-nil P)
+All-each P of fits (item d ds) xs e =
+    let first = bound (of d) (λ x. each of ds >>= λ ys. Some (x ∷ ys)) xs e in
+    let others = bound (each of ds) (λ ys. Some (first.0 ∷ ys)) xs first.2 in
+    let same : first.0 ∷ others.0 ≡ xs = cc in
+    rw (← same) (All-cons P first.0 others.0 (fits d first.0 first.1) (All-each P of fits ds others.0 others.1))
+
+length-each : {A : Type 0} (of : Data → Option A) (ds : Items) (xs : List A) → each of ds ≡ Some xs → length xs ≡ count ds
+length-each of no_items xs e = let same : [] ≡ xs = cc in rw (← same) refl
+length-each of (item d ds) xs e =
+    let first = bound (of d) (λ x. each of ds >>= λ ys. Some (x ∷ ys)) xs e in
+    let others = bound (each of ds) (λ ys. Some (first.0 ∷ ys)) xs first.2 in
+    let same : first.0 ∷ others.0 ≡ xs = cc in
+    rw (← same) (grind (arith, length-each of ds others.0 others.1))
+
+-- a list of as many items as allowed
+items-within : (low high : ℕ) (d : Data) (ds : Items) → items_of low high d ≡ Some ds → low ≤ count ds
+items-within low high (array es) ds e = grind (arith, nat_tests, common_steps)
+items-within low high (string text) ds e = absurd cc
+items-within low high (integer z) ds e = absurd cc
+items-within low high (float x) ds e = absurd cc
+items-within low high (boolean x) ds e = absurd cc
+items-within low high (datetime dt) ds e = absurd cc
+items-within low high (table ms) ds e = absurd cc
+
+some-moments : (d : Data) (moments : List ℕ) → moments_of d ≡ Some moments → 0 < length moments
+some-moments d moments e =
+    let items = bound (items_of 1 2000 d) (each moment_of) moments e in
+    omega (arith, items-within 1 2000 d items.0 items.1, length-each moment_of items.0 moments items.2)
+
+-- the moments of a key that has to be there
+pub moments-there : (place : Place) (ms : Members) (moments : List ℕ) → needed place moments_of ms ≡ Ok moments → 0 < length moments
+moments-there place ms moments e = let at = value_at place moments_of ms moments e in some-moments at.0 moments at.1
+
+short-texts : (d : Data) (texts : List (List ℕ)) → texts_of d ≡ Some texts → AreShortTexts texts
+short-texts d texts e =
+    let items = bound (items_of 0 1000 d) (each (bytes_of 0 text_limit)) texts e in
+    All-each (λ text. length text ≤ text_limit) (bytes_of 0 text_limit) (most-bytes text_limit) items.0 texts items.2
+
+-- the texts of a key of some commands
+pub texts-fit : (allowed : Bool) (place : Place) (ms : Members) (texts : List (List ℕ))
+    → only_if allowed [] place (needed place texts_of ms) ms ≡ Ok texts → AreShortTexts texts
+texts-fit true place ms texts e = let at = value_at place texts_of ms texts e in short-texts at.0 texts at.1
+texts-fit false place ms texts e = let same = barred-absent [] place (at_key place ms) texts e in rw (← same) (All-nil (λ text. length text ≤ text_limit))
+
+-- where there is a value for the commands that seal, there is a moment for them
+pub moments-beside : {A : Type 0} (allowed : Bool) (there : Place) (place : Place) (value : Result (Option A) Place) (ms : Members) (x : Option A) (moments : List ℕ)
+    → only_if allowed None there value ms ≡ Ok x → only_if allowed [] place (needed place moments_of ms) ms ≡ Ok moments → IsSome x → 0 < length moments
+moments-beside true there place value ms x moments made e some = moments-there place ms moments e
+moments-beside false there place value ms x moments made e some = let same = barred-absent None there (at_key there ms) x made in absurd cc

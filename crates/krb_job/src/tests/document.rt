@@ -1,0 +1,81 @@
+//! What stands at the top of a document.
+
+use super::{COMMANDS, error_of, sender};
+use crate::{BadInput, Command, JobError, Place, read_job};
+use std::test::Fail;
+
+#[test]
+fn no_documents(rt: HostRuntime) -> Result<(), Fail> {
+    let texts = [
+        "capacity",
+        "capacity = 0\nsender",
+        "capacity = 99999999999999999999",
+        "other = 9223372036854775808",
+        "capacity = 1\ncapacity = 1",
+        "[sender]\n[[sender]]",
+    ];
+    for text in texts {
+        let error = error_of(rt.alloc(), text, Command::Seal);
+        assert_eq!(rt; error, Some(JobError::Bad(BadInput::Toml)), "at {text}");
+    }
+    let error = read_job(rt.alloc(), &[0xff], Command::Seal).err();
+    assert_eq!(rt; error, Some(JobError::Bad(BadInput::Toml)));
+    Ok(())
+}
+
+#[test]
+fn capacities(rt: HostRuntime) -> Result<(), Fail> {
+    let bad = Some(JobError::Bad(BadInput::Capacity));
+    let table = [
+        ("", None),
+        ("capacity = 1\n", None),
+        ("capacity = 64\n", None),
+        ("capacity = 0x40\n", None),
+        ("capacity = 0\n", bad),
+        ("capacity = 65\n", bad),
+        ("capacity = -1\n", bad),
+        ("capacity = 1.0\n", bad),
+        ("capacity = \"1\"\n", bad),
+        ("capacity = true\n", bad),
+        ("capacity = [1]\n", bad),
+    ];
+    for (line, error) in table {
+        let sender = sender(rt.alloc(), Command::Open, &[], "")?;
+        let text = format!(in rt.alloc(); "{line}{sender}")?;
+        assert_eq!(rt;
+            error_of(rt.alloc(), text.as_str(), Command::Open),
+            error,
+            "at {line}"
+        );
+    }
+    Ok(())
+}
+
+/// The checks of the top in their order: each document fails the one told and all behind it.
+#[test]
+fn tops(rt: HostRuntime) -> Result<(), Fail> {
+    let in_sender = BadInput::InSender {
+        sender: 0,
+        place: Place::Etype,
+    };
+    let table = [
+        ("", BadInput::Sender),
+        ("capacity = 0\nother = 1", BadInput::Capacity),
+        ("capacity = 0\nother = 1\nsender = []", BadInput::Capacity),
+        ("other = 1", BadInput::Sender),
+        ("other = 1\nsender = []", BadInput::Sender),
+        ("other = 1\n[sender]", BadInput::Sender),
+        ("other = 1\nsender = 1", BadInput::Sender),
+        ("other = 1\nsender = [1]", BadInput::Sender),
+        ("other = 1\nsender = [{}]", BadInput::UnknownKey),
+        ("sender = [{}]", in_sender),
+        ("sender = [{}]\ncapacity = 2", in_sender),
+    ];
+    for (text, bad) in table {
+        for command in COMMANDS {
+            let error = error_of(rt.alloc(), text, command);
+            assert_eq!(rt; error, Some(JobError::Bad(bad)), "at {text}");
+        }
+    }
+    Ok(())
+}
