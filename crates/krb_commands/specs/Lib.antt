@@ -1,3 +1,4 @@
+pub mod Ends
 pub mod Fault
 pub mod Input
 pub mod JobLines

@@ -8,6 +8,7 @@
 //! ```
 #![tactic(auto)]
 
+mod ends;
 mod fault;
 mod input;
 mod job_lines;
@@ -21,6 +22,7 @@ mod reading;
 mod sealing;
 mod text;
 
+pub use ends::{SessionKey, key_of, receiving_of, sending_of, session_of};
 pub use fault::Fault;
 pub use input::{LIMIT, read_all};
 pub use messages::{one_reading, show};

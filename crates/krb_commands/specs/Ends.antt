@@ -1,0 +1,61 @@
+-- The two ends of a lane, as a job states them.
+use Rattle.std.specs.Prelude.{◌≡◌, ℕ, ℤ, pos, List, Option, Some, None, option_map, if◌then◌else◌}
+use Rattle.rand_chacha.specs.ChaCha.{of_seed}
+use Rattle.krb_seal.specs.declared.session.Session.{Session}
+use Rattle.krb_seal.specs.declared.session.Expect.{Expect}
+use Rattle.krb_seal.specs.Opens.{opener_of}
+use Rattle.krb_seal.specs.Sealer.{SealerState, new_state}
+use Rattle.krb_core.specs.Receiver.{first_demand}
+use Rattle.krb_core.specs.ReceiverState.{ReceiverState}
+use Rattle.krb_core.specs.Sender.{Source}
+use Rattle.krb_job.specs.declared.job.SenderJob.{SenderJob}
+use Rattle.krb_commands.specs.declared.ends.SessionKey.{SessionKey}
+use Rattle.krb_commands.specs.declared.ends.SessionKey.TheVariants.{Aes128, Aes256}
+
+-- the key of its encryption type
+abbrev pub IsKey : SenderJob → SessionKey → Type 0
+IsKey sender (Aes128 key) = (sender.etype ≡ pos 17) × (key ≡ sender.key)
+IsKey sender (Aes256 key) = (sender.etype ≡ pos 18) × (key ≡ sender.key)
+
+-- what the sender writes into each message
+abbrev pub session_of : SenderJob → Session
+session_of sender = record {
+  mode = sender.mode;
+  s_addr = sender.from;
+  r_addr = if sender.write_to then Some sender.to else None;
+  first = sender.first;
+}
+
+-- what the receiver demands of each message
+abbrev pub expect_of : SenderJob → Expect
+expect_of sender = record {
+  mode = sender.mode;
+  s_addr = sender.from;
+  r_addr = sender.to;
+  require_r = sender.require_to;
+  expect_time = sender.expect_time;
+  skew = sender.skew;
+}
+
+-- a sealer that has sealed nothing, and a receiver that has taken nothing, under one key
+abbrev pub sealer_of : SenderJob → SealerState
+sealer_of sender = new_state sender.etype sender.key (session_of sender)
+
+abbrev pub receiver_of : SenderJob → ReceiverState
+receiver_of sender = record {
+  opener = opener_of sender.etype sender.key (expect_of sender);
+  demand = first_demand sender.first;
+}
+
+-- the sender, around a sealer: the draws are the words of stream 0 under the seed, from word 0 on
+abbrev pub source_with : SenderJob → SealerState → List ℕ → Source
+source_with sender sealer seed = record {
+  sealer = sealer;
+  texts = sender.texts.items;
+  ats = sender.ats.items;
+  draws = of_seed seed;
+  plan = option_map (λ plan. plan.items) sender.plan;
+}
+
+abbrev pub source_in : SenderJob → SealerState → Option Source
+source_in sender sealer = option_map (source_with sender sealer) sender.seed

@@ -1,0 +1,129 @@
+//! The two ends of a lane, as a job states them.
+
+ghost use Rattle.std.specs.Prelude.{◌≡◌, ◌<◌, length, map, IsSome, IfOk, Some};
+ghost use Rattle.krb_seal.specs.Session.{HasShortAddresses};
+ghost use Rattle.krb_core.specs.Plan.{contents};
+ghost use Rattle.krb_core.specs.Sending.{source_of};
+ghost use Rattle.krb_commands.specs.Ends as ends;
+
+use krb_base::Bytes;
+use krb_core::{Receiver, Receiving, Sending};
+use krb_der::HostAddress;
+use krb_job::SenderJob;
+use krb_seal::{Expect, Opener, Sealer, Session};
+use rand_chacha::ChaCha20Rng;
+use rand_core::SeedableRng;
+use std::alloc::{AllocError, Global};
+
+/// A session key, by its encryption type.
+#[derive(Clone, Copy)]
+pub enum SessionKey {
+    /// Of type 17, aes128-cts-hmac-sha1-96.
+    Aes128([u8; 16]),
+    /// Of type 18, aes256-cts-hmac-sha1-96.
+    Aes256([u8; 32]),
+}
+
+/// The key of a sender of a job.
+pub fn key_of(sender: &SenderJob) -> SessionKey
+    ensures { ends.IsKey sender.now result }
+{
+    let key = sender.key.as_slice();
+    if sender.etype == 17 {
+        SessionKey::Aes128(key.try_into().unwrap())
+    } else {
+        SessionKey::Aes256(key.try_into().unwrap())
+    }
+}
+
+/// The session that a sender of a job seals for.
+pub fn session_of(alloc: Global, sender: &SenderJob) -> Result<Session, AllocError>
+    ensures session { IfOk result (λ session. session ≡ ends.session_of sender.now) }
+    ensures short { IfOk result HasShortAddresses }
+{
+    let r_addr = if sender.write_to {
+        Some(copy_of(alloc, &sender.to)?)
+    } else {
+        None
+    };
+    Ok(Session {
+        mode: sender.mode,
+        s_addr: copy_of(alloc, &sender.from)?,
+        r_addr,
+        first: sender.first,
+    })
+}
+
+/// What the receiver of a job's lane expects of each message.
+fn expect_of(alloc: Global, sender: &SenderJob) -> Result<Expect, AllocError>
+    ensures { IfOk result (λ expect. expect ≡ ends.expect_of sender.now) }
+{
+    Ok(Expect {
+        mode: sender.mode,
+        s_addr: copy_of(alloc, &sender.from)?,
+        r_addr: copy_of(alloc, &sender.to)?,
+        require_r: sender.require_to,
+        expect_time: sender.expect_time,
+        skew: sender.skew,
+    })
+}
+
+/// The receiver of a job's lane, which has taken nothing, and its moments.
+pub fn receiving_of(alloc: Global, sender: &SenderJob) -> Result<Receiving, AllocError>
+    ensures receiver { IfOk result (λ receiving.
+        receiving.receiver ≡ ends.receiver_of sender.now) }
+    ensures nows { IfOk result (λ receiving. receiving.nows.items ≡ sender.now.nows.items) }
+    ensures moments { IfOk result (λ receiving. 0 < length receiving.nows.items) }
+{
+    let expect = expect_of(alloc, sender)?;
+    let opener = match key_of(sender) {
+        SessionKey::Aes128(mut key) => Opener::new_128(&mut key, expect),
+        SessionKey::Aes256(mut key) => Opener::new_256(&mut key, expect),
+    };
+    Ok(Receiving {
+        receiver: Receiver::new(opener, sender.first),
+        nows: sender.nows.clone()?,
+    })
+}
+
+/// The sender of a job's lane, around a sealer of its session.
+///
+/// The job is one of a command that seals, so it has a seed.
+pub fn sending_of<S: Sealer>(
+    alloc: Global,
+    sender: SenderJob,
+    sealer: S,
+) -> Result<Sending<S>, AllocError>
+    requires seed { IsSome sender.seed }
+    ensures source { IfOk result (λ sending.
+        Some (source_of S.state sending) ≡ ends.source_in sender (S.state sealer)) }
+{
+    let seed = sender.seed.unwrap();
+    Ok(Sending {
+        sealer,
+        texts: vectors_of(alloc, sender.texts)?,
+        ats: sender.ats,
+        draws: ChaCha20Rng::from_seed(seed),
+        plan: sender.plan,
+    })
+}
+
+/// The vectors of texts, whose bytes stay where they are.
+fn vectors_of(alloc: Global, texts: Vec<Bytes>) -> Result<Vec<Vec<u8>>, AllocError>
+    ensures { IfOk result (λ vectors. contents vectors.items ≡ texts.items) }
+{
+    let mut vectors = Vec::with_capacity(alloc, texts.len())?;
+    for text in texts {
+        vectors.push(text.into_vec())?;
+    }
+    Ok(vectors)
+}
+
+fn copy_of(alloc: Global, address: &HostAddress) -> Result<HostAddress, AllocError>
+    ensures { IfOk result (λ copy. copy ≡ address.now) }
+{
+    Ok(HostAddress {
+        kind: address.kind,
+        bytes: Bytes::new(Vec::from_slice(alloc, address.bytes.as_slice())?),
+    })
+}
