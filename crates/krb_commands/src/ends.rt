@@ -1,9 +1,10 @@
 //! The two ends of a lane, as a job states them.
 
-ghost use Rattle.std.specs.Prelude.{◌≡◌, ◌<◌, length, map, IsSome, IfOk, Some};
+ghost use Rattle.std.specs.Prelude.{◌≡◌, ◌<◌, ◌≤◌, length, IsSome, IfOk, Some};
 ghost use Rattle.krb_seal.specs.Session.{HasShortAddresses};
 ghost use Rattle.krb_core.specs.Plan.{contents};
-ghost use Rattle.krb_core.specs.Sending.{source_of};
+ghost use Rattle.krb_core.specs.Sending.{source_of, IsSender};
+ghost use Rattle.krb_base.specs.Limits.{last_number};
 ghost use Rattle.krb_commands.specs.Ends as ends;
 
 use krb_base::Bytes;
@@ -97,6 +98,8 @@ pub fn sending_of<S: Sealer>(
     requires seed { IsSome sender.seed }
     ensures source { IfOk result (λ sending.
         Some (source_of S.state sending) ≡ ends.source_in sender (S.state sealer)) }
+    ensures limits { IfOk result (λ sending. (S.state sealer).next ≤ last_number
+        → IsSender (source_of S.state sending)) }
 {
     let seed = sender.seed.unwrap();
     Ok(Sending {

@@ -5,7 +5,7 @@ ghost use Rattle.krb_commands.specs.Fault.{fault_status, of_job, of_start, IsLiv
 
 use krb_core::StartError;
 use krb_job::{BadInput, JobError, Place};
-use std::alloc::AllocError;
+use std::alloc::{AllocError, AllocFailed};
 use thiserror::Error;
 
 /// A fault of the program, shown as its one line on standard error.
@@ -59,6 +59,14 @@ impl From<AllocError> for Fault {
     ghost from_gives = { λ _ fault. fault ≡ Memory };
 
     fn from(_error: AllocError) -> Fault {
+        Fault::Memory
+    }
+}
+
+impl<T: Drop> From<AllocFailed<T>> for Fault {
+    ghost from_gives = { λ _ fault. fault ≡ Memory };
+
+    fn from(_error: AllocFailed<T>) -> Fault {
         Fault::Memory
     }
 }

@@ -14,7 +14,7 @@ use Rattle.krbrelay.specs.declared.command.Cmd.{Cmd}
 use Rattle.clap.specs.declared.parser.matches.ArgMatches.TheViews.{out-ArgMatches, out-SubCommand}
 use Rattle.std.specs.Box.{box_value}
 use Rattle.clap.specs.Words.{subcommand_rows}
-use Rattle.krbrelay.specs.declared.command.Cmd.TheVariants.{Show, Vectors}
+use Rattle.krbrelay.specs.declared.command.Cmd.TheVariants.{Show, Vectors, Seal, Open}
 
 -- the command as it is parsed
 abbrev pub krbrelay_built : App
@@ -78,7 +78,7 @@ find_words test rest [] words e = absurd cc
 find_words test rest (s ∷ ss) words e = found_step (test s) rest s (find test ss) words.0 (find_words test rest ss words.1) e
 
 the_words : NameWords krbrelay_built.subs
-the_words = ((Show, refl), ((Vectors, refl), tt))
+the_words = ((Show, refl), ((Vectors, refl), ((Seal, refl), ((Open, refl), tt))))
 
 entered_word : (stop : Option (Text × List Text)) → is_some (entered krbrelay_built stop) ≡ true → Found (entered krbrelay_built stop)
 entered_word None e = absurd cc

@@ -4,12 +4,14 @@ use Rattle.clap.specs.Words.{App, new_app, with_subcommand, subcommand_name_of}
 use Rattle.clap.specs.Simple.{new_shape, on_top}
 use Rattle.clap.specs.declared.parser.matches.ArgMatches.{ArgMatches}
 use Rattle.krbrelay.specs.declared.command.Cmd.{Cmd}
-use Rattle.krbrelay.specs.declared.command.Cmd.TheVariants.{Show, Vectors}
+use Rattle.krbrelay.specs.declared.command.Cmd.TheVariants.{Show, Vectors, Seal, Open}
 
 -- the word of each command
 abbrev pub word_of : Cmd → List ℕ
 word_of Show = codes "show"
 word_of Vectors = codes "vectors"
+word_of Seal = codes "seal"
+word_of Open = codes "open"
 
 -- a command is wanted, and `help` is none
 abbrev pub no_commands : App
@@ -22,7 +24,7 @@ with_word app command = with_subcommand app (new_shape (word_of command))
 
 -- the program's command line: each command stands alone, with no arguments of its own
 abbrev pub krbrelay_app : App
-krbrelay_app = with_word (with_word no_commands Show) Vectors
+krbrelay_app = with_word (with_word (with_word (with_word no_commands Show) Vectors) Seal) Open
 
 -- the word is a command's
 abbrev pub IsWord : List ℕ → Type 0

@@ -16,6 +16,10 @@ pub enum Cmd {
     Show,
     /// Prints the published vectors.
     Vectors,
+    /// Seals the texts of a job's sender, and prints the frames.
+    Seal,
+    /// Opens the frames of a job's sender, and prints what became of each.
+    Open,
 }
 
 impl Cmd {
@@ -26,7 +30,9 @@ impl Cmd {
     {
         match word {
             "show" => Cmd::Show,
-            _ => Cmd::Vectors,
+            "vectors" => Cmd::Vectors,
+            "seal" => Cmd::Seal,
+            _ => Cmd::Open,
         }
     }
 }
@@ -65,7 +71,9 @@ fn command_line<'a>(alloc: Global) -> Result<Command<'a>, AllocError>
         .subcommand_required(true)
         .disable_help_subcommand(true);
     let line = with_command(alloc, line, "show", help::SHOW, help::SHOW_AFTER)?;
-    with_command(alloc, line, "vectors", help::VECTORS, help::VECTORS_AFTER)
+    let line = with_command(alloc, line, "vectors", help::VECTORS, help::VECTORS_AFTER)?;
+    let line = with_command(alloc, line, "seal", help::SEAL, help::SEAL_AFTER)?;
+    with_command(alloc, line, "open", help::OPEN, help::OPEN_AFTER)
 }
 
 fn with_command<'a>(

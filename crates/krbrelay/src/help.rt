@@ -1,10 +1,11 @@
 //! The texts of the help.
 
-pub const PROGRAM: &str = "Shows KRB-SAFE and KRB-PRIV messages of Kerberos V5";
+pub const PROGRAM: &str = "Seals, opens and shows KRB-SAFE and KRB-PRIV messages of Kerberos V5";
 
 pub const EXIT_STATUS: &str = "Exit status:
-  0  done
+  0  done, and every lane was closed
   2  the input is at fault, or the command line
+  3  a lane ended before its close was accepted
   4  out of memory, or a read or a write failed";
 
 pub const SHOW: &str = "Prints the messages of the input, one a line";
@@ -39,3 +40,44 @@ Example:
   $ krbrelay vectors
   aes128 69c4e0d86a7b0430d8cdb78070b4c55a
   ..";
+
+/// The keys of a job, which the help of each command that reads one tells.
+pub const SEAL: &str = "Seals the texts of a job, and prints the frames";
+
+pub const SEAL_AFTER: &str = "Standard input is a job, a TOML document with one table [[sender]]:
+
+  etype = 17             or 18 (RFC 3962)
+  key = \"..\"             hexadecimal digits, 16 bytes for 17, 32 for 18
+  mode = \"safe\"          or \"priv\"
+  first = 7              the first sequence number
+  from = \"2:0a000001\"    type and bytes of the sender's address
+  to = \"2:0a0000ff\"      and of the receiver's
+  write_to = false       whether messages tell the receiver's address
+  require_to = false     whether the receiver wants it told
+  expect_time = true     whether the receiver wants a time
+  skew = 300             seconds by which a time may be off
+  seed = \"..\"            32 bytes, from which the confounders are drawn
+  at = [1700000000000005]    when frames are sealed, in microseconds since 1970
+  now = [1700000000000005]   when frames are opened
+  texts = [\"6869\"]       what is sealed, in hexadecimal digits
+  plan = [\"0\", \"flip 0 9 01\", \"raw 74\", \"1\"]    what is put on the wire
+
+The four keys with a default may be left out, and so may plan: then each frame is printed once, the
+close last. Each frame is one line of hexadecimal digits. The last line says how many texts were
+sealed:
+
+  sent 1 of 1 DONE";
+
+pub const OPEN: &str = "Opens the frames of a job, and prints what became of each";
+
+pub const OPEN_AFTER: &str = "Standard input is a job as for `seal`, with the key
+
+  frames = [\"..\"]        what is opened, in hexadecimal digits
+
+and without seed, at, texts and plan. Each frame is one line, and the last says whether the close was
+accepted:
+
+  lane 0 text 6869
+  lane 0 refused 42 BADORDER
+  lane 0 closed
+  lane 0 CLOSED";

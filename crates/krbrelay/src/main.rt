@@ -10,6 +10,7 @@
 
 mod command;
 mod help;
+mod jobs;
 #[cfg(test)]
 mod tests;
 
@@ -41,6 +42,8 @@ fn run(rt: &(impl Input + Print + Alloc<A = Global>), command: Cmd) -> Result<u8
     let outcome = match command {
         Cmd::Show => show(rt.alloc(), &mut reader, &mut writer),
         Cmd::Vectors => vectors(rt.alloc(), &mut writer),
+        Cmd::Seal => jobs::seal(rt.alloc(), &mut reader, &mut writer),
+        Cmd::Open => jobs::open(rt.alloc(), &mut reader, &mut writer),
     };
     if writer.flush().is_err() {
         return Err(Fault::Write);
