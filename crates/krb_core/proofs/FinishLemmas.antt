@@ -480,10 +480,12 @@ pub all_ended : (lanes : List Ends) (capacity : ℕ) (before : List Turn) (relay
 all_ended lanes capacity before relay h done lane lt =
     let stand = stand_all lanes capacity before relay h in
     let within : lane < length lanes = omega (arith, lt, stand.count) in
-    elim (there_is lane relay.tracks lt) [ found track at ↦
-      elim (there_is lane lanes within) [ found ends at-e ↦
-        (stand.each lane ends track at-e at).ended ∙ all_pass (λ t. has_end t.lane.got) relay.tracks lane track done at
-      ]
+    elim (there_is lane relay.tracks lt) [
+      | found track at ↦
+          elim (there_is lane lanes within) [
+            | found ends at-e ↦
+                (stand.each lane ends track at-e at).ended ∙ all_pass (λ t. has_end t.lane.got) relay.tracks lane track done at
+          ]
     ]
 
 -- and a part of the turns leaves a part of the entries
