@@ -80,10 +80,10 @@ left_at relay turn (Some old) lane track at is =
             left = behind_lane turn old ∙ ap (λ (l : Lane (List ℕ)). after_event l (event_of turn old)) (ap (λ (t : TrackState). t.lane) same-t);
           })
       | inr apart ↦ rw apart.0 (record {
-          track = track;
-          at = get_set_other relay.tracks (lane_of turn) lane (track_behind turn old) apart.1 ∙ is;
-          left = refl;
-        })
+        track = track;
+        at = get_set_other relay.tracks (lane_of turn) lane (track_behind turn old) apart.1 ∙ is;
+        left = refl;
+      })
     ]
 
 left_after : (turns : List Turn) (relay : Relay) (lane : ℕ) (track : TrackState) → slice_get relay.tracks lane ≡ Some track
@@ -212,12 +212,15 @@ module _ (lanes : List Ends) (capacity : ℕ) (turns : List Turn) (relay : Relay
   headline_holds lane ends at =
       elim (found_track lane ends at) [
         | here track is ↦
-            let stands = (stand_all lanes capacity turns relay h).each lane ends track at is in
-            (track, is, record {
-              verdicts = stands.verdicts;
-              logged = stands.logged;
-              claims = headline_of ends lane (frames track.lane.got) stands.verdicts relay.log (run_of ends lane track relay.log stands) stands.logged.entries (takes_all ends lane track relay.log stands);
-            })
+            let stands = (stand_all lanes capacity turns relay h).each lane ends track at is in (
+              track,
+              is,
+              record {
+                verdicts = stands.verdicts;
+                logged = stands.logged;
+                claims = headline_of ends lane (frames track.lane.got) stands.verdicts relay.log (run_of ends lane track relay.log stands) stands.logged.entries (takes_all ends lane track relay.log stands);
+              },
+            )
       ]
 
   pub ended_holds : OfEachLane lanes relay (λ ends lane track. has_ended lane relay.log ≡ has_end track.lane.got)
@@ -245,12 +248,15 @@ module _ (lanes : List Ends) (capacity : ℕ) (turns : List Turn) (relay : Relay
             let at-t : slice_get relay.tracks lane ≡ Some left.track = ap (λ r. slice_get r.tracks lane) h.left ∙ left.at in
             let stands = (stand_all lanes capacity turns relay h).each lane ends left.track at at-t in
             let events = turned_events lane h.begun turns in
-            let n = length left.track.lane.sent in
-            (left.track, at-t, record {
-              emits = stands.emits;
-              sent = (drop n (items_of left.track.wire), sym (take-append-drop n (items_of left.track.wire)) ∙ ap (λ l. l ++ drop n (items_of left.track.wire)) (sym stands.sent));
-              left = left.left ∙ ap (λ (t : TrackState). machine.after t.lane events) begun.is_fresh;
-            })
+            let n = length left.track.lane.sent in (
+              left.track,
+              at-t,
+              record {
+                emits = stands.emits;
+                sent = (drop n (items_of left.track.wire), sym (take-append-drop n (items_of left.track.wire)) ∙ ap (λ l. l ++ drop n (items_of left.track.wire)) (sym stands.sent));
+                left = left.left ∙ ap (λ (t : TrackState). machine.after t.lane events) begun.is_fresh;
+              },
+            )
       ]
 
 -- ---- turns on turns

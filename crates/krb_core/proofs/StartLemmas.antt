@@ -1,5 +1,5 @@
 -- How a lane begins.
-use Rattle.std.proofs.Common.{◌≡◌, ℕ, suc, true, List, [], ◌∷◌, ◌++◌, length, map, Option, Some, Result, Ok, Err, inr, refl, sym, ap, ap₂, subst, ◌∙◌, arith, append_assoc, length-append}
+use Rattle.std.proofs.Common.{◌≡◌, ℕ, suc, true, List, [], ◌∷◌, ◌++◌, length, map, Option, Some, Result, Ok, Err, inr, refl, sym, ap, ap₂, subst, ◌∙◌, arith, append_assoc, append-nil, length-append, replicate, false}
 use Rattle.std.proofs.lemmas.List.{map_push, map-append, length-map}
 use Rattle.krb_core.specs.Sending.{source_of}
 use Rattle.std.specs.List.{zip}
@@ -13,7 +13,7 @@ use Rattle.krb_core.specs.declared.sending.Sending.{Sending}
 use Rattle.krb_core.specs.declared.sending.Sent.{Sent}
 use Rattle.krb_core.specs.declared.start.StartError.{StartError}
 use Rattle.krb_core.specs.declared.log.Entry.{Entry}
-use Rattle.krb_core.specs.Log.{is_closed}
+use Rattle.krb_core.specs.Log.{lane_limit, new_log, is_closed}
 use Rattle.krb_core.specs.LogState.{LogState}
 use Rattle.krb_core.specs.Track.{TrackState}
 use Rattle.krb_core.specs.Stepped.{IsRelay}
@@ -94,6 +94,16 @@ pub all_done : {A B : Type 0} (xs rest : List A) (ys others : List B) (done : Li
     → length done ≡ length xs
 all_done xs rest ys others done same e left none =
     omega (arith, ap length e, length-zip xs ys same, length-append done (zip rest others), length-zip rest others left)
+
+pub whole_done : {A B : Type 0} (whole done : List (A × B)) (rest : List A) (others : List B) → whole ≡ done ++ zip rest others → length rest ≡ 0 → whole ≡ done
+whole_done whole done [] others e none = e ∙ append-nil done
+whole_done whole done (x ∷ rest) others e none = absurd (omega (arith, none))
+
+-- the log of a relay that begins is empty
+pub is_new_log : (log : LogState) (count lanes : ℕ) → log.lanes ≡ count → log.entries ≡ [] → log.ended ≡ replicate lane_limit false → lanes ≡ count → log ≡ new_log lanes
+is_new_log log count lanes l e d same =
+    ap₂ (λ n es. let z : LogState = record { lanes = n; entries = es; ended = log.ended } in z) (l ∙ sym same) e
+    ∙ ap (λ d. let z : LogState = record { lanes = lanes; entries = []; ended = d } in z) d
 
 -- a lane that doesn't begin, behind those that do
 pub lane_fails : {S : Type 0} (state : S → SealerState) (capacity : ℕ) (lanes before behind : List (Sending S × Receiving)) (pair : Sending S × Receiving) (tracks : List TrackState) (sents : List Sent) (lane : ℕ) (error : StartError)

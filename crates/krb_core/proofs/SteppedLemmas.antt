@@ -177,6 +177,12 @@ pub take_waits : {E : Type 0} (r : Result Did E) (relay now : Relay) (t : Turn) 
 take_waits (Ok did) relay now t h = h.waits
 take_waits (Err e) relay now t h = tt
 
+-- where memory is wanting, nothing is changed
+pub take_undone : {X E : Type 0} (r : Result X E) (tracks : List TrackState) (log log-now : LogState) (sents : List Sent) (k : ℕ) (old now : TrackState) → slice_get tracks k ≡ Some old
+    → OnErr r (now ≡ old) → OnErr r (log-now ≡ log) → OnErr r (relay_of (set tracks k now) log-now sents ≡ relay_of tracks log sents)
+take_undone (Ok x) tracks log log-now sents k old now at t l = tt
+take_undone (Err e) tracks log log-now sents k old now at t l = ap₂ (λ x y. relay_of (set tracks k x) y sents) t l ∙ ap (λ ts. relay_of ts log sents) (set-same tracks k old at)
+
 -- the lanes stay
 turned_count_at : (relay : Relay) (t : Turn) (o : Option TrackState) → length (turned_at relay t o).tracks ≡ length relay.tracks
 turned_count_at relay t None = refl

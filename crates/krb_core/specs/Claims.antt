@@ -40,28 +40,23 @@ pub record Headline (ends : Ends) (lane : ℕ) (took : List (List ℕ)) (verdict
   pub delivered_prefix :
       ArePaired ends → AlteredAreHonest ends.source verdicts
       → IsPrefix (texts_of lane log.entries) (sealed_texts ends.source)
-
   -- nothing is delivered and no close is accepted after a close
   pub nothing_after_close :
       (front back : List Event) → events_of lane log.entries ≡ front ++ Closed ∷ back
       → (texts_in back ≡ []) × (has_closed back ≡ false)
-
   -- all texts are delivered where the close was accepted
   pub all_where_closed :
       ArePaired ends → AlteredAreHonest ends.source verdicts → is_closed lane log.entries ≡ true
       → texts_of lane log.entries ≡ sealed_texts ends.source
-
   -- all texts are delivered where nothing disturbs the lane and its End was taken
   pub all_where_undisturbed :
       AreUndisturbed ends → has_ended lane log ≡ true
       → texts_of lane log.entries ≡ sealed_texts ends.source
-
   -- a frame is refused exactly where it fails a check, by the first that it fails
   pub refused_exactly :
       (place : ℕ) (frame : List ℕ) (refusal : Refusal) → slice_get took place ≡ Some frame
       → let demanded = behind ends.receiver.demand (records_of (take place verdicts)) in
       (slice_get verdicts place ≡ Some (Err refusal)) ↔ Fails ends.receiver.opener demanded (moment_at ends.nows place) frame refusal
-
   -- a refusal delivers nothing and moves no number: without it, the same is delivered and demanded
   pub refusals_deliver_nothing :
       (front back : List Verdict) (refusal : Refusal) → verdicts ≡ front ++ Err refusal ∷ back

@@ -1,9 +1,10 @@
 //! A relay that is stepped: one event of one lane at a time, in any order that the caller likes.
 
-ghost use Rattle.std.specs.Prelude.{◌≡◌, ◌↔◌, ◌<◌, ◌≤◌, ℕ, length, take, Some, false, slice_get, All, IfOk, IfErr, OnOk, OnErr};
+ghost use Rattle.std.specs.Prelude.{◌≡◌, ◌↔◌, ◌<◌, ◌≤◌, ℕ, length, take, [], ◌∷◌, Some, false, slice_get, All, IfOk, IfErr, OnOk, OnErr};
 ghost use Rattle.krb_core.specs.Log.{lane_limit, new_log};
 ghost use Rattle.krb_core.specs.Sending.{source_of, IsSender};
 ghost use Rattle.krb_core.specs.Start.{lanes_of, AreBegun, Fails};
+ghost use Rattle.krb_core.specs.Relayed.{HasTurned, GoesOn, KeepsHeadline};
 ghost use Rattle.krb_core.specs.Stepped.{lane_of, turned, after, may_move, is_done};
 
 mod finish;
@@ -66,6 +67,8 @@ impl Stepped {
         ensures count { IfOk result (λ stepped.
             length stepped.tracks ≡ length sendings.items) }
         ensures log { IfOk result (λ stepped. stepped.log ≡ new_log (length sendings.items)) }
+        ensures turned { IfOk result (HasTurned
+            (lanes_of S.state sendings.items receivings.items) capacity []) }
         ensures err { IfErr result (Fails capacity
             (lanes_of S.state sendings.items receivings.items)) }
     {
@@ -99,6 +102,10 @@ impl Stepped {
         ensures waits { IfOk result (λ did. (did ≡ Did.Waits) ↔ (may_move self.old turn ≡ false)) }
         ensures err { OnErr result (self.new ≡ self.old) }
         ensures lanes { length self.new.tracks ≡ length self.old.tracks }
+
+        // Whatever was turned before, the turn comes behind, and the headline holds of each lane.
+        ensures turned { OnOk result (GoesOn self.old (turn ∷ []) self.new) }
+        ensures headline { KeepsHeadline self.old self.new }
     {
         match turn {
             Turn::Send(lane) => Ok(self.tracks[lane as usize].send()),
@@ -114,8 +121,14 @@ impl Stepped {
     /// The first want of memory ends it, with the earlier turns done.
     pub fn run(&mut self, turns: &[Turn]) -> Result<(), AllocError>
         requires { All (λ turn. lane_of turn < length self.old.tracks) turns.now }
-        ensures { (n : ℕ) × (self.new ≡ after self.old (take n turns.now))
+        ensures after { (n : ℕ) × (self.new ≡ after self.old (take n turns.now))
             × OnOk result (n ≡ length turns.now) }
+
+        // Whatever was turned before, these turns come behind, and the headline holds of each lane,
+        // also where want of memory ended them.
+        ensures turned { (n : ℕ) × GoesOn self.old (take n turns.now) self.new
+            × OnOk result (n ≡ length turns.now) }
+        ensures headline { KeepsHeadline self.old self.new }
     {
         for turn in turns {
             self.step(*turn)?;

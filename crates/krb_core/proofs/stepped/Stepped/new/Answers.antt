@@ -2,8 +2,10 @@ use Rattle.std.proofs.Common.{rules, inl, inr, ◌≡◌, ◌<◌, ◌≤◌, �
 use Rattle.std.specs.List.{zip}
 use Rattle.std.proofs.lemmas.List.Elements.{All-head, All-tail}
 use Rattle.krb_core.specs.Sending.{source_of, IsSender}
-use Rattle.krb_core.specs.Start.{lanes_of, Fails}
-use Rattle.krb_core.proofs.StartLemmas.{lanes_begun, lanes_begun-length, length-zip, is_relay, zip_next, all_done, lane_fails, if_err}
+use Rattle.krb_core.specs.Start.{lanes_of, ends_of, Fails}
+use Rattle.std.proofs.lemmas.List.{length-map}
+use Rattle.krb_core.proofs.RelayedClaims.{turned_begun}
+use Rattle.krb_core.proofs.StartLemmas.{lanes_begun, lanes_begun-length, length-zip, is_relay, zip_next, all_done, whole_done, is_new_log, lane_fails, if_err}
 use Rattle.krb_core.proofs.stepped.Stepped.new.Goals as goal
 
 pub begin_lane-requires-clause-sender : goal.begin_lane-requires-clause-sender
@@ -59,3 +61,22 @@ returns-clause-count g c =
     let second : length b.items ≡ b.len = search rules in
     let none : length a.items ≡ 0 = elim c.in-None.ensures.steps [ inl h ↦ first ∙ h.1.0 | inr h ↦ c.loop-sending.invariant.same ∙ second ∙ h.1.0 ] in
     lengths.tracks_are ∙ all_done c.args.sendings.items a.items c.args.receivings.items b.items c.loop-sending.yielded c.requires.same c.loop-sending.invariant.lanes c.loop-sending.invariant.same none
+
+pub returns-clause-turned : goal.returns-clause-turned
+returns-clause-turned g c =
+    let state = g.S.Sealer.state in
+    let a = c.loop-sending.sending-iterator.a.rest in
+    let b = c.loop-sending.sending-iterator.b.rest in
+    let pairs = zip c.args.sendings.items c.args.receivings.items in
+    let lanes = lanes_of state c.args.sendings.items c.args.receivings.items in
+    let first : length a.items ≡ a.len = search rules in
+    let second : length b.items ≡ b.len = search rules in
+    let none : length a.items ≡ 0 = elim c.in-None.ensures.steps [ inl h ↦ first ∙ h.1.0 | inr h ↦ c.loop-sending.invariant.same ∙ second ∙ h.1.0 ] in
+    let all : pairs ≡ c.loop-sending.yielded = whole_done pairs c.loop-sending.yielded a.items b.items c.loop-sending.invariant.lanes none in
+    let count : length lanes ≡ length c.args.sendings.items =
+    length-map pairs (ends_of state) ∙ length-zip c.args.sendings.items c.args.receivings.items c.requires.same in
+    turned_begun lanes c.args.capacity _ (record {
+      few = omega (arith, count, c.requires.few);
+      lanes_are = rw all c.loop-sending.invariant.begun;
+      log = is_new_log c.new-log.result (length c.args.sendings.items) (length lanes) (omega (arith, c.new-log.ensures.lanes, c.len-count.ensures)) c.new-log.ensures.entries c.new-log.ensures.ended count;
+    })
