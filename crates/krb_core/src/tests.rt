@@ -1,6 +1,7 @@
 //! A sender and a receiver of one session: what is sealed, and what becomes of frames that the wire
 //! repeats, drops, reorders, changes and makes up.
 
+mod finish;
 mod frames;
 mod lanes;
 mod senders;

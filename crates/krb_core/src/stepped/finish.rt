@@ -5,6 +5,7 @@ ghost use Rattle.krb_base.specs.Prefix.{IsPrefix};
 ghost use Rattle.krb_core.specs.declared.turn.Turn.{Turn};
 ghost use Rattle.krb_core.specs.Claims.{has_ended};
 ghost use Rattle.krb_core.specs.Stepped.{after, is_done};
+ghost use Rattle.krb_core.specs.Relayed.{GoesOn, KeepsHeadline};
 ghost use Rattle.krb_core.specs.Finish.{round_turns, finishing, longest_wire, FromStart, whole_log};
 
 use super::Stepped;
@@ -19,8 +20,10 @@ impl Stepped {
     /// Each queue needs room for one frame. The first want of memory ends it, with the earlier
     /// turns done: the log has a front of those entries.
     pub fn finish(&mut self) -> Result<(), AllocError>
-        ensures turns { (done : List Turn) × IsPrefix done (finishing self.old.tracks)
+        ensures after { (done : List Turn) × IsPrefix done (finishing self.old.tracks)
             × (self.new ≡ after self.old done) }
+        ensures turned { (done : List Turn) × GoesOn self.old done self.new }
+        ensures headline { KeepsHeadline self.old self.new }
         ensures ok { OnOk result (self.new ≡ after self.old (finishing self.old.tracks)) }
 
         ensures rounds { FromStart self.old (OnOk result

@@ -10,7 +10,7 @@ use std::process::Abort;
 use std::test::Fail;
 
 /// Asserts the limits of a sender.
-fn assert_sender<S: Sealer>(rt: &impl Abort, sending: &Sending<S>)
+pub fn assert_sender<S: Sealer>(rt: &impl Abort, sending: &Sending<S>)
     ensures { IsSender (source_of S.state sending.now) }
 {
     assert!(rt; are_short(sending.texts.as_slice()));
