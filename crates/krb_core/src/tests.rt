@@ -6,6 +6,7 @@ mod frames;
 mod lanes;
 mod senders;
 mod steps;
+mod turns;
 mod undisturbed;
 
 ghost use Rattle.std.specs.Prelude.{◌≡◌, IfOk, nat_le, length};
