@@ -5,7 +5,9 @@ use Rattle.krb_core.specs.Claims.{has_ended}
 use Rattle.krb_core.specs.Stepped.{after, is_done}
 use Rattle.krb_core.specs.Finish.{finishing, whole_log}
 use Rattle.krb_core.proofs.RelayedClaims.{goes_on, keeps_headline}
-use Rattle.krb_core.proofs.FinishLemmas.{left_over, left_next, left_last, round_in_part, round_in_full, round_count, served_all, on_ok, front_from, entries_from, done_from, ended_from}
+use Rattle.krb_core.proofs.TurnLemmas.{left_over, left_next, left_last, round_in_part, round_in_full, round_count, served_all, on_ok}
+use Rattle.krb_core.proofs.RoundsTurned.{front_from, entries_from}
+use Rattle.krb_core.proofs.FinishLemmas.{done_from, ended_from}
 use Rattle.krb_core.proofs.stepped.Stepped.finish.Goals as goal
 
 pub returns-in_err-round-clause-after : goal.returns-in_err-round-clause-after
