@@ -1,5 +1,8 @@
 -- Lists and tests that several proofs speak of.
-use Rattle.std.proofs.Common.{◌≡◌, ℕ, zero, suc, ◌+◌, ◌<◌, ◌⊎◌, ◌||◌, ◌&&◌, min, Bool, true, false, List, [], ◌∷◌, ◌++◌, length, take, drop, get_or, slice_get, Some, inl, inr, refl, sym, ap, ap₂, ◌∙◌, arith}
+use Rattle.std.proofs.Common.{◌≡◌, ℕ, zero, suc, ◌+◌, ◌<◌, ◌≤◌, ◌⊎◌, ◌||◌, ◌&&◌, min, Bool, true, false, List, [], ◌∷◌, ◌++◌, length, take, drop, get_or, slice_get, Some, inl, inr, refl, sym, ap, ap₂, subst, ◌∙◌, arith}
+use Rattle.std.proofs.lemmas.List.{take_more, take_all}
+use Rattle.std.proofs.lemmas.List.Elements.{All-push}
+use Rattle.std.specs.Prelude.{All}
 use Rattle.std.specs.List.{list_all}
 use Rattle.krb_aes.specs.Words.{AreBytes}
 use Rattle.krb_core.specs.Verdicts.{AllBytes}
@@ -82,3 +85,10 @@ get_or-take (suc n) (suc k) (x ∷ xs) d h = get_or-take n k xs d (omega arith)
 pub AllBytes-push : (frames : List (List ℕ)) (frame : List ℕ) → AllBytes frames → AreBytes frame → AllBytes (frames ++ frame ∷ [])
 AllBytes-push [] frame all bytes = (bytes, tt)
 AllBytes-push (f ∷ frames) frame all bytes = (all.0, AllBytes-push frames frame all.1 bytes)
+
+-- what holds of each element so far, and of the next one
+pub All-more : {X : Type 0} (P : X → Type 0) (xs : List X) (i : ℕ) (x : X) → i < length xs → All P (take i xs) → x ≡ get_or xs i x → P x → All P (take (i + 1) xs)
+All-more P xs i x lt h is p = rw (take_more xs i x lt) (All-push P (take i xs) (get_or xs i x) h (subst P is p))
+
+pub All-whole : {X : Type 0} (P : X → Type 0) (xs : List X) (i : ℕ) → All P (take i xs) → length xs ≤ i → All P xs
+All-whole P xs i h le = subst (λ l. All P l) (take_all i xs le) h

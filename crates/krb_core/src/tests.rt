@@ -1,10 +1,12 @@
 //! A sender and a receiver of one session: what is sealed, and what becomes of frames that the wire
 //! repeats, drops, reorders, changes and makes up.
 
+mod finish;
 mod frames;
 mod lanes;
 mod senders;
 mod steps;
+mod turns;
 mod undisturbed;
 
 ghost use Rattle.std.specs.Prelude.{◌≡◌, IfOk, nat_le, length};

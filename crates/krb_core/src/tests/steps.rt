@@ -1,4 +1,4 @@
-ghost use Rattle.std.specs.Prelude.{◌≡◌, length, IfOk};
+ghost use Rattle.std.specs.Prelude.{◌≡◌, ◌<◌, All, length, IfOk};
 ghost use Rattle.krb_core.specs.Sending.{source_of, IsSender};
 
 use super::{MICROS, are_short, moment, receiver, sealer, sending};
@@ -10,7 +10,7 @@ use std::process::Abort;
 use std::test::Fail;
 
 /// Asserts the limits of a sender.
-fn assert_sender<S: Sealer>(rt: &impl Abort, sending: &Sending<S>)
+pub fn assert_sender<S: Sealer>(rt: &impl Abort, sending: &Sending<S>)
     ensures { IsSender (source_of S.state sending.now) }
 {
     assert!(rt; are_short(sending.texts.as_slice()));
@@ -18,23 +18,47 @@ fn assert_sender<S: Sealer>(rt: &impl Abort, sending: &Sending<S>)
     assert!(rt; sending.sealer.next() <= LAST_NUMBER);
 }
 
-/// A relay of one lane.
-fn begin<S: Sealer>(
+/// Asserts the limits of all senders.
+fn assert_senders<S: Sealer>(rt: &impl Abort, sendings: &[Sending<S>])
+    ensures { All (λ sending. IsSender (source_of S.state sending)) sendings.now }
+{
+    for sending in sendings {
+        assert_sender(rt, sending);
+    }
+}
+
+/// Asserts that each receiver has a moment.
+fn assert_receivers(rt: &impl Abort, receivings: &[Receiving])
+    ensures { All (λ receiving. 0 < length receiving.nows.items) receivings.now }
+{
+    for receiving in receivings {
+        assert!(rt; !receiving.nows.is_empty());
+    }
+}
+
+/// A relay of one to eight lanes.
+pub(super) fn begin<S: Sealer>(
     rt: &impl Abort,
     alloc: Global,
-    sending: Sending<S>,
-    receiving: Receiving,
+    sendings: Vec<Sending<S>>,
+    receivings: Vec<Receiving>,
     capacity: usize,
 ) -> Result<Stepped, StartError>
-    ensures { IfOk result (λ stepped. length stepped.tracks ≡ 1) }
+    ensures { IfOk result (λ stepped. length stepped.tracks ≡ length sendings.items) }
 {
-    assert_sender(rt, &sending);
-    assert!(rt; !receiving.nows.is_empty());
-    let mut sendings = Vec::with_capacity(alloc, 1)?;
-    sendings.push(sending).map_err(AllocError::from)?;
-    let mut receivings = Vec::with_capacity(alloc, 1)?;
-    receivings.push(receiving).map_err(AllocError::from)?;
+    assert!(rt; 1 <= sendings.len() && sendings.len() <= 8);
+    assert!(rt; sendings.len() == receivings.len());
+    assert_senders(rt, sendings.as_slice());
+    assert_receivers(rt, receivings.as_slice());
     Stepped::new(alloc, sendings, receivings, capacity)
+}
+
+/// A receiver of 10.0.0.1 that demands the number 7, and takes all frames at one moment.
+pub(super) fn receiving(alloc: Global, mode: Mode) -> Result<Receiving, Fail> {
+    Ok(Receiving {
+        receiver: receiver(alloc, mode, 7)?,
+        nows: vec![in alloc; moment(MICROS)?]?,
+    })
 }
 
 /// A relay of one sender that says `hi`, at capacity 1.
@@ -42,13 +66,9 @@ fn relay_of_one(rt: &impl Abort, alloc: Global) -> Result<Stepped, Fail>
     ensures { IfOk result (λ stepped. length stepped.tracks ≡ 1) }
 {
     let sending = sending(alloc, sealer(alloc, Mode::Safe, 7)?, &[b"hi"], &[MICROS])?;
-    let mut nows = Vec::new(alloc);
-    nows.push(moment(MICROS)?)?;
-    let receiving = Receiving {
-        receiver: receiver(alloc, Mode::Safe, 7)?,
-        nows,
-    };
-    Ok(begin(rt, alloc, sending, receiving, 1)?)
+    let sendings = vec![in alloc; sending]?;
+    let receivings = vec![in alloc; receiving(alloc, Mode::Safe)?]?;
+    Ok(begin(rt, alloc, sendings, receivings, 1)?)
 }
 
 const SEND: Turn = Turn::Send(0);

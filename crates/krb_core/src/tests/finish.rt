@@ -1,0 +1,136 @@
+//! Two lanes that run to their end.
+
+use super::steps::assert_sender;
+use super::{MICROS, address, moment, receiver, sealer, sending};
+use crate::{Emit, Entry, Event, Log, Receiver, Receiving, Sending, StartError, Status, Stepped};
+use krb_seal::{Aes256Sealer, Expect, Mode, Opener, Sealer, Session};
+use std::alloc::{AllocError, Global};
+use std::process::Abort;
+use std::test::Fail;
+
+const WIDE_KEY: [u8; 32] = [0x5a; 32];
+
+/// A sealer of encryption type 18 at 10.0.0.1.
+fn wide_sealer(alloc: Global, first: u32) -> Result<Aes256Sealer, AllocError> {
+    let session = Session {
+        mode: Mode::Priv,
+        s_addr: address(alloc, 1)?,
+        r_addr: None,
+        first,
+    };
+    Ok(Aes256Sealer::new(&mut { WIDE_KEY }, session))
+}
+
+/// The receiver of its frames.
+fn wide_receiver(alloc: Global, first: u32) -> Result<Receiver, AllocError> {
+    let expect = Expect {
+        mode: Mode::Priv,
+        s_addr: address(alloc, 1)?,
+        r_addr: address(alloc, 255)?,
+        require_r: false,
+        expect_time: true,
+        skew: 300,
+    };
+    Ok(Receiver::new(Opener::new_256(&mut { WIDE_KEY }, expect), first))
+}
+
+/// A receiver that takes all frames at `MICROS`.
+fn receiving(alloc: Global, receiver: Receiver) -> Result<Receiving, Fail> {
+    let mut nows = Vec::with_capacity(alloc, 1)?;
+    nows.push(moment(MICROS)?)?;
+    Ok(Receiving { receiver, nows })
+}
+
+/// A relay of these senders.
+fn begin<S: Sealer>(
+    rt: &impl Abort,
+    alloc: Global,
+    sendings: Vec<Sending<S>>,
+    receivings: Vec<Receiving>,
+    capacity: usize,
+) -> Result<Stepped, StartError> {
+    assert!(rt; sendings.len() == receivings.len());
+    assert!(rt; !sendings.is_empty() && sendings.len() <= 8);
+    for sending in &sendings {
+        assert_sender(rt, sending);
+    }
+    for receiving in &receivings {
+        assert!(rt; !receiving.nows.is_empty());
+    }
+    Stepped::new(alloc, sendings, receivings, capacity)
+}
+
+/// Sender 0 says `a` and `b` from number 7 on, and sender 1 nothing.
+fn two_lanes(
+    rt: &impl Abort,
+    alloc: Global,
+    capacity: usize,
+    plan: Option<Vec<Emit>>,
+) -> Result<Stepped, Fail> {
+    let narrow: Box<dyn Sealer + Send> = Box::new(alloc, sealer(alloc, Mode::Safe, 7)?)?;
+    let mut first = sending(alloc, narrow, &[b"a", b"b"], &[MICROS])?;
+    first.plan = plan;
+    let wide: Box<dyn Sealer + Send> = Box::new(alloc, wide_sealer(alloc, 1)?)?;
+    let second = sending(alloc, wide, &[], &[MICROS])?;
+    let sendings = vec![in alloc; first, second]?;
+    let narrow = receiving(alloc, receiver(alloc, Mode::Safe, 7)?)?;
+    let wide = receiving(alloc, wide_receiver(alloc, 1)?)?;
+    let receivings = vec![in alloc; narrow, wide]?;
+    Ok(begin(rt, alloc, sendings, receivings, capacity)?)
+}
+
+fn is_entry(entry: &Entry, lane: u32, expected: &str) -> bool {
+    let same = match &entry.event {
+        Event::Text(text) => text.as_slice() == expected.as_bytes(),
+        Event::Closed => expected == "closed",
+        Event::Refused(refusal) => refusal.name() == expected,
+    };
+    same && entry.lane == lane
+}
+
+/// Whether the log has these entries, and two lanes with these statuses.
+fn is_log(rt: &impl Abort, log: &Log, expected: &[(u32, &str)], statuses: [Status; 2]) -> bool {
+    assert!(rt; log.lanes() == 2);
+    let entries = log.entries();
+    entries.len() == expected.len()
+        && entries
+            .iter()
+            .zip(expected)
+            .all(|(entry, (lane, word))| is_entry(entry, *lane, word))
+        && [log.status(0), log.status(1)] == statuses
+}
+
+const CLOSED: [Status; 2] = [Status::Closed, Status::Closed];
+
+#[test]
+fn two_lanes_in_rounds(rt: HostRuntime) -> Result<(), Fail> {
+    let expected = [(0, "a"), (1, "closed"), (0, "b"), (0, "closed")];
+    for capacity in [1, 64] {
+        let mut relay = two_lanes(&rt, rt.alloc(), capacity, None)?;
+        relay.finish()?;
+        assert!(rt; is_log(&rt, relay.log(), &expected, CLOSED) && relay.done());
+        relay.finish()?;
+        assert!(rt; is_log(&rt, relay.log(), &expected, CLOSED));
+    }
+    Ok(())
+}
+
+#[test]
+fn lane_without_its_close_is_truncated(rt: HostRuntime) -> Result<(), Fail> {
+    let plan = vec![in rt.alloc(); Emit::Frame(1), Emit::Frame(0), Emit::Frame(0)]?;
+    let mut relay = two_lanes(&rt, rt.alloc(), 1, Some(plan))?;
+    relay.finish()?;
+    let expected = [(0, "BADORDER"), (1, "closed"), (0, "a"), (0, "BADORDER")];
+    let statuses = [Status::Truncated, Status::Closed];
+    assert!(rt; is_log(&rt, relay.log(), &expected, statuses) && relay.done());
+    Ok(())
+}
+
+#[test]
+fn without_room_nothing_moves(rt: HostRuntime) -> Result<(), Fail> {
+    let mut relay = two_lanes(&rt, rt.alloc(), 0, None)?;
+    relay.finish()?;
+    let statuses = [Status::Live, Status::Live];
+    assert!(rt; is_log(&rt, relay.log(), &[], statuses) && !relay.done());
+    Ok(())
+}
