@@ -21,3 +21,4 @@ pub mod RelayedClaims
 pub mod TurnLemmas
 pub mod RoundsTurned
 pub mod FinishLemmas
+pub mod WholeLemmas

@@ -9,6 +9,7 @@ pub mod Plan
 pub mod Draws
 pub mod Sender
 pub mod Verdicts
+pub mod Whole
 pub mod Headline
 pub mod Undisturbed
 pub mod Rounds

@@ -136,6 +136,15 @@ impl Stepped {
         Ok(())
     }
 
+    /// How many lanes there are.
+    pub fn lanes(&self) -> u32
+        ensures tracks { result ≡ length self.now.tracks }
+        ensures sents { result ≡ length self.now.sents }
+        ensures log { result ≡ self.now.log.lanes }
+    {
+        self.log.lanes()
+    }
+
     /// What became of the frames so far.
     pub fn log(&self) -> &Log
         ensures { result.now ≡ self.now.log }

@@ -1,11 +1,13 @@
 //! Running to the end.
 
-ghost use Rattle.std.specs.Prelude.{◌≡◌, ◌<◌, ℕ, true, List, length, OnOk};
+ghost use Rattle.std.specs.Prelude.{◌≡◌, ◌<◌, ◌≤◌, [], ℕ, true, List, length, OnOk};
 ghost use Rattle.krb_base.specs.Prefix.{IsPrefix};
 ghost use Rattle.krb_core.specs.declared.turn.Turn.{Turn};
 ghost use Rattle.krb_core.specs.Claims.{has_ended};
 ghost use Rattle.krb_core.specs.Stepped.{after, is_done};
-ghost use Rattle.krb_core.specs.Relayed.{GoesOn, KeepsHeadline};
+ghost use Rattle.krb_core.specs.Relayed.{GoesOn, HasTurned, KeepsHeadline};
+ghost use Rattle.krb_core.specs.Start.{Ends};
+ghost use Rattle.krb_core.specs.Whole.{IsPart, IsWhole};
 ghost use Rattle.krb_core.specs.Finish.{round_turns, finishing, longest_wire, WithRoom, FromStart, whole_log};
 
 use super::Stepped;
@@ -35,6 +37,12 @@ impl Stepped {
         ensures rounds { FromStart self.old (OnOk result
             (self.new.log.entries ≡ whole_log self.old)) }
         ensures front { FromStart self.old (IsPrefix self.new.log.entries (whole_log self.old)) }
+
+        // The same by the lanes: what becomes of all their frames, and the headline of each.
+        ensures whole { (lanes : List Ends) (capacity : ℕ) → 1 ≤ capacity
+            → HasTurned lanes capacity [] self.old → OnOk result (IsWhole lanes self.new.log) }
+        ensures part { (lanes : List Ends) (capacity : ℕ) → 1 ≤ capacity
+            → HasTurned lanes capacity [] self.old → IsPart lanes self.new.log }
     {
         for _ in 0..self.longest() {
             self.round()?;

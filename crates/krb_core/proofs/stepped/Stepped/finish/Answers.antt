@@ -8,6 +8,7 @@ use Rattle.krb_core.proofs.RelayedClaims.{goes_on, keeps_headline}
 use Rattle.krb_core.proofs.TurnLemmas.{left_over, left_next, left_last, round_in_part, round_in_full, round_count, served_all, on_ok}
 use Rattle.krb_core.proofs.RoundsTurned.{front_from, entries_from}
 use Rattle.krb_core.proofs.FinishLemmas.{done_from, ended_from}
+use Rattle.krb_core.proofs.WholeLemmas.{whole_by, part_from}
 use Rattle.krb_core.proofs.stepped.Stepped.finish.Goals as goal
 
 pub returns-in_err-round-clause-after : goal.returns-in_err-round-clause-after
@@ -85,3 +86,15 @@ returns-clause-ended c = λ lanes capacity before room turned.
 
 pub returns-clause-front : goal.returns-clause-front
 returns-clause-front c = λ lanes capacity room fresh. front_from lanes capacity c.args.self.now c.round-2.new.self room fresh (returns-clause-after c)
+
+pub returns-in_err-round-clause-part : goal.returns-in_err-round-clause-part
+returns-in_err-round-clause-part c = λ lanes capacity room fresh.
+    part_from lanes capacity c.args.self.now c.round.new.self fresh (returns-in_err-round-clause-front c lanes capacity room fresh)
+
+pub returns-clause-whole : goal.returns-clause-whole
+returns-clause-whole c = λ lanes capacity room fresh.
+    whole_by lanes capacity c.args.self.now c.round-2.new.self c.round-2.result room fresh (returns-clause-rounds c) (returns-clause-ended c)
+
+pub returns-clause-part : goal.returns-clause-part
+returns-clause-part c = λ lanes capacity room fresh.
+    part_from lanes capacity c.args.self.now c.round-2.new.self fresh (returns-clause-front c lanes capacity room fresh)
