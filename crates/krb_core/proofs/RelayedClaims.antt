@@ -25,7 +25,8 @@ use Rattle.krb_core.specs.Headline.{IsRun}
 use Rattle.krb_core.specs.Undisturbed.{TakesAll}
 use Rattle.krb_core.specs.Track.{TrackState, entries_by, log_behind}
 use Rattle.krb_core.specs.TrackPlaces.{items_of}
-use Rattle.krb_core.specs.Start.{Ends}
+use Rattle.krb_core.specs.declared.sending.Sent.{Sent}
+use Rattle.krb_core.specs.Start.{Ends, AreBegun, AreSent}
 use Rattle.krb_core.specs.Stepped.{Relay, lane_of, event_of, track_behind, turned_at, turned, after}
 use Rattle.krb_core.specs.Relayed.{HasBegun, HasTurned, event_at, turned_events, taker_of, taker_at, takers, lanes_in, IsLane, OfEachLane, HaveHeadline, GoesOn, KeepsHeadline}
 use Rattle.krb_core.specs.Claims.{has_ended, Headline}
@@ -287,3 +288,26 @@ goes_on_by (Err e) old now turn is = tt
 pub keeps_headline_by : {X E : Type 0} (r : Result X E) (old now : Relay) (turn : Turn) → OnOk r (now ≡ turned old turn) → OnErr r (now ≡ old) → KeepsHeadline old now
 keeps_headline_by (Ok x) old now turn is same = keeps_headline old now (turn ∷ []) is
 keeps_headline_by (Err e) old now turn is same = keeps_headline old now [] same
+
+-- ---- how much is sealed
+
+sents_at : (relay : Relay) (turn : Turn) (found : Option TrackState) → (turned_at relay turn found).sents ≡ relay.sents
+sents_at relay turn None = refl
+sents_at relay turn (Some track) = refl
+
+sents_after : (turns : List Turn) (relay : Relay) → (after relay turns).sents ≡ relay.sents
+sents_after [] relay = refl
+sents_after (turn ∷ turns) relay = sents_after turns (turned relay turn) ∙ sents_at relay turn (slice_get relay.tracks (lane_of turn))
+
+sent_begun : (capacity : ℕ) (lanes : List Ends) (tracks : List TrackState) (sents : List Sent) → AreBegun capacity lanes tracks sents → AreSent lanes sents
+sent_begun capacity [] [] [] h = tt
+sent_begun capacity [] [] (s ∷ ss) h = absurd h
+sent_begun capacity [] (t ∷ ts) ss h = absurd h
+sent_begun capacity (e ∷ es) [] ss h = absurd h
+sent_begun capacity (e ∷ es) (t ∷ ts) [] h = absurd h
+sent_begun capacity (e ∷ es) (t ∷ ts) (s ∷ ss) h = (h.0.says, sent_begun capacity es ts ss h.1)
+
+pub sents_hold : (lanes : List Ends) (capacity : ℕ) (turns : List Turn) (relay : Relay) → HasTurned lanes capacity turns relay → AreSent lanes relay.sents
+sents_hold lanes capacity turns relay h =
+    subst (λ (l : List Sent). AreSent lanes l) (sym (ap (λ r. r.sents) h.left ∙ sents_after turns h.begun))
+    (sent_begun capacity lanes h.begun.tracks h.begun.sents h.start.lanes_are)

@@ -71,6 +71,12 @@ pub record IsSent (source : Source) (sent : Sent) : Type 0 where
   pub n : sent.n ≡ length source.texts
   pub done : (sent.ending ≡ Done) ↔ (sent.k ≡ sent.n)
 
+-- lane by lane
+abbrev pub AreSent : List Ends → List Sent → Type 0
+AreSent [] [] = Unit {0}
+AreSent (ends ∷ lanes) (sent ∷ sents) = IsSent ends.source sent × AreSent lanes sents
+AreSent lanes sents = ⊥
+
 -- a lane that begins: all is sealed and planned, and nothing was sent
 pub record IsBegun (ends : Ends) (capacity : ℕ) (track : TrackState) (sent : Sent) : Type 0 where
   pub live : ends.source.sealer.wiped ≡ false

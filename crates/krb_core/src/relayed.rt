@@ -5,7 +5,7 @@ ghost use Rattle.krb_base.specs.Lane.{has_end};
 ghost use Rattle.krb_core.specs.declared.turn.Turn.{Turn};
 ghost use Rattle.krb_core.specs.Claims.{has_ended};
 ghost use Rattle.krb_core.specs.Stepped.{Relay};
-ghost use Rattle.krb_core.specs.Start.{Ends};
+ghost use Rattle.krb_core.specs.Start.{Ends, AreSent};
 ghost use Rattle.krb_core.specs.Relayed.{HasTurned, IsLane, OfEachLane, HaveHeadline, turned_events, lanes_in, takers};
 
 /// What turns leave of a relay that began.
@@ -14,7 +14,7 @@ ghost use Rattle.krb_core.specs.Relayed.{HasTurned, IsLane, OfEachLane, HaveHead
 /// took, and the claims hold of them (`headline`). The lane is what the events of its turns leave of
 /// an empty one, and what was sent begins what its sender emits (`lanes`). The entries stand in the
 /// order of the turns that took their frames (`order`). The log notes that a lane has ended exactly
-/// where its End was taken (`ended`).
+/// where its End was taken (`ended`). How much each sender sealed stays as it was (`sents`).
 pub fn stepped_laws()
     ensures headline { (lanes : List Ends) (capacity : ℕ) (turns : List Turn) (relay : Relay)
         → HasTurned lanes capacity turns relay → HaveHeadline lanes relay }
@@ -27,4 +27,6 @@ pub fn stepped_laws()
     ensures ended { (lanes : List Ends) (capacity : ℕ) (turns : List Turn) (relay : Relay)
         → HasTurned lanes capacity turns relay → OfEachLane lanes relay
         (λ ends lane track. has_ended lane relay.log ≡ has_end track.lane.got) }
+    ensures sents { (lanes : List Ends) (capacity : ℕ) (turns : List Turn) (relay : Relay)
+        → HasTurned lanes capacity turns relay → AreSent lanes relay.sents }
 {}
