@@ -3,6 +3,8 @@ pub mod LinesLemmas
 pub mod OpenedLemmas
 pub mod OutputLemmas
 pub mod Readings
+pub mod RelayStartLemmas
+pub mod RelayedLemmas
 pub mod SealedLemmas
 pub mod ShowLemmas
 pub mod TextLemmas

@@ -18,9 +18,9 @@ use Rattle.krb_core.specs.Sender.{moment_at}
 use Rattle.krb_core.specs.Track.{verdict_by, noted, entries_by, IsShut}
 use Rattle.krb_core.specs.Verdicts.{Verdict, AreVerdicts, IsVerdict, events_by, events_of, records_of, accepted_by, behind}
 use Rattle.krb_core.proofs.VerdictLemmas.{AreVerdicts-push, behind-nil, behind-append}
-use Rattle.krb_commands.specs.JobLines.{entry_line, state_line, state_by}
+use Rattle.krb_commands.specs.JobLines.{entry_line, state_line, state_by, is_closed_state, status_by}
 use Rattle.krb_commands.specs.Output.{AppendsPrefix}
-use Rattle.krb_commands.specs.Opened.{entries_for, AreOpened, opened_lines, opened_text, exit_status, PrintsOpened, PrintsOpenedPrefix, HoldsFrames, LogsFrames}
+use Rattle.krb_commands.specs.Opened.{entries_for, AreOpened, opened_lines, opened_text, PrintsOpened, PrintsOpenedPrefix, HoldsFrames, LogsFrames}
 use Rattle.krb_commands.proofs.OutputLemmas.{AppendsPrefix-after}
 
 -- the events of verdicts, joined
@@ -141,6 +141,11 @@ whole old now text h = (text, h, ([], sym (append-nil text)))
 lines_are : (vs : List Verdict) (log : LogState) → log ≡ log_of (events_of vs) → concat (map entry_line log.entries) ≡ opened_lines vs
 lines_are vs log is = ap (λ l. concat (map entry_line l.entries)) is
 
+-- a lane that has ended is closed where the close was accepted
+closed_by : (b : Bool) → is_closed_state (state_by b) ≡ b
+closed_by true = refl
+closed_by false = refl
+
 -- how the lane has come to its end
 pub state_is : (vs : List Verdict) (log : LogState) → log ≡ log_of (events_of vs) → status_of (ended_at log 0) 0 ≡ state_by (has_closed (events_of vs))
 state_is vs log is =
@@ -178,13 +183,13 @@ module _ {A E : Type 0} (start : ReceiverState) (nows : List ℕ) (frames : List
         [] (sym (append-nil (opened_lines h.1.verdicts ++ state_line 0 status) ∙ state_last status is)))
 
     pub all_printed : Appends old then (concat (map entry_line log.entries)) → (status : Status) → status ≡ status_of (ended_at log 0) 0
-        → Appends then now (state_line 0 status) → (code : ℕ) → code ≡ exit_status status → PrintsOpened start nows frames old now code
+        → Appends then now (state_line 0 status) → (code : ℕ) → code ≡ status_by (is_closed_state status) → PrintsOpened start nows frames old now code
     all_printed p status is q code code_is =
         let P : List ℕ → Type 0 = λ l. Appends old now l in (
           h.1.verdicts,
           all_opened,
           subst P (state_last status is) (Appends-trans old then now (opened_lines h.1.verdicts) (state_line 0 status) (entries_first p) q),
-          code_is ∙ ap exit_status (is ∙ state_is h.1.verdicts log h.1.entries),
+          code_is ∙ ap (λ s. status_by (is_closed_state s)) (is ∙ state_is h.1.verdicts log h.1.entries) ∙ ap status_by (closed_by (has_closed (events_of h.1.verdicts))),
         )
 
 -- nothing failed

@@ -46,3 +46,7 @@ lane_joined lane event = simp append_assoc refl
 pub sent_joined : (k n ending : List ℕ)
     → codes "sent " ++ (k ++ (codes " of " ++ (n ++ (codes " " ++ ending)))) ≡ codes "sent " ++ k ++ codes " of " ++ n ++ codes " " ++ ending
 sent_joined k n ending = simp append_assoc refl
+
+pub end_joined : (lane sent name : List ℕ)
+    → codes "lane " ++ (lane ++ (codes " " ++ (sent ++ (codes " " ++ (name ++ codes "\n"))))) ≡ codes "lane " ++ lane ++ codes " " ++ sent ++ codes " " ++ name ++ codes "\n"
+end_joined lane sent name = simp append_assoc refl

@@ -1,5 +1,5 @@
 -- The lines that are printed for a job.
-use Rattle.std.specs.Prelude.{ℕ, ◌==◌, Bool, List, ◌++◌, length, map, codes, if◌then◌else◌}
+use Rattle.std.specs.Prelude.{ℕ, ◌+◌, ◌==◌, ◌&&◌, Bool, true, false, List, [], ◌∷◌, ◌++◌, length, map, codes, if◌then◌else◌}
 use Rattle.std.specs.List.{concat}
 use Rattle.std.specs.Fmt.{decimal}
 use Rattle.hex.specs.Hex.{encode_lower}
@@ -13,6 +13,8 @@ use Rattle.krb_core.specs.declared.log.Status.TheVariants as status
 use Rattle.krb_core.specs.declared.sending.Sent.{Sent}
 use Rattle.krb_core.specs.declared.sending.Ending.{Ending}
 use Rattle.krb_core.specs.declared.sending.Ending.TheVariants.{Done, LastNumber}
+use Rattle.krb_core.specs.Log.{status_of}
+use Rattle.krb_core.specs.LogState.{LogState}
 use Rattle.krb_core.specs.Sender.{Source}
 use Rattle.krb_core.specs.Sending.{sealed_of}
 
@@ -65,6 +67,29 @@ state_name status.Live = codes "TRUNCATED"
 abbrev pub state_line : ℕ → Status → List ℕ
 state_line lane state = codes "lane " ++ decimal lane ++ codes " " ++ state_name state ++ codes "\n"
 
+abbrev pub is_closed_state : Status → Bool
+is_closed_state status.Closed = true
+is_closed_state status.Truncated = false
+is_closed_state status.Live = false
+
 -- how far a lane has come when it has ended
 abbrev pub state_by : Bool → Status
 state_by closed = if closed then status.Closed else status.Truncated
+
+-- how each lane ended, from a lane on: how much its sender sealed, and whether its close was accepted
+abbrev pub end_line : ℕ → Sent → Status → List ℕ
+end_line lane sent state =
+    codes "lane " ++ decimal lane ++ codes " " ++ sent_text sent ++ codes " " ++ state_name state ++ codes "\n"
+
+abbrev pub end_lines : ℕ → List Sent → LogState → List ℕ
+end_lines lane [] log = []
+end_lines lane (sent ∷ sents) log = end_line lane sent (status_of log lane) ++ end_lines (lane + 1) sents log
+
+-- whether every lane's close was accepted, from a lane on
+abbrev pub are_closed : ℕ → List Sent → LogState → Bool
+are_closed lane [] log = true
+are_closed lane (sent ∷ sents) log = is_closed_state (status_of log lane) && are_closed (lane + 1) sents log
+
+-- the exit status: 0 where all are closed, else 3
+abbrev pub status_by : Bool → ℕ
+status_by closed = if closed then 0 else 3

@@ -7,6 +7,7 @@ pub mod Opened
 pub mod Output
 pub mod Printed
 pub mod Reading
+pub mod Relayed
 pub mod Sealed
 pub mod Show
 pub mod Vectors

@@ -3,13 +3,11 @@ use Rattle.std.specs.Prelude.{◌≡◌, ◌⊎◌, ℕ, List, ◌++◌, length,
 use Rattle.std.specs.Io.KnownBytes.{Appends}
 use Rattle.krb_core.specs.declared.log.Entry.{Entry}
 use Rattle.krb_core.specs.declared.log.Event.{Event}
-use Rattle.krb_core.specs.declared.log.Status.{Status}
-use Rattle.krb_core.specs.declared.log.Status.TheVariants as status
 use Rattle.krb_core.specs.Log.{new_log, has_closed}
 use Rattle.krb_core.specs.LogState.{LogState}
 use Rattle.krb_core.specs.ReceiverState.{ReceiverState}
 use Rattle.krb_core.specs.Verdicts.{Verdict, AreVerdicts, events_of}
-use Rattle.krb_commands.specs.JobLines.{entry_lines, state_line, state_by}
+use Rattle.krb_commands.specs.JobLines.{entry_lines, state_line, state_by, status_by}
 use Rattle.krb_commands.specs.Output.{AppendsPrefix}
 
 -- events of one lane, as entries of a log
@@ -28,13 +26,8 @@ abbrev pub opened_text : List Verdict → List ℕ
 opened_text verdicts = opened_lines verdicts ++ state_line 0 (state_by (has_closed (events_of verdicts)))
 
 -- 0 where the close was accepted, else 3
-abbrev pub exit_status : Status → ℕ
-exit_status status.Closed = 0
-exit_status status.Truncated = 3
-exit_status status.Live = 3
-
 abbrev pub opened_status : List Verdict → ℕ
-opened_status verdicts = exit_status (state_by (has_closed (events_of verdicts)))
+opened_status verdicts = status_by (has_closed (events_of verdicts))
 
 -- the verdicts on the frames are printed, and this is the status
 abbrev pub PrintsOpened : ReceiverState → List ℕ → List (List ℕ) → Option (List ℕ) → Option (List ℕ) → ℕ → Type 0

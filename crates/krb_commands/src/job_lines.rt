@@ -3,7 +3,6 @@
 ghost use Rattle.std.specs.Prelude.{◌≡◌, ◌++◌, codes, IfOk};
 ghost use Rattle.std.specs.String.{string_bytes};
 ghost use Rattle.krb_commands.specs.JobLines as lines;
-ghost use Rattle.krb_commands.specs.Opened.{exit_status};
 
 use crate::line::Line;
 use krb_core::{Ending, Entry, Event, Sent, Status};
@@ -104,12 +103,34 @@ fn state_name(status: Status) -> &'static str
     }
 }
 
-/// The exit status: 0 where the close was accepted, else 3.
-pub(crate) fn exit_status(status: Status) -> u8
-    ensures { result ≡ exit_status status }
-{
-    match status {
-        Status::Closed => 0,
-        Status::Truncated | Status::Live => 3,
+/// How much of a lane's texts was sealed, and how the lane ended.
+#[derive(Drop)]
+pub(crate) struct EndLine {
+    pub(crate) lane: u32,
+    pub(crate) sent: Sent,
+    pub(crate) status: Status,
+}
+
+impl Line for EndLine {
+    ghost text = { λ end. lines.end_line end.lane end.sent end.status };
+
+    fn line(&self, alloc: Global) -> Result<String, AllocError> {
+        let (lane, name) = (self.lane, state_name(self.status));
+        let sent = sent_text(alloc, &self.sent)?;
+        format!(in alloc; "lane {lane} {sent} {name}\n")
     }
+}
+
+/// Whether the lane's close was accepted.
+pub(crate) fn is_closed(status: Status) -> bool
+    ensures { result ≡ lines.is_closed_state status }
+{
+    matches!(status, Status::Closed)
+}
+
+/// The exit status: 0 where all that ended was closed, else 3.
+pub(crate) fn exit_status(closed: bool) -> u8
+    ensures { result ≡ lines.status_by closed }
+{
+    if closed { 0 } else { 3 }
 }

@@ -19,6 +19,7 @@ mod opening;
 mod output;
 mod published;
 mod reading;
+mod relaying;
 mod sealing;
 mod text;
 
@@ -28,6 +29,7 @@ pub use input::{LIMIT, read_all};
 pub use messages::{one_reading, show};
 pub use opening::open_job;
 pub use published::vectors;
+pub use relaying::relay_job;
 pub use sealing::seal_job;
 
 #[cfg(test)]

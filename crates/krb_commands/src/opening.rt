@@ -5,10 +5,10 @@ ghost use Rattle.krb_core.specs.Log.{new_log};
 ghost use Rattle.krb_commands.specs.Opened.{LogsFrames, PrintsOpened, PrintsOpenedPrefix};
 
 use crate::fault::Fault;
-use crate::job_lines::{StateLine, exit_status};
+use crate::job_lines::{StateLine, exit_status, is_closed};
 use crate::line::{print_line, print_lines};
 use krb_base::Bytes;
-use krb_core::{Log, Receiving, Status};
+use krb_core::{Log, Receiving};
 use std::alloc::{AllocError, Global};
 use std::io::Write;
 
@@ -38,7 +38,7 @@ pub fn open_job<W: Write>(
     log.end(0);
     let status = log.status(0);
     print_line(alloc, &StateLine { lane: 0, status }, writer)?;
-    Ok(exit_status(status))
+    Ok(exit_status(is_closed(status)))
 }
 
 /// Gives each frame to the receiver at the moment of its place, and what became of it to a new log.

@@ -1,3 +1,5 @@
+use Rattle.std.proofs.Common.{ap, ◌∙◌}
+use Rattle.krb_commands.specs.JobLines.{status_by}
 use Rattle.krb_commands.proofs.OpenedLemmas.{prefix_of_entries, entries_alone, prefix_of_state, all_printed, took_all}
 use Rattle.krb_commands.proofs.ShowLemmas.{on_err}
 use Rattle.krb_commands.proofs.opening.open_job.Goals as goal
@@ -23,4 +25,4 @@ pub returns-clause-printed : goal.returns-clause-printed
 returns-clause-printed g c =
     let all = took_all _ _ _ _ _ c.take_all-outcome.ensures _ c.in_ok-outcome.was in
     all_printed _ _ _ _ _ c.take_all-outcome.ensures _ _ _ all (rw c.entries.ensures at c.in_ok-print_lines.ensures.printed)
-    c.status-status.result (rw c.end.ensures at c.status-status.ensures) c.in_ok-print_line.ensures.printed _ c.exit_status.ensures
+    c.status-status.result (rw c.end.ensures at c.status-status.ensures) c.in_ok-print_line.ensures.printed _ (c.exit_status.ensures ∙ ap status_by c.is_closed.ensures)

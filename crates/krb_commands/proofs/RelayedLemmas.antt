@@ -1,0 +1,113 @@
+-- What `relay` has printed.
+use Rattle.std.proofs.Common.{◌≡◌, ℕ, zero, suc, ◌+◌, ◌<◌, ◌≤◌, ◌&&◌, Bool, true, false, List, [], ◌∷◌, ◌++◌, length, map, drop, slice_get, Some, Option, Result, Ok, Err, OnOk, OnErr, IfOk, refl, sym, ap, ap₂, subst, ◌∙◌, arith, append-nil, append_assoc, inl, inr}
+use Rattle.std.specs.List.{concat}
+use Rattle.std.specs.Io.KnownBytes.{Appends}
+use Rattle.std.proofs.KnownBytes.{Appends-trans, Appends-nil}
+use Rattle.std.proofs.lemmas.List.{drop_all}
+use Rattle.krb_core.specs.declared.sending.Sent.{Sent}
+use Rattle.krb_core.specs.Log.{status_of}
+use Rattle.krb_core.specs.LogState.{LogState}
+use Rattle.krb_core.proofs.ListLemmas.{drop_get}
+use Rattle.krb_core.specs.Start.{Ends, AreSent}
+use Rattle.krb_core.specs.Whole.{IsWhole, IsPart}
+use Rattle.krb_commands.specs.JobLines.{entry_line, entry_lines, end_line, end_lines, are_closed, is_closed_state, status_by}
+use Rattle.krb_commands.specs.Relayed.{sents_of, relayed_text, PrintsRelayed, PrintsRelayedPrefix}
+use Rattle.krb_commands.proofs.SealedLemmas.{sent_is}
+use Rattle.krb_commands.specs.Output.{AppendsPrefix}
+use Rattle.krb_commands.proofs.OutputLemmas.{AppendsPrefix-after}
+
+-- ---- how the lanes ended
+
+-- the lines of the first lanes are written, and whether all of these were closed is known
+pub record HasPrinted (old now : Option (List ℕ)) (sents : List Sent) (log : LogState) (lane : ℕ) (closed : Bool) : Type 0 where
+  pub done : List ℕ
+  pub written : Appends old now done
+  pub lines : end_lines 0 sents log ≡ done ++ end_lines lane (drop lane sents) log
+  pub states : are_closed 0 sents log ≡ (closed && are_closed lane (drop lane sents) log)
+
+pub printed_none : (old : Option (List ℕ)) (sents : List Sent) (log : LogState) → HasPrinted old old sents log 0 true
+printed_none old sents log = record { done = []; written = Appends-nil old; lines = refl; states = refl }
+
+and_assoc : (a b c : Bool) → (a && (b && c)) ≡ ((a && b) && c)
+and_assoc true b c = refl
+and_assoc false b c = refl
+
+and_true : (a : Bool) → (a && true) ≡ a
+and_true true = refl
+and_true false = refl
+
+module _ (old then now : Option (List ℕ)) (sents : List Sent) (log : LogState) (lane : ℕ) (closed : Bool) (h : HasPrinted old then sents log lane closed) (sent : Sent) (at : slice_get sents lane ≡ Some sent) where
+  next_line : end_lines lane (drop lane sents) log ≡ end_line lane sent (status_of log lane) ++ end_lines (lane + 1) (drop (lane + 1) sents) log
+  next_line = let e : suc lane ≡ lane + 1 = omega arith in ap (λ l. end_lines lane l log) (drop_get sents lane sent at ∙ ap (λ n. sent ∷ drop n sents) e)
+
+  next_state : are_closed lane (drop lane sents) log ≡ (is_closed_state (status_of log lane) && are_closed (lane + 1) (drop (lane + 1) sents) log)
+  next_state = let e : suc lane ≡ lane + 1 = omega arith in ap (λ l. are_closed lane l log) (drop_get sents lane sent at ∙ ap (λ n. sent ∷ drop n sents) e)
+
+  pub printed_next : Appends then now (end_line lane sent (status_of log lane)) → HasPrinted old now sents log (lane + 1) (closed && is_closed_state (status_of log lane))
+  printed_next p = record {
+    done = h.done ++ end_line lane sent (status_of log lane);
+    written = Appends-trans old then now h.done (end_line lane sent (status_of log lane)) h.written p;
+    lines = h.lines ∙ ap (λ l. h.done ++ l) next_line ∙ sym (append_assoc h.done (end_line lane sent (status_of log lane)) (end_lines (lane + 1) (drop (lane + 1) sents) log));
+    states = h.states ∙ ap (λ b. closed && b) next_state ∙ and_assoc closed (is_closed_state (status_of log lane)) (are_closed (lane + 1) (drop (lane + 1) sents) log);
+  }
+
+  pub printed_front : AppendsPrefix then now (end_line lane sent (status_of log lane)) → AppendsPrefix old now (end_lines 0 sents log)
+  printed_front p =
+      AppendsPrefix-after old then now h.done (end_line lane sent (status_of log lane)) (end_lines 0 sents log) h.written p
+      (end_lines (lane + 1) (drop (lane + 1) sents) log)
+      (h.lines ∙ ap (λ l. h.done ++ l) next_line ∙ sym (append_assoc h.done (end_line lane sent (status_of log lane)) (end_lines (lane + 1) (drop (lane + 1) sents) log)))
+
+module _ (old now : Option (List ℕ)) (sents : List Sent) (log : LogState) (lane : ℕ) (closed : Bool) (h : HasPrinted old now sents log lane closed) (over : length sents ≤ lane) where
+  pub ends_printed : Appends old now (end_lines 0 sents log)
+  ends_printed =
+      let P : List ℕ → Type 0 = λ l. Appends old now l in
+      subst P (sym (h.lines ∙ ap (λ l. h.done ++ end_lines lane l log) (drop_all lane sents over) ∙ append-nil h.done)) h.written
+
+  pub ends_closed : are_closed 0 sents log ≡ closed
+  ends_closed = h.states ∙ ap (λ l. closed && are_closed lane l log) (drop_all lane sents over) ∙ and_true closed
+
+-- ---- what is printed of a whole relay
+
+whole : (old now : Option (List ℕ)) (text : List ℕ) → Appends old now text → AppendsPrefix old now text
+whole old now text h = (text, h, ([], sym (append-nil text)))
+
+pub sents_are : (lanes : List Ends) (sents : List Sent) → AreSent lanes sents → sents ≡ sents_of lanes
+sents_are [] [] h = refl
+sents_are [] (s ∷ ss) h = absurd h
+sents_are (e ∷ es) [] h = absurd h
+sents_are (e ∷ es) (s ∷ ss) h = ap₂ (λ x xs. x ∷ xs) (sent_is e.source s h.0.k h.0.n h.0.done) (sents_are es ss h.1)
+
+module _ (lanes : List Ends) (log : LogState) (old then now : Option (List ℕ)) where
+  -- the entries so far, or a prefix of them
+  pub part_printed : IsPart lanes log → AppendsPrefix old now (concat (map entry_line log.entries)) → PrintsRelayedPrefix lanes old now
+  part_printed h p = inr (inr (log, h, p))
+
+  pub entries_alone : IsPart lanes log → Appends old now (concat (map entry_line log.entries)) → PrintsRelayedPrefix lanes old now
+  entries_alone h p = part_printed h (whole old now (concat (map entry_line log.entries)) p)
+
+  module _ (h : IsWhole lanes log) (sents : List Sent) (are : sents ≡ sents_of lanes) (first : Appends old then (concat (map entry_line log.entries))) where
+    -- and how the lanes ended, or a prefix of that
+    pub ends_front : AppendsPrefix then now (end_lines 0 sents log) → PrintsRelayedPrefix lanes old now
+    ends_front p =
+        let last : relayed_text lanes log ≡ entry_lines log.entries ++ end_lines 0 sents log ++ [] =
+        sym (append-nil (entry_lines log.entries ++ end_lines 0 sents log) ∙ ap (λ l. entry_lines log.entries ++ end_lines 0 l log) are) in
+        inr (inl (log, h, AppendsPrefix-after old then now (entry_lines log.entries) (end_lines 0 sents log) (relayed_text lanes log) first p [] last))
+
+    pub all_relayed : Appends then now (end_lines 0 sents log) → (status : ℕ) → status ≡ status_by (are_closed 0 sents log) → PrintsRelayed lanes old now status
+    all_relayed p status is =
+        let P : List ℕ → Type 0 = λ l. Appends old now l in (
+          log,
+          h,
+          subst P (ap (λ l. entry_lines log.entries ++ end_lines 0 l log) are) (Appends-trans old then now (entry_lines log.entries) (end_lines 0 sents log) first p),
+          is ∙ ap (λ l. status_by (are_closed 0 l log)) are,
+        )
+
+    -- by what printing how they ended answered
+    pub relayed_by : {E : Type 0} (r : Result ℕ E) → OnOk r (Appends then now (end_lines 0 sents log)) → IfOk r (λ status. status ≡ status_by (are_closed 0 sents log))
+        → IfOk r (λ status. PrintsRelayed lanes old now status)
+    relayed_by (Ok status) p is = all_relayed p status is
+    relayed_by (Err e) p is = tt
+
+    pub front_by : {E : Type 0} (r : Result ℕ E) → OnErr r (AppendsPrefix then now (end_lines 0 sents log)) → OnErr r (PrintsRelayedPrefix lanes old now)
+    front_by (Ok status) p = tt
+    front_by (Err e) p = ends_front p

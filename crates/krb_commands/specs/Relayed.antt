@@ -1,0 +1,34 @@
+-- What `relay` prints.
+use Rattle.std.specs.Prelude.{◌≡◌, ◌⊎◌, ℕ, List, ◌++◌, map, Option}
+use Rattle.std.specs.Io.KnownBytes.{Appends, Keeps}
+use Rattle.krb_core.specs.LogState.{LogState}
+use Rattle.krb_core.specs.Start.{Ends}
+use Rattle.krb_core.specs.declared.sending.Sent.{Sent}
+use Rattle.krb_core.specs.Whole.{IsWhole, IsPart}
+use Rattle.krb_commands.specs.JobLines.{entry_lines, end_lines, are_closed, status_by, sent_of}
+use Rattle.krb_commands.specs.Output.{AppendsPrefix}
+
+-- how much each sender sealed
+abbrev pub sents_of : List Ends → List Sent
+sents_of lanes = map (λ ends. sent_of ends.source) lanes
+
+-- the entries of the log, one a line, and how each lane ended
+abbrev pub relayed_text : List Ends → LogState → List ℕ
+relayed_text lanes log = entry_lines log.entries ++ end_lines 0 (sents_of lanes) log
+
+-- 0 where every lane's close was accepted, else 3
+abbrev pub relayed_status : List Ends → LogState → ℕ
+relayed_status lanes log = status_by (are_closed 0 (sents_of lanes) log)
+
+-- The log has the verdicts on all that the wires carry, in rounds, every lane has ended, and the
+-- headline holds of each. That log is printed, and this is the status.
+abbrev pub PrintsRelayed : List Ends → Option (List ℕ) → Option (List ℕ) → ℕ → Type 0
+PrintsRelayed lanes old new status =
+    (log : LogState) × IsWhole lanes log × Appends old new (relayed_text lanes log) × (status ≡ relayed_status lanes log)
+
+-- a prefix of that is printed, or of the lines of the first entries alone, or nothing
+abbrev pub PrintsRelayedPrefix : List Ends → Option (List ℕ) → Option (List ℕ) → Type 0
+PrintsRelayedPrefix lanes old new =
+    Keeps old new
+    ⊎ (((log : LogState) × IsWhole lanes log × AppendsPrefix old new (relayed_text lanes log))
+    ⊎ ((log : LogState) × IsPart lanes log × AppendsPrefix old new (entry_lines log.entries)))
