@@ -24,9 +24,11 @@ use Rattle.krb_job.specs.Job.{Job, capacity_of, capacity_if_there, are_tables, a
 use Rattle.krb_job.specs.SenderView.{sender_view}
 use Rattle.krb_job.proofs.Given.{checked, given, within, value_at}
 
+-- a test of both bounds
 between : (low n high : ℕ) → (nat_le low n && nat_le n high) ≡ true → (low ≤ n) × (n ≤ high)
 between low n high e = (grind (arith, nat_tests), grind (arith, nat_tests))
 
+-- a number that was read is in its range
 number-within : (low high : ℕ) (d : Data) (n : ℕ) → number_of low high d ≡ Some n → (low ≤ n) × (n ≤ high)
 number-within low high (integer (pos m)) n e = let fit = within (nat_le low m && nat_le m high) m n e in rw (← fit.1) (between low m high fit.0)
 number-within low high (integer (negsuc m)) n e = absurd cc
@@ -37,10 +39,12 @@ number-within low high (datetime dt) n e = absurd cc
 number-within low high (array ds) n e = absurd cc
 number-within low high (table ms) n e = absurd cc
 
+-- so is the capacity, which is 1 where it is absent
 capacity-within : (o : Option Data) (n : ℕ) → capacity_if_there o ≡ Some n → (1 ≤ n) × (n ≤ capacity_limit)
 capacity-within None n e = let same : 1 ≡ n = cc in (omega arith, omega arith)
 capacity-within (Some d) n e = number-within 1 capacity_limit d n e
 
+-- the capacity of a job
 pub capacity_fits : (ms : Members) (n : ℕ) → capacity_of ms ≡ Ok n → (1 ≤ n) × (n ≤ capacity_limit)
 capacity_fits ms n e = let o = get_member (codes "capacity") ms in capacity-within o n (given (capacity_if_there o) bad.Capacity n e)
 
@@ -48,6 +52,7 @@ and_right : (a b : Bool) → (a && b) ≡ true → b ≡ true
 and_right true b e = e
 and_right false b e = absurd cc
 
+-- a list of senders that passed has as many as the command allows
 count-within : (command : Command) (o : Option Data) (ds : Items) → senders_if_there command o ≡ Some ds → (1 ≤ count ds) × (count ds ≤ most_senders command)
 count-within command None ds e = absurd cc
 count-within command (Some (array es)) ds e =
@@ -60,16 +65,18 @@ count-within command (Some (boolean x)) ds e = absurd cc
 count-within command (Some (datetime dt)) ds e = absurd cc
 count-within command (Some (table ms)) ds e = absurd cc
 
--- as many senders as the command allows
-pub count_fits : (command : Command) (ms : Members) (ds : Items) → items_of_senders command ms ≡ Ok ds → (1 ≤ count ds) × (count ds ≤ most_senders command)
+-- the list of a job
+count_fits : (command : Command) (ms : Members) (ds : Items) → items_of_senders command ms ≡ Ok ds → (1 ≤ count ds) × (count ds ≤ most_senders command)
 count_fits command ms ds e = let o = get_member (codes "sender") ms in count-within command o ds (given (senders_if_there command o) bad.Sender ds e)
 
-pub most_senders-≤ : (command : Command) → most_senders command ≤ sender_limit
+-- no command allows more than `relay`
+most_senders-≤ : (command : Command) → most_senders command ≤ sender_limit
 most_senders-≤ Seal = lit≤ tt
 most_senders-≤ Open = lit≤ tt
 most_senders-≤ Relay = lit≤ tt
 
-pub length-senders : (command : Command) (j : ℕ) (earlier : List (List ℕ)) (ds : Items) (senders : List Sender)
+-- each item gives one sender
+length-senders : (command : Command) (j : ℕ) (earlier : List (List ℕ)) (ds : Items) (senders : List Sender)
     → senders_from command j earlier ds ≡ Ok senders → length senders ≡ count ds
 length-senders command j earlier no_items senders e = let same : [] ≡ senders = cc in rw (← same) refl
 length-senders command j earlier (item d ds) senders e =
@@ -79,10 +86,11 @@ length-senders command j earlier (item d ds) senders e =
     rw (← same) (grind (arith, length-senders command (j + 1) (earlier ++ first.0.key ∷ []) ds others.0 others.1))
 
 -- as many senders were read as the command allows
-pub senders-count : (command : Command) (ms : Members) (ds : Items) (senders : List Sender)
+senders-count : (command : Command) (ms : Members) (ds : Items) (senders : List Sender)
     → items_of_senders command ms ≡ Ok ds → senders_from command 0 [] ds ≡ Ok senders → (1 ≤ length senders) × (length senders ≤ most_senders command)
 senders-count command ms ds senders there read = rw (length-senders command 0 [] ds senders read) (count_fits command ms ds there)
 
+-- a job has one sender at least, and no more than the limit
 pub senders_fit : (command : Command) (ms : Members) (ds : Items) (senders : List SenderJob)
     → items_of_senders command ms ≡ Ok ds → senders_from command 0 [] ds ≡ Ok (map sender_view senders) → (1 ≤ length senders) × (length senders ≤ sender_limit)
 senders_fit command ms ds senders there read =
@@ -90,22 +98,27 @@ senders_fit command ms ds senders there read =
     let most = most_senders-≤ command in
     (fits.0, omega arith)
 
+-- a seed that was needed is there
 seed-there : (o : Option (List ℕ)) (seed : Option (List ℕ)) → option_map Some o ≡ Some seed → IsSome seed
 seed-there None seed e = absurd cc
 seed-there (Some s) seed e = let same : Some s ≡ seed = cc in rw (← same) refl
 
+-- two values of one answer are one
 value-ok : {A E : Type 0} (x y : A) → ◌≡◌ {A = Result A E} (Ok x) (Ok y) → x ≡ y
 value-ok x y e = cc
 
+-- what passed the check of its keys is what was read
 known-ok : (known : Bool) (x s : Sender) → if_known known x ≡ Ok s → x ≡ s
 known-ok true x s e = cc
 known-ok false x s e = absurd cc
 
+-- a key of some commands, for one of them
 allowed-ok : {A : Type 0} (allowed : Bool) (place : Place) (r : Result (Option A) Place) (ms : Members) (x : Option A)
     → allowed ≡ true → only_if allowed None place r ms ≡ Ok x → r ≡ Ok x
 allowed-ok true place r ms x is e = e
 allowed-ok false place r ms x is e = absurd cc
 
+-- a sender has a seed where the command seals
 seed_of-traffic : (command : Command) (ms : Members) (t : Traffic) → seals command ≡ true → traffic_of command ms ≡ Ok t → IsSome t.seed
 unfolding traffic_of
 seed_of-traffic command ms t sealing e =
@@ -129,6 +142,7 @@ seed_of-sender command earlier ms s sealing e =
     let same : traffic.0.seed ≡ s.seed = ap (λ (x : Sender). x.seed) known in
     rw (← same) (seed_of-traffic command ms traffic.0 sealing traffic.1)
 
+-- what a sender gives is passed on
 in_sender-ok : (j : ℕ) (r : Result Sender Place) (s : Sender) → in_sender j r ≡ Ok s → r ≡ Ok s
 in_sender-ok j (Ok x) s e = let same : x ≡ s = cc in ap Ok same
 in_sender-ok j (Err place) s e = absurd cc
@@ -142,7 +156,8 @@ seed_at command j earlier (boolean x) s sealing e = absurd cc
 seed_at command j earlier (datetime dt) s sealing e = absurd cc
 seed_at command j earlier (array ds) s sealing e = absurd cc
 
-pub seeds_of-senders : (command : Command) (j : ℕ) (earlier : List (List ℕ)) (ds : Items) (senders : List Sender)
+-- so has each of a list
+seeds_of-senders : (command : Command) (j : ℕ) (earlier : List (List ℕ)) (ds : Items) (senders : List Sender)
     → seals command ≡ true → senders_from command j earlier ds ≡ Ok senders → All (λ s. IsSome s.seed) senders
 seeds_of-senders command j earlier no_items senders sealing e = let same : [] ≡ senders = cc in rw (← same) (All-nil (λ s. IsSome s.seed))
 seeds_of-senders command j earlier (item d ds) senders sealing e =
@@ -151,6 +166,7 @@ seeds_of-senders command j earlier (item d ds) senders sealing e =
     let same : first.0 ∷ others.0 ≡ senders = cc in
     rw (← same) (All-cons (λ s. IsSome s.seed) first.0 others.0 (seed_at command j earlier d first.0 sealing first.1) (seeds_of-senders command (j + 1) (earlier ++ first.0.key ∷ []) ds others.0 sealing others.1))
 
+-- what passed the check of the top keys is what was read
 top_known-ok : (known : Bool) (r : Result (List Sender) BadInput) (senders : List Sender) → if_top_known known r ≡ Ok senders → r ≡ Ok senders
 top_known-ok true r senders e = e
 top_known-ok false r senders e = absurd cc
@@ -167,14 +183,14 @@ parts_of-job command ms job e =
     (items.0, items.1, top_known-ok (has_top_keys ms) (senders_from command 0 [] items.0) senders.0 senders.1 ∙ ap Ok same)
 
 -- a command of one sender has one
-pub one_of-job : (command : Command) (ms : Members) (job : Job) → most_senders command ≡ 1 → job_of command ms ≡ Ok job → length job.senders ≡ 1
+one_of-job : (command : Command) (ms : Members) (job : Job) → most_senders command ≡ 1 → job_of command ms ≡ Ok job → length job.senders ≡ 1
 one_of-job command ms job one e =
     let parts = parts_of-job command ms job e in
     let fits = senders-count command ms parts.0 job.senders parts.1 parts.2 in
     omega arith
 
 -- each sender has a seed where the command seals
-pub seeds_of-job : (command : Command) (ms : Members) (job : Job) → seals command ≡ true → job_of command ms ≡ Ok job → All (λ s. IsSome s.seed) job.senders
+seeds_of-job : (command : Command) (ms : Members) (job : Job) → seals command ≡ true → job_of command ms ≡ Ok job → All (λ s. IsSome s.seed) job.senders
 seeds_of-job command ms job sealing e =
     let parts = parts_of-job command ms job e in
     seeds_of-senders command 0 [] parts.0 job.senders sealing parts.2
@@ -185,6 +201,7 @@ pub of_checks : {X Y : Type 0} (view : X → Y) (r : Result X JobError) (checks 
 of_checks view (Ok x) checks Q gives holds = holds x gives
 of_checks view (Err e) checks Q gives holds = tt
 
+-- the same of the job that was read
 pub one_read : (command : Command) (ms : Members) (job : ReadJob) → most_senders command ≡ 1 → job_of command ms ≡ Ok (job_view job) → length job.senders.items ≡ 1
 one_read command ms job one e = sym (length-map job.senders.items sender_view) ∙ one_of-job command ms (job_view job) one e
 

@@ -1,11 +1,11 @@
 pub mod DataLemmas
 pub mod DecimalLemmas
 pub mod FailLemmas
-pub mod ListLemmas
-pub mod SenderLemmas
 pub mod Given
+pub mod JobLemmas
 pub mod JobLimits
 pub mod KeyLemmas
-pub mod LimitLemmas
-pub mod JobLemmas
+pub mod ListLemmas
+pub mod SenderLemmas
+pub mod SenderLimits
 pub mod TreeLemmas

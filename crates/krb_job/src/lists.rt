@@ -10,7 +10,7 @@ ghost use Rattle.krb_job.specs.Lists.{frames_of};
 
 use crate::emission::read_emission;
 use crate::place::{KeyError, Place};
-use crate::values::{read_bytes, read_number};
+use crate::values::read_bytes;
 use krb_base::{Bytes, RAW_LIMIT, TEXT_LIMIT};
 use krb_core::Emit;
 use krb_der::Moment;
@@ -23,9 +23,6 @@ const MOST_TEXTS: usize = 1000;
 
 /// The most moments, and the most emissions or frames, of a sender.
 const MOST_ITEMS: usize = 2000;
-
-/// The last moment of the year 9999, in microseconds since 1970-01-01T00:00:00Z.
-const LAST_MOMENT: u64 = 253_402_300_799_999_999;
 
 /// 1 to 2000 moments, each a number of microseconds since 1970-01-01T00:00:00Z.
 pub(crate) fn read_moments(
@@ -90,7 +87,8 @@ fn items_of(value: &Value, low: usize, high: usize) -> Option<&Array>
 fn read_moment(value: &Value) -> Option<Moment>
     ensures { result ≡ moment_of (view value.now) }
 {
-    Moment::from_micros(read_number(value, 0, LAST_MOMENT)?)
+    let micros = u64::try_from(value.as_integer()?).ok()?;
+    Moment::from_micros(micros)
 }
 
 fn each_moment(alloc: Global, place: Place, items: &[Value]) -> Result<Vec<Moment>, KeyError>

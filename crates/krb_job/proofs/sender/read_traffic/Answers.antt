@@ -2,7 +2,7 @@ use Rattle.toml.specs.View.{table_view}
 use Rattle.krb_job.specs.declared.place.Place.TheVariants.{Seed, At, Now, Texts}
 use Rattle.krb_job.specs.Values.{seed_of}
 use Rattle.krb_job.specs.Keys.{needed, some}
-use Rattle.krb_job.proofs.LimitLemmas.{moments-there, texts-fit, moments-beside}
+use Rattle.krb_job.proofs.SenderLimits.{moments-there, texts-fit, moments-beside}
 use Rattle.krb_job.proofs.sender.read_traffic.Goals as goal
 
 pub invariant_of-result-clause-texts_short : goal.invariant_of-result-clause-texts_short

@@ -1,4 +1,4 @@
--- What the checks let through keeps the limits of a job's types.
+-- What the checks of a sender let through keeps the limits of a job's types.
 use Rattle.std.proofs.Common.{◌≡◌, ◌≤◌, ◌<◌, ℕ, nat_le, Bool, true, false, ◌&&◌, List, [], ◌∷◌, length, Option, Some, None, Result, Ok, IsSome, All, refl, arith}
 use Rattle.std.proofs.lemmas.Grind.{common_steps}
 use Rattle.std.proofs.lemmas.Bool.Decides.{nat_tests}
@@ -15,6 +15,7 @@ use Rattle.krb_job.specs.Lists.{count, each, items_of, moment_of, moments_of, te
 use Rattle.krb_job.specs.Keys.{at_key, needed, only_if}
 use Rattle.krb_job.proofs.Given.{bound, within, value_at, barred-absent}
 
+-- no more bytes than allowed were read
 most-bytes : (high : ℕ) (d : Data) (b : List ℕ) → bytes_of 0 high d ≡ Some b → length b ≤ high
 most-bytes high (string text) b e =
     let s = bound (result_ok (decode_of text)) (sized 0 high) b e in
@@ -27,6 +28,7 @@ most-bytes high (datetime dt) b e = absurd cc
 most-bytes high (array ds) b e = absurd cc
 most-bytes high (table ms) b e = absurd cc
 
+-- what holds of each value that an item may have holds of all that were read
 All-each : {A : Type 0} (P : A → Type 0) (of : Data → Option A) → ((d : Data) (x : A) → of d ≡ Some x → P x)
     → (ds : Items) (xs : List A) → each of ds ≡ Some xs → All P xs
 All-each P of fits no_items xs e = let same : [] ≡ xs = cc in rw (← same) (All-nil P)
@@ -36,6 +38,7 @@ All-each P of fits (item d ds) xs e =
     let same : first.0 ∷ others.0 ≡ xs = cc in
     rw (← same) (All-cons P first.0 others.0 (fits d first.0 first.1) (All-each P of fits ds others.0 others.1))
 
+-- each item gives one value
 length-each : {A : Type 0} (of : Data → Option A) (ds : Items) (xs : List A) → each of ds ≡ Some xs → length xs ≡ count ds
 length-each of no_items xs e = let same : [] ≡ xs = cc in rw (← same) refl
 length-each of (item d ds) xs e =
@@ -54,6 +57,7 @@ items-within low high (boolean x) ds e = absurd cc
 items-within low high (datetime dt) ds e = absurd cc
 items-within low high (table ms) ds e = absurd cc
 
+-- there is a moment at least
 some-moments : (d : Data) (moments : List ℕ) → moments_of d ≡ Some moments → 0 < length moments
 some-moments d moments e =
     let items = bound (items_of 1 2000 d) (each moment_of) moments e in
@@ -63,6 +67,7 @@ some-moments d moments e =
 pub moments-there : (place : Place) (ms : Members) (moments : List ℕ) → needed place moments_of ms ≡ Ok moments → 0 < length moments
 moments-there place ms moments e = let at = value_at place moments_of ms moments e in some-moments at.0 moments at.1
 
+-- no text is too long
 short-texts : (d : Data) (texts : List (List ℕ)) → texts_of d ≡ Some texts → AreShortTexts texts
 short-texts d texts e =
     let items = bound (items_of 0 1000 d) (each (bytes_of 0 text_limit)) texts e in
