@@ -29,7 +29,9 @@ use Rattle.krb_core.proofs.VerdictLemmas.{behind-nil, behind-append}
 use Rattle.krb_core.proofs.TrackLemmas.{track_at, send_moves, send_over, take_frame, take_end, take_none}
 use Rattle.krb_core.proofs.SteppedLemmas.{relay_of}
 use Rattle.krb_core.proofs.RoundsLemmas.{rounds-from_below}
-use Rattle.krb_core.proofs.TurnLemmas.{stepped, log_round, round_leaves, after-append, entries_grow, IsPartOf}
+use Rattle.krb_core.proofs.RelayedLemmas.{records_of-push}
+use Rattle.krb_core.proofs.RelayedClaims.{after-append}
+use Rattle.krb_core.proofs.TurnLemmas.{stepped, log_round, round_leaves, entries_grow, IsPartOf}
 
 -- ---- the verdict on a frame of a wire
 
@@ -79,10 +81,6 @@ take-next k [] x at = absurd (let e = at in cc)
 take-next zero (y ∷ xs) x at = let e : y ≡ x = (let f = at in cc) in ap (λ z. z ∷ []) e
 take-next (suc k) (y ∷ xs) x at = let e : suc k + 1 ≡ suc (k + 1) = omega arith in rw e (ap (λ z. y ∷ z) (take-next k xs x at))
 
-records_of-next : (vs : List Verdict) (v : Verdict) → records_of (vs ++ v ∷ []) ≡ records_of vs ++ accepted_by v
-records_of-next [] v = append-nil (accepted_by v)
-records_of-next (u ∷ vs) v = ap (λ z. accepted_by u ++ z) (records_of-next vs v) ∙ sym (append_assoc (accepted_by u) (records_of vs) (accepted_by v))
-
 past : {X : Type 0} (xs : List X) (n : ℕ) → slice_get xs n ≡ None → length xs ≤ n
 past [] n at = omega arith
 past (x ∷ xs) zero at = absurd (let e = at in cc)
@@ -116,7 +114,7 @@ module _ (begun : TrackState) where
   received-next k v at =
       ap (λ (d : Demand). let r : ReceiverState = record begun.receiver { demand = d } in r)
       (behind-append begun.receiver.demand (records_of (take k answers)) (accepted_by v)
-      ∙ ap (λ rs. behind begun.receiver.demand rs) (sym (records_of-next (take k answers) v) ∙ ap records_of (sym (take-next k answers v at))))
+      ∙ ap (λ rs. behind begun.receiver.demand rs) (sym (records_of-push (take k answers) v) ∙ ap records_of (sym (take-next k answers v at))))
 
   -- a send and a take of a lane
   record Goes (k m n number : ℕ) (log : LogState) : Type 0 where
