@@ -93,8 +93,17 @@ same_or_over (suc a) zero h = absurd (omega arith)
 same_or_over (suc a) (suc b) h = elim (same_or_over a b (omega arith)) [ inl same ↦ inl (ap suc same) | inr more ↦ inr (omega (arith, more)) ]
 
 module _ (begun : TrackState) where
+  abbrev start : Demand
+  start = begun.receiver.demand
+
   abbrev answers : List Verdict
-  answers = verdicts begun.receiver.opener begun.nows begun.receiver.demand 0 begun.wire
+  answers = verdicts begun.receiver.opener begun.nows start 0 begun.wire
+
+  length-answers : length answers ≡ length begun.wire
+  length-answers = length-verdicts begun.receiver.opener begun.nows start 0 begun.wire
+
+  length-over : length (events_over begun) ≡ length begun.wire
+  length-over = length-events answers ∙ length-answers
 
   -- so many of its items were sent and taken
   abbrev received : ℕ → ReceiverState
@@ -107,7 +116,7 @@ module _ (begun : TrackState) where
   unfolding verdict_by
   answer-at k frame at =
       let p : 0 + k ≡ k = omega arith in
-      verdict-at begun.receiver.opener begun.nows begun.receiver.demand 0 begun.wire k frame at
+      verdict-at begun.receiver.opener begun.nows start 0 begun.wire k frame at
       ∙ ap (λ n. Some (verdict begun.receiver.opener (behind begun.receiver.demand (records_of (take k answers))) (moment_at begun.nows n) frame)) p
 
   received-next : (k : ℕ) (v : Verdict) → slice_get answers k ≡ Some v → receiver_behind (received k) v ≡ received (k + 1)
@@ -123,7 +132,7 @@ module _ (begun : TrackState) where
 
   none_after : (n number : ℕ) (log : LogState) → length begun.wire ≤ n → log.entries ≡ log.entries ++ named number (slice_get (events_over begun) n)
   none_after n number log le =
-      let long : length (events_over begun) ≤ n = omega (arith, le, length-events answers, length-verdicts begun.receiver.opener begun.nows begun.receiver.demand 0 begun.wire) in
+      let long : length (events_over begun) ≤ n = omega (arith, le, length-over) in
       sym (append-nil log.entries) ∙ ap (λ o. log.entries ++ named number o) (sym (slice_get_past (events_over begun) n long))
 
   goes_frame : (k number : ℕ) (log : LogState) (frame : List ℕ) → 1 ≤ begun.lane.capacity → slice_get begun.wire k ≡ Some frame → Goes k (k + 1) k number log
@@ -154,7 +163,7 @@ module _ (begun : TrackState) where
       let sent = send_moves wire capacity k k r nows places (omega (arith, is)) (omega (arith, room)) in
       let none : slice_get wire k ≡ None = slice_get_past wire k (omega (arith, is)) in
       let took = take_end wire capacity (k + 1) k r nows log (ended_at log number) number after_places (omega arith) none refl in
-      let long : length answers ≡ k = length-verdicts begun.receiver.opener nows begun.receiver.demand 0 wire ∙ is in
+      let long : length answers ≡ k = length-answers ∙ is in
       let all : take k answers ≡ take (k + 1) answers = take_all k answers (omega (arith, long)) ∙ sym (take_all (k + 1) answers (omega (arith, long))) in
       let same : r ≡ received (k + 1) = ap (λ (z : List Verdict). let x : ReceiverState = record begun.receiver { demand = behind begun.receiver.demand (records_of z) } in x) all in
       record {
@@ -279,8 +288,7 @@ no_rounds relay are none = record { tracks_are = sym (none_begun relay.tracks ar
 short_lanes : (begun : List TrackState) (n : ℕ) → longest_wire begun ≤ n → NoneLonger n (map events_over begun)
 short_lanes [] n le = All-nil (λ (events : List Event). length events ≤ n)
 short_lanes (track ∷ begun) n le =
-    let count : length (events_over track) ≡ length track.wire = length-events (answers track) ∙ length-verdicts track.receiver.opener track.nows track.receiver.demand 0 track.wire in
-    All-cons (λ (events : List Event). length events ≤ n) (events_over track) (map events_over begun) (omega (arith, le, count)) (short_lanes begun n (omega (arith, le)))
+    All-cons (λ (events : List Event). length events ≤ n) (events_over track) (map events_over begun) (omega (arith, le, length-over track)) (short_lanes begun n (omega (arith, le)))
 
 -- what the rounds of all frames and of the ends leave
 finished : (relay : Relay) → AreOpen relay.tracks → AreFresh relay.tracks → relay.log.entries ≡ [] → (after relay (finishing relay.tracks)).log.entries ≡ whole_log relay
