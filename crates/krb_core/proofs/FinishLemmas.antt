@@ -20,9 +20,9 @@ use Rattle.krb_core.specs.Stepped.{Relay, lane_of, turned_at, turned, after, is_
 use Rattle.krb_core.specs.Finish.{round_turns, rounds_turns, longest_wire, finishing}
 use Rattle.krb_core.proofs.TrackLemmas.{track_at, send_moves, send_full, send_over, take_frame, take_end, take_none, with_end}
 use Rattle.krb_core.proofs.RelayedLemmas.{stand_all}
-use Rattle.krb_core.proofs.RelayedClaims.{goes_on}
-use Rattle.krb_core.proofs.ListLemmas.{all_pass}
-use Rattle.krb_core.proofs.TurnLemmas.{stepped, round_leaves, after-append, after_count}
+use Rattle.krb_core.proofs.RelayedClaims.{after-append, goes_on}
+use Rattle.krb_core.proofs.ListLemmas.{all_pass, there_is}
+use Rattle.krb_core.proofs.TurnLemmas.{stepped, round_leaves, after_count}
 
 -- ---- a round takes an item of each lane that isn't done
 
@@ -258,26 +258,14 @@ done_after lanes capacity before relay room h =
 
 -- ---- then every lane is noted as ended
 
-data Found {X : Type 0} (xs : List X) (k : ℕ) : Type 0 where
-  found : (x : X) → slice_get xs k ≡ Some x → Found xs k
-
-there_is : {X : Type 0} (k : ℕ) (xs : List X) → k < length xs → Found xs k
-there_is k [] lt = absurd (omega (arith, lt))
-there_is zero (x ∷ xs) lt = found x refl
-there_is (suc k) (x ∷ xs) lt = elim (there_is k xs (omega (arith, lt))) [ found y at ↦ found y at ]
-
 all_ended : (lanes : List Ends) (capacity : ℕ) (before : List Turn) (relay : Relay) → HasTurned lanes capacity before relay → is_done relay ≡ true
     → (lane : ℕ) → lane < length relay.tracks → has_ended lane relay.log ≡ true
 all_ended lanes capacity before relay h done lane lt =
     let stand = stand_all lanes capacity before relay h in
     let within : lane < length lanes = omega (arith, lt, stand.count) in
-    elim (there_is lane relay.tracks lt) [
-      | found track at ↦
-          elim (there_is lane lanes within) [
-            | found ends at-e ↦
-                (stand.each lane ends track at-e at).ended ∙ all_pass (λ t. has_end t.lane.got) relay.tracks lane track done at
-          ]
-    ]
+    let here = there_is lane relay.tracks lt in
+    let ends = there_is lane lanes within in
+    (stand.each lane ends.0 here.0 ends.1 here.1).ended ∙ all_pass (λ t. has_end t.lane.got) relay.tracks lane here.0 done here.1
 
 module _ (lanes : List Ends) (capacity : ℕ) (before : List Turn) (relay now : Relay) (room : 1 ≤ capacity) (turned_is : HasTurned lanes capacity before relay) where
   pub done_from : now ≡ after relay (finishing relay.tracks) → is_done now ≡ true

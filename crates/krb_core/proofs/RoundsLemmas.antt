@@ -9,7 +9,7 @@ use Rattle.std.proofs.lemmas.Bool.Decides.{eqb_tells}
 use Rattle.krb_core.specs.declared.log.Event.{Event}
 use Rattle.krb_core.specs.Log.{events_of}
 use Rattle.krb_core.specs.Rounds.{entry, named, round, rounds_below, longest, rounds, NoneLonger, list_of, Spot, IsSpot, entry_at, IsBefore, Rises, AreRounds}
-use Rattle.krb_core.proofs.ListLemmas.{slice_get-front, lt_or_same}
+use Rattle.krb_core.proofs.ListLemmas.{slice_get-front, lt_or_same, there_is}
 use Rattle.krb_core.proofs.SteppedLemmas.{events_of-append}
 
 -- ---- past the longest list nothing comes
@@ -170,11 +170,6 @@ AreFrom all lane lists = (i : ℕ) → list_of lists i ≡ list_of all (lane + i
 
 from-first : (all : List (List Event)) → AreFrom all 0 all
 from-first all i = let e : i ≡ 0 + i = omega arith in ap (list_of all) e
-
-there_is : (n : ℕ) (events : List Event) → n < length events → (event : Event) × (slice_get events n ≡ Some event)
-there_is n [] h = absurd (omega (arith, h))
-there_is zero (event ∷ events) h = (event, refl)
-there_is (suc n) (event ∷ events) h = there_is n events (omega (arith, h))
 
 here_in : (n lane : ℕ) (o : Option Event) → (event : Event) × (o ≡ Some event) → Contains (spot_at n lane o) (spot n lane)
 here_in n lane None h = absurd (let e = h.1 in cc)

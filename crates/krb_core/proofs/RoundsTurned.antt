@@ -29,7 +29,9 @@ use Rattle.krb_core.proofs.VerdictLemmas.{behind-nil, behind-append}
 use Rattle.krb_core.proofs.TrackLemmas.{track_at, send_moves, send_over, take_frame, take_end, take_none}
 use Rattle.krb_core.proofs.SteppedLemmas.{relay_of}
 use Rattle.krb_core.proofs.RoundsLemmas.{rounds-from_below}
-use Rattle.krb_core.proofs.TurnLemmas.{stepped, log_round, round_leaves, after-append, entries_grow, IsPartOf}
+use Rattle.krb_core.proofs.RelayedLemmas.{records_of-push}
+use Rattle.krb_core.proofs.RelayedClaims.{after-append}
+use Rattle.krb_core.proofs.TurnLemmas.{stepped, log_round, round_leaves, entries_grow, IsPartOf}
 
 -- ---- the verdict on a frame of a wire
 
@@ -79,10 +81,6 @@ take-next k [] x at = absurd (let e = at in cc)
 take-next zero (y ∷ xs) x at = let e : y ≡ x = (let f = at in cc) in ap (λ z. z ∷ []) e
 take-next (suc k) (y ∷ xs) x at = let e : suc k + 1 ≡ suc (k + 1) = omega arith in rw e (ap (λ z. y ∷ z) (take-next k xs x at))
 
-records_of-next : (vs : List Verdict) (v : Verdict) → records_of (vs ++ v ∷ []) ≡ records_of vs ++ accepted_by v
-records_of-next [] v = append-nil (accepted_by v)
-records_of-next (u ∷ vs) v = ap (λ z. accepted_by u ++ z) (records_of-next vs v) ∙ sym (append_assoc (accepted_by u) (records_of vs) (accepted_by v))
-
 past : {X : Type 0} (xs : List X) (n : ℕ) → slice_get xs n ≡ None → length xs ≤ n
 past [] n at = omega arith
 past (x ∷ xs) zero at = absurd (let e = at in cc)
@@ -95,8 +93,17 @@ same_or_over (suc a) zero h = absurd (omega arith)
 same_or_over (suc a) (suc b) h = elim (same_or_over a b (omega arith)) [ inl same ↦ inl (ap suc same) | inr more ↦ inr (omega (arith, more)) ]
 
 module _ (begun : TrackState) where
+  abbrev start : Demand
+  start = begun.receiver.demand
+
   abbrev answers : List Verdict
-  answers = verdicts begun.receiver.opener begun.nows begun.receiver.demand 0 begun.wire
+  answers = verdicts begun.receiver.opener begun.nows start 0 begun.wire
+
+  length-answers : length answers ≡ length begun.wire
+  length-answers = length-verdicts begun.receiver.opener begun.nows start 0 begun.wire
+
+  length-over : length (events_over begun) ≡ length begun.wire
+  length-over = length-events answers ∙ length-answers
 
   -- so many of its items were sent and taken
   abbrev received : ℕ → ReceiverState
@@ -109,14 +116,14 @@ module _ (begun : TrackState) where
   unfolding verdict_by
   answer-at k frame at =
       let p : 0 + k ≡ k = omega arith in
-      verdict-at begun.receiver.opener begun.nows begun.receiver.demand 0 begun.wire k frame at
+      verdict-at begun.receiver.opener begun.nows start 0 begun.wire k frame at
       ∙ ap (λ n. Some (verdict begun.receiver.opener (behind begun.receiver.demand (records_of (take k answers))) (moment_at begun.nows n) frame)) p
 
   received-next : (k : ℕ) (v : Verdict) → slice_get answers k ≡ Some v → receiver_behind (received k) v ≡ received (k + 1)
   received-next k v at =
       ap (λ (d : Demand). let r : ReceiverState = record begun.receiver { demand = d } in r)
       (behind-append begun.receiver.demand (records_of (take k answers)) (accepted_by v)
-      ∙ ap (λ rs. behind begun.receiver.demand rs) (sym (records_of-next (take k answers) v) ∙ ap records_of (sym (take-next k answers v at))))
+      ∙ ap (λ rs. behind begun.receiver.demand rs) (sym (records_of-push (take k answers) v) ∙ ap records_of (sym (take-next k answers v at))))
 
   -- a send and a take of a lane
   record Goes (k m n number : ℕ) (log : LogState) : Type 0 where
@@ -125,7 +132,7 @@ module _ (begun : TrackState) where
 
   none_after : (n number : ℕ) (log : LogState) → length begun.wire ≤ n → log.entries ≡ log.entries ++ named number (slice_get (events_over begun) n)
   none_after n number log le =
-      let long : length (events_over begun) ≤ n = omega (arith, le, length-events answers, length-verdicts begun.receiver.opener begun.nows begun.receiver.demand 0 begun.wire) in
+      let long : length (events_over begun) ≤ n = omega (arith, le, length-over) in
       sym (append-nil log.entries) ∙ ap (λ o. log.entries ++ named number o) (sym (slice_get_past (events_over begun) n long))
 
   goes_frame : (k number : ℕ) (log : LogState) (frame : List ℕ) → 1 ≤ begun.lane.capacity → slice_get begun.wire k ≡ Some frame → Goes k (k + 1) k number log
@@ -156,7 +163,7 @@ module _ (begun : TrackState) where
       let sent = send_moves wire capacity k k r nows places (omega (arith, is)) (omega (arith, room)) in
       let none : slice_get wire k ≡ None = slice_get_past wire k (omega (arith, is)) in
       let took = take_end wire capacity (k + 1) k r nows log (ended_at log number) number after_places (omega arith) none refl in
-      let long : length answers ≡ k = length-verdicts begun.receiver.opener nows begun.receiver.demand 0 wire ∙ is in
+      let long : length answers ≡ k = length-answers ∙ is in
       let all : take k answers ≡ take (k + 1) answers = take_all k answers (omega (arith, long)) ∙ sym (take_all (k + 1) answers (omega (arith, long))) in
       let same : r ≡ received (k + 1) = ap (λ (z : List Verdict). let x : ReceiverState = record begun.receiver { demand = behind begun.receiver.demand (records_of z) } in x) all in
       record {
@@ -281,8 +288,7 @@ no_rounds relay are none = record { tracks_are = sym (none_begun relay.tracks ar
 short_lanes : (begun : List TrackState) (n : ℕ) → longest_wire begun ≤ n → NoneLonger n (map events_over begun)
 short_lanes [] n le = All-nil (λ (events : List Event). length events ≤ n)
 short_lanes (track ∷ begun) n le =
-    let count : length (events_over track) ≡ length track.wire = length-events (answers track) ∙ length-verdicts track.receiver.opener track.nows track.receiver.demand 0 track.wire in
-    All-cons (λ (events : List Event). length events ≤ n) (events_over track) (map events_over begun) (omega (arith, le, count)) (short_lanes begun n (omega (arith, le)))
+    All-cons (λ (events : List Event). length events ≤ n) (events_over track) (map events_over begun) (omega (arith, le, length-over track)) (short_lanes begun n (omega (arith, le)))
 
 -- what the rounds of all frames and of the ends leave
 finished : (relay : Relay) → AreOpen relay.tracks → AreFresh relay.tracks → relay.log.entries ≡ [] → (after relay (finishing relay.tracks)).log.entries ≡ whole_log relay

@@ -12,12 +12,9 @@ use Rattle.krb_core.specs.Track.{TrackState, after_send, after_take, verdict_now
 use Rattle.krb_core.specs.Stepped.{Relay, lane_of, turned_at, turned, after}
 use Rattle.krb_core.specs.Finish.{round_turns, rounds_turns, finishing}
 use Rattle.krb_core.proofs.SteppedLemmas.{relay_of, turned_count}
+use Rattle.krb_core.proofs.RelayedClaims.{after-append}
 
 -- ---- turns behind turns
-
-pub after-append : (relay : Relay) (xs ys : List Turn) → after relay (xs ++ ys) ≡ after (after relay xs) ys
-after-append relay [] ys = refl
-after-append relay (x ∷ xs) ys = after-append (turned relay x) xs ys
 
 pub after_count : (relay : Relay) (turns : List Turn) → length (after relay turns).tracks ≡ length relay.tracks
 after_count relay [] = refl

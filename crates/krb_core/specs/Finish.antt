@@ -32,7 +32,9 @@ finishing tracks = rounds_turns (longest_wire tracks + 1) (length tracks)
 
 -- the events of a lane's verdicts over its whole wire
 abbrev pub events_over : TrackState → List Event
-events_over track = events_of (verdicts track.receiver.opener track.nows track.receiver.demand 0 track.wire)
+events_over track =
+    let start = track.receiver.demand in
+    events_of (verdicts track.receiver.opener track.nows start 0 track.wire)
 
 -- it holds of a relay whose lanes have room for a frame, whatever was turned before
 abbrev pub WithRoom : Relay → Type 0 → Type 0
