@@ -20,6 +20,8 @@ pub enum Cmd {
     Seal,
     /// Opens the frames of a job's sender, and prints what became of each.
     Open,
+    /// Relays the texts of a job's senders, and prints what became of each frame.
+    Relay,
 }
 
 impl Cmd {
@@ -32,7 +34,8 @@ impl Cmd {
             "show" => Cmd::Show,
             "vectors" => Cmd::Vectors,
             "seal" => Cmd::Seal,
-            _ => Cmd::Open,
+            "open" => Cmd::Open,
+            _ => Cmd::Relay,
         }
     }
 }
@@ -73,7 +76,8 @@ fn command_line<'a>(alloc: Global) -> Result<Command<'a>, AllocError>
     let line = with_command(alloc, line, "show", help::SHOW, help::SHOW_AFTER)?;
     let line = with_command(alloc, line, "vectors", help::VECTORS, help::VECTORS_AFTER)?;
     let line = with_command(alloc, line, "seal", help::SEAL, help::SEAL_AFTER)?;
-    with_command(alloc, line, "open", help::OPEN, help::OPEN_AFTER)
+    let line = with_command(alloc, line, "open", help::OPEN, help::OPEN_AFTER)?;
+    with_command(alloc, line, "relay", help::RELAY, help::RELAY_AFTER)
 }
 
 fn with_command<'a>(

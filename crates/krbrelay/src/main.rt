@@ -44,6 +44,7 @@ fn run(rt: &(impl Input + Print + Alloc<A = Global>), command: Cmd) -> Result<u8
         Cmd::Vectors => vectors(rt.alloc(), &mut writer),
         Cmd::Seal => jobs::seal(rt.alloc(), &mut reader, &mut writer),
         Cmd::Open => jobs::open(rt.alloc(), &mut reader, &mut writer),
+        Cmd::Relay => jobs::relay(rt.alloc(), &mut reader, &mut writer),
     };
     if writer.flush().is_err() {
         return Err(Fault::Write);

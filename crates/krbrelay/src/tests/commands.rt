@@ -1,8 +1,8 @@
 //! The command line, and the lines that are printed for faults.
 
 use crate::command::{Cmd, command_of};
-use krb_commands::Fault;
 use clap::error::ErrorKind;
+use krb_commands::Fault;
 use std::test::Fail;
 
 #[test]
