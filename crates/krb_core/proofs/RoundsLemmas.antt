@@ -322,9 +322,9 @@ same_spots (x ∷ xs) (y ∷ ys) p q a b =
     elim (contains_cases y ys x (a x (0, (omega arith), refl))) [
       | inl e ↦ sym e
       | inr behind-y ↦ elim (contains_cases x xs y (b y (0, (omega arith), refl))) [
-          | inl e ↦ e
-          | inr behind-x ↦ absurd (before_itself x y (All-contains (IsBefore x) xs y p.0 behind-x) (All-contains (IsBefore y) ys x q.0 behind-y))
-        ]
+        | inl e ↦ e
+        | inr behind-x ↦ absurd (before_itself x y (All-contains (IsBefore x) xs y p.0 behind-x) (All-contains (IsBefore y) ys x q.0 behind-y))
+      ]
     ] in
     ap₂ (λ z zs. z ∷ zs) same (same_spots xs ys p.1 q.1 (tails_among x y xs ys same p.0 a) (tails_among y x ys xs (sym same) q.0 b))
 
