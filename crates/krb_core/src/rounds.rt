@@ -8,9 +8,9 @@ ghost use Rattle.krb_core.specs.Rounds.{AreRounds, entry, list_of, rounds, round
 
 /// The laws of rounds.
 ///
-/// The entries are the events of all lanes, each once, by their places and then by their lanes,
-/// and no other list is that (`by_places`). The events of a lane stay in their order (`of_lane`). One event more, of a lane
-/// whose followers have no more events than it had, comes last (`goes_on`).
+/// The entries are the events of all lanes, each once, by their places and then by their lanes, and
+/// no other list is that (`by_places`). The events of a lane stay in their order (`of_lane`). One
+/// event more, of a lane whose followers have no more events than it had, comes last (`goes_on`).
 pub fn rounds_laws()
     ensures by_places { (lists : List (List Event)) (entries : List Entry)
         → AreRounds lists entries ↔ (entries ≡ rounds lists) }
