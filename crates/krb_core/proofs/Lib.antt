@@ -18,4 +18,6 @@ pub mod SteppedLemmas
 pub mod StartLemmas
 pub mod RelayedLemmas
 pub mod RelayedClaims
+pub mod TurnLemmas
+pub mod RoundsTurned
 pub mod FinishLemmas

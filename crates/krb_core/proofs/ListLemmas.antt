@@ -57,6 +57,12 @@ drop_get [] k x h = absurd (let e = h in cc)
 drop_get (y ∷ xs) zero x h = let e : y ≡ x = cc in ap (λ z. z ∷ xs) e
 drop_get (y ∷ xs) (suc k) x h = drop_get xs k x h
 
+-- within a list something stands
+pub there_is : {X : Type 0} (k : ℕ) (xs : List X) → k < length xs → (x : X) × (slice_get xs k ≡ Some x)
+there_is k [] lt = absurd (omega (arith, lt))
+there_is zero (x ∷ xs) lt = (x, refl)
+there_is (suc k) (x ∷ xs) lt = there_is k xs (omega (arith, lt))
+
 -- what stands in a list, at the place of one that passes too
 pub all_pass : {X : Type 0} (p : X → Bool) (xs : List X) (i : ℕ) (x : X) → list_all p xs ≡ true → slice_get xs i ≡ Some x → p x ≡ true
 all_pass p [] i x all h = absurd (let e = h in cc)

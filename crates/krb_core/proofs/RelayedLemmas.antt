@@ -112,7 +112,7 @@ events_of-own lane (Err refusal) = rw (same_number lane) refl
 abbrev receiver_of : Ends → List Verdict → ReceiverState
 receiver_of ends verdicts = record ends.receiver { demand = behind ends.receiver.demand (records_of verdicts) }
 
-records_of-push : (vs : List Verdict) (v : Verdict) → records_of (vs ++ v ∷ []) ≡ records_of vs ++ accepted_by v
+pub records_of-push : (vs : List Verdict) (v : Verdict) → records_of (vs ++ v ∷ []) ≡ records_of vs ++ accepted_by v
 records_of-push vs v = flat_map-append accepted_by vs (v ∷ []) ∙ ap (λ l. records_of vs ++ l) (append-nil (accepted_by v))
 
 events_of-push : (vs : List Verdict) (v : Verdict) → verdict.events_of (vs ++ v ∷ []) ≡ verdict.events_of vs ++ events_by v

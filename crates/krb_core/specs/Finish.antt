@@ -32,9 +32,16 @@ finishing tracks = rounds_turns (longest_wire tracks + 1) (length tracks)
 
 -- the events of a lane's verdicts over its whole wire
 abbrev pub events_over : TrackState → List Event
-events_over track = events_of (verdicts track.receiver.opener track.nows track.receiver.demand 0 track.wire)
+events_over track =
+    let start = track.receiver.demand in
+    events_of (verdicts track.receiver.opener track.nows start 0 track.wire)
 
--- it holds of a relay whose lanes have room, and of which no turn was taken
+-- it holds of a relay whose lanes have room for a frame, whatever was turned before
+abbrev pub WithRoom : Relay → Type 0 → Type 0
+WithRoom relay Claim =
+    (lanes : List Ends) (capacity : ℕ) (before : List Turn) → 1 ≤ capacity → HasTurned lanes capacity before relay → Claim
+
+-- it holds of one of which no turn was taken
 abbrev pub FromStart : Relay → Type 0 → Type 0
 FromStart relay Claim = (lanes : List Ends) (capacity : ℕ) → 1 ≤ capacity → HasTurned lanes capacity [] relay → Claim
 

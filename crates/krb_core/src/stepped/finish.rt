@@ -6,7 +6,7 @@ ghost use Rattle.krb_core.specs.declared.turn.Turn.{Turn};
 ghost use Rattle.krb_core.specs.Claims.{has_ended};
 ghost use Rattle.krb_core.specs.Stepped.{after, is_done};
 ghost use Rattle.krb_core.specs.Relayed.{GoesOn, KeepsHeadline};
-ghost use Rattle.krb_core.specs.Finish.{round_turns, finishing, longest_wire, FromStart, whole_log};
+ghost use Rattle.krb_core.specs.Finish.{round_turns, finishing, longest_wire, WithRoom, FromStart, whole_log};
 
 use super::Stepped;
 use crate::turn::Turn;
@@ -15,10 +15,12 @@ use std::alloc::AllocError;
 impl Stepped {
     /// Steps a send and a take of each lane in turn, round after round, until every end was taken.
     ///
-    /// Of a relay through which nothing went, the log is then all that becomes of the frames, in
-    /// rounds: the first frame of each lane, by lane number, then the second of each, and so on.
-    /// Each queue needs room for one frame. The first want of memory ends it, with the earlier
-    /// turns done: the log has a front of those entries.
+    /// Each queue needs room for a frame. Where no turn was taken before, the log is then all that
+    /// becomes of the frames, in rounds: of the first frame of each lane, by lane number, then of
+    /// the second of each, and so on.
+    ///
+    /// The first want of memory ends it, with the earlier turns done, and the log has a front of
+    /// those entries.
     pub fn finish(&mut self) -> Result<(), AllocError>
         ensures after { (done : List Turn) × IsPrefix done (finishing self.old.tracks)
             × (self.new ≡ after self.old done) }
@@ -26,11 +28,12 @@ impl Stepped {
         ensures headline { KeepsHeadline self.old self.new }
         ensures ok { OnOk result (self.new ≡ after self.old (finishing self.old.tracks)) }
 
+        ensures done { WithRoom self.old (OnOk result (is_done self.new ≡ true)) }
+        ensures ended { WithRoom self.old (OnOk result ((lane : ℕ)
+            → lane < length self.old.tracks → has_ended lane self.new.log ≡ true)) }
+
         ensures rounds { FromStart self.old (OnOk result
             (self.new.log.entries ≡ whole_log self.old)) }
-        ensures done { FromStart self.old (OnOk result (is_done self.new ≡ true)) }
-        ensures ended { FromStart self.old (OnOk result ((lane : ℕ)
-            → lane < length self.old.tracks → has_ended lane self.new.log ≡ true)) }
         ensures front { FromStart self.old (IsPrefix self.new.log.entries (whole_log self.old)) }
     {
         for _ in 0..self.longest() {

@@ -5,7 +5,9 @@ use Rattle.krb_core.specs.Claims.{has_ended}
 use Rattle.krb_core.specs.Stepped.{after, is_done}
 use Rattle.krb_core.specs.Finish.{finishing, whole_log}
 use Rattle.krb_core.proofs.RelayedClaims.{goes_on, keeps_headline}
-use Rattle.krb_core.proofs.FinishLemmas.{left_over, left_next, left_last, round_in_part, round_in_full, round_count, served_all, on_ok, front_from, entries_from, done_from, ended_from}
+use Rattle.krb_core.proofs.TurnLemmas.{left_over, left_next, left_last, round_in_part, round_in_full, round_count, served_all, on_ok}
+use Rattle.krb_core.proofs.RoundsTurned.{front_from, entries_from}
+use Rattle.krb_core.proofs.FinishLemmas.{done_from, ended_from}
 use Rattle.krb_core.proofs.stepped.Stepped.finish.Goals as goal
 
 pub returns-in_err-round-clause-after : goal.returns-in_err-round-clause-after
@@ -74,12 +76,12 @@ returns-clause-rounds c = λ lanes capacity room fresh.
     on_ok _ (c.round-2.new.self.log.entries ≡ whole_log c.args.self.now) c.round-2.result (entries_from lanes capacity c.args.self.now c.round-2.new.self room fresh) (returns-clause-ok c)
 
 pub returns-clause-done : goal.returns-clause-done
-returns-clause-done c = λ lanes capacity room fresh.
-    on_ok _ (is_done c.round-2.new.self ≡ true) c.round-2.result (done_from lanes capacity c.args.self.now c.round-2.new.self room fresh) (returns-clause-ok c)
+returns-clause-done c = λ lanes capacity before room turned.
+    on_ok _ (is_done c.round-2.new.self ≡ true) c.round-2.result (done_from lanes capacity before c.args.self.now c.round-2.new.self room turned) (returns-clause-ok c)
 
 pub returns-clause-ended : goal.returns-clause-ended
-returns-clause-ended c = λ lanes capacity room fresh.
-    on_ok _ ((lane : ℕ) → lane < length c.args.self.now.tracks → has_ended lane c.round-2.new.self.log ≡ true) c.round-2.result (ended_from lanes capacity c.args.self.now c.round-2.new.self room fresh) (returns-clause-ok c)
+returns-clause-ended c = λ lanes capacity before room turned.
+    on_ok _ ((lane : ℕ) → lane < length c.args.self.now.tracks → has_ended lane c.round-2.new.self.log ≡ true) c.round-2.result (ended_from lanes capacity before c.args.self.now c.round-2.new.self room turned) (returns-clause-ok c)
 
 pub returns-clause-front : goal.returns-clause-front
 returns-clause-front c = λ lanes capacity room fresh. front_from lanes capacity c.args.self.now c.round-2.new.self room fresh (returns-clause-after c)

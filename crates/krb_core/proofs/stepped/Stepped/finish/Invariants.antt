@@ -1,6 +1,6 @@
 use Rattle.std.proofs.Common.{◌≡◌, length}
 use Rattle.krb_core.specs.Finish.{finishing}
-use Rattle.krb_core.proofs.FinishLemmas.{HasServed, left_over}
+use Rattle.krb_core.proofs.TurnLemmas.{HasServed, left_over}
 use Rattle.krb_core.proofs.stepped.Stepped.finish.Given as goal
 
 abbrev pub invariant-loop : goal.invariant-loop

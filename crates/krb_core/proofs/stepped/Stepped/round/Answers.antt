@@ -3,7 +3,7 @@ use Rattle.std.proofs.Common.{rules, ◌≡◌, ◌+◌, ◌-◌, ◌<◌, ◌�
 use Rattle.krb_core.specs.declared.turn.Turn.TheVariants.{Take}
 use Rattle.krb_core.specs.Stepped.{Relay}
 use Rattle.krb_core.specs.Finish.{round_turns}
-use Rattle.krb_core.proofs.FinishLemmas.{served_send, served_one, served_part}
+use Rattle.krb_core.proofs.TurnLemmas.{served_send, served_one, served_part}
 use Rattle.krb_core.proofs.stepped.Stepped.round.Goals as goal
 
 pub returns-in_err-step-2-clause-turns : goal.returns-in_err-step-2-clause-turns

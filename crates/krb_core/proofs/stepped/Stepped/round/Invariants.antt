@@ -1,6 +1,6 @@
 use Rattle.std.proofs.Common.{◌≡◌, ◌-◌, length}
 use Rattle.krb_core.specs.Finish.{round_turns}
-use Rattle.krb_core.proofs.FinishLemmas.{HasServed}
+use Rattle.krb_core.proofs.TurnLemmas.{HasServed}
 use Rattle.krb_core.proofs.stepped.Stepped.round.Given as goal
 
 abbrev pub invariant-loop-lane : goal.invariant-loop-lane

@@ -1,5 +1,5 @@
 -- Each sender keeps its limits, and each receiver has a moment.
-use Rattle.std.proofs.Common.{◌≡◌, ◌<◌, ◌≤◌, length, take, get_or, arith, rules, ap, subst}
+use Rattle.std.proofs.Common.{◌<◌, ◌≤◌, length, get_or, rules, subst}
 use Rattle.std.proofs.lemmas.List.{take_all}
 use Rattle.std.proofs.lemmas.List.Elements.{All-more}
 use Rattle.std.specs.Prelude.{All}
