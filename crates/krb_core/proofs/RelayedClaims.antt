@@ -249,13 +249,15 @@ module _ (lanes : List Ends) (capacity : ℕ) (turns : List Turn) (relay : Relay
             let at-t : slice_get relay.tracks lane ≡ Some left.track = ap (λ r. slice_get r.tracks lane) h.left ∙ left.at in
             let stands = (stand_all lanes capacity turns relay h).each lane ends left.track at at-t in
             let events = turned_events lane h.begun turns in
+            let is_left : left.track.lane ≡ machine.after (empty capacity) events = left.left ∙ ap (λ (t : TrackState). machine.after t.lane events) begun.is_fresh in
             let n = length left.track.lane.sent in (
               left.track,
               at-t,
               record {
                 emits = stands.emits;
                 sent = (drop n (items_of left.track.wire), sym (take-append-drop n (items_of left.track.wire)) ∙ ap (λ l. l ++ drop n (items_of left.track.wire)) (sym stands.sent));
-                left = left.left ∙ ap (λ (t : TrackState). machine.after t.lane events) begun.is_fresh;
+                left = is_left;
+                reached = (events, ap (λ (k : ℕ). machine.after (empty k) events) (ap (λ (l : Lane (List ℕ)). l.capacity) is_left ∙ lane_lemmas.after_capacity (empty capacity) events) ∙ sym is_left);
               },
             )
       ]

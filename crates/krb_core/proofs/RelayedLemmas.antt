@@ -123,11 +123,11 @@ logged_more : (ends : Ends) (lane : ℕ) (took : List (List ℕ)) (log : LogStat
     → IsLogged ends lane took log receiver vs → IsVerdict ends.receiver.opener (behind ends.receiver.demand (records_of vs)) (moment_at ends.nows (0 + length took)) frame v
     → IsLogged ends lane (took ++ frame ∷ []) (noted log lane v) (receiver_behind receiver v) (vs ++ v ∷ [])
 logged_more ends lane took log receiver vs frame v h is =
-    let demand = ends.receiver.demand in
-    let demanded : behind (behind demand (records_of vs)) (accepted_by v) ≡ behind demand (records_of (vs ++ v ∷ [])) =
-    behind-append demand (records_of vs) (accepted_by v) ∙ ap (λ rs. behind demand rs) (sym (records_of-push vs v)) in
+    let start = ends.receiver.demand in
+    let demanded : behind (behind start (records_of vs)) (accepted_by v) ≡ behind start (records_of (vs ++ v ∷ [])) =
+    behind-append start (records_of vs) (accepted_by v) ∙ ap (λ rs. behind start rs) (sym (records_of-push vs v)) in
     record {
-      judged = AreVerdicts-push ends.receiver.opener ends.nows demand 0 took vs frame v h.judged is;
+      judged = AreVerdicts-push ends.receiver.opener ends.nows start 0 took vs frame v h.judged is;
       entries =
           events_of-append lane log.entries (entries_by lane v)
           ∙ (ap₂ (λ xs ys. xs ++ ys) h.entries (events_of-own lane v) ∙ sym (events_of-push vs v));

@@ -1,12 +1,13 @@
 -- What rounds are.
-use Rattle.std.proofs.Common.{◌≡◌, ℕ, zero, suc, ◌+◌, ◌-◌, ◌<◌, ◌≤◌, max, List, [], ◌∷◌, ◌++◌, length, take, slice_get, Option, Some, None, inl, inr, refl, sym, ap, ap₂, subst, ◌∙◌, arith, append-nil, append_assoc}
+use Rattle.std.proofs.Common.{◌≡◌, ◌⊎◌, ℕ, zero, suc, ◌+◌, ◌-◌, ◌<◌, ◌≤◌, max, List, [], ◌∷◌, ◌++◌, length, take, slice_get, Option, Some, None, inl, inr, refl, sym, ap, ap₂, subst, ◌∙◌, arith, append-nil, append_assoc}
 use Rattle.std.specs.List.{All, Contains, flat_map}
 use Rattle.std.proofs.lemmas.List.{take_all}
 use Rattle.std.proofs.lemmas.List.Concat.{flat_map-append}
-use Rattle.std.proofs.lemmas.List.Elements.{All-nil, All-cons, All-head, All-tail, All-append, All-weaker, Contains-append_left, Contains-append_right}
+use Rattle.std.proofs.lemmas.List.Elements.{All-nil, All-cons, All-head, All-tail, All-append, All-weaker, All-contains, Contains-append_left, Contains-append_right}
 use Rattle.std.proofs.lemmas.Option.{slice_get_past, slice_get_within}
 use Rattle.std.proofs.lemmas.Bool.Decides.{eqb_tells}
 use Rattle.krb_core.specs.declared.log.Event.{Event}
+use Rattle.krb_core.specs.declared.log.Entry.{Entry}
 use Rattle.krb_core.specs.Log.{events_of}
 use Rattle.krb_core.specs.Rounds.{entry, named, round, rounds_below, longest, rounds, NoneLonger, list_of, Spot, IsSpot, entry_at, IsBefore, Rises, AreRounds}
 use Rattle.krb_core.proofs.ListLemmas.{slice_get-front, lt_or_same, there_is}
@@ -282,3 +283,55 @@ by_places lists =
       rises = rises_below lists n;
       entries_are = sym (entries_below lists n);
     }
+
+-- ---- there is one such list
+
+contains_cases : (x : Spot) (xs : List Spot) (s : Spot) → Contains (x ∷ xs) s → (x ≡ s) ⊎ Contains xs s
+contains_cases x xs s (zero, lt, is) = inl is
+contains_cases x xs s (suc k, lt, is) = inr (k, (omega (arith, lt)), is)
+
+before_itself : (a b : Spot) → IsBefore a b → IsBefore b a → ⊥
+before_itself a b (inl h) (inl g) = omega (arith, h, g)
+before_itself a b (inl h) (inr g) = let e = g.0 in omega (arith, h, e)
+before_itself a b (inr h) (inl g) = let e = h.0 in omega (arith, g, e)
+before_itself a b (inr h) (inr g) = let e = h.1 in let f = g.1 in omega (arith, e, f)
+
+-- what stands before all that follow is not among them
+not_behind : (x s : Spot) (xs : List Spot) → All (IsBefore x) xs → Contains xs s → x ≡ s → ⊥
+not_behind x s xs all has e =
+    let here : IsBefore x s = All-contains (IsBefore x) xs s all has in
+    let itself : IsBefore x x = subst (IsBefore x) (sym e) here in
+    before_itself x x itself itself
+
+abbrev AreAmong : List Spot → List Spot → Type 0
+AreAmong xs ys = (s : Spot) → Contains xs s → Contains ys s
+
+tails_among : (x y : Spot) (xs ys : List Spot) → x ≡ y → All (IsBefore x) xs → AreAmong (x ∷ xs) (y ∷ ys) → AreAmong xs ys
+tails_among x y xs ys same all among s has =
+    elim (contains_cases y ys s (among s (Contains-append_right (x ∷ []) xs s has))) [
+      | inl here ↦ absurd (not_behind x s xs all has (same ∙ here))
+      | inr later ↦ later
+    ]
+
+same_spots : (xs ys : List Spot) → Rises xs → Rises ys → AreAmong xs ys → AreAmong ys xs → xs ≡ ys
+same_spots [] [] p q a b = refl
+same_spots [] (y ∷ ys) p q a b = absurd (let h = (b y (0, (omega arith), refl)).1 in omega (arith, h))
+same_spots (x ∷ xs) [] p q a b = absurd (let h = (a x (0, (omega arith), refl)).1 in omega (arith, h))
+same_spots (x ∷ xs) (y ∷ ys) p q a b =
+    let same : x ≡ y =
+    elim (contains_cases y ys x (a x (0, (omega arith), refl))) [
+      | inl e ↦ sym e
+      | inr behind-y ↦ elim (contains_cases x xs y (b y (0, (omega arith), refl))) [
+        | inl e ↦ e
+        | inr behind-x ↦ absurd (before_itself x y (All-contains (IsBefore x) xs y p.0 behind-x) (All-contains (IsBefore y) ys x q.0 behind-y))
+      ]
+    ] in
+    ap₂ (λ z zs. z ∷ zs) same (same_spots xs ys p.1 q.1 (tails_among x y xs ys same p.0 a) (tails_among y x ys xs (sym same) q.0 b))
+
+pub rounds_alone : (lists : List (List Event)) (entries : List Entry) → AreRounds lists entries → entries ≡ rounds lists
+rounds_alone lists entries h =
+    let own = by_places lists in
+    let same : h.spots ≡ own.spots = same_spots h.spots own.spots h.rises own.rises
+    (λ s has. own.each s (All-contains (IsSpot lists) h.spots s h.there has))
+    (λ s has. h.each s (All-contains (IsSpot lists) own.spots s own.there has)) in
+    h.entries_are ∙ (ap (λ ss. flat_map (entry_at lists) ss) same ∙ sym own.entries_are)

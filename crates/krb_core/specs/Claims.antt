@@ -22,7 +22,7 @@ has_ended lane log = slice_index_or log.ended lane false
 -- it and at the moment of its place, and the log has of the lane what they bring, in order. The
 -- receiver demands what they leave.
 pub record IsLogged (ends : Ends) (lane : ℕ) (took : List (List ℕ)) (log : LogState) (receiver : ReceiverState) (verdicts : List Verdict) : Type 0 where
-  pub judged : AreVerdicts ends.receiver.opener ends.nows ends.receiver.demand 0 took verdicts
+  pub judged : (let start = ends.receiver.demand in AreVerdicts ends.receiver.opener ends.nows start 0 took verdicts)
   pub entries : events_of lane log.entries ≡ verdict.events_of verdicts
   pub receiver_is : receiver ≡ record ends.receiver { demand = behind ends.receiver.demand (records_of verdicts) }
 

@@ -1,7 +1,7 @@
 -- What is so of a relay that is stepped, whatever its turns.
 use Rattle.std.specs.Prelude.{◌≡◌, ◌≤◌, ℕ, ◌==◌, List, [], ◌∷◌, ◌++◌, length, map, slice_get, Option, Some, None, if◌then◌else◌}
 use Rattle.krb_base.specs.Prefix.{IsPrefix}
-use Rattle.krb_base.specs.Lane.{Item, Frame, End, empty, frames}
+use Rattle.krb_base.specs.Lane.{Item, Frame, End, IsReached, empty, frames}
 use Rattle.krb_base.specs.Lane as machine
 use Rattle.krb_core.specs.declared.log.Entry.{Entry}
 use Rattle.krb_core.specs.declared.turn.Turn.{Turn}
@@ -72,6 +72,7 @@ pub record IsLane (ends : Ends) (capacity : ℕ) (events : List (machine.Event (
   pub emits : IsWire ends.source track.wire
   pub sent : IsPrefix track.lane.sent (items_of track.wire)
   pub left : track.lane ≡ machine.after (empty capacity) events
+  pub reached : IsReached track.lane
 
 -- ---- the headline
 

@@ -4,7 +4,8 @@
 //! as records of rising numbers, and a plan ([`emit`]) may disturb the frames on purpose. A
 //! [`Receiver`] demands the numbers one after another ([`Order`]), and accepts nothing behind a
 //! close. A [`Log`] keeps what became of the frames of each lane. [`headline_laws`] says what is
-//! delivered and refused, whatever the plan.
+//! delivered and refused, whatever the plan, and [`stepped_laws`] says it of each lane of a
+//! [`Stepped`] relay, by what the log has of it.
 //!
 //! ```text
 //! let frames = sending.seal_all(alloc)?;

@@ -10,9 +10,9 @@ ghost use Rattle.krb_core.specs.Relayed.{HasTurned, IsLane, OfEachLane, HaveHead
 
 /// What turns leave of a relay that began.
 ///
-/// The headline holds of each lane: the log has the verdicts on the frames that the lane's receiver
-/// took, and the claims hold of them (`headline`). The lane is what the events of its turns leave of
-/// an empty one, and what was sent begins what its sender emits (`lanes`). The entries stand in the
+/// The headline holds of each lane: the log has the verdicts on the frames that its receiver took,
+/// and the claims hold of them (`headline`). The lane is what the events of its turns leave of an
+/// empty one, and what was sent begins what its sender emits (`lanes`). The entries stand in the
 /// order of the turns that took their frames (`order`). The log notes that a lane has ended exactly
 /// where its End was taken (`ended`). How much each sender sealed stays as it was (`sents`).
 pub fn stepped_laws()

@@ -7,10 +7,11 @@ ghost use Rattle.krb_core.specs.Undisturbed.{OfUndisturbed, TakesAll};
 
 /// What a receiver accepts of a lane that nothing disturbs.
 ///
-/// The ends are of one mind, each frame is taken within the skew, and the wire carries the frames
-/// as they are. Then no frame is refused (`none_refused`): the receiver accepts the first records,
-/// one for each frame that it takes (`first_records`), and demands the number behind them
-/// (`demands_next`). Where it takes all frames, it delivers all texts (`all_texts`).
+/// Both ends have one key and agree on mode and addresses, each frame is taken within the skew, and
+/// the wire carries the frames as they are. Then no frame is refused (`none_refused`): the receiver
+/// accepts the first records, one for each frame that it takes (`first_records`), and demands the
+/// number behind them (`demands_next`). Where it takes all frames, it delivers all texts
+/// (`all_texts`).
 pub fn undisturbed_laws()
     ensures none_refused { OfUndisturbed (λ source start took answers. All IsOk answers) }
     ensures first_records { OfUndisturbed (λ source start took answers.

@@ -179,6 +179,9 @@ fn many_turns_of_eight_lanes(rt: HostRuntime) -> Result<(), Fail> {
             lanes.push(Alone::new(&rt, rt.alloc(), lane)?)?;
         }
         assert!(rt; relay.done());
+        // 41 of each lane; 41 more that are repeated, and 41 that are raw, 9 that are changed, and
+        // one is dropped.
+        assert_eq!(rt; relay.log().entries().len(), 8 * 41 + 41 + 41 + 9 - 1);
         assert!(rt;
             is_log(
                 rt.alloc(),
