@@ -141,12 +141,7 @@ impl Receiver {
     }
 
     /// What [`take`](Receiver::take) would answer now. Nothing changes.
-    fn judge(
-        &self,
-        alloc: Global,
-        frame: &[u8],
-        now: Moment,
-    ) -> Result<Delivery, Refusal>
+    fn judge(&self, alloc: Global, frame: &[u8], now: Moment) -> Result<Delivery, Refusal>
         ensures verdict { IsAnswer self.now now frame.now result }
         ensures in_range { OnOk result (self.now.demand.expected ≤ last_number) }
     {

@@ -108,7 +108,8 @@ fn two_lanes_in_rounds(rt: HostRuntime) -> Result<(), Fail> {
     for capacity in [1, 64] {
         let mut relay = two_lanes(&rt, rt.alloc(), capacity, None)?;
         relay.finish()?;
-        assert!(rt; is_log(&rt, relay.log(), &expected, CLOSED) && relay.done());
+        assert!(rt; relay.done() && relay.lanes() == 2);
+        assert!(rt; is_log(&rt, relay.log(), &expected, CLOSED));
         relay.finish()?;
         assert!(rt; is_log(&rt, relay.log(), &expected, CLOSED));
     }

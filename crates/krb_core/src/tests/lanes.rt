@@ -1,5 +1,6 @@
+use super::steps::assert_sender;
 use super::{MICROS, answers, is_answer, moment, receiver, sealed, sealer, sending};
-use crate::{Emit, emit};
+use crate::{Emit, Log, Receiving, emit, emit_sealed};
 use krb_base::Bytes;
 use krb_seal::{Mode, Sealer};
 use std::alloc::Global;
@@ -115,5 +116,34 @@ fn no_record_moves_no_number(rt: HostRuntime) -> Result<(), Fail> {
         assert!(rt; is_answer(&answer, word), "at {user_data:?}");
         assert!(rt; receiver.expected() == expected && !receiver.closed());
     }
+    Ok(())
+}
+
+#[test]
+fn frame_taken_into_a_log(rt: HostRuntime) -> Result<(), Fail> {
+    let sender = sending(
+        rt.alloc(),
+        sealer(rt.alloc(), Mode::Priv, 7)?,
+        &[b"hi"],
+        &[MICROS],
+    )?;
+    assert_sender(&rt, &sender);
+    let wire = emit_sealed(rt.alloc(), 0, sender)?;
+    assert_eq!(rt; wire.len(), 2);
+    let mut nows = Vec::new(rt.alloc());
+    nows.push(moment(MICROS + 1)?)?;
+    nows.push(moment(MICROS + 2)?)?;
+    let mut receiving = Receiving {
+        receiver: receiver(rt.alloc(), Mode::Priv, 7)?,
+        nows,
+    };
+    assert_eq!(rt; receiving.moment_at(0).micros(), MICROS + 1);
+    assert_eq!(rt; receiving.moment_at(5).micros(), MICROS + 2);
+    let mut log = Log::new(rt.alloc(), 1);
+    let now = receiving.moment_at(0);
+    let receiver = &mut receiving.receiver;
+    receiver.take_into(&mut log, rt.alloc(), 0, wire[0].as_slice(), now)?;
+    assert_eq!(rt; receiver.expected(), 8);
+    assert_eq!(rt; log.text(0, 0), Some(b"hi".as_slice()));
     Ok(())
 }
