@@ -1,22 +1,21 @@
 -- What a log of one lane holds of the frames that its receiver took.
-use Rattle.std.proofs.Common.{◌≡◌, ℕ, zero, suc, ◌+◌, ◌-◌, ◌<◌, ◌≤◌, ◌||◌, min, cond, Bool, true, false, List, [], ◌∷◌, ◌++◌, length, map, take, drop, get_or, slice_get, Some, Option, Result, Ok, Err, OnOk, refl, sym, ap, ap₂, subst, ◌∙◌, arith, append-nil, append_assoc, length-take-le, inl, inr}
+use Rattle.std.proofs.Common.{◌≡◌, ℕ, ◌+◌, ◌<◌, ◌≤◌, ◌||◌, Bool, true, false, List, [], ◌∷◌, ◌++◌, length, map, take, get_or, Option, Result, Ok, Err, OnOk, refl, sym, ap, subst, ◌∙◌, arith, append-nil, append_assoc, length-take-le, inl, inr}
 use Rattle.std.specs.Io.KnownBytes.{Appends}
 use Rattle.std.proofs.KnownBytes.{Appends-trans}
-use Rattle.std.specs.List.{concat, flat_map, list_any}
+use Rattle.std.specs.List.{concat, list_any}
 use Rattle.std.proofs.lemmas.List.{take_more, take_all, map-append}
 use Rattle.krb_core.specs.declared.delivery.Delivery.TheVariants as deliveries
 use Rattle.krb_core.specs.declared.log.Entry.{Entry}
 use Rattle.krb_core.specs.declared.log.Event.{Event}
 use Rattle.krb_core.specs.declared.log.Status.{Status}
-use Rattle.krb_core.specs.declared.log.Event.TheVariants.{Text, Closed, Refused}
-use Rattle.krb_core.specs.Log.{events_of as events_in, has_closed, is_closed, new_log, status_of, ended_at}
+use Rattle.krb_core.specs.Log.{events_of as events_in, has_closed, new_log, status_of, ended_at}
 use Rattle.krb_core.specs.LogState.{LogState}
 use Rattle.krb_core.specs.Record.{is_close}
 use Rattle.krb_core.specs.Receiver.{receiver_behind}
 use Rattle.krb_core.specs.ReceiverState.{ReceiverState}
 use Rattle.krb_core.specs.Sender.{moment_at}
-use Rattle.krb_core.specs.Track.{verdict_by, noted, entries_by, IsShut}
-use Rattle.krb_core.specs.Verdicts.{Verdict, AreVerdicts, IsVerdict, events_by, events_of, records_of, accepted_by, behind}
+use Rattle.krb_core.specs.Track.{verdict_by, noted, IsShut}
+use Rattle.krb_core.specs.Verdicts.{Verdict, IsVerdict, events_by, events_of, records_of, accepted_by, behind}
 use Rattle.krb_core.proofs.VerdictLemmas.{AreVerdicts-push, behind-nil, behind-append}
 use Rattle.krb_commands.specs.JobLines.{entry_line, state_line, state_by, is_closed_state, status_by}
 use Rattle.krb_commands.specs.Output.{AppendsPrefix}

@@ -1,5 +1,5 @@
 -- The two ends of a lane, as a job states them.
-use Rattle.std.specs.Prelude.{◌≡◌, ◌<◌, ℕ, ℤ, pos, false, All, List, length, Option, Some, None, option_map, if◌then◌else◌}
+use Rattle.std.specs.Prelude.{◌≡◌, ◌<◌, ℕ, pos, false, All, List, length, Option, Some, None, option_map, if◌then◌else◌}
 use Rattle.rand_chacha.specs.ChaCha.{of_seed}
 use Rattle.krb_seal.specs.declared.session.Session.{Session}
 use Rattle.krb_seal.specs.declared.session.Expect.{Expect}

@@ -1,8 +1,7 @@
 -- What a relay leaves that ran to its end.
-use Rattle.std.proofs.Common.{◌≡◌, ℕ, zero, suc, ◌+◌, ◌<◌, ◌≤◌, true, List, [], ◌∷◌, ◌++◌, length, map, take, get_or, slice_get, Some, Result, Ok, Err, OnOk, refl, sym, ap, ap₂, subst, ◌∙◌, arith}
+use Rattle.std.proofs.Common.{◌≡◌, ℕ, zero, suc, ◌<◌, ◌≤◌, true, List, [], ◌∷◌, length, map, take, slice_get, Some, Result, Ok, Err, OnOk, refl, sym, ap, ap₂, subst, ◌∙◌, arith}
 use Rattle.std.proofs.lemmas.List.{take_all}
 use Rattle.krb_base.specs.Prefix.{IsPrefix}
-use Rattle.krb_core.specs.declared.log.Event.{Event}
 use Rattle.krb_core.specs.declared.log.Entry.{Entry}
 use Rattle.krb_core.specs.declared.sending.Sent.{Sent}
 use Rattle.krb_core.specs.Log.{events_of as events_in}
@@ -12,10 +11,10 @@ use Rattle.krb_core.specs.Verdicts.{events_of, verdicts}
 use Rattle.krb_core.specs.Headline.{IsRun}
 use Rattle.krb_core.specs.Undisturbed.{TakesAll}
 use Rattle.krb_core.specs.Claims.{Headline, has_ended}
-use Rattle.krb_core.specs.Start.{Ends, IsWire, IsBegun, AreBegun}
+use Rattle.krb_core.specs.Start.{Ends, IsBegun, AreBegun}
 use Rattle.krb_core.specs.Track.{TrackState}
 use Rattle.krb_core.specs.Rounds.{rounds, list_of}
-use Rattle.krb_core.specs.Stepped.{Relay, after}
+use Rattle.krb_core.specs.Stepped.{Relay}
 use Rattle.krb_core.specs.Relayed.{HasTurned}
 use Rattle.krb_core.specs.Finish.{events_over, FromStart, WithRoom, whole_log}
 use Rattle.krb_core.specs.Whole.{Run, IsWholeRun, AreRuns, rounds_of, IsWhole, IsPart}

@@ -1,4 +1,3 @@
-use Rattle.std.proofs.Common.{◌≡◌}
 use Rattle.krb_commands.proofs.RelayedLemmas.{HasPrinted}
 use Rattle.krb_commands.proofs.relaying.print_ends.Given as goal
 

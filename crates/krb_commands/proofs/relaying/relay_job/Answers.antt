@@ -1,4 +1,4 @@
-use Rattle.std.proofs.Common.{[], ◌∙◌, ap}
+use Rattle.std.proofs.Common.{[]}
 use Rattle.krb_core.specs.Start.{lanes_of}
 use Rattle.krb_core.proofs.RelayedClaims.{sents_hold}
 use Rattle.krb_commands.proofs.RelayStartLemmas.{live_start, names_bad_plan}
