@@ -1,5 +1,5 @@
 -- What a log of one lane holds of the frames that its receiver took.
-use Rattle.std.proofs.Common.{◌≡◌, ℕ, ◌+◌, ◌<◌, ◌≤◌, ◌||◌, Bool, true, false, List, [], ◌∷◌, ◌++◌, length, map, take, get_or, Option, Result, Ok, Err, OnOk, refl, sym, ap, subst, ◌∙◌, arith, append-nil, append_assoc, length-take-le, inl, inr}
+use Rattle.std.proofs.Common.{◌≡◌, ℕ, ◌+◌, ◌<◌, ◌≤◌, ◌||◌, Bool, true, false, List, [], ◌∷◌, ◌++◌, length, map, take, get_or, Option, Result, Ok, Err, OnOk, refl, sym, ap, subst, ◌∙◌, arith, append-nil, length-take-le, inl, inr}
 use Rattle.std.specs.Io.KnownBytes.{Appends}
 use Rattle.std.proofs.KnownBytes.{Appends-trans}
 use Rattle.std.specs.List.{concat, list_any}
@@ -16,20 +16,12 @@ use Rattle.krb_core.specs.ReceiverState.{ReceiverState}
 use Rattle.krb_core.specs.Sender.{moment_at}
 use Rattle.krb_core.specs.Track.{verdict_by, noted, IsShut}
 use Rattle.krb_core.specs.Verdicts.{Verdict, IsVerdict, events_by, events_of, records_of, accepted_by, behind}
+use Rattle.krb_core.proofs.RelayedLemmas.{events_of-push, records_of-push}
 use Rattle.krb_core.proofs.VerdictLemmas.{AreVerdicts-push, behind-nil, behind-append}
 use Rattle.krb_commands.specs.JobLines.{entry_line, state_line, state_by, is_closed_state, status_by}
 use Rattle.krb_commands.specs.Output.{AppendsPrefix}
 use Rattle.krb_commands.specs.Opened.{entries_for, AreOpened, opened_lines, opened_text, PrintsOpened, PrintsOpenedPrefix, HoldsFrames, LogsFrames}
 use Rattle.krb_commands.proofs.OutputLemmas.{AppendsPrefix-after}
-
--- the events of verdicts, joined
-pub events_of-append : (xs ys : List Verdict) → events_of (xs ++ ys) ≡ events_of xs ++ events_of ys
-events_of-append [] ys = refl
-events_of-append (x ∷ xs) ys = ap (λ l. events_by x ++ l) (events_of-append xs ys) ∙ sym (append_assoc (events_by x) (events_of xs) (events_of ys))
-
-records_of-append : (xs ys : List Verdict) → records_of (xs ++ ys) ≡ records_of xs ++ records_of ys
-records_of-append [] ys = refl
-records_of-append (x ∷ xs) ys = ap (λ l. accepted_by x ++ l) (records_of-append xs ys) ∙ sym (append_assoc (accepted_by x) (records_of xs) (records_of ys))
 
 -- the lane's events in its entries
 pub events_in-entries : (events : List Event) → events_in 0 (entries_for 0 events) ≡ events
@@ -74,13 +66,6 @@ module _ (start : ReceiverState) (nows : List ℕ) (frames : List (List ℕ)) (r
       ∙ ap (λ l. has_closed (events_in 0 l.entries)) (sym h.holds.entries) ∙ on in
       ap (λ r. r.demand.closed) h.demands ∙ or_right start.demand.closed (list_any is_close (records_of vs)) (sym (closed_events vs) ∙ closed)
 
--- one verdict more
-events_of-push : (vs : List Verdict) (v : Verdict) → events_of vs ++ events_by v ≡ events_of (vs ++ v ∷ [])
-events_of-push vs v = ap (λ l. events_of vs ++ l) (sym (append-nil (events_by v))) ∙ sym (events_of-append vs (v ∷ []))
-
-records_of-push : (vs : List Verdict) (v : Verdict) → records_of vs ++ accepted_by v ≡ records_of (vs ++ v ∷ [])
-records_of-push vs v = ap (λ l. records_of vs ++ l) (sym (append-nil (accepted_by v))) ∙ sym (records_of-append vs (v ∷ []))
-
 abbrev log_of : List Event → LogState
 log_of events = record (new_log 1) { entries = entries_for 0 events }
 
@@ -88,13 +73,13 @@ noted_more : (vs : List Verdict) (v : Verdict) (log log-now : LogState) → log 
 noted_more vs v log log-now is now_is =
     now_is ∙ ap (λ l. noted l 0 v) is
     ∙ ap (λ e. let z : LogState = record (new_log 1) { entries = e } in z) (sym (map-append (λ event. let z : Entry = record { lane = 0; event = event } in z) (events_of vs) (events_by v)))
-    ∙ ap log_of (events_of-push vs v)
+    ∙ ap log_of (sym (events_of-push vs v))
 
 demands_more : (start receiver receiver-now : ReceiverState) (vs : List Verdict) (v : Verdict) → receiver ≡ record start { demand = behind start.demand (records_of vs) }
     → receiver-now ≡ receiver_behind receiver v → receiver-now ≡ record start { demand = behind start.demand (records_of (vs ++ v ∷ [])) }
 demands_more start receiver receiver-now vs v is now_is =
     now_is ∙ ap (λ r. receiver_behind r v) is
-    ∙ ap (λ d. let z : ReceiverState = record start { demand = d } in z) (behind-append start.demand (records_of vs) (accepted_by v) ∙ ap (λ l. behind start.demand l) (records_of-push vs v))
+    ∙ ap (λ d. let z : ReceiverState = record start { demand = d } in z) (behind-append start.demand (records_of vs) (accepted_by v) ∙ ap (λ l. behind start.demand l) (sym (records_of-push vs v)))
 
 verdict_behind : (start receiver : ReceiverState) (now : ℕ) (frame : List ℕ) (v : Verdict) (vs : List Verdict) → receiver ≡ record start { demand = behind start.demand (records_of vs) }
     → IsVerdict receiver.opener receiver.demand now frame v → IsVerdict start.opener (behind start.demand (records_of vs)) now frame v

@@ -115,7 +115,7 @@ receiver_of ends verdicts = record ends.receiver { demand = behind ends.receiver
 pub records_of-push : (vs : List Verdict) (v : Verdict) → records_of (vs ++ v ∷ []) ≡ records_of vs ++ accepted_by v
 records_of-push vs v = flat_map-append accepted_by vs (v ∷ []) ∙ ap (λ l. records_of vs ++ l) (append-nil (accepted_by v))
 
-events_of-push : (vs : List Verdict) (v : Verdict) → verdict.events_of (vs ++ v ∷ []) ≡ verdict.events_of vs ++ events_by v
+pub events_of-push : (vs : List Verdict) (v : Verdict) → verdict.events_of (vs ++ v ∷ []) ≡ verdict.events_of vs ++ events_by v
 events_of-push vs v = flat_map-append events_by vs (v ∷ []) ∙ ap (λ l. verdict.events_of vs ++ l) (append-nil (events_by v))
 
 -- one verdict more
