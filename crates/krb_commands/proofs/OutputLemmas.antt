@@ -1,8 +1,8 @@
 -- Writes one after another.
 use Rattle.std.proofs.lemmas.List.{take_all, length-drop, take-append-drop}
 use Rattle.std.proofs.Common.{◌-◌, ◌≤◌, length, take, drop, arith, ◌≡◌, ℕ, List, [], ◌++◌, refl, sym, ap, ◌∙◌, append_assoc, Option}
-use Rattle.std.specs.Io.KnownBytes.{Appends, Keeps}
-use Rattle.std.proofs.KnownBytes.{Appends-trans, Appends-kept, Appends-nil}
+use Rattle.std.specs.Io.KnownBytes.{Appends}
+use Rattle.std.proofs.KnownBytes.{Appends-trans, Appends-nil}
 use Rattle.krb_commands.specs.Output.{AppendsPrefix}
 
 -- a text that was written whole, and a front of the next
@@ -16,10 +16,6 @@ AppendsPrefix-after a b c done text whole p q rest e = (
     e ∙ ap (λ t. done ++ t ++ rest) q.2.1 ∙ ap (λ l. l ++ rest) (sym (append_assoc done q.0 q.2.0)) ∙ append_assoc (done ++ q.0) q.2.0 rest,
   ),
 )
-
--- the writer kept what it held after a front of the text
-pub AppendsPrefix-kept : (a b c : Option (List ℕ)) (done rest whole : List ℕ) → Appends a b done → Keeps b c → whole ≡ done ++ rest → AppendsPrefix a c whole
-AppendsPrefix-kept a b c done rest whole p q e = (done, Appends-kept a b c done p q, (rest, e))
 
 pub AppendsPrefix-none : (a : Option (List ℕ)) (whole : List ℕ) → AppendsPrefix a a whole
 AppendsPrefix-none a whole = ([], Appends-nil a, (whole, refl))

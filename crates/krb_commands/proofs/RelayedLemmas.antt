@@ -1,9 +1,8 @@
 -- What `relay` has printed.
-use Rattle.std.proofs.Common.{◌≡◌, ℕ, suc, ◌+◌, ◌≤◌, ◌&&◌, Bool, true, false, List, [], ◌∷◌, ◌++◌, length, map, drop, slice_get, Some, Option, Result, Ok, Err, OnOk, OnErr, IfOk, refl, sym, ap, ap₂, subst, ◌∙◌, arith, append-nil, append_assoc, inl, inr}
+use Rattle.std.proofs.Common.{◌≡◌, ℕ, suc, ◌+◌, ◌&&◌, Bool, true, false, List, [], ◌∷◌, ◌++◌, map, drop, slice_get, Some, Option, Result, Ok, Err, OnOk, OnErr, IfOk, refl, sym, ap, ap₂, subst, ◌∙◌, arith, append-nil, append_assoc, inl, inr}
 use Rattle.std.specs.List.{concat}
 use Rattle.std.specs.Io.KnownBytes.{Appends}
 use Rattle.std.proofs.KnownBytes.{Appends-trans, Appends-nil}
-use Rattle.std.proofs.lemmas.List.{drop_all}
 use Rattle.krb_core.specs.declared.sending.Sent.{Sent}
 use Rattle.krb_core.specs.Log.{status_of}
 use Rattle.krb_core.specs.LogState.{LogState}
@@ -56,15 +55,6 @@ module _ (old then now : Option (List ℕ)) (sents : List Sent) (log : LogState)
       AppendsPrefix-after old then now h.done (end_line lane sent (status_of log lane)) (end_lines 0 sents log) h.written p
       (end_lines (lane + 1) (drop (lane + 1) sents) log)
       (h.lines ∙ ap (λ l. h.done ++ l) next_line ∙ sym (append_assoc h.done (end_line lane sent (status_of log lane)) (end_lines (lane + 1) (drop (lane + 1) sents) log)))
-
-module _ (old now : Option (List ℕ)) (sents : List Sent) (log : LogState) (lane : ℕ) (closed : Bool) (h : HasPrinted old now sents log lane closed) (over : length sents ≤ lane) where
-  pub ends_printed : Appends old now (end_lines 0 sents log)
-  ends_printed =
-      let P : List ℕ → Type 0 = λ l. Appends old now l in
-      subst P (sym (h.lines ∙ ap (λ l. h.done ++ end_lines lane l log) (drop_all lane sents over) ∙ append-nil h.done)) h.written
-
-  pub ends_closed : are_closed 0 sents log ≡ closed
-  ends_closed = h.states ∙ ap (λ l. closed && are_closed lane l log) (drop_all lane sents over) ∙ and_true closed
 
 -- ---- what is printed of a whole relay
 

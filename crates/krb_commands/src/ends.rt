@@ -1,8 +1,10 @@
 //! The two ends of a lane, as a job states them.
 
-ghost use Rattle.std.specs.Prelude.{◌≡◌, ◌+◌, ◌<◌, ◌≤◌, false, length, IsSome, IfOk, IfErr, OnOk, Some};
+ghost use Rattle.std.specs.Prelude.{◌≡◌, ◌+◌, ◌<◌, ◌≤◌, false, ℕ, List, length, IsSome, IfOk, IfErr, OnOk, Some};
 ghost use Rattle.krb_seal.specs.Session.{HasShortAddresses};
+ghost use Rattle.krb_core.specs.Headline.{IsPaired};
 ghost use Rattle.krb_core.specs.Plan.{contents};
+ghost use Rattle.krb_job.specs.declared.job.SenderJob.{SenderJob};
 ghost use Rattle.krb_core.specs.Sending.{source_of, IsSender};
 ghost use Rattle.krb_base.specs.Limits.{last_number};
 ghost use Rattle.krb_commands.specs.Ends as ends;
@@ -140,6 +142,13 @@ pub fn push_lane<S: Sealer>(
     sendings.push(sending)?;
     Ok(())
 }
+
+/// Both ends of a job's lane have one key, and the number that is demanded first is the sender's.
+pub fn job_lanes_are_paired()
+    ensures { (sender : SenderJob) (seed : List ℕ) → let receiver = ends.receiver_of sender in
+        IsPaired (ends.source_with sender (ends.sealer_of sender) seed)
+        receiver.opener receiver.demand }
+{}
 
 /// The vectors of texts, whose bytes stay where they are.
 fn vectors_of(alloc: Global, texts: Vec<Bytes>) -> Result<Vec<Vec<u8>>, AllocError>

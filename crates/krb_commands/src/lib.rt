@@ -1,10 +1,14 @@
 //! The commands of the program `krbrelay`, each over a reader and a writer.
 //!
-//! [`show`] prints messages, [`vectors`] published values of the ciphers. Each answers the exit
-//! status, or the [`Fault`] that ended it.
+//! [`show`] prints messages, [`vectors`] published values of the ciphers. [`seal_job`], [`open_job`]
+//! and [`relay_job`] print what a job's senders seal and its receivers open; [`key_of`],
+//! [`session_of`], [`sending_of`] and [`receiving_of`] make the two ends of a lane from the job. Each
+//! command answers the exit status, or the [`Fault`] that ended it.
 //!
 //! ```text
-//! let status = show(alloc, &mut reader, &mut writer)?; // 0 where each line spelt a message
+//! let job = read_job(alloc, &read_all(alloc, &mut reader)?, Command::Open)?;
+//! let receiving = receiving_of(alloc, &job.senders[0])?;
+//! let status = open_job(alloc, receiving, job.senders[0].frames.as_slice(), &mut writer)?;
 //! ```
 #![tactic(auto)]
 
@@ -23,7 +27,9 @@ mod relaying;
 mod sealing;
 mod text;
 
-pub use ends::{SessionKey, key_of, push_lane, receiving_of, sending_of, session_of};
+pub use ends::{
+    SessionKey, job_lanes_are_paired, key_of, push_lane, receiving_of, sending_of, session_of,
+};
 pub use fault::Fault;
 pub use input::{LIMIT, read_all};
 pub use messages::{one_reading, show};
