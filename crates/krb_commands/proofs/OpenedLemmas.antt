@@ -179,8 +179,12 @@ module _ {A E : Type 0} (start : ReceiverState) (nows : List ℕ) (frames : List
     pub prefix_of_state : Appends old then (concat (map entry_line log.entries)) → (status : Status) → status ≡ status_of (ended_at log 0) 0
         → AppendsPrefix then now (state_line 0 status) → PrintsOpenedPrefix start nows frames old now
     prefix_of_state p status is q =
-        inl (h.1.verdicts, all_opened, AppendsPrefix-after old then now (opened_lines h.1.verdicts) (state_line 0 status) (opened_text h.1.verdicts) (entries_first p) q
-        [] (sym (append-nil (opened_lines h.1.verdicts ++ state_line 0 status) ∙ state_last status is)))
+        inl (
+          h.1.verdicts,
+          all_opened,
+          AppendsPrefix-after old then now (opened_lines h.1.verdicts) (state_line 0 status) (opened_text h.1.verdicts) (entries_first p) q
+              [] (sym (append-nil (opened_lines h.1.verdicts ++ state_line 0 status) ∙ state_last status is)),
+        )
 
     pub all_printed : Appends old then (concat (map entry_line log.entries)) → (status : Status) → status ≡ status_of (ended_at log 0) 0
         → Appends then now (state_line 0 status) → (code : ℕ) → code ≡ status_by (is_closed_state status) → PrintsOpened start nows frames old now code

@@ -47,16 +47,28 @@ module _ {A : Type 0} (source : Source) (wire : List (Vec ℕ A)) (is : IsWire s
   -- the frames are printed, or a prefix of them
   pub prefix_of_frames : AppendsPrefix old now (concat (map (λ frame. frame_line frame.items) wire)) → PrintsSealedPrefix source old now
   prefix_of_frames h =
-      inr (contents wire, is, (h.0, h.1, (
-        h.2.0 ++ sent_line (sent_of source),
-        ap (λ l. l ++ sent_line (sent_of source)) (sym (frame_lines-contents wire) ∙ h.2.1) ∙ append_assoc h.0 h.2.0 (sent_line (sent_of source)),
-      )))
+      inr (
+        contents wire,
+        is,
+        (
+          h.0,
+          h.1,
+          (
+            h.2.0 ++ sent_line (sent_of source),
+            ap (λ l. l ++ sent_line (sent_of source)) (sym (frame_lines-contents wire) ∙ h.2.1) ∙ append_assoc h.0 h.2.0 (sent_line (sent_of source)),
+          ),
+        ),
+      )
 
   pub prefix_of_sent : Appends old then (concat (map (λ frame. frame_line frame.items) wire)) → (sent : Sent) → sent ≡ sent_of source
       → AppendsPrefix then now (sent_line sent) → PrintsSealedPrefix source old now
   prefix_of_sent h sent same p =
-      inr (contents wire, is, AppendsPrefix-after old then now (frame_lines (contents wire)) (sent_line sent) (sealed_text source (contents wire)) (frames_first h) p
-      [] (sym (append-nil (frame_lines (contents wire) ++ sent_line sent) ∙ sent_last sent same)))
+      inr (
+        contents wire,
+        is,
+        AppendsPrefix-after old then now (frame_lines (contents wire)) (sent_line sent) (sealed_text source (contents wire)) (frames_first h) p
+            [] (sym (append-nil (frame_lines (contents wire) ++ sent_line sent) ∙ sent_last sent same)),
+      )
 
   pub all_printed : Appends old then (concat (map (λ frame. frame_line frame.items) wire)) → (sent : Sent) → sent ≡ sent_of source
       → Appends then now (sent_line sent) → PrintsSealed source old now

@@ -97,7 +97,11 @@ mod tests {
         let faults = [
             (Fault::TooLong, "krbrelay: bad input: input", 2),
             (toml, "krbrelay: bad input: toml", 2),
-            (Fault::BadInput(plan), "krbrelay: bad input: sender 1: plan", 2),
+            (
+                Fault::BadInput(plan),
+                "krbrelay: bad input: sender 1: plan",
+                2,
+            ),
             (Fault::from(JobError::Memory), "krbrelay: out of memory", 4),
             (Fault::Read, "krbrelay: read fault", 4),
             (Fault::Write, "krbrelay: write fault", 4),
