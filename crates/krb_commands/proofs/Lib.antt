@@ -1,3 +1,4 @@
+pub mod EndsLemmas
 pub mod LineLemmas
 pub mod LinesLemmas
 pub mod OpenedLemmas

@@ -1,5 +1,5 @@
 -- The two ends of a lane, as a job states them.
-use Rattle.std.specs.Prelude.{◌≡◌, ℕ, ℤ, pos, List, Option, Some, None, option_map, if◌then◌else◌}
+use Rattle.std.specs.Prelude.{◌≡◌, ◌<◌, ℕ, ℤ, pos, false, All, List, length, Option, Some, None, option_map, if◌then◌else◌}
 use Rattle.rand_chacha.specs.ChaCha.{of_seed}
 use Rattle.krb_seal.specs.declared.session.Session.{Session}
 use Rattle.krb_seal.specs.declared.session.Expect.{Expect}
@@ -7,6 +7,9 @@ use Rattle.krb_seal.specs.Opens.{opener_of}
 use Rattle.krb_seal.specs.Sealer.{SealerState, new_state}
 use Rattle.krb_core.specs.Receiver.{first_demand}
 use Rattle.krb_core.specs.ReceiverState.{ReceiverState}
+use Rattle.krb_core.specs.declared.receiver.Receiving.{Receiving}
+use Rattle.krb_core.specs.declared.sending.Sending.{Sending}
+use Rattle.krb_core.specs.Sending.{source_of, IsSender}
 use Rattle.krb_core.specs.Sender.{Source}
 use Rattle.krb_job.specs.declared.job.SenderJob.{SenderJob}
 use Rattle.krb_commands.specs.declared.ends.SessionKey.{SessionKey}
@@ -59,3 +62,10 @@ source_with sender sealer seed = record {
 
 abbrev pub source_in : SenderJob → SealerState → Option Source
 source_in sender sealer = option_map (source_with sender sealer) sender.seed
+
+-- The ends of lanes that may begin: each sender keeps its limits and none was wiped, each receiver has a moment, and there are as many of both.
+pub record AreReady {S : Type 0} (state : S → SealerState) (sendings : List (Sending S)) (receivings : List Receiving) : Type 0 where
+  pub same : length sendings ≡ length receivings
+  pub senders : All (λ sending. IsSender (source_of state sending)) sendings
+  pub live : All (λ sending. (state sending.sealer).wiped ≡ false) sendings
+  pub moments : All (λ receiving. 0 < length receiving.nows.items) receivings

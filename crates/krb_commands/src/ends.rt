@@ -1,12 +1,13 @@
 //! The two ends of a lane, as a job states them.
 
-ghost use Rattle.std.specs.Prelude.{◌≡◌, ◌<◌, ◌≤◌, length, IsSome, IfOk, Some};
+ghost use Rattle.std.specs.Prelude.{◌≡◌, ◌+◌, ◌<◌, ◌≤◌, false, length, IsSome, IfOk, IfErr, OnOk, Some};
 ghost use Rattle.krb_seal.specs.Session.{HasShortAddresses};
 ghost use Rattle.krb_core.specs.Plan.{contents};
 ghost use Rattle.krb_core.specs.Sending.{source_of, IsSender};
 ghost use Rattle.krb_base.specs.Limits.{last_number};
 ghost use Rattle.krb_commands.specs.Ends as ends;
 
+use crate::fault::Fault;
 use krb_base::Bytes;
 use krb_core::{Receiver, Receiving, Sending};
 use krb_der::HostAddress;
@@ -98,6 +99,7 @@ pub fn sending_of<S: Sealer>(
     requires seed { IsSome sender.seed }
     ensures source { IfOk result (λ sending.
         Some (source_of S.state sending) ≡ ends.source_in sender (S.state sealer)) }
+    ensures sealer { IfOk result (λ sending. S.state sending.sealer ≡ S.state sealer) }
     ensures limits { IfOk result (λ sending. (S.state sealer).next ≤ last_number
         → IsSender (source_of S.state sending)) }
 {
@@ -109,6 +111,34 @@ pub fn sending_of<S: Sealer>(
         draws: ChaCha20Rng::from_seed(seed),
         plan: sender.plan,
     })
+}
+
+/// Adds the ends of a job's lane to those of the lanes before it, around a sealer of its session.
+///
+/// The job is one of a command that seals, so it has a seed. The sealer wasn't wiped, and has a number
+/// left for the close. Want of memory is the only error.
+pub fn push_lane<S: Sealer>(
+    alloc: Global,
+    sendings: &mut Vec<Sending<S>>,
+    receivings: &mut Vec<Receiving>,
+    sender: SenderJob,
+    sealer: S,
+) -> Result<(), Fault>
+    requires seed { IsSome sender.seed }
+    requires live { (S.state sealer).wiped ≡ false }
+    requires next { (S.state sealer).next ≤ last_number }
+    requires ready { ends.AreReady S.state sendings.old.items receivings.old.items }
+    ensures ready { OnOk result
+        (ends.AreReady S.state sendings.new.items receivings.new.items) }
+    ensures count { OnOk result
+        (length sendings.new.items ≡ length sendings.old.items + 1) }
+    ensures faults { IfErr result (λ fault. fault ≡ Fault.Memory) }
+{
+    let receiving = receiving_of(alloc, &sender)?;
+    let sending = sending_of(alloc, sender, sealer)?;
+    receivings.push(receiving)?;
+    sendings.push(sending)?;
+    Ok(())
 }
 
 /// The vectors of texts, whose bytes stay where they are.

@@ -23,7 +23,7 @@ mod relaying;
 mod sealing;
 mod text;
 
-pub use ends::{SessionKey, key_of, receiving_of, sending_of, session_of};
+pub use ends::{SessionKey, key_of, push_lane, receiving_of, sending_of, session_of};
 pub use fault::Fault;
 pub use input::{LIMIT, read_all};
 pub use messages::{one_reading, show};

@@ -1,15 +1,13 @@
 //! The job that the tests change, and what a command answers to it.
 
-ghost use Rattle.std.specs.Prelude.{◌≡◌, ◌≤◌, ◌<◌, false, length, IsSome};
+ghost use Rattle.std.specs.Prelude.{◌≡◌, ◌≤◌, false, IsSome};
 ghost use Rattle.krb_base.specs.Limits.{last_number};
-ghost use Rattle.krb_core.specs.Sending.{source_of, IsSender};
 
-use crate::ends::{SessionKey, key_of, receiving_of, sending_of, session_of};
+use crate::ends::{SessionKey, key_of, push_lane, receiving_of, sending_of, session_of};
 use crate::fault::Fault;
 use crate::opening::open_job;
 use crate::relaying::relay_job;
 use crate::sealing::seal_job;
-use krb_core::{Receiving, Sending};
 use krb_job::{Command, Job, SenderJob, read_job};
 use krb_seal::{Aes128Sealer, Aes256Sealer, Sealer};
 use std::alloc::{AllocError, Global};
@@ -74,11 +72,14 @@ pub fn sender_with(
 ) -> Result<String, AllocError> {
     let mut table = String::from_str(alloc, "[[sender]]\n")?;
     for (key, value) in SENDER {
-        let value = match change_of(key, others) {
-            Some(other) => other,
-            None => change_of(key, changes).unwrap_or(value),
+        let line = if let Some(other) = change_of(key, others) {
+            line_of(alloc, key, other)?
+        } else if let Some(other) = change_of(key, changes) {
+            line_of(alloc, key, other)?
+        } else {
+            line_of(alloc, key, value)?
         };
-        table.push_str(line_of(alloc, key, value)?.as_str())?;
+        table.push_str(line.as_str())?;
     }
     Ok(table)
 }
@@ -191,33 +192,10 @@ fn relay_sealed<S: Sealer, W: Write>(
     requires other_live { (S.state second.1).wiped ≡ false }
     requires room { 1 ≤ capacity }
 {
-    let receivings = (
-        receiving_of(alloc, &first.0)?,
-        receiving_of(alloc, &second.0)?,
-    );
-    let first = sending_of(alloc, first.0, first.1)?;
-    let second = sending_of(alloc, second.0, second.1)?;
-    relay_pair(alloc, (first, second), receivings, capacity, writer)
-}
-
-/// Relays the texts of two senders.
-fn relay_pair<S: Sealer, W: Write>(
-    alloc: Global,
-    sendings: (Sending<S>, Sending<S>),
-    receivings: (Receiving, Receiving),
-    capacity: usize,
-    writer: &mut W,
-) -> Result<u8, Fault>
-    requires sender { IsSender (source_of S.state sendings.0) }
-    requires other_sender { IsSender (source_of S.state sendings.1) }
-    requires live { (S.state sendings.0.sealer).wiped ≡ false }
-    requires other_live { (S.state sendings.1.sealer).wiped ≡ false }
-    requires moments { 0 < length receivings.0.nows.items }
-    requires other_moments { 0 < length receivings.1.nows.items }
-    requires room { 1 ≤ capacity }
-{
-    let sendings = vec![in alloc; sendings.0, sendings.1]?;
-    let receivings = vec![in alloc; receivings.0, receivings.1]?;
+    let mut sendings = Vec::new(alloc);
+    let mut receivings = Vec::new(alloc);
+    push_lane(alloc, &mut sendings, &mut receivings, first.0, first.1)?;
+    push_lane(alloc, &mut sendings, &mut receivings, second.0, second.1)?;
     relay_job(alloc, sendings, receivings, capacity, writer)
 }
 

@@ -1,0 +1,12 @@
+use Rattle.std.proofs.Common.{◌≡◌, [], ◌∷◌, ◌++◌, false, arith, ap, ◌∙◌}
+use Rattle.std.proofs.lemmas.Grind.{common_steps}
+use Rattle.krb_commands.proofs.EndsLemmas.{ready_more}
+use Rattle.krb_commands.proofs.ends.push_lane.Goals as goal
+
+pub returns-clause-ready : goal.returns-clause-ready
+returns-clause-ready g c =
+    let grown : c.push.new.self.items ≡ c.args.receivings.now.items ++ c.in_ok-receiving.receiving ∷ [] = grind (arith, common_steps) in
+    let longer : c.push-2.new.self.items ≡ c.args.sendings.now.items ++ c.in_ok-sending.sending ∷ [] = grind (arith, common_steps) in
+    let live : (g.S.Sealer.state c.in_ok-sending.sending.sealer).wiped ≡ false = ap (λ s. s.wiped) c.in_ok-sending.ensures.sealer ∙ c.requires.live in
+    ready_more g.S.Sealer.state c.args.sendings.now.items c.push-2.new.self.items c.args.receivings.now.items c.push.new.self.items c.in_ok-sending.sending c.in_ok-receiving.receiving
+    c.requires.ready longer grown (c.in_ok-sending.ensures.limits c.requires.next) live c.in_ok-receiving.ensures.moments
