@@ -300,14 +300,20 @@ pub fn two_senders_of_one_key_are_bad_input(rt: HostRuntime) -> Result<(), Fail>
 
 #[test]
 fn text_may_have_60_000_bytes(rt: HostRuntime) -> Result<(), Fail> {
-    let digits = vec![in rt.alloc(); b'6'; 120_002]?;
+    let digits = vec![in rt.alloc(); b'6'; 120_000]?;
     let text = str::from_utf8(digits.as_slice()).ok().ok_or("no text")?;
-    let longest = &text[2..];
-    let texts = format!(in rt.alloc(); "['{longest}']")?;
+    let texts = format!(in rt.alloc(); "['{text}']")?;
     let printed = format!(in rt.alloc();
-        "lane 0 text {longest}\nlane 0 closed\nlane 0 sent 1 of 1 DONE CLOSED\n"
+        "lane 0 text {text}\nlane 0 closed\nlane 0 sent 1 of 1 DONE CLOSED\n"
     )?;
     assert!(rt; relays(&rt, &[("texts", texts.as_str())], 0, printed.as_str())?);
+    Ok(())
+}
+
+#[test]
+fn text_of_60_001_bytes_is_bad_input(rt: HostRuntime) -> Result<(), Fail> {
+    let digits = vec![in rt.alloc(); b'6'; 120_002]?;
+    let text = str::from_utf8(digits.as_slice()).ok().ok_or("no text")?;
     let texts = format!(in rt.alloc(); "['{text}']")?;
     let job = sender(rt.alloc(), &[("texts", texts.as_str())])?;
     let line = "krbrelay: bad input: sender 0: texts";
