@@ -1,7 +1,12 @@
 //! What no clause says: that a call succeeds, what the printed lines look like, and that a fault is
 //! told only where the reader or the writer failed. The messages and their lines were written by
-//! hand from the grammar of RFC 4120.
+//! hand from the grammar of RFC 4120; the sealed frames are those of an independent sealer.
 
 mod faulty;
+mod frames;
+mod jobs;
+mod opens;
+mod relays;
+mod seals;
 mod shows;
 mod vectors;

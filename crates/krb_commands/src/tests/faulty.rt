@@ -1,11 +1,19 @@
-//! Readers and writers over memory that fail at one of their calls, and that `show` tells so.
+//! Readers and writers over memory that fail at one of their calls, and that the commands tell so.
 ghost use Rattle.std.specs.Prelude.{Some};
 
 use crate::fault::Fault;
 use crate::messages::show;
+use crate::tests::frames::{SAFE_CLOSE, SAFE_TEXT as SAFE_FRAME};
+use crate::tests::jobs::{run, sender};
+use crate::tests::opens::receiver;
+use crate::tests::relays::{SILENT, TWO_LANES, two_senders};
 use crate::tests::shows::{SAFE_LINE, SAFE_TEXT};
+use krb_job::Command;
+use std::alloc::Global;
 use std::io;
 use std::io::{ErrorKind, Read, Write};
+use std::process::Abort;
+use std::test::Fail;
 
 /// What happens at the call that fails.
 #[derive(Clone, Copy, PartialEq, Eq)]
@@ -123,4 +131,73 @@ fn each_write_fails_or_takes_nothing_in_turn(rt: HostRuntime) {
         assert_eq!(rt; result, Ok(0));
         assert_eq!(rt; output.as_slice(), SAFE_TEXT.as_bytes());
     }
+}
+
+/// What a command answers and writes where the writer fails.
+fn run_with_write_fault(
+    rt: &(impl Abort + Alloc<A = Global>),
+    command: Command,
+    job: &str,
+    fails_at: usize,
+    failure: Failure,
+) -> (Result<u8, Fault>, Vec<u8>) {
+    let mut writer = FaultyWriter {
+        taken: Vec::new(rt.alloc()),
+        calls: 0,
+        fails_at,
+        failure,
+    };
+    let result = run(rt, command, job, &mut writer);
+    (result, writer.taken)
+}
+
+/// Asserts that each call before the last tells its fault and leaves a part of the text, and that
+/// the last is not made.
+fn assert_write_faults(
+    rt: &(impl Abort + Alloc<A = Global>),
+    command: Command,
+    job: &str,
+    last: usize,
+    text: &str,
+) {
+    for failure in [Failure::Error, Failure::Nothing] {
+        for call in 1..last {
+            let (result, output) = run_with_write_fault(rt, command, job, call, failure);
+            assert_eq!(rt; result, Err(Fault::Write), "call {call}");
+            assert!(rt; output.len() < text.len(), "call {call}");
+            assert!(rt;
+                text.as_bytes().starts_with(output.as_slice()),
+                "call {call}"
+            );
+        }
+        let (result, output) = run_with_write_fault(rt, command, job, last, failure);
+        assert_eq!(rt; result, Ok(0));
+        assert_eq!(rt; output.as_slice(), text.as_bytes());
+    }
+}
+
+#[test]
+fn each_write_of_seal_fails_in_turn(rt: HostRuntime) -> Result<(), Fail> {
+    let job = sender(rt.alloc(), &[])?;
+    let text = format!(in rt.alloc(); "{SAFE_FRAME}\n{SAFE_CLOSE}\nsent 1 of 1 DONE\n")?;
+    // lines of 193, 189 and 17 bytes, two a call
+    assert_write_faults(&rt, Command::Seal, job.as_str(), 202, text.as_str());
+    Ok(())
+}
+
+#[test]
+fn each_write_of_open_fails_in_turn(rt: HostRuntime) -> Result<(), Fail> {
+    let job = receiver(rt.alloc(), &[], &[SAFE_FRAME, SAFE_CLOSE])?;
+    let text = "lane 0 text 6869\nlane 0 closed\nlane 0 CLOSED\n";
+    // lines of 17, 14 and 14 bytes, two a call
+    assert_write_faults(&rt, Command::Open, job.as_str(), 24, text);
+    Ok(())
+}
+
+#[test]
+fn each_write_of_relay_fails_in_turn(rt: HostRuntime) -> Result<(), Fail> {
+    let job = two_senders(&rt, 1, &SILENT)?;
+    // lines of 15, 14, 15, 14, 31 and 31 bytes, two a call
+    assert_write_faults(&rt, Command::Relay, job.as_str(), 63, TWO_LANES);
+    Ok(())
 }
