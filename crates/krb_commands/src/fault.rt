@@ -98,6 +98,21 @@ mod tests {
             (Fault::TooLong, "krbrelay: bad input: input", 2),
             (toml, "krbrelay: bad input: toml", 2),
             (
+                Fault::BadInput(BadInput::Capacity),
+                "krbrelay: bad input: capacity",
+                2,
+            ),
+            (
+                Fault::BadInput(BadInput::Sender),
+                "krbrelay: bad input: sender",
+                2,
+            ),
+            (
+                Fault::BadInput(BadInput::UnknownKey),
+                "krbrelay: bad input: unknown key",
+                2,
+            ),
+            (
                 Fault::BadInput(plan),
                 "krbrelay: bad input: sender 1: plan",
                 2,
