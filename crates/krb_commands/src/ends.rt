@@ -117,8 +117,8 @@ pub fn sending_of<S: Sealer>(
 
 /// Adds the ends of a job's lane to those of the lanes before it, around a sealer of its session.
 ///
-/// The job is one of a command that seals, so it has a seed. The sealer wasn't wiped, and has a number
-/// left for the close. Want of memory is the only error.
+/// The job is one of a command that seals, so it has a seed. The sealer wasn't wiped, and has a
+/// number left for the close. Want of memory is the only error.
 pub fn push_lane<S: Sealer>(
     alloc: Global,
     sendings: &mut Vec<Sending<S>>,

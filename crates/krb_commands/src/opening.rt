@@ -12,12 +12,12 @@ use krb_core::{Log, Receiving};
 use std::alloc::{AllocError, Global};
 use std::io::Write;
 
-/// Gives the frames to a receiver, one after another, and prints what became of each, one a line, and
-/// whether the close was accepted.
+/// Gives the frames to a receiver, one after another, and prints what became of each, one a line,
+/// and whether the close was accepted.
 ///
-/// There is at least one moment. The answer is the exit status: 0 where the close was accepted, else
-/// 3. After want of memory the lines of the frames until then are printed, and after a fault of
-/// printing a prefix.
+/// There is at least one moment. The answer is the exit status: 0 where the close was accepted,
+/// else 3. After want of memory the lines of the frames until then are printed, and after a fault
+/// of printing a prefix.
 pub fn open_job<W: Write>(
     alloc: Global,
     receiving: Receiving,

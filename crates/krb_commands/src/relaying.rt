@@ -24,10 +24,10 @@ use std::io::Write;
 /// Relays the texts of all senders to their receivers, in rounds, and prints what became of each
 /// frame, one a line, and then of each lane how much was sealed and whether its close was accepted.
 ///
-/// There are one to eight senders, within their limits and none of them wiped, as many receivers, and
-/// room for a frame in each queue. The answer is the exit status: 0 where every lane's close was
-/// accepted, else 3. A bad plan is bad input, and nothing is printed. After want of memory the lines
-/// of the frames until then are printed, and after a fault of printing a prefix.
+/// There are one to eight senders, within their limits and none of them wiped, as many receivers,
+/// and room for a frame in each queue. The answer is the exit status: 0 where every lane's close
+/// was accepted, else 3. A bad plan is bad input, and nothing is printed. After want of memory the
+/// lines of the frames until then are printed, and after a fault of printing a prefix.
 pub fn relay_job<S: Sealer, W: Write>(
     alloc: Global,
     sendings: Vec<Sending<S>>,

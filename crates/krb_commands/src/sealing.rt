@@ -15,11 +15,12 @@ use krb_seal::Sealer;
 use std::alloc::Global;
 use std::io::Write;
 
-/// Seals the texts of one sender and its close, and prints what its plan puts on the wire, one frame
-/// a line, and how much was sealed.
+/// Seals the texts of one sender and its close, and prints what its plan puts on the wire, one
+/// frame a line, and how much was sealed.
 ///
 /// The sender is within its limits, and its sealer wasn't wiped. The answer is the exit status 0. A
-/// bad plan is bad input, and nothing is printed. After another fault a prefix is printed, or nothing.
+/// bad plan is bad input, and nothing is printed. After another fault a prefix is printed, or
+/// nothing.
 pub fn seal_job<S: Sealer, W: Write>(
     alloc: Global,
     sending: Sending<S>,

@@ -102,8 +102,8 @@ impl Receiver {
     /// Takes a frame as [`take`](Receiver::take) does, and notes what became of it in the log as an
     /// event of `lane`.
     ///
-    /// Every growth comes before the first change, so want of memory, which is the only error, changes
-    /// nothing.
+    /// Every growth comes before the first change, so want of memory, which is the only error,
+    /// changes nothing.
     pub fn take_into(
         &mut self,
         log: &mut Log,
@@ -161,8 +161,8 @@ impl Receiver {
         })
     }
 
-    /// Moves on behind what [`judge`](Receiver::judge) delivered: the next number is demanded, and a
-    /// close is noted.
+    /// Moves on behind what [`judge`](Receiver::judge) delivered: the next number is demanded, and
+    /// a close is noted.
     fn advance(&mut self, close: bool)
         requires { self.old.demand.expected ≤ last_number }
         ensures { self.new ≡ advanced self.old close }

@@ -49,8 +49,8 @@ impl Stepped {
     /// Seals and emits all, lane by lane, and sends nothing yet.
     ///
     /// There are one to eight lanes, with as many receivers as senders, each within its limits. The
-    /// first error that is met ends it: want of memory, or the least lane whose plan is bad or whose
-    /// sealer was wiped.
+    /// first error that is met ends it: want of memory, or the least lane whose plan is bad or
+    /// whose sealer was wiped.
     pub fn new<S: Sealer>(
         alloc: Global,
         sendings: Vec<Sending<S>>,
