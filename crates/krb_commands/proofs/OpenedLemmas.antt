@@ -96,7 +96,7 @@ opened_more start nows frames receiver log h frame now receiver-now log-now righ
     record {
       holds = record {
         verdicts = vs ++ v ∷ [];
-        opened = AreVerdicts-push start.opener nows start.demand 0 frames vs frame v h.holds.opened is;
+        opened = (let first = start.demand in AreVerdicts-push start.opener nows first 0 frames vs frame v h.holds.opened is);
         entries = noted_more vs v log log-now h.holds.entries l;
       };
       demands = demands_more start receiver receiver-now vs v h.demands r;

@@ -16,7 +16,8 @@ entries_for lane events = map (λ event. record { lane = lane; event = event }) 
 
 -- the verdicts on the frames, in order; the first is taken at place 0
 abbrev pub AreOpened : ReceiverState → List ℕ → List (List ℕ) → List Verdict → Type 0
-AreOpened receiver nows frames verdicts = AreVerdicts receiver.opener nows receiver.demand 0 frames verdicts
+AreOpened receiver nows frames verdicts =
+    let start = receiver.demand in AreVerdicts receiver.opener nows start 0 frames verdicts
 
 abbrev pub opened_lines : List Verdict → List ℕ
 opened_lines verdicts = entry_lines (entries_for 0 (events_of verdicts))

@@ -68,7 +68,7 @@ abbrev run_of : Ends → TrackState → Run
 run_of ends track = record {
   ends = ends;
   wire = track.wire;
-  verdicts = verdicts ends.receiver.opener ends.nows ends.receiver.demand 0 track.wire;
+  verdicts = (let start = ends.receiver.demand in verdicts ends.receiver.opener ends.nows start 0 track.wire);
 }
 
 abbrev runs_of : List Ends → List TrackState → List Run
@@ -86,7 +86,7 @@ runs_begun capacity (e ∷ es) (t ∷ ts) (s ∷ ss) h = (
   refl,
   record {
     emits = h.0.emitted;
-    judged = verdicts_follow e.receiver.opener e.nows e.receiver.demand 0 t.wire h.0.emitted.bytes;
+    judged = (let start = e.receiver.demand in verdicts_follow e.receiver.opener e.nows start 0 t.wire h.0.emitted.bytes);
   },
   runs_begun capacity es ts ss h.1,
 )

@@ -18,11 +18,16 @@ use Rattle.krb_core.specs.Start.{Ends}
 abbrev pub has_ended : ℕ → LogState → Bool
 has_ended lane log = slice_index_or log.ended lane false
 
+-- one verdict for each frame that a lane's receiver takes, from its start on
+abbrev pub AreJudged : Ends → List (List ℕ) → List Verdict → Type 0
+AreJudged ends took verdicts =
+    let start = ends.receiver.demand in AreVerdicts ends.receiver.opener ends.nows start 0 took verdicts
+
 -- These are the verdicts on the frames that a lane's receiver took, each by the records accepted before
 -- it and at the moment of its place, and the log has of the lane what they bring, in order. The
 -- receiver demands what they leave.
 pub record IsLogged (ends : Ends) (lane : ℕ) (took : List (List ℕ)) (log : LogState) (receiver : ReceiverState) (verdicts : List Verdict) : Type 0 where
-  pub judged : (let start = ends.receiver.demand in AreVerdicts ends.receiver.opener ends.nows start 0 took verdicts)
+  pub judged : AreJudged ends took verdicts
   pub entries : events_of lane log.entries ≡ verdict.events_of verdicts
   pub receiver_is : receiver ≡ record ends.receiver { demand = behind ends.receiver.demand (records_of verdicts) }
 

@@ -3,8 +3,8 @@ use Rattle.std.specs.Prelude.{◌≡◌, ◌<◌, ℕ, true, List, [], ◌∷◌
 use Rattle.krb_base.specs.Prefix.{IsPrefix}
 use Rattle.krb_core.specs.declared.log.Entry.{Entry}
 use Rattle.krb_core.specs.LogState.{LogState}
-use Rattle.krb_core.specs.Verdicts.{Verdict, AreVerdicts, events_of}
-use Rattle.krb_core.specs.Claims.{Headline, has_ended}
+use Rattle.krb_core.specs.Verdicts.{Verdict, events_of}
+use Rattle.krb_core.specs.Claims.{AreJudged, Headline, has_ended}
 use Rattle.krb_core.specs.Start.{Ends, IsWire}
 use Rattle.krb_core.specs.Rounds.{rounds}
 
@@ -16,7 +16,7 @@ pub record Run : Type 0 where
 
 pub record IsWholeRun (run : Run) : Type 0 where
   pub emits : IsWire run.ends.source run.wire
-  pub judged : AreVerdicts run.ends.receiver.opener run.ends.nows run.ends.receiver.demand 0 run.wire run.verdicts
+  pub judged : AreJudged run.ends run.wire run.verdicts
 
 -- one for each lane
 abbrev pub AreRuns : List Ends → List Run → Type 0
