@@ -11,6 +11,7 @@ use Rattle.krb_core.specs.declared.receiver.Receiving.{Receiving}
 use Rattle.krb_core.specs.declared.sending.Sending.{Sending}
 use Rattle.krb_core.specs.Sending.{source_of, IsSender}
 use Rattle.krb_core.specs.Sender.{Source}
+use Rattle.krb_core.specs.Start.{Ends}
 use Rattle.krb_job.specs.declared.job.SenderJob.{SenderJob}
 use Rattle.krb_commands.specs.declared.ends.SessionKey.{SessionKey}
 use Rattle.krb_commands.specs.declared.ends.SessionKey.TheVariants.{Aes128, Aes256}
@@ -62,6 +63,13 @@ source_with sender sealer seed = record {
 
 abbrev pub source_in : SenderJob → SealerState → Option Source
 source_in sender sealer = option_map (source_with sender sealer) sender.seed
+
+-- both ends of the lane, around a sealer
+abbrev pub ends_with : SenderJob → Source → Ends
+ends_with sender source = record { source = source; receiver = receiver_of sender; nows = sender.nows.items }
+
+abbrev pub ends_in : SenderJob → SealerState → Option Ends
+ends_in sender sealer = option_map (ends_with sender) (source_in sender sealer)
 
 -- The ends of lanes that may begin: each sender keeps its limits and none was wiped, each receiver has a moment, and there are as many of both.
 pub record AreReady {S : Type 0} (state : S → SealerState) (sendings : List (Sending S)) (receivings : List Receiving) : Type 0 where

@@ -1,9 +1,10 @@
 //! The two ends of a lane, as a job states them.
 
-ghost use Rattle.std.specs.Prelude.{◌≡◌, ◌+◌, ◌<◌, ◌≤◌, false, ℕ, List, length, IsSome, IfOk, IfErr, OnOk, Some};
+ghost use Rattle.std.specs.Prelude.{◌≡◌, ◌+◌, ◌<◌, ◌≤◌, ◌∷◌, ◌++◌, [], false, ℕ, List, length, map, IsSome, IfOk, IfErr, OnOk, Some};
 ghost use Rattle.krb_seal.specs.Session.{HasShortAddresses};
 ghost use Rattle.krb_core.specs.Headline.{IsPaired};
 ghost use Rattle.krb_core.specs.Plan.{contents};
+ghost use Rattle.krb_core.specs.Start.{lanes_of};
 ghost use Rattle.krb_job.specs.declared.job.SenderJob.{SenderJob};
 ghost use Rattle.krb_core.specs.Sending.{source_of, IsSender};
 ghost use Rattle.krb_base.specs.Limits.{last_number};
@@ -118,7 +119,8 @@ pub fn sending_of<S: Sealer>(
 /// Adds the ends of a job's lane to those of the lanes before it, around a sealer of its session.
 ///
 /// The job is one of a command that seals, so it has a seed. The sealer wasn't wiped, and has a
-/// number left for the close. Want of memory is the only error.
+/// number left for the close. Want of memory is the only error; one of the lists may then be longer
+/// than the other.
 pub fn push_lane<S: Sealer>(
     alloc: Global,
     sendings: &mut Vec<Sending<S>>,
@@ -130,6 +132,10 @@ pub fn push_lane<S: Sealer>(
     requires live { (S.state sealer).wiped ≡ false }
     requires next { (S.state sealer).next ≤ last_number }
     requires ready { ends.AreReady S.state sendings.old.items receivings.old.items }
+    ensures lane { OnOk result
+        (map Some (lanes_of S.state sendings.new.items receivings.new.items)
+        ≡ map Some (lanes_of S.state sendings.old.items receivings.old.items)
+        ++ ends.ends_in sender (S.state sealer) ∷ []) }
     ensures ready { OnOk result
         (ends.AreReady S.state sendings.new.items receivings.new.items) }
     ensures count { OnOk result
