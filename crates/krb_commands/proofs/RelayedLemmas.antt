@@ -8,7 +8,7 @@ use Rattle.krb_core.specs.Log.{status_of}
 use Rattle.krb_core.specs.LogState.{LogState}
 use Rattle.krb_core.proofs.ListLemmas.{drop_get}
 use Rattle.krb_core.specs.Start.{Ends, AreSent}
-use Rattle.krb_core.specs.Whole.{IsWhole, IsPart}
+use Rattle.krb_core.specs.Whole.{IsRelayed, IsWhole, IsPart}
 use Rattle.krb_commands.specs.JobLines.{entry_line, entry_lines, end_line, end_lines, are_closed, is_closed_state, status_by}
 use Rattle.krb_commands.specs.Relayed.{sents_of, relayed_text, PrintsRelayed, PrintsRelayedPrefix}
 use Rattle.krb_commands.proofs.SealedLemmas.{sent_is}
@@ -69,13 +69,16 @@ sents_are (e ∷ es) (s ∷ ss) h = ap₂ (λ x xs. x ∷ xs) (sent_is e.source 
 
 module _ (lanes : List Ends) (log : LogState) (old then now : Option (List ℕ)) where
   -- the entries so far, or a prefix of them
-  pub part_printed : IsPart lanes log → AppendsPrefix old now (concat (map entry_line log.entries)) → PrintsRelayedPrefix lanes old now
-  part_printed h p = inr (inr (log, h, p))
+  pub part_printed : IsRelayed lanes log → IsPart lanes log → AppendsPrefix old now (concat (map entry_line log.entries)) → PrintsRelayedPrefix lanes old now
+  part_printed relayed h p = inr (inr (log, relayed, h, p))
 
-  pub entries_alone : IsPart lanes log → Appends old now (concat (map entry_line log.entries)) → PrintsRelayedPrefix lanes old now
-  entries_alone h p = part_printed h (whole old now (concat (map entry_line log.entries)) p)
+  pub entries_alone : IsRelayed lanes log → IsPart lanes log → Appends old now (concat (map entry_line log.entries)) → PrintsRelayedPrefix lanes old now
+  entries_alone relayed h p = part_printed relayed h (whole old now (concat (map entry_line log.entries)) p)
 
-  module _ (h : IsWhole lanes log) (sents : List Sent) (are : sents ≡ sents_of lanes) (first : Appends old then (concat (map entry_line log.entries))) where
+  module _ (sents : List Sent) (left : IsWhole lanes log sents) (are : sents ≡ sents_of lanes) (first : Appends old then (concat (map entry_line log.entries))) where
+    h : IsWhole lanes log (sents_of lanes)
+    h = subst (λ (l : List Sent). IsWhole lanes log l) are left
+
     -- and how the lanes ended, or a prefix of that
     pub ends_front : AppendsPrefix then now (end_lines 0 sents log) → PrintsRelayedPrefix lanes old now
     ends_front p =

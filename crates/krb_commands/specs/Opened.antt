@@ -1,18 +1,12 @@
 -- What `open` prints.
-use Rattle.std.specs.Prelude.{◌≡◌, ◌⊎◌, ℕ, List, ◌++◌, length, map, take, Option, Result, OnOk}
+use Rattle.std.specs.Prelude.{◌≡◌, ◌⊎◌, ℕ, List, ◌++◌, length, take, Option, Result, OnOk}
 use Rattle.std.specs.Io.KnownBytes.{Appends}
-use Rattle.krb_core.specs.declared.log.Entry.{Entry}
-use Rattle.krb_core.specs.declared.log.Event.{Event}
-use Rattle.krb_core.specs.Log.{new_log, has_closed}
+use Rattle.krb_core.specs.Log.{entries_for, new_log, has_closed}
 use Rattle.krb_core.specs.LogState.{LogState}
 use Rattle.krb_core.specs.ReceiverState.{ReceiverState}
 use Rattle.krb_core.specs.Verdicts.{Verdict, AreVerdicts, events_of}
 use Rattle.krb_commands.specs.JobLines.{entry_lines, state_line, state_by, status_by}
 use Rattle.krb_commands.specs.Output.{AppendsPrefix}
-
--- events of one lane, as entries of a log
-abbrev pub entries_for : ℕ → List Event → List Entry
-entries_for lane events = map (λ event. record { lane = lane; event = event }) events
 
 -- the verdicts on the frames, in order; the first is taken at place 0
 abbrev pub AreOpened : ReceiverState → List ℕ → List (List ℕ) → List Verdict → Type 0

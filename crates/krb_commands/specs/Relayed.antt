@@ -4,7 +4,7 @@ use Rattle.std.specs.Io.KnownBytes.{Appends, Keeps}
 use Rattle.krb_core.specs.LogState.{LogState}
 use Rattle.krb_core.specs.Start.{Ends}
 use Rattle.krb_core.specs.declared.sending.Sent.{Sent}
-use Rattle.krb_core.specs.Whole.{IsWhole, IsPart}
+use Rattle.krb_core.specs.Whole.{IsRelayed, IsWhole, IsPart}
 use Rattle.krb_commands.specs.JobLines.{entry_lines, end_lines, are_closed, status_by, sent_of}
 use Rattle.krb_commands.specs.Output.{AppendsPrefix}
 
@@ -21,14 +21,15 @@ abbrev pub relayed_status : List Ends → LogState → ℕ
 relayed_status lanes log = status_by (are_closed 0 (sents_of lanes) log)
 
 -- The log has the verdicts on all that the wires carry, in rounds, every lane has ended, and the
--- headline holds of each. That log is printed, and this is the status.
+-- headline holds of each. That log and how much each sender sealed are printed, and this is the status.
 abbrev pub PrintsRelayed : List Ends → Option (List ℕ) → Option (List ℕ) → ℕ → Type 0
 PrintsRelayed lanes old new status =
-    (log : LogState) × IsWhole lanes log × Appends old new (relayed_text lanes log) × (status ≡ relayed_status lanes log)
+    (log : LogState) × IsWhole lanes log (sents_of lanes) × Appends old new (relayed_text lanes log) × (status ≡ relayed_status lanes log)
 
--- a prefix of that is printed, or of the lines of the first entries alone, or nothing
+-- A prefix of that is printed, or of the lines of the first entries alone, or nothing. The first
+-- entries are what becomes of the frames that were taken of each lane, and the headline holds of each.
 abbrev pub PrintsRelayedPrefix : List Ends → Option (List ℕ) → Option (List ℕ) → Type 0
 PrintsRelayedPrefix lanes old new =
     Keeps old new
-    ⊎ (((log : LogState) × IsWhole lanes log × AppendsPrefix old new (relayed_text lanes log))
-    ⊎ ((log : LogState) × IsPart lanes log × AppendsPrefix old new (entry_lines log.entries)))
+    ⊎ (((log : LogState) × IsWhole lanes log (sents_of lanes) × AppendsPrefix old new (relayed_text lanes log))
+    ⊎ ((log : LogState) × IsRelayed lanes log × IsPart lanes log × AppendsPrefix old new (entry_lines log.entries)))

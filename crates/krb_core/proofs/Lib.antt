@@ -13,6 +13,7 @@ pub mod NumberLemmas
 pub mod ReceiverLemmas
 pub mod SendingLemmas
 pub mod TrackLemmas
+pub mod LoggedLemmas
 pub mod ReceiveLemmas
 pub mod SteppedLemmas
 pub mod StartLemmas
@@ -22,3 +23,4 @@ pub mod TurnLemmas
 pub mod RoundsTurned
 pub mod FinishLemmas
 pub mod WholeLemmas
+pub mod PartLemmas

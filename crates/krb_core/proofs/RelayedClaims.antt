@@ -1,7 +1,8 @@
 -- What is claimed of each lane of a relay that was turned.
 use Rattle.std.proofs.Common.{◌≡◌, ◌≢◌, ℕ, zero, suc, ◌≤◌, ◌<◌, true, false, List, [], ◌∷◌, ◌++◌, length, set, take, drop, slice_get, Option, Some, None, Result, Ok, Err, inl, inr, refl, sym, ap, subst, ◌∙◌, arith, append_assoc, append-nil}
 use Rattle.std.specs.Prelude.{OnOk, OnErr}
-use Rattle.std.proofs.lemmas.List.{map-append, take_all, take-append-drop}
+use Rattle.std.proofs.lemmas.List.{take_all, take-append-drop}
+use Rattle.std.proofs.lemmas.List.Concat.{flat_map-append}
 use Rattle.std.proofs.Math.Seq.{take-append_seam}
 use Rattle.std.proofs.lemmas.Bool.Decides.{leb_tells, eqb_tells}
 use Rattle.std.proofs.lemmas.Option.{slice_get_within}
@@ -10,25 +11,24 @@ use Rattle.krb_base.specs.Lane.{Item, Lane, Frame, End, empty, has_end, frames, 
 use Rattle.krb_base.specs.Lane as machine
 use Rattle.krb_base.proofs.LaneLemmas.{frames-append, state_whole}
 use Rattle.krb_base.proofs.LaneLemmas as lane_lemmas
-use Rattle.krb_core.specs.declared.delivery.Delivery.TheVariants as deliveries
-use Rattle.krb_core.specs.declared.log.Entry.{Entry}
 use Rattle.krb_core.specs.declared.log.Event.{Event}
 use Rattle.krb_core.specs.declared.turn.Turn.{Turn}
 use Rattle.krb_core.specs.declared.turn.Turn.TheVariants.{Send, Take}
 use Rattle.krb_core.specs.Log.{events_of, texts_in, has_closed}
 use Rattle.krb_core.specs.LogState.{LogState}
+use Rattle.krb_core.specs.Plan.{wire}
 use Rattle.krb_core.specs.Sender.{sealed_texts, AreFrames}
 use Rattle.krb_core.specs.Sender as sender
 use Rattle.krb_core.specs.Verdicts.{Verdict}
 use Rattle.krb_core.specs.Verdicts as verdict
 use Rattle.krb_core.specs.Headline.{IsRun}
 use Rattle.krb_core.specs.Undisturbed.{TakesAll}
-use Rattle.krb_core.specs.Track.{TrackState, entries_by, log_behind}
+use Rattle.krb_core.specs.Track.{TrackState, verdict_now, entries_by, log_behind}
 use Rattle.krb_core.specs.TrackPlaces.{items_of}
 use Rattle.krb_core.specs.declared.sending.Sent.{Sent}
 use Rattle.krb_core.specs.Start.{Ends, AreBegun, AreSent}
 use Rattle.krb_core.specs.Stepped.{Relay, lane_of, event_of, track_behind, turned_at, turned, after}
-use Rattle.krb_core.specs.Relayed.{HasBegun, HasTurned, event_at, turned_events, taker_of, taker_at, takers, lanes_in, IsLane, OfEachLane, HaveHeadline, GoesOn, KeepsHeadline}
+use Rattle.krb_core.specs.Relayed.{HasBegun, HasTurned, event_at, turned_events, Taking, taking_of, taking_at, takings, entries_in, IsLane, OfEachLane, HaveHeadline, GoesOn, KeepsHeadline}
 use Rattle.krb_core.specs.Claims.{has_ended, Headline}
 use Rattle.krb_core.proofs.HeadlineLemmas.{records_prefix, delivered_prefix, delivered_whole, quiet_after, refuses, refusal_nothing}
 use Rattle.krb_core.proofs.UndisturbedLemmas.{all_texts}
@@ -104,31 +104,27 @@ left_after (turn ∷ turns) relay lane track is =
 
 -- ---- the order of the entries
 
-lanes-append : (xs ys : List Entry) → lanes_in (xs ++ ys) ≡ lanes_in xs ++ lanes_in ys
-lanes-append xs ys = map-append (λ entry. entry.lane) xs ys
+entries-append : (xs ys : List Taking) → entries_in (xs ++ ys) ≡ entries_in xs ++ entries_in ys
+entries-append xs ys = flat_map-append (λ taking. entries_by taking.lane taking.verdict) xs ys
 
-one_lane : (number : ℕ) (v : Verdict) → lanes_in (entries_by number v) ≡ number ∷ []
-one_lane number (Ok (deliveries.Text t)) = refl
-one_lane number (Ok deliveries.Closed) = refl
-one_lane number (Err refusal) = refl
+order_by : (log : LogState) (number : ℕ) (track : TrackState) (queue : List (Item (List ℕ))) → (log_behind log number track queue).entries ≡ log.entries ++ entries_in (taking_of number track queue)
+order_by log number track [] = sym (append-nil log.entries)
+order_by log number track (Frame frame ∷ queue) = ap (λ l. log.entries ++ l) (sym (append-nil (entries_by number (verdict_now track frame))))
+order_by log number track (End ∷ queue) = sym (append-nil log.entries)
 
-order_by : (log : LogState) (number : ℕ) (track : TrackState) (queue : List (Item (List ℕ))) → lanes_in (log_behind log number track queue).entries ≡ lanes_in log.entries ++ taker_of number queue
-order_by log number track [] = sym (append-nil (lanes_in log.entries))
-order_by log number track (Frame frame ∷ queue) = lanes-append log.entries _ ∙ ap (λ l. lanes_in log.entries ++ l) (one_lane number _)
-order_by log number track (End ∷ queue) = sym (append-nil (lanes_in log.entries))
-
-order_at : (relay : Relay) (turn : Turn) (found : Option TrackState) → lanes_in (turned_at relay turn found).log.entries ≡ lanes_in relay.log.entries ++ taker_at turn found
-order_at relay turn None = sym (append-nil (lanes_in relay.log.entries))
-order_at relay (Send number) (Some track) = sym (append-nil (lanes_in relay.log.entries))
+order_at : (relay : Relay) (turn : Turn) (found : Option TrackState) → (turned_at relay turn found).log.entries ≡ relay.log.entries ++ entries_in (taking_at turn found)
+order_at relay turn None = sym (append-nil relay.log.entries)
+order_at relay (Send number) (Some track) = sym (append-nil relay.log.entries)
 order_at relay (Take number) (Some track) = order_by relay.log number track track.lane.queue
 
-order_after : (turns : List Turn) (relay : Relay) → lanes_in (after relay turns).log.entries ≡ lanes_in relay.log.entries ++ takers relay turns
-order_after [] relay = sym (append-nil (lanes_in relay.log.entries))
+order_after : (turns : List Turn) (relay : Relay) → (after relay turns).log.entries ≡ relay.log.entries ++ entries_in (takings relay turns)
+order_after [] relay = sym (append-nil relay.log.entries)
 order_after (turn ∷ turns) relay =
-    let first = taker_at turn (slice_get relay.tracks (lane_of turn)) in
-    let rest = takers (turned relay turn) turns in
+    let first = taking_at turn (slice_get relay.tracks (lane_of turn)) in
+    let rest = takings (turned relay turn) turns in
     order_after turns (turned relay turn)
-    ∙ (ap (λ l. l ++ rest) (order_at relay turn (slice_get relay.tracks (lane_of turn))) ∙ append_assoc (lanes_in relay.log.entries) first rest)
+    ∙ (ap (λ l. l ++ entries_in rest) (order_at relay turn (slice_get relay.tracks (lane_of turn)))
+    ∙ (append_assoc relay.log.entries (entries_in first) (entries_in rest) ∙ ap (λ l. relay.log.entries ++ l) (sym (entries-append first rest))))
 
 -- ---- the claims
 
@@ -146,7 +142,7 @@ headline_of ends lane took vs log run entries takes_all =
       nothing_after_close = λ front back is. quiet_after opener ends.nows start 0 took vs run.judged front back (sym entries ∙ is);
       all_where_closed = λ paired honest closed.
           ap texts_in entries ∙ delivered_whole vs (sealed_texts source) (records_prefix source opener start ends.nows took vs paired run honest) (ap has_closed (sym entries) ∙ closed);
-      all_where_undisturbed = λ calm ended. ap texts_in entries ∙ all_texts source opener start ends.nows calm took vs run (takes_all ended);
+      all_where_undisturbed = λ calm ended. ap texts_in entries ∙ all_texts source opener start ends.nows calm (takes_all ended).fits took vs run (takes_all ended);
       refused_exactly = λ place frame refusal at. refuses opener ends.nows start took vs run.judged place frame refusal at;
       refusals_deliver_nothing = λ front back refusal is.
           let w = refusal_nothing start vs front back refusal is in
@@ -154,7 +150,7 @@ headline_of ends lane took vs log run entries takes_all =
     }
 
 module _ (ends : Ends) (lane : ℕ) (track : TrackState) (log : LogState) (h : Stands ends lane track log) where
-  abbrev took : List (List ℕ)
+  abbrev pub took : List (List ℕ)
   took = frames track.lane.got
 
   sent_frames : frames track.lane.sent ≡ take (length track.lane.sent) track.wire
@@ -169,22 +165,26 @@ module _ (ends : Ends) (lane : ℕ) (track : TrackState) (log : LogState) (h : S
         sym (take-append-drop n track.wire) ∙ (ap (λ l. l ++ drop n track.wire) parts ∙ append_assoc took (frames track.lane.queue) (drop n track.wire)),
       )
 
-  run_of : IsRun ends.source ends.receiver.opener ends.receiver.demand ends.nows took h.verdicts
+  pub front_is : took ≡ take (length took) (wire h.emits.frames ends.source.plan)
+  front_is =
+      let front = took_front in
+      sym (take-append_seam took front.0) ∙ (ap (λ l. take (length took) l) (sym front.1) ∙ ap (λ l. take (length took) l) h.emits.wire_is)
+
+  pub run_of : IsRun ends.source ends.receiver.opener ends.receiver.demand ends.nows took h.verdicts
   run_of =
       let all = sender.records ends.source in
       let whole : take (length all) all ≡ all = take_all (length all) all (omega arith) in
-      let front = took_front in
       record {
         count = length all;
         frames = h.emits.frames;
         sealed = rw whole h.emits.sealed;
         n = length took;
-        taken = sym (take-append_seam took front.0) ∙ (ap (λ l. take (length took) l) (sym front.1) ∙ ap (λ l. take (length took) l) h.emits.wire_is);
+        taken = front_is;
         judged = h.logged.judged;
       }
 
   -- where End was taken, all was
-  takes_all : has_ended lane log ≡ true → TakesAll ends.source took
+  pub takes_all : has_ended lane log ≡ true → TakesAll ends.source took
   takes_all ended =
       let n = length track.lane.sent in
       let got_end : has_end track.lane.got ≡ true = sym h.ended ∙ ended in
@@ -198,6 +198,7 @@ module _ (ends : Ends) (lane : ℕ) (track : TrackState) (log : LogState) (h : S
         frames = h.emits.frames;
         sealed = h.emits.sealed;
         whole = ap frames whole ∙ (sent_frames ∙ (take_all n track.wire over ∙ h.emits.wire_is));
+        fits = h.emits.fits;
       }
 
 -- ---- of a relay that was turned
@@ -230,10 +231,10 @@ module _ (lanes : List Ends) (capacity : ℕ) (turns : List Turn) (relay : Relay
         | here track is ↦ (track, is, ((stand_all lanes capacity turns relay h).each lane ends track at is).ended)
       ]
 
-  pub order_holds : lanes_in relay.log.entries ≡ takers h.begun turns
+  pub order_holds : relay.log.entries ≡ entries_in (takings h.begun turns)
   order_holds =
-      ap (λ r. lanes_in r.log.entries) h.left
-      ∙ (order_after turns h.begun ∙ ap (λ l. lanes_in l.entries ++ takers h.begun turns) h.start.log)
+      ap (λ (r : Relay). r.log.entries) h.left
+      ∙ (order_after turns h.begun ∙ ap (λ (l : LogState). l.entries ++ entries_in (takings h.begun turns)) h.start.log)
 
   -- the lane is what its events leave of the empty one
   pub lane_holds : OfEachLane lanes relay (λ ends lane track. IsLane ends capacity (turned_events lane h.begun turns) track)

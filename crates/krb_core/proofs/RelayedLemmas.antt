@@ -1,37 +1,34 @@
 -- What turns leave of each lane.
-use Rattle.std.proofs.Common.{◌≡◌, ◌≢◌, ℕ, zero, suc, ◌+◌, ◌≤◌, ◌<◌, ◌==◌, not, cond, nat_lt, Bool, true, false, List, [], ◌∷◌, ◌++◌, length, get_or, take, replicate, slice_get, Option, Some, None, Ok, Err, inl, inr, refl, sym, ap, ap₂, subst, ◌∙◌, arith, append-nil, length-append}
+use Rattle.std.proofs.Common.{◌≡◌, ◌≢◌, ℕ, zero, suc, ◌+◌, ◌≤◌, ◌<◌, not, cond, nat_lt, Bool, true, false, List, [], ◌∷◌, ◌++◌, length, get_or, take, replicate, slice_get, Option, Some, None, inl, inr, refl, sym, ap, ap₂, subst, ◌∙◌, arith, append-nil, length-append}
 use Rattle.std.proofs.lemmas.List.{length-set, get_or-set_same, get_or-set_other, length-replicate}
 use Rattle.std.proofs.lemmas.Bool.{lt-ltb}
-use Rattle.std.proofs.lemmas.Bool.Decides.{leb_tells, eqb_tells}
+use Rattle.std.proofs.lemmas.Bool.Decides.{leb_tells}
 use Rattle.std.proofs.lemmas.Option.{slice_get_within}
-use Rattle.std.proofs.lemmas.Grind.{flat_map-append}
 use Rattle.krb_aes.specs.Words.{AreBytes}
 use Rattle.krb_base.specs.Lane.{Item, Lane, Frame, End, empty, has_end, frames, is_possible, moved, taken, after_event, IsState}
 use Rattle.krb_base.specs.Lane as machine
 use Rattle.krb_base.proofs.LaneLemmas.{frames-append, has_end-append, behind_end, state_empty, state_event, state_moved}
-use Rattle.krb_core.specs.declared.delivery.Delivery.TheVariants as deliveries
 use Rattle.krb_core.specs.declared.sending.Sent.{Sent}
 use Rattle.krb_core.specs.declared.turn.Turn.{Turn}
 use Rattle.krb_core.specs.declared.turn.Turn.TheVariants.{Send, Take}
-use Rattle.krb_core.specs.Demand.{Demand}
-use Rattle.krb_core.specs.Log.{events_of, ended_at, new_log}
+use Rattle.krb_core.specs.Log.{ended_at, new_log}
 use Rattle.krb_core.specs.LogState.{LogState}
 use Rattle.krb_core.specs.ReceiverState.{ReceiverState}
 use Rattle.krb_core.specs.Receiver.{receiver_behind}
 use Rattle.krb_core.specs.Sender.{moment_at}
-use Rattle.krb_core.specs.Verdicts.{Verdict, AllBytes, AreVerdicts, IsVerdict, accepted_by, events_by, records_of, behind}
-use Rattle.krb_core.specs.Verdicts as verdict
-use Rattle.krb_core.specs.Track.{TrackState, item_at, next_send, after_send, verdict_by, verdict_now, receiver_after, after_take, entries_by, noted, log_behind, log_after}
+use Rattle.krb_core.specs.Verdicts.{Verdict, AllBytes, IsVerdict, records_of, behind}
+use Rattle.krb_core.specs.Track.{TrackState, item_at, next_send, after_send, verdict_by, verdict_now, receiver_after, after_take, noted, log_behind, log_after}
 use Rattle.krb_core.specs.TrackPlaces.{items_of}
 use Rattle.krb_core.specs.Start.{Ends, IsWire, fresh, IsBegun, AreBegun}
 use Rattle.krb_core.specs.Stepped.{Relay, lane_of, track_behind, log_behind_turn, turned_at, turned, after}
 use Rattle.krb_core.specs.Claims.{has_ended, IsLogged}
 use Rattle.krb_core.specs.Relayed.{HasBegun, HasTurned}
 use Rattle.krb_core.proofs.ListLemmas.{both_true}
-use Rattle.krb_core.proofs.VerdictLemmas.{right_verdict, behind-nil, behind-append, AreVerdicts-push}
+use Rattle.krb_core.proofs.VerdictLemmas.{right_verdict}
 use Rattle.krb_core.proofs.TrackLemmas.{take-item, with_end}
 use Rattle.krb_core.proofs.StartLemmas.{AreBegun-length}
-use Rattle.krb_core.proofs.SteppedLemmas.{same, other, read_set, events_of-append, events_of-other}
+use Rattle.krb_core.proofs.LoggedLemmas.{logged_none, logged_more, logged_beside}
+use Rattle.krb_core.proofs.SteppedLemmas.{same, other, read_set}
 
 -- ---- frames and items
 
@@ -51,7 +48,7 @@ bytes_of_front : (some others : List (List ℕ)) (frame : List ℕ) → AllBytes
 bytes_of_front [] others frame all = all.0
 bytes_of_front (f ∷ some) others frame all = bytes_of_front some others frame all.1
 
-bytes_of_taken : (n : ℕ) (wire : List (List ℕ)) → AllBytes wire → AllBytes (take n wire)
+pub bytes_of_taken : (n : ℕ) (wire : List (List ℕ)) → AllBytes wire → AllBytes (take n wire)
 bytes_of_taken zero wire all = tt
 bytes_of_taken (suc n) [] all = tt
 bytes_of_taken (suc n) (f ∷ wire) all = (all.0, bytes_of_taken n wire all.1)
@@ -99,42 +96,9 @@ take_event lane (x ∷ queue) = rw (lt-ltb 0 (suc (length queue)) (omega arith))
 state_taken : (lane : Lane (List ℕ)) (queue : List (Item (List ℕ))) → lane.queue ≡ queue → IsState lane → IsState (taken lane queue)
 state_taken lane queue is h = subst IsState (take_event lane lane.queue ∙ ap (λ q. taken lane q) is) (state_event lane machine.Take h)
 
-same_number : (n : ℕ) → (n == n) ≡ true
-same_number n = elim (eqb_tells n n) [ inl here ↦ here.0 | inr off ↦ absurd (off.1 refl) ]
-
--- what a verdict brings to the log of its lane
-events_of-own : (lane : ℕ) (v : Verdict) → events_of lane (entries_by lane v) ≡ events_by v
-events_of-own lane (Ok (deliveries.Text t)) = rw (same_number lane) refl
-events_of-own lane (Ok deliveries.Closed) = rw (same_number lane) refl
-events_of-own lane (Err refusal) = rw (same_number lane) refl
-
 -- the receiver of a lane behind these verdicts
 abbrev receiver_of : Ends → List Verdict → ReceiverState
 receiver_of ends verdicts = record ends.receiver { demand = behind ends.receiver.demand (records_of verdicts) }
-
-pub records_of-push : (vs : List Verdict) (v : Verdict) → records_of (vs ++ v ∷ []) ≡ records_of vs ++ accepted_by v
-records_of-push vs v = flat_map-append accepted_by vs (v ∷ []) ∙ ap (λ l. records_of vs ++ l) (append-nil (accepted_by v))
-
-pub events_of-push : (vs : List Verdict) (v : Verdict) → verdict.events_of (vs ++ v ∷ []) ≡ verdict.events_of vs ++ events_by v
-events_of-push vs v = flat_map-append events_by vs (v ∷ []) ∙ ap (λ l. verdict.events_of vs ++ l) (append-nil (events_by v))
-
--- one verdict more
-logged_more : (ends : Ends) (lane : ℕ) (took : List (List ℕ)) (log : LogState) (receiver : ReceiverState) (vs : List Verdict) (frame : List ℕ) (v : Verdict)
-    → IsLogged ends lane took log receiver vs → IsVerdict ends.receiver.opener (behind ends.receiver.demand (records_of vs)) (moment_at ends.nows (0 + length took)) frame v
-    → IsLogged ends lane (took ++ frame ∷ []) (noted log lane v) (receiver_behind receiver v) (vs ++ v ∷ [])
-logged_more ends lane took log receiver vs frame v h is =
-    let start = ends.receiver.demand in
-    let demanded : behind (behind start (records_of vs)) (accepted_by v) ≡ behind start (records_of (vs ++ v ∷ [])) =
-    behind-append start (records_of vs) (accepted_by v) ∙ ap (λ rs. behind start rs) (sym (records_of-push vs v)) in
-    record {
-      judged = AreVerdicts-push ends.receiver.opener ends.nows start 0 took vs frame v h.judged is;
-      entries =
-          events_of-append lane log.entries (entries_by lane v)
-          ∙ (ap₂ (λ xs ys. xs ++ ys) h.entries (events_of-own lane v) ∙ sym (events_of-push vs v));
-      receiver_is =
-          ap (λ r. receiver_behind r v) h.receiver_is
-          ∙ ap (λ (d : Demand). let r : ReceiverState = record ends.receiver { demand = d } in r) demanded;
-    }
 
 module _ (ends : Ends) (lane : ℕ) (track : TrackState) (log : LogState) (h : Stands ends lane track log) where
   -- a frame at the front of the queue is bytes
@@ -177,7 +141,7 @@ module _ (ends : Ends) (lane : ℕ) (track : TrackState) (log : LogState) (h : S
         state = state_taken track.lane (Frame frame ∷ rest) is h.state;
         sent = h.sent;
         verdicts = h.verdicts ++ v ∷ [];
-        logged = subst P more (logged_more ends lane took log track.receiver h.verdicts frame v h.logged (queued_verdict frame rest is));
+        logged = subst P more (logged_more ends.receiver ends.nows lane took log track.receiver h.verdicts frame v h.logged (queued_verdict frame rest is));
         room = h.room;
         ended = h.ended ∙ (off ∙ sym (has_end-append got (Frame frame ∷ []) off));
       }
@@ -244,20 +208,13 @@ module _ (ends : Ends) (lane : ℕ) (track : TrackState) (log : LogState) (h : S
 
   beside_noted : (number : ℕ) (v : Verdict) → number ≢ lane → Stands ends lane track (noted log number v)
   beside_noted number v apart =
-      let l = h.logged in
       record {
         emits = h.emits;
         moments = h.moments;
         state = h.state;
         sent = h.sent;
         verdicts = h.verdicts;
-        logged = record {
-          judged = l.judged;
-          entries =
-              events_of-append lane log.entries (entries_by number v)
-              ∙ (ap (λ ys. events_of lane log.entries ++ ys) (events_of-other number lane v apart) ∙ (append-nil (events_of lane log.entries) ∙ l.entries));
-          receiver_is = l.receiver_is;
-        };
+        logged = logged_beside ends.receiver ends.nows lane number (frames track.lane.got) log track.receiver h.verdicts v apart h.logged;
         room = h.room;
         ended = h.ended;
       }
@@ -340,11 +297,7 @@ stands_fresh ends capacity count lane wire small emits = record {
   state = state_empty capacity;
   sent = refl;
   verdicts = [];
-  logged = record {
-    judged = record { one_each = refl; each = λ i frame v at-f at-v. absurd (let e = at-f in cc) };
-    entries = refl;
-    receiver_is = ap (λ (d : Demand). let r : ReceiverState = record ends.receiver { demand = d } in r) (sym (behind-nil ends.receiver.demand));
-  };
+  logged = logged_none ends.receiver ends.nows lane (new_log count) refl;
   room = rw length-replicate small;
   ended = none_ended 8 lane;
 }

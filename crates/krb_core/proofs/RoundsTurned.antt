@@ -1,12 +1,12 @@
 -- What rounds leave of a relay of which no turn was taken.
-use Rattle.std.proofs.Common.{◌≡◌, ℕ, zero, suc, ◌+◌, ◌<◌, ◌≤◌, ◌⊎◌, min, List, [], ◌∷◌, ◌++◌, length, map, take, slice_get, Option, Some, None, Ok, Err, inl, inr, refl, sym, ap, ap₂, subst, ◌∙◌, arith, append-nil, append_assoc}
+use Rattle.std.proofs.Common.{◌≡◌, ℕ, zero, suc, ◌+◌, ◌<◌, ◌≤◌, ◌⊎◌, min, List, [], ◌∷◌, ◌++◌, length, map, take, slice_get, Option, Some, None, inl, inr, refl, sym, ap, ap₂, subst, ◌∙◌, arith, append-nil, append_assoc}
+use Rattle.std.specs.Prelude.{option_map}
 use Rattle.std.specs.List.{All}
 use Rattle.std.proofs.lemmas.List.{take_all, length-map}
 use Rattle.std.proofs.lemmas.List.Elements.{All-nil, All-cons, All-head, All-tail}
-use Rattle.std.proofs.lemmas.Option.{slice_get_past, slice_get_within}
+use Rattle.std.proofs.lemmas.Option.{slice_get_past, slice_get_within, slice_get-map}
 use Rattle.krb_base.specs.Prefix.{IsPrefix}
 use Rattle.krb_seal.specs.Opens.{OpenerState}
-use Rattle.krb_core.specs.declared.delivery.Delivery.TheVariants.{Text, Closed}
 use Rattle.krb_core.specs.declared.log.Event.{Event}
 use Rattle.krb_core.specs.declared.sending.Sent.{Sent}
 use Rattle.krb_core.specs.declared.turn.Turn.{Turn}
@@ -18,18 +18,17 @@ use Rattle.krb_core.specs.Receiver.{receiver_behind}
 use Rattle.krb_core.specs.Sender.{moment_at}
 use Rattle.krb_core.specs.Start.{fresh, Ends, AreBegun}
 use Rattle.krb_core.specs.Relayed.{HasTurned}
-use Rattle.krb_core.specs.Verdicts.{Verdict, accepted_by, records_of, behind, demand_behind, verdict, verdicts}
-use Rattle.krb_core.specs.Verdicts as verdict_words
+use Rattle.krb_core.specs.Verdicts.{Verdict, accepted_by, events_by, groups_of, records_of, behind, demand_behind, verdict, verdicts}
 use Rattle.krb_core.specs.Track.{TrackState, after_send, after_take, verdict_by, noted, entries_by, log_after}
 use Rattle.krb_core.specs.TrackPlaces.{ArePlaces}
 use Rattle.krb_core.specs.Stepped.{Relay, after}
 use Rattle.krb_core.specs.Rounds.{named, round, rounds_below, NoneLonger}
-use Rattle.krb_core.specs.Finish.{round_turns, rounds_turns, longest_wire, finishing, events_over, whole_log}
+use Rattle.krb_core.specs.Finish.{round_turns, rounds_turns, longest_wire, finishing, groups_over, whole_log}
 use Rattle.krb_core.proofs.VerdictLemmas.{behind-nil, behind-append}
 use Rattle.krb_core.proofs.TrackLemmas.{track_at, send_moves, send_over, take_frame, take_end, take_none}
 use Rattle.krb_core.proofs.SteppedLemmas.{relay_of}
 use Rattle.krb_core.proofs.RoundsLemmas.{rounds-from_below}
-use Rattle.krb_core.proofs.RelayedLemmas.{records_of-push}
+use Rattle.krb_core.proofs.LoggedLemmas.{records_of-push}
 use Rattle.krb_core.proofs.RelayedClaims.{after-append}
 use Rattle.krb_core.proofs.TurnLemmas.{stepped, log_round, round_leaves, entries_grow, IsPartOf}
 
@@ -57,22 +56,10 @@ length-verdicts opener nows demand place (g ∷ wire) =
     let v = verdict opener demand (moment_at nows place) g in
     ap suc (length-verdicts opener nows (demand_behind demand v) (place + 1) wire)
 
--- ---- each verdict is one event
+-- ---- each verdict is one group
 
-named-verdict : (lane : ℕ) (vs : List Verdict) (k : ℕ) (v : Verdict) → slice_get vs k ≡ Some v → entries_by lane v ≡ named lane (slice_get (verdict_words.events_of vs) k)
-named-verdict lane [] k v at = absurd (let e = at in cc)
-named-verdict lane (Ok (Text t) ∷ vs) zero v at = ap (entries_by lane) (let e : v ≡ Ok (Text t) = (let f = at in cc) in e)
-named-verdict lane (Ok Closed ∷ vs) zero v at = ap (entries_by lane) (let e : v ≡ Ok Closed = (let f = at in cc) in e)
-named-verdict lane (Err refusal ∷ vs) zero v at = ap (entries_by lane) (let e : v ≡ Err refusal = (let f = at in cc) in e)
-named-verdict lane (Ok (Text t) ∷ vs) (suc k) v at = named-verdict lane vs k v at
-named-verdict lane (Ok Closed ∷ vs) (suc k) v at = named-verdict lane vs k v at
-named-verdict lane (Err refusal ∷ vs) (suc k) v at = named-verdict lane vs k v at
-
-length-events : (vs : List Verdict) → length (verdict_words.events_of vs) ≡ length vs
-length-events [] = refl
-length-events (Ok (Text t) ∷ vs) = ap suc (length-events vs)
-length-events (Ok Closed ∷ vs) = ap suc (length-events vs)
-length-events (Err refusal ∷ vs) = ap suc (length-events vs)
+named-verdict : (lane : ℕ) (vs : List Verdict) (k : ℕ) (v : Verdict) → slice_get vs k ≡ Some v → entries_by lane v ≡ named lane (slice_get (groups_of vs) k)
+named-verdict lane vs k v at = ap (named lane) (sym (slice_get-map events_by vs k ∙ ap (option_map events_by) at))
 
 -- ---- one lane, round by round
 
@@ -93,23 +80,23 @@ same_or_over (suc a) zero h = absurd (omega arith)
 same_or_over (suc a) (suc b) h = elim (same_or_over a b (omega arith)) [ inl same ↦ inl (ap suc same) | inr more ↦ inr (omega (arith, more)) ]
 
 module _ (begun : TrackState) where
-  abbrev start : Demand
+  abbrev pub start : Demand
   start = begun.receiver.demand
 
-  abbrev answers : List Verdict
+  abbrev pub answers : List Verdict
   answers = verdicts begun.receiver.opener begun.nows start 0 begun.wire
 
   length-answers : length answers ≡ length begun.wire
   length-answers = length-verdicts begun.receiver.opener begun.nows start 0 begun.wire
 
-  length-over : length (events_over begun) ≡ length begun.wire
-  length-over = length-events answers ∙ length-answers
+  length-over : length (groups_over begun) ≡ length begun.wire
+  length-over = length-map answers events_by ∙ length-answers
 
   -- so many of its items were sent and taken
-  abbrev received : ℕ → ReceiverState
+  abbrev pub received : ℕ → ReceiverState
   received k = record begun.receiver { demand = behind begun.receiver.demand (records_of (take k answers)) }
 
-  abbrev so_far : ℕ → TrackState
+  abbrev pub so_far : ℕ → TrackState
   so_far k = track_at begun.wire begun.lane.capacity k k (received k) begun.nows
 
   answer-at : (k : ℕ) (frame : List ℕ) → slice_get begun.wire k ≡ Some frame → slice_get answers k ≡ Some (verdict_by (received k) (moment_at begun.nows k) frame)
@@ -128,12 +115,12 @@ module _ (begun : TrackState) where
   -- a send and a take of a lane
   record Goes (k m n number : ℕ) (log : LogState) : Type 0 where
     pub track_is : after_take (after_send (so_far k)) ≡ so_far m
-    pub entries_are : (log_after log number (after_send (so_far k))).entries ≡ log.entries ++ named number (slice_get (events_over begun) n)
+    pub entries_are : (log_after log number (after_send (so_far k))).entries ≡ log.entries ++ named number (slice_get (groups_over begun) n)
 
-  none_after : (n number : ℕ) (log : LogState) → length begun.wire ≤ n → log.entries ≡ log.entries ++ named number (slice_get (events_over begun) n)
+  none_after : (n number : ℕ) (log : LogState) → length begun.wire ≤ n → log.entries ≡ log.entries ++ named number (slice_get (groups_over begun) n)
   none_after n number log le =
-      let long : length (events_over begun) ≤ n = omega (arith, le, length-over) in
-      sym (append-nil log.entries) ∙ ap (λ o. log.entries ++ named number o) (sym (slice_get_past (events_over begun) n long))
+      let long : length (groups_over begun) ≤ n = omega (arith, le, length-over) in
+      sym (append-nil log.entries) ∙ ap (λ o. log.entries ++ named number o) (sym (slice_get_past (groups_over begun) n long))
 
   goes_frame : (k number : ℕ) (log : LogState) (frame : List ℕ) → 1 ≤ begun.lane.capacity → slice_get begun.wire k ≡ Some frame → Goes k (k + 1) k number log
   goes_frame k number log frame room at =
@@ -184,13 +171,13 @@ module _ (begun : TrackState) where
         entries_are = ap (λ t. (log_after log number t).entries) (sym sent.after) ∙ (ap (λ (l : LogState). l.entries) (sym took.log_is) ∙ none_after n number log (omega (arith, is, le)));
       }
 
-  abbrev at_round : ℕ → TrackState
+  abbrev pub at_round : ℕ → TrackState
   at_round n = so_far (min n (length begun.wire + 1))
 
   -- what one round does to the lane
   pub record RoundGoes (n number : ℕ) (log : LogState) : Type 0 where
     pub track_is : after_take (after_send (at_round n)) ≡ at_round (suc n)
-    pub entries_are : (log_after log number (after_send (at_round n))).entries ≡ log.entries ++ named number (slice_get (events_over begun) n)
+    pub entries_are : (log_after log number (after_send (at_round n))).entries ≡ log.entries ++ named number (slice_get (groups_over begun) n)
 
   by_count : (n k m number : ℕ) (log : LogState) → k ≡ min n (length begun.wire + 1) → m ≡ min (suc n) (length begun.wire + 1) → Goes k m n number log → RoundGoes n number log
   by_count n k m number log k-is m-is goes = record {
@@ -222,10 +209,10 @@ module _ (begun : TrackState) where
 
 -- ---- all lanes
 
-abbrev IsOpen : TrackState → Type 0
+abbrev pub IsOpen : TrackState → Type 0
 IsOpen track = 1 ≤ track.lane.capacity
 
-abbrev AreOpen : List TrackState → Type 0
+abbrev pub AreOpen : List TrackState → Type 0
 AreOpen begun = All IsOpen begun
 
 tracks_go : (n : ℕ) (begun : List TrackState) (log : LogState) → AreOpen begun → map stepped (map (λ track. at_round track n) begun) ≡ map (λ track. at_round track (suc n)) begun
@@ -234,20 +221,20 @@ tracks_go n (track ∷ begun) log h =
     ap₂ (λ t ts. t ∷ ts) (round_goes track n 0 log (All-head IsOpen track begun h)).track_is (tracks_go n begun log (All-tail IsOpen track begun h))
 
 entries_go : (n lane : ℕ) (begun : List TrackState) (log : LogState) → AreOpen begun
-    → (log_round lane log (map (λ track. at_round track n) begun)).entries ≡ log.entries ++ round n lane (map events_over begun)
+    → (log_round lane log (map (λ track. at_round track n) begun)).entries ≡ log.entries ++ round n lane (map groups_over begun)
 entries_go n lane [] log h = sym (append-nil log.entries)
 entries_go n lane (track ∷ begun) log h =
     let log-now : LogState = log_after log lane (after_send (at_round track n)) in
     entries_go n (lane + 1) begun log-now (All-tail IsOpen track begun h)
-    ∙ (ap (λ z. z ++ round n (lane + 1) (map events_over begun)) (round_goes track n lane log (All-head IsOpen track begun h)).entries_are
-    ∙ append_assoc log.entries (named lane (slice_get (events_over track) n)) (round n (lane + 1) (map events_over begun)))
+    ∙ (ap (λ z. z ++ round n (lane + 1) (map groups_over begun)) (round_goes track n lane log (All-head IsOpen track begun h)).entries_are
+    ∙ append_assoc log.entries (named lane (slice_get (groups_over track) n)) (round n (lane + 1) (map groups_over begun)))
 
 -- so many rounds were served of these lanes
-record InRounds (begun : List TrackState) (n : ℕ) (relay : Relay) : Type 0 where
+pub record InRounds (begun : List TrackState) (n : ℕ) (relay : Relay) : Type 0 where
   pub tracks_are : relay.tracks ≡ map (λ track. at_round track n) begun
-  pub entries_are : relay.log.entries ≡ rounds_below n (map events_over begun)
+  pub entries_are : relay.log.entries ≡ rounds_below n (map groups_over begun)
 
-one_round : (begun : List TrackState) (n : ℕ) (relay : Relay) → AreOpen begun → InRounds begun n relay → InRounds begun (suc n) (after relay (round_turns 0 (length begun)))
+pub one_round : (begun : List TrackState) (n : ℕ) (relay : Relay) → AreOpen begun → InRounds begun n relay → InRounds begun (suc n) (after relay (round_turns 0 (length begun)))
 one_round begun n relay room h =
     let now : List TrackState = map (λ track. at_round track n) begun in
     let leaves : after relay (round_turns 0 (length begun)) ≡ relay_of (map stepped now) (log_round 0 relay.log now) relay.sents =
@@ -256,7 +243,7 @@ one_round begun n relay room h =
     ∙ round_leaves relay.sents [] now relay.log 0 refl) in
     record {
       tracks_are = ap (λ (r : Relay). r.tracks) leaves ∙ tracks_go n begun relay.log room;
-      entries_are = ap (λ (r : Relay). r.log.entries) leaves ∙ (entries_go n 0 begun relay.log room ∙ ap (λ z. z ++ round n 0 (map events_over begun)) h.entries_are);
+      entries_are = ap (λ (r : Relay). r.log.entries) leaves ∙ (entries_go n 0 begun relay.log room ∙ ap (λ z. z ++ round n 0 (map groups_over begun)) h.entries_are);
     }
 
 many_rounds : (m : ℕ) (begun : List TrackState) (n : ℕ) (relay : Relay) → AreOpen begun → InRounds begun n relay → InRounds begun (n + m) (after relay (rounds_turns m (length begun)))
@@ -270,10 +257,10 @@ many_rounds (suc m) begun n relay room h =
 
 -- ---- from the first to the last
 
-abbrev IsFresh : TrackState → Type 0
+abbrev pub IsFresh : TrackState → Type 0
 IsFresh track = track ≡ fresh track.wire track.receiver track.nows track.lane.capacity
 
-abbrev AreFresh : List TrackState → Type 0
+abbrev pub AreFresh : List TrackState → Type 0
 AreFresh begun = All IsFresh begun
 
 none_begun : (begun : List TrackState) → AreFresh begun → map (λ track. at_round track 0) begun ≡ begun
@@ -281,14 +268,14 @@ none_begun [] h = refl
 none_begun (track ∷ begun) h =
     ap₂ (λ t ts. t ∷ ts) (at_round-zero track (All-head IsFresh track begun h)) (none_begun begun (All-tail IsFresh track begun h))
 
-no_rounds : (relay : Relay) → AreFresh relay.tracks → relay.log.entries ≡ [] → InRounds relay.tracks 0 relay
+pub no_rounds : (relay : Relay) → AreFresh relay.tracks → relay.log.entries ≡ [] → InRounds relay.tracks 0 relay
 no_rounds relay are none = record { tracks_are = sym (none_begun relay.tracks are); entries_are = none }
 
--- no lane has more events than its wire has frames
-short_lanes : (begun : List TrackState) (n : ℕ) → longest_wire begun ≤ n → NoneLonger n (map events_over begun)
-short_lanes [] n le = All-nil (λ (events : List Event). length events ≤ n)
+-- no lane has more groups than its wire has frames
+short_lanes : (begun : List TrackState) (n : ℕ) → longest_wire begun ≤ n → NoneLonger n (map groups_over begun)
+short_lanes [] n le = All-nil (λ (groups : List (List Event)). length groups ≤ n)
 short_lanes (track ∷ begun) n le =
-    All-cons (λ (events : List Event). length events ≤ n) (events_over track) (map events_over begun) (omega (arith, le, length-over track)) (short_lanes begun n (omega (arith, le)))
+    All-cons (λ (groups : List (List Event)). length groups ≤ n) (groups_over track) (map groups_over begun) (omega (arith, le, length-over track)) (short_lanes begun n (omega (arith, le)))
 
 -- what the rounds of all frames and of the ends leave
 finished : (relay : Relay) → AreOpen relay.tracks → AreFresh relay.tracks → relay.log.entries ≡ [] → (after relay (finishing relay.tracks)).log.entries ≡ whole_log relay
@@ -297,9 +284,9 @@ finished relay room are none =
     let all = many_rounds n relay.tracks 0 relay room (no_rounds relay are none) in
     let m : 0 + n ≡ n = omega arith in
     let w : InRounds relay.tracks n (after relay (finishing relay.tracks)) = subst (λ k. InRounds relay.tracks k (after relay (finishing relay.tracks))) m all in
-    w.entries_are ∙ sym (rounds-from_below n (map events_over relay.tracks) (short_lanes relay.tracks n (omega arith)))
+    w.entries_are ∙ sym (rounds-from_below n (map groups_over relay.tracks) (short_lanes relay.tracks n (omega arith)))
 
-begun_fresh : (capacity : ℕ) (lanes : List Ends) (tracks : List TrackState) (sents : List Sent) → AreBegun capacity lanes tracks sents → 1 ≤ capacity → AreFresh tracks × AreOpen tracks
+pub begun_fresh : (capacity : ℕ) (lanes : List Ends) (tracks : List TrackState) (sents : List Sent) → AreBegun capacity lanes tracks sents → 1 ≤ capacity → AreFresh tracks × AreOpen tracks
 begun_fresh capacity [] [] [] h room = (All-nil IsFresh, All-nil IsOpen)
 begun_fresh capacity [] [] (s ∷ sents) h room = absurd h
 begun_fresh capacity [] (t ∷ tracks) sents h room = absurd h

@@ -6,7 +6,7 @@ use Rattle.std.specs.List.{zip}
 use Rattle.std.specs.Prelude.{Vec, IsTrue, IfErr, IsErrAnd, option_map}
 use Rattle.krb_core.specs.declared.plan.Emit.{Emit}
 use Rattle.krb_core.specs.Plan.{is_good, wire}
-use Rattle.krb_core.specs.Sender.{Source, records, AreFrames}
+use Rattle.krb_core.specs.Sender.{HaveShortTexts, Source, records, AreFrames}
 use Rattle.krb_seal.specs.Sealer.{SealerState}
 use Rattle.krb_core.specs.declared.receiver.Receiving.{Receiving}
 use Rattle.krb_core.specs.declared.sending.Sending.{Sending}
@@ -22,8 +22,8 @@ use Rattle.krb_core.specs.Start.{Ends, ends_of, IsWire, IsReason, IsBegun, AreBe
 
 -- what a good plan emits is the wire
 pub wire_planned : {A : Type 0} (held : Option (Vec Emit A)) (plan : Vec Emit A) (source : Source) → source.plan ≡ option_map (λ p. p.items) held → (frames emitted : List (List ℕ)) → held ≡ Some plan
-    → AreFrames source (records source) frames → IsTrue (is_good frames plan.items) → emitted ≡ wire frames (Some plan.items) → AllBytes emitted → IsWire source emitted
-wire_planned held plan source plan_is frames emitted some sealed good is bytes =
+    → AreFrames source (records source) frames → IsTrue (is_good frames plan.items) → emitted ≡ wire frames (Some plan.items) → AllBytes emitted → HaveShortTexts source → IsWire source emitted
+wire_planned held plan source plan_is frames emitted some sealed good is bytes fits =
     let e : source.plan ≡ Some plan.items = plan_is ∙ ap (λ o. option_map (λ p. p.items) o) some in
     record {
       frames = frames;
@@ -31,6 +31,7 @@ wire_planned held plan source plan_is frames emitted some sealed good is bytes =
       planned = rw e good;
       wire_is = is ∙ rw e refl;
       bytes = bytes;
+      fits = fits;
     }
 
 -- one lane more begins

@@ -1,85 +1,23 @@
 -- What a turn leaves of a relay.
-use Rattle.std.proofs.Common.{◌≡◌, ◌≢◌, ◌↔◌, ℕ, zero, suc, ◌+◌, ◌<◌, ◌==◌, ◌||◌, ◌⊎◌, cond, Bool, true, false, List, [], ◌∷◌, ◌++◌, length, set, get_or, take, slice_get, Option, Some, None, Result, Ok, Err, inl, inr, refl, sym, ap, ap₂, ◌∙◌, arith}
+use Rattle.std.proofs.Common.{◌≡◌, ◌≢◌, ◌↔◌, ℕ, zero, suc, ◌+◌, ◌<◌, false, List, [], ◌∷◌, ◌++◌, length, set, get_or, take, slice_get, Option, Some, None, Result, Ok, Err, refl, sym, ap, ap₂, ◌∙◌, arith}
 use Rattle.std.proofs.lemmas.List.{take_more, length-set}
-use Rattle.std.proofs.lemmas.Bool.Decides.{eqb_tells}
 use Rattle.std.specs.Prelude.{OnOk, OnErr, IfOk}
 use Rattle.krb_base.specs.Lane.{Item, Frame, End, is_possible}
 use Rattle.krb_base.specs.Lane as event
-use Rattle.krb_core.specs.declared.delivery.Delivery.TheVariants as deliveries
-use Rattle.krb_core.specs.declared.log.Event.{Event}
-use Rattle.krb_core.specs.declared.log.Event.TheVariants.{Text, Closed, Refused}
-use Rattle.krb_core.specs.declared.log.Entry.{Entry}
 use Rattle.krb_core.specs.declared.sending.Sent.{Sent}
 use Rattle.krb_core.specs.declared.turn.Did.{Did}
 use Rattle.krb_core.specs.declared.turn.Did.TheVariants.{Waits}
 use Rattle.krb_core.specs.declared.turn.Turn.{Turn}
 use Rattle.krb_core.specs.declared.turn.Turn.TheVariants.{Send, Take}
-use Rattle.krb_core.specs.Log.{events_of, has_closed, is_closed}
 use Rattle.krb_core.specs.LogState.{LogState}
 use Rattle.krb_core.specs.ReceiverState.{ReceiverState}
-use Rattle.krb_core.specs.Receiver.{receiver_behind}
-use Rattle.krb_core.specs.Verdicts.{Verdict}
-use Rattle.krb_core.specs.Track.{TrackState, entries_by, noted, receiver_after, log_behind, verdict_now, next_send, after_send, after_take, log_after, IsShut}
+use Rattle.krb_core.specs.Track.{TrackState, receiver_after, log_behind, verdict_now, next_send, after_send, after_take, log_after, IsShut}
 use Rattle.krb_core.specs.Stepped.{Relay, lane_of, track_behind, turned_at, turned, after, may_move, IsRelay}
+use Rattle.krb_core.proofs.LoggedLemmas.{shut_same, shut_other}
 
 -- ---- closes in a log
 
-pub events_of-append : (lane : ℕ) (xs ys : List Entry) → events_of lane (xs ++ ys) ≡ events_of lane xs ++ events_of lane ys
-events_of-append lane [] ys = refl
-events_of-append lane (x ∷ xs) ys =
-    elim (x.lane == lane) as (λ b. cond b (x.event ∷ events_of lane (xs ++ ys)) (events_of lane (xs ++ ys)) ≡ cond b (x.event ∷ events_of lane xs) (events_of lane xs) ++ events_of lane ys) [
-      | true ↦ ap (λ l. x.event ∷ l) (events_of-append lane xs ys)
-      | false ↦ events_of-append lane xs ys
-    ]
-
-closed_where : (xs ys : List Event) → has_closed (xs ++ ys) ≡ true → (has_closed xs ≡ true) ⊎ (has_closed ys ≡ true)
-closed_where [] ys h = inr h
-closed_where (Text t ∷ xs) ys h = closed_where xs ys h
-closed_where (Closed ∷ xs) ys h = inl refl
-closed_where (Refused r ∷ xs) ys h = closed_where xs ys h
-
-closed_in : (lane : ℕ) (xs ys : List Entry) → is_closed lane (xs ++ ys) ≡ true → (is_closed lane xs ≡ true) ⊎ (is_closed lane ys ≡ true)
-closed_in lane xs ys h = closed_where (events_of lane xs) (events_of lane ys) (ap has_closed (sym (events_of-append lane xs ys)) ∙ h)
-
-no_close : (b : Bool) (e : Event) → has_closed (e ∷ []) ≡ false → has_closed (cond b (e ∷ []) []) ≡ true → ⊥
-no_close true e off on = absurd (let f : true ≡ false = sym on ∙ off in cc)
-no_close false e off on = absurd (let f = on in cc)
-
-or_true : (b : Bool) → (b || true) ≡ true
-or_true true = refl
-or_true false = refl
-
--- a verdict keeps a lane shut
-shut_same : (log : LogState) (lane : ℕ) (r : ReceiverState) (v : Verdict) → IsShut log lane r → IsShut (noted log lane v) lane (receiver_behind r v)
-shut_same log lane r (Ok (deliveries.Text t)) h on =
-    elim (closed_in lane log.entries (entries_by lane (Ok (deliveries.Text t))) on) [
-      | inl before ↦ rw (h before) refl
-      | inr here ↦ absurd (no_close (lane == lane) (Text t) refl here)
-    ]
-shut_same log lane r (Ok deliveries.Closed) h on = or_true r.demand.closed
-shut_same log lane r (Err refusal) h on =
-    elim (closed_in lane log.entries (entries_by lane (Err refusal)) on) [
-      | inl before ↦ rw (h before) refl
-      | inr here ↦ absurd (no_close (lane == lane) (Refused refusal) refl here)
-    ]
-
-apart : (number lane : ℕ) → number ≢ lane → (number == lane) ≡ false
-apart number lane other = elim (eqb_tells number lane) [ inl same ↦ absurd (other same.1) | inr h ↦ h.0 ]
-
--- another lane has no part in it
-pub events_of-other : (number lane : ℕ) (v : Verdict) → number ≢ lane → events_of lane (entries_by number v) ≡ []
-events_of-other number lane (Ok (deliveries.Text t)) other = rw (apart number lane other) refl
-events_of-other number lane (Ok deliveries.Closed) other = rw (apart number lane other) refl
-events_of-other number lane (Err refusal) other = rw (apart number lane other) refl
-
-shut_other : (log : LogState) (number lane : ℕ) (r : ReceiverState) (v : Verdict) → number ≢ lane → IsShut log lane r → IsShut (noted log number v) lane r
-shut_other log number lane r v other h on =
-    elim (closed_in lane log.entries (entries_by number v) on) [
-      | inl before ↦ h before
-      | inr here ↦ absurd (let f : false ≡ true = ap has_closed (sym (events_of-other number lane v other)) ∙ here in cc)
-    ]
-
--- and so does what is taken
+-- what is taken keeps a lane shut
 shut_behind : (log : LogState) (lane : ℕ) (track : TrackState) (queue : List (Item (List ℕ))) → IsShut log lane track.receiver → IsShut (log_behind log lane track queue) lane (receiver_after track queue)
 shut_behind log lane track [] h = h
 shut_behind log lane track (Frame f ∷ queue) h = shut_same log lane track.receiver (verdict_now track f) h

@@ -38,15 +38,20 @@ set_seam [] back x y = refl
 set_seam (z ∷ front) back x y = ap (λ l. z ∷ l) (set_seam front back x y)
 
 module _ (sents : List Sent) where
-  lane_turned : (front back : List TrackState) (track : TrackState) (log : LogState)
+  pub lane_sent : (front back : List TrackState) (track : TrackState) (log : LogState)
+      → turned (relay_of (front ++ track ∷ back) log sents) (Send (length front)) ≡ relay_of (front ++ after_send track ∷ back) log sents
+  lane_sent front back track log =
+      let k = length front in
+      ap (λ o. turned_at (relay_of (front ++ track ∷ back) log sents) (Send k) o) (get_seam front back track) ∙ ap (λ ts. relay_of ts log sents) (set_seam front back track (after_send track))
+
+  pub lane_turned : (front back : List TrackState) (track : TrackState) (log : LogState)
       → turned (turned (relay_of (front ++ track ∷ back) log sents) (Send (length front))) (Take (length front))
       ≡ relay_of (front ++ stepped track ∷ back) (log_after log (length front) (after_send track)) sents
   lane_turned front back track log =
       let k = length front in
       let before = relay_of (front ++ track ∷ back) log sents in
       let middle = relay_of (front ++ after_send track ∷ back) log sents in
-      let one : turned before (Send k) ≡ middle =
-      ap (λ o. turned_at before (Send k) o) (get_seam front back track) ∙ ap (λ ts. relay_of ts log sents) (set_seam front back track (after_send track)) in
+      let one : turned before (Send k) ≡ middle = lane_sent front back track log in
       let two : turned middle (Take k) ≡ relay_of (front ++ stepped track ∷ back) (log_after log k (after_send track)) sents =
       ap (λ o. turned_at middle (Take k) o) (get_seam front back (after_send track))
       ∙ ap (λ ts. relay_of ts (log_after log k (after_send track)) sents) (set_seam front back (after_send track) (stepped track)) in

@@ -19,7 +19,7 @@ use Rattle.krb_core.specs.declared.plan.Emit.TheVariants.{Frame}
 use Rattle.krb_core.specs.Demand.{Demand}
 use Rattle.krb_core.specs.Record.{FitsLimits, bytes_of, is_close}
 use Rattle.krb_core.specs.Plan.{is_good, is_good_emission, emission, emissions, wire, frame_at}
-use Rattle.krb_core.specs.Sender.{Source, sealed_count, sealed_texts, records_for, AreFrames, moment_at}
+use Rattle.krb_core.specs.Sender.{Source, HaveShortTexts, sealed_count, sealed_texts, records_for, AreFrames, moment_at}
 use Rattle.krb_core.specs.Sender as sender
 use Rattle.krb_core.specs.Verdicts.{Verdict, record_of, records_of, delivered, behind, IsVerdict}
 use Rattle.krb_core.specs.Headline.{IsRun}
@@ -115,7 +115,7 @@ fits_at (suc n) (text ∷ texts) (suc i) r short at = fits_at n texts i r (All-t
 
 -- ---- each frame is accepted
 
-module _ (source : Source) (opener : OpenerState) (start : Demand) (nows : List ℕ) (calm : Undisturbed source opener start nows) where
+module _ (source : Source) (opener : OpenerState) (start : Demand) (nows : List ℕ) (calm : Undisturbed source opener start nows) (fits : HaveShortTexts source) where
   -- a sealed frame opens where its number is demanded
   opens_there : (i : ℕ) (r : Record) (frame : List ℕ) → i < length (sender.records source) → sender.IsFrame source i r frame
       → Opens opener (start.expected + i) (moment_at nows i) frame (Ok (bytes_of r))
@@ -133,7 +133,7 @@ module _ (source : Source) (opener : OpenerState) (start : Demand) (nows : List 
       let count : length (take i all) ≡ i = length-take-le i all (omega (arith, lt)) in
       let quiet : (start.closed || list_any is_close (take i all)) ≡ false = rw calm.paired.closed (none_closed (sealed_texts source) i lt) in
       let opened : Opens opener (start.expected + length (take i all)) (moment_at nows i) frame (Ok (bytes_of r)) = rw count (opens_there i r frame lt is) in
-      (quiet, (bytes_of r, opened, rw (same_record r) (fits_at (sealed_count source.sealer.next (length source.texts)) source.texts i r calm.short at, refl)))
+      (quiet, (bytes_of r, opened, rw (same_record r) (fits_at (sealed_count source.sealer.next (length source.texts)) source.texts i r fits at, refl)))
 
   module _ (took : List (List ℕ)) (vs : List Verdict) (run : IsRun source opener start nows took vs) where
     -- what is taken at a place is the frame of the record there

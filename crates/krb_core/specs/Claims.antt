@@ -8,8 +8,8 @@ use Rattle.krb_core.specs.Log.{events_of, texts_of, texts_in, has_closed, is_clo
 use Rattle.krb_core.specs.LogState.{LogState}
 use Rattle.krb_core.specs.ReceiverState.{ReceiverState}
 use Rattle.krb_core.specs.Sender.{moment_at, sealed_texts}
-use Rattle.krb_core.specs.Verdicts.{Verdict, Fails, AreVerdicts, records_of, delivered, behind}
-use Rattle.krb_core.specs.Verdicts as verdict
+use Rattle.krb_core.specs.Verdicts.{Verdict, Fails, records_of, delivered, behind}
+use Rattle.krb_core.specs.Logged.{AreJudgedFrom, HasLogged}
 use Rattle.krb_core.specs.Headline.{IsPaired, AlteredAreHonest}
 use Rattle.krb_core.specs.Undisturbed.{Undisturbed}
 use Rattle.krb_core.specs.Start.{Ends}
@@ -20,16 +20,11 @@ has_ended lane log = slice_index_or log.ended lane false
 
 -- one verdict for each frame that a lane's receiver takes, from its start on
 abbrev pub AreJudged : Ends → List (List ℕ) → List Verdict → Type 0
-AreJudged ends took verdicts =
-    let start = ends.receiver.demand in AreVerdicts ends.receiver.opener ends.nows start 0 took verdicts
+AreJudged ends took verdicts = AreJudgedFrom ends.receiver ends.nows took verdicts
 
--- These are the verdicts on the frames that a lane's receiver took, each by the records accepted before
--- it and at the moment of its place, and the log has of the lane what they bring, in order. The
--- receiver demands what they leave.
-pub record IsLogged (ends : Ends) (lane : ℕ) (took : List (List ℕ)) (log : LogState) (receiver : ReceiverState) (verdicts : List Verdict) : Type 0 where
-  pub judged : AreJudged ends took verdicts
-  pub entries : events_of lane log.entries ≡ verdict.events_of verdicts
-  pub receiver_is : receiver ≡ record ends.receiver { demand = behind ends.receiver.demand (records_of verdicts) }
+-- the log has the verdicts on the frames that a lane's receiver took from its start on
+abbrev pub IsLogged : Ends → ℕ → List (List ℕ) → LogState → ReceiverState → List Verdict → Type 0
+IsLogged ends lane took log receiver verdicts = HasLogged ends.receiver ends.nows lane took log receiver verdicts
 
 -- the lane is paired: both ends have one key, and the number demanded first is the sealer's next one
 abbrev pub ArePaired : Ends → Type 0

@@ -4,7 +4,7 @@ use Rattle.krb_core.specs.declared.log.Event.{Event}
 use Rattle.krb_core.specs.declared.log.Entry.{Entry}
 use Rattle.krb_core.specs.declared.turn.Turn.{Turn}
 use Rattle.krb_core.specs.declared.turn.Turn.TheVariants.{Send, Take}
-use Rattle.krb_core.specs.Verdicts.{events_of, verdicts}
+use Rattle.krb_core.specs.Verdicts.{groups_of, verdicts}
 use Rattle.krb_core.specs.Track.{TrackState}
 use Rattle.krb_core.specs.Stepped.{Relay}
 use Rattle.krb_core.specs.Start.{Ends}
@@ -30,11 +30,11 @@ longest_wire (track ∷ tracks) = max (length track.wire) (longest_wire tracks)
 abbrev pub finishing : List TrackState → List Turn
 finishing tracks = rounds_turns (longest_wire tracks + 1) (length tracks)
 
--- the events of a lane's verdicts over its whole wire
-abbrev pub events_over : TrackState → List Event
-events_over track =
+-- what a lane's verdicts over its whole wire bring, one group for each
+abbrev pub groups_over : TrackState → List (List Event)
+groups_over track =
     let start = track.receiver.demand in
-    events_of (verdicts track.receiver.opener track.nows start 0 track.wire)
+    groups_of (verdicts track.receiver.opener track.nows start 0 track.wire)
 
 -- it holds of a relay whose lanes have room for a frame, whatever was turned before
 abbrev pub WithRoom : Relay → Type 0 → Type 0
@@ -47,4 +47,4 @@ FromStart relay Claim = (lanes : List Ends) (capacity : ℕ) → 1 ≤ capacity 
 
 -- the rounds of all that becomes of the lanes' frames
 abbrev pub whole_log : Relay → List Entry
-whole_log relay = rounds (map events_over relay.tracks)
+whole_log relay = rounds (map groups_over relay.tracks)

@@ -17,6 +17,7 @@ pub mod ReceiverState
 pub mod Receiver
 pub mod Sending
 pub mod Track
+pub mod Logged
 pub mod TrackPlaces
 pub mod Stepped
 pub mod Start

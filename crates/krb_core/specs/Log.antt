@@ -1,5 +1,5 @@
 -- The log of a relay.
-use Rattle.std.specs.Prelude.{◌≡◌, ℕ, ◌==◌, Bool, true, false, List, [], ◌∷◌, ◌++◌, replicate, slice_set, slice_index_or, if◌then◌else◌}
+use Rattle.std.specs.Prelude.{◌≡◌, ℕ, ◌==◌, Bool, true, false, List, [], ◌∷◌, ◌++◌, map, replicate, slice_set, slice_index_or, if◌then◌else◌}
 use Rattle.krb_core.specs.declared.log.Event.{Event}
 use Rattle.krb_core.specs.declared.log.Event.TheVariants.{Text, Closed, Refused}
 use Rattle.krb_core.specs.declared.log.Entry.{Entry}
@@ -16,6 +16,10 @@ abbrev pub events_of : ℕ → List Entry → List Event
 events_of lane [] = []
 events_of lane (entry ∷ entries) =
     if entry.lane == lane then entry.event ∷ events_of lane entries else events_of lane entries
+
+-- events of one lane, as entries of a log
+abbrev pub entries_for : ℕ → List Event → List Entry
+entries_for lane events = map (λ event. record { lane = lane; event = event }) events
 
 -- the texts among events, in order
 abbrev pub texts_in : List Event → List (List ℕ)

@@ -1,5 +1,6 @@
 -- What is so of a relay that is stepped, whatever its turns.
-use Rattle.std.specs.Prelude.{◌≡◌, ◌≤◌, ℕ, ◌==◌, List, [], ◌∷◌, ◌++◌, length, map, slice_get, Option, Some, None, if◌then◌else◌}
+use Rattle.std.specs.Prelude.{◌≡◌, ◌≤◌, ℕ, ◌==◌, List, [], ◌∷◌, ◌++◌, length, slice_get, Option, Some, None, if◌then◌else◌}
+use Rattle.std.specs.List.{flat_map}
 use Rattle.krb_base.specs.Prefix.{IsPrefix}
 use Rattle.krb_base.specs.Lane.{Item, Frame, End, IsReached, empty, frames}
 use Rattle.krb_base.specs.Lane as machine
@@ -10,7 +11,7 @@ use Rattle.krb_core.specs.Log.{lane_limit, new_log}
 use Rattle.krb_core.specs.LogState.{LogState}
 use Rattle.krb_core.specs.Verdicts.{Verdict}
 use Rattle.krb_core.specs.Claims.{IsLogged, Headline}
-use Rattle.krb_core.specs.Track.{TrackState}
+use Rattle.krb_core.specs.Track.{TrackState, verdict_now, entries_by}
 use Rattle.krb_core.specs.TrackPlaces.{items_of}
 use Rattle.krb_core.specs.Start.{Ends, IsWire, AreBegun}
 use Rattle.krb_core.specs.Stepped.{Relay, lane_of, event_of, turned, after}
@@ -42,28 +43,35 @@ turned_events lane relay [] = []
 turned_events lane relay (turn ∷ turns) =
     event_at lane turn (slice_get relay.tracks (lane_of turn)) ++ turned_events lane (turned relay turn) turns
 
--- the lane of a take, where a frame is at the front of its queue
-abbrev pub taker_of : ℕ → List (Item (List ℕ)) → List ℕ
-taker_of lane [] = []
-taker_of lane (Frame frame ∷ queue) = lane ∷ []
-taker_of lane (End ∷ queue) = []
+-- ---- what turns took
 
-abbrev pub taker_by : Turn → TrackState → List ℕ
-taker_by (Send lane) track = []
-taker_by (Take lane) track = taker_of lane track.lane.queue
+-- a frame that was taken: its lane, and the verdict on it
+pub record Taking : Type 0 where
+  pub lane : ℕ
+  pub verdict : Verdict
 
-abbrev pub taker_at : Turn → Option TrackState → List ℕ
-taker_at turn None = []
-taker_at turn (Some track) = taker_by turn track
+-- the frame at the front of a lane's queue, where there is one
+abbrev pub taking_of : ℕ → TrackState → List (Item (List ℕ)) → List Taking
+taking_of lane track [] = []
+taking_of lane track (Frame frame ∷ queue) = record { lane = lane; verdict = verdict_now track frame } ∷ []
+taking_of lane track (End ∷ queue) = []
 
--- the lane of each turn that took a frame, in the order of the turns
-abbrev pub takers : Relay → List Turn → List ℕ
-takers relay [] = []
-takers relay (turn ∷ turns) = taker_at turn (slice_get relay.tracks (lane_of turn)) ++ takers (turned relay turn) turns
+abbrev pub taking_by : Turn → TrackState → List Taking
+taking_by (Send lane) track = []
+taking_by (Take lane) track = taking_of lane track track.lane.queue
 
--- the lanes of entries, in order
-abbrev pub lanes_in : List Entry → List ℕ
-lanes_in entries = map (λ entry. entry.lane) entries
+abbrev pub taking_at : Turn → Option TrackState → List Taking
+taking_at turn None = []
+taking_at turn (Some track) = taking_by turn track
+
+-- what the turns took, in their order
+abbrev pub takings : Relay → List Turn → List Taking
+takings relay [] = []
+takings relay (turn ∷ turns) = taking_at turn (slice_get relay.tracks (lane_of turn)) ++ takings (turned relay turn) turns
+
+-- what their verdicts bring to a log, in order
+abbrev pub entries_in : List Taking → List Entry
+entries_in takings = flat_map (λ taking. entries_by taking.lane taking.verdict) takings
 
 -- ---- what is so of each lane
 

@@ -1,7 +1,7 @@
 -- What a sender seals.
-use Rattle.std.specs.Prelude.{◌≡◌, ℕ, ◌+◌, ◌-◌, min, List, [], ◌∷◌, ◌++◌, length, map, take, slice_get, slice_index, Option, Some}
+use Rattle.std.specs.Prelude.{◌≡◌, ℕ, ◌+◌, ◌-◌, min, List, [], ◌∷◌, ◌++◌, length, map, take, slice_get, slice_index, Option, Some, All, ◌≤◌}
 use Rattle.rand_chacha.specs.ChaCha.{ChaCha}
-use Rattle.krb_base.specs.Limits.{last_number}
+use Rattle.krb_base.specs.Limits.{text_limit, last_number}
 use Rattle.krb_seal.specs.Sealer.{SealerState}
 use Rattle.krb_seal.specs.Seals.{Seals}
 use Rattle.krb_core.specs.declared.record.Record.{Record}
@@ -17,6 +17,10 @@ pub record Source : Type 0 where
   pub ats : List ℕ
   pub draws : ChaCha
   pub plan : Option (List Emit)
+
+-- no text is too long
+abbrev pub HaveShortTexts : Source → Type 0
+HaveShortTexts source = All (λ text. length text ≤ text_limit) source.texts
 
 -- the moment of a place: the last one serves all later places
 abbrev pub moment_at : List ℕ → ℕ → ℕ

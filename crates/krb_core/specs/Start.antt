@@ -14,7 +14,7 @@ use Rattle.krb_core.specs.declared.sending.Ending.TheVariants.{Done}
 use Rattle.krb_core.specs.Sending.{source_of, sealed_of}
 use Rattle.krb_core.specs.Plan.{is_good, wire}
 use Rattle.krb_core.specs.ReceiverState.{ReceiverState}
-use Rattle.krb_core.specs.Sender.{Source, records, AreFrames}
+use Rattle.krb_core.specs.Sender.{Source, HaveShortTexts, records, AreFrames}
 use Rattle.krb_core.specs.Track.{TrackState}
 use Rattle.krb_core.specs.Verdicts.{AllBytes}
 
@@ -48,6 +48,7 @@ pub record IsWire (source : Source) (emitted : List (List ℕ)) : Type 0 where
   pub planned : is_planned frames source.plan ≡ true
   pub wire_is : emitted ≡ wire frames source.plan
   pub bytes : AllBytes emitted
+  pub fits : HaveShortTexts source
 
 -- the plan is bad for those frames
 pub record IsBad (source : Source) : Type 0 where

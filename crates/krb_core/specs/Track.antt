@@ -1,8 +1,8 @@
 -- One lane of a relay that is stepped.
-use Rattle.std.specs.Prelude.{◌≡◌, ℕ, true, List, [], ◌∷◌, ◌++◌, length, map, slice_get, Option, Some, None}
+use Rattle.std.specs.Prelude.{◌≡◌, ℕ, true, List, [], ◌∷◌, ◌++◌, length, slice_get, Option, Some, None}
 use Rattle.krb_base.specs.Lane.{Item, Lane, Event, Frame, End, Send, Take, after_event}
 use Rattle.krb_core.specs.declared.log.Entry.{Entry}
-use Rattle.krb_core.specs.Log.{ended_at, is_closed}
+use Rattle.krb_core.specs.Log.{entries_for, ended_at, is_closed}
 use Rattle.krb_core.specs.LogState.{LogState}
 use Rattle.krb_core.specs.ReceiverState.{ReceiverState}
 use Rattle.krb_core.specs.Receiver.{receiver_behind}
@@ -49,9 +49,9 @@ after_take track = record track {
   receiver = receiver_after track track.lane.queue;
 }
 
--- the log behind a verdict on a frame of this lane: one entry more
+-- the log behind a verdict on a frame of this lane: what it brings is added
 abbrev pub entries_by : ℕ → Verdict → List Entry
-entries_by lane v = map (λ event. record { lane = lane; event = event }) (events_by v)
+entries_by lane v = entries_for lane (events_by v)
 
 abbrev pub noted : LogState → ℕ → Verdict → LogState
 noted log lane v = record log { entries = log.entries ++ entries_by lane v }

@@ -1,13 +1,12 @@
 -- A lane that nothing disturbs: what its sender sealed is what its receiver expects, and the wire carries it as it is.
-use Rattle.std.specs.Prelude.{◌≡◌, ℕ, zero, suc, ◌<◌, ◌≤◌, List, [], ◌∷◌, ◌++◌, length, Option, Some, None, All}
-use Rattle.krb_base.specs.Limits.{text_limit}
+use Rattle.std.specs.Prelude.{◌≡◌, ℕ, zero, suc, ◌<◌, List, [], ◌∷◌, ◌++◌, length, Option, Some, None}
 use Rattle.krb_seal.specs.Opens.{OpenerState}
 use Rattle.krb_seal.specs.Laws.{Agree}
 use Rattle.krb_core.specs.declared.plan.Emit.{Emit}
 use Rattle.krb_core.specs.declared.plan.Emit.TheVariants.{Frame}
 use Rattle.krb_core.specs.Demand.{Demand}
 use Rattle.krb_core.specs.Plan.{wire}
-use Rattle.krb_core.specs.Sender.{Source, moment_at, records, AreFrames}
+use Rattle.krb_core.specs.Sender.{Source, HaveShortTexts, moment_at, records, AreFrames}
 use Rattle.krb_core.specs.Verdicts.{Verdict}
 use Rattle.krb_core.specs.Headline.{IsPaired, IsRun}
 
@@ -29,7 +28,6 @@ pub record Undisturbed (source : Source) (opener : OpenerState) (start : Demand)
   pub agree :
       (k : ℕ) → k < length (records source)
       → Agree source.sealer.session opener.expect (moment_at source.ats k) (moment_at nows k)
-  pub short : All (λ text. length text ≤ text_limit) source.texts
   pub plan : IsInOrder source.plan (length (records source))
 
 -- all that the wire carries was taken, of the frames of all records
@@ -37,10 +35,11 @@ pub record TakesAll (source : Source) (took : List (List ℕ)) : Type 0 where
   pub frames : List (List ℕ)
   pub sealed : AreFrames source (records source) frames
   pub whole : took ≡ wire frames source.plan
+  pub fits : HaveShortTexts source
 
 -- it holds of each run of an undisturbed lane
 abbrev pub OfUndisturbed : (Source → Demand → List (List ℕ) → List Verdict → Type 0) → Type 0
 OfUndisturbed Claim =
     (source : Source) (opener : OpenerState) (start : Demand) (nows : List ℕ) (took : List (List ℕ)) (verdicts : List Verdict)
-    → Undisturbed source opener start nows → IsRun source opener start nows took verdicts
+    → Undisturbed source opener start nows → HaveShortTexts source → IsRun source opener start nows took verdicts
     → Claim source start took verdicts

@@ -1,5 +1,5 @@
 -- What a receiver answers to the frames that it takes.
-use Rattle.std.specs.Prelude.{◌≡◌, ℕ, ◌+◌, ◌==◌, nat_le, ◌&&◌, ◌||◌, ◌⊎◌, Bool, true, false, List, [], ◌∷◌, length, take, slice_get, Option, Some, None, Result, Ok, Err, if◌then◌else◌}
+use Rattle.std.specs.Prelude.{◌≡◌, ℕ, ◌+◌, ◌==◌, nat_le, ◌&&◌, ◌||◌, ◌⊎◌, Bool, true, false, List, [], ◌∷◌, length, map, take, slice_get, Option, Some, None, Result, Ok, Err, if◌then◌else◌}
 use Rattle.std.specs.Result.{MatchResult}
 use Rattle.std.specs.List.{flat_map, list_any}
 use Rattle.krb_aes.specs.Words.{AreBytes}
@@ -46,6 +46,10 @@ records_of verdicts = flat_map accepted_by verdicts
 
 abbrev pub events_of : List Verdict → List Event
 events_of verdicts = flat_map events_by verdicts
+
+-- what verdicts bring, one group of events for each
+abbrev pub groups_of : List Verdict → List (List Event)
+groups_of verdicts = map events_by verdicts
 
 -- the texts that are delivered
 abbrev pub delivered : List Verdict → List (List ℕ)

@@ -1,45 +1,80 @@
--- What a relay leaves of lanes that ran to their ends.
-use Rattle.std.specs.Prelude.{◌≡◌, ◌<◌, ℕ, true, List, [], ◌∷◌, length, map, slice_get, Some}
+-- What a relay leaves of its lanes, whatever ran when, and of lanes that ran to their ends.
+use Rattle.std.specs.Prelude.{◌≡◌, ◌<◌, ℕ, true, false, List, [], ◌∷◌, length, map, slice_get, Some}
 use Rattle.krb_base.specs.Prefix.{IsPrefix}
 use Rattle.krb_core.specs.declared.log.Entry.{Entry}
+use Rattle.krb_core.specs.declared.sending.Sent.{Sent}
 use Rattle.krb_core.specs.LogState.{LogState}
-use Rattle.krb_core.specs.Verdicts.{Verdict, events_of}
-use Rattle.krb_core.specs.Claims.{AreJudged, Headline, has_ended}
-use Rattle.krb_core.specs.Start.{Ends, IsWire}
+use Rattle.krb_core.specs.Verdicts.{Verdict, groups_of}
+use Rattle.krb_core.specs.Headline.{IsRun}
+use Rattle.krb_core.specs.Undisturbed.{TakesAll}
+use Rattle.krb_core.specs.Claims.{Headline, has_ended}
+use Rattle.krb_core.specs.Start.{Ends, IsWire, AreSent}
 use Rattle.krb_core.specs.Rounds.{rounds}
 
--- a lane, all that its wire carries, and what its receiver says of each frame
+-- ---- a run of each lane
+
+-- a lane, what its receiver took of its wire, and what it says of each frame
 pub record Run : Type 0 where
   pub ends : Ends
-  pub wire : List (List ℕ)
+  pub took : List (List ℕ)
   pub verdicts : List Verdict
 
-pub record IsWholeRun (run : Run) : Type 0 where
-  pub emits : IsWire run.ends.source run.wire
-  pub judged : AreJudged run.ends run.wire run.verdicts
+-- so many records were sealed, so many frames of the wire that these make were taken, and these are
+-- the verdicts on them
+abbrev pub IsFront : Run → Type 0
+IsFront run =
+    let start = run.ends.receiver.demand in
+    IsRun run.ends.source run.ends.receiver.opener start run.ends.nows run.took run.verdicts
 
 -- one for each lane
 abbrev pub AreRuns : List Ends → List Run → Type 0
 AreRuns [] [] = Unit {0}
-AreRuns (ends ∷ lanes) (run ∷ runs) = (run.ends ≡ ends) × IsWholeRun run × AreRuns lanes runs
+AreRuns (ends ∷ lanes) (run ∷ runs) = (run.ends ≡ ends) × IsFront run × AreRuns lanes runs
 AreRuns lanes runs = ⊥
 
--- what becomes of the frames of all lanes: of the first frame of each, by lane number, then of the second of each, and so on
-abbrev pub rounds_of : List Run → List Entry
-rounds_of runs = rounds (map (λ run. events_of run.verdicts) runs)
+-- it holds of each lane and its run
+abbrev pub OfRuns : List Run → (ℕ → Run → Type 0) → Type 0
+OfRuns runs Claim = (lane : ℕ) (run : Run) → slice_get runs lane ≡ Some run → Claim lane run
 
--- the log has all of it, every lane has ended, and the headline holds of each
-pub record IsWhole (lanes : List Ends) (log : LogState) : Type 0 where
+-- what becomes of the frames that were taken: of the first of each lane, by lane number, then of the second of each, and so on
+abbrev pub rounds_of : List Run → List Entry
+rounds_of runs = rounds (map (λ run. groups_of run.verdicts) runs)
+
+-- ---- what any relay leaves
+
+-- where the lane has ended, all that its wire carries was taken
+abbrev pub EndsWhole : LogState → ℕ → Run → Type 0
+EndsWhole log lane run = has_ended lane log ≡ true → TakesAll run.ends.source run.took
+
+abbrev pub HasClaims : LogState → ℕ → Run → Type 0
+HasClaims log lane run = Headline run.ends lane run.took run.verdicts log
+
+-- Of each lane a front of its wire was taken, however short: the log has the verdicts on these frames,
+-- in rounds, and the headline holds of each lane.
+pub record IsRelayed (lanes : List Ends) (log : LogState) : Type 0 where
   pub runs : List Run
   pub are : AreRuns lanes runs
   pub entries : log.entries ≡ rounds_of runs
+  pub all_taken : OfRuns runs (EndsWhole log)
+  pub claims : OfRuns runs (HasClaims log)
+
+-- ---- of lanes that ran to their ends
+
+-- the sealer was not wiped, and all that the wire carries was taken
+pub record IsWholeRun (run : Run) : Type 0 where
+  pub live : run.ends.source.sealer.wiped ≡ false
+  pub emits : IsWire run.ends.source run.took
+
+-- that of every lane, every lane has ended, and this is told of how much each sender sealed
+pub record IsWhole (lanes : List Ends) (log : LogState) (sents : List Sent) : Type 0 where
+  pub relayed : IsRelayed lanes log
+  pub whole : OfRuns (relayed.runs) (λ lane run. IsWholeRun run)
   pub ended : (lane : ℕ) → lane < length lanes → has_ended lane log ≡ true
-  pub claims :
-      (lane : ℕ) (run : Run) → slice_get runs lane ≡ Some run
-      → Headline run.ends lane run.wire run.verdicts log
+  pub sealed : AreSent lanes sents
 
 -- the log has a front of it
 pub record IsPart (lanes : List Ends) (log : LogState) : Type 0 where
   pub runs : List Run
   pub are : AreRuns lanes runs
+  pub whole : OfRuns runs (λ lane run. IsWholeRun run)
   pub entries : IsPrefix log.entries (rounds_of runs)

@@ -21,6 +21,7 @@ mod emission;
 mod headline;
 mod laws;
 mod log;
+mod logged;
 mod order;
 mod plan;
 mod receiver;
@@ -33,6 +34,7 @@ mod stepped;
 mod track;
 mod turn;
 mod undisturbed;
+mod whole;
 
 pub use delivery::Delivery;
 pub use emission::emit;
@@ -40,6 +42,7 @@ pub use headline::{headline_laws, verdict_laws};
 pub use krb_base::{LAST_NUMBER, TEXT_LIMIT, USER_DATA_LIMIT};
 pub use laws::{accepted_laws, record_laws};
 pub use log::{Entry, Event, Log, Status};
+pub use logged::logged_laws;
 pub use order::{Order, OrderRefusal};
 pub use plan::{Emit, EmitError};
 pub use receiver::{Receiver, Receiving};
@@ -51,6 +54,7 @@ pub use start::{StartError, emit_sealed};
 pub use stepped::Stepped;
 pub use turn::{Did, Turn};
 pub use undisturbed::undisturbed_laws;
+pub use whole::relay_laws;
 
 #[cfg(test)]
 mod tests;

@@ -6,6 +6,7 @@ ghost use Rattle.krb_core.specs.Record.{is_close};
 ghost use Rattle.krb_core.specs.Sender.{moment_at};
 ghost use Rattle.krb_core.specs.Verdicts.{IsVerdict, record_of};
 ghost use Rattle.krb_core.specs.Receiver.{first_demand, IsAnswer, receiver_behind, advanced};
+ghost use Rattle.krb_core.specs.Logged.{LogsNext};
 ghost use Rattle.krb_core.specs.Track.{verdict_by, noted, IsShut};
 
 use crate::delivery::Delivery;
@@ -122,6 +123,10 @@ impl Receiver {
             (log.new ≡ noted log.old lane (verdict_by self.old now frame.now)) }
         ensures unchanged { OnErr result (self.new ≡ self.old) }
         ensures unwritten { OnErr result (log.new ≡ log.old) }
+
+        // Whatever was taken before, the frame comes behind, and other lanes' entries stay.
+        ensures logged { OnOk result
+            (LogsNext self.old log.old lane now frame.now self.new log.new) }
     {
         match self.judge(alloc, frame, now) {
             Ok(Delivery::Text(text)) => {

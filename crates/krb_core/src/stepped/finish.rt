@@ -7,7 +7,7 @@ ghost use Rattle.krb_core.specs.Claims.{has_ended};
 ghost use Rattle.krb_core.specs.Stepped.{after, is_done};
 ghost use Rattle.krb_core.specs.Relayed.{GoesOn, HasTurned, KeepsHeadline};
 ghost use Rattle.krb_core.specs.Start.{Ends};
-ghost use Rattle.krb_core.specs.Whole.{IsPart, IsWhole};
+ghost use Rattle.krb_core.specs.Whole.{IsPart, IsRelayed, IsWhole};
 ghost use Rattle.krb_core.specs.Finish.{round_turns, finishing, longest_wire, WithRoom, FromStart, whole_log};
 
 use super::Stepped;
@@ -21,8 +21,8 @@ impl Stepped {
     /// becomes of the frames, in rounds: of the first frame of each lane, by lane number, then of
     /// the second of each, and so on.
     ///
-    /// The first want of memory ends it, with the earlier turns done, and the log has a front of
-    /// those entries.
+    /// The first want of memory ends it, with the earlier turns done. The log then has a front of
+    /// those entries: what becomes of the frames that were taken of each lane.
     pub fn finish(&mut self) -> Result<(), AllocError>
         ensures after { (done : List Turn) × IsPrefix done (finishing self.old.tracks)
             × (self.new ≡ after self.old done) }
@@ -38,9 +38,13 @@ impl Stepped {
             (self.new.log.entries ≡ whole_log self.old)) }
         ensures front { FromStart self.old (IsPrefix self.new.log.entries (whole_log self.old)) }
 
-        // The same by the lanes: what becomes of all their frames, and the headline of each.
+        // The same by the lanes: what becomes of all their frames, and the headline of each. Where
+        // want of memory ended it, what becomes of those that were taken, and the headline too.
         ensures whole { (lanes : List Ends) (capacity : ℕ) → 1 ≤ capacity
-            → HasTurned lanes capacity [] self.old → OnOk result (IsWhole lanes self.new.log) }
+            → HasTurned lanes capacity [] self.old → OnOk result
+            (IsWhole lanes self.new.log self.new.sents) }
+        ensures relayed { (lanes : List Ends) (capacity : ℕ) → 1 ≤ capacity
+            → HasTurned lanes capacity [] self.old → IsRelayed lanes self.new.log }
         ensures part { (lanes : List Ends) (capacity : ℕ) → 1 ≤ capacity
             → HasTurned lanes capacity [] self.old → IsPart lanes self.new.log }
     {

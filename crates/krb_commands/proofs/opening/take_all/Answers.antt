@@ -11,11 +11,10 @@ take_into-requires-clause-shut c = opened_shut _ _ _ _ _ c.loop-place.invariant.
 
 pub loop-place-preserved : goal.loop-place-preserved
 loop-place-preserved c =
-    let took = rw (c.as_slice.ensures) at c.in_ok-take_into.ensures.receiver in
+    let next = rw (c.as_slice.ensures) at c.in_ok-take_into.ensures.logged in
     let noted = rw (c.as_slice.ensures) at c.in_ok-take_into.ensures.log in
-    let right = rw (c.as_slice.ensures) at c.in_ok-take_into.ensures.verdict in
     let at = c.moment_at-now.ensures ∙ ap (λ v. moment_at v.items c.loop-place.place) c.loop-place.invariant.1 in (
       opened_next _ _ c.args.frames.now c.loop-place.place _ _ c.loop-place.invariant.0 c.index-frames-place.result c.moment_at-now.result _ _
-          c.loop-place-test.true c.index-frames-place.is right at took noted,
+          c.loop-place-test.true c.index-frames-place.is at next noted,
       c.loop-place.invariant.1,
     )

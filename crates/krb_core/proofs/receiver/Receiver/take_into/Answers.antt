@@ -1,6 +1,7 @@
 -- The answer is the verdict, and what follows is what a verdict leaves.
 use Rattle.krb_aes.specs.Words.{AreBytes}
 use Rattle.krb_core.proofs.ReceiveLemmas.{received_text, received_close, received_refusal, verdict_is}
+use Rattle.krb_core.proofs.LoggedLemmas.{logs_next}
 use Rattle.krb_core.proofs.receiver.Receiver.take_into.Goals as goal
 
 pub returns-in_ok-push-in-Ok-Text-clause-receiver : goal.returns-in_ok-push-in-Ok-Text-clause-receiver
@@ -27,7 +28,15 @@ pub returns-in_ok-push-in_default : goal.returns-in_ok-push-in_default
 returns-in_ok-push-in_default c =
     let bytes : AreBytes c.args.frame.now = record { small = λ i. (c.type_inv.frame i).fits } in
     let is = received_refusal c.args.self.now c.args.log.now c.args.lane c.args.now c.args.frame.now bytes c.in-Err.refusal c.push-in_default.new.self c.in_default.not-Memory c.in-Err.ensures.verdict c.in_ok-push-in_default.ensures.ok in
-    record { verdict = verdict_is c.args.self.now c.args.now c.args.frame.now bytes; receiver = is.receiver_is; log = is.log_is; unchanged = tt; unwritten = tt }
+    let right = verdict_is c.args.self.now c.args.now c.args.frame.now bytes in
+    record {
+      verdict = right;
+      receiver = is.receiver_is;
+      log = is.log_is;
+      unchanged = tt;
+      unwritten = tt;
+      logged = logs_next c.args.self.now c.args.log.now c.args.lane c.args.now c.args.frame.now c.args.self.now c.push-in_default.new.self right is.receiver_is is.log_is;
+    }
 
 pub returns-in_ok-push-in-Ok-Text-clause-verdict : goal.returns-in_ok-push-in-Ok-Text-clause-verdict
 returns-in_ok-push-in-Ok-Text-clause-verdict c =
@@ -36,3 +45,13 @@ returns-in_ok-push-in-Ok-Text-clause-verdict c =
 pub returns-in_ok-push-in-Ok-Closed-clause-verdict : goal.returns-in_ok-push-in-Ok-Closed-clause-verdict
 returns-in_ok-push-in-Ok-Closed-clause-verdict c =
     verdict_is c.args.self.now c.args.now c.args.frame.now (let bytes : AreBytes c.args.frame.now = record { small = λ i. (c.type_inv.frame i).fits } in bytes)
+
+pub returns-in_ok-push-in-Ok-Text-clause-logged : goal.returns-in_ok-push-in-Ok-Text-clause-logged
+returns-in_ok-push-in-Ok-Text-clause-logged c =
+    logs_next c.args.self.now c.args.log.now c.args.lane c.args.now c.args.frame.now _ _ (returns-in_ok-push-in-Ok-Text-clause-verdict c)
+    (returns-in_ok-push-in-Ok-Text-clause-receiver c) (returns-in_ok-push-in-Ok-Text-clause-log c)
+
+pub returns-in_ok-push-in-Ok-Closed-clause-logged : goal.returns-in_ok-push-in-Ok-Closed-clause-logged
+returns-in_ok-push-in-Ok-Closed-clause-logged c =
+    logs_next c.args.self.now c.args.log.now c.args.lane c.args.now c.args.frame.now _ _ (returns-in_ok-push-in-Ok-Closed-clause-verdict c)
+    (returns-in_ok-push-in-Ok-Closed-clause-receiver c) (returns-in_ok-push-in-Ok-Closed-clause-log c)

@@ -4,11 +4,12 @@ use Rattle.krb_core.specs.declared.turn.Turn.{Turn}
 use Rattle.krb_core.specs.Claims.{has_ended}
 use Rattle.krb_core.specs.Stepped.{after, is_done}
 use Rattle.krb_core.specs.Finish.{finishing, whole_log}
-use Rattle.krb_core.proofs.RelayedClaims.{goes_on, keeps_headline}
+use Rattle.krb_core.proofs.RelayedClaims.{goes_on, keeps_headline, sents_hold}
 use Rattle.krb_core.proofs.TurnLemmas.{left_over, left_next, left_last, round_in_part, round_in_full, round_count, served_all, on_ok}
 use Rattle.krb_core.proofs.RoundsTurned.{front_from, entries_from}
 use Rattle.krb_core.proofs.FinishLemmas.{done_from, ended_from}
 use Rattle.krb_core.proofs.WholeLemmas.{whole_by, part_from}
+use Rattle.krb_core.proofs.PartLemmas.{relayed_from}
 use Rattle.krb_core.proofs.stepped.Stepped.finish.Goals as goal
 
 pub returns-in_err-round-clause-after : goal.returns-in_err-round-clause-after
@@ -94,7 +95,16 @@ returns-in_err-round-clause-part c = λ lanes capacity room fresh.
 pub returns-clause-whole : goal.returns-clause-whole
 returns-clause-whole c = λ lanes capacity room fresh.
     whole_by lanes capacity c.args.self.now c.round-2.new.self c.round-2.result room fresh (returns-clause-rounds c) (returns-clause-ended c)
+    (sents_hold lanes capacity _ c.round-2.new.self ((returns-clause-turned c).1 lanes capacity [] fresh))
 
 pub returns-clause-part : goal.returns-clause-part
 returns-clause-part c = λ lanes capacity room fresh.
     part_from lanes capacity c.args.self.now c.round-2.new.self fresh (returns-clause-front c lanes capacity room fresh)
+
+pub returns-in_err-round-clause-relayed : goal.returns-in_err-round-clause-relayed
+returns-in_err-round-clause-relayed c = λ lanes capacity room fresh.
+    relayed_from lanes capacity c.args.self.now c.round.new.self room fresh (returns-in_err-round-clause-after c)
+
+pub returns-clause-relayed : goal.returns-clause-relayed
+returns-clause-relayed c = λ lanes capacity room fresh.
+    relayed_from lanes capacity c.args.self.now c.round-2.new.self room fresh (returns-clause-after c)
