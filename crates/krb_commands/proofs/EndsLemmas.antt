@@ -3,10 +3,10 @@ use Rattle.std.proofs.Common.{◌≡◌, ◌<◌, false, List, [], ◌∷◌, �
 use Rattle.std.specs.Prelude.{All}
 use Rattle.std.proofs.lemmas.List.Elements.{All-append}
 use Rattle.krb_seal.specs.Sealer.{SealerState}
-use Rattle.krb_core.specs.declared.receiver.Receiving.{Receiving}
-use Rattle.krb_core.specs.declared.sending.Sending.{Sending}
-use Rattle.krb_core.specs.Sending.{source_of, IsSender}
-use Rattle.krb_core.specs.Start.{Ends, ends_of, lanes_of}
+use Rattle.krb_peers.specs.declared.receiver.Receiving.{Receiving}
+use Rattle.krb_peers.specs.declared.sending.Sending.{Sending}
+use Rattle.krb_peers.specs.Sending.{source_of, IsSender}
+use Rattle.krb_peers.specs.Ends.{Ends, ends_of, lanes_of}
 use Rattle.krb_job.specs.declared.job.SenderJob.{SenderJob}
 use Rattle.krb_commands.specs.Ends.{AreReady, receiver_of, source_in, ends_with, ends_in}
 use Rattle.std.proofs.lemmas.List.{map-append}

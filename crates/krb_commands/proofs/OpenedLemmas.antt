@@ -4,17 +4,18 @@ use Rattle.std.specs.Io.KnownBytes.{Appends}
 use Rattle.std.proofs.KnownBytes.{Appends-trans}
 use Rattle.std.specs.List.{concat}
 use Rattle.std.proofs.lemmas.List.{take_more, take_all, map-append}
-use Rattle.krb_core.specs.declared.log.Entry.{Entry}
-use Rattle.krb_core.specs.declared.log.Event.{Event}
-use Rattle.krb_core.specs.declared.log.Status.{Status}
-use Rattle.krb_core.specs.Log.{entries_for, events_of as events_in, has_closed, new_log, status_of, ended_at}
-use Rattle.krb_core.specs.LogState.{LogState}
-use Rattle.krb_core.specs.ReceiverState.{ReceiverState}
-use Rattle.krb_core.specs.Sender.{moment_at}
-use Rattle.krb_core.specs.Track.{verdict_by, noted, IsShut}
-use Rattle.krb_core.specs.Verdicts.{Verdict, events_by, events_of}
-use Rattle.krb_core.specs.Logged.{HasLogged, LogsNext}
-use Rattle.krb_core.proofs.LoggedLemmas.{events_of-own, events_of-push, logged_none, logged_shut}
+use Rattle.krb_peers.specs.declared.log.Entry.{Entry}
+use Rattle.krb_peers.specs.declared.log.Event.{Event}
+use Rattle.krb_peers.specs.declared.log.Status.{Status}
+use Rattle.krb_peers.specs.Log.{entries_for, events_from as events_in, has_closed, new_log, status_of, ended_at}
+use Rattle.krb_peers.specs.LogState.{LogState}
+use Rattle.krb_peers.specs.ReceiverState.{ReceiverState}
+use Rattle.krb_peers.specs.Sender.{moment_at}
+use Rattle.krb_peers.specs.Receiver.{verdict_by}
+use Rattle.krb_peers.specs.Logged.{noted, IsShut}
+use Rattle.krb_peers.specs.Verdicts.{Verdict, events_by, events_from}
+use Rattle.krb_peers.specs.Logged.{HasLogged, LogsNext}
+use Rattle.krb_peers.proofs.LoggedLemmas.{events_of-own, events_of-push, logged_none, logged_shut}
 use Rattle.krb_commands.specs.JobLines.{entry_line, state_line, state_by, is_closed_state, status_by}
 use Rattle.krb_commands.specs.Output.{AppendsPrefix}
 use Rattle.krb_commands.specs.Opened.{AreOpened, opened_lines, opened_text, PrintsOpened, PrintsOpenedPrefix, HoldsFrames, LogsFrames}
@@ -36,10 +37,10 @@ opened_none start nows log is =
 pub opened_shut : (start : ReceiverState) (nows : List ℕ) (frames : List (List ℕ)) (receiver : ReceiverState) (log : LogState) → HasOpened start nows frames receiver log → IsShut log 0 receiver
 opened_shut start nows frames receiver log h = logged_shut start nows 0 frames log receiver h.holds.verdicts h.logged
 
-noted_more : (vs : List Verdict) (v : Verdict) (log log-now : LogState) → log ≡ log_of (events_of vs) → log-now ≡ noted log 0 v → log-now ≡ log_of (events_of (vs ++ v ∷ []))
+noted_more : (vs : List Verdict) (v : Verdict) (log log-now : LogState) → log ≡ log_of (events_from vs) → log-now ≡ noted log 0 v → log-now ≡ log_of (events_from (vs ++ v ∷ []))
 noted_more vs v log log-now is now_is =
     now_is ∙ ap (λ l. noted l 0 v) is
-    ∙ ap (λ e. let z : LogState = record (new_log 1) { entries = e } in z) (sym (map-append (λ event. let z : Entry = record { lane = 0; event = event } in z) (events_of vs) (events_by v)))
+    ∙ ap (λ e. let z : LogState = record (new_log 1) { entries = e } in z) (sym (map-append (λ event. let z : Entry = record { lane = 0; event = event } in z) (events_from vs) (events_by v)))
     ∙ ap log_of (sym (events_of-push vs v))
 
 -- the next of the frames
@@ -63,7 +64,7 @@ opened_next start nows frames place receiver log h frame now receiver-now log-no
 whole : (old now : Option (List ℕ)) (text : List ℕ) → Appends old now text → AppendsPrefix old now text
 whole old now text h = (text, h, ([], sym (append-nil text)))
 
-lines_are : (vs : List Verdict) (log : LogState) → log ≡ log_of (events_of vs) → concat (map entry_line log.entries) ≡ opened_lines vs
+lines_are : (vs : List Verdict) (log : LogState) → log ≡ log_of (events_from vs) → concat (map entry_line log.entries) ≡ opened_lines vs
 lines_are vs log is = ap (λ l. concat (map entry_line l.entries)) is
 
 -- a lane that has ended is closed where the close was accepted
@@ -72,10 +73,10 @@ closed_by true = refl
 closed_by false = refl
 
 -- how the lane has come to its end
-pub state_is : (vs : List Verdict) (log : LogState) → log ≡ log_of (events_of vs) → status_of (ended_at log 0) 0 ≡ state_by (has_closed (events_of vs))
+pub state_is : (vs : List Verdict) (log : LogState) → log ≡ log_of (events_from vs) → status_of (ended_at log 0) 0 ≡ state_by (has_closed (events_from vs))
 state_is vs log is =
     ap (λ l. status_of (ended_at l 0) 0) is
-    ∙ ap (λ e. state_by (has_closed e)) (events_of-own 0 (events_of vs))
+    ∙ ap (λ e. state_by (has_closed e)) (events_of-own 0 (events_from vs))
 
 module _ {A E : Type 0} (start : ReceiverState) (nows : List ℕ) (frames : List (List ℕ)) (outcome : Result A E) (log : LogState) (h : LogsFrames start nows frames outcome log) (old then now : Option (List ℕ)) where
   -- the entries so far, or a prefix of them
@@ -118,7 +119,7 @@ module _ {A E : Type 0} (start : ReceiverState) (nows : List ℕ) (frames : List
           h.1.verdicts,
           all_opened,
           subst P (state_last status is) (Appends-trans old then now (opened_lines h.1.verdicts) (state_line 0 status) (entries_first p) q),
-          code_is ∙ ap (λ s. status_by (is_closed_state s)) (is ∙ state_is h.1.verdicts log h.1.entries) ∙ ap status_by (closed_by (has_closed (events_of h.1.verdicts))),
+          code_is ∙ ap (λ s. status_by (is_closed_state s)) (is ∙ state_is h.1.verdicts log h.1.entries) ∙ ap status_by (closed_by (has_closed (events_from h.1.verdicts))),
         )
 
 -- nothing failed

@@ -3,11 +3,12 @@ use Rattle.std.proofs.Common.{◌≡◌, ℕ, zero, suc, true, false, List, [], 
 use Rattle.std.specs.Prelude.{All}
 use Rattle.krb_job.specs.declared.bad_input.BadInput.{BadInput}
 use Rattle.krb_seal.specs.Sealer.{SealerState}
-use Rattle.krb_core.specs.declared.receiver.Receiving.{Receiving}
-use Rattle.krb_core.specs.declared.sending.Sending.{Sending}
-use Rattle.krb_core.specs.declared.start.StartError.{StartError}
-use Rattle.krb_core.specs.declared.start.StartError.TheVariants.{Memory, BadPlan, Wiped}
-use Rattle.krb_core.specs.Start.{Ends, ends_of, lanes_of, Fails, FailsAt}
+use Rattle.krb_peers.specs.declared.receiver.Receiving.{Receiving}
+use Rattle.krb_peers.specs.declared.sending.Sending.{Sending}
+use Rattle.krb_peers.specs.declared.start.StartError.{StartError}
+use Rattle.krb_peers.specs.declared.start.StartError.TheVariants.{Memory, BadPlan, Wiped}
+use Rattle.krb_peers.specs.Ends.{Ends, ends_of, lanes_of}
+use Rattle.krb_core.specs.Start.{FailsToBegin, FailsAt}
 use Rattle.krb_commands.specs.declared.fault.Fault.{Fault}
 use Rattle.krb_commands.specs.declared.fault.Fault.TheVariants as fault
 use Rattle.krb_commands.specs.Fault.{bad_plan, of_start, IsLive}

@@ -3,12 +3,12 @@ use Rattle.std.proofs.Common.{◌≡◌, ℕ, suc, ◌+◌, ◌&&◌, Bool, true
 use Rattle.std.specs.List.{concat}
 use Rattle.std.specs.Io.KnownBytes.{Appends}
 use Rattle.std.proofs.KnownBytes.{Appends-trans, Appends-nil}
-use Rattle.krb_core.specs.declared.sending.Sent.{Sent}
-use Rattle.krb_core.specs.Log.{status_of}
-use Rattle.krb_core.specs.LogState.{LogState}
-use Rattle.krb_core.proofs.ListLemmas.{drop_get}
-use Rattle.krb_core.specs.Start.{Ends, AreSent}
-use Rattle.krb_core.specs.Whole.{IsRelayed, IsWhole, IsPart}
+use Rattle.krb_peers.specs.declared.sending.Sent.{Sent}
+use Rattle.krb_peers.specs.Log.{status_of}
+use Rattle.krb_peers.specs.LogState.{LogState}
+use Rattle.krb_peers.proofs.ListLemmas.{drop_get}
+use Rattle.krb_peers.specs.Ends.{Ends, sents_of}
+use Rattle.krb_peers.specs.Whole.{IsRelayed, IsWhole, IsPart}
 use Rattle.krb_commands.specs.JobLines.{entry_line, entry_lines, end_line, end_lines, are_closed, is_closed_state, status_by}
 use Rattle.krb_commands.specs.Relayed.{sents_of, relayed_text, PrintsRelayed, PrintsRelayedPrefix}
 use Rattle.krb_commands.proofs.SealedLemmas.{sent_is}

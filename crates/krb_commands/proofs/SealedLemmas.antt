@@ -4,13 +4,13 @@ use Rattle.std.proofs.lemmas.Bool.{eqb-true, eq-eqb}
 use Rattle.std.specs.List.{concat}
 use Rattle.std.specs.Io.KnownBytes.{Appends}
 use Rattle.std.proofs.KnownBytes.{Appends-trans}
-use Rattle.krb_core.specs.declared.sending.Sent.{Sent}
-use Rattle.krb_core.specs.declared.sending.Ending.{Ending}
-use Rattle.krb_core.specs.declared.sending.Ending.TheVariants.{Done, LastNumber}
-use Rattle.krb_core.specs.Plan.{contents}
-use Rattle.krb_core.specs.Sender.{Source}
-use Rattle.krb_core.specs.Sending.{sealed_of}
-use Rattle.krb_core.specs.Start.{IsWire}
+use Rattle.krb_peers.specs.declared.sending.Sent.{Sent}
+use Rattle.krb_peers.specs.declared.sending.Ending.{Ending}
+use Rattle.krb_peers.specs.declared.sending.Ending.TheVariants.{Done, LastNumber}
+use Rattle.krb_peers.specs.Plan.{contents}
+use Rattle.krb_peers.specs.Sender.{Source}
+use Rattle.krb_peers.specs.Sending.{sealed_of}
+use Rattle.krb_peers.specs.Wire.{IsWire}
 use Rattle.krb_commands.specs.JobLines.{frame_line, frame_lines, sent_line, sent_of}
 use Rattle.krb_commands.specs.Output.{AppendsPrefix}
 use Rattle.krb_commands.specs.Sealed.{sealed_text, PrintsSealed, PrintsSealedPrefix}

@@ -5,13 +5,13 @@ use Rattle.krb_seal.specs.declared.session.Session.{Session}
 use Rattle.krb_seal.specs.declared.session.Expect.{Expect}
 use Rattle.krb_seal.specs.Opens.{opener_of}
 use Rattle.krb_seal.specs.Sealer.{SealerState, new_state}
-use Rattle.krb_core.specs.Receiver.{first_demand}
-use Rattle.krb_core.specs.ReceiverState.{ReceiverState}
-use Rattle.krb_core.specs.declared.receiver.Receiving.{Receiving}
-use Rattle.krb_core.specs.declared.sending.Sending.{Sending}
-use Rattle.krb_core.specs.Sending.{source_of, IsSender}
-use Rattle.krb_core.specs.Sender.{Source}
-use Rattle.krb_core.specs.Start.{Ends}
+use Rattle.krb_peers.specs.Receiver.{first_demand}
+use Rattle.krb_peers.specs.ReceiverState.{ReceiverState}
+use Rattle.krb_peers.specs.declared.receiver.Receiving.{Receiving}
+use Rattle.krb_peers.specs.declared.sending.Sending.{Sending}
+use Rattle.krb_peers.specs.Sending.{source_of, IsSender}
+use Rattle.krb_peers.specs.Sender.{Source}
+use Rattle.krb_peers.specs.Ends.{Ends}
 use Rattle.krb_job.specs.declared.job.SenderJob.{SenderJob}
 use Rattle.krb_commands.specs.declared.ends.SessionKey.{SessionKey}
 use Rattle.krb_commands.specs.declared.ends.SessionKey.TheVariants.{Aes128, Aes256}

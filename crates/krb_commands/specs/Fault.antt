@@ -1,7 +1,7 @@
 -- What ends a run before its output is whole.
 use Rattle.std.specs.Prelude.{ℕ}
-use Rattle.krb_core.specs.declared.start.StartError.{StartError}
-use Rattle.krb_core.specs.declared.start.StartError.TheVariants as start
+use Rattle.krb_peers.specs.declared.start.StartError.{StartError}
+use Rattle.krb_peers.specs.declared.start.StartError.TheVariants as start
 use Rattle.krb_job.specs.declared.bad_input.BadInput.{BadInput}
 use Rattle.krb_job.specs.declared.bad_input.BadInput.TheVariants as bad
 use Rattle.krb_job.specs.declared.bad_input.JobError.{JobError}

@@ -5,18 +5,18 @@ use Rattle.std.specs.Fmt.{decimal}
 use Rattle.hex.specs.Hex.{encode_lower}
 use Rattle.krb_seal.specs.declared.refusal.Refusal.{Refusal}
 use Rattle.krb_seal.specs.Refusal.{code_of, name_of}
-use Rattle.krb_core.specs.declared.log.Event.{Event}
-use Rattle.krb_core.specs.declared.log.Event.TheVariants.{Text, Closed, Refused}
-use Rattle.krb_core.specs.declared.log.Entry.{Entry}
-use Rattle.krb_core.specs.declared.log.Status.{Status}
-use Rattle.krb_core.specs.declared.log.Status.TheVariants as status
-use Rattle.krb_core.specs.declared.sending.Sent.{Sent}
-use Rattle.krb_core.specs.declared.sending.Ending.{Ending}
-use Rattle.krb_core.specs.declared.sending.Ending.TheVariants.{Done, LastNumber}
-use Rattle.krb_core.specs.Log.{status_of}
-use Rattle.krb_core.specs.LogState.{LogState}
-use Rattle.krb_core.specs.Sender.{Source}
-use Rattle.krb_core.specs.Sending.{sealed_of}
+use Rattle.krb_peers.specs.declared.log.Event.{Event}
+use Rattle.krb_peers.specs.declared.log.Event.TheVariants.{Text, Closed, Refused}
+use Rattle.krb_peers.specs.declared.log.Entry.{Entry}
+use Rattle.krb_peers.specs.declared.log.Status.{Status}
+use Rattle.krb_peers.specs.declared.log.Status.TheVariants as status
+use Rattle.krb_peers.specs.declared.sending.Sent.{Sent}
+use Rattle.krb_peers.specs.declared.sending.Ending.{Ending}
+use Rattle.krb_peers.specs.declared.sending.Ending.TheVariants.{Done, LastNumber}
+use Rattle.krb_peers.specs.Log.{status_of}
+use Rattle.krb_peers.specs.LogState.{LogState}
+use Rattle.krb_peers.specs.Sender.{Source}
+use Rattle.krb_peers.specs.Sending.{sealed_of}
 
 -- a frame that is put on the wire
 abbrev pub frame_line : List ℕ → List ℕ

@@ -1,10 +1,10 @@
 -- What `relay` prints.
 use Rattle.std.specs.Prelude.{◌≡◌, ◌⊎◌, ℕ, List, ◌++◌, map, Option}
 use Rattle.std.specs.Io.KnownBytes.{Appends, Keeps}
-use Rattle.krb_core.specs.LogState.{LogState}
-use Rattle.krb_core.specs.Start.{Ends}
-use Rattle.krb_core.specs.declared.sending.Sent.{Sent}
-use Rattle.krb_core.specs.Whole.{IsRelayed, IsWhole, IsPart}
+use Rattle.krb_peers.specs.LogState.{LogState}
+use Rattle.krb_peers.specs.Ends.{Ends}
+use Rattle.krb_peers.specs.declared.sending.Sent.{Sent}
+use Rattle.krb_peers.specs.Whole.{IsRelayed, IsWhole, IsPart}
 use Rattle.krb_commands.specs.JobLines.{entry_lines, end_lines, are_closed, status_by, sent_of}
 use Rattle.krb_commands.specs.Output.{AppendsPrefix}
 

@@ -1,8 +1,8 @@
 -- What `seal` prints.
 use Rattle.std.specs.Prelude.{ℕ, ◌⊎◌, List, ◌++◌, Option}
 use Rattle.std.specs.Io.KnownBytes.{Appends, Keeps}
-use Rattle.krb_core.specs.Sender.{Source}
-use Rattle.krb_core.specs.Start.{IsWire}
+use Rattle.krb_peers.specs.Sender.{Source}
+use Rattle.krb_peers.specs.Wire.{IsWire}
 use Rattle.krb_commands.specs.JobLines.{frame_lines, sent_line, sent_of}
 use Rattle.krb_commands.specs.Output.{AppendsPrefix}
 

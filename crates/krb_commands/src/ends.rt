@@ -2,11 +2,11 @@
 
 ghost use Rattle.std.specs.Prelude.{◌≡◌, ◌+◌, ◌<◌, ◌≤◌, ◌∷◌, ◌++◌, [], false, ℕ, List, length, map, IsSome, IfOk, IfErr, OnOk, Some};
 ghost use Rattle.krb_seal.specs.Session.{HasShortAddresses};
-ghost use Rattle.krb_core.specs.Headline.{IsPaired};
-ghost use Rattle.krb_core.specs.Plan.{contents};
-ghost use Rattle.krb_core.specs.Start.{lanes_of};
+ghost use Rattle.krb_peers.specs.Headline.{IsPaired};
+ghost use Rattle.krb_peers.specs.Plan.{contents};
+ghost use Rattle.krb_peers.specs.Ends.{lanes_of};
 ghost use Rattle.krb_job.specs.declared.job.SenderJob.{SenderJob};
-ghost use Rattle.krb_core.specs.Sending.{source_of, IsSender};
+ghost use Rattle.krb_peers.specs.Sending.{source_of, IsSender};
 ghost use Rattle.krb_base.specs.Limits.{last_number};
 ghost use Rattle.krb_commands.specs.Ends as ends;
 

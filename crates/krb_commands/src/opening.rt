@@ -1,7 +1,7 @@
 //! The command `open`.
 
 ghost use Rattle.std.specs.Prelude.{◌≡◌, ◌<◌, ◌⊎◌, length, IfOk, IfErr, OnErr};
-ghost use Rattle.krb_core.specs.Log.{new_log};
+ghost use Rattle.krb_peers.specs.Log.{new_log};
 ghost use Rattle.krb_commands.specs.Opened.{LogsFrames, PrintsOpened, PrintsOpenedPrefix};
 
 use crate::fault::Fault;

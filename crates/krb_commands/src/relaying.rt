@@ -3,10 +3,11 @@
 ghost use Rattle.std.specs.Prelude.{◌≡◌, ◌≤◌, ◌<◌, ◌⊎◌, ℕ, false, length, All, IfOk, IfErr, OnOk, OnErr};
 ghost use Rattle.std.specs.Io.KnownBytes.{Keeps};
 ghost use Rattle.krb_job.specs.declared.bad_input.BadInput.{BadInput};
-ghost use Rattle.krb_core.specs.Log.{lane_limit};
-ghost use Rattle.krb_core.specs.Sending.{source_of, IsSender};
-ghost use Rattle.krb_core.specs.Start.{lanes_of, FailsAt};
-ghost use Rattle.krb_core.specs.declared.start.StartError.TheVariants as start;
+ghost use Rattle.krb_peers.specs.Log.{lane_limit};
+ghost use Rattle.krb_peers.specs.Sending.{source_of, IsSender};
+ghost use Rattle.krb_peers.specs.Ends.{lanes_of};
+ghost use Rattle.krb_core.specs.Start.{FailsAt};
+ghost use Rattle.krb_peers.specs.declared.start.StartError.TheVariants as start;
 ghost use Rattle.krb_commands.specs.Fault.{bad_plan};
 ghost use Rattle.krb_commands.specs.JobLines.{are_closed, end_lines, status_by};
 ghost use Rattle.krb_commands.specs.Output.{AppendsPrefix};

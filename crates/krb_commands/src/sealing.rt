@@ -3,8 +3,8 @@
 ghost use Rattle.std.specs.Prelude.{◌≡◌, false, IfOk, IfErr, OnOk, OnErr};
 ghost use Rattle.std.specs.Io.KnownBytes.{Keeps};
 ghost use Rattle.krb_job.specs.declared.bad_input.BadInput.{BadInput};
-ghost use Rattle.krb_core.specs.Sending.{source_of, IsSender};
-ghost use Rattle.krb_core.specs.Start.{IsBad};
+ghost use Rattle.krb_peers.specs.Sending.{source_of, IsSender};
+ghost use Rattle.krb_peers.specs.Wire.{IsBad};
 ghost use Rattle.krb_commands.specs.Fault.{bad_plan};
 ghost use Rattle.krb_commands.specs.Sealed.{PrintsSealed, PrintsSealedPrefix};
 

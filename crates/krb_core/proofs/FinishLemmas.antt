@@ -3,25 +3,28 @@ use Rattle.std.proofs.Common.{◌≡◌, ℕ, zero, suc, ◌+◌, ◌-◌, ◌<�
 use Rattle.std.specs.List.{All, list_all}
 use Rattle.std.proofs.lemmas.List.Elements.{All-nil, All-cons, All-head, All-tail, All-set}
 use Rattle.krb_base.specs.Lane.{Lane, has_end}
-use Rattle.krb_core.specs.declared.sending.Sent.{Sent}
+use Rattle.krb_peers.specs.declared.sending.Sent.{Sent}
 use Rattle.krb_core.specs.declared.turn.Turn.{Turn}
 use Rattle.krb_core.specs.declared.turn.Turn.TheVariants.{Send, Take}
-use Rattle.krb_core.specs.Log.{ended_at}
-use Rattle.krb_core.specs.LogState.{LogState}
-use Rattle.krb_core.specs.ReceiverState.{ReceiverState}
-use Rattle.krb_core.specs.Receiver.{receiver_behind}
-use Rattle.krb_core.specs.Sender.{moment_at}
-use Rattle.krb_core.specs.Start.{Ends, AreBegun}
+use Rattle.krb_peers.specs.Log.{ended_at}
+use Rattle.krb_peers.specs.LogState.{LogState}
+use Rattle.krb_peers.specs.ReceiverState.{ReceiverState}
+use Rattle.krb_peers.specs.Receiver.{receiver_behind}
+use Rattle.krb_peers.specs.Sender.{moment_at}
+use Rattle.krb_peers.specs.Ends.{Ends}
+use Rattle.krb_core.specs.Start.{AreBegun}
 use Rattle.krb_core.specs.Relayed.{HasTurned}
-use Rattle.krb_core.specs.Claims.{has_ended}
-use Rattle.krb_core.specs.Track.{TrackState, after_send, after_take, verdict_by, noted}
+use Rattle.krb_peers.specs.Claims.{has_ended}
+use Rattle.krb_core.specs.Track.{TrackState, after_send, after_take}
+use Rattle.krb_peers.specs.Receiver.{verdict_by}
+use Rattle.krb_peers.specs.Logged.{noted}
 use Rattle.krb_core.specs.TrackPlaces.{lane_at, ArePlaces}
 use Rattle.krb_core.specs.Stepped.{Relay, lane_of, turned_at, turned, after, is_done}
 use Rattle.krb_core.specs.Finish.{round_turns, rounds_turns, longest_wire, finishing}
 use Rattle.krb_core.proofs.TrackLemmas.{track_at, send_moves, send_full, send_over, take_frame, take_end, take_none, with_end}
 use Rattle.krb_core.proofs.RelayedLemmas.{stand_all}
 use Rattle.krb_core.proofs.RelayedClaims.{after-append, goes_on}
-use Rattle.krb_core.proofs.ListLemmas.{all_pass, there_is}
+use Rattle.krb_peers.proofs.ListLemmas.{all_pass, there_is}
 use Rattle.krb_core.proofs.TurnLemmas.{stepped, round_leaves, after_count}
 
 -- ---- a round takes an item of each lane that isn't done

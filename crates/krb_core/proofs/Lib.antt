@@ -1,20 +1,4 @@
-pub mod ListLemmas
-pub mod RecordLemmas
-pub mod OrderLemmas
-pub mod AcceptedLemmas
-pub mod AcceptedPrefix
-pub mod LogLemmas
-pub mod DrawsLemmas
-pub mod VerdictLemmas
-pub mod HeadlineLemmas
-pub mod UndisturbedLemmas
-pub mod RoundsLemmas
-pub mod NumberLemmas
-pub mod ReceiverLemmas
-pub mod SendingLemmas
 pub mod TrackLemmas
-pub mod LoggedLemmas
-pub mod ReceiveLemmas
 pub mod SteppedLemmas
 pub mod StartLemmas
 pub mod RelayedLemmas
@@ -22,5 +6,5 @@ pub mod RelayedClaims
 pub mod TurnLemmas
 pub mod RoundsTurned
 pub mod FinishLemmas
-pub mod WholeLemmas
+pub mod BegunRuns
 pub mod PartLemmas

@@ -4,30 +4,33 @@ use Rattle.std.proofs.lemmas.List.{take-map, map-append}
 use Rattle.std.proofs.lemmas.List.Elements.{All-head, All-tail}
 use Rattle.krb_base.specs.Lane.{Item, frames, is_possible, moved}
 use Rattle.krb_seal.specs.Opens.{OpenerState}
-use Rattle.krb_core.specs.declared.log.Event.{Event}
-use Rattle.krb_core.specs.declared.sending.Sent.{Sent}
+use Rattle.krb_peers.specs.declared.log.Event.{Event}
+use Rattle.krb_peers.specs.declared.sending.Sent.{Sent}
 use Rattle.krb_core.specs.declared.turn.Turn.{Turn}
 use Rattle.krb_core.specs.declared.turn.Turn.TheVariants.{Send, Take}
-use Rattle.krb_core.specs.Demand.{Demand}
-use Rattle.krb_core.specs.LogState.{LogState}
-use Rattle.krb_core.specs.Plan.{wire}
-use Rattle.krb_core.specs.Sender.{moment_at}
-use Rattle.krb_core.specs.Verdicts.{AllBytes, events_by, groups_of, demand_behind, verdict, verdicts}
-use Rattle.krb_core.specs.Start.{Ends, IsBegun, AreBegun}
+use Rattle.krb_peers.specs.Demand.{Demand}
+use Rattle.krb_peers.specs.LogState.{LogState}
+use Rattle.krb_peers.specs.Plan.{wire}
+use Rattle.krb_peers.specs.Sender.{moment_at}
+use Rattle.krb_peers.specs.Order.{demand_after}
+use Rattle.krb_peers.specs.Verdicts.{AllBytes, events_by, groups_of, accepted_by, verdict, verdicts}
+use Rattle.krb_peers.specs.Ends.{Ends}
+use Rattle.krb_core.specs.Start.{IsBegun, AreBegun}
 use Rattle.krb_core.specs.Track.{TrackState, next_send, after_send, log_after}
 use Rattle.krb_core.specs.Stepped.{Relay, turned, after}
 use Rattle.krb_core.specs.Relayed.{HasTurned}
-use Rattle.krb_core.specs.Rounds.{named, round, rounds, rounds_below}
+use Rattle.krb_peers.specs.Rounds.{named, round, rounds, rounds_below}
 use Rattle.krb_core.specs.Finish.{round_turns, rounds_turns, longest_wire, finishing, groups_over}
-use Rattle.krb_core.specs.Whole.{Run, IsFront, AreRuns, EndsWhole, IsRelayed, rounds_of}
-use Rattle.krb_core.proofs.VerdictLemmas.{verdicts_follow}
-use Rattle.krb_core.proofs.RoundsLemmas.{fronts, cut, rounds-cut}
+use Rattle.krb_peers.specs.Run.{Run, IsRun, AreRuns}
+use Rattle.krb_peers.specs.Whole.{EndsWhole, IsRelayed, rounds_of}
+use Rattle.krb_peers.proofs.VerdictLemmas.{verdicts_follow}
+use Rattle.krb_peers.proofs.RoundsLemmas.{fronts, cut, rounds-cut}
 use Rattle.krb_core.proofs.RelayedLemmas.{frames-take, bytes_of_taken, Stands, stand_all}
-use Rattle.krb_core.proofs.RelayedClaims.{run_of, front_is, takes_all, after-append, goes_on}
+use Rattle.krb_core.proofs.RelayedClaims.{is_run, front_is, takes_all, after-append, goes_on}
 use Rattle.krb_core.proofs.SteppedLemmas.{relay_of}
 use Rattle.krb_core.proofs.TurnLemmas.{stepped, lane_sent, lane_turned, IsPartOf}
 use Rattle.krb_core.proofs.RoundsTurned.{at_round, round_goes, IsOpen, AreOpen, InRounds, one_round, no_rounds, begun_fresh}
-use Rattle.krb_core.proofs.WholeLemmas.{run_over, relayed_of}
+use Rattle.krb_peers.proofs.WholeLemmas.{run_over, relayed_of}
 
 -- ---- a part of a round
 
@@ -191,7 +194,7 @@ verdicts-take opener nows demand place zero frames = refl
 verdicts-take opener nows demand place (suc n) [] = refl
 verdicts-take opener nows demand place (suc n) (g ∷ frames) =
     let now : ℕ = moment_at nows place in
-    ap (λ z. verdict opener demand now g ∷ z) (verdicts-take opener nows (demand_behind demand (verdict opener demand now g)) (place + 1) n frames)
+    ap (λ z. verdict opener demand now g ∷ z) (verdicts-take opener nows (demand_after demand (accepted_by (verdict opener demand now g))) (place + 1) n frames)
 
 abbrev runs_by : List Ends → List (List (Item (List ℕ))) → List Run
 runs_by [] gots = []
@@ -253,7 +256,7 @@ runs_same (ends ∷ lanes) [] = refl
 runs_same (ends ∷ lanes) (track ∷ tracks) = ap (λ rs. run_over ends (frames (got_of track)) ∷ rs) (runs_same lanes tracks)
 
 are_left : (lanes : List Ends) (tracks : List TrackState) → length tracks ≡ length lanes
-    → ((lane : ℕ) (ends : Ends) (track : TrackState) → slice_get lanes lane ≡ Some ends → slice_get tracks lane ≡ Some track → IsFront (run_over ends (frames (got_of track))))
+    → ((lane : ℕ) (ends : Ends) (track : TrackState) → slice_get lanes lane ≡ Some ends → slice_get tracks lane ≡ Some track → IsRun (run_over ends (frames (got_of track))))
     → AreRuns lanes (runs_left lanes tracks)
 are_left [] tracks count each = tt
 are_left (ends ∷ lanes) [] count each = absurd (omega (arith, count))
@@ -283,9 +286,9 @@ left_at (ends ∷ lanes) (track ∷ tracks) (suc lane) run at =
     record { ends = w.ends; track = w.track; ends_at = w.ends_at; track_at = w.track_at; run_is = w.run_is }
 
 -- what was taken of a wire is a front of it
-front_of : (ends : Ends) (lane : ℕ) (track : TrackState) (log : LogState) → Stands ends lane track log → IsFront (run_over ends (frames (got_of track)))
+front_of : (ends : Ends) (lane : ℕ) (track : TrackState) (log : LogState) → Stands ends lane track log → IsRun (run_over ends (frames (got_of track)))
 front_of ends lane track log h =
-    let run = run_of ends lane track log h in
+    let run = is_run ends lane track log h in
     let took : List (List ℕ) = frames (got_of track) in
     let start = ends.receiver.demand in
     let whole : AllBytes (wire h.emits.frames ends.source.plan) = subst AllBytes h.emits.wire_is h.emits.bytes in
@@ -303,7 +306,7 @@ module _ (lanes : List Ends) (capacity : ℕ) (old now : Relay) (room : 1 ≤ ca
       let in_part : InPart old.tracks now = subst (λ (r : Relay). InPart old.tracks r) (sym part.2) found in
       let stand = stand_all lanes capacity part.0 now (goes_on old now part.0 part.2 lanes capacity [] fresh_is) in
       let runs = runs_left lanes now.tracks in
-      let each : (lane : ℕ) (ends : Ends) (track : TrackState) → slice_get lanes lane ≡ Some ends → slice_get now.tracks lane ≡ Some track → IsFront (run_over ends (frames (got_of track))) =
+      let each : (lane : ℕ) (ends : Ends) (track : TrackState) → slice_get lanes lane ≡ Some ends → slice_get now.tracks lane ≡ Some track → IsRun (run_over ends (frames (got_of track))) =
       λ lane ends track at-e at-t. front_of ends lane track now.log (stand.each lane ends track at-e at-t) in
       relayed_of lanes runs now.log (are_left lanes now.tracks stand.count each)
       (entries_part capacity lanes old.tracks old.sents now begun in_part ∙ ap rounds_of (runs_same lanes now.tracks))

@@ -1,5 +1,5 @@
 -- What is claimed of each lane of a relay that was turned.
-use Rattle.std.proofs.Common.{◌≡◌, ◌≢◌, ℕ, zero, suc, ◌≤◌, ◌<◌, true, false, List, [], ◌∷◌, ◌++◌, length, set, take, drop, slice_get, Option, Some, None, Result, Ok, Err, inl, inr, refl, sym, ap, subst, ◌∙◌, arith, append_assoc, append-nil}
+use Rattle.std.proofs.Common.{◌≡◌, ◌≢◌, ℕ, zero, suc, ◌≤◌, ◌<◌, true, false, List, [], ◌∷◌, ◌++◌, length, set, take, drop, slice_get, Option, Some, None, Result, Ok, Err, inl, inr, refl, sym, ap, ap₂, subst, ◌∙◌, arith, append_assoc, append-nil}
 use Rattle.std.specs.Prelude.{OnOk, OnErr}
 use Rattle.std.proofs.lemmas.List.{take_all, take-append-drop}
 use Rattle.std.proofs.lemmas.List.Concat.{flat_map-append}
@@ -11,27 +11,28 @@ use Rattle.krb_base.specs.Lane.{Item, Lane, Frame, End, empty, has_end, frames, 
 use Rattle.krb_base.specs.Lane as machine
 use Rattle.krb_base.proofs.LaneLemmas.{frames-append, state_whole}
 use Rattle.krb_base.proofs.LaneLemmas as lane_lemmas
-use Rattle.krb_core.specs.declared.log.Event.{Event}
+use Rattle.krb_peers.specs.declared.log.Event.{Event}
 use Rattle.krb_core.specs.declared.turn.Turn.{Turn}
 use Rattle.krb_core.specs.declared.turn.Turn.TheVariants.{Send, Take}
-use Rattle.krb_core.specs.Log.{events_of, texts_in, has_closed}
-use Rattle.krb_core.specs.LogState.{LogState}
-use Rattle.krb_core.specs.Plan.{wire}
-use Rattle.krb_core.specs.Sender.{sealed_texts, AreFrames}
-use Rattle.krb_core.specs.Sender as sender
-use Rattle.krb_core.specs.Verdicts.{Verdict}
-use Rattle.krb_core.specs.Verdicts as verdict
-use Rattle.krb_core.specs.Headline.{IsRun}
-use Rattle.krb_core.specs.Undisturbed.{TakesAll}
-use Rattle.krb_core.specs.Track.{TrackState, verdict_now, entries_by, log_behind}
+use Rattle.krb_peers.specs.Log.{events_of, texts_in, has_closed}
+use Rattle.krb_peers.specs.LogState.{LogState}
+use Rattle.krb_peers.specs.Plan.{wire}
+use Rattle.krb_peers.specs.Sender.{sealed_texts, AreFrames}
+use Rattle.krb_peers.specs.Sender as sender
+use Rattle.krb_peers.specs.Verdicts.{Verdict}
+use Rattle.krb_peers.specs.Verdicts as verdict
+use Rattle.krb_peers.specs.Run.{IsRun}
+use Rattle.krb_peers.specs.Undisturbed.{TakesAll}
+use Rattle.krb_core.specs.Track.{TrackState, verdict_now, log_behind}
+use Rattle.krb_peers.specs.Logged.{entries_by}
 use Rattle.krb_core.specs.TrackPlaces.{items_of}
-use Rattle.krb_core.specs.declared.sending.Sent.{Sent}
-use Rattle.krb_core.specs.Start.{Ends, AreBegun, AreSent}
+use Rattle.krb_peers.specs.declared.sending.Sent.{Sent}
+use Rattle.krb_peers.specs.Ends.{Ends, sents_of}
+use Rattle.krb_core.specs.Start.{AreBegun}
 use Rattle.krb_core.specs.Stepped.{Relay, lane_of, event_of, track_behind, turned_at, turned, after}
-use Rattle.krb_core.specs.Relayed.{HasBegun, HasTurned, event_at, turned_events, Taking, taking_of, taking_at, takings, entries_in, IsLane, OfEachLane, HaveHeadline, GoesOn, KeepsHeadline}
-use Rattle.krb_core.specs.Claims.{has_ended, Headline}
-use Rattle.krb_core.proofs.HeadlineLemmas.{records_prefix, delivered_prefix, delivered_whole, quiet_after, refuses, refusal_nothing}
-use Rattle.krb_core.proofs.UndisturbedLemmas.{all_texts}
+use Rattle.krb_core.specs.Relayed.{HasBegun, HasTurned, event_at, turned_events, Taking, taking_of, taking_at, takings, entries_in, run_of, IsLane, OfEachLane, HaveHeadline, GoesOn, KeepsHeadline}
+use Rattle.krb_peers.specs.Claims.{has_ended}
+use Rattle.krb_peers.proofs.ClaimLemmas.{headline_of}
 use Rattle.krb_core.proofs.TrackLemmas.{no_end}
 use Rattle.krb_core.proofs.RelayedLemmas.{frames-take, Stands, stand_all, stand_begun, begun_at}
 
@@ -128,27 +129,6 @@ order_after (turn ∷ turns) relay =
 
 -- ---- the claims
 
-pub headline_of : (ends : Ends) (lane : ℕ) (took : List (List ℕ)) (vs : List Verdict) (log : LogState)
-    → IsRun ends.source ends.receiver.opener ends.receiver.demand ends.nows took vs → events_of lane log.entries ≡ verdict.events_of vs
-    → (has_ended lane log ≡ true → TakesAll ends.source took) → Headline ends lane took vs log
-headline_of ends lane took vs log run entries takes_all =
-    let source = ends.source in
-    let opener = ends.receiver.opener in
-    let start = ends.receiver.demand in
-    record {
-      delivered_prefix = λ paired honest.
-          let P : List Event → Type 0 = λ es. IsPrefix (texts_in es) (sealed_texts source) in
-          subst P (sym entries) (delivered_prefix vs (sealed_texts source) (records_prefix source opener start ends.nows took vs paired run honest));
-      nothing_after_close = λ front back is. quiet_after opener ends.nows start 0 took vs run.judged front back (sym entries ∙ is);
-      all_where_closed = λ paired honest closed.
-          ap texts_in entries ∙ delivered_whole vs (sealed_texts source) (records_prefix source opener start ends.nows took vs paired run honest) (ap has_closed (sym entries) ∙ closed);
-      all_where_undisturbed = λ calm ended. ap texts_in entries ∙ all_texts source opener start ends.nows calm (takes_all ended).fits took vs run (takes_all ended);
-      refused_exactly = λ place frame refusal at. refuses opener ends.nows start took vs run.judged place frame refusal at;
-      refusals_deliver_nothing = λ front back refusal is.
-          let w = refusal_nothing start vs front back refusal is in
-          (ap texts_in entries ∙ w.0, w.1);
-    }
-
 module _ (ends : Ends) (lane : ℕ) (track : TrackState) (log : LogState) (h : Stands ends lane track log) where
   abbrev pub took : List (List ℕ)
   took = frames track.lane.got
@@ -170,8 +150,8 @@ module _ (ends : Ends) (lane : ℕ) (track : TrackState) (log : LogState) (h : S
       let front = took_front in
       sym (take-append_seam took front.0) ∙ (ap (λ l. take (length took) l) (sym front.1) ∙ ap (λ l. take (length took) l) h.emits.wire_is)
 
-  pub run_of : IsRun ends.source ends.receiver.opener ends.receiver.demand ends.nows took h.verdicts
-  run_of =
+  pub is_run : IsRun (run_of ends track h.verdicts)
+  is_run =
       let all = sender.records ends.source in
       let whole : take (length all) all ≡ all = take_all (length all) all (omega arith) in
       record {
@@ -220,7 +200,7 @@ module _ (lanes : List Ends) (capacity : ℕ) (turns : List Turn) (relay : Relay
               record {
                 verdicts = stands.verdicts;
                 logged = stands.logged;
-                claims = headline_of ends lane (frames track.lane.got) stands.verdicts relay.log (run_of ends lane track relay.log stands) stands.logged.entries (takes_all ends lane track relay.log stands);
+                claims = headline_of (run_of ends track stands.verdicts) lane relay.log (is_run ends lane track relay.log stands) stands.logged.entries (takes_all ends lane track relay.log stands);
               },
             )
       ]
@@ -302,15 +282,14 @@ sents_after : (turns : List Turn) (relay : Relay) → (after relay turns).sents 
 sents_after [] relay = refl
 sents_after (turn ∷ turns) relay = sents_after turns (turned relay turn) ∙ sents_at relay turn (slice_get relay.tracks (lane_of turn))
 
-sent_begun : (capacity : ℕ) (lanes : List Ends) (tracks : List TrackState) (sents : List Sent) → AreBegun capacity lanes tracks sents → AreSent lanes sents
-sent_begun capacity [] [] [] h = tt
+sent_begun : (capacity : ℕ) (lanes : List Ends) (tracks : List TrackState) (sents : List Sent) → AreBegun capacity lanes tracks sents → sents ≡ sents_of lanes
+sent_begun capacity [] [] [] h = refl
 sent_begun capacity [] [] (s ∷ ss) h = absurd h
 sent_begun capacity [] (t ∷ ts) ss h = absurd h
 sent_begun capacity (e ∷ es) [] ss h = absurd h
 sent_begun capacity (e ∷ es) (t ∷ ts) [] h = absurd h
-sent_begun capacity (e ∷ es) (t ∷ ts) (s ∷ ss) h = (h.0.says, sent_begun capacity es ts ss h.1)
+sent_begun capacity (e ∷ es) (t ∷ ts) (s ∷ ss) h = ap₂ (λ x xs. x ∷ xs) h.0.says (sent_begun capacity es ts ss h.1)
 
-pub sents_hold : (lanes : List Ends) (capacity : ℕ) (turns : List Turn) (relay : Relay) → HasTurned lanes capacity turns relay → AreSent lanes relay.sents
+pub sents_hold : (lanes : List Ends) (capacity : ℕ) (turns : List Turn) (relay : Relay) → HasTurned lanes capacity turns relay → relay.sents ≡ sents_of lanes
 sents_hold lanes capacity turns relay h =
-    subst (λ (l : List Sent). AreSent lanes l) (sym (ap (λ r. r.sents) h.left ∙ sents_after turns h.begun))
-    (sent_begun capacity lanes h.begun.tracks h.begun.sents h.start.lanes_are)
+    ap (λ (r : Relay). r.sents) h.left ∙ (sents_after turns h.begun ∙ sent_begun capacity lanes h.begun.tracks h.begun.sents h.start.lanes_are)

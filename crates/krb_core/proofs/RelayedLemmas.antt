@@ -8,26 +8,31 @@ use Rattle.krb_aes.specs.Words.{AreBytes}
 use Rattle.krb_base.specs.Lane.{Item, Lane, Frame, End, empty, has_end, frames, is_possible, moved, taken, after_event, IsState}
 use Rattle.krb_base.specs.Lane as machine
 use Rattle.krb_base.proofs.LaneLemmas.{frames-append, has_end-append, behind_end, state_empty, state_event, state_moved}
-use Rattle.krb_core.specs.declared.sending.Sent.{Sent}
+use Rattle.krb_peers.specs.declared.sending.Sent.{Sent}
 use Rattle.krb_core.specs.declared.turn.Turn.{Turn}
 use Rattle.krb_core.specs.declared.turn.Turn.TheVariants.{Send, Take}
-use Rattle.krb_core.specs.Log.{ended_at, new_log}
-use Rattle.krb_core.specs.LogState.{LogState}
-use Rattle.krb_core.specs.ReceiverState.{ReceiverState}
-use Rattle.krb_core.specs.Receiver.{receiver_behind}
-use Rattle.krb_core.specs.Sender.{moment_at}
-use Rattle.krb_core.specs.Verdicts.{Verdict, AllBytes, IsVerdict, records_of, behind}
-use Rattle.krb_core.specs.Track.{TrackState, item_at, next_send, after_send, verdict_by, verdict_now, receiver_after, after_take, noted, log_behind, log_after}
+use Rattle.krb_peers.specs.Log.{ended_at, new_log}
+use Rattle.krb_peers.specs.LogState.{LogState}
+use Rattle.krb_peers.specs.ReceiverState.{ReceiverState}
+use Rattle.krb_peers.specs.Receiver.{receiver_behind}
+use Rattle.krb_peers.specs.Sender.{moment_at}
+use Rattle.krb_peers.specs.Order.{demand_after}
+use Rattle.krb_peers.specs.Verdicts.{Verdict, AllBytes, IsVerdict, records_of}
+use Rattle.krb_core.specs.Track.{TrackState, item_at, next_send, after_send, verdict_now, receiver_after, after_take, log_behind, log_after}
+use Rattle.krb_peers.specs.Receiver.{verdict_by}
+use Rattle.krb_peers.specs.Logged.{noted}
 use Rattle.krb_core.specs.TrackPlaces.{items_of}
-use Rattle.krb_core.specs.Start.{Ends, IsWire, fresh, IsBegun, AreBegun}
+use Rattle.krb_peers.specs.Ends.{Ends}
+use Rattle.krb_peers.specs.Wire.{IsWire}
+use Rattle.krb_core.specs.Start.{fresh, IsBegun, AreBegun}
 use Rattle.krb_core.specs.Stepped.{Relay, lane_of, track_behind, log_behind_turn, turned_at, turned, after}
-use Rattle.krb_core.specs.Claims.{has_ended, IsLogged}
-use Rattle.krb_core.specs.Relayed.{HasBegun, HasTurned}
-use Rattle.krb_core.proofs.ListLemmas.{both_true}
-use Rattle.krb_core.proofs.VerdictLemmas.{right_verdict}
+use Rattle.krb_peers.specs.Claims.{has_ended}
+use Rattle.krb_core.specs.Relayed.{HasBegun, HasTurned, IsLogged}
+use Rattle.krb_peers.proofs.ListLemmas.{both_true}
+use Rattle.krb_peers.proofs.VerdictLemmas.{right_verdict}
 use Rattle.krb_core.proofs.TrackLemmas.{take-item, with_end}
 use Rattle.krb_core.proofs.StartLemmas.{AreBegun-length}
-use Rattle.krb_core.proofs.LoggedLemmas.{logged_none, logged_more, logged_beside}
+use Rattle.krb_peers.proofs.LoggedLemmas.{logged_none, logged_more, logged_beside}
 use Rattle.krb_core.proofs.SteppedLemmas.{same, other, read_set}
 
 -- ---- frames and items
@@ -96,9 +101,9 @@ take_event lane (x ∷ queue) = rw (lt-ltb 0 (suc (length queue)) (omega arith))
 state_taken : (lane : Lane (List ℕ)) (queue : List (Item (List ℕ))) → lane.queue ≡ queue → IsState lane → IsState (taken lane queue)
 state_taken lane queue is h = subst IsState (take_event lane lane.queue ∙ ap (λ q. taken lane q) is) (state_event lane machine.Take h)
 
--- the receiver of a lane behind these verdicts
+-- the receiver of a lane demand_after these verdicts
 abbrev receiver_of : Ends → List Verdict → ReceiverState
-receiver_of ends verdicts = record ends.receiver { demand = behind ends.receiver.demand (records_of verdicts) }
+receiver_of ends verdicts = record ends.receiver { demand = demand_after ends.receiver.demand (records_of verdicts) }
 
 module _ (ends : Ends) (lane : ℕ) (track : TrackState) (log : LogState) (h : Stands ends lane track log) where
   -- a frame at the front of the queue is bytes
@@ -112,11 +117,11 @@ module _ (ends : Ends) (lane : ℕ) (track : TrackState) (log : LogState) (h : S
 
   -- and its verdict is the one that is due
   queued_verdict : (frame : List ℕ) (rest : List (Item (List ℕ))) → track.lane.queue ≡ Frame frame ∷ rest
-      → IsVerdict ends.receiver.opener (behind ends.receiver.demand (records_of h.verdicts)) (moment_at ends.nows (0 + length (frames track.lane.got))) frame (verdict_now track frame)
+      → IsVerdict ends.receiver.opener (demand_after ends.receiver.demand (records_of h.verdicts)) (moment_at ends.nows (0 + length (frames track.lane.got))) frame (verdict_now track frame)
   unfolding verdict_by
   queued_verdict frame rest is =
       let opener = ends.receiver.opener in
-      let demand = behind ends.receiver.demand (records_of h.verdicts) in
+      let demand = demand_after ends.receiver.demand (records_of h.verdicts) in
       let took = frames track.lane.got in
       let now = moment_at ends.nows (0 + length took) in
       let count : 0 + length took ≡ length track.lane.got = omega (arith, all_frames track.lane.got (got_no_end track.lane (Frame frame) rest h.state is)) in

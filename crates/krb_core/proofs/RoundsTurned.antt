@@ -7,28 +7,32 @@ use Rattle.std.proofs.lemmas.List.Elements.{All-nil, All-cons, All-head, All-tai
 use Rattle.std.proofs.lemmas.Option.{slice_get_past, slice_get_within, slice_get-map}
 use Rattle.krb_base.specs.Prefix.{IsPrefix}
 use Rattle.krb_seal.specs.Opens.{OpenerState}
-use Rattle.krb_core.specs.declared.log.Event.{Event}
-use Rattle.krb_core.specs.declared.sending.Sent.{Sent}
+use Rattle.krb_peers.specs.declared.log.Event.{Event}
+use Rattle.krb_peers.specs.declared.sending.Sent.{Sent}
 use Rattle.krb_core.specs.declared.turn.Turn.{Turn}
-use Rattle.krb_core.specs.Demand.{Demand}
-use Rattle.krb_core.specs.Log.{ended_at}
-use Rattle.krb_core.specs.LogState.{LogState}
-use Rattle.krb_core.specs.ReceiverState.{ReceiverState}
-use Rattle.krb_core.specs.Receiver.{receiver_behind}
-use Rattle.krb_core.specs.Sender.{moment_at}
-use Rattle.krb_core.specs.Start.{fresh, Ends, AreBegun}
+use Rattle.krb_peers.specs.Demand.{Demand}
+use Rattle.krb_peers.specs.Log.{ended_at}
+use Rattle.krb_peers.specs.LogState.{LogState}
+use Rattle.krb_peers.specs.ReceiverState.{ReceiverState}
+use Rattle.krb_peers.specs.Receiver.{receiver_behind}
+use Rattle.krb_peers.specs.Sender.{moment_at}
+use Rattle.krb_core.specs.Start.{fresh, AreBegun}
+use Rattle.krb_peers.specs.Ends.{Ends}
 use Rattle.krb_core.specs.Relayed.{HasTurned}
-use Rattle.krb_core.specs.Verdicts.{Verdict, accepted_by, events_by, groups_of, records_of, behind, demand_behind, verdict, verdicts}
-use Rattle.krb_core.specs.Track.{TrackState, after_send, after_take, verdict_by, noted, entries_by, log_after}
+use Rattle.krb_peers.specs.Order.{demand_after}
+use Rattle.krb_peers.specs.Verdicts.{Verdict, accepted_by, events_by, groups_of, records_of, verdict, verdicts}
+use Rattle.krb_core.specs.Track.{TrackState, after_send, after_take, log_after}
+use Rattle.krb_peers.specs.Receiver.{verdict_by}
+use Rattle.krb_peers.specs.Logged.{noted, entries_by}
 use Rattle.krb_core.specs.TrackPlaces.{ArePlaces}
 use Rattle.krb_core.specs.Stepped.{Relay, after}
-use Rattle.krb_core.specs.Rounds.{named, round, rounds_below, NoneLonger}
+use Rattle.krb_peers.specs.Rounds.{named, round, rounds_below, NoneLonger}
 use Rattle.krb_core.specs.Finish.{round_turns, rounds_turns, longest_wire, finishing, groups_over, whole_log}
-use Rattle.krb_core.proofs.VerdictLemmas.{behind-nil, behind-append}
+use Rattle.krb_peers.proofs.OrderLemmas.{demand_after-nil, demand_after-append}
 use Rattle.krb_core.proofs.TrackLemmas.{track_at, send_moves, send_over, take_frame, take_end, take_none}
 use Rattle.krb_core.proofs.SteppedLemmas.{relay_of}
-use Rattle.krb_core.proofs.RoundsLemmas.{rounds-from_below}
-use Rattle.krb_core.proofs.LoggedLemmas.{records_of-push}
+use Rattle.krb_peers.proofs.RoundsLemmas.{rounds-from_below}
+use Rattle.krb_peers.proofs.LoggedLemmas.{records_of-push}
 use Rattle.krb_core.proofs.RelayedClaims.{after-append}
 use Rattle.krb_core.proofs.TurnLemmas.{stepped, log_round, round_leaves, entries_grow, IsPartOf}
 
@@ -36,25 +40,25 @@ use Rattle.krb_core.proofs.TurnLemmas.{stepped, log_round, round_leaves, entries
 
 verdict-at : (opener : OpenerState) (nows : List ℕ) (demand : Demand) (place : ℕ) (wire : List (List ℕ)) (k : ℕ) (frame : List ℕ) → slice_get wire k ≡ Some frame
     → let vs = verdicts opener nows demand place wire in
-    slice_get vs k ≡ Some (verdict opener (behind demand (records_of (take k vs))) (moment_at nows (place + k)) frame)
+    slice_get vs k ≡ Some (verdict opener (demand_after demand (records_of (take k vs))) (moment_at nows (place + k)) frame)
 verdict-at opener nows demand place [] k frame at = absurd (let e = at in cc)
 verdict-at opener nows demand place (g ∷ wire) zero frame at =
     let same : g ≡ frame = (let e = at in cc) in
     let p : place ≡ place + 0 = omega arith in
     ap (λ f. Some (verdict opener demand (moment_at nows place) f)) same
-    ∙ ap₂ (λ (d : Demand) (n : ℕ). Some (verdict opener d (moment_at nows n) frame)) (sym (behind-nil demand)) p
+    ∙ ap₂ (λ (d : Demand) (n : ℕ). Some (verdict opener d (moment_at nows n) frame)) (sym (demand_after-nil demand)) p
 verdict-at opener nows demand place (g ∷ wire) (suc k) frame at =
     let v = verdict opener demand (moment_at nows place) g in
-    let rest = verdicts opener nows (demand_behind demand v) (place + 1) wire in
+    let rest = verdicts opener nows (demand_after demand (accepted_by v)) (place + 1) wire in
     let p : place + 1 + k ≡ place + suc k = omega arith in
-    verdict-at opener nows (demand_behind demand v) (place + 1) wire k frame at
-    ∙ ap₂ (λ (d : Demand) (n : ℕ). Some (verdict opener d (moment_at nows n) frame)) (behind-append demand (accepted_by v) (records_of (take k rest))) p
+    verdict-at opener nows (demand_after demand (accepted_by v)) (place + 1) wire k frame at
+    ∙ ap₂ (λ (d : Demand) (n : ℕ). Some (verdict opener d (moment_at nows n) frame)) (demand_after-append demand (accepted_by v) (records_of (take k rest))) p
 
 length-verdicts : (opener : OpenerState) (nows : List ℕ) (demand : Demand) (place : ℕ) (wire : List (List ℕ)) → length (verdicts opener nows demand place wire) ≡ length wire
 length-verdicts opener nows demand place [] = refl
 length-verdicts opener nows demand place (g ∷ wire) =
     let v = verdict opener demand (moment_at nows place) g in
-    ap suc (length-verdicts opener nows (demand_behind demand v) (place + 1) wire)
+    ap suc (length-verdicts opener nows (demand_after demand (accepted_by v)) (place + 1) wire)
 
 -- ---- each verdict is one group
 
@@ -94,7 +98,7 @@ module _ (begun : TrackState) where
 
   -- so many of its items were sent and taken
   abbrev pub received : ℕ → ReceiverState
-  received k = record begun.receiver { demand = behind begun.receiver.demand (records_of (take k answers)) }
+  received k = record begun.receiver { demand = demand_after begun.receiver.demand (records_of (take k answers)) }
 
   abbrev pub so_far : ℕ → TrackState
   so_far k = track_at begun.wire begun.lane.capacity k k (received k) begun.nows
@@ -104,13 +108,13 @@ module _ (begun : TrackState) where
   answer-at k frame at =
       let p : 0 + k ≡ k = omega arith in
       verdict-at begun.receiver.opener begun.nows start 0 begun.wire k frame at
-      ∙ ap (λ n. Some (verdict begun.receiver.opener (behind begun.receiver.demand (records_of (take k answers))) (moment_at begun.nows n) frame)) p
+      ∙ ap (λ n. Some (verdict begun.receiver.opener (demand_after begun.receiver.demand (records_of (take k answers))) (moment_at begun.nows n) frame)) p
 
   received-next : (k : ℕ) (v : Verdict) → slice_get answers k ≡ Some v → receiver_behind (received k) v ≡ received (k + 1)
   received-next k v at =
       ap (λ (d : Demand). let r : ReceiverState = record begun.receiver { demand = d } in r)
-      (behind-append begun.receiver.demand (records_of (take k answers)) (accepted_by v)
-      ∙ ap (λ rs. behind begun.receiver.demand rs) (sym (records_of-push (take k answers) v) ∙ ap records_of (sym (take-next k answers v at))))
+      (demand_after-append begun.receiver.demand (records_of (take k answers)) (accepted_by v)
+      ∙ ap (λ rs. demand_after begun.receiver.demand rs) (sym (records_of-push (take k answers) v) ∙ ap records_of (sym (take-next k answers v at))))
 
   -- a send and a take of a lane
   record Goes (k m n number : ℕ) (log : LogState) : Type 0 where
@@ -152,7 +156,7 @@ module _ (begun : TrackState) where
       let took = take_end wire capacity (k + 1) k r nows log (ended_at log number) number after_places (omega arith) none refl in
       let long : length answers ≡ k = length-answers ∙ is in
       let all : take k answers ≡ take (k + 1) answers = take_all k answers (omega (arith, long)) ∙ sym (take_all (k + 1) answers (omega (arith, long))) in
-      let same : r ≡ received (k + 1) = ap (λ (z : List Verdict). let x : ReceiverState = record begun.receiver { demand = behind begun.receiver.demand (records_of z) } in x) all in
+      let same : r ≡ received (k + 1) = ap (λ (z : List Verdict). let x : ReceiverState = record begun.receiver { demand = demand_after begun.receiver.demand (records_of z) } in x) all in
       record {
         track_is = ap after_take (sym sent.after) ∙ (sym took.after ∙ ap (λ x. track_at wire capacity (k + 1) (k + 1) x nows) same);
         entries_are = ap (λ t. (log_after log number t).entries) (sym sent.after) ∙ (ap (λ (l : LogState). l.entries) (sym took.log_is) ∙ none_after k number log (omega (arith, is)));
@@ -203,7 +207,7 @@ module _ (begun : TrackState) where
   -- before the first round
   at_round-zero : begun ≡ fresh begun.wire begun.receiver begun.nows begun.lane.capacity → at_round 0 ≡ begun
   at_round-zero is =
-      let same : received 0 ≡ begun.receiver = ap (λ (d : Demand). let r : ReceiverState = record begun.receiver { demand = d } in r) (behind-nil begun.receiver.demand) in
+      let same : received 0 ≡ begun.receiver = ap (λ (d : Demand). let r : ReceiverState = record begun.receiver { demand = d } in r) (demand_after-nil begun.receiver.demand) in
       let none : min 0 (length begun.wire + 1) ≡ 0 = omega arith in
       ap so_far none ∙ (ap (λ r. track_at begun.wire begun.lane.capacity 0 0 r begun.nows) same ∙ sym is)
 

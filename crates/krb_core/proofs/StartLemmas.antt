@@ -1,38 +1,27 @@
 -- How a lane begins.
 use Rattle.std.proofs.Common.{◌≡◌, ℕ, suc, true, List, [], ◌∷◌, ◌++◌, length, map, Option, Some, Result, Ok, Err, inr, refl, sym, ap, ap₂, subst, ◌∙◌, arith, append_assoc, append-nil, length-append, replicate, false}
 use Rattle.std.proofs.lemmas.List.{map_push, map-append, length-map}
-use Rattle.krb_core.specs.Sending.{source_of}
+use Rattle.krb_peers.specs.Sending.{source_of}
 use Rattle.std.specs.List.{zip}
 use Rattle.std.specs.Prelude.{Vec, IsTrue, IfErr, IsErrAnd, option_map}
-use Rattle.krb_core.specs.declared.plan.Emit.{Emit}
-use Rattle.krb_core.specs.Plan.{is_good, wire}
-use Rattle.krb_core.specs.Sender.{HaveShortTexts, Source, records, AreFrames}
+use Rattle.krb_peers.specs.declared.plan.Emit.{Emit}
+use Rattle.krb_peers.specs.Plan.{is_good, wire}
+use Rattle.krb_peers.specs.Sender.{HaveShortTexts, Source, records, AreFrames}
 use Rattle.krb_seal.specs.Sealer.{SealerState}
-use Rattle.krb_core.specs.declared.receiver.Receiving.{Receiving}
-use Rattle.krb_core.specs.declared.sending.Sending.{Sending}
-use Rattle.krb_core.specs.declared.sending.Sent.{Sent}
-use Rattle.krb_core.specs.declared.start.StartError.{StartError}
-use Rattle.krb_core.specs.declared.log.Entry.{Entry}
-use Rattle.krb_core.specs.Log.{lane_limit, new_log, is_closed}
-use Rattle.krb_core.specs.LogState.{LogState}
+use Rattle.krb_peers.specs.declared.receiver.Receiving.{Receiving}
+use Rattle.krb_peers.specs.declared.sending.Sending.{Sending}
+use Rattle.krb_peers.specs.declared.sending.Sent.{Sent}
+use Rattle.krb_peers.specs.declared.start.StartError.{StartError}
+use Rattle.krb_peers.specs.declared.log.Entry.{Entry}
+use Rattle.krb_peers.specs.Log.{lane_limit, new_log, is_closed}
+use Rattle.krb_peers.specs.LogState.{LogState}
 use Rattle.krb_core.specs.Track.{TrackState}
 use Rattle.krb_core.specs.Stepped.{IsRelay}
-use Rattle.krb_core.specs.Verdicts.{AllBytes}
-use Rattle.krb_core.specs.Start.{Ends, ends_of, IsWire, IsReason, IsBegun, AreBegun, Fails}
-
--- what a good plan emits is the wire
-pub wire_planned : {A : Type 0} (held : Option (Vec Emit A)) (plan : Vec Emit A) (source : Source) → source.plan ≡ option_map (λ p. p.items) held → (frames emitted : List (List ℕ)) → held ≡ Some plan
-    → AreFrames source (records source) frames → IsTrue (is_good frames plan.items) → emitted ≡ wire frames (Some plan.items) → AllBytes emitted → HaveShortTexts source → IsWire source emitted
-wire_planned held plan source plan_is frames emitted some sealed good is bytes fits =
-    let e : source.plan ≡ Some plan.items = plan_is ∙ ap (λ o. option_map (λ p. p.items) o) some in
-    record {
-      frames = frames;
-      sealed = sealed;
-      planned = rw e good;
-      wire_is = is ∙ rw e refl;
-      bytes = bytes;
-      fits = fits;
-    }
+use Rattle.krb_peers.specs.Verdicts.{AllBytes}
+use Rattle.krb_peers.specs.Ends.{Ends, ends_of}
+use Rattle.krb_peers.specs.Wire.{IsWire}
+use Rattle.krb_peers.specs.StartError.{IsReason}
+use Rattle.krb_core.specs.Start.{IsBegun, AreBegun, FailsToBegin}
 
 -- one lane more begins
 pub AreBegun-push : (capacity : ℕ) (lanes : List Ends) (tracks : List TrackState) (sents : List Sent) (ends : Ends) (track : TrackState) (sent : Sent)
@@ -109,7 +98,7 @@ is_new_log log count lanes l e d same =
 -- a lane that doesn't begin, behind those that do
 pub lane_fails : {S : Type 0} (state : S → SealerState) (capacity : ℕ) (lanes before behind : List (Sending S × Receiving)) (pair : Sending S × Receiving) (tracks : List TrackState) (sents : List Sent) (lane : ℕ) (error : StartError)
     → lanes ≡ (before ++ pair ∷ []) ++ behind → AreBegun capacity (map (ends_of state) before) tracks sents → lane ≡ length before → IsReason (source_of state (pair.0)) lane error
-    → Fails capacity (map (ends_of state) lanes) error
+    → FailsToBegin capacity (map (ends_of state) lanes) error
 lane_fails state capacity lanes before behind pair tracks sents lane error e begun at reason =
     let f = ends_of state in
     let place : lane ≡ length (map f before) = at ∙ sym (length-map before f) in

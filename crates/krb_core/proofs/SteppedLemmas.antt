@@ -4,16 +4,17 @@ use Rattle.std.proofs.lemmas.List.{take_more, length-set}
 use Rattle.std.specs.Prelude.{OnOk, OnErr, IfOk}
 use Rattle.krb_base.specs.Lane.{Item, Frame, End, is_possible}
 use Rattle.krb_base.specs.Lane as event
-use Rattle.krb_core.specs.declared.sending.Sent.{Sent}
+use Rattle.krb_peers.specs.declared.sending.Sent.{Sent}
 use Rattle.krb_core.specs.declared.turn.Did.{Did}
 use Rattle.krb_core.specs.declared.turn.Did.TheVariants.{Waits}
 use Rattle.krb_core.specs.declared.turn.Turn.{Turn}
 use Rattle.krb_core.specs.declared.turn.Turn.TheVariants.{Send, Take}
-use Rattle.krb_core.specs.LogState.{LogState}
-use Rattle.krb_core.specs.ReceiverState.{ReceiverState}
-use Rattle.krb_core.specs.Track.{TrackState, receiver_after, log_behind, verdict_now, next_send, after_send, after_take, log_after, IsShut}
+use Rattle.krb_peers.specs.LogState.{LogState}
+use Rattle.krb_peers.specs.ReceiverState.{ReceiverState}
+use Rattle.krb_core.specs.Track.{TrackState, receiver_after, log_behind, verdict_now, next_send, after_send, after_take, log_after}
+use Rattle.krb_peers.specs.Logged.{IsShut}
 use Rattle.krb_core.specs.Stepped.{Relay, lane_of, track_behind, turned_at, turned, after, may_move, IsRelay}
-use Rattle.krb_core.proofs.LoggedLemmas.{shut_same, shut_other}
+use Rattle.krb_peers.proofs.LoggedLemmas.{shut_same, shut_other}
 
 -- ---- closes in a log
 

@@ -8,13 +8,15 @@ use Rattle.krb_base.specs.Lane.{Item, Lane, Frame, End, Send, Take, has_end, is_
 use Rattle.krb_base.proofs.LaneLemmas.{may_send, after_possible, after_impossible}
 use Rattle.krb_core.specs.declared.turn.Did.{Did}
 use Rattle.krb_core.specs.declared.turn.Did.TheVariants.{Moved, Waits}
-use Rattle.krb_core.specs.LogState.{LogState}
-use Rattle.krb_core.specs.ReceiverState.{ReceiverState}
-use Rattle.krb_core.specs.Receiver.{receiver_behind}
-use Rattle.krb_core.specs.Log.{ended_at}
-use Rattle.krb_core.specs.Plan.{contents}
-use Rattle.krb_core.specs.Sender.{moment_at}
-use Rattle.krb_core.specs.Track.{TrackState, item_of, item_at, next_send, after_send, verdict_by, receiver_after, after_take, noted, log_behind, log_after}
+use Rattle.krb_peers.specs.LogState.{LogState}
+use Rattle.krb_peers.specs.ReceiverState.{ReceiverState}
+use Rattle.krb_peers.specs.Receiver.{receiver_behind}
+use Rattle.krb_peers.specs.Log.{ended_at}
+use Rattle.krb_peers.specs.Plan.{contents}
+use Rattle.krb_peers.specs.Sender.{moment_at}
+use Rattle.krb_core.specs.Track.{TrackState, item_of, item_at, next_send, after_send, receiver_after, after_take, log_behind, log_after}
+use Rattle.krb_peers.specs.Receiver.{verdict_by}
+use Rattle.krb_peers.specs.Logged.{noted}
 use Rattle.krb_core.specs.TrackPlaces.{items_of, lane_at, ArePlaces}
 
 -- ---- the items of a wire

@@ -4,11 +4,12 @@ use Rattle.std.specs.Prelude.{OnOk}
 use Rattle.krb_base.specs.Lane.{Item, Frame, End}
 use Rattle.krb_base.specs.Prefix.{IsPrefix}
 use Rattle.krb_base.proofs.PrefixLemmas.{prefix_whole, prefix_same, prefix_trans}
-use Rattle.krb_core.specs.declared.sending.Sent.{Sent}
+use Rattle.krb_peers.specs.declared.sending.Sent.{Sent}
 use Rattle.krb_core.specs.declared.turn.Turn.{Turn}
 use Rattle.krb_core.specs.declared.turn.Turn.TheVariants.{Send, Take}
-use Rattle.krb_core.specs.LogState.{LogState}
-use Rattle.krb_core.specs.Track.{TrackState, after_send, after_take, verdict_now, entries_by, log_behind, log_after}
+use Rattle.krb_peers.specs.LogState.{LogState}
+use Rattle.krb_core.specs.Track.{TrackState, after_send, after_take, verdict_now, log_behind, log_after}
+use Rattle.krb_peers.specs.Logged.{entries_by}
 use Rattle.krb_core.specs.Stepped.{Relay, lane_of, turned_at, turned, after}
 use Rattle.krb_core.specs.Finish.{round_turns, rounds_turns, finishing}
 use Rattle.krb_core.proofs.SteppedLemmas.{relay_of, turned_count}

@@ -1,15 +1,15 @@
 -- How a relay that is stepped runs to its end.
 use Rattle.std.specs.Prelude.{ℕ, zero, suc, ◌+◌, ◌≤◌, max, List, [], ◌∷◌, ◌++◌, length, map}
-use Rattle.krb_core.specs.declared.log.Event.{Event}
-use Rattle.krb_core.specs.declared.log.Entry.{Entry}
+use Rattle.krb_peers.specs.declared.log.Event.{Event}
+use Rattle.krb_peers.specs.declared.log.Entry.{Entry}
 use Rattle.krb_core.specs.declared.turn.Turn.{Turn}
 use Rattle.krb_core.specs.declared.turn.Turn.TheVariants.{Send, Take}
-use Rattle.krb_core.specs.Verdicts.{groups_of, verdicts}
+use Rattle.krb_peers.specs.Verdicts.{groups_of, verdicts}
 use Rattle.krb_core.specs.Track.{TrackState}
 use Rattle.krb_core.specs.Stepped.{Relay}
-use Rattle.krb_core.specs.Start.{Ends}
+use Rattle.krb_peers.specs.Ends.{Ends}
 use Rattle.krb_core.specs.Relayed.{HasTurned}
-use Rattle.krb_core.specs.Rounds.{rounds}
+use Rattle.krb_peers.specs.Rounds.{rounds}
 
 -- a send and a take of each of so many lanes, from a lane on
 abbrev pub round_turns : ℕ → ℕ → List Turn

@@ -4,16 +4,21 @@ use Rattle.std.specs.List.{flat_map}
 use Rattle.krb_base.specs.Prefix.{IsPrefix}
 use Rattle.krb_base.specs.Lane.{Item, Frame, End, IsReached, empty, frames}
 use Rattle.krb_base.specs.Lane as machine
-use Rattle.krb_core.specs.declared.log.Entry.{Entry}
+use Rattle.krb_peers.specs.declared.log.Entry.{Entry}
 use Rattle.krb_core.specs.declared.turn.Turn.{Turn}
 use Rattle.krb_core.specs.declared.turn.Turn.TheVariants.{Send, Take}
-use Rattle.krb_core.specs.Log.{lane_limit, new_log}
-use Rattle.krb_core.specs.LogState.{LogState}
-use Rattle.krb_core.specs.Verdicts.{Verdict}
-use Rattle.krb_core.specs.Claims.{IsLogged, Headline}
-use Rattle.krb_core.specs.Track.{TrackState, verdict_now, entries_by}
+use Rattle.krb_peers.specs.Log.{lane_limit, new_log}
+use Rattle.krb_peers.specs.LogState.{LogState}
+use Rattle.krb_peers.specs.Verdicts.{Verdict}
+use Rattle.krb_peers.specs.Claims.{Headline}
+use Rattle.krb_peers.specs.ReceiverState.{ReceiverState}
+use Rattle.krb_peers.specs.Run.{Run}
+use Rattle.krb_core.specs.Track.{TrackState, verdict_now}
+use Rattle.krb_peers.specs.Logged.{HasLogged, entries_by}
 use Rattle.krb_core.specs.TrackPlaces.{items_of}
-use Rattle.krb_core.specs.Start.{Ends, IsWire, AreBegun}
+use Rattle.krb_peers.specs.Ends.{Ends}
+use Rattle.krb_peers.specs.Wire.{IsWire}
+use Rattle.krb_core.specs.Start.{AreBegun}
 use Rattle.krb_core.specs.Stepped.{Relay, lane_of, event_of, turned, after}
 
 -- ---- what turns left
@@ -84,11 +89,19 @@ pub record IsLane (ends : Ends) (capacity : ℕ) (events : List (machine.Event (
 
 -- ---- the headline
 
+-- the log has the verdicts on the frames that a lane's receiver took from its start on
+abbrev pub IsLogged : Ends → ℕ → List (List ℕ) → LogState → ReceiverState → List Verdict → Type 0
+IsLogged ends lane took log receiver verdicts = HasLogged ends.receiver ends.nows lane took log receiver verdicts
+
+-- what was taken of a lane, with these verdicts
+abbrev pub run_of : Ends → TrackState → List Verdict → Run
+run_of ends track verdicts = record { ends = ends; took = frames track.lane.got; verdicts = verdicts }
+
 -- the log has the verdicts on what the lane's receiver took, and the claims hold of them
 pub record HasHeadline (ends : Ends) (lane : ℕ) (track : TrackState) (log : LogState) : Type 0 where
   pub verdicts : List Verdict
   pub logged : IsLogged ends lane (frames track.lane.got) log track.receiver verdicts
-  pub claims : Headline ends lane (frames track.lane.got) verdicts log
+  pub claims : Headline log lane (run_of ends track verdicts)
 
 -- ---- of all lanes
 

@@ -2,11 +2,12 @@
 use Rattle.std.specs.Prelude.{◌≡◌, ℕ, Bool, false, List, [], ◌∷◌, length, Option, Some, None, slice_get, slice_set}
 use Rattle.std.specs.List.{list_all}
 use Rattle.krb_base.specs.Lane.{Event, Take, has_end, is_possible}
-use Rattle.krb_core.specs.declared.sending.Sent.{Sent}
+use Rattle.krb_peers.specs.declared.sending.Sent.{Sent}
 use Rattle.krb_core.specs.declared.turn.Turn.{Turn}
 use Rattle.krb_core.specs.declared.turn.Turn.TheVariants as turn
-use Rattle.krb_core.specs.LogState.{LogState}
-use Rattle.krb_core.specs.Track.{TrackState, next_send, after_send, after_take, log_after, IsShut}
+use Rattle.krb_peers.specs.LogState.{LogState}
+use Rattle.krb_core.specs.Track.{TrackState, next_send, after_send, after_take, log_after}
+use Rattle.krb_peers.specs.Logged.{IsShut}
 
 -- its lanes, its log, and how much each sender sealed
 pub record Relay : Type 0 where

@@ -1,13 +1,13 @@
 -- One lane of a relay that is stepped.
-use Rattle.std.specs.Prelude.{◌≡◌, ℕ, true, List, [], ◌∷◌, ◌++◌, length, slice_get, Option, Some, None}
+use Rattle.std.specs.Prelude.{ℕ, List, [], ◌∷◌, length, slice_get, Option, Some, None}
 use Rattle.krb_base.specs.Lane.{Item, Lane, Event, Frame, End, Send, Take, after_event}
-use Rattle.krb_core.specs.declared.log.Entry.{Entry}
-use Rattle.krb_core.specs.Log.{entries_for, ended_at, is_closed}
-use Rattle.krb_core.specs.LogState.{LogState}
-use Rattle.krb_core.specs.ReceiverState.{ReceiverState}
-use Rattle.krb_core.specs.Receiver.{receiver_behind}
-use Rattle.krb_core.specs.Sender.{moment_at}
-use Rattle.krb_core.specs.Verdicts.{Verdict, events_by, verdict}
+use Rattle.krb_peers.specs.Log.{ended_at}
+use Rattle.krb_peers.specs.LogState.{LogState}
+use Rattle.krb_peers.specs.ReceiverState.{ReceiverState}
+use Rattle.krb_peers.specs.Logged.{noted}
+use Rattle.krb_peers.specs.Receiver.{verdict_by, receiver_behind}
+use Rattle.krb_peers.specs.Sender.{moment_at}
+use Rattle.krb_peers.specs.Verdicts.{Verdict}
 
 -- what its sender emits, how far that has come, what takes it, and when
 pub record TrackState : Type 0 where
@@ -31,9 +31,6 @@ abbrev pub after_send : TrackState → TrackState
 after_send track = record track { lane = after_event track.lane (next_send track) }
 
 -- the verdict on a frame that is taken now
-unfoldable pub verdict_by : ReceiverState → ℕ → List ℕ → Verdict
-verdict_by receiver now frame = verdict receiver.opener receiver.demand now frame
-
 abbrev pub verdict_now : TrackState → List ℕ → Verdict
 verdict_now track frame = verdict_by track.receiver (moment_at track.nows (length track.lane.got)) frame
 
@@ -49,14 +46,7 @@ after_take track = record track {
   receiver = receiver_after track track.lane.queue;
 }
 
--- the log behind a verdict on a frame of this lane: what it brings is added
-abbrev pub entries_by : ℕ → Verdict → List Entry
-entries_by lane v = entries_for lane (events_by v)
-
-abbrev pub noted : LogState → ℕ → Verdict → LogState
-noted log lane v = record log { entries = log.entries ++ entries_by lane v }
-
--- and behind what is taken: End adds no entry
+-- the log behind what is taken: End adds no entry
 abbrev pub log_behind : LogState → ℕ → TrackState → List (Item (List ℕ)) → LogState
 log_behind log lane track [] = log
 log_behind log lane track (Frame frame ∷ queue) = noted log lane (verdict_now track frame)
@@ -64,7 +54,3 @@ log_behind log lane track (End ∷ queue) = ended_at log lane
 
 abbrev pub log_after : LogState → ℕ → TrackState → LogState
 log_after log lane track = log_behind log lane track track.lane.queue
-
--- where a close of the lane stands in the log, its receiver accepts no more
-abbrev pub IsShut : LogState → ℕ → ReceiverState → Type 0
-IsShut log lane receiver = is_closed lane log.entries ≡ true → receiver.demand.closed ≡ true

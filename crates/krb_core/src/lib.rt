@@ -1,60 +1,33 @@
-//! Senders, receivers and logs of the relay: what its messages carry, and what becomes of them.
+//! The stepped relay: senders and receivers with a lane each, moved one event at a time by one
+//! thread, in any order of turns.
 //!
-//! The user data of a message is a [`Record`], a text or the close. A [`Sending`] seals its texts
-//! as records of rising numbers, and a plan ([`emit`]) may disturb the frames on purpose. A
-//! [`Receiver`] demands the numbers one after another ([`Order`]), and accepts nothing behind a
-//! close. A [`Log`] keeps what became of the frames of each lane. [`headline_laws`] says what is
-//! delivered and refused, whatever the plan, and [`stepped_laws`] says it of each lane of a
-//! [`Stepped`] relay, by what the log has of it.
+//! [`Stepped`] has one to eight lanes and one [`Log`]. [`stepped_laws`] says what turns leave: the
+//! headline of each lane, by what the log has of it. Senders, receivers, plans and the log are those
+//! of [`krb_peers`], and have their paths here too.
 //!
 //! ```text
-//! let frames = sending.seal_all(alloc)?;
-//! let wire = emit(alloc, &frames, &[Emit::Frame(0), Emit::Frame(0)])?;
-//! let first = receiver.take(alloc, &wire[0], now)?; // Delivery::Text
-//! let again = receiver.take(alloc, &wire[1], now); // Err(Refusal::BadOrder)
+//! let mut relay = Stepped::new(alloc, sendings, receivings, 8)?;
+//! relay.run(&[Turn::Send(0), Turn::Take(0)])?; // the first frame of lane 0
+//! relay.finish()?;
+//! for entry in relay.log().entries() { .. }
 //! ```
 #![tactic(auto)]
 
-mod confounder;
-mod delivery;
-mod emission;
-mod headline;
-mod laws;
-mod log;
-mod logged;
-mod order;
-mod plan;
-mod receiver;
-mod record;
+mod begin;
 mod relayed;
-mod rounds;
-mod sending;
-mod start;
 mod stepped;
 mod track;
 mod turn;
-mod undisturbed;
-mod whole;
 
-pub use delivery::Delivery;
-pub use emission::emit;
-pub use headline::{headline_laws, verdict_laws};
-pub use krb_base::{LAST_NUMBER, TEXT_LIMIT, USER_DATA_LIMIT};
-pub use laws::{accepted_laws, record_laws};
-pub use log::{Entry, Event, Log, Status};
-pub use logged::logged_laws;
-pub use order::{Order, OrderRefusal};
-pub use plan::{Emit, EmitError};
-pub use receiver::{Receiver, Receiving};
-pub use record::{Record, RecordError, read_record, record_bytes};
+pub use krb_peers::{Delivery, Emit, EmitError, Ending, Entry, Event, LAST_NUMBER, Log};
+pub use krb_peers::{Order, OrderRefusal, Receiver, Receiving, Record, RecordError, Sending, Sent};
+pub use krb_peers::{StartError, Status, TEXT_LIMIT, USER_DATA_LIMIT};
+pub use krb_peers::{accepted_laws, headline_laws, logged_laws, record_laws, relay_laws};
+pub use krb_peers::{emit, emit_sealed, read_record, record_bytes};
+pub use krb_peers::{rounds_laws, undisturbed_laws, verdict_laws};
 pub use relayed::stepped_laws;
-pub use rounds::rounds_laws;
-pub use sending::{Ending, Sending, Sent};
-pub use start::{StartError, emit_sealed};
 pub use stepped::Stepped;
 pub use turn::{Did, Turn};
-pub use undisturbed::undisturbed_laws;
-pub use whole::relay_laws;
 
 #[cfg(test)]
 mod tests;

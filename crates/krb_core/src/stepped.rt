@@ -1,20 +1,19 @@
 //! A relay that is stepped: one event of one lane at a time, in any order that the caller likes.
 
 ghost use Rattle.std.specs.Prelude.{◌≡◌, ◌↔◌, ◌<◌, ◌≤◌, ℕ, length, take, [], ◌∷◌, Some, false, slice_get, All, IfOk, IfErr, OnOk, OnErr};
-ghost use Rattle.krb_core.specs.Log.{lane_limit, new_log};
-ghost use Rattle.krb_core.specs.Sending.{source_of, IsSender};
-ghost use Rattle.krb_core.specs.Start.{lanes_of, AreBegun, Fails};
+ghost use Rattle.krb_peers.specs.Log.{lane_limit, new_log};
+ghost use Rattle.krb_peers.specs.Sending.{source_of, IsSender};
+ghost use Rattle.krb_peers.specs.Ends.{lanes_of};
+ghost use Rattle.krb_core.specs.Start.{AreBegun, FailsToBegin};
 ghost use Rattle.krb_core.specs.Relayed.{HasTurned, GoesOn, KeepsHeadline};
 ghost use Rattle.krb_core.specs.Stepped.{lane_of, turned, after, may_move, is_done};
 
 mod finish;
 
-use crate::log::Log;
-use crate::receiver::Receiving;
-use crate::sending::{Sending, Sent};
-use crate::start::{StartError, begin_lane};
+use crate::begin::begin_lane;
 use crate::track::Track;
 use crate::turn::{Did, Turn};
+use krb_peers::{Log, Receiving, Sending, Sent, StartError};
 use krb_seal::Sealer;
 use std::alloc::{AllocError, Global};
 use std::marker::Model;
@@ -69,7 +68,7 @@ impl Stepped {
         ensures log { IfOk result (λ stepped. stepped.log ≡ new_log (length sendings.items)) }
         ensures turned { IfOk result (HasTurned
             (lanes_of S.state sendings.items receivings.items) capacity []) }
-        ensures err { IfErr result (Fails capacity
+        ensures err { IfErr result (FailsToBegin capacity
             (lanes_of S.state sendings.items receivings.items)) }
     {
         let count = sendings.len();

@@ -3,13 +3,13 @@
 
 ghost use Rattle.std.specs.Prelude.{◌≡◌, ◌↔◌, ◌<◌, length, false, OnOk, OnErr, IfOk};
 ghost use Rattle.krb_base.specs.Lane.{Take, has_end, is_possible};
-ghost use Rattle.krb_core.specs.Plan.{contents};
+ghost use Rattle.krb_peers.specs.Plan.{contents};
 ghost use Rattle.krb_core.specs.Start.{fresh};
-ghost use Rattle.krb_core.specs.Track.{next_send, after_send, after_take, log_after, IsShut};
+ghost use Rattle.krb_core.specs.Track.{next_send, after_send, after_take, log_after};
+ghost use Rattle.krb_peers.specs.Logged.{IsShut};
 
-use crate::log::Log;
-use crate::receiver::Receiving;
 use crate::turn::Did;
+use krb_peers::{Log, Receiving};
 use std::alloc::{AllocError, Global};
 use std::marker::Model;
 
@@ -27,7 +27,7 @@ pub(crate) struct Track {
 
 impl Model for Track {
     ghost use Rattle.std.specs.Prelude.{◌<◌, length};
-    ghost use Rattle.krb_core.specs.Plan.{contents};
+    ghost use Rattle.krb_peers.specs.Plan.{contents};
     ghost use Rattle.krb_core.specs.Track.{TrackState};
     ghost use Rattle.krb_core.specs.TrackPlaces.{lane_at, ArePlaces};
 

@@ -3,7 +3,7 @@ use Rattle.std.specs.Prelude.{ℕ, ◌+◌, nat_le, ◌&&◌, List, [], ◌∷�
 use Rattle.toml.specs.Data.{Data, array, Items, no_items, item}
 use Rattle.krb_base.specs.Limits.{text_limit, raw_limit}
 use Rattle.krb_der.specs.Moment.{last_moment}
-use Rattle.krb_core.specs.declared.plan.Emit.{Emit}
+use Rattle.krb_peers.specs.declared.plan.Emit.{Emit}
 use Rattle.krb_job.specs.Steps.{◌>>=◌}
 use Rattle.krb_job.specs.Emission.{emission_of}
 use Rattle.krb_job.specs.Values.{number_of, bytes_of}

@@ -3,11 +3,11 @@
 ghost use Rattle.std.specs.Prelude.{◌≡◌, ◌<◌, ◌≤◌, [], ℕ, true, List, length, OnOk};
 ghost use Rattle.krb_base.specs.Prefix.{IsPrefix};
 ghost use Rattle.krb_core.specs.declared.turn.Turn.{Turn};
-ghost use Rattle.krb_core.specs.Claims.{has_ended};
+ghost use Rattle.krb_peers.specs.Claims.{has_ended};
 ghost use Rattle.krb_core.specs.Stepped.{after, is_done};
 ghost use Rattle.krb_core.specs.Relayed.{GoesOn, HasTurned, KeepsHeadline};
-ghost use Rattle.krb_core.specs.Start.{Ends};
-ghost use Rattle.krb_core.specs.Whole.{IsPart, IsRelayed, IsWhole};
+ghost use Rattle.krb_peers.specs.Ends.{Ends};
+ghost use Rattle.krb_peers.specs.Whole.{IsPart, IsRelayed, IsWhole};
 ghost use Rattle.krb_core.specs.Finish.{round_turns, finishing, longest_wire, WithRoom, FromStart, whole_log};
 
 use super::Stepped;

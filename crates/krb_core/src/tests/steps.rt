@@ -1,5 +1,5 @@
 ghost use Rattle.std.specs.Prelude.{◌≡◌, ◌<◌, All, length, IfOk};
-ghost use Rattle.krb_core.specs.Sending.{source_of, IsSender};
+ghost use Rattle.krb_peers.specs.Sending.{source_of, IsSender};
 
 use super::{MICROS, are_short, moment, receiver, sealer, sending};
 use crate::{Did, Event, Log, Receiving, Sending, StartError, Stepped, Turn};

@@ -1,5 +1,5 @@
 use Rattle.std.proofs.Common.{◌≡◌}
-use Rattle.krb_core.specs.Plan.{contents}
+use Rattle.krb_peers.specs.Plan.{contents}
 use Rattle.krb_commands.proofs.ends.vectors_of.Given as goal
 
 abbrev pub invariant-loop-text : goal.invariant-loop-text

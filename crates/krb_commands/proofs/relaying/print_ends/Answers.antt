@@ -1,5 +1,5 @@
 use Rattle.std.proofs.Common.{ap, ◌∙◌}
-use Rattle.krb_core.specs.Log.{status_of}
+use Rattle.krb_peers.specs.Log.{status_of}
 use Rattle.krb_commands.specs.JobLines.{is_closed_state}
 use Rattle.krb_commands.proofs.RelayedLemmas.{printed_next, printed_front}
 use Rattle.krb_commands.proofs.ShowLemmas.{on_err}

@@ -1,4 +1,4 @@
-use Rattle.krb_core.specs.Start.{lanes_of}
+use Rattle.krb_peers.specs.Ends.{lanes_of}
 use Rattle.krb_commands.proofs.RelayStartLemmas.{live_start, names_bad_plan}
 use Rattle.krb_commands.proofs.RelayedLemmas.{sents_are, part_printed, entries_alone, relayed_by, front_by}
 use Rattle.krb_commands.proofs.ShowLemmas.{on_err}

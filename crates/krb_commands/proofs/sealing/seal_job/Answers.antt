@@ -1,4 +1,4 @@
-use Rattle.krb_core.specs.Sending.{source_of}
+use Rattle.krb_peers.specs.Sending.{source_of}
 use Rattle.krb_commands.proofs.SealedLemmas.{sent_is, prefix_of_frames, prefix_of_sent, all_printed}
 use Rattle.krb_commands.proofs.ShowLemmas.{on_err}
 use Rattle.krb_commands.proofs.sealing.seal_job.Goals as goal

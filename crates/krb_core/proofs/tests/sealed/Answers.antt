@@ -1,6 +1,6 @@
 -- What was tested makes a sender.
 use Rattle.std.proofs.Common.{rules}
-use Rattle.krb_core.proofs.SendingLemmas.{short_texts}
+use Rattle.krb_peers.proofs.SendingLemmas.{short_texts}
 use Rattle.krb_core.proofs.tests.sealed.Goals as goal
 
 pub seal_all-requires : goal.seal_all-requires

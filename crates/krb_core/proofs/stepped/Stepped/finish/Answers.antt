@@ -1,14 +1,14 @@
 -- Round by round.
 use Rattle.std.proofs.Common.{◌≡◌, ◌+◌, ◌<◌, ◌≤◌, ℕ, true, [], List, length, arith}
 use Rattle.krb_core.specs.declared.turn.Turn.{Turn}
-use Rattle.krb_core.specs.Claims.{has_ended}
+use Rattle.krb_peers.specs.Claims.{has_ended}
 use Rattle.krb_core.specs.Stepped.{after, is_done}
 use Rattle.krb_core.specs.Finish.{finishing, whole_log}
 use Rattle.krb_core.proofs.RelayedClaims.{goes_on, keeps_headline, sents_hold}
 use Rattle.krb_core.proofs.TurnLemmas.{left_over, left_next, left_last, round_in_part, round_in_full, round_count, served_all, on_ok}
 use Rattle.krb_core.proofs.RoundsTurned.{front_from, entries_from}
 use Rattle.krb_core.proofs.FinishLemmas.{done_from, ended_from}
-use Rattle.krb_core.proofs.WholeLemmas.{whole_by, part_from}
+use Rattle.krb_core.proofs.BegunRuns.{whole_by, part_from}
 use Rattle.krb_core.proofs.PartLemmas.{relayed_from}
 use Rattle.krb_core.proofs.stepped.Stepped.finish.Goals as goal
 

@@ -1,8 +1,9 @@
 use Rattle.std.proofs.Common.{rules, inl, inr, ◌≡◌, ◌<◌, ◌≤◌, ◌++◌, ◌∷◌, [], length, arith, sym, ap, ◌∙◌, length-append}
 use Rattle.std.specs.List.{zip}
 use Rattle.std.proofs.lemmas.List.Elements.{All-head, All-tail}
-use Rattle.krb_core.specs.Sending.{source_of, IsSender}
-use Rattle.krb_core.specs.Start.{lanes_of, ends_of, Fails}
+use Rattle.krb_peers.specs.Sending.{source_of, IsSender}
+use Rattle.krb_peers.specs.Ends.{lanes_of, ends_of}
+use Rattle.krb_core.specs.Start.{FailsToBegin}
 use Rattle.std.proofs.lemmas.List.{length-map}
 use Rattle.krb_core.proofs.RelayedClaims.{turned_begun}
 use Rattle.krb_core.proofs.StartLemmas.{lanes_begun, lanes_begun-length, length-zip, is_relay, zip_next, all_done, whole_done, is_new_log, lane_fails, if_err}
@@ -48,7 +49,7 @@ returns-in_err-track-clause-err g c =
     let lengths = lanes_begun-length g.S.Sealer.state c.args.capacity c.loop-sending.yielded c.loop-sending.tracks.items c.loop-sending.sents.items c.loop-sending.invariant.begun in
     let e = c.in_err-track.field-0.0 in
     let whole = zip_next _ _ _ _ _ _ c.in-Some.sending c.in-Some.receiving c.loop-sending.invariant.lanes c.in-Some.ensures.steps.0.0 c.in-Some.ensures.steps.1.0 in
-    if_err (Fails c.args.capacity (lanes_of g.S.Sealer.state c.args.sendings.items c.args.receivings.items)) e c.from_residual-in_err-track.result c.from_residual-in_err-track.ensures.1
+    if_err (FailsToBegin c.args.capacity (lanes_of g.S.Sealer.state c.args.sendings.items c.args.receivings.items)) e c.from_residual-in_err-track.result c.from_residual-in_err-track.ensures.1
     (lane_fails g.S.Sealer.state c.args.capacity _ c.loop-sending.yielded _ (c.in-Some.sending, c.in-Some.receiving) c.loop-sending.tracks.items c.loop-sending.sents.items c.len-lane.result e whole c.loop-sending.invariant.begun
     (omega (arith, lengths.tracks_are, c.len-lane.ensures)) c.in_err-track.ensures.err)
 

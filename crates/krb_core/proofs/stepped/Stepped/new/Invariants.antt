@@ -1,8 +1,9 @@
 use Rattle.std.proofs.Common.{◌≡◌, ◌<◌, ◌++◌, length, map}
 use Rattle.std.specs.Prelude.{All}
 use Rattle.std.specs.List.{zip}
-use Rattle.krb_core.specs.Sending.{source_of, IsSender}
-use Rattle.krb_core.specs.Start.{ends_of, AreBegun}
+use Rattle.krb_peers.specs.Sending.{source_of, IsSender}
+use Rattle.krb_peers.specs.Ends.{ends_of}
+use Rattle.krb_core.specs.Start.{AreBegun}
 use Rattle.krb_core.proofs.stepped.Stepped.new.Given as goal
 
 abbrev pub invariant-loop-sending : goal.invariant-loop-sending

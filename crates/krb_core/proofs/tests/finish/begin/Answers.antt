@@ -3,7 +3,7 @@ use Rattle.std.proofs.Common.{◌<◌, ◌≤◌, length, get_or, rules, subst}
 use Rattle.std.proofs.lemmas.List.{take_all}
 use Rattle.std.proofs.lemmas.List.Elements.{All-more}
 use Rattle.std.specs.Prelude.{All}
-use Rattle.krb_core.specs.Sending.{source_of, IsSender}
+use Rattle.krb_peers.specs.Sending.{source_of, IsSender}
 use Rattle.krb_core.proofs.tests.finish.begin.Goals as goal
 
 pub loop-sending-preserved : goal.loop-sending-preserved

@@ -1,6 +1,6 @@
 use Rattle.std.proofs.Common.{◌<◌, length, take}
 use Rattle.std.specs.Prelude.{All}
-use Rattle.krb_core.specs.Sending.{source_of, IsSender}
+use Rattle.krb_peers.specs.Sending.{source_of, IsSender}
 use Rattle.krb_core.proofs.tests.finish.begin.Given as goal
 
 abbrev pub invariant-loop-sending : goal.invariant-loop-sending

@@ -1,6 +1,6 @@
 -- One receiver more.
 use Rattle.std.proofs.Common.{arith, rules, ◌<◌, length}
-use Rattle.krb_core.proofs.ListLemmas.{All-more, All-whole}
+use Rattle.krb_peers.proofs.ListLemmas.{All-more, All-whole}
 use Rattle.krb_core.proofs.tests.steps.assert_receivers.Goals as goal
 
 pub loop-receiving-preserved : goal.loop-receiving-preserved

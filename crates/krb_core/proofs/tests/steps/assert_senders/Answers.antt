@@ -1,7 +1,7 @@
 -- One sender more.
 use Rattle.std.proofs.Common.{arith, ◌<◌, length}
-use Rattle.krb_core.specs.Sending.{source_of, IsSender}
-use Rattle.krb_core.proofs.ListLemmas.{All-more, All-whole}
+use Rattle.krb_peers.specs.Sending.{source_of, IsSender}
+use Rattle.krb_peers.proofs.ListLemmas.{All-more, All-whole}
 use Rattle.krb_core.proofs.tests.steps.assert_senders.Goals as goal
 
 pub loop-sending-preserved : goal.loop-sending-preserved

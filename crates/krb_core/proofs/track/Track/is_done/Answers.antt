@@ -2,7 +2,7 @@
 use Rattle.std.proofs.Common.{◌≡◌, length, nat_lt, subst, sym, ap, ◌∙◌, arith}
 use Rattle.std.proofs.lemmas.List.{length-map}
 use Rattle.krb_base.specs.Lane.{has_end}
-use Rattle.krb_core.specs.Plan.{contents}
+use Rattle.krb_peers.specs.Plan.{contents}
 use Rattle.krb_core.specs.Track.{TrackState}
 use Rattle.krb_core.proofs.TrackLemmas.{done_by}
 use Rattle.krb_core.proofs.track.Track.is_done.Goals as goal

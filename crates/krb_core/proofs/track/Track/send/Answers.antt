@@ -2,7 +2,7 @@
 use Rattle.std.proofs.Common.{◌+◌, ◌≤◌, ◌<◌, length, subst, arith}
 use Rattle.std.proofs.lemmas.List.{length-map}
 use Rattle.krb_core.specs.declared.turn.Did.TheVariants.{Moved, Waits}
-use Rattle.krb_core.specs.Plan.{contents}
+use Rattle.krb_peers.specs.Plan.{contents}
 use Rattle.krb_core.specs.Track.{TrackState}
 use Rattle.krb_core.proofs.TrackLemmas.{track_at, IsSend, send_moves, send_full, send_over}
 use Rattle.krb_core.proofs.track.Track.send.Goals as goal

@@ -1,6 +1,6 @@
 -- A take is the event of the lane, and what a verdict or the end leaves.
 use Rattle.std.proofs.Common.{◌≡◌, ◌+◌, ◌<◌, slice_get, Some, None, subst, ◌∙◌, arith}
-use Rattle.krb_core.specs.Plan.{contents}
+use Rattle.krb_peers.specs.Plan.{contents}
 use Rattle.krb_core.specs.Track.{TrackState, after_take, log_after}
 use Rattle.krb_core.proofs.TrackLemmas.{track_at, wire_frame, wire_over, take_frame, take_end}
 use Rattle.krb_core.proofs.track.Track.take.Goals as goal

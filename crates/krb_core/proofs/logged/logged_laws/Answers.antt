@@ -1,5 +1,0 @@
-use Rattle.krb_core.proofs.LoggedLemmas.{logged_none, logged_shut}
-use Rattle.krb_core.proofs.logged.logged_laws.Goals as goal
-
-pub returns : goal.returns
-returns c = record { none = logged_none; shut = logged_shut }

@@ -1,0 +1,65 @@
+-- What a verdict leaves of a receiver and of a log.
+use Rattle.std.proofs.Common.{◌≡◌, ℕ, ◌||◌, Bool, true, false, List, Ok, Err, inl, inr, refl, sym, ap, ◌∙◌}
+use Rattle.krb_aes.specs.Words.{AreBytes}
+use Rattle.krb_seal.specs.declared.refusal.Refusal.{Refusal}
+use Rattle.krb_seal.specs.declared.refusal.Refusal.TheVariants.{Memory}
+use Rattle.krb_peers.specs.declared.delivery.Delivery.TheVariants.{Text, Closed}
+use Rattle.krb_peers.specs.declared.log.Event.TheVariants as events
+use Rattle.krb_peers.specs.Demand.{Demand}
+use Rattle.krb_peers.specs.Log.{appended}
+use Rattle.krb_peers.specs.LogState.{LogState}
+use Rattle.krb_peers.specs.ReceiverState.{ReceiverState}
+use Rattle.krb_peers.specs.Receiver.{IsJudgement, receiver_behind, advanced}
+use Rattle.krb_peers.specs.Verdicts.{Verdict, IsVerdict}
+use Rattle.krb_peers.specs.Receiver.{verdict_by}
+use Rattle.krb_peers.specs.Logged.{noted}
+use Rattle.krb_peers.proofs.OrderLemmas.{demand_after-nil}
+use Rattle.krb_peers.proofs.VerdictLemmas.{one_verdict, right_verdict}
+
+-- an answer that isn't want of memory is the verdict
+pub answer_is : (receiver : ReceiverState) (now : ℕ) (frame : List ℕ) (v : Verdict) → AreBytes frame → (v ≡ Err Memory → ⊥) → IsJudgement receiver now frame v → v ≡ verdict_by receiver now frame
+unfolding verdict_by
+answer_is receiver now frame v bytes other (inl h) = absurd (other h)
+answer_is receiver now frame v bytes other (inr h) = one_verdict receiver.opener receiver.demand now frame v bytes h
+
+-- and it is a verdict
+pub verdict_is : (receiver : ReceiverState) (now : ℕ) (frame : List ℕ) → AreBytes frame → IsVerdict receiver.opener receiver.demand now frame (verdict_by receiver now frame)
+unfolding verdict_by
+verdict_is receiver now frame bytes = right_verdict receiver.opener receiver.demand now frame bytes
+
+-- what an answer leaves
+pub record IsReceived (receiver receiver-now : ReceiverState) (log log-now : LogState) (lane now : ℕ) (frame : List ℕ) : Type 0 where
+  pub receiver_is : receiver-now ≡ receiver_behind receiver (verdict_by receiver now frame)
+  pub log_is : log-now ≡ noted log lane (verdict_by receiver now frame)
+
+module _ (receiver : ReceiverState) (log : LogState) (lane now : ℕ) (frame : List ℕ) (bytes : AreBytes frame) where
+  received_by : (v : Verdict) (receiver-now : ReceiverState) (log-now : LogState) → v ≡ verdict_by receiver now frame → receiver-now ≡ receiver_behind receiver v → log-now ≡ noted log lane v
+      → IsReceived receiver receiver-now log log-now lane now frame
+  received_by v receiver-now log-now is r l = record {
+    receiver_is = r ∙ ap (λ w. receiver_behind receiver w) is;
+    log_is = l ∙ ap (λ w. noted log lane w) is;
+  }
+
+  advances : (close : Bool) → receiver.demand.closed ≡ false → advanced receiver close ≡ advanced receiver (receiver.demand.closed || (close || false))
+  advances true live = rw live refl
+  advances false live = rw live refl
+
+  pub received_text : (text : List ℕ) (receiver-now : ReceiverState) (log-now : LogState) → IsJudgement receiver now frame (Ok (Text text))
+      → receiver-now ≡ advanced receiver false → log-now ≡ appended log lane (events.Text text) → IsReceived receiver receiver-now log log-now lane now frame
+  received_text text receiver-now log-now (inl h) r l = absurd (let e = h in cc)
+  received_text text receiver-now log-now (inr h) r l =
+      let is = answer_is receiver now frame (Ok (Text text)) bytes (λ e. let f = e in cc) (inr h) in
+      received_by (Ok (Text text)) receiver-now log-now is (r ∙ advances false h.0) l
+
+  pub received_close : (receiver-now : ReceiverState) (log-now : LogState) → IsJudgement receiver now frame (Ok Closed)
+      → receiver-now ≡ advanced receiver true → log-now ≡ appended log lane events.Closed → IsReceived receiver receiver-now log log-now lane now frame
+  received_close receiver-now log-now (inl h) r l = absurd (let e = h in cc)
+  received_close receiver-now log-now (inr h) r l =
+      let is = answer_is receiver now frame (Ok Closed) bytes (λ e. let f = e in cc) (inr h) in
+      received_by (Ok Closed) receiver-now log-now is (r ∙ advances true h.0) l
+
+  pub received_refusal : (refusal : Refusal) (log-now : LogState) → (refusal ≡ Memory → ⊥) → IsJudgement receiver now frame (Err refusal)
+      → log-now ≡ appended log lane (events.Refused refusal) → IsReceived receiver receiver log log-now lane now frame
+  received_refusal refusal log-now other h l =
+      let is = answer_is receiver now frame (Err refusal) bytes (λ e. other (let f = e in cc)) h in
+      received_by (Err refusal) receiver log-now is (ap (λ (d : Demand). let z : ReceiverState = record { opener = receiver.opener; demand = d } in z) (sym (demand_after-nil receiver.demand))) l

@@ -1,0 +1,117 @@
+-- What any relay leaves, and what one leaves that ran to its end.
+use Rattle.std.proofs.Common.{◌≡◌, ◌↔◌, ℕ, zero, suc, ◌<◌, ◌≤◌, true, List, [], ◌∷◌, ◌++◌, length, map, take, slice_get, Some, Result, Ok, Err, OnOk, refl, sym, ap, ap₂, subst, ◌∙◌, arith}
+use Rattle.std.proofs.lemmas.List.{take_all, length-map, map-append}
+use Rattle.krb_peers.specs.declared.sending.Sent.{Sent}
+use Rattle.krb_peers.specs.Log.{events_of as events_in}
+use Rattle.krb_peers.specs.LogState.{LogState}
+use Rattle.krb_peers.specs.Plan.{wire}
+use Rattle.krb_peers.specs.Sender.{Source, AreFrames, records}
+use Rattle.krb_peers.specs.Verdicts.{Verdict, events_by, groups_of, verdicts}
+use Rattle.krb_peers.specs.Claims.{Headline}
+use Rattle.krb_peers.specs.Ends.{Ends}
+use Rattle.krb_peers.specs.Logged.{entries_by, noted}
+use Rattle.krb_peers.specs.Rounds.{rounds, joined, list_of, NoneLonger}
+use Rattle.krb_peers.specs.Run.{Run, IsRun, AreRuns, OfRuns}
+use Rattle.krb_peers.specs.Whole.{EndsWhole, IsRelayed, IsWholeRun, rounds_of, IsWhole}
+use Rattle.krb_peers.proofs.HeadlineLemmas.{same_frames}
+use Rattle.krb_peers.proofs.VerdictLemmas.{verdicts_follow, follow_same}
+use Rattle.krb_peers.proofs.RoundsLemmas.{of_lane, joined-groups, rounds-push}
+use Rattle.krb_peers.proofs.ClaimLemmas.{headline_of}
+
+-- ---- the headline of any relay
+
+list_of-runs : (runs : List Run) (lane : ℕ) (run : Run) → slice_get runs lane ≡ Some run → list_of (map (λ r. groups_of r.verdicts) runs) lane ≡ groups_of run.verdicts
+list_of-runs [] lane run at = absurd (let e = at in cc)
+list_of-runs (r ∷ runs) zero run at = let e : r ≡ run = cc in ap (λ x. groups_of x.verdicts) e
+list_of-runs (r ∷ runs) (suc lane) run at = list_of-runs runs lane run at
+
+run_at : (lanes : List Ends) (runs : List Run) → AreRuns lanes runs → (lane : ℕ) (run : Run) → slice_get runs lane ≡ Some run → IsRun run
+run_at lanes [] are lane run at = absurd (let e = at in cc)
+run_at [] (r ∷ runs) are lane run at = absurd are
+run_at (ends ∷ lanes) (r ∷ runs) are zero run at = let e : r ≡ run = cc in let P : Run → Type 0 = λ x. IsRun x in subst P e are.1
+run_at (ends ∷ lanes) (r ∷ runs) are (suc lane) run at = run_at lanes runs are.2 lane run at
+
+pub claims_of : (lanes : List Ends) (runs : List Run) (log : LogState) → AreRuns lanes runs → log.entries ≡ rounds_of runs → OfRuns runs (EndsWhole log) → OfRuns runs (Headline log)
+claims_of lanes runs log are entries all_taken lane run at =
+    headline_of run lane log (run_at lanes runs are lane run at)
+    (ap (events_in lane) entries ∙ of_lane (map (λ r. groups_of r.verdicts) runs) lane ∙ ap joined (list_of-runs runs lane run at) ∙ joined-groups run.verdicts)
+    (all_taken lane run at)
+
+-- it follows from what was taken of each lane, and from the order of what became of it
+abbrev pub relayed_of : (lanes : List Ends) (runs : List Run) (log : LogState) → AreRuns lanes runs → log.entries ≡ rounds_of runs → OfRuns runs (EndsWhole log) → IsRelayed lanes log
+relayed_of lanes runs log are entries all_taken = record {
+  runs = runs;
+  are = are;
+  entries = entries;
+  all_taken = all_taken;
+  claims = claims_of lanes runs log are entries all_taken;
+}
+
+-- ---- one verdict more in rounds
+
+map-seam : {X Y : Type 0} (f : X → Y) (front back : List X) (x : X) → map f (front ++ x ∷ back) ≡ map f front ++ f x ∷ map f back
+map-seam f front back x = map-append f front (x ∷ back)
+
+-- where a log has the verdicts of all lanes in rounds, and the next verdict is of this lane: no lane before it
+-- has more than it has then, and no lane behind it more than it had
+pub noted_next : (front back : List (List Verdict)) (vs : List Verdict) (v : Verdict) (log : LogState) → log.entries ≡ rounds (map groups_of (front ++ vs ∷ back))
+    → NoneLonger (suc (length vs)) (map groups_of front) → NoneLonger (length vs) (map groups_of back)
+    → (noted log (length front) v).entries ≡ rounds (map groups_of (front ++ (vs ++ v ∷ []) ∷ back))
+noted_next front back vs v log is before behind =
+    let lane : length (map groups_of front) ≡ length front = length-map front groups_of in
+    let count : length (groups_of vs) ≡ length vs = length-map vs events_by in
+    let in-front : NoneLonger (suc (length (groups_of vs))) (map groups_of front) = rw count before in
+    let in-back : NoneLonger (length (groups_of vs)) (map groups_of back) = rw count behind in
+    let group : groups_of (vs ++ v ∷ []) ≡ groups_of vs ++ events_by v ∷ [] = map-append events_by vs (v ∷ []) in
+    ap (λ es. es ++ entries_by (length front) v) (is ∙ ap rounds (map-seam groups_of front back vs))
+    ∙ (ap (λ (k : ℕ). rounds (map groups_of front ++ groups_of vs ∷ map groups_of back) ++ entries_by k v) (sym lane)
+    ∙ (sym (rounds-push (map groups_of front) (groups_of vs) (events_by v) (map groups_of back) in-front in-back)
+    ∙ ap rounds (ap (λ g. map groups_of front ++ g ∷ map groups_of back) (sym group) ∙ sym (map-seam groups_of front back (vs ++ v ∷ [])))))
+
+-- ---- the whole log is one list
+
+-- all that a wire carries, and what becomes of it
+abbrev pub run_over : Ends → List (List ℕ) → Run
+run_over ends took = record {
+  ends = ends;
+  took = took;
+  verdicts = (let start = ends.receiver.demand in verdicts ends.receiver.opener ends.nows start 0 took);
+}
+
+run_is : (run : Run) → IsRun run → (h : IsWholeRun run) → run ≡ run_over run.ends (wire h.emits.frames run.ends.source.plan)
+run_is run is h =
+    let start = run.ends.receiver.demand in
+    let said : run.verdicts ≡ verdicts run.ends.receiver.opener run.ends.nows start 0 run.took =
+    follow_same run.ends.receiver.opener run.ends.nows start 0 run.took run.verdicts h.emits.bytes is.judged in
+    ap (λ (vs : List Verdict). let r : Run = record { ends = run.ends; took = run.took; verdicts = vs } in r) said
+    ∙ ap (λ (w : List (List ℕ)). run_over run.ends w) h.emits.wire_is
+
+same_run : (ends : Ends) (run other : Run) → run.ends ≡ ends → other.ends ≡ ends → IsRun run → IsRun other → IsWholeRun run → IsWholeRun other → run ≡ other
+same_run ends run other e f is is-o h g =
+    let P : List (List ℕ) → Ends → Type 0 = λ fs x. AreFrames x.source (records x.source) fs in
+    let frames : h.emits.frames ≡ g.emits.frames =
+    same_frames ends.source (records ends.source) h.emits.frames g.emits.frames (subst (P h.emits.frames) e h.emits.sealed) (subst (P g.emits.frames) f g.emits.sealed) in
+    run_is run is h
+    ∙ (ap (λ (x : Ends). run_over x (wire h.emits.frames x.source.plan)) (e ∙ sym f)
+    ∙ (ap (λ (fs : List (List ℕ)). run_over other.ends (wire fs other.ends.source.plan)) frames ∙ sym (run_is other is-o g)))
+
+abbrev pub AllWhole : List Run → Type 0
+AllWhole runs = OfRuns runs (λ lane run. IsWholeRun run)
+
+same_runs : (lanes : List Ends) (runs others : List Run) → AreRuns lanes runs → AreRuns lanes others → AllWhole runs → AllWhole others → runs ≡ others
+same_runs [] [] [] a b h g = refl
+same_runs [] [] (o ∷ os) a b h g = absurd b
+same_runs [] (r ∷ rs) os a b h g = absurd a
+same_runs (ends ∷ lanes) [] os a b h g = absurd a
+same_runs (ends ∷ lanes) (r ∷ rs) [] a b h g = absurd b
+same_runs (ends ∷ lanes) (r ∷ rs) (o ∷ os) a b h g =
+    ap₂ (λ x xs. x ∷ xs) (same_run ends r o a.0 b.0 a.1 b.1 (h 0 r refl) (g 0 o refl))
+    (same_runs lanes rs os a.2 b.2 (λ lane run at. h (suc lane) run at) (λ lane run at. g (suc lane) run at))
+
+pub one_whole : (lanes : List Ends) (log other : LogState) (sents others : List Sent) → IsWhole lanes log sents → IsWhole lanes other others → (log.entries ≡ other.entries) × (sents ≡ others)
+one_whole lanes log other sents others h g =
+    let r = h.relayed in
+    let o = g.relayed in (
+      r.entries ∙ (ap rounds_of (same_runs lanes r.runs o.runs r.are o.are h.whole g.whole) ∙ sym o.entries),
+      h.sealed ∙ sym g.sealed,
+    )

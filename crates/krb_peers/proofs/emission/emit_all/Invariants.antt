@@ -1,0 +1,10 @@
+use Rattle.std.proofs.Common.{◌≡◌, take}
+use Rattle.krb_peers.specs.Plan.{contents, emissions}
+use Rattle.krb_peers.specs.Verdicts.{AllBytes}
+use Rattle.krb_peers.proofs.emission.emit_all.Given as goal
+
+abbrev pub invariant-loop-emission : goal.invariant-loop-emission
+invariant-loop-emission l = record {
+  emitted : contents l.emitted.items ≡ emissions (contents l.frames) (take l.emission-index l.plan);
+  bytes : AllBytes (contents l.emitted.items);
+}

@@ -1,0 +1,13 @@
+use Rattle.krb_peers.specs.Sender.{sealed_texts}
+use Rattle.krb_peers.proofs.HeadlineLemmas.{records_prefix, sealed_prefix, delivered_prefix, delivered_whole, quiet_after, refuses, refusal_nothing}
+use Rattle.krb_peers.proofs.headline.headline_laws.Goals as goal
+
+pub returns : goal.returns
+returns c = record {
+  delivered_prefix = λ run paired is honest. delivered_prefix run.verdicts (sealed_texts run.ends.source) (records_prefix run is paired honest);
+  all_where_closed = λ run paired is honest. delivered_whole run.verdicts (sealed_texts run.ends.source) (records_prefix run is paired honest);
+  sealed_only = λ run paired is none. sealed_prefix run is paired none;
+  nothing_after_close = λ start nows took vs are. (let demand = start.demand in quiet_after start.opener nows demand 0 took vs are);
+  refused_exactly = λ start nows took vs are. (let demand = start.demand in refuses start.opener nows demand took vs are);
+  refusals_deliver_nothing = λ start vs. refusal_nothing start vs;
+}

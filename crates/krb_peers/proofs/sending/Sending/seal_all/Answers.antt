@@ -1,0 +1,25 @@
+-- Frame after frame, and none under a wiped sealer.
+use Rattle.std.proofs.Common.{◌≡◌, ◌++◌, ◌∷◌, [], true, IsErr, ap, ◌∙◌, arith, rules}
+use Rattle.std.proofs.lemmas.List.{map-append}
+use Rattle.krb_peers.specs.Sending.{source_of}
+use Rattle.krb_peers.proofs.ListLemmas.{AllBytes-push}
+use Rattle.krb_peers.proofs.SendingLemmas.{length-records}
+use Rattle.krb_peers.proofs.sending.Sending.seal_all.Goals as goal
+
+pub loop-k-preserved : goal.loop-k-preserved
+loop-k-preserved g c =
+    let pushed : c.push.new.self.items ≡ c.loop-k.frames.items ++ c.in_ok-frame.frame ∷ [] = search rules in
+    record {
+      sealed = rw (pushed, map-append) (c.in_ok-frame.ensures.frames _ _ c.loop-k.invariant.sealed);
+      bytes = rw (pushed, map-append) (AllBytes-push _ _ c.loop-k.invariant.bytes (rw c.as_slice.ensures.value at c.known_bytes.ensures));
+      none_if_wiped = λ wiped.
+          let still : (g.S.Sealer.state c.loop-k.self.sealer).wiped ≡ true = ap (λ s. s.sealer.wiped) c.loop-k.invariant.sealed.state ∙ wiped in
+          let failed : IsErr c.seal_record.result = c.seal_record.ensures.wiped still in
+          absurd (search rules);
+    }
+
+pub returns-clause-wiped : goal.returns-clause-wiped
+returns-clause-wiped g c = λ wiped.
+    let none = c.loop-k.invariant.none_if_wiped wiped in
+    let some = length-records (source_of g.S.Sealer.state c.args.self.now) in
+    absurd (omega (arith, c.records-count.ensures))

@@ -1,0 +1,70 @@
+-- What is claimed of a lane. Each claim stands here once, of a list of events: `headline_laws` says it
+-- of those that verdicts bring, and `Headline` of those that a log has of the lane.
+use Rattle.std.specs.Prelude.{◌≡◌, ◌↔◌, ℕ, Bool, true, false, List, [], ◌∷◌, ◌++◌, take, slice_get, slice_index_or, Some, Err}
+use Rattle.krb_base.specs.Prefix.{IsPrefix}
+use Rattle.krb_seal.specs.declared.refusal.Refusal.{Refusal}
+use Rattle.krb_peers.specs.declared.log.Event.{Event}
+use Rattle.krb_peers.specs.declared.log.Event.TheVariants.{Closed}
+use Rattle.krb_peers.specs.Demand.{Demand}
+use Rattle.krb_peers.specs.Log.{events_of, texts_in, has_closed}
+use Rattle.krb_peers.specs.LogState.{LogState}
+use Rattle.krb_peers.specs.Order.{demand_after}
+use Rattle.krb_peers.specs.ReceiverState.{ReceiverState}
+use Rattle.krb_peers.specs.Run.{Run}
+use Rattle.krb_peers.specs.Sender.{Source, moment_at, sealed_texts}
+use Rattle.krb_peers.specs.Premises.{IsPaired, AlteredAreHonest}
+use Rattle.krb_peers.specs.Undisturbed.{Undisturbed}
+use Rattle.krb_peers.specs.Verdicts.{Verdict, Fails, records_of, delivered}
+
+-- ---- the claims
+
+-- what is delivered is a prefix of the texts that were sealed: in order, and each once
+abbrev pub DeliversPrefix : Source → List Event → Type 0
+DeliversPrefix source events = IsPrefix (texts_in events) (sealed_texts source)
+
+-- all texts are delivered
+abbrev pub DeliversAll : Source → List Event → Type 0
+DeliversAll source events = texts_in events ≡ sealed_texts source
+
+-- nothing is delivered and no close is accepted after a close
+abbrev pub NothingAfterClose : List Event → Type 0
+NothingAfterClose events =
+    (front back : List Event) → events ≡ front ++ Closed ∷ back → (texts_in back ≡ []) × (has_closed back ≡ false)
+
+-- all texts are delivered where the close was accepted
+abbrev pub AllWhereClosed : Source → List Event → Type 0
+AllWhereClosed source events = has_closed events ≡ true → DeliversAll source events
+
+-- a frame is refused exactly where it fails a check, by the first that it fails
+abbrev pub RefusesExactly : ReceiverState → List ℕ → List (List ℕ) → List Verdict → Type 0
+RefusesExactly start nows took verdicts =
+    (place : ℕ) (frame : List ℕ) (refusal : Refusal) → slice_get took place ≡ Some frame
+    → let demanded = demand_after start.demand (records_of (take place verdicts)) in
+    (slice_get verdicts place ≡ Some (Err refusal)) ↔ Fails start.opener demanded (moment_at nows place) frame refusal
+
+-- a refusal delivers nothing and moves no number: without it, the same is delivered and demanded
+abbrev pub RefusalsDeliverNothing : Demand → List Verdict → List Event → Type 0
+RefusalsDeliverNothing start verdicts events =
+    (front back : List Verdict) (refusal : Refusal) → verdicts ≡ front ++ Err refusal ∷ back
+    → (texts_in events ≡ delivered (front ++ back))
+    × (demand_after start (records_of verdicts) ≡ demand_after start (records_of (front ++ back)))
+
+-- ---- all of them, of a lane of a log
+
+-- the log notes that the lane's End was taken
+abbrev pub has_ended : ℕ → LogState → Bool
+has_ended lane log = slice_index_or log.ended lane false
+
+-- The log has of the lane what the verdicts of this run bring.
+pub record Headline (log : LogState) (lane : ℕ) (run : Run) : Type 0 where
+  pub delivered_prefix :
+      IsPaired run.ends → AlteredAreHonest run → DeliversPrefix run.ends.source (events_of lane log.entries)
+  pub nothing_after_close : NothingAfterClose (events_of lane log.entries)
+  pub all_where_closed :
+      IsPaired run.ends → AlteredAreHonest run → AllWhereClosed run.ends.source (events_of lane log.entries)
+  -- all texts are delivered where nothing disturbs the lane and its End was taken
+  pub all_where_undisturbed :
+      Undisturbed run.ends → has_ended lane log ≡ true → DeliversAll run.ends.source (events_of lane log.entries)
+  pub refused_exactly : RefusesExactly run.ends.receiver run.ends.nows run.took run.verdicts
+  pub refusals_deliver_nothing :
+      RefusalsDeliverNothing run.ends.receiver.demand run.verdicts (events_of lane log.entries)

@@ -1,0 +1,212 @@
+-- What holds of senders, receivers and logs.
+use Rattle.std.specs.Prelude.{◌≡◌, ◌↔◌, ◌≤◌, ℕ, suc, ◌+◌, List, [], ◌∷◌, ◌++◌, length, take, All, IsOk, None}
+use Rattle.std.specs.List.{Contains, flat_map}
+use Rattle.krb_base.specs.Prefix.{IsPrefix}
+use Rattle.krb_base.specs.Limits.{user_data_limit}
+use Rattle.krb_aes.specs.Words.{AreBytes}
+use Rattle.krb_seal.specs.Opens.{OpenerState}
+use Rattle.krb_peers.specs.declared.record.Record.{Record}
+use Rattle.krb_peers.specs.declared.record.Record.TheVariants.{Close}
+use Rattle.krb_peers.specs.declared.log.Event.{Event}
+use Rattle.krb_peers.specs.declared.log.Entry.{Entry}
+use Rattle.krb_peers.specs.declared.sending.Sent.{Sent}
+use Rattle.krb_peers.specs.Record.{SpellsRecord, texts_of}
+use Rattle.krb_peers.specs.Demand.{Demand}
+use Rattle.krb_peers.specs.Order.{Offer, Answer, answers_to, first_demand, demand_after}
+use Rattle.krb_peers.specs.Accepted.{Accepted, accepted_of, AreNumbered, EndsWithItsClose}
+use Rattle.krb_peers.specs.Sender.{Source, HaveShortTexts, AreFrames, moment_at, records}
+use Rattle.krb_peers.specs.ReceiverState.{ReceiverState}
+use Rattle.krb_peers.specs.Verdicts.{Verdict, AllBytes, AreVerdicts, AreJudged, IsVerdict, verdict, verdicts, records_of, events_from}
+use Rattle.krb_peers.specs.Log.{events_of, entries_for}
+use Rattle.krb_peers.specs.LogState.{LogState}
+use Rattle.krb_peers.specs.Logged.{HasLogged, IsShut}
+use Rattle.krb_peers.specs.Ends.{Ends}
+use Rattle.krb_peers.specs.Run.{Run, IsRun, AreRuns, OfRuns}
+use Rattle.krb_peers.specs.Premises.{IsPaired, AlteredAreHonest}
+use Rattle.krb_peers.specs.Undisturbed.{Undisturbed, TakesAll}
+use Rattle.krb_peers.specs.Claims.{DeliversPrefix, DeliversAll, NothingAfterClose, AllWhereClosed, RefusesExactly, RefusalsDeliverNothing, Headline}
+use Rattle.krb_peers.specs.Rounds.{AreRounds, joined, list_of, rounds, rounds_below, NoneLonger}
+use Rattle.krb_peers.specs.Whole.{rounds_of, EndsWhole, IsRelayed, IsWhole}
+
+-- ---- records
+
+-- no bytes are those of two records
+abbrev pub OneRecord : Type 0
+OneRecord = (bytes : List ℕ) (r s : Record) → SpellsRecord r bytes → SpellsRecord s bytes → r ≡ s
+
+-- and none are longer than the user data
+abbrev pub RecordsAreShort : Type 0
+RecordsAreShort = (bytes : List ℕ) (r : Record) → SpellsRecord r bytes → length bytes ≤ user_data_limit
+
+-- ---- offers
+
+-- each list of offers has one list of answers, the one that an order gives offer by offer
+abbrev pub OneListOfAnswers : Type 0
+OneListOfAnswers = (first : ℕ) (offers : List Offer) (answers : List Answer)
+    → Accepted first offers answers ↔ (answers ≡ answers_to (first_demand first) offers)
+
+-- nothing is accepted behind a close
+abbrev pub CloseIsLast : Type 0
+CloseIsLast = (first : ℕ) (offers : List Offer) (answers : List Answer) → Accepted first offers answers
+    → (front back : List Record) → accepted_of offers answers ≡ front ++ Close ∷ back → back ≡ []
+
+-- it holds where each offer numbered `first + k` carries record k of the list
+abbrev pub OfNumbered : (List Record → List Record → Type 0) → Type 0
+OfNumbered Claim =
+    (first : ℕ) (records : List Record) (offers : List Offer) (answers : List Answer) → Accepted first offers answers
+    → AreNumbered first records offers → Claim records (accepted_of offers answers)
+
+-- what is accepted is a prefix of the list, and so are its texts
+abbrev pub AcceptsPrefix : Type 0
+AcceptsPrefix = OfNumbered (λ records accepted. IsPrefix accepted records)
+
+abbrev pub AcceptsTextsPrefix : Type 0
+AcceptsTextsPrefix = OfNumbered (λ records accepted. IsPrefix (flat_map texts_of accepted) (flat_map texts_of records))
+
+-- and it is the whole list where the list's one close stands last and was accepted
+abbrev pub AcceptsWhole : Type 0
+AcceptsWhole = OfNumbered (λ records accepted. EndsWithItsClose records → Contains accepted Close → accepted ≡ records)
+
+-- ---- verdicts
+
+-- a frame of bytes has one verdict
+abbrev pub OneVerdict : Type 0
+OneVerdict = (opener : OpenerState) (start : Demand) (now : ℕ) (frame : List ℕ) (v : Verdict) → AreBytes frame
+    → IsVerdict opener start now frame v ↔ (v ≡ verdict opener start now frame)
+
+-- and frames of bytes have one list of verdicts
+abbrev pub OneListOfVerdicts : Type 0
+OneListOfVerdicts = (opener : OpenerState) (nows : List ℕ) (start : Demand) (frames : List (List ℕ)) (answers : List Verdict)
+    → AllBytes frames → AreVerdicts opener nows start 0 frames answers ↔ (answers ≡ verdicts opener nows start 0 frames)
+
+-- with one frame more comes one verdict more, by what is demanded then
+abbrev pub VerdictsGoOn : Type 0
+VerdictsGoOn = (opener : OpenerState) (nows : List ℕ) (start : Demand) (frames : List (List ℕ)) (answers : List Verdict) (frame : List ℕ) (v : Verdict)
+    → AreVerdicts opener nows start 0 frames answers
+    → IsVerdict opener (demand_after start (records_of answers)) (moment_at nows (length frames)) frame v
+    → AreVerdicts opener nows start 0 (frames ++ frame ∷ []) (answers ++ v ∷ [])
+
+-- and so of the list as it is computed
+abbrev pub NextVerdict : Type 0
+NextVerdict = (opener : OpenerState) (nows : List ℕ) (start : Demand) (frames : List (List ℕ)) (frame : List ℕ)
+    → let before = verdicts opener nows start 0 frames in
+    let now = moment_at nows (length frames) in
+    verdicts opener nows start 0 (frames ++ frame ∷ [])
+    ≡ before ++ verdict opener (demand_after start (records_of before)) now frame ∷ []
+
+-- the frames of a sender's records are one list
+abbrev pub OneListOfFrames : Type 0
+OneListOfFrames = (source : Source) (records : List Record) (some others : List (List ℕ))
+    → AreFrames source records some → AreFrames source records others → some ≡ others
+
+-- ---- the claims of a lane, over the verdicts of any run
+
+-- it holds of each run of a paired lane in which altered frames are honest
+abbrev pub OfEachRun : (Source → List Event → Type 0) → Type 0
+OfEachRun Claim =
+    (run : Run) → IsPaired run.ends → IsRun run → AlteredAreHonest run → Claim run.ends.source (events_from run.verdicts)
+
+-- it holds of the verdicts on any frames
+abbrev pub OfVerdicts : (ReceiverState → List ℕ → List (List ℕ) → List Verdict → Type 0) → Type 0
+OfVerdicts Claim =
+    (start : ReceiverState) (nows : List ℕ) (took : List (List ℕ)) (answers : List Verdict)
+    → AreJudged start nows took answers → Claim start nows took answers
+
+-- without a plan, what is accepted is a prefix of the records that were sealed until then
+abbrev pub AcceptsSealedOnly : Type 0
+AcceptsSealedOnly = (run : Run) → IsPaired run.ends → (is : IsRun run) → run.ends.source.plan ≡ None
+    → IsPrefix (records_of run.verdicts) (take is.count (records run.ends.source))
+
+abbrev pub RunsDeliverPrefix : Type 0
+RunsDeliverPrefix = OfEachRun DeliversPrefix
+
+abbrev pub RunsDeliverAllWhereClosed : Type 0
+RunsDeliverAllWhereClosed = OfEachRun AllWhereClosed
+
+abbrev pub VerdictsAreQuietAfterClose : Type 0
+VerdictsAreQuietAfterClose = OfVerdicts (λ start nows took answers. NothingAfterClose (events_from answers))
+
+abbrev pub VerdictsRefuseExactly : Type 0
+VerdictsRefuseExactly = OfVerdicts RefusesExactly
+
+abbrev pub VerdictsOfRefusalsDeliverNothing : Type 0
+VerdictsOfRefusalsDeliverNothing = (start : Demand) (answers : List Verdict) → RefusalsDeliverNothing start answers (events_from answers)
+
+-- ---- a lane that nothing disturbs
+
+-- it holds of each run of such a lane
+abbrev pub OfUndisturbed : (Run → Type 0) → Type 0
+OfUndisturbed Claim = (run : Run) → Undisturbed run.ends → HaveShortTexts run.ends.source → IsRun run → Claim run
+
+abbrev pub NoneIsRefused : Type 0
+NoneIsRefused = OfUndisturbed (λ run. All IsOk run.verdicts)
+
+-- the first records are accepted, one for each frame that was taken
+abbrev pub AcceptsFirstRecords : Type 0
+AcceptsFirstRecords = OfUndisturbed (λ run. records_of run.verdicts ≡ take (length run.took) (records run.ends.source))
+
+-- and the number behind them is demanded
+abbrev pub DemandsNumberBehind : Type 0
+DemandsNumberBehind = OfUndisturbed (λ run.
+    (demand_after run.ends.receiver.demand (records_of run.verdicts)).expected ≡ run.ends.receiver.demand.expected + length run.took)
+
+-- all texts are delivered where all frames were taken
+abbrev pub DeliversAllThatIsTaken : Type 0
+DeliversAllThatIsTaken = OfUndisturbed (λ run. TakesAll run.ends.source run.took → DeliversAll run.ends.source (events_from run.verdicts))
+
+-- ---- what a log has of a lane
+
+-- nothing, before the first frame
+abbrev pub NothingIsLogged : Type 0
+NothingIsLogged = (start : ReceiverState) (nows : List ℕ) (lane : ℕ) (log : LogState)
+    → events_of lane log.entries ≡ [] → HasLogged start nows lane [] log start []
+
+-- behind a close that stands there, the receiver accepts no more
+abbrev pub LoggedIsShut : Type 0
+LoggedIsShut = (start : ReceiverState) (nows : List ℕ) (lane : ℕ) (took : List (List ℕ)) (log : LogState) (receiver : ReceiverState) (verdicts : List Verdict)
+    → HasLogged start nows lane took log receiver verdicts → IsShut log lane receiver
+
+-- ---- rounds
+
+-- the entries of the groups of all lanes, each once, by their places and then by their lanes, are one list
+abbrev pub OneListOfRounds : Type 0
+OneListOfRounds = (lists : List (List (List Event))) (entries : List Entry) → AreRounds lists entries ↔ (entries ≡ rounds lists)
+
+-- the events of a lane stay in their order
+abbrev pub RoundsKeepLanes : Type 0
+RoundsKeepLanes = (lists : List (List (List Event))) (lane : ℕ) → events_of lane (rounds lists) ≡ joined (list_of lists lane)
+
+-- one group more comes last, where no lane behind has more groups than its lane had: of the rounds up to it
+abbrev pub RoundGoesOn : Type 0
+RoundGoesOn = (front : List (List (List Event))) (groups : List (List Event)) (group : List Event) (back : List (List (List Event)))
+    → NoneLonger (length groups) back
+    → let before = rounds_below (suc (length groups)) (front ++ groups ∷ back) in
+    rounds_below (suc (length groups)) (front ++ (groups ++ group ∷ []) ∷ back) ≡ before ++ entries_for (length front) group
+
+-- and of all rounds, where no lane before it has more groups than it has then
+abbrev pub RoundsGoOn : Type 0
+RoundsGoOn = (front : List (List (List Event))) (groups : List (List Event)) (group : List Event) (back : List (List (List Event)))
+    → NoneLonger (suc (length groups)) front → NoneLonger (length groups) back
+    → rounds (front ++ (groups ++ group ∷ []) ∷ back) ≡ rounds (front ++ groups ∷ back) ++ entries_for (length front) group
+
+-- ---- any relay
+
+-- it follows where the log has the verdicts on fronts of the lanes' wires, in rounds, and a lane ends
+-- only behind all that its wire carries
+abbrev pub OfFronts : (List Ends → List Run → LogState → Type 0) → Type 0
+OfFronts Claim =
+    (lanes : List Ends) (runs : List Run) (log : LogState)
+    → AreRuns lanes runs → log.entries ≡ rounds_of runs → OfRuns runs (EndsWhole log) → Claim lanes runs log
+
+-- the headline holds of each lane
+abbrev pub FrontsHaveHeadline : Type 0
+FrontsHaveHeadline = OfFronts (λ lanes runs log. OfRuns runs (Headline log))
+
+-- so the log is a relayed one
+abbrev pub FrontsAreRelayed : Type 0
+FrontsAreRelayed = OfFronts (λ lanes runs log. (relayed : IsRelayed lanes log) × (relayed.runs ≡ runs))
+
+-- the whole log of given lanes is one list, and so is what is told of how much their senders sealed
+abbrev pub OneWholeLog : Type 0
+OneWholeLog = (lanes : List Ends) (log other : LogState) (sents others : List Sent)
+    → IsWhole lanes log sents → IsWhole lanes other others → (log.entries ≡ other.entries) × (sents ≡ others)

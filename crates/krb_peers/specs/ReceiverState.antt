@@ -1,0 +1,8 @@
+-- What contracts see of a receiver.
+use Rattle.krb_seal.specs.Opens.{OpenerState}
+use Rattle.krb_peers.specs.Demand.{Demand}
+
+-- its opener, and what it demands
+pub record ReceiverState : Type 0 where
+  pub opener : OpenerState
+  pub demand : Demand

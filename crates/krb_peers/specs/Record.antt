@@ -1,0 +1,41 @@
+-- The records of the relay: what the user data of a message is. Their format is this project's own.
+use Rattle.std.specs.Prelude.{◌≡◌, ℕ, Bool, true, false, ◌≤◌, List, [], ◌∷◌, length, codes}
+use Rattle.krb_peers.specs.declared.record.Record.{Record}
+use Rattle.krb_peers.specs.declared.record.Record.TheVariants.{Text, Close}
+use Rattle.krb_peers.specs.declared.record.RecordError.{RecordError}
+use Rattle.krb_peers.specs.declared.record.RecordError.TheVariants.{BadRecord, Memory}
+use Rattle.krb_base.specs.Limits.{text_limit}
+
+-- the bytes of a record: 44 and the text, or the single byte 43 (hexadecimal)
+abbrev pub bytes_of : Record → List ℕ
+bytes_of (Text text) = 0x44 ∷ text
+bytes_of Close = 0x43 ∷ []
+
+-- the texts that a record carries, in order
+abbrev pub texts_of : Record → List (List ℕ)
+texts_of (Text text) = text ∷ []
+texts_of Close = []
+
+-- whether a record is the close
+abbrev pub is_close : Record → Bool
+is_close (Text text) = false
+is_close Close = true
+
+-- a text is not too long
+abbrev pub FitsLimits : Record → Type 0
+FitsLimits (Text text) = length text ≤ text_limit
+FitsLimits Close = Unit {0}
+
+-- the bytes are those of this record
+abbrev pub SpellsRecord : Record → List ℕ → Type 0
+SpellsRecord r bytes = FitsLimits r × (bytes ≡ bytes_of r)
+
+-- the number of an error
+abbrev pub code_of : RecordError → ℕ
+code_of BadRecord = 1
+code_of Memory = 2
+
+-- what is printed of it
+abbrev pub words_of : RecordError → List ℕ
+words_of BadRecord = codes "the bytes are no record"
+words_of Memory = codes "out of memory"

@@ -1,0 +1,54 @@
+-- A sender as the code holds it.
+use Rattle.std.specs.Prelude.{◌≡◌, ◌≤◌, ◌<◌, ℕ, ◌+◌, ◌-◌, ◌*◌, ◌==◌, if◌then◌else◌, List, length, take, option_map, All}
+use Rattle.krb_base.specs.Limits.{text_limit, last_number}
+use Rattle.krb_seal.specs.Sealer.{SealerState}
+use Rattle.krb_peers.specs.declared.sending.Sending.{Sending}
+use Rattle.krb_peers.specs.declared.sending.Sent.{Sent}
+use Rattle.krb_peers.specs.declared.sending.Ending.TheVariants.{Done, LastNumber}
+use Rattle.krb_peers.specs.Draws.{after_words}
+use Rattle.krb_peers.specs.Plan.{contents}
+use Rattle.krb_peers.specs.Sender.{Source, sealed_count, records, AreFrames}
+
+-- what it is, where `state` says what its sealer is
+abbrev pub source_of : {S : Type 0} → (S → SealerState) → Sending S → Source
+source_of state sending = record {
+  sealer = state sending.sealer;
+  texts = contents sending.texts.items;
+  ats = sending.ats.items;
+  draws = sending.draws;
+  plan = option_map (λ plan. plan.items) sending.plan;
+}
+
+-- how many texts are sealed
+abbrev pub sealed_of : Source → ℕ
+sealed_of source = sealed_count source.sealer.next (length source.texts)
+
+-- how much that is
+abbrev pub sent_of : Source → Sent
+sent_of source = record {
+  k = sealed_of source;
+  n = length source.texts;
+  ending = if sealed_of source == length source.texts then Done else LastNumber;
+}
+
+-- the same sender before its last k frames, but for its draws
+abbrev pub before : ℕ → Source → Source
+before k source = record source { sealer = record source.sealer { next = source.sealer.next - k } }
+
+-- and after its next k frames, under four words each
+abbrev pub behind : ℕ → Source → Source
+behind k source = record source {
+  sealer = record source.sealer { next = source.sealer.next + k };
+  draws = after_words (4 * k) source.draws;
+}
+
+-- the limits of a sender: no text is too long, there is a moment, and a number is left for the close
+pub record IsSender (source : Source) : Type 0 where
+  pub texts : All (λ text. length text ≤ text_limit) source.texts
+  pub ats : 0 < length source.ats
+  pub next : source.sealer.next ≤ last_number
+
+-- these are the frames of the first k records of a sender, which is in this state then
+pub record HasSealed (source : Source) (k : ℕ) (frames : List (List ℕ)) (now : Source) : Type 0 where
+  pub sealed : AreFrames source (take k (records source)) frames
+  pub state : now ≡ behind k source

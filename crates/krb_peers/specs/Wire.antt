@@ -1,0 +1,20 @@
+-- What a sender puts on its wire.
+use Rattle.std.specs.Prelude.{◌≡◌, ℕ, true, false, List}
+use Rattle.krb_peers.specs.Plan.{is_planned, wire}
+use Rattle.krb_peers.specs.Sender.{Source, HaveShortTexts, records, AreFrames}
+use Rattle.krb_peers.specs.Verdicts.{AllBytes}
+
+-- what the plan makes of the frames of all records, and these are bytes
+pub record IsWire (source : Source) (emitted : List (List ℕ)) : Type 0 where
+  pub frames : List (List ℕ)
+  pub sealed : AreFrames source (records source) frames
+  pub planned : is_planned frames source.plan ≡ true
+  pub wire_is : emitted ≡ wire frames source.plan
+  pub bytes : AllBytes emitted
+  pub fits : HaveShortTexts source
+
+-- the plan is bad for those frames
+pub record IsBad (source : Source) : Type 0 where
+  pub frames : List (List ℕ)
+  pub sealed : AreFrames source (records source) frames
+  pub not_planned : is_planned frames source.plan ≡ false

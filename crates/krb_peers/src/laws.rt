@@ -1,0 +1,66 @@
+//! Laws of the definitions: what a user may rest on without reading any code.
+
+ghost use Rattle.krb_peers.specs.Laws.{OneRecord, RecordsAreShort, OneListOfAnswers, CloseIsLast, AcceptsPrefix, AcceptsTextsPrefix, AcceptsWhole};
+ghost use Rattle.krb_peers.specs.Laws.{OneVerdict, OneListOfVerdicts, VerdictsGoOn, NextVerdict, OneListOfFrames};
+ghost use Rattle.krb_peers.specs.Laws.{NothingIsLogged, LoggedIsShut, OneListOfRounds, RoundsKeepLanes, RoundGoesOn, RoundsGoOn};
+
+/// The laws of records' bytes.
+///
+/// No bytes are those of two records (`one`), and none are longer than the user data (`short`).
+pub fn record_laws()
+    ensures one { OneRecord }
+    ensures short { RecordsAreShort }
+{}
+
+/// The laws of accepted offers, over their definition alone.
+///
+/// Each list of offers has one list of answers, the one that an [`Order`](crate::Order) gives
+/// offer by offer (`one`). Nothing is accepted behind a close (`close_last`).
+///
+/// Let each offer numbered `first + k` carry record k of a list. Then the accepted records, in
+/// order, are a prefix of that list (`prefix`), and so are their texts (`texts`). Where the list's
+/// one close stands last and was accepted, they are the whole list (`whole`).
+pub fn accepted_laws()
+    ensures one { OneListOfAnswers }
+    ensures close_last { CloseIsLast }
+    ensures prefix { AcceptsPrefix }
+    ensures texts { AcceptsTextsPrefix }
+    ensures whole { AcceptsWhole }
+{}
+
+/// The laws of verdicts and of frames.
+///
+/// A frame of bytes has one verdict (`one`), and frames of bytes have one list of verdicts (`all`).
+/// With one frame more comes one verdict more, by what is demanded then (`goes_on`, and `next` of
+/// the list as it is computed). The frames of a sender's records are one list (`frames`).
+pub fn verdict_laws()
+    ensures one { OneVerdict }
+    ensures all { OneListOfVerdicts }
+    ensures goes_on { VerdictsGoOn }
+    ensures next { NextVerdict }
+    ensures frames { OneListOfFrames }
+{}
+
+/// The laws of what a log has of a lane.
+///
+/// Before the first frame it has nothing (`none`). Behind a close that stands there, the receiver
+/// accepts no more (`shut`), as [`Receiver::take_into`](crate::Receiver::take_into) asks, which
+/// leaves the next frame.
+pub fn logged_laws()
+    ensures none { NothingIsLogged }
+    ensures shut { LoggedIsShut }
+{}
+
+/// The laws of rounds.
+///
+/// Each lane has groups of events, one for each verdict. The entries are those of the groups of all
+/// lanes, each once, by their places and then by their lanes, and no other list is that
+/// (`by_places`). The events of a lane stay in their order (`of_lane`). One group more, of a lane
+/// whose followers have no more groups than it had, comes last (`goes_on`), and of all rounds where
+/// no lane before it has more groups than it has then (`next`).
+pub fn rounds_laws()
+    ensures by_places { OneListOfRounds }
+    ensures of_lane { RoundsKeepLanes }
+    ensures goes_on { RoundGoesOn }
+    ensures next { RoundsGoOn }
+{}

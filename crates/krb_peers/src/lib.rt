@@ -1,0 +1,42 @@
+//! The two ends of a lane: what a sender seals, and what a receiver says of what it takes.
+//!
+//! The user data of a message is a [`Record`], a text or the close. A [`Sending`] seals its texts
+//! as records of rising numbers, and a plan ([`emit`]) may disturb the frames on purpose. A
+//! [`Receiver`] demands the numbers one after another ([`Order`]), and accepts nothing behind a
+//! close. A [`Log`] keeps what became of the frames of each lane. [`headline_laws`] says what is
+//! delivered and refused, whatever the plan; [`relay_laws`] says it of the log of any relay, stepped
+//! or on threads, that has the verdicts of all lanes in rounds.
+//!
+//! ```text
+//! let frames = sending.seal_all(alloc)?;
+//! let wire = emit(alloc, &frames, &[Emit::Frame(0), Emit::Frame(0)])?;
+//! let first = receiver.take(alloc, &wire[0], now)?; // Delivery::Text
+//! let again = receiver.take(alloc, &wire[1], now); // Err(Refusal::BadOrder)
+//! ```
+#![tactic(auto)]
+
+mod confounder;
+mod delivery;
+mod emission;
+mod headline;
+mod laws;
+mod log;
+mod order;
+mod plan;
+mod receiver;
+mod record;
+mod sending;
+mod start;
+
+pub use delivery::Delivery;
+pub use emission::emit;
+pub use headline::{headline_laws, relay_laws, undisturbed_laws};
+pub use krb_base::{LAST_NUMBER, TEXT_LIMIT, USER_DATA_LIMIT};
+pub use laws::{accepted_laws, logged_laws, record_laws, rounds_laws, verdict_laws};
+pub use log::{Entry, Event, Log, Status};
+pub use order::{Order, OrderRefusal};
+pub use plan::{Emit, EmitError};
+pub use receiver::{Receiver, Receiving};
+pub use record::{Record, RecordError, read_record, record_bytes};
+pub use sending::{Ending, Sending, Sent};
+pub use start::{StartError, emit_sealed};

@@ -1,0 +1,194 @@
+//! The order of records: one number after another, and nothing behind the close.
+
+ghost use Rattle.std.specs.Prelude.{◌≡◌, ◌≢◌, ◌↔◌, ◌⊎◌, ℕ, ◌+◌, ◌≤◌, ◌<◌, List, [], ◌∷◌, ◌++◌, IsTrue, IsFalse, OnOk, OnErr, Some};
+ghost use Rattle.krb_base.specs.Limits.{last_number};
+ghost use Rattle.krb_peers.specs.Order.{Offer, Answer, offer, answer_to, first_demand, next_demand, code_of, words_of};
+ghost use Rattle.krb_peers.specs.Accepted.{HasAnswered};
+ghost use Rattle.krb_peers.specs.Record.{is_close};
+
+use crate::record::Record;
+use krb_base::LAST_NUMBER;
+use std::error::Error;
+use std::fmt;
+use std::marker::Model;
+
+/// The numbers that a receiver demands, one after another, until it has accepted a close.
+///
+/// Contracts see it as the number demanded next, and whether a close was accepted.
+#[derive(Debug, Drop)]
+pub struct Order {
+    expected: u64,
+    closed: bool,
+}
+
+impl Model for Order {
+    ghost use Rattle.std.specs.Prelude.{◌+◌, ◌≤◌};
+    ghost use Rattle.krb_peers.specs.Demand.{Demand};
+    ghost use Rattle.krb_base.specs.Limits.{last_number};
+
+    ghost Value = { Demand };
+
+    ghost view = { λ order. record { expected = order.expected; closed = order.closed } };
+
+    ghost invariant = { λ order. order.expected ≤ last_number + 1 };
+}
+
+/// Why an [`Order`] refuses a record. The first that fits is answered.
+#[derive(Clone, Copy, Debug, PartialEq, Eq)]
+pub enum OrderRefusal {
+    /// A close was accepted before.
+    AfterClose,
+    /// The number isn't the demanded one, or is over [`LAST_NUMBER`].
+    BadOrder,
+}
+
+impl OrderRefusal {
+    /// The number of this refusal: 903 or 42.
+    pub fn code(&self) -> u32
+        ensures { result ≡ code_of self.now }
+    {
+        match self {
+            OrderRefusal::AfterClose => 903,
+            OrderRefusal::BadOrder => 42,
+        }
+    }
+}
+
+impl fmt::Display for OrderRefusal {
+    ghost output = { λ error. Some (words_of error) };
+
+    fn fmt<W: fmt::Write>(&self, f: &mut fmt::Formatter<W>) -> fmt::Result {
+        match self {
+            OrderRefusal::AfterClose => write!(f, "a close was accepted before"),
+            OrderRefusal::BadOrder => write!(f, "the number isn't the demanded one"),
+        }
+    }
+}
+
+impl Error for OrderRefusal {}
+
+impl Order {
+    /// An order that demands `first`, and has accepted nothing.
+    pub fn new(first: u32) -> Order
+        ensures expected { result.expected ≡ first }
+        ensures closed { IsFalse result.closed }
+        ensures answered { HasAnswered first [] [] result }
+    {
+        Order {
+            expected: u64::from(first),
+            closed: false,
+        }
+    }
+
+    /// The number that is demanded next: at most one over [`LAST_NUMBER`], which no message has.
+    pub fn expected(&self) -> u64
+        ensures number { result ≡ self.now.expected }
+        ensures in_range { result ≤ last_number + 1 }
+    {
+        self.expected
+    }
+
+    /// Whether a close was accepted.
+    pub fn closed(&self) -> bool
+        ensures { result ≡ self.now.closed }
+    {
+        self.closed
+    }
+
+    /// Accepts the record `offered` where `number` is demanded and no close was accepted before.
+    ///
+    /// The next number is then demanded, and a close is noted. A refusal changes nothing.
+    pub fn accept(&mut self, number: u64, offered: &Record) -> Result<(), OrderRefusal>
+        ensures answer { result ≡ answer_to self.old (offer number offered.now) }
+        ensures after_close { (result ≡ Err OrderRefusal.AfterClose) ↔ IsTrue self.old.closed }
+        ensures bad_order { (result ≡ Err OrderRefusal.BadOrder)
+            ↔ (IsFalse self.old.closed × ((number ≢ self.old.expected) ⊎ (last_number < number))) }
+
+        ensures next { OnOk result (self.new.expected ≡ self.old.expected + 1) }
+        ensures close { OnOk result (self.new.closed ≡ is_close offered.now) }
+        ensures err { OnErr result (self.new ≡ self.old) }
+
+        // Whatever an order has answered before, it goes on as `Accepted` says.
+        ensures answered { (first : ℕ) (offers : List Offer) (answers : List Answer)
+            → HasAnswered first offers answers self.old
+            → HasAnswered first (offers ++ offer number offered.now ∷ []) (answers ++ result ∷ [])
+            self.new }
+    {
+        if self.closed {
+            return Err(OrderRefusal::AfterClose);
+        }
+        if number != self.expected || number > LAST_NUMBER {
+            return Err(OrderRefusal::BadOrder);
+        }
+        self.advance(matches!(offered, Record::Close));
+        Ok(())
+    }
+
+    /// Moves on behind an accepted record: the next number is demanded, and a close is noted.
+    pub(crate) fn advance(&mut self, close: bool)
+        requires { self.old.expected ≤ last_number }
+        ensures { self.new ≡ next_demand self.old close }
+    {
+        self.expected += 1;
+        self.closed = close;
+    }
+}
+
+#[cfg(test)]
+mod tests {
+    use super::*;
+    use krb_base::Bytes;
+    use std::test::Fail;
+
+    fn text(rt: &HostRuntime) -> Record {
+        Record::Text(Bytes::new(Vec::new(rt.alloc())))
+    }
+
+    #[test]
+    fn numbers_one_after_another(rt: HostRuntime) {
+        let text = text(&rt);
+        let mut order = Order::new(7);
+        let offers = [
+            (7, &text, Ok(()), 8),
+            (7, &text, Err(OrderRefusal::BadOrder), 8),
+            (9, &text, Err(OrderRefusal::BadOrder), 8),
+            (8, &text, Ok(()), 9),
+            (9, &Record::Close, Ok(()), 10),
+            (10, &text, Err(OrderRefusal::AfterClose), 10),
+        ];
+        assert!(rt; order.expected() == 7 && !order.closed());
+        for (number, record, answer, then) in offers {
+            assert_eq!(rt; order.accept(number, record), answer, "at {number}");
+            assert_eq!(rt; order.expected(), then, "after {number}");
+            assert_eq!(rt; order.closed(), then == 10, "after {number}");
+        }
+    }
+
+    #[test]
+    fn last_number(rt: HostRuntime) {
+        let text = text(&rt);
+        let mut order = Order::new(4_294_967_295);
+        assert_eq!(rt; order.accept(4_294_967_295, &text), Ok(()));
+        let beyond = order.accept(4_294_967_296, &text);
+        assert_eq!(rt; beyond, Err(OrderRefusal::BadOrder));
+        assert_eq!(rt; order.accept(0, &text), Err(OrderRefusal::BadOrder));
+        assert!(rt; order.expected() == 4_294_967_296 && !order.closed());
+    }
+
+    #[test]
+    fn refusals_have_numbers_and_words(rt: HostRuntime) -> Result<(), Fail> {
+        let table = [
+            (OrderRefusal::AfterClose, 903, "a close was accepted before"),
+            (
+                OrderRefusal::BadOrder,
+                42,
+                "the number isn't the demanded one",
+            ),
+        ];
+        for (refusal, code, words) in table {
+            assert_eq!(rt; refusal.code(), code);
+            assert_eq!(rt; format!(in rt.alloc(); "{refusal}")?.as_str(), words);
+        }
+        Ok(())
+    }
+}

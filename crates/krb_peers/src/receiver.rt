@@ -1,0 +1,177 @@
+//! The receiver of a lane.
+
+ghost use Rattle.std.specs.Prelude.{◌≡◌, ◌+◌, ◌<◌, ◌≤◌, length, IfOk, OnOk, OnErr};
+ghost use Rattle.krb_base.specs.Limits.{last_number};
+ghost use Rattle.krb_peers.specs.Record.{is_close};
+ghost use Rattle.krb_peers.specs.Sender.{moment_at};
+ghost use Rattle.krb_peers.specs.Verdicts.{IsVerdict, record_of};
+ghost use Rattle.krb_peers.specs.Order.{first_demand};
+ghost use Rattle.krb_peers.specs.Receiver.{verdict_by, IsJudgement, receiver_behind, advanced};
+ghost use Rattle.krb_peers.specs.Logged.{noted, IsShut, LogsNext};
+
+use crate::delivery::Delivery;
+use crate::log::{Event, Log};
+use crate::order::Order;
+use crate::record::{Record, RecordError, read_record};
+use krb_der::Moment;
+use krb_seal::{Opener, Refusal};
+use std::alloc::{AllocError, Global};
+use std::marker::Model;
+
+/// Opens the frames of one sender, and accepts only the next number.
+///
+/// Contracts see it as its opener, and what it demands.
+#[derive(Drop)]
+pub struct Receiver {
+    opener: Opener,
+    order: Order,
+}
+
+/// A receiver and the moments at which it takes frames: entry i for the i-th, refused ones counted,
+/// and the last one for all others. There is at least one.
+#[derive(Drop)]
+pub struct Receiving {
+    /// What takes the frames.
+    pub receiver: Receiver,
+    /// The moments, in order.
+    pub nows: Vec<Moment>,
+}
+
+impl Receiving {
+    /// The moment at which the frame of this place is taken: the last one serves all later places.
+    pub fn moment_at(&self, place: usize) -> Moment
+        requires { 0 < length self.now.nows.items }
+        ensures { result ≡ moment_at self.now.nows.items place }
+    {
+        self.nows[place.min(self.nows.len() - 1)]
+    }
+}
+
+impl Model for Receiver {
+    ghost use Rattle.krb_peers.specs.ReceiverState.{ReceiverState};
+
+    ghost Value = { ReceiverState };
+
+    ghost view = { λ receiver. record { opener = receiver.opener; demand = receiver.order } };
+}
+
+impl Receiver {
+    /// A receiver that has taken nothing, and demands the number `first`.
+    pub fn new(opener: Opener, first: u32) -> Receiver
+        ensures opener { result.opener ≡ opener }
+        ensures demand { result.demand ≡ first_demand first }
+    {
+        Receiver {
+            opener,
+            order: Order::new(first),
+        }
+    }
+
+    /// The number that is demanded next: at most one over the last, which no message has.
+    pub fn expected(&self) -> u64
+        ensures number { result ≡ self.now.demand.expected }
+        ensures in_range { result ≤ last_number + 1 }
+    {
+        self.order.expected()
+    }
+
+    /// Whether a close was accepted.
+    pub fn closed(&self) -> bool
+        ensures { result ≡ self.now.demand.closed }
+    {
+        self.order.closed()
+    }
+
+    /// Takes a frame at the moment `now`: what it carries, or the refusal of the first check that
+    /// it fails.
+    ///
+    /// `Memory` comes where a growth was refused. Each refusal leaves the receiver as it was.
+    pub fn take(&mut self, alloc: Global, frame: &[u8], now: Moment) -> Result<Delivery, Refusal>
+        ensures verdict { IsJudgement self.old now frame.now result }
+        ensures behind { self.new ≡ receiver_behind self.old result }
+
+        ensures number { OnOk result (self.new.demand.expected ≡ self.old.demand.expected + 1) }
+        ensures closed { IfOk result (λ carried.
+            self.new.demand.closed ≡ is_close (record_of carried)) }
+        ensures err { OnErr result (self.new ≡ self.old) }
+    {
+        let delivery = self.judge(alloc, frame, now)?;
+        self.advance(matches!(delivery, Delivery::Closed));
+        Ok(delivery)
+    }
+
+    /// Takes a frame as [`take`](Receiver::take) does, and notes what became of it in the log as an
+    /// event of `lane`.
+    ///
+    /// Every growth comes before the first change, so want of memory, which is the only error,
+    /// changes nothing.
+    pub fn take_into(
+        &mut self,
+        log: &mut Log,
+        alloc: Global,
+        lane: u32,
+        frame: &[u8],
+        now: Moment,
+    ) -> Result<(), AllocError>
+        requires lane { lane < log.old.lanes }
+        requires shut { IsShut log.old lane self.old }
+        ensures verdict { OnOk result (IsVerdict self.old.opener self.old.demand now frame.now
+            (verdict_by self.old now frame.now)) }
+        ensures receiver { OnOk result
+            (self.new ≡ receiver_behind self.old (verdict_by self.old now frame.now)) }
+        ensures log { OnOk result
+            (log.new ≡ noted log.old lane (verdict_by self.old now frame.now)) }
+        ensures unchanged { OnErr result (self.new ≡ self.old) }
+        ensures unwritten { OnErr result (log.new ≡ log.old) }
+
+        // Whatever was taken before, the frame comes behind, and other lanes' entries stay.
+        ensures logged { OnOk result
+            (LogsNext self.old log.old lane now frame.now self.new log.new) }
+    {
+        match self.judge(alloc, frame, now) {
+            Ok(Delivery::Text(text)) => {
+                log.push(lane, Event::Text(text))?;
+                self.advance(false);
+            }
+            Ok(Delivery::Closed) => {
+                log.push(lane, Event::Closed)?;
+                self.advance(true);
+            }
+            Err(refusal) => match refusal {
+                Refusal::Memory => return Err(AllocError),
+                other => log.push(lane, Event::Refused(other))?,
+            },
+        }
+        Ok(())
+    }
+
+    /// What [`take`](Receiver::take) would answer now. Nothing changes.
+    fn judge(&self, alloc: Global, frame: &[u8], now: Moment) -> Result<Delivery, Refusal>
+        ensures verdict { IsJudgement self.now now frame.now result }
+        ensures in_range { OnOk result (self.now.demand.expected ≤ last_number) }
+    {
+        if self.order.closed() {
+            return Err(Refusal::AfterClose);
+        }
+        let number = self.order.expected();
+        let user_data = self.opener.unseal(alloc, frame, number, now)?;
+        let record = match read_record(alloc, &user_data) {
+            Ok(record) => record,
+            Err(RecordError::BadRecord) => return Err(Refusal::BadRecord),
+            Err(RecordError::Memory) => return Err(Refusal::Memory),
+        };
+        Ok(match record {
+            Record::Text(text) => Delivery::Text(text),
+            Record::Close => Delivery::Closed,
+        })
+    }
+
+    /// Moves on behind what [`judge`](Receiver::judge) delivered: the next number is demanded, and
+    /// a close is noted.
+    fn advance(&mut self, close: bool)
+        requires { self.old.demand.expected ≤ last_number }
+        ensures { self.new ≡ advanced self.old close }
+    {
+        self.order.advance(close);
+    }
+}

@@ -1,0 +1,202 @@
+//! Records, and the bytes that stand for them.
+
+ghost use Rattle.std.specs.Prelude.{◌≡◌, ◌≢◌, ◌↔◌, ◌≤◌, length, IfOk, MatchResult, Some};
+ghost use Rattle.krb_base.specs.Limits.{text_limit};
+ghost use Rattle.krb_peers.specs.Record.{FitsLimits, SpellsRecord, bytes_of, code_of, words_of};
+
+use krb_base::{Bytes, TEXT_LIMIT};
+use std::alloc::{AllocError, Global};
+use std::error::Error;
+use std::fmt;
+
+/// The first byte of a text.
+const TEXT_TAG: u8 = 0x44;
+
+/// The one byte of the close.
+const CLOSE_TAG: u8 = 0x43;
+
+/// What the user data of a relayed message is.
+#[derive(Debug, Drop)]
+pub enum Record {
+    /// A text of at most [`TEXT_LIMIT`] bytes.
+    Text(Bytes),
+    /// The end of what the sender says.
+    Close,
+}
+
+/// Why [`read_record`] gives no record.
+#[derive(Clone, Copy, Debug, PartialEq, Eq)]
+pub enum RecordError {
+    /// The bytes are those of no record.
+    BadRecord,
+    /// A growth was refused.
+    Memory,
+}
+
+impl RecordError {
+    /// The number of this error: 1 or 2.
+    pub fn code(&self) -> u32
+        ensures { result ≡ code_of self.now }
+    {
+        match self {
+            RecordError::BadRecord => 1,
+            RecordError::Memory => 2,
+        }
+    }
+}
+
+impl fmt::Display for RecordError {
+    ghost output = { λ error. Some (words_of error) };
+
+    fn fmt<W: fmt::Write>(&self, f: &mut fmt::Formatter<W>) -> fmt::Result {
+        match self {
+            RecordError::BadRecord => write!(f, "the bytes are no record"),
+            RecordError::Memory => write!(f, "out of memory"),
+        }
+    }
+}
+
+impl Error for RecordError {}
+
+impl From<AllocError> for RecordError {
+    ghost use Rattle.krb_peers.specs.declared.record.RecordError.TheVariants.{Memory};
+
+    ghost from_gives = { λ _ e. e ≡ Memory };
+
+    fn from(_: AllocError) -> RecordError {
+        RecordError::Memory
+    }
+}
+
+/// The bytes of `record`, which are its user data.
+///
+/// A text has at most [`TEXT_LIMIT`] bytes. The only error is want of memory.
+pub fn record_bytes(alloc: Global, record: &Record) -> Result<Vec<u8>, AllocError>
+    requires { FitsLimits «record».now }
+    ensures { IfOk result (λ bytes. SpellsRecord «record».now bytes.items) }
+{
+    match record {
+        Record::Text(text) => text_record(alloc, text.as_slice()),
+        Record::Close => close_record(alloc),
+    }
+}
+
+/// The bytes of a text, as a record.
+pub(crate) fn text_record(alloc: Global, text: &[u8]) -> Result<Vec<u8>, AllocError>
+    requires { length text.now ≤ text_limit }
+    ensures { IfOk result (λ bytes. bytes.items ≡ bytes_of (Record.Text text.now)) }
+{
+    let mut bytes = Vec::with_capacity(alloc, 1 + text.len())?;
+    bytes.push(TEXT_TAG)?;
+    bytes.extend_from_slice(text)?;
+    Ok(bytes)
+}
+
+/// The bytes of the close.
+pub(crate) fn close_record(alloc: Global) -> Result<Vec<u8>, AllocError>
+    ensures { IfOk result (λ bytes. bytes.items ≡ bytes_of Record.Close) }
+{
+    Vec::from_slice(alloc, &[CLOSE_TAG])
+}
+
+/// The record that `bytes` stand for.
+///
+/// `BadRecord` comes exactly where they stand for none. Only a text takes memory.
+pub fn read_record(alloc: Global, bytes: &[u8]) -> Result<Record, RecordError>
+    ensures ok { IfOk result (λ r. SpellsRecord r bytes.now) }
+
+    // Where the bytes are those of a record, nothing else is answered, memory aside.
+    ensures only { (r : Record) → SpellsRecord r bytes.now
+        → MatchResult result (λ got. got ≡ r) (λ e. e ≡ RecordError.Memory) }
+    ensures bad { (result ≡ Err RecordError.BadRecord) ↔ ((r : Record) → ¬ SpellsRecord r bytes.now) }
+    ensures memory { result ≡ Err RecordError.Memory
+        → (r : Record) × SpellsRecord r bytes.now × (r ≢ Record.Close) }
+{
+    let Some((tag, rest)) = bytes.split_first() else {
+        return Err(RecordError::BadRecord);
+    };
+    match *tag {
+        TEXT_TAG if rest.len() <= TEXT_LIMIT => {
+            let text = Vec::from_slice(alloc, rest)?;
+            Ok(Record::Text(Bytes::new(text)))
+        }
+        CLOSE_TAG if rest.is_empty() => Ok(Record::Close),
+        _ => Err(RecordError::BadRecord),
+    }
+}
+
+#[cfg(test)]
+mod tests {
+    use super::*;
+    use krb_base::USER_DATA_LIMIT;
+    use std::test::Fail;
+
+    fn is_text(record: &Record, text: &[u8]) -> bool {
+        match record {
+            Record::Text(bytes) => bytes.as_slice() == text,
+            Record::Close => false,
+        }
+    }
+
+    #[test]
+    fn no_record(rt: HostRuntime) {
+        for bytes in [[].as_slice(), &[0x43, 0x00], &[0x58], &[0x45, 0x61]] {
+            let answer = read_record(rt.alloc(), bytes);
+            assert!(rt;
+                matches!(answer, Err(RecordError::BadRecord)),
+                "at {bytes:?}"
+            );
+        }
+    }
+
+    #[test]
+    fn empty_text(rt: HostRuntime) -> Result<(), Fail> {
+        let record = read_record(rt.alloc(), &[0x44])?;
+        assert!(rt; is_text(&record, &[]));
+        assert_eq!(rt;
+            record_bytes(rt.alloc(), &record)?.as_slice(),
+            [0x44].as_slice()
+        );
+        Ok(())
+    }
+
+    #[test]
+    fn text_and_close(rt: HostRuntime) -> Result<(), Fail> {
+        let record = read_record(rt.alloc(), b"\x44hi")?;
+        assert!(rt; is_text(&record, b"hi"));
+        let bytes = record_bytes(rt.alloc(), &record)?;
+        assert_eq!(rt; bytes.as_slice(), [0x44, 0x68, 0x69].as_slice());
+        let close = read_record(rt.alloc(), &[0x43])?;
+        assert!(rt; matches!(close, Record::Close));
+        let bytes = record_bytes(rt.alloc(), &close)?;
+        assert_eq!(rt; bytes.as_slice(), [0x43].as_slice());
+        Ok(())
+    }
+
+    #[test]
+    fn longest_text(rt: HostRuntime) -> Result<(), Fail> {
+        let mut bytes = vec![in rt.alloc(); 0x61; 60_001]?;
+        assert_eq!(rt; bytes.len(), USER_DATA_LIMIT);
+        bytes[0] = 0x44;
+        let record = read_record(rt.alloc(), bytes.as_slice())?;
+        assert!(rt; is_text(&record, &bytes[1..]));
+        assert!(rt; record_bytes(rt.alloc(), &record)?.as_slice() == bytes.as_slice());
+        bytes.push(0x61)?;
+        let answer = read_record(rt.alloc(), bytes.as_slice());
+        assert!(rt; matches!(answer, Err(RecordError::BadRecord)));
+        Ok(())
+    }
+
+    #[test]
+    fn errors_have_numbers_and_words(rt: HostRuntime) -> Result<(), Fail> {
+        let table = [
+            (RecordError::BadRecord, 1, "the bytes are no record"),
+            (RecordError::Memory, 2, "out of memory"),
+        ];
+        for (error, code, words) in table {
+            assert_eq!(rt; error.code(), code);
+            assert_eq!(rt; format!(in rt.alloc(); "{error}")?.as_str(), words);
+        }
+        Ok(())
+    }
+}

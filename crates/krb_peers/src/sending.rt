@@ -1,0 +1,173 @@
+//! A sender: its sealer, what it seals, and the plan of its wire.
+
+ghost use Rattle.std.specs.Prelude.{◌≡◌, ◌↔◌, ◌≤◌, ◌+◌, ◌∷◌, ◌++◌, [], ℕ, List, length, true, slice_get, Some, IfOk, IfErr, OnOk, OnErr, IsErr, ◌⊎◌, ◌<◌};
+ghost use Rattle.krb_peers.specs.declared.record.Record.{Record};
+ghost use Rattle.krb_base.specs.Limits.{user_data_limit};
+ghost use Rattle.krb_seal.specs.Sealer.{SealsNext};
+ghost use Rattle.krb_peers.specs.Record.{bytes_of};
+ghost use Rattle.krb_peers.specs.Draws.{after_words, confounder_at};
+ghost use Rattle.krb_peers.specs.Plan.{contents};
+ghost use Rattle.krb_peers.specs.Sender.{Source, AreFrames, records, moment_at};
+ghost use Rattle.krb_peers.specs.Verdicts.{AllBytes};
+ghost use Rattle.krb_peers.specs.Sending.{source_of, sealed_of, sent_of, before, behind, IsSender, HasSealed};
+
+use crate::confounder::draw_confounder;
+use crate::emission::known_bytes;
+use crate::plan::Emit;
+use crate::record::{close_record, text_record};
+use krb_base::LAST_NUMBER;
+use krb_der::Moment;
+use krb_seal::{SealError, Sealer};
+use rand_chacha::ChaCha20Rng;
+use std::alloc::{AllocError, Global};
+
+/// A sealer and what it is to seal.
+///
+/// Its limits: a text has at most 60,000 bytes, there is at least one moment, and the sealer's next
+/// number is at most [`LAST_NUMBER`]. With fewer moments than records, the last one serves the
+/// others.
+#[derive(Drop)]
+pub struct Sending<S = Box<dyn Sealer + Send>> {
+    /// What seals.
+    pub sealer: S,
+    /// The texts, in order.
+    pub texts: Vec<Vec<u8>>,
+    /// The moments of the records, in order.
+    pub ats: Vec<Moment>,
+    /// Where the confounders come from: four words each.
+    pub draws: ChaCha20Rng,
+    /// What the wire makes of the frames. Without a plan it carries them as they are.
+    pub plan: Option<Vec<Emit>>,
+}
+
+/// How much of a sender's texts is sealed.
+#[derive(Clone, Copy, Debug, PartialEq, Eq)]
+pub struct Sent {
+    /// So many texts are sealed,
+    pub k: usize,
+    /// of so many.
+    pub n: usize,
+    /// Why no more.
+    pub ending: Ending,
+}
+
+/// Why no more texts are sealed.
+#[derive(Clone, Copy, Debug, PartialEq, Eq)]
+pub enum Ending {
+    /// All of them are.
+    Done,
+    /// The last number is kept for the close.
+    LastNumber,
+}
+
+impl<S: Sealer> Sending<S> {
+    /// How many texts are sealed from the sealer's next number on: the last number is kept for the
+    /// close.
+    fn sealed(&self) -> usize
+        ensures { result ≡ sealed_of (source_of S.state self.now) }
+    {
+        let left = LAST_NUMBER.saturating_sub(self.sealer.next());
+        self.texts.len().min(left as usize)
+    }
+
+    /// How many records are sealed: those texts, and the close.
+    pub fn records(&self) -> usize
+        ensures { result ≡ length (records (source_of S.state self.now)) }
+    {
+        self.sealed() + 1
+    }
+
+    /// How many texts of how many are sealed.
+    pub fn sent(&self) -> Sent
+        ensures sent { result ≡ sent_of (source_of S.state self.now) }
+        ensures sealed { result.k ≡ sealed_of (source_of S.state self.now) }
+        ensures count { result.n ≡ length (source_of S.state self.now).texts }
+        ensures done { (result.ending ≡ Ending.Done) ↔ (result.k ≡ result.n) }
+    {
+        let k = self.sealed();
+        let n = self.texts.len();
+        let ending = if k == n {
+            Ending::Done
+        } else {
+            Ending::LastNumber
+        };
+        Sent { k, n, ending }
+    }
+
+    /// Seals record `k` at the sealer's next number, under the next four words of `draws`.
+    ///
+    /// Record 0 is the one at the number `k` before the next: the records are those of a sender who
+    /// has sealed `k` of them. The only errors are `Wiped`, where the sealer was wiped, and
+    /// `Memory`. Each leaves the sealer as it was, but the generator may have moved.
+    pub fn seal_record(&mut self, alloc: Global, k: usize) -> Result<Vec<u8>, SealError>
+        requires sender { IsSender (source_of S.state self.old) }
+        requires begun { k ≤ (S.state self.old.sealer).next }
+        requires there { k < length (records (before k (source_of S.state self.old))) }
+
+        ensures sealed { IfOk result (λ frame. (r : Record)
+            → slice_get (records (before k (source_of S.state self.old))) k ≡ Some r
+            → SealsNext (S.state self.old.sealer) (bytes_of r) (moment_at self.old.ats.items k)
+            (confounder_at self.old.draws 0) frame.items) }
+        ensures behind { OnOk result
+            (source_of S.state self.new ≡ behind 1 (source_of S.state self.old)) }
+
+        // Whatever a sender has sealed before, its frames go on as those of its records.
+        ensures frames { IfOk result (λ frame. (source : Source) (frames : List (List ℕ))
+            → HasSealed source k frames (source_of S.state self.old)
+            → HasSealed source (k + 1) (frames ++ frame.items ∷ []) (source_of S.state self.new)) }
+
+        ensures wiped { (S.state self.old.sealer).wiped ≡ true → IsErr result }
+        ensures errors { IfErr result (λ e.
+            ((e ≡ SealError.Wiped) × ((S.state self.old.sealer).wiped ≡ true))
+            ⊎ (e ≡ SealError.Memory)) }
+        ensures unchanged { OnErr result (S.state self.new.sealer ≡ S.state self.old.sealer) }
+        ensures texts { self.new.texts ≡ self.old.texts }
+        ensures ats { self.new.ats ≡ self.old.ats }
+        ensures plan { self.new.plan ≡ self.old.plan }
+    {
+        let bytes = self.record_at(alloc, k)?;
+        let at = self.ats[k.min(self.ats.len() - 1)];
+        let confounder = draw_confounder(&mut self.draws);
+        self.sealer.seal(alloc, &bytes, at, confounder)
+    }
+
+    /// Seals all records, the close last.
+    ///
+    /// The errors are those of [`seal_record`](Sending::seal_record); the first ends it.
+    pub fn seal_all(&mut self, alloc: Global) -> Result<Vec<Vec<u8>>, SealError>
+        requires { IsSender (source_of S.state self.old) }
+        ensures frames { IfOk result (λ frames. AreFrames (source_of S.state self.old)
+            (records (source_of S.state self.old)) (contents frames.items)) }
+        ensures bytes { IfOk result (λ frames. AllBytes (contents frames.items)) }
+        ensures wiped { (S.state self.old.sealer).wiped ≡ true → IsErr result }
+        ensures errors { IfErr result (λ e.
+            ((e ≡ SealError.Wiped) × ((S.state self.old.sealer).wiped ≡ true))
+            ⊎ (e ≡ SealError.Memory)) }
+    {
+        let count = self.records();
+        let mut frames = Vec::with_capacity(alloc, count)?;
+        for k in 0..count {
+            let frame = self.seal_record(alloc, k)?;
+            known_bytes(frame.as_slice());
+            frames.push(frame).map_err(AllocError::from)?;
+        }
+        Ok(frames)
+    }
+
+    /// The bytes of record `k`, which has the sealer's next number.
+    fn record_at(&self, alloc: Global, k: usize) -> Result<Vec<u8>, AllocError>
+        requires sender { IsSender (source_of S.state self.now) }
+        requires begun { k ≤ (S.state self.now.sealer).next }
+        ensures bytes { IfOk result (λ bytes. (r : Record)
+            → slice_get (records (before k (source_of S.state self.now))) k ≡ Some r
+            → bytes.items ≡ bytes_of r) }
+        ensures short { IfOk result (λ bytes. length bytes.items ≤ user_data_limit) }
+    {
+        match self.texts.get(k) {
+            Some(text) if self.sealer.next() < LAST_NUMBER => {
+                text_record(alloc, text.as_slice())
+            }
+            _ => close_record(alloc),
+        }
+    }
+}
