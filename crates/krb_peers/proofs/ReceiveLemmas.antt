@@ -1,19 +1,17 @@
 -- What a verdict leaves of a receiver and of a log.
-use Rattle.std.proofs.Common.{◌≡◌, ℕ, ◌||◌, Bool, true, false, List, Ok, Err, inl, inr, refl, sym, ap, ◌∙◌}
+use Rattle.std.proofs.Common.{◌≡◌, ℕ, Bool, List, Ok, Err, inl, inr, refl, sym, ap, ◌∙◌}
 use Rattle.krb_aes.specs.Words.{AreBytes}
 use Rattle.krb_seal.specs.declared.refusal.Refusal.{Refusal}
 use Rattle.krb_seal.specs.declared.refusal.Refusal.TheVariants.{Memory}
-use Rattle.krb_peers.specs.declared.delivery.Delivery.TheVariants.{Text, Closed}
-use Rattle.krb_peers.specs.declared.log.Event.TheVariants as events
+use Rattle.krb_peers.specs.declared.delivery.Delivery.{Delivery}
 use Rattle.krb_peers.specs.Demand.{Demand}
-use Rattle.krb_peers.specs.Log.{appended}
 use Rattle.krb_peers.specs.LogState.{LogState}
 use Rattle.krb_peers.specs.ReceiverState.{ReceiverState}
-use Rattle.krb_peers.specs.Receiver.{IsJudgement, receiver_behind, advanced}
-use Rattle.krb_peers.specs.Verdicts.{Verdict, IsVerdict}
-use Rattle.krb_peers.specs.Receiver.{verdict_by}
+use Rattle.krb_peers.specs.Receiver.{IsJudgement, verdict_by, receiver_behind, advanced}
+use Rattle.krb_peers.specs.Record.{is_close}
+use Rattle.krb_peers.specs.Verdicts.{Verdict, IsVerdict, record_of}
 use Rattle.krb_peers.specs.Logged.{noted}
-use Rattle.krb_peers.proofs.OrderLemmas.{demand_after-nil}
+use Rattle.krb_peers.proofs.OrderLemmas.{demand_after-nil, demand_one}
 use Rattle.krb_peers.proofs.VerdictLemmas.{one_verdict, right_verdict}
 
 -- an answer that isn't want of memory is the verdict
@@ -40,26 +38,19 @@ module _ (receiver : ReceiverState) (log : LogState) (lane now : ℕ) (frame : L
     log_is = l ∙ ap (λ w. noted log lane w) is;
   }
 
-  advances : (close : Bool) → receiver.demand.closed ≡ false → advanced receiver close ≡ advanced receiver (receiver.demand.closed || (close || false))
-  advances true live = rw live refl
-  advances false live = rw live refl
+  -- a delivery moves the receiver on
+  pub received : (d : Delivery) (close : Bool) (receiver-now : ReceiverState) (log-now : LogState) → IsJudgement receiver now frame (Ok d) → close ≡ is_close (record_of d)
+      → receiver-now ≡ advanced receiver close → log-now ≡ noted log lane (Ok d) → IsReceived receiver receiver-now log log-now lane now frame
+  received d close receiver-now log-now (inl h) closes r l = absurd (let e = h in cc)
+  received d close receiver-now log-now (inr h) closes r l =
+      let is = answer_is receiver now frame (Ok d) bytes (λ e. let f = e in cc) (inr h) in
+      let next : advanced receiver close ≡ receiver_behind receiver (Ok d) =
+      ap (λ b. advanced receiver b) closes ∙ ap (λ (demand : Demand). let z : ReceiverState = record receiver { demand = demand } in z) (demand_one receiver.demand (record_of d) h.0) in
+      received_by (Ok d) receiver-now log-now is (r ∙ next) l
 
-  pub received_text : (text : List ℕ) (receiver-now : ReceiverState) (log-now : LogState) → IsJudgement receiver now frame (Ok (Text text))
-      → receiver-now ≡ advanced receiver false → log-now ≡ appended log lane (events.Text text) → IsReceived receiver receiver-now log log-now lane now frame
-  received_text text receiver-now log-now (inl h) r l = absurd (let e = h in cc)
-  received_text text receiver-now log-now (inr h) r l =
-      let is = answer_is receiver now frame (Ok (Text text)) bytes (λ e. let f = e in cc) (inr h) in
-      received_by (Ok (Text text)) receiver-now log-now is (r ∙ advances false h.0) l
-
-  pub received_close : (receiver-now : ReceiverState) (log-now : LogState) → IsJudgement receiver now frame (Ok Closed)
-      → receiver-now ≡ advanced receiver true → log-now ≡ appended log lane events.Closed → IsReceived receiver receiver-now log log-now lane now frame
-  received_close receiver-now log-now (inl h) r l = absurd (let e = h in cc)
-  received_close receiver-now log-now (inr h) r l =
-      let is = answer_is receiver now frame (Ok Closed) bytes (λ e. let f = e in cc) (inr h) in
-      received_by (Ok Closed) receiver-now log-now is (r ∙ advances true h.0) l
-
+  -- a refusal leaves it as it was
   pub received_refusal : (refusal : Refusal) (log-now : LogState) → (refusal ≡ Memory → ⊥) → IsJudgement receiver now frame (Err refusal)
-      → log-now ≡ appended log lane (events.Refused refusal) → IsReceived receiver receiver log log-now lane now frame
+      → log-now ≡ noted log lane (Err refusal) → IsReceived receiver receiver log log-now lane now frame
   received_refusal refusal log-now other h l =
       let is = answer_is receiver now frame (Err refusal) bytes (λ e. other (let f = e in cc)) h in
       received_by (Err refusal) receiver log-now is (ap (λ (d : Demand). let z : ReceiverState = record { opener = receiver.opener; demand = d } in z) (sym (demand_after-nil receiver.demand))) l

@@ -1,5 +1,5 @@
 -- What a log has of the frames that a receiver took.
-use Rattle.std.specs.Prelude.{◌≡◌, ◌≢◌, ℕ, true, List, [], ◌∷◌, ◌++◌, length}
+use Rattle.std.specs.Prelude.{◌≡◌, ◌≢◌, ℕ, true, false, List, [], ◌∷◌, ◌++◌, length, Ok, Err}
 use Rattle.krb_peers.specs.declared.log.Entry.{Entry}
 use Rattle.krb_peers.specs.Log.{entries_for, events_of, is_closed}
 use Rattle.krb_peers.specs.LogState.{LogState}
@@ -15,6 +15,11 @@ entries_by lane v = entries_for lane (events_by v)
 
 abbrev pub noted : LogState → ℕ → Verdict → LogState
 noted log lane v = record log { entries = log.entries ++ entries_by lane v }
+
+-- where a close of the lane stands in the log, only refusals may come
+abbrev pub MayBeNoted : Verdict → ℕ → List Entry → Type 0
+MayBeNoted (Ok delivery) lane entries = is_closed lane entries ≡ false
+MayBeNoted (Err refusal) lane entries = Unit {0}
 
 -- where a close of the lane stands in the log, its receiver accepts no more
 abbrev pub IsShut : LogState → ℕ → ReceiverState → Type 0

@@ -7,7 +7,7 @@ ghost use Rattle.krb_peers.specs.Sender.{moment_at};
 ghost use Rattle.krb_peers.specs.Verdicts.{IsVerdict, record_of};
 ghost use Rattle.krb_peers.specs.Order.{first_demand};
 ghost use Rattle.krb_peers.specs.Receiver.{verdict_by, IsJudgement, receiver_behind, advanced};
-ghost use Rattle.krb_peers.specs.Logged.{noted, IsShut, LogsNext};
+ghost use Rattle.krb_peers.specs.Logged.{noted, MayBeNoted, IsShut, LogsNext};
 
 use crate::delivery::Delivery;
 use crate::log::{Event, Log};
@@ -129,18 +129,13 @@ impl Receiver {
             (LogsNext self.old log.old lane now frame.now self.new log.new) }
     {
         match self.judge(alloc, frame, now) {
-            Ok(Delivery::Text(text)) => {
-                log.push(lane, Event::Text(text))?;
-                self.advance(false);
+            Ok(delivery) => {
+                let close = matches!(delivery, Delivery::Closed);
+                note(log, lane, Ok(delivery))?;
+                self.advance(close);
             }
-            Ok(Delivery::Closed) => {
-                log.push(lane, Event::Closed)?;
-                self.advance(true);
-            }
-            Err(refusal) => match refusal {
-                Refusal::Memory => return Err(AllocError),
-                other => log.push(lane, Event::Refused(other))?,
-            },
+            Err(Refusal::Memory) => return Err(AllocError),
+            Err(refusal) => note(log, lane, Err(refusal))?,
         }
         Ok(())
     }
@@ -173,5 +168,23 @@ impl Receiver {
         ensures { self.new ≡ advanced self.old close }
     {
         self.order.advance(close);
+    }
+}
+
+/// Notes in the log what a verdict on a frame of `lane` brings.
+fn note(
+    log: &mut Log,
+    lane: u32,
+    verdict: Result<Delivery, Refusal>,
+) -> Result<(), AllocError>
+    requires lane { lane < log.old.lanes }
+    requires open { MayBeNoted verdict lane log.old.entries }
+    ensures ok { OnOk result (log.new ≡ noted log.old lane verdict) }
+    ensures err { OnErr result (log.new ≡ log.old) }
+{
+    match verdict {
+        Ok(Delivery::Text(text)) => log.push(lane, Event::Text(text)),
+        Ok(Delivery::Closed) => log.push(lane, Event::Closed),
+        Err(refusal) => log.push(lane, Event::Refused(refusal)),
     }
 }
