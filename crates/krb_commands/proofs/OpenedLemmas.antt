@@ -18,7 +18,7 @@ use Rattle.krb_peers.specs.Logged.{HasLogged, LogsNext}
 use Rattle.krb_peers.proofs.LoggedLemmas.{events_of-own, events_of-push, logged_none, logged_shut}
 use Rattle.krb_commands.specs.JobLines.{entry_line, state_line, state_by, is_closed_state, status_by}
 use Rattle.krb_commands.specs.Output.{AppendsPrefix}
-use Rattle.krb_commands.specs.Opened.{AreOpened, opened_lines, opened_text, PrintsOpened, PrintsOpenedPrefix, HoldsFrames, LogsFrames}
+use Rattle.krb_commands.specs.Opened.{opened_lines, opened_text, PrintsOpened, PrintsOpenedPrefix, HoldsFrames, LogsFrames}
 use Rattle.krb_commands.proofs.OutputLemmas.{AppendsPrefix-after}
 
 abbrev log_of : List Event → LogState
@@ -89,9 +89,9 @@ module _ {A E : Type 0} (start : ReceiverState) (nows : List ℕ) (frames : List
   entries_alone p = prefix_of_entries (whole old now (concat (map entry_line log.entries)) p)
 
   module _ (ok : h.0 ≡ length frames) where
-    all_opened : AreOpened start nows frames h.1.verdicts
+    all_opened : AreJudged start nows frames h.1.verdicts
     all_opened =
-        let P : List (List ℕ) → Type 0 = λ l. AreOpened start nows l h.1.verdicts in
+        let P : List (List ℕ) → Type 0 = λ l. AreJudged start nows l h.1.verdicts in
         let long : length frames ≤ h.0 = omega (arith, ok) in
         subst P (take_all h.0 frames long) h.1.opened
 

@@ -32,13 +32,13 @@ module _ {S : Type 0} (state : S → SealerState) (sendings : List (Sending S)) 
   live_lane error h =
       live_at state sendings receivings live (length h.before) h.ends (ap (λ l. slice_get l (length h.before)) h.lanes_are ∙ at_middle h.before h.ends h.behind)
 
-  pub live_start : (error : StartError) → Fails capacity (lanes_of state sendings receivings) error → IsLive error
+  pub live_start : (error : StartError) → FailsToBegin capacity (lanes_of state sendings receivings) error → IsLive error
   live_start Memory h = tt
   live_start (BadPlan lane) h = tt
   live_start (Wiped lane) (inl h) = let e = h in cc
   live_start (Wiped lane) (inr h) = let f : true ≡ false = sym (h.reason.1) ∙ live_lane (Wiped lane) h in cc
 
-  pub names_bad_plan : (error : StartError) (told : Fault) (bad : BadInput) → Fails capacity (lanes_of state sendings receivings) error → told ≡ of_start error → told ≡ fault.BadInput bad
+  pub names_bad_plan : (error : StartError) (told : Fault) (bad : BadInput) → FailsToBegin capacity (lanes_of state sendings receivings) error → told ≡ of_start error → told ≡ fault.BadInput bad
       → (lane : ℕ) × (bad ≡ bad_plan lane) × FailsAt capacity (lanes_of state sendings receivings) (BadPlan lane)
   names_bad_plan Memory told bad h is named = absurd (let e : fault.Memory ≡ fault.BadInput bad = sym is ∙ named in cc)
   names_bad_plan (BadPlan lane) told bad (inl h) is named = absurd (let e = h in cc)

@@ -10,8 +10,7 @@ use Rattle.krb_peers.proofs.ListLemmas.{drop_get}
 use Rattle.krb_peers.specs.Ends.{Ends, sents_of}
 use Rattle.krb_peers.specs.Whole.{IsRelayed, IsWhole, IsPart}
 use Rattle.krb_commands.specs.JobLines.{entry_line, entry_lines, end_line, end_lines, are_closed, is_closed_state, status_by}
-use Rattle.krb_commands.specs.Relayed.{sents_of, relayed_text, PrintsRelayed, PrintsRelayedPrefix}
-use Rattle.krb_commands.proofs.SealedLemmas.{sent_is}
+use Rattle.krb_commands.specs.Relayed.{relayed_text, PrintsRelayed, PrintsRelayedPrefix}
 use Rattle.krb_commands.specs.Output.{AppendsPrefix}
 use Rattle.krb_commands.proofs.OutputLemmas.{AppendsPrefix-after}
 
@@ -60,12 +59,6 @@ module _ (old then now : Option (List ℕ)) (sents : List Sent) (log : LogState)
 
 whole : (old now : Option (List ℕ)) (text : List ℕ) → Appends old now text → AppendsPrefix old now text
 whole old now text h = (text, h, ([], sym (append-nil text)))
-
-pub sents_are : (lanes : List Ends) (sents : List Sent) → AreSent lanes sents → sents ≡ sents_of lanes
-sents_are [] [] h = refl
-sents_are [] (s ∷ ss) h = absurd h
-sents_are (e ∷ es) [] h = absurd h
-sents_are (e ∷ es) (s ∷ ss) h = ap₂ (λ x xs. x ∷ xs) (sent_is e.source s h.0.k h.0.n h.0.done) (sents_are es ss h.1)
 
 module _ (lanes : List Ends) (log : LogState) (old then now : Option (List ℕ)) where
   -- the entries so far, or a prefix of them

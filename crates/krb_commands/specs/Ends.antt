@@ -5,7 +5,7 @@ use Rattle.krb_seal.specs.declared.session.Session.{Session}
 use Rattle.krb_seal.specs.declared.session.Expect.{Expect}
 use Rattle.krb_seal.specs.Opens.{opener_of}
 use Rattle.krb_seal.specs.Sealer.{SealerState, new_state}
-use Rattle.krb_peers.specs.Receiver.{first_demand}
+use Rattle.krb_peers.specs.Order.{first_demand}
 use Rattle.krb_peers.specs.ReceiverState.{ReceiverState}
 use Rattle.krb_peers.specs.declared.receiver.Receiving.{Receiving}
 use Rattle.krb_peers.specs.declared.sending.Sending.{Sending}

@@ -51,13 +51,6 @@ sent_text sent = codes "sent " ++ decimal sent.k ++ codes " of " ++ decimal sent
 abbrev pub sent_line : Sent → List ℕ
 sent_line sent = sent_text sent ++ codes "\n"
 
-abbrev pub sent_of : Source → Sent
-sent_of source = record {
-  k = sealed_of source;
-  n = length source.texts;
-  ending = if sealed_of source == length source.texts then Done else LastNumber;
-}
-
 -- whether the close of a lane that has ended was accepted
 abbrev pub state_name : Status → List ℕ
 state_name status.Closed = codes "CLOSED"

@@ -4,14 +4,9 @@ use Rattle.std.specs.Io.KnownBytes.{Appends}
 use Rattle.krb_peers.specs.Log.{entries_for, new_log, has_closed}
 use Rattle.krb_peers.specs.LogState.{LogState}
 use Rattle.krb_peers.specs.ReceiverState.{ReceiverState}
-use Rattle.krb_peers.specs.Verdicts.{Verdict, AreVerdicts, events_from}
+use Rattle.krb_peers.specs.Verdicts.{Verdict, AreJudged, events_from}
 use Rattle.krb_commands.specs.JobLines.{entry_lines, state_line, state_by, status_by}
 use Rattle.krb_commands.specs.Output.{AppendsPrefix}
-
--- the verdicts on the frames, in order; the first is taken at place 0
-abbrev pub AreOpened : ReceiverState → List ℕ → List (List ℕ) → List Verdict → Type 0
-AreOpened receiver nows frames verdicts =
-    let start = receiver.demand in AreVerdicts receiver.opener nows start 0 frames verdicts
 
 abbrev pub opened_lines : List Verdict → List ℕ
 opened_lines verdicts = entry_lines (entries_for 0 (events_from verdicts))
@@ -27,19 +22,19 @@ opened_status verdicts = status_by (has_closed (events_from verdicts))
 -- the verdicts on the frames are printed, and this is the status
 abbrev pub PrintsOpened : ReceiverState → List ℕ → List (List ℕ) → Option (List ℕ) → Option (List ℕ) → ℕ → Type 0
 PrintsOpened receiver nows frames old new status =
-    (verdicts : List Verdict) × AreOpened receiver nows frames verdicts
+    (verdicts : List Verdict) × AreJudged receiver nows frames verdicts
     × Appends old new (opened_text verdicts) × (status ≡ opened_status verdicts)
 
 -- a prefix of that is printed, or of the lines of the first frames alone
 abbrev pub PrintsOpenedPrefix : ReceiverState → List ℕ → List (List ℕ) → Option (List ℕ) → Option (List ℕ) → Type 0
 PrintsOpenedPrefix receiver nows frames old new =
-    ((verdicts : List Verdict) × AreOpened receiver nows frames verdicts × AppendsPrefix old new (opened_text verdicts))
-    ⊎ ((n : ℕ) × (verdicts : List Verdict) × AreOpened receiver nows (take n frames) verdicts × AppendsPrefix old new (opened_lines verdicts))
+    ((verdicts : List Verdict) × AreJudged receiver nows frames verdicts × AppendsPrefix old new (opened_text verdicts))
+    ⊎ ((n : ℕ) × (verdicts : List Verdict) × AreJudged receiver nows (take n frames) verdicts × AppendsPrefix old new (opened_lines verdicts))
 
 -- a log of one lane holds what became of the frames
 pub record HoldsFrames (receiver : ReceiverState) (nows : List ℕ) (frames : List (List ℕ)) (log : LogState) : Type 0 where
   pub verdicts : List Verdict
-  pub opened : AreOpened receiver nows frames verdicts
+  pub opened : AreJudged receiver nows frames verdicts
   pub entries : log ≡ record (new_log 1) { entries = entries_for 0 (events_from verdicts) }
 
 -- it holds that of the first frames, and of all where nothing failed

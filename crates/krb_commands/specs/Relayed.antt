@@ -1,16 +1,11 @@
 -- What `relay` prints.
-use Rattle.std.specs.Prelude.{◌≡◌, ◌⊎◌, ℕ, List, ◌++◌, map, Option}
+use Rattle.std.specs.Prelude.{◌≡◌, ◌⊎◌, ℕ, List, ◌++◌, Option}
 use Rattle.std.specs.Io.KnownBytes.{Appends, Keeps}
 use Rattle.krb_peers.specs.LogState.{LogState}
-use Rattle.krb_peers.specs.Ends.{Ends}
-use Rattle.krb_peers.specs.declared.sending.Sent.{Sent}
+use Rattle.krb_peers.specs.Ends.{Ends, sents_of}
 use Rattle.krb_peers.specs.Whole.{IsRelayed, IsWhole, IsPart}
-use Rattle.krb_commands.specs.JobLines.{entry_lines, end_lines, are_closed, status_by, sent_of}
+use Rattle.krb_commands.specs.JobLines.{entry_lines, end_lines, are_closed, status_by}
 use Rattle.krb_commands.specs.Output.{AppendsPrefix}
-
--- how much each sender sealed
-abbrev pub sents_of : List Ends → List Sent
-sents_of lanes = map (λ ends. sent_of ends.source) lanes
 
 -- the entries of the log, one a line, and how each lane ended
 abbrev pub relayed_text : List Ends → LogState → List ℕ

@@ -3,7 +3,8 @@ use Rattle.std.specs.Prelude.{ℕ, ◌⊎◌, List, ◌++◌, Option}
 use Rattle.std.specs.Io.KnownBytes.{Appends, Keeps}
 use Rattle.krb_peers.specs.Sender.{Source}
 use Rattle.krb_peers.specs.Wire.{IsWire}
-use Rattle.krb_commands.specs.JobLines.{frame_lines, sent_line, sent_of}
+use Rattle.krb_peers.specs.Sending.{sent_of}
+use Rattle.krb_commands.specs.JobLines.{frame_lines, sent_line}
 use Rattle.krb_commands.specs.Output.{AppendsPrefix}
 
 -- the frames on the wire, one a line, and how much was sealed

@@ -2,7 +2,7 @@
 
 ghost use Rattle.std.specs.Prelude.{◌≡◌, ◌+◌, ◌<◌, ◌≤◌, ◌∷◌, ◌++◌, [], false, ℕ, List, length, map, IsSome, IfOk, IfErr, OnOk, Some};
 ghost use Rattle.krb_seal.specs.Session.{HasShortAddresses};
-ghost use Rattle.krb_peers.specs.Headline.{IsPaired};
+ghost use Rattle.krb_peers.specs.Premises.{IsPaired};
 ghost use Rattle.krb_peers.specs.Plan.{contents};
 ghost use Rattle.krb_peers.specs.Ends.{lanes_of};
 ghost use Rattle.krb_job.specs.declared.job.SenderJob.{SenderJob};
@@ -12,9 +12,9 @@ ghost use Rattle.krb_commands.specs.Ends as ends;
 
 use crate::fault::Fault;
 use krb_base::Bytes;
-use krb_core::{Receiver, Receiving, Sending};
 use krb_der::HostAddress;
 use krb_job::SenderJob;
+use krb_peers::{Receiver, Receiving, Sending};
 use krb_seal::{Expect, Opener, Sealer, Session};
 use rand_chacha::ChaCha20Rng;
 use rand_core::SeedableRng;
@@ -151,9 +151,8 @@ pub fn push_lane<S: Sealer>(
 
 /// Both ends of a job's lane have one key, and the number that is demanded first is the sender's.
 pub fn job_lanes_are_paired()
-    ensures { (sender : SenderJob) (seed : List ℕ) → let receiver = ends.receiver_of sender in
-        IsPaired (ends.source_with sender (ends.sealer_of sender) seed)
-        receiver.opener receiver.demand }
+    ensures { (sender : SenderJob) (seed : List ℕ)
+        → IsPaired (ends.ends_with sender (ends.source_with sender (ends.sealer_of sender) seed)) }
 {}
 
 /// The vectors of texts, whose bytes stay where they are.

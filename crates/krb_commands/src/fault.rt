@@ -3,8 +3,8 @@ ghost use Rattle.std.specs.Prelude.{◌≡◌};
 ghost use Rattle.krb_commands.specs.declared.fault.Fault.TheVariants.{Memory};
 ghost use Rattle.krb_commands.specs.Fault.{fault_status, of_job, of_start, IsLive};
 
-use krb_core::StartError;
 use krb_job::{BadInput, JobError, Place};
+use krb_peers::StartError;
 use std::alloc::{AllocError, AllocFailed};
 use thiserror::Error;
 

@@ -5,7 +5,7 @@ ghost use Rattle.std.specs.String.{string_bytes};
 ghost use Rattle.krb_commands.specs.JobLines as lines;
 
 use crate::line::Line;
-use krb_core::{Ending, Entry, Event, Sent, Status};
+use krb_peers::{Ending, Entry, Event, Sent, Status};
 use krb_seal::Refusal;
 use std::alloc::{AllocError, Global};
 

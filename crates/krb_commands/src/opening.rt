@@ -8,7 +8,7 @@ use crate::fault::Fault;
 use crate::job_lines::{StateLine, exit_status, is_closed};
 use crate::line::{print_line, print_lines};
 use krb_base::Bytes;
-use krb_core::{Log, Receiving};
+use krb_peers::{Log, Receiving};
 use std::alloc::{AllocError, Global};
 use std::io::Write;
 

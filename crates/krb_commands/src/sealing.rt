@@ -10,7 +10,7 @@ ghost use Rattle.krb_commands.specs.Sealed.{PrintsSealed, PrintsSealedPrefix};
 
 use crate::fault::Fault;
 use crate::line::{print_line, print_lines};
-use krb_core::{Sending, emit_sealed};
+use krb_peers::{Sending, emit_sealed};
 use krb_seal::Sealer;
 use std::alloc::Global;
 use std::io::Write;

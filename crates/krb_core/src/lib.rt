@@ -19,12 +19,12 @@ mod stepped;
 mod track;
 mod turn;
 
-pub use krb_peers::{Delivery, Emit, EmitError, Ending, Entry, Event, LAST_NUMBER, Log};
-pub use krb_peers::{Order, OrderRefusal, Receiver, Receiving, Record, RecordError, Sending, Sent};
-pub use krb_peers::{StartError, Status, TEXT_LIMIT, USER_DATA_LIMIT};
-pub use krb_peers::{accepted_laws, headline_laws, logged_laws, record_laws, relay_laws};
-pub use krb_peers::{emit, emit_sealed, read_record, record_bytes};
-pub use krb_peers::{rounds_laws, undisturbed_laws, verdict_laws};
+pub use krb_peers::{
+    Delivery, Emit, EmitError, Ending, Entry, Event, LAST_NUMBER, Log, Order, OrderRefusal,
+    Receiver, Receiving, Record, RecordError, Sending, Sent, StartError, Status, TEXT_LIMIT,
+    USER_DATA_LIMIT, accepted_laws, emit, emit_sealed, headline_laws, logged_laws, read_record,
+    record_bytes, record_laws, relay_laws, rounds_laws, undisturbed_laws, verdict_laws,
+};
 pub use relayed::stepped_laws;
 pub use stepped::Stepped;
 pub use turn::{Did, Turn};

@@ -5,6 +5,7 @@ mod finish;
 mod frames;
 mod lanes;
 mod senders;
+mod starts;
 mod steps;
 mod turns;
 mod undisturbed;

@@ -12,7 +12,7 @@ use crate::emission::read_emission;
 use crate::place::{KeyError, Place};
 use crate::values::read_bytes;
 use krb_base::{Bytes, RAW_LIMIT, TEXT_LIMIT};
-use krb_core::Emit;
+use krb_peers::Emit;
 use krb_der::Moment;
 use std::alloc::Global;
 use toml::Value;

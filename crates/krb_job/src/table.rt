@@ -17,7 +17,7 @@ use crate::lists::{read_frames, read_moments, read_plan, read_texts};
 use crate::place::{KeyError, Place};
 use crate::values::{read_flag, read_mode, read_number, read_seed};
 use krb_base::Bytes;
-use krb_core::Emit;
+use krb_peers::Emit;
 use krb_der::{HostAddress, Moment};
 use krb_seal::Mode;
 use std::alloc::Global;

@@ -307,7 +307,7 @@ refusal_by_front [] back refusal = (
 refusal_by_front (v ∷ front) back refusal =
     let w = refusal_by_front front back refusal in (
       texts_in-append (events_by v) (events_from (front ++ Err refusal ∷ back))
-      ∙ (ap (λ l. texts_in (events_by v) ++ l) w.0 ∙ sym (texts_in-append (events_by v) (events_from (front ++ back)))),
+          ∙ (ap (λ l. texts_in (events_by v) ++ l) w.0 ∙ sym (texts_in-append (events_by v) (events_from (front ++ back)))),
       ap (λ l. accepted_by v ++ l) w.1,
     )
 

@@ -172,11 +172,7 @@ impl Receiver {
 }
 
 /// Notes in the log what a verdict on a frame of `lane` brings.
-fn note(
-    log: &mut Log,
-    lane: u32,
-    verdict: Result<Delivery, Refusal>,
-) -> Result<(), AllocError>
+fn note(log: &mut Log, lane: u32, verdict: Result<Delivery, Refusal>) -> Result<(), AllocError>
     requires lane { lane < log.old.lanes }
     requires open { MayBeNoted verdict lane log.old.entries }
     ensures ok { OnOk result (log.new ≡ noted log.old lane verdict) }

@@ -115,6 +115,16 @@ fn turn_by_turn(rt: HostRuntime) -> Result<(), Fail> {
 #[test]
 fn turns_in_a_row(rt: HostRuntime) -> Result<(), Fail> {
     let mut relay = relay_of_one(&rt, rt.alloc())?;
+    relay.run(&[SEND, SEND, TAKE, TAKE, SEND, TAKE, SEND, TAKE])?;
+    assert!(rt; is_whole(relay.log()) && relay.done());
+    let sent = relay.sent(0);
+    assert_eq!(rt; (sent.k, sent.n), (1, 1));
+    Ok(())
+}
+
+#[test]
+fn turns_of_a_part(rt: HostRuntime) -> Result<(), Fail> {
+    let mut relay = relay_of_one(&rt, rt.alloc())?;
     relay.run(&[SEND, TAKE, SEND, TAKE])?;
     assert!(rt; is_whole(relay.log()) && !relay.done());
     relay.run(&[TAKE, SEND, TAKE, TAKE])?;

@@ -4,13 +4,16 @@ ghost use Rattle.std.specs.Prelude.{◌≡◌, ◌<◌, length, IfOk};
 ghost use Rattle.krb_core.specs.Stepped.{lane_of};
 
 use super::steps::{begin, receiving};
-use super::{MICROS, moment, receiver, sealed, sealer, sending};
-use crate::{Delivery, Did, Emit, Entry, Event, Log, Receiver, Sending, Stepped, Turn, emit};
+use super::{MICROS, sealer, sending};
+use crate::{Emit, Event, Log, Sending, Status, Stepped, Turn};
 use krb_base::Bytes;
-use krb_seal::{Aes128Sealer, Mode, Refusal};
-use std::alloc::Global;
+use krb_seal::{Aes128Sealer, Mode};
+use std::alloc::{AllocError, Global};
 use std::process::Abort;
 use std::test::Fail;
+
+/// The texts of each sender: one letter each.
+const LETTERS: [u8; 40] = *b"ABCDEFGHIJKLMNOPQRSTUVWXYZabcdefghijklmn";
 
 /// What is planned of frame `k` of a lane: it is repeated, dropped, changed, or comes behind bytes
 /// that are no message.
@@ -56,11 +59,13 @@ fn mode_of(lane: u32) -> Mode {
     }
 }
 
-/// The sender of a lane: 40 short texts, and its plan.
+/// The sender of a lane: 40 texts and the close, and its plan.
 fn sender(alloc: Global, lane: u32) -> Result<Sending<Aes128Sealer>, Fail> {
-    let texts = [b"one".as_slice(); 40];
     let sealer = sealer(alloc, mode_of(lane), 7)?;
-    let mut sending = sending(alloc, sealer, &texts, &[MICROS])?;
+    let mut sending = sending(alloc, sealer, &[], &[MICROS])?;
+    for letter in LETTERS {
+        sending.texts.push(Vec::from_slice(alloc, &[letter])?)?;
+    }
     sending.plan = plan(alloc, lane, 41)?;
     Ok(sending)
 }
@@ -79,39 +84,6 @@ fn eight_lanes(rt: &impl Abort, alloc: Global, capacity: usize) -> Result<Steppe
     Ok(begin(rt, alloc, sendings, receivings, capacity)?)
 }
 
-/// A lane outside any relay: what its sender emits and no one took, the next one last, and a
-/// receiver of it.
-#[derive(Drop)]
-struct Alone {
-    left: Vec<Vec<u8>>,
-    receiver: Receiver,
-}
-
-impl Alone {
-    fn new(rt: &impl Abort, alloc: Global, lane: u32) -> Result<Alone, Fail> {
-        let mut sending = sender(alloc, lane)?;
-        let frames = sealed(rt, alloc, &mut sending)?;
-        let mut left = match &sending.plan {
-            Some(plan) => emit(alloc, frames.as_slice(), plan.as_slice())?,
-            None => frames,
-        };
-        left.reverse();
-        Ok(Alone {
-            left,
-            receiver: receiver(alloc, mode_of(lane), 7)?,
-        })
-    }
-
-    /// What becomes of the next frame. There is none at the end.
-    fn next(&mut self, alloc: Global) -> Result<Option<Result<Delivery, Refusal>>, Fail> {
-        let Some(frame) = self.left.pop() else {
-            return Ok(None);
-        };
-        let answer = self.receiver.take(alloc, frame.as_slice(), moment(MICROS)?);
-        Ok(Some(answer))
-    }
-}
-
 /// Draws the next turn of eight lanes.
 fn draw_turn(state: &mut u64) -> Turn
     ensures { lane_of result < 8 }
@@ -127,69 +99,79 @@ fn draw_turn(state: &mut u64) -> Turn
     }
 }
 
-/// Steps the relay 10,000 times, and notes the lane of each take that moved.
-fn drive(relay: &mut Stepped, alloc: Global, seed: u64) -> Result<Vec<u32>, Fail>
+/// Steps the relay 10,000 times.
+fn drive(relay: &mut Stepped, seed: u64) -> Result<(), AllocError>
     requires { length relay.old.tracks ≡ 8 }
 {
     let mut state = seed;
-    let mut takers = Vec::new(alloc);
     'turns: for _ in 0..10_000 {
-        let turn = draw_turn(&mut state);
-        let did = relay.step(turn)?;
-        if let (Turn::Take(lane), Did::Moved) = (turn, did) {
-            takers.push(lane)?;
-        }
+        relay.step(draw_turn(&mut state))?;
     }
-    Ok(takers)
+    Ok(())
 }
 
-/// Whether an entry says what became of the frame.
-fn is_entry(entry: &Entry, lane: u32, answer: &Result<Delivery, Refusal>) -> bool {
-    entry.lane == lane
-        && match (&entry.event, answer) {
-            (Event::Text(text), Ok(Delivery::Text(other))) => text.as_slice() == other.as_slice(),
-            (Event::Closed, Ok(Delivery::Closed)) => true,
-            (Event::Refused(refusal), Err(other)) => refusal == other,
-            _ => false,
-        }
+/// Whether the lane's texts are the first so many letters.
+fn are_letters(rt: &impl Abort, log: &Log, lane: u32, count: usize) -> bool {
+    assert!(rt; lane < log.lanes());
+    let mut right = log.texts(lane) == count;
+    for (i, letter) in LETTERS.iter().enumerate().take(count) {
+        right &= log.text(lane, i) == Some([*letter].as_slice());
+    }
+    right
 }
 
-/// Whether the log has what becomes of each lane's frames alone, in the order of the takers.
-fn is_log(alloc: Global, log: &Log, takers: &[u32], lanes: &mut [Alone]) -> Result<bool, Fail> {
-    let mut entries = log.entries().iter();
-    for lane in takers {
-        let alone = lanes.get_mut(*lane as usize).ok_or("no lane")?;
-        if let Some(answer) = alone.next(alloc)? {
-            let entry = entries.next().ok_or("no entry")?;
-            if !is_entry(entry, *lane, &answer) {
-                return Ok(false);
-            }
+/// How many frames of the lane were refused by this name.
+fn refused(log: &Log, lane: u32, name: &str) -> usize {
+    let mut count = 0;
+    for entry in log.entries() {
+        if let Event::Refused(refusal) = &entry.event
+            && entry.lane == lane
+            && refusal.name() == name
+        {
+            count += 1_usize;
         }
     }
-    Ok(entries.next().is_none())
+    count
 }
 
 #[test]
 fn many_turns_of_eight_lanes(rt: HostRuntime) -> Result<(), Fail> {
+    let closed = Status::Closed;
     for (capacity, seed) in [(1, 1), (2, 2), (64, 3)] {
         let mut relay = eight_lanes(&rt, rt.alloc(), capacity)?;
-        let takers = drive(&mut relay, rt.alloc(), seed)?;
-        let mut lanes = Vec::new(rt.alloc());
-        for lane in 0..8 {
-            lanes.push(Alone::new(&rt, rt.alloc(), lane)?)?;
-        }
+        drive(&mut relay, seed)?;
         assert!(rt; relay.done());
-        // 41 of each lane; 41 more that are repeated, and 41 that are raw, 9 that are changed, and
-        // one is dropped.
-        assert_eq!(rt; relay.log().entries().len(), 8 * 41 + 41 + 41 + 9 - 1);
-        assert!(rt;
-            is_log(
-                rt.alloc(),
-                relay.log(),
-                takers.as_slice(),
-                lanes.as_mut_slice()
-            )?
-        );
+        let log = relay.log();
+        assert_eq!(rt; log.lanes(), 8);
+        for (lane, texts, status) in [
+            (0, 40, closed),
+            (1, 40, closed),
+            (2, 20, Status::Truncated), // frame 20 is dropped: no later one has the number
+            (3, 40, closed),
+            (4, 40, closed),
+            (5, 40, closed),
+            (6, 40, closed),
+            (7, 40, closed),
+        ] {
+            assert!(rt;
+                are_letters(&rt, log, lane, texts),
+                "the texts of lane {lane}"
+            );
+            assert_eq!(rt; log.status(lane), status);
+        }
+        let mut refusals = 0;
+        for (lane, name, count) in [
+            (1, "BADORDER", 40), // the second of each text's frames,
+            (1, "AFTER_CLOSE", 1), // and of the close's
+            (2, "BADORDER", 20), // 19 texts and the close
+            (3, "BAD_INTEGRITY", 9), // each fifth frame, changed
+            (4, "MALFORMED", 41),
+        ] {
+            assert_eq!(rt; refused(log, lane, name), count);
+            refusals += count;
+        }
+        // 20 + 7 * 40 texts, 7 closes, and those refusals.
+        assert_eq!(rt; log.entries().len(), 300 + 7 + refusals);
     }
     Ok(())
 }

@@ -2,7 +2,7 @@
 
 use super::sender;
 use crate::{Command, Place, read_job};
-use krb_core::Emit;
+use krb_peers::Emit;
 use krb_seal::Mode;
 use std::test::Fail;
 

@@ -1,6 +1,6 @@
 use Rattle.krb_peers.specs.Ends.{lanes_of}
 use Rattle.krb_commands.proofs.RelayStartLemmas.{live_start, names_bad_plan}
-use Rattle.krb_commands.proofs.RelayedLemmas.{sents_are, part_printed, entries_alone, relayed_by, front_by}
+use Rattle.krb_commands.proofs.RelayedLemmas.{part_printed, entries_alone, relayed_by, front_by}
 use Rattle.krb_commands.proofs.ShowLemmas.{on_err}
 use Rattle.krb_commands.proofs.relaying.relay_job.Goals as goal
 
@@ -31,7 +31,7 @@ pub returns-clause-printed : goal.returns-clause-printed
 returns-clause-printed g c =
     let lanes = lanes_of g.S.Sealer.state c.args.sendings.items c.args.receivings.items in
     let whole = c.in_ok-outcome.ensures.whole lanes c.args.capacity c.requires.room c.in-Ok.ensures.turned in
-    let sents = sents_are lanes c.finish-outcome.new.self.sents whole.sealed in
+    let sents = whole.sealed in
     let old = g.W.Write.contents c.args.writer.now in
     relayed_by lanes _ old _ _ c.finish-outcome.new.self.sents whole sents (rw (c.entries.ensures, c.log.ensures) at c.in_ok-print_lines.ensures.printed)
     c.print_ends.result c.print_ends.ensures.printed c.print_ends.ensures.status
@@ -40,7 +40,7 @@ pub returns-clause-prefix : goal.returns-clause-prefix
 returns-clause-prefix g c =
     let lanes = lanes_of g.S.Sealer.state c.args.sendings.items c.args.receivings.items in
     let whole = c.in_ok-outcome.ensures.whole lanes c.args.capacity c.requires.room c.in-Ok.ensures.turned in
-    let sents = sents_are lanes c.finish-outcome.new.self.sents whole.sealed in
+    let sents = whole.sealed in
     let old = g.W.Write.contents c.args.writer.now in
     front_by lanes _ old _ _ c.finish-outcome.new.self.sents whole sents (rw (c.entries.ensures, c.log.ensures) at c.in_ok-print_lines.ensures.printed)
     c.print_ends.result c.print_ends.ensures.prefix

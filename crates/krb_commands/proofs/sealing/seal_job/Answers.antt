@@ -1,5 +1,5 @@
 use Rattle.krb_peers.specs.Sending.{source_of}
-use Rattle.krb_commands.proofs.SealedLemmas.{sent_is, prefix_of_frames, prefix_of_sent, all_printed}
+use Rattle.krb_commands.proofs.SealedLemmas.{prefix_of_frames, prefix_of_sent, all_printed}
 use Rattle.krb_commands.proofs.ShowLemmas.{on_err}
 use Rattle.krb_commands.proofs.sealing.seal_job.Goals as goal
 
@@ -11,11 +11,11 @@ pub returns-in_err-print_line-clause-prefix : goal.returns-in_err-print_line-cla
 returns-in_err-print_line-clause-prefix g c =
     on_err _ c.from_residual-in_err-print_line.result
     (prefix_of_sent (source_of g.S.Sealer.state c.args.sending) c.in-Ok.wire.items c.in-Ok.ensures.ok _ _ _ (rw c.as_slice.ensures.value at c.in_ok-print_lines.ensures.printed)
-    c.sent-sent.result (sent_is (source_of g.S.Sealer.state c.args.sending) c.sent-sent.result c.sent-sent.ensures.sealed c.sent-sent.ensures.count c.sent-sent.ensures.done)
+    c.sent-sent.result c.sent-sent.ensures.sent
     c.in_err-print_line.ensures.prefix)
 
 pub returns-clause-printed : goal.returns-clause-printed
 returns-clause-printed g c =
     all_printed (source_of g.S.Sealer.state c.args.sending) c.in-Ok.wire.items c.in-Ok.ensures.ok _ _ _ (rw c.as_slice.ensures.value at c.in_ok-print_lines.ensures.printed)
-    c.sent-sent.result (sent_is (source_of g.S.Sealer.state c.args.sending) c.sent-sent.result c.sent-sent.ensures.sealed c.sent-sent.ensures.count c.sent-sent.ensures.done)
+    c.sent-sent.result c.sent-sent.ensures.sent
     c.in_ok-print_line.ensures.printed
