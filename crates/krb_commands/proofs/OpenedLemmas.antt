@@ -7,13 +7,13 @@ use Rattle.std.proofs.lemmas.List.{take_more, take_all, map-append}
 use Rattle.krb_peers.specs.declared.log.Entry.{Entry}
 use Rattle.krb_peers.specs.declared.log.Event.{Event}
 use Rattle.krb_peers.specs.declared.log.Status.{Status}
-use Rattle.krb_peers.specs.Log.{entries_for, events_from as events_in, has_closed, new_log, status_of, ended_at}
+use Rattle.krb_peers.specs.Log.{entries_for, events_of as events_in, has_closed, new_log, status_of, ended_at}
 use Rattle.krb_peers.specs.LogState.{LogState}
 use Rattle.krb_peers.specs.ReceiverState.{ReceiverState}
 use Rattle.krb_peers.specs.Sender.{moment_at}
 use Rattle.krb_peers.specs.Receiver.{verdict_by}
 use Rattle.krb_peers.specs.Logged.{noted, IsShut}
-use Rattle.krb_peers.specs.Verdicts.{Verdict, events_by, events_from}
+use Rattle.krb_peers.specs.Verdicts.{Verdict, AreJudged, events_by, events_from}
 use Rattle.krb_peers.specs.Logged.{HasLogged, LogsNext}
 use Rattle.krb_peers.proofs.LoggedLemmas.{events_of-own, events_of-push, logged_none, logged_shut}
 use Rattle.krb_commands.specs.JobLines.{entry_line, state_line, state_by, is_closed_state, status_by}
