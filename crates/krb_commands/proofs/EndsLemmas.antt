@@ -7,7 +7,7 @@ use Rattle.krb_peers.specs.declared.receiver.Receiving.{Receiving}
 use Rattle.krb_peers.specs.declared.sending.Sending.{Sending}
 use Rattle.krb_peers.specs.Sending.{source_of, IsSender}
 use Rattle.krb_peers.specs.Ends.{Ends, ends_of, lanes_of}
-use Rattle.krb_job.specs.declared.job.SenderJob.{SenderJob}
+use Rattle.krb_job.specs.Sender.{Sender}
 use Rattle.krb_commands.specs.Ends.{AreReady, receiver_of, source_in, ends_with, ends_in}
 use Rattle.std.proofs.lemmas.List.{map-append}
 
@@ -39,9 +39,9 @@ lanes-push state [] (r ∷ rs) sending receiving same = absurd (let e = same in 
 lanes-push state (s ∷ ss) [] sending receiving same = absurd (let e = same in omega arith)
 lanes-push state (s ∷ ss) (r ∷ rs) sending receiving same = ap (λ l. ends_of state (s, r) ∷ l) (lanes-push state ss rs sending receiving (let e : suc (length ss) ≡ suc (length rs) = same in omega arith))
 
-pub lane_more : {S : Type 0} (state : S → SealerState) (sendings sendings-now : List (Sending S)) (receivings receivings-now : List Receiving) (sending : Sending S) (receiving : Receiving) (sender : SenderJob) (sealer : SealerState)
+pub lane_more : {S : Type 0} (state : S → SealerState) (sendings sendings-now : List (Sending S)) (receivings receivings-now : List Receiving) (sending : Sending S) (receiving : Receiving) (sender : Sender) (sealer : SealerState)
     → length sendings ≡ length receivings → sendings-now ≡ sendings ++ sending ∷ [] → receivings-now ≡ receivings ++ receiving ∷ []
-    → Some (source_of state sending) ≡ source_in sender sealer → receiving.receiver ≡ receiver_of sender → receiving.nows.items ≡ sender.nows.items
+    → Some (source_of state sending) ≡ source_in sender sealer → receiving.receiver ≡ receiver_of sender → receiving.nows.items ≡ sender.nows
     → map Some (lanes_of state sendings-now receivings-now) ≡ map Some (lanes_of state sendings receivings) ++ ends_in sender sealer ∷ []
 lane_more state sendings sendings-now receivings receivings-now sending receiving sender sealer same s-is r-is source receiver nows =
     let ends : Some (ends_of state (sending, receiving)) ≡ ends_in sender sealer =

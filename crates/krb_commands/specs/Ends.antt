@@ -12,17 +12,17 @@ use Rattle.krb_peers.specs.declared.sending.Sending.{Sending}
 use Rattle.krb_peers.specs.Sending.{source_of, IsSender}
 use Rattle.krb_peers.specs.Sender.{Source}
 use Rattle.krb_peers.specs.Ends.{Ends}
-use Rattle.krb_job.specs.declared.job.SenderJob.{SenderJob}
+use Rattle.krb_job.specs.Sender.{Sender}
 use Rattle.krb_commands.specs.declared.ends.SessionKey.{SessionKey}
 use Rattle.krb_commands.specs.declared.ends.SessionKey.TheVariants.{Aes128, Aes256}
 
 -- the key of its encryption type
-abbrev pub IsKey : SenderJob → SessionKey → Type 0
+abbrev pub IsKey : Sender → SessionKey → Type 0
 IsKey sender (Aes128 key) = (sender.etype ≡ pos 17) × (key ≡ sender.key)
 IsKey sender (Aes256 key) = (sender.etype ≡ pos 18) × (key ≡ sender.key)
 
 -- what the sender writes into each message
-abbrev pub session_of : SenderJob → Session
+abbrev pub session_of : Sender → Session
 session_of sender = record {
   mode = sender.mode;
   s_addr = sender.from;
@@ -31,7 +31,7 @@ session_of sender = record {
 }
 
 -- what the receiver demands of each message
-abbrev pub expect_of : SenderJob → Expect
+abbrev pub expect_of : Sender → Expect
 expect_of sender = record {
   mode = sender.mode;
   s_addr = sender.from;
@@ -42,36 +42,44 @@ expect_of sender = record {
 }
 
 -- a sealer that has sealed nothing, and a receiver that has taken nothing, under one key
-abbrev pub sealer_of : SenderJob → SealerState
+abbrev pub sealer_of : Sender → SealerState
 sealer_of sender = new_state sender.etype sender.key (session_of sender)
 
-abbrev pub receiver_of : SenderJob → ReceiverState
+abbrev pub receiver_of : Sender → ReceiverState
 receiver_of sender = record {
   opener = opener_of sender.etype sender.key (expect_of sender);
   demand = first_demand sender.first;
 }
 
 -- the sender, around a sealer: the draws are the words of stream 0 under the seed, from word 0 on
-abbrev pub source_with : SenderJob → SealerState → List ℕ → Source
+abbrev pub source_with : Sender → SealerState → List ℕ → Source
 source_with sender sealer seed = record {
   sealer = sealer;
-  texts = sender.texts.items;
-  ats = sender.ats.items;
+  texts = sender.texts;
+  ats = sender.ats;
   draws = of_seed seed;
-  plan = option_map (λ plan. plan.items) sender.plan;
+  plan = sender.plan;
 }
 
-abbrev pub source_in : SenderJob → SealerState → Option Source
+abbrev pub source_in : Sender → SealerState → Option Source
 source_in sender sealer = option_map (source_with sender sealer) sender.seed
 
 -- both ends of the lane, around a sealer
-abbrev pub ends_with : SenderJob → Source → Ends
-ends_with sender source = record { source = source; receiver = receiver_of sender; nows = sender.nows.items }
+abbrev pub ends_with : Sender → Source → Ends
+ends_with sender source = record { source = source; receiver = receiver_of sender; nows = sender.nows }
 
-abbrev pub ends_in : SenderJob → SealerState → Option Ends
+abbrev pub ends_in : Sender → SealerState → Option Ends
 ends_in sender sealer = option_map (ends_with sender) (source_in sender sealer)
 
--- The ends of lanes that may begin: each sender keeps its limits and none was wiped, each receiver has a moment, and there are as many of both.
+-- what the job states of a sender, and of its lane: nothing where it states no seed
+abbrev pub source_told : Sender → Option Source
+source_told sender = source_in sender (sealer_of sender)
+
+abbrev pub lane_told : Sender → Option Ends
+lane_told sender = ends_in sender (sealer_of sender)
+
+-- The ends of lanes that may begin: each sender keeps its limits and none was wiped, each receiver has
+-- a moment, and there are as many of both.
 pub record AreReady {S : Type 0} (state : S → SealerState) (sendings : List (Sending S)) (receivings : List Receiving) : Type 0 where
   pub same : length sendings ≡ length receivings
   pub senders : All (λ sending. IsSender (source_of state sending)) sendings

@@ -36,3 +36,27 @@ abbrev pub of_start : StartError → Fault
 of_start start.Memory = fault.Memory
 of_start (start.BadPlan lane) = fault.BadInput (bad_plan lane)
 of_start (start.Wiped lane) = fault.Memory
+
+-- a fault of reading an input
+abbrev pub IsOfReading : Fault → Type 0
+IsOfReading fault.TooLong = Unit {0}
+IsOfReading (fault.BadInput b) = ⊥
+IsOfReading fault.Memory = Unit {0}
+IsOfReading fault.Read = Unit {0}
+IsOfReading fault.Write = ⊥
+
+-- a fault of printing
+abbrev pub IsOfPrinting : Fault → Type 0
+IsOfPrinting fault.TooLong = ⊥
+IsOfPrinting (fault.BadInput b) = ⊥
+IsOfPrinting fault.Memory = Unit {0}
+IsOfPrinting fault.Read = ⊥
+IsOfPrinting fault.Write = Unit {0}
+
+-- no check of a job
+abbrev pub IsOfNoJob : Fault → Type 0
+IsOfNoJob fault.TooLong = Unit {0}
+IsOfNoJob (fault.BadInput b) = ⊥
+IsOfNoJob fault.Memory = Unit {0}
+IsOfNoJob fault.Read = Unit {0}
+IsOfNoJob fault.Write = Unit {0}

@@ -5,7 +5,8 @@ ghost use Rattle.krb_seal.specs.Session.{HasShortAddresses};
 ghost use Rattle.krb_peers.specs.Premises.{IsPaired};
 ghost use Rattle.krb_peers.specs.Plan.{contents};
 ghost use Rattle.krb_peers.specs.Ends.{lanes_of};
-ghost use Rattle.krb_job.specs.declared.job.SenderJob.{SenderJob};
+ghost use Rattle.krb_job.specs.Sender.{Sender};
+ghost use Rattle.krb_job.specs.SenderView.{sender_view};
 ghost use Rattle.krb_peers.specs.Sending.{source_of, IsSender};
 ghost use Rattle.krb_base.specs.Limits.{last_number};
 ghost use Rattle.krb_commands.specs.Ends as ends;
@@ -31,7 +32,7 @@ pub enum SessionKey {
 
 /// The key of a sender of a job.
 pub fn key_of(sender: &SenderJob) -> SessionKey
-    ensures { ends.IsKey sender.now result }
+    ensures { ends.IsKey (sender_view sender.now) result }
 {
     let key = sender.key.as_slice();
     if sender.etype == 17 {
@@ -43,7 +44,7 @@ pub fn key_of(sender: &SenderJob) -> SessionKey
 
 /// The session that a sender of a job seals for.
 pub fn session_of(alloc: Global, sender: &SenderJob) -> Result<Session, AllocError>
-    ensures session { IfOk result (λ session. session ≡ ends.session_of sender.now) }
+    ensures session { IfOk result (λ session. session ≡ ends.session_of (sender_view sender.now)) }
     ensures short { IfOk result HasShortAddresses }
 {
     let r_addr = if sender.write_to {
@@ -61,7 +62,7 @@ pub fn session_of(alloc: Global, sender: &SenderJob) -> Result<Session, AllocErr
 
 /// What the receiver of a job's lane expects of each message.
 fn expect_of(alloc: Global, sender: &SenderJob) -> Result<Expect, AllocError>
-    ensures { IfOk result (λ expect. expect ≡ ends.expect_of sender.now) }
+    ensures { IfOk result (λ expect. expect ≡ ends.expect_of (sender_view sender.now)) }
 {
     Ok(Expect {
         mode: sender.mode,
@@ -76,7 +77,7 @@ fn expect_of(alloc: Global, sender: &SenderJob) -> Result<Expect, AllocError>
 /// The receiver of a job's lane, which has taken nothing, and its moments.
 pub fn receiving_of(alloc: Global, sender: &SenderJob) -> Result<Receiving, AllocError>
     ensures receiver { IfOk result (λ receiving.
-        receiving.receiver ≡ ends.receiver_of sender.now) }
+        receiving.receiver ≡ ends.receiver_of (sender_view sender.now)) }
     ensures nows { IfOk result (λ receiving. receiving.nows.items ≡ sender.now.nows.items) }
     ensures moments { IfOk result (λ receiving. 0 < length receiving.nows.items) }
 {
@@ -101,7 +102,7 @@ pub fn sending_of<S: Sealer>(
 ) -> Result<Sending<S>, AllocError>
     requires seed { IsSome sender.seed }
     ensures source { IfOk result (λ sending.
-        Some (source_of S.state sending) ≡ ends.source_in sender (S.state sealer)) }
+        Some (source_of S.state sending) ≡ ends.source_in (sender_view sender) (S.state sealer)) }
     ensures sealer { IfOk result (λ sending. S.state sending.sealer ≡ S.state sealer) }
     ensures limits { IfOk result (λ sending. (S.state sealer).next ≤ last_number
         → IsSender (source_of S.state sending)) }
@@ -135,7 +136,7 @@ pub fn push_lane<S: Sealer>(
     ensures lane { OnOk result
         (map Some (lanes_of S.state sendings.new.items receivings.new.items)
         ≡ map Some (lanes_of S.state sendings.old.items receivings.old.items)
-        ++ ends.ends_in sender (S.state sealer) ∷ []) }
+        ++ ends.ends_in (sender_view sender) (S.state sealer) ∷ []) }
     ensures ready { OnOk result
         (ends.AreReady S.state sendings.new.items receivings.new.items) }
     ensures count { OnOk result
@@ -151,7 +152,7 @@ pub fn push_lane<S: Sealer>(
 
 /// Both ends of a job's lane have one key, and the number that is demanded first is the sender's.
 pub fn job_lanes_are_paired()
-    ensures { (sender : SenderJob) (seed : List ℕ)
+    ensures { (sender : Sender) (seed : List ℕ)
         → IsPaired (ends.ends_with sender (ends.source_with sender (ends.sealer_of sender) seed)) }
 {}
 

@@ -1,0 +1,34 @@
+-- What a command is told by its input: a job, or the first check that the input doesn't pass.
+use Rattle.std.specs.Prelude.{◌≡◌, Bool, true, false, List, ℕ, [], ◌∷◌, Option, Some, None, Result, Ok, Err}
+use Rattle.std.specs.Str.{is_utf8}
+use Rattle.toml.specs.Data.{Members}
+use Rattle.toml.specs.Parse.{parse_document}
+use Rattle.krb_job.specs.declared.job.Command.{Command}
+use Rattle.krb_job.specs.declared.bad_input.BadInput.{BadInput}
+use Rattle.krb_job.specs.declared.bad_input.BadInput.TheVariants as bad
+use Rattle.krb_job.specs.Job.{Job, job_of}
+use Rattle.krb_job.specs.Sender.{Sender}
+
+abbrev pub Told : Type 0
+Told = Result Job BadInput
+
+-- by whether the bytes are UTF-8, and the document that they spell
+abbrev pub told_at : Command → Bool → Option Members → Told
+told_at command true (Some ms) = job_of command ms
+told_at command true None = Err bad.Toml
+told_at command false document = Err bad.Toml
+
+-- what the bytes of an input tell a command
+unfoldable pub told_of : Command → List ℕ → Told
+told_of command bytes = told_at command (is_utf8 bytes) (parse_document bytes)
+
+-- the same of the bytes that a reader has left, where they are known
+abbrev pub IsTold : Command → Option (List ℕ) → Told → Type 0
+IsTold command None told = ⊥
+IsTold command (Some bytes) told = told ≡ told_of command bytes
+
+-- a job of one sender is told
+pub record TellsOne (told : Told) (sender : Sender) : Type 0 where
+  pub job : Job
+  pub told_is : told ≡ Ok job
+  pub one : job.senders ≡ sender ∷ []
