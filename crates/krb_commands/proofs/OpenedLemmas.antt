@@ -18,8 +18,10 @@ use Rattle.krb_peers.specs.Logged.{HasLogged, LogsNext}
 use Rattle.krb_peers.proofs.LoggedLemmas.{events_of-own, events_of-push, logged_none, logged_shut}
 use Rattle.krb_commands.specs.JobLines.{entry_line, state_line, state_by, is_closed_state, status_by}
 use Rattle.krb_commands.specs.Output.{AppendsPrefix}
-use Rattle.krb_commands.specs.Opened.{opened_lines, opened_text, PrintsOpened, PrintsOpenedPrefix, HoldsFrames, LogsFrames}
+use Rattle.krb_commands.specs.Opened.{opened_lines, opened_text, PrintsFirst, PrintsOpened, PrintsOpenedPrefix, HoldsFrames, LogsFrames}
+use Rattle.std.specs.Result.{is_err}
 use Rattle.krb_commands.proofs.OutputLemmas.{AppendsPrefix-after}
+use Rattle.krb_commands.proofs.ShowLemmas.{of_ok}
 
 abbrev log_of : List Event → LogState
 log_of events = record (new_log 1) { entries = entries_for 0 events }
@@ -88,6 +90,9 @@ module _ {A E : Type 0} (start : ReceiverState) (nows : List ℕ) (frames : List
   pub entries_alone : Appends old now (concat (map entry_line log.entries)) → PrintsOpenedPrefix start nows frames old now
   entries_alone p = prefix_of_entries (whole old now (concat (map entry_line log.entries)) p)
 
+  pub first_printed : Appends old now (concat (map entry_line log.entries)) → PrintsFirst start nows frames old now
+  first_printed p = let P : List ℕ → Type 0 = λ l. Appends old now l in (h.0, h.1.verdicts, h.1.opened, subst P (lines_are h.1.verdicts log h.1.entries) p)
+
   module _ (ok : h.0 ≡ length frames) where
     all_opened : AreJudged start nows frames h.1.verdicts
     all_opened =
@@ -123,6 +128,6 @@ module _ {A E : Type 0} (start : ReceiverState) (nows : List ℕ) (frames : List
         )
 
 -- nothing failed
-pub took_all : {A E : Type 0} (start : ReceiverState) (nows : List ℕ) (frames : List (List ℕ)) (outcome : Result A E) (log : LogState) (h : LogsFrames start nows frames outcome log) (a : A)
-    → outcome ≡ Ok a → h.0 ≡ length frames
-took_all {A = A} {E = E} start nows frames outcome log h a is = let P : Result A E → Type 0 = λ r. OnOk r (h.0 ≡ length frames) in subst P is h.2
+pub took_all : {A E : Type 0} (start : ReceiverState) (nows : List ℕ) (frames : List (List ℕ)) (outcome : Result A E) (log : LogState) (h : LogsFrames start nows frames outcome log)
+    → is_err outcome ≡ false → h.0 ≡ length frames
+took_all start nows frames outcome log h well = of_ok outcome (h.0 ≡ length frames) well h.2

@@ -10,7 +10,7 @@ use Rattle.krb_peers.proofs.ListLemmas.{drop_get}
 use Rattle.krb_peers.specs.Ends.{Ends, sents_of}
 use Rattle.krb_peers.specs.Whole.{IsRelayed, IsWhole, IsPart}
 use Rattle.krb_commands.specs.JobLines.{entry_line, entry_lines, end_line, end_lines, are_closed, is_closed_state, status_by}
-use Rattle.krb_commands.specs.Relayed.{relayed_text, PrintsRelayed, PrintsRelayedPrefix}
+use Rattle.krb_commands.specs.Relayed.{relayed_text, PrintsRelayed, PrintsRelayedPrefix, PrintsStopped}
 use Rattle.krb_commands.specs.Output.{AppendsPrefix}
 use Rattle.krb_commands.proofs.OutputLemmas.{AppendsPrefix-after}
 
@@ -67,6 +67,9 @@ module _ (lanes : List Ends) (log : LogState) (old then now : Option (List ℕ))
 
   pub entries_alone : IsRelayed lanes log → IsPart lanes log → Appends old now (concat (map entry_line log.entries)) → PrintsRelayedPrefix lanes old now
   entries_alone relayed h p = part_printed relayed h (whole old now (concat (map entry_line log.entries)) p)
+
+  pub entries_stopped : IsRelayed lanes log → IsPart lanes log → Appends old now (concat (map entry_line log.entries)) → PrintsStopped lanes old now
+  entries_stopped relayed h p = (log, relayed, h, p)
 
   module _ (sents : List Sent) (left : IsWhole lanes log sents) (are : sents ≡ sents_of lanes) (first : Appends old then (concat (map entry_line log.entries))) where
     h : IsWhole lanes log (sents_of lanes)

@@ -15,6 +15,7 @@ abbrev pub fault_status : Fault → ℕ
 fault_status fault.TooLong = 2
 fault_status (fault.BadInput b) = 2
 fault_status fault.Memory = 4
+fault_status fault.Stopped = 4
 fault_status fault.Read = 4
 fault_status fault.Write = 4
 
@@ -42,6 +43,7 @@ abbrev pub IsOfReading : Fault → Type 0
 IsOfReading fault.TooLong = Unit {0}
 IsOfReading (fault.BadInput b) = ⊥
 IsOfReading fault.Memory = Unit {0}
+IsOfReading fault.Stopped = ⊥
 IsOfReading fault.Read = Unit {0}
 IsOfReading fault.Write = ⊥
 
@@ -50,6 +52,7 @@ abbrev pub IsOfPrinting : Fault → Type 0
 IsOfPrinting fault.TooLong = ⊥
 IsOfPrinting (fault.BadInput b) = ⊥
 IsOfPrinting fault.Memory = Unit {0}
+IsOfPrinting fault.Stopped = ⊥
 IsOfPrinting fault.Read = ⊥
 IsOfPrinting fault.Write = Unit {0}
 
@@ -58,5 +61,42 @@ abbrev pub IsOfNoJob : Fault → Type 0
 IsOfNoJob fault.TooLong = Unit {0}
 IsOfNoJob (fault.BadInput b) = ⊥
 IsOfNoJob fault.Memory = Unit {0}
+IsOfNoJob fault.Stopped = ⊥
 IsOfNoJob fault.Read = Unit {0}
 IsOfNoJob fault.Write = Unit {0}
+
+-- a bad plan, or a fault of printing
+abbrev pub IsOfSealing : Fault → Type 0
+IsOfSealing fault.TooLong = ⊥
+IsOfSealing (fault.BadInput b) = Unit {0}
+IsOfSealing fault.Memory = Unit {0}
+IsOfSealing fault.Stopped = ⊥
+IsOfSealing fault.Read = ⊥
+IsOfSealing fault.Write = Unit {0}
+
+-- want of memory while frames were taken, or a fault of printing
+abbrev pub IsOfOpening : Fault → Type 0
+IsOfOpening fault.TooLong = ⊥
+IsOfOpening (fault.BadInput b) = ⊥
+IsOfOpening fault.Memory = Unit {0}
+IsOfOpening fault.Stopped = Unit {0}
+IsOfOpening fault.Read = ⊥
+IsOfOpening fault.Write = Unit {0}
+
+-- any of these
+abbrev pub IsOfRelaying : Fault → Type 0
+IsOfRelaying fault.TooLong = ⊥
+IsOfRelaying (fault.BadInput b) = Unit {0}
+IsOfRelaying fault.Memory = Unit {0}
+IsOfRelaying fault.Stopped = Unit {0}
+IsOfRelaying fault.Read = ⊥
+IsOfRelaying fault.Write = Unit {0}
+
+-- a fault of reading an input, or a check of the job that isn't passed
+abbrev pub IsOfTelling : Fault → Type 0
+IsOfTelling fault.TooLong = Unit {0}
+IsOfTelling (fault.BadInput b) = Unit {0}
+IsOfTelling fault.Memory = Unit {0}
+IsOfTelling fault.Stopped = ⊥
+IsOfTelling fault.Read = Unit {0}
+IsOfTelling fault.Write = ⊥

@@ -25,7 +25,12 @@ PrintsOpened receiver nows frames old new status =
     (verdicts : List Verdict) × AreJudged receiver nows frames verdicts
     × Appends old new (opened_text verdicts) × (status ≡ opened_status verdicts)
 
--- a prefix of that is printed, or of the lines of the first frames alone
+-- the lines of the first frames alone are printed
+abbrev pub PrintsFirst : ReceiverState → List ℕ → List (List ℕ) → Option (List ℕ) → Option (List ℕ) → Type 0
+PrintsFirst receiver nows frames old new =
+    (n : ℕ) × (verdicts : List Verdict) × AreJudged receiver nows (take n frames) verdicts × Appends old new (opened_lines verdicts)
+
+-- a prefix of what is printed of all, or of the lines of the first frames alone
 abbrev pub PrintsOpenedPrefix : ReceiverState → List ℕ → List (List ℕ) → Option (List ℕ) → Option (List ℕ) → Type 0
 PrintsOpenedPrefix receiver nows frames old new =
     ((verdicts : List Verdict) × AreJudged receiver nows frames verdicts × AppendsPrefix old new (opened_text verdicts))

@@ -21,7 +21,12 @@ abbrev pub PrintsRelayed : List Ends → Option (List ℕ) → Option (List ℕ)
 PrintsRelayed lanes old new status =
     (log : LogState) × IsWhole lanes log (sents_of lanes) × Appends old new (relayed_text lanes log) × (status ≡ relayed_status lanes log)
 
--- A prefix of that is printed, or of the lines of the first entries alone, or nothing. The first
+-- What becomes of the frames that were taken until the run stopped is printed, and the headline holds of each lane.
+abbrev pub PrintsStopped : List Ends → Option (List ℕ) → Option (List ℕ) → Type 0
+PrintsStopped lanes old new =
+    (log : LogState) × IsRelayed lanes log × IsPart lanes log × Appends old new (entry_lines log.entries)
+
+-- A prefix of what is printed of all, or of the lines of the first entries alone, or nothing. The first
 -- entries are what becomes of the frames that were taken of each lane, and the headline holds of each.
 abbrev pub PrintsRelayedPrefix : List Ends → Option (List ℕ) → Option (List ℕ) → Type 0
 PrintsRelayedPrefix lanes old new =

@@ -20,6 +20,10 @@ pub enum Fault {
     /// An allocation was refused.
     #[error("krbrelay: out of memory")]
     Memory,
+    /// An allocation was refused while frames were taken: what became of those until then is
+    /// printed.
+    #[error("krbrelay: out of memory")]
+    Stopped,
     /// The reader failed.
     #[error("krbrelay: read fault")]
     Read,
@@ -35,7 +39,7 @@ impl Fault {
     {
         match self {
             Fault::TooLong | Fault::BadInput(_) => 2,
-            Fault::Memory | Fault::Read | Fault::Write => 4,
+            Fault::Memory | Fault::Stopped | Fault::Read | Fault::Write => 4,
         }
     }
 
@@ -118,6 +122,7 @@ mod tests {
                 2,
             ),
             (Fault::from(JobError::Memory), "krbrelay: out of memory", 4),
+            (Fault::Stopped, "krbrelay: out of memory", 4),
             (Fault::Read, "krbrelay: read fault", 4),
             (Fault::Write, "krbrelay: write fault", 4),
         ];

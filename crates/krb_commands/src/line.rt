@@ -1,9 +1,10 @@
 //! What is printed as one line.
 
-ghost use Rattle.std.specs.Prelude.{◌≡◌, ◌⊎◌, ℕ, List, map, IfOk, IfErr, OnOk, OnErr};
+ghost use Rattle.std.specs.Prelude.{◌≡◌, ℕ, List, map, IfOk, IfErr, OnOk, OnErr};
 ghost use Rattle.std.specs.List.{concat};
 ghost use Rattle.std.specs.Io.KnownBytes.{Appends};
 ghost use Rattle.std.specs.String.{string_bytes};
+ghost use Rattle.krb_commands.specs.Fault.{IsOfPrinting};
 ghost use Rattle.krb_commands.specs.Output.{AppendsPrefix};
 
 use crate::fault::Fault;
@@ -33,7 +34,7 @@ pub(crate) fn print_lines<L: Line, W: Write>(
         (Appends (W.contents writer.old) (W.contents writer.new) (concat (map L.text items.now))) }
     ensures prefix { OnErr result (AppendsPrefix
         (W.contents writer.old) (W.contents writer.new) (concat (map L.text items.now))) }
-    ensures faults { IfErr result (λ fault. (fault ≡ Fault.Memory) ⊎ (fault ≡ Fault.Write)) }
+    ensures faults { IfErr result IsOfPrinting }
 {
     for item in items {
         print_line(alloc, item, writer)?;
@@ -51,7 +52,7 @@ pub(crate) fn print_line<L: Line, W: Write>(
         (Appends (W.contents writer.old) (W.contents writer.new) (L.text item.now)) }
     ensures prefix { OnErr result
         (AppendsPrefix (W.contents writer.old) (W.contents writer.new) (L.text item.now)) }
-    ensures faults { IfErr result (λ fault. (fault ≡ Fault.Memory) ⊎ (fault ≡ Fault.Write)) }
+    ensures faults { IfErr result IsOfPrinting }
 {
     let line = item.line(alloc)?;
     write_all(writer, line.as_bytes())

@@ -1,8 +1,9 @@
 //! The command `open`.
 
-ghost use Rattle.std.specs.Prelude.{◌≡◌, ◌<◌, ◌⊎◌, length, IfOk, IfErr, OnErr};
+ghost use Rattle.std.specs.Prelude.{◌≡◌, ◌<◌, length, IfOk, IfErr, OnErr};
 ghost use Rattle.krb_peers.specs.Log.{new_log};
-ghost use Rattle.krb_commands.specs.Opened.{LogsFrames, PrintsOpened, PrintsOpenedPrefix};
+ghost use Rattle.krb_commands.specs.Fault.{IsOfOpening};
+ghost use Rattle.krb_commands.specs.Opened.{LogsFrames, PrintsFirst, PrintsOpened, PrintsOpenedPrefix};
 
 use crate::fault::Fault;
 use crate::job_lines::{StateLine, exit_status, is_closed};
@@ -16,8 +17,8 @@ use std::io::Write;
 /// and whether the close was accepted.
 ///
 /// There is at least one moment. The answer is the exit status: 0 where the close was accepted,
-/// else 3. After want of memory the lines of the frames until then are printed, and after a fault
-/// of printing a prefix.
+/// else 3. `Stopped` is want of memory while frames were taken: the lines of those until then are
+/// printed. After a fault of printing a prefix is.
 pub fn open_job<W: Write>(
     alloc: Global,
     receiving: Receiving,
@@ -29,12 +30,16 @@ pub fn open_job<W: Write>(
         (W.contents writer.old) (W.contents writer.new)) }
     ensures prefix { OnErr result (PrintsOpenedPrefix receiving.receiver receiving.nows.items
         frames.now (W.contents writer.old) (W.contents writer.new)) }
-    ensures faults { IfErr result (λ fault. (fault ≡ Fault.Memory) ⊎ (fault ≡ Fault.Write)) }
+    ensures stopped { result ≡ Err Fault.Stopped → PrintsFirst receiving.receiver
+        receiving.nows.items frames.now (W.contents writer.old) (W.contents writer.new) }
+    ensures faults { IfErr result IsOfOpening }
 {
     let mut log = Log::new(alloc, 1);
     let outcome = take_all(alloc, receiving, frames, &mut log);
     print_lines(alloc, log.entries(), writer)?;
-    outcome?;
+    if outcome.is_err() {
+        return Err(Fault::Stopped);
+    }
     log.end(0);
     let status = log.status(0);
     print_line(alloc, &StateLine { lane: 0, status }, writer)?;

@@ -1,6 +1,6 @@
 //! The command `relay`.
 
-ghost use Rattle.std.specs.Prelude.{◌≡◌, ◌≤◌, ◌<◌, ◌⊎◌, ℕ, false, length, All, IfOk, IfErr, OnOk, OnErr};
+ghost use Rattle.std.specs.Prelude.{◌≡◌, ◌≤◌, ◌<◌, ℕ, false, length, All, IfOk, IfErr, OnOk, OnErr};
 ghost use Rattle.std.specs.Io.KnownBytes.{Keeps};
 ghost use Rattle.krb_job.specs.declared.bad_input.BadInput.{BadInput};
 ghost use Rattle.krb_peers.specs.Log.{lane_limit};
@@ -8,10 +8,10 @@ ghost use Rattle.krb_peers.specs.Sending.{source_of, IsSender};
 ghost use Rattle.krb_peers.specs.Ends.{lanes_of};
 ghost use Rattle.krb_core.specs.Start.{FailsAt};
 ghost use Rattle.krb_peers.specs.declared.start.StartError.TheVariants as start;
-ghost use Rattle.krb_commands.specs.Fault.{bad_plan};
+ghost use Rattle.krb_commands.specs.Fault.{bad_plan, IsOfPrinting, IsOfRelaying};
 ghost use Rattle.krb_commands.specs.JobLines.{are_closed, end_lines, status_by};
 ghost use Rattle.krb_commands.specs.Output.{AppendsPrefix};
-ghost use Rattle.krb_commands.specs.Relayed.{PrintsRelayed, PrintsRelayedPrefix};
+ghost use Rattle.krb_commands.specs.Relayed.{PrintsRelayed, PrintsRelayedPrefix, PrintsStopped};
 ghost use Rattle.std.specs.Io.KnownBytes.{Appends};
 
 use crate::fault::Fault;
@@ -28,8 +28,9 @@ use std::io::Write;
 ///
 /// There are one to eight senders, within their limits and none of them wiped, as many receivers,
 /// and room for a frame in each queue. The answer is the exit status: 0 where every lane's close
-/// was accepted, else 3. A bad plan is bad input, and nothing is printed. After want of memory the
-/// lines of the frames until then are printed, and after a fault of printing a prefix.
+/// was accepted, else 3. A bad plan is bad input, and nothing is printed. `Stopped` is want of
+/// memory while frames were taken: the lines of those until then are printed. After a fault of
+/// printing a prefix is.
 pub fn relay_job<S: Sealer, W: Write>(
     alloc: Global,
     sendings: Vec<Sending<S>>,
@@ -56,8 +57,10 @@ pub fn relay_job<S: Sealer, W: Write>(
     ensures prefix { OnErr result (PrintsRelayedPrefix
         (lanes_of S.state sendings.items receivings.items)
         (W.contents writer.old) (W.contents writer.new)) }
-    ensures faults { IfErr result
-        (λ fault. (¬ (fault ≡ Fault.Read)) × (¬ (fault ≡ Fault.TooLong))) }
+    ensures stopped { result ≡ Err Fault.Stopped → PrintsStopped
+        (lanes_of S.state sendings.items receivings.items)
+        (W.contents writer.old) (W.contents writer.new) }
+    ensures faults { IfErr result IsOfRelaying }
 {
     let mut stepped = match Stepped::new(alloc, sendings, receivings, capacity) {
         Ok(stepped) => stepped,
@@ -65,7 +68,9 @@ pub fn relay_job<S: Sealer, W: Write>(
     };
     let outcome = stepped.finish();
     print_lines(alloc, stepped.log().entries(), writer)?;
-    outcome?;
+    if outcome.is_err() {
+        return Err(Fault::Stopped);
+    }
     print_ends(alloc, &stepped, writer)
 }
 
@@ -78,7 +83,7 @@ fn print_ends<W: Write>(alloc: Global, stepped: &Stepped, writer: &mut W) -> Res
     ensures prefix { OnErr result (AppendsPrefix
         (W.contents writer.old) (W.contents writer.new)
         (end_lines 0 stepped.now.sents stepped.now.log)) }
-    ensures faults { IfErr result (λ fault. (fault ≡ Fault.Memory) ⊎ (fault ≡ Fault.Write)) }
+    ensures faults { IfErr result IsOfPrinting }
 {
     let mut all_closed = true;
     for lane in 0..stepped.lanes() {

@@ -5,7 +5,7 @@ ghost use Rattle.std.specs.Io.KnownBytes.{Keeps};
 ghost use Rattle.krb_job.specs.declared.bad_input.BadInput.{BadInput};
 ghost use Rattle.krb_peers.specs.Sending.{source_of, IsSender};
 ghost use Rattle.krb_peers.specs.Wire.{IsBad};
-ghost use Rattle.krb_commands.specs.Fault.{bad_plan};
+ghost use Rattle.krb_commands.specs.Fault.{bad_plan, IsOfSealing};
 ghost use Rattle.krb_commands.specs.Sealed.{PrintsSealed, PrintsSealedPrefix};
 
 use crate::fault::Fault;
@@ -38,8 +38,7 @@ pub fn seal_job<S: Sealer, W: Write>(
         → Keeps (W.contents writer.old) (W.contents writer.new) }
     ensures prefix { OnErr result (PrintsSealedPrefix
         (source_of S.state sending) (W.contents writer.old) (W.contents writer.new)) }
-    ensures faults { IfErr result
-        (λ fault. (¬ (fault ≡ Fault.Read)) × (¬ (fault ≡ Fault.TooLong))) }
+    ensures faults { IfErr result IsOfSealing }
 {
     let sent = sending.sent();
     let wire = match emit_sealed(alloc, 0, sending) {

@@ -11,8 +11,8 @@ use Rattle.krb_job.specs.Job.{Job}
 use Rattle.krb_job.specs.Sender.{Sender}
 use Rattle.krb_commands.specs.Fault.{bad_plan}
 use Rattle.krb_commands.specs.Sealed.{PrintsSealed, PrintsSealedPrefix}
-use Rattle.krb_commands.specs.Opened.{PrintsOpened, PrintsOpenedPrefix}
-use Rattle.krb_commands.specs.Relayed.{PrintsRelayed, PrintsRelayedPrefix}
+use Rattle.krb_commands.specs.Opened.{PrintsFirst, PrintsOpened, PrintsOpenedPrefix}
+use Rattle.krb_commands.specs.Relayed.{PrintsRelayed, PrintsRelayedPrefix, PrintsStopped}
 use Rattle.krb_commands.specs.Ends.{source_told, receiver_of, lane_told}
 use Rattle.krbrelay.specs.Told.{Told, TellsOne}
 
@@ -56,6 +56,11 @@ OpensPrefix told old new =
     ⊎ ((sender : Sender) × TellsOne told sender
     × PrintsOpenedPrefix (receiver_of sender) sender.nows sender.frames old new)
 
+-- what becomes of the first frames is printed
+abbrev pub OpensFirst : Told → Option (List ℕ) → Option (List ℕ) → Type 0
+OpensFirst told old new =
+    (sender : Sender) × TellsOne told sender × PrintsFirst (receiver_of sender) sender.nows sender.frames old new
+
 -- these are the lanes of the job's senders
 abbrev pub AreLanes : Job → List Ends → Type 0
 AreLanes job lanes = map Some lanes ≡ map lane_told job.senders
@@ -70,6 +75,10 @@ RelaysJobPrefix job old new =
     Keeps old new
     ⊎ ((lanes : List Ends) × AreLanes job lanes × PrintsRelayedPrefix lanes old new)
 
+-- what becomes of the frames that were taken until the run stopped is printed
+abbrev pub StopsJob : Job → Option (List ℕ) → Option (List ℕ) → Type 0
+StopsJob job old new = (lanes : List Ends) × AreLanes job lanes × PrintsStopped lanes old new
+
 -- the first lane that doesn't begin has a bad plan
 abbrev pub HasBadPlan : Job → BadInput → Type 0
 HasBadPlan job bad =
@@ -81,6 +90,9 @@ Relays told old new status = (job : Job) × (told ≡ Ok job) × RelaysJob job o
 
 abbrev pub RelaysPrefix : Told → Option (List ℕ) → Option (List ℕ) → Type 0
 RelaysPrefix told old new = Keeps old new ⊎ ((job : Job) × (told ≡ Ok job) × RelaysJobPrefix job old new)
+
+abbrev pub StopsRelay : Told → Option (List ℕ) → Option (List ℕ) → Type 0
+StopsRelay told old new = (job : Job) × (told ≡ Ok job) × StopsJob job old new
 
 -- a check that isn't passed, or a bad plan
 abbrev pub IsBadToRelay : Told → BadInput → Type 0

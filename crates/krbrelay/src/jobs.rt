@@ -8,12 +8,12 @@ ghost use Rattle.krb_job.specs.Job.{most_senders, job_view};
 ghost use Rattle.krb_job.specs.Sender.{seals};
 ghost use Rattle.krb_job.specs.SenderView.{sender_view};
 ghost use Rattle.krb_commands.specs.Ends.{AreReady, sealer_of, lane_told};
-ghost use Rattle.krb_commands.specs.Fault.{bad_plan};
+ghost use Rattle.krb_commands.specs.Fault.{bad_plan, IsOfRelaying, IsOfSealing, IsOfTelling};
 ghost use Rattle.krb_base.specs.Limits.{last_number};
 ghost use Rattle.krbrelay.specs.Told.{Told, IsTold, TellsOne};
 ghost use Rattle.krbrelay.specs.Commands.{Seals, SealsPrefix, SealsSender, SealsSenderPrefix, IsBadSender, IsBadToSeal};
-ghost use Rattle.krbrelay.specs.Commands.{Opens, OpensPrefix};
-ghost use Rattle.krbrelay.specs.Commands.{Relays, RelaysPrefix, RelaysJob, RelaysJobPrefix, HasBadPlan, IsBadToRelay};
+ghost use Rattle.krbrelay.specs.Commands.{Opens, OpensFirst, OpensPrefix};
+ghost use Rattle.krbrelay.specs.Commands.{Relays, RelaysPrefix, RelaysJob, RelaysJobPrefix, StopsJob, StopsRelay, HasBadPlan, IsBadToRelay};
 
 use krb_commands::{
     Fault, LIMIT, SessionKey, key_of, open_job, push_lane, read_all, receiving_of, relay_job,
@@ -42,6 +42,7 @@ pub fn seal<R: Read, W: Write>(alloc: Global, reader: &mut R, writer: &mut W) ->
         → Keeps (W.contents writer.old) (W.contents writer.new) }
     ensures read_fault_prints_nothing { result ≡ Err Fault.Read
         → Keeps (W.contents writer.old) (W.contents writer.new) }
+    ensures never_stopped { ¬ (result ≡ Err Fault.Stopped) }
     ensures prefix { (told : Told) → IsTold Command.Seal (R.remaining reader.old) told
         → OnErr result (SealsPrefix told (W.contents writer.old) (W.contents writer.new)) }
 {
@@ -62,8 +63,7 @@ fn seal_sender<W: Write>(alloc: Global, sender: SenderJob, writer: &mut W) -> Re
         → Keeps (W.contents writer.old) (W.contents writer.new) }
     ensures prefix { OnErr result (SealsSenderPrefix (sender_view sender)
         (W.contents writer.old) (W.contents writer.new)) }
-    ensures faults { IfErr result
-        (λ fault. (¬ (fault ≡ Fault.Read)) × (¬ (fault ≡ Fault.TooLong))) }
+    ensures faults { IfErr result IsOfSealing }
 {
     let session = session_of(alloc, &sender)?;
     match key_of(&sender) {
@@ -96,8 +96,7 @@ fn seal_with<S: Sealer, W: Write>(
         → Keeps (W.contents writer.old) (W.contents writer.new) }
     ensures prefix { OnErr result (SealsSenderPrefix (sender_view sender)
         (W.contents writer.old) (W.contents writer.new)) }
-    ensures faults { IfErr result
-        (λ fault. (¬ (fault ≡ Fault.Read)) × (¬ (fault ≡ Fault.TooLong))) }
+    ensures faults { IfErr result IsOfSealing }
 {
     let sending = sending_of(alloc, sender, sealer)?;
     seal_job(alloc, sending, writer)
@@ -119,6 +118,9 @@ pub fn open<R: Read, W: Write>(alloc: Global, reader: &mut R, writer: &mut W) ->
         → Keeps (W.contents writer.old) (W.contents writer.new) }
     ensures read_fault_prints_nothing { result ≡ Err Fault.Read
         → Keeps (W.contents writer.old) (W.contents writer.new) }
+    ensures stopped { (told : Told) → IsTold Command.Open (R.remaining reader.old) told
+        → result ≡ Err Fault.Stopped
+        → OpensFirst told (W.contents writer.old) (W.contents writer.new) }
     ensures prefix { (told : Told) → IsTold Command.Open (R.remaining reader.old) told
         → OnErr result (OpensPrefix told (W.contents writer.old) (W.contents writer.new)) }
 {
@@ -143,6 +145,9 @@ pub fn relay<R: Read, W: Write>(alloc: Global, reader: &mut R, writer: &mut W) -
         → Keeps (W.contents writer.old) (W.contents writer.new) }
     ensures read_fault_prints_nothing { result ≡ Err Fault.Read
         → Keeps (W.contents writer.old) (W.contents writer.new) }
+    ensures stopped { (told : Told) → IsTold Command.Relay (R.remaining reader.old) told
+        → result ≡ Err Fault.Stopped
+        → StopsRelay told (W.contents writer.old) (W.contents writer.new) }
     ensures prefix { (told : Told) → IsTold Command.Relay (R.remaining reader.old) told
         → OnErr result (RelaysPrefix told (W.contents writer.old) (W.contents writer.new)) }
 {
@@ -160,10 +165,11 @@ fn relay_senders<W: Write>(alloc: Global, job: Job, writer: &mut W) -> Result<u8
         → HasBadPlan (job_view job) bad }
     ensures bad_plan_prints_nothing { (bad : BadInput) → result ≡ Err (Fault.BadInput bad)
         → Keeps (W.contents writer.old) (W.contents writer.new) }
+    ensures stopped { result ≡ Err Fault.Stopped
+        → StopsJob (job_view job) (W.contents writer.old) (W.contents writer.new) }
     ensures prefix { OnErr result
         (RelaysJobPrefix (job_view job) (W.contents writer.old) (W.contents writer.new)) }
-    ensures faults { IfErr result
-        (λ fault. (¬ (fault ≡ Fault.Read)) × (¬ (fault ≡ Fault.TooLong))) }
+    ensures faults { IfErr result IsOfRelaying }
 {
     let Job { capacity, senders } = job;
     let mut sendings = Vec::with_capacity(alloc, senders.len())?;
@@ -218,7 +224,7 @@ fn told_job<R: Read>(alloc: Global, reader: &mut R, command: Command) -> Result<
     ensures within { OnOk result (IfSome (R.remaining reader.old) (λ input. length input ≤ LIMIT)) }
     ensures too_long { result ≡ Err Fault.TooLong
         → IfSome (R.remaining reader.old) (λ input. LIMIT < length input) }
-    ensures faults { IfErr result (λ fault. ¬ (fault ≡ Fault.Write)) }
+    ensures faults { IfErr result IsOfTelling }
 {
     let input = read_all(alloc, reader)?;
     Ok(read_job(alloc, &input, command)?)
@@ -236,7 +242,7 @@ fn one_sender<R: Read>(alloc: Global, reader: &mut R, command: Command) -> Resul
     ensures within { OnOk result (IfSome (R.remaining reader.old) (λ input. length input ≤ LIMIT)) }
     ensures too_long { result ≡ Err Fault.TooLong
         → IfSome (R.remaining reader.old) (λ input. LIMIT < length input) }
-    ensures faults { IfErr result (λ fault. ¬ (fault ≡ Fault.Write)) }
+    ensures faults { IfErr result IsOfTelling }
 {
     let Job {
         capacity: _,

@@ -1,6 +1,7 @@
-use Rattle.std.proofs.Common.{ap, ◌∙◌}
+use Rattle.std.proofs.Common.{ap, ◌∙◌, ◌≡◌, false, rules}
+use Rattle.std.specs.Result.{is_err}
 use Rattle.krb_commands.specs.JobLines.{status_by}
-use Rattle.krb_commands.proofs.OpenedLemmas.{prefix_of_entries, entries_alone, prefix_of_state, all_printed, took_all}
+use Rattle.krb_commands.proofs.OpenedLemmas.{prefix_of_entries, entries_alone, first_printed, prefix_of_state, all_printed, took_all}
 use Rattle.krb_commands.proofs.ShowLemmas.{on_err}
 use Rattle.krb_commands.proofs.opening.open_job.Goals as goal
 
@@ -9,20 +10,25 @@ returns-in_err-print_lines-clause-prefix g c =
     on_err _ c.from_residual.result
     (prefix_of_entries _ _ _ _ _ c.take_all-outcome.ensures _ (g.W.Write.contents c.args.writer.now) _ (rw c.entries.ensures at c.in_err-print_lines.ensures.prefix))
 
-pub returns-in_err-outcome-clause-prefix : goal.returns-in_err-outcome-clause-prefix
-returns-in_err-outcome-clause-prefix g c =
-    on_err _ c.from_residual-in_err-outcome.result
-    (entries_alone _ _ _ _ _ c.take_all-outcome.ensures _ (g.W.Write.contents c.args.writer.now) _ (rw c.entries.ensures at c.in_ok-print_lines.ensures.printed))
+pub returns-then-is_err-clause-prefix : goal.returns-then-is_err-clause-prefix
+returns-then-is_err-clause-prefix g c =
+    entries_alone _ _ _ _ _ c.take_all-outcome.ensures _ (g.W.Write.contents c.args.writer.now) _ (rw c.entries.ensures at c.in_ok-print_lines.ensures.printed)
+
+pub returns-then-is_err-clause-stopped : goal.returns-then-is_err-clause-stopped
+returns-then-is_err-clause-stopped g c = λ named.
+    first_printed _ _ _ _ _ c.take_all-outcome.ensures _ (g.W.Write.contents c.args.writer.now) _ (rw c.entries.ensures at c.in_ok-print_lines.ensures.printed)
 
 pub returns-in_err-print_line-clause-prefix : goal.returns-in_err-print_line-clause-prefix
 returns-in_err-print_line-clause-prefix g c =
-    let all = took_all _ _ _ _ _ c.take_all-outcome.ensures _ c.in_ok-outcome.was in
+    let well : is_err c.take_all-outcome.result ≡ false = search rules in
+    let all = took_all _ _ _ _ _ c.take_all-outcome.ensures well in
     on_err _ c.from_residual-in_err-print_line.result
     (prefix_of_state _ _ _ _ _ c.take_all-outcome.ensures _ _ _ all (rw c.entries.ensures at c.in_ok-print_lines.ensures.printed)
     c.status-status.result (rw c.end.ensures at c.status-status.ensures) c.in_err-print_line.ensures.prefix)
 
 pub returns-clause-printed : goal.returns-clause-printed
 returns-clause-printed g c =
-    let all = took_all _ _ _ _ _ c.take_all-outcome.ensures _ c.in_ok-outcome.was in
+    let well : is_err c.take_all-outcome.result ≡ false = search rules in
+    let all = took_all _ _ _ _ _ c.take_all-outcome.ensures well in
     all_printed _ _ _ _ _ c.take_all-outcome.ensures _ _ _ all (rw c.entries.ensures at c.in_ok-print_lines.ensures.printed)
     c.status-status.result (rw c.end.ensures at c.status-status.ensures) c.in_ok-print_line.ensures.printed _ (c.exit_status.ensures ∙ ap status_by c.is_closed.ensures)

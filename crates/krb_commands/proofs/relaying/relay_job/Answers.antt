@@ -1,7 +1,9 @@
+use Rattle.std.proofs.Common.{◌≡◌, false, rules}
+use Rattle.std.specs.Result.{is_err}
 use Rattle.krb_peers.specs.Ends.{lanes_of}
 use Rattle.krb_commands.proofs.RelayStartLemmas.{live_start, names_bad_plan}
-use Rattle.krb_commands.proofs.RelayedLemmas.{part_printed, entries_alone, relayed_by, front_by}
-use Rattle.krb_commands.proofs.ShowLemmas.{on_err}
+use Rattle.krb_commands.proofs.RelayedLemmas.{part_printed, entries_alone, entries_stopped, relayed_by, front_by}
+use Rattle.krb_commands.proofs.ShowLemmas.{on_err, of_ok}
 use Rattle.krb_commands.proofs.relaying.relay_job.Goals as goal
 
 pub of_start-requires : goal.of_start-requires
@@ -19,18 +21,27 @@ returns-in_err-print_lines-clause-prefix g c =
     let old = g.W.Write.contents c.args.writer.now in
     on_err _ c.from_residual.result (part_printed lanes _ old old _ relayed part (rw (c.entries.ensures, c.log.ensures) at c.in_err-print_lines.ensures.prefix))
 
-pub returns-in_err-outcome-clause-prefix : goal.returns-in_err-outcome-clause-prefix
-returns-in_err-outcome-clause-prefix g c =
+pub returns-then-is_err-clause-prefix : goal.returns-then-is_err-clause-prefix
+returns-then-is_err-clause-prefix g c =
     let lanes = lanes_of g.S.Sealer.state c.args.sendings.items c.args.receivings.items in
     let relayed = c.finish-outcome.ensures.relayed lanes c.args.capacity c.requires.room c.in-Ok.ensures.turned in
     let part = c.finish-outcome.ensures.part lanes c.args.capacity c.requires.room c.in-Ok.ensures.turned in
     let old = g.W.Write.contents c.args.writer.now in
-    on_err _ c.from_residual-in_err-outcome.result (entries_alone lanes _ old old _ relayed part (rw (c.entries.ensures, c.log.ensures) at c.in_ok-print_lines.ensures.printed))
+    entries_alone lanes _ old old _ relayed part (rw (c.entries.ensures, c.log.ensures) at c.in_ok-print_lines.ensures.printed)
+
+pub returns-then-is_err-clause-stopped : goal.returns-then-is_err-clause-stopped
+returns-then-is_err-clause-stopped g c = λ named.
+    let lanes = lanes_of g.S.Sealer.state c.args.sendings.items c.args.receivings.items in
+    let relayed = c.finish-outcome.ensures.relayed lanes c.args.capacity c.requires.room c.in-Ok.ensures.turned in
+    let part = c.finish-outcome.ensures.part lanes c.args.capacity c.requires.room c.in-Ok.ensures.turned in
+    let old = g.W.Write.contents c.args.writer.now in
+    entries_stopped lanes _ old old _ relayed part (rw (c.entries.ensures, c.log.ensures) at c.in_ok-print_lines.ensures.printed)
 
 pub returns-clause-printed : goal.returns-clause-printed
 returns-clause-printed g c =
     let lanes = lanes_of g.S.Sealer.state c.args.sendings.items c.args.receivings.items in
-    let whole = c.in_ok-outcome.ensures.whole lanes c.args.capacity c.requires.room c.in-Ok.ensures.turned in
+    let well : is_err c.finish-outcome.result ≡ false = search rules in
+    let whole = of_ok c.finish-outcome.result _ well (c.finish-outcome.ensures.whole lanes c.args.capacity c.requires.room c.in-Ok.ensures.turned) in
     let sents = whole.sealed in
     let old = g.W.Write.contents c.args.writer.now in
     relayed_by lanes _ old _ _ c.finish-outcome.new.self.sents whole sents (rw (c.entries.ensures, c.log.ensures) at c.in_ok-print_lines.ensures.printed)
@@ -39,7 +50,8 @@ returns-clause-printed g c =
 pub returns-clause-prefix : goal.returns-clause-prefix
 returns-clause-prefix g c =
     let lanes = lanes_of g.S.Sealer.state c.args.sendings.items c.args.receivings.items in
-    let whole = c.in_ok-outcome.ensures.whole lanes c.args.capacity c.requires.room c.in-Ok.ensures.turned in
+    let well : is_err c.finish-outcome.result ≡ false = search rules in
+    let whole = of_ok c.finish-outcome.result _ well (c.finish-outcome.ensures.whole lanes c.args.capacity c.requires.room c.in-Ok.ensures.turned) in
     let sents = whole.sealed in
     let old = g.W.Write.contents c.args.writer.now in
     front_by lanes _ old _ _ c.finish-outcome.new.self.sents whole sents (rw (c.entries.ensures, c.log.ensures) at c.in_ok-print_lines.ensures.printed)
