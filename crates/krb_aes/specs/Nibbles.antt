@@ -1,9 +1,11 @@
--- The code's own aids, and no part of the standard: a byte as two elements of the field of 16 elements.
+-- The code's own aids, and no part of the standard: a byte as two elements of the field of 16
+-- elements.
 --
--- An element of that field is a nibble, the sum of powers of g = 0x5c, for which g^4 = g + 1. With t = 0xb2, for which
--- t^2 = g t + g, each byte is k + i t for one pair of elements; its nibbles are i, the higher one, and k. In this form
--- the inverse of a byte needs tables of 16 bytes alone ("Accelerating AES with Vector Permute Instructions", Hamburg,
--- 2009). The tables are computed by tools/vector_tables.py.
+-- An element of that field is a nibble, the sum of powers of g = 0x5c, for which g^4 = g + 1. With
+-- t = 0xb2, for which t^2 = g t + g, each byte is k + i t for one pair of elements; its nibbles
+-- are i, the higher one, and k. In this form the inverse of a byte needs tables of 16 bytes alone
+-- ("Accelerating AES with Vector Permute Instructions", Hamburg, 2009). The tables are computed by
+-- tools/vector_tables.py.
 use Rattle.std.specs.Prelude.{ℕ, ◌/◌, nat_lt, nat_le, Bool, T, ◌||◌, List, [], ◌∷◌, slice_index, bit_xor, bit_and, if◌then◌else◌}
 use Rattle.std.specs.Simd.Lanes.{Each1}
 use Rattle.krb_aes.specs.Field.{times}
@@ -32,17 +34,19 @@ scaled_inverses =
     0x80 ∷ 0x02 ∷ 0x01 ∷ 0x0f ∷ 0x09 ∷ 0x05 ∷ 0x0e ∷ 0x0c
     ∷ 0x0d ∷ 0x04 ∷ 0x0b ∷ 0x0a ∷ 0x07 ∷ 0x08 ∷ 0x06 ∷ 0x03 ∷ []
 
--- the two places for a byte with nibbles i and k: a function of the inverse of k + i t is the sum of what two tables
--- give, one at each place
+-- the two places for a byte with nibbles i and k: a function of the inverse of k + i t is the sum
+-- of what two tables give, one at each place
 unfoldable pub first_place : ℕ → ℕ
 first_place b =
-    bit_xor (entry inverses (bit_xor (entry inverses (b / 16)) (entry scaled_inverses (bit_and b 15))))
-        (bit_xor (b / 16) (bit_and b 15))
+    let i = b / 16 in
+    let k = bit_and b 15 in
+    bit_xor (entry inverses (bit_xor (entry inverses i) (entry scaled_inverses k))) (bit_xor i k)
 
 unfoldable pub second_place : ℕ → ℕ
 second_place b =
-    bit_xor (entry inverses (bit_xor (entry inverses (bit_xor (b / 16) (bit_and b 15))) (entry scaled_inverses (bit_and b 15))))
-        (b / 16)
+    let i = b / 16 in
+    let k = bit_and b 15 in
+    bit_xor (entry inverses (bit_xor (entry inverses (bit_xor i k)) (entry scaled_inverses k))) i
 
 -- the nibbles of a byte: the sum of those of its higher and of its lower half
 abbrev pub nibbles_of_high : List ℕ
@@ -56,7 +60,8 @@ nibbles_of_low =
     ∷ 0x27 ∷ 0x26 ∷ 0x3b ∷ 0x3a ∷ 0x0a ∷ 0x0b ∷ 0x16 ∷ 0x17 ∷ []
 
 unfoldable pub nibbles_of : ℕ → ℕ
-nibbles_of b = bit_xor (slice_index nibbles_of_high (b / 16)) (slice_index nibbles_of_low (bit_and b 15))
+nibbles_of b =
+    bit_xor (slice_index nibbles_of_high (b / 16)) (slice_index nibbles_of_low (bit_and b 15))
 
 -- the nibbles of a byte s of the S-box without its constant 0x63, once and times 2
 unfoldable pub bare_nibbles : ℕ → ℕ
@@ -77,7 +82,8 @@ inv_linear_low =
     ∷ 0x14 ∷ 0xa1 ∷ 0xc8 ∷ 0x7d ∷ 0xcf ∷ 0x7a ∷ 0x13 ∷ 0xa6 ∷ []
 
 unfoldable pub inv_linear_nibbles : ℕ → ℕ
-inv_linear_nibbles b = bit_xor (slice_index inv_linear_high (b / 16)) (slice_index inv_linear_low (bit_and b 15))
+inv_linear_nibbles b =
+    bit_xor (slice_index inv_linear_high (b / 16)) (slice_index inv_linear_low (bit_and b 15))
 
 -- the same with the constant
 unfoldable pub inv_affine_nibbles : ℕ → ℕ

@@ -1,7 +1,9 @@
-// InvSubBytes (FIPS 197, section 5.3.2) on vectors of 16 bytes, read from tables of 16 bytes as SubBytes is.
+// InvSubBytes (FIPS 197, section 5.3.2) on vectors of 16 bytes, read from tables of 16 bytes as
+// SubBytes is.
 //
-// Between the rounds of the inverse cipher the S-box's affine map is undone already, so that the inverse S-box
-// of a byte is the inverse of what its nibbles stand for. tools/vector_tables.py computes the tables.
+// Between the rounds of the inverse cipher the S-box's affine map is undone already, so that the
+// inverse S-box of a byte is the inverse of what its nibbles stand for. tools/vector_tables.py
+// computes the tables.
 
 ghost use Rattle.std.specs.Prelude.{◌≡◌, List, ℕ, map};
 ghost use Rattle.krb_aes.specs.Field.{times};
@@ -12,8 +14,8 @@ ghost use Rattle.krb_aes.specs.Nibbles.{inv_linear_nibbles, inv_affine_nibbles};
 use crate::sbox::{high, look_up, low, places};
 use std::simd::prelude::*;
 
-// The nibbles of a byte with the affine map undone: what its higher and its lower half give. The constant is in
-// the first.
+// The nibbles of a byte with the affine map undone: what its higher and its lower half give. The
+// constant is in the first.
 const UNDONE_HIGH: [u8; 16] = [
     0x2c, 0x8b, 0x84, 0x23, 0xc1, 0x66, 0x69, 0xce, 0xfd, 0x5a, 0x55, 0xf2, 0x10, 0xb7, 0xb8, 0x1f,
 ];
@@ -22,8 +24,8 @@ const UNDONE_LOW: [u8; 16] = [
     0x00, 0xb5, 0xdc, 0x69, 0xdb, 0x6e, 0x07, 0xb2, 0x14, 0xa1, 0xc8, 0x7d, 0xcf, 0x7a, 0x13, 0xa6,
 ];
 
-// The inverse S-box times 14, with the linear part of the affine map undone: InvMixColumns' products, in the
-// form that the next round takes.
+// The inverse S-box times 14, with the linear part of the affine map undone: InvMixColumns'
+// products, in the form that the next round takes.
 const TIMES_14_FIRST: [u8; 16] = [
     0x00, 0xeb, 0xa6, 0xb9, 0x7b, 0x8f, 0x1f, 0xf4, 0x52, 0x29, 0x90, 0x36, 0x64, 0xdd, 0xc2, 0x4d,
 ];

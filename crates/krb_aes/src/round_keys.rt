@@ -1,4 +1,5 @@
-// The words of an expanded key in the forms in which the rounds on vectors take them (specs/Rounds.antt).
+// The words of an expanded key in the forms in which the rounds on vectors take them
+// (specs/Rounds.antt).
 
 ghost use Rattle.std.specs.Prelude.{◌≡◌, ℕ, ◌+◌, ◌*◌, ◌/◌, ◌%◌, ◌<◌, ◌≤◌, List, [], length, map, slice_index_or, bit_xor};
 ghost use Rattle.krb_aes.specs.Cipher.{sub_bytes};
@@ -20,8 +21,8 @@ fn key_bytes_at(w: &[u32], n: usize) -> u8x16
     u8x16::from_array(words::store([w[4 * n], w[4 * n + 1], w[4 * n + 2], w[4 * n + 3]]))
 }
 
-// A round key with its rows as the state's are after round n, that is with ShiftRows done 3 n times, and each
-// column raised by one place.
+// A round key with its rows as the state's are after round n, that is with ShiftRows done 3 n
+// times, and each column raised by one place.
 fn arranged(x: u8x16, n: usize) -> u8x16
     ensures { (f : ℕ → ℕ) (s : List ℕ) → x ≡ map f (rows_shifted 0 s)
         → result ≡ map f (rows_shifted (3 * n % 4) (columns_raised s)) }
@@ -71,15 +72,18 @@ fn substituted_key(w: &[u32], n: usize) -> u8x16
     bare_sub_bytes(to_nibbles(key_bytes_at(w, n))) ^ u8x16::splat(0x63)
 }
 
-// The key of a round that mixes, mixed back. A round of the inverse cipher with a key of zeros undoes SubBytes and
-// mixes back. It undoes ShiftRows too, which is the same as if ShiftRows had been done three times before; so it
-// takes `substituted_key` as it is.
+// The key of a round that mixes, mixed back. A round of the inverse cipher with a key of zeros
+// undoes SubBytes and mixes back. It undoes ShiftRows too, which is the same as if ShiftRows had
+// been done three times before; so it takes `substituted_key` as it is.
 fn inverse_key(w: &[u32], n: usize) -> u8x16
     requires { 4 * n + 4 ≤ length w.now }
     ensures { result ≡ map inv_affine_nibbles
         (rows_shifted (3 * (n + 2) % 4) (columns_raised (inv_mix_columns (round_key w.now n)))) }
 {
-    let mixed = inv_round_0(undo_affine(substituted_key(w, n)), undo_affine(u8x16::splat(0)));
+    let mixed = inv_round_0(
+        undo_affine(substituted_key(w, n)),
+        undo_affine(u8x16::splat(0)),
+    );
     arranged(mixed, n + 2)
 }
 

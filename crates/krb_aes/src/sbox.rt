@@ -1,11 +1,12 @@
-// SubBytes (FIPS 197, section 5.1.1) on vectors of 16 bytes. It is read from tables of 16 bytes that lie in
-// vectors, so that no address and no branch depends on a byte, as in "Accelerating AES with Vector Permute
-// Instructions" (Hamburg, 2009).
+// SubBytes (FIPS 197, section 5.1.1) on vectors of 16 bytes. It is read from tables of 16 bytes
+// that lie in vectors, so that no address and no branch depends on a byte, as in "Accelerating AES
+// with Vector Permute Instructions" (Hamburg, 2009).
 //
-// A byte is split into two elements of the field of 16 elements, its nibbles (specs/Nibbles.antt). The inverse
-// of a byte is then a matter of a few look-ups by nibbles: they give two places, and what is sought of the
-// inverse is the sum of what two tables give, one at each place. Each pair of tables below is named after what
-// it gives. tools/vector_tables.py computes all the tables, and compares them with these.
+// A byte is split into two elements of the field of 16 elements, its nibbles (specs/Nibbles.antt).
+// The inverse of a byte is then a matter of a few look-ups by nibbles: they give two places, and
+// what is sought of the inverse is the sum of what two tables give, one at each place. Each pair
+// of tables below is named after what it gives. tools/vector_tables.py computes all the tables,
+// and compares them with these.
 
 ghost use Rattle.std.specs.Prelude.{◌≡◌, ◌/◌, List, ℕ, map, bit_xor, bit_and};
 ghost use Rattle.krb_aes.specs.Field.{sbox};
@@ -139,25 +140,7 @@ pub fn to_nibbles(x: u8x16) -> u8x16
 pub fn sub_word(x: u32) -> u32
     ensures { result ≡ sub_word x }
 {
-    let bytes = [
-        words::first_byte(x),
-        words::second_byte(x),
-        words::third_byte(x),
-        words::fourth_byte(x),
-        0,
-        0,
-        0,
-        0,
-        0,
-        0,
-        0,
-        0,
-        0,
-        0,
-        0,
-        0,
-    ];
-    let split = to_nibbles(u8x16::from_array(bytes));
+    let split = to_nibbles(u8x16::from_array(words::store([x, 0, 0, 0])));
     let out = (bare_sub_bytes(split) ^ u8x16::splat(0x63)).to_array();
     u32::from_be_bytes([out[0], out[1], out[2], out[3]])
 }
