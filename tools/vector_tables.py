@@ -2,13 +2,13 @@
 """Computes the tables of 16 bytes by which krb_aes enciphers, from the field of FIPS 197 alone.
 
     tools/vector_tables.py            prints them
-    tools/vector_tables.py --check    compares them with those of the sources; says which differ, and
-                                      ends with 1 if any does
+    tools/vector_tables.py --check    compares them with those of the sources, says which differ,
+                                      and ends with 1 if any does
 
 The way is that of "Accelerating AES with Vector Permute Instructions" (Hamburg, 2009). A byte is
-k + i t, where i and k are of the subfield of 16 elements and t is a byte outside it; its nibbles are
-i, the higher one, and k. An element of the subfield is written as a nibble: the sum of powers of g, a
-root of g^4 = g + 1, that its bits name. t is a root of t^2 = g t + g.
+k + i t, where i and k are of the subfield of 16 elements and t is a byte outside it; its nibbles
+are i, the higher one, and k. An element of the subfield is written as a nibble: the sum of powers
+of g, a root of g^4 = g + 1, that its bits name. t is a root of t^2 = g t + g.
 
 The inverse of k + i t: with j = i + k, p = 1/i + g/k and q = 1/j + g/k, the two places are
 1/p + j and 1/q + i, and any linear function of the inverse is a sum of a function of each. Where a

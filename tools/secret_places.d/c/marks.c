@@ -1,5 +1,5 @@
-/* What is read from the standard input is secret, and what is written is public from then on: the marks
-   that memcheck follows (valgrind/memcheck.h). It is put before the C library by LD_PRELOAD. */
+/* What is read from the standard input is secret, and what is written is public from then on: the
+   marks that memcheck follows (valgrind/memcheck.h). LD_PRELOAD puts it before the C library. */
 #define _GNU_SOURCE
 #include <dlfcn.h>
 #include <unistd.h>
@@ -24,7 +24,22 @@ static ssize_t write_public(const char *name, int to, const void *bytes, size_t 
     return next(to, bytes, size);
 }
 
-ssize_t read(int from, void *bytes, size_t size) { return read_secret("read", from, bytes, size); }
-ssize_t __read(int from, void *bytes, size_t size) { return read_secret("__read", from, bytes, size); }
-ssize_t write(int to, const void *bytes, size_t size) { return write_public("write", to, bytes, size); }
-ssize_t __write(int to, const void *bytes, size_t size) { return write_public("__write", to, bytes, size); }
+ssize_t read(int from, void *bytes, size_t size)
+{
+    return read_secret("read", from, bytes, size);
+}
+
+ssize_t __read(int from, void *bytes, size_t size)
+{
+    return read_secret("__read", from, bytes, size);
+}
+
+ssize_t write(int to, const void *bytes, size_t size)
+{
+    return write_public("write", to, bytes, size);
+}
+
+ssize_t __write(int to, const void *bytes, size_t size)
+{
+    return write_public("__write", to, bytes, size);
+}

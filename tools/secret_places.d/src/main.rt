@@ -1,8 +1,9 @@
-//! What `tools/secret_places` watches: every call of krb_aes and krb_keys that handles a key, and both ends of a session.
+//! What `tools/secret_places` watches: every call of krb_aes and krb_keys that handles a key, and
+//! both ends of a session.
 //!
-//! `secret_places PART` reads 48 bytes of keys and 160 bytes of text from the standard input. `PART` is `cipher`, `codes`,
-//! `seal` or `open`. It writes what anyone may see, that is the cipher texts, the codes, the frames and whether a code was
-//! the right one; what it writes is no secret from then on.
+//! `secret_places PART` reads 48 bytes of keys and 160 bytes of text from the standard input.
+//! `PART` is `cipher`, `codes`, `seal` or `open`. It writes what anyone may see: the cipher texts,
+//! the frames and whether a code was the right one. What it writes is no secret from then on.
 #![tactic(auto)]
 
 mod calls;
