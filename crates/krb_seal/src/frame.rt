@@ -9,7 +9,7 @@ ghost use Rattle.krb_seal.specs.Seals.{SealsBody, unsigned};
 ghost use Rattle.krb_seal.specs.Draft.{IsSmall};
 
 use crate::etype::Etype;
-use crate::keys::Keys;
+use crate::keys::{Keys, TAG_SIZE};
 use crate::limit::within_limit;
 use crate::session::Mode;
 use krb_der::{Body, Bytes, PrivMsg, SafeMsg, encode_part_behind, encode_priv, safe_input_around};
@@ -50,7 +50,7 @@ fn text_of(alloc: Global, body: &Body, confounder: [u8; 16]) -> Result<Vec<u8>, 
     ensures body { OnOk result (IsBody body.now) }
     ensures short { IfOk result (λ text. length text.items ≤ 60281) }
 {
-    let text = within_limit(encode_part_behind(alloc, confounder, body))?;
+    let text = within_limit(encode_part_behind(alloc, &confounder, body, TAG_SIZE))?;
     known_bytes(&text);
     Ok(text)
 }

@@ -1,10 +1,10 @@
 use Rattle.std.proofs.Common.{◌≡◌, ℕ, ℤ, ◌/◌, ◌%◌, arith, w8, w16, to_z, of_z, pos, refl, ap, ◌∙◌}
 use Rattle.jiff_core.specs.declared.civil.datetime.DateTime.{DateTime}
 use Rattle.jiff_core.proofs.CalendarLemmas.{days_in_month_bounds}
-use Rattle.krb_der.specs.Calendar.{year_of, month_of, day_of}
-use Rattle.krb_der.specs.Time.{kerberos_time}
-use Rattle.krb_der.proofs.DateTimes.{Shows, shows, back}
-use Rattle.krb_der.proofs.time.kerberos_time.Goals as goal
+use Rattle.krb_time.specs.Calendar.{year_of, month_of, day_of}
+use Rattle.krb_time.specs.Time.{kerberos_time}
+use Rattle.krb_time.proofs.DateTimes.{Shows, shows, back}
+use Rattle.krb_time.proofs.time.kerberos_time.Goals as goal
 
 year-is : (z : ℤ) (s : ℕ) (dt : DateTime) → Shows dt s → z ≡ dt.date.year → to_z w16 (of_z w16 z) ≡ pos (year_of (s / 86400))
 year-is z s dt k e = back w16 z _ (e ∙ k.date.year) (omega (arith, k.date.common.year_high))

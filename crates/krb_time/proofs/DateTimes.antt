@@ -16,11 +16,12 @@ use Rattle.jiff_core.specs.Time.{IsTime, IsHms}
 use Rattle.jiff_core.proofs.DateTimeLemmas.{civil_nanos-parts, time_nanos_bound}
 use Rattle.jiff_core.proofs.SignedLemmas.{signed_arith}
 use Rattle.jiff_core.proofs.CalendarLemmas.{day_count-epoch}
-use Rattle.krb_der.specs.Calendar.{day_number}
-use Rattle.krb_der.specs.Time.{last_second, second_of}
-use Rattle.krb_der.proofs.OptionSteps.{some_is}
-use Rattle.krb_der.proofs.Calendar.{IsCommonDate, Named, named, dated, number-count, number-bound}
-use Rattle.krb_der.proofs.Times.{second-is, second-yes, date-signed, clock-signed}
+use Rattle.krb_time.specs.Calendar.{day_number}
+use Rattle.krb_time.specs.Time.{last_second}
+use Rattle.krb_time.specs.Reading.{second_of}
+use Rattle.krb_time.proofs.OptionSteps.{some_is}
+use Rattle.krb_time.proofs.Calendar.{IsCommonDate, Named, named, dated, number-count, number-bound}
+use Rattle.krb_time.proofs.Times.{second-is, second-yes, date-signed, clock-signed}
 
 -- the datetime has the date and the time of day of the second s
 pub record Shows (dt : DateTime) (s : ℕ) : Type 0 where

@@ -1,8 +1,8 @@
 use Rattle.std.proofs.Common.{arith, w8, w16, w64, sym, ◌∙◌}
 use Rattle.std.proofs.lemmas.Int.{to_z_pos}
-use Rattle.krb_der.specs.Time.{second_of}
-use Rattle.krb_der.proofs.DateTimes.{FindsSecond, seconds, no-second, ok_value, back}
-use Rattle.krb_der.proofs.time.second_of.Goals as goal
+use Rattle.krb_time.specs.Reading.{second_of}
+use Rattle.krb_time.proofs.DateTimes.{FindsSecond, seconds, no-second, ok_value, back}
+use Rattle.krb_time.proofs.time.second_of.Goals as goal
 
 pub returns-in_err-at : goal.returns-in_err-at
 returns-in_err-at c =

@@ -2,8 +2,10 @@
 
 ghost use Rattle.std.specs.Prelude.{◌≡◌, ◌↔◌, ◌<◌, ◌≤◌, ◌*◌, ℕ, List, pos, Some, IfSome, option_map};
 ghost use Rattle.jiff.specs.Words.{civil_nanos};
-ghost use Rattle.krb_der.specs.Time;
-ghost use Rattle.krb_der.specs.Time.{last_second, pair_of, time_of, IsKerberosTime, NamesSameTime};
+ghost use Rattle.krb_time.specs.Reading;
+ghost use Rattle.krb_time.specs.Time;
+ghost use Rattle.krb_time.specs.Reading.{pair_of, time_of};
+ghost use Rattle.krb_time.specs.Time.{last_second, IsKerberosTime, NamesSameTime};
 
 use jiff::civil::{DateTime, datetime};
 use std::time::Duration;
@@ -63,7 +65,7 @@ pub fn kerberos_time(secs: u64) -> [u8; 15]
 }
 
 /// The number that two digits write, and what follows them.
-#[tactic(auto, unfolding(crate::specs::Time::pair_of))]
+#[tactic(auto, unfolding(crate::specs::Reading::pair_of))]
 fn pair(text: &[u8]) -> Option<(u8, &[u8])>
     ensures gives { option_map (λ x. (x.0, x.1.now)) result ≡ pair_of text.now }
     ensures below { IfSome result (λ x. x.0 < 100) }
@@ -78,7 +80,7 @@ fn pair(text: &[u8]) -> Option<(u8, &[u8])>
 
 /// Whether nothing is left but the `Z`.
 fn is_zulu(rest: &[u8]) -> bool
-    ensures { result ≡ Time.is_zulu rest.now }
+    ensures { result ≡ Reading.is_zulu rest.now }
 {
     matches!(rest, [b'Z'])
 }
@@ -91,7 +93,7 @@ fn second_of(year: u16, month: u8, day: u8, hour: u8, minute: u8, second: u8) ->
     requires hour { hour < 100 }
     requires minute { minute < 100 }
     requires second { second < 100 }
-    ensures { result ≡ Time.second_of year month day hour minute second }
+    ensures { result ≡ Reading.second_of year month day hour minute second }
 {
     if year < 1970 {
         return None;
@@ -110,8 +112,8 @@ fn second_of(year: u16, month: u8, day: u8, hour: u8, minute: u8, second: u8) ->
 }
 
 /// The second that a text names.
-#[tactic(auto, unfolding(crate::specs::Time::time_of))]
-pub(crate) fn time_at(text: &[u8]) -> Option<u64>
+#[tactic(auto, unfolding(crate::specs::Reading::time_of))]
+fn time_at(text: &[u8]) -> Option<u64>
     ensures { result ≡ time_of text.now }
 {
     let (century, rest) = pair(text)?;
