@@ -2,11 +2,11 @@
 use Rattle.std.proofs.Common.{◌≡◌, rules, ◌⊎◌, ℕ, ◌^◌, ◌<◌, ◌≤◌, Bool, true, false, cond, eqb, ltb, List, [], ◌∷◌, ◌++◌, length, get_or, take, drop, Option, Some, None, refl, sym, subst, ◌∙◌, arith, append_assoc, inl, inr}
 use Rattle.std.proofs.lemmas.Bool.{cases_lt, lt-ltb, le-ltb, ltb-true, ltb-false, eqb-true}
 use Rattle.std.proofs.lemmas.List.{take_at, drop_at, take-append-drop, length-append, length-take-le}
-use Rattle.krb_der.specs.Length.{big_endian, be_value, length_octets}
+use Rattle.krb_der.specs.Length.{big_endian, length_octets}
 use Rattle.krb_der.specs.Element.{header, tagged}
 use Rattle.krb_der.specs.Integer.{width, complement, int_octets}
-use Rattle.krb_der.specs.Reading.{wide_length_at, length_at, cut_at, tagged_at, signed, int_of}
-use Rattle.krb_der.proofs.OptionSteps.{bind_some, provided, some_is}
+use Rattle.krb_der.specs.Reading.{be_value, wide_length_at, length_at, cut_at, tagged_at, signed, int_of}
+use Rattle.krb_time.proofs.OptionSteps.{bind_some, provided, some_is}
 use Rattle.krb_der.proofs.Numbers.{IsBytes, IsBytes-drop, IsBytes-take, IsBytes-rest, IsBytes-big_endian, IsBytes-complement, length-big_endian, length-complement, complement-twice, be_value-below, be_value-again, big_endian-back, width_is}
 
 pub chosen : {A : Type 0} (b : Bool) (x y z : A) → cond b x y ≡ z → ((b ≡ true) × (x ≡ z)) ⊎ ((b ≡ false) × (y ≡ z))

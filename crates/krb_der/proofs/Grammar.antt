@@ -1,5 +1,5 @@
 -- The values of the grammar, each read from its spelling and from nothing else.
-use Rattle.std.proofs.Common.{◌≡◌, ℕ, ◌^◌, ◌<◌, ◌≤◌, Bool, true, false, ltb, ℤ, pos, negsuc, List, [], ◌∷◌, ◌++◌, length, Option, Some, Result, Ok, Err, refl, sym, ap, subst, ◌∙◌, arith, inl, inr, lit≤, lit<, ◌⊎◌}
+use Rattle.std.proofs.Common.{◌≡◌, ℕ, ◌+◌, ◌^◌, ◌<◌, ◌≤◌, Bool, true, false, ltb, ℤ, pos, negsuc, List, [], ◌∷◌, ◌++◌, length, Option, Some, Result, Ok, Err, refl, sym, ap, subst, ◌∙◌, arith, inl, inr, lit≤, lit<, ◌⊎◌}
 use Rattle.std.specs.Prelude.{MatchResult, IfSome}
 use Rattle.std.proofs.lemmas.Bool.{lt-ltb, ltb-true}
 use Rattle.krb_der.specs.declared.address.HostAddress.{HostAddress}
@@ -8,10 +8,12 @@ use Rattle.krb_der.specs.declared.safe.SafeMsg.{SafeMsg}
 use Rattle.krb_der.specs.declared.private.PrivMsg.{PrivMsg}
 use Rattle.krb_der.specs.declared.message.Message.{Message}
 use Rattle.krb_der.specs.declared.message.Message.TheVariants.{Safe, Priv}
-use Rattle.krb_der.specs.Time.{kerberos_time, time_of}
+use Rattle.krb_time.specs.Time.{IsSecond, kerberos_time}
+use Rattle.krb_time.specs.Reading.{time_of}
+use Rattle.krb_time.specs.Moment.{last_usec, IsMicroseconds}
 use Rattle.krb_der.specs.Element.{header, tagged, joined, sequence, optional, octets}
 use Rattle.krb_der.specs.Integer.{int_octets, integer, natural, IsInt32}
-use Rattle.krb_der.specs.Time.{time, IsSecond}
+use Rattle.krb_der.specs.KerberosTime.{time}
 use Rattle.krb_der.specs.Typed.{typed_fields, typed_octets}
 use Rattle.krb_der.specs.Address.{host_address, IsAddress}
 use Rattle.krb_der.specs.Body.{body_fields, body, part, IsBody}
@@ -19,11 +21,11 @@ use Rattle.krb_der.specs.Safe.{safe_fields, safe, IsSafe}
 use Rattle.krb_der.specs.Private.{encrypted_data, private_fields, private, IsPrivate}
 use Rattle.krb_der.specs.Message.{message, IsMessage, SpellsWithin, Spells, SpellsPart, UniqueSpelling, Decodes}
 use Rattle.krb_base.specs.Limits.{frame_limit}
-use Rattle.krb_der.specs.Steps.{◌>>=◌}
+use Rattle.krb_time.specs.Steps.{◌>>=◌}
 use Rattle.krb_der.specs.Reading.{alone, signed, int_of, as_int32, as_below, int32_of, below_of, int32_element_of, below_element_of, octets_of, typed_of, address_of, time_element_of, body_of, safe_of, encrypted_of, private_of, message_of, part_of, starts_with, tagged_at, Gives}
 use Rattle.krb_der.proofs.Numbers.{IsBytes}
-use Rattle.krb_der.proofs.Times.{time-found, time-again}
-use Rattle.krb_der.proofs.OptionSteps.{bind_some, provided, some_is}
+use Rattle.krb_time.proofs.Times.{time-found, time-again}
+use Rattle.krb_time.proofs.OptionSteps.{bind_some, provided, some_is}
 use Rattle.krb_der.proofs.Elements.{int-found, int-again, chosen, tagged-again}
 use Rattle.krb_der.proofs.Readers.{Reads, no_field, field, optional_field, all_fields, in_tag, under_tag, length-tagged}
 use Rattle.std.proofs.lemmas.Option.{some_pair_parts, none-some}
@@ -138,14 +140,17 @@ time_reads = in_tag 0x18 IsSecond kerberos_time time_of time_text_reads
 abbrev IsU32 : ℕ → Type 0
 IsU32 n = n < 2 ^ 32
 
-abbrev IsMicro : ℕ → Type 0
-IsMicro n = n < 1000000
-
 u32_reads : Reads IsU32 natural (below_element_of (2 ^ 32))
 u32_reads = natural_reads (2 ^ 32) (lit≤ tt)
 
-micro_reads : Reads IsMicro natural (below_element_of 1000000)
-micro_reads = natural_reads 1000000 (lit≤ tt)
+below_micros : Reads (λ n. n < last_usec + 1) natural (below_element_of (last_usec + 1))
+below_micros = natural_reads (last_usec + 1) (lit≤ tt)
+
+micro-found : (c : List ℕ) (n : ℕ) → IsBytes c → below_element_of (last_usec + 1) c ≡ Some n → IsMicroseconds n × (c ≡ natural n)
+micro-found c n fits e = let f = below_micros.found c n fits e in (omega (arith, f.0), f.1)
+
+micro_reads : Reads IsMicroseconds natural (below_element_of (last_usec + 1))
+micro_reads = record { found = micro-found; again = λ n h lt. below_micros.again n (omega (arith, h)) lt }
 
 -- ---- the body
 
@@ -164,7 +169,7 @@ body_reads =
     let f6 = λ (u : List ℕ) (t c q : Option ℕ) (s : HostAddress). optional_field 0xA5 0xA4 IsAddress host_address address_of (λ v. v.r_addr) (K5 u t c q s) Any (λ _. []) _ address_reads (f7 u t c q s) (omega arith) in
     let f5 = λ (u : List ℕ) (t c q : Option ℕ). field 0xA4 0xA3 IsAddress host_address address_of (λ v. v.s_addr) (K4 u t c q) _ _ _ address_reads (f6 u t c q) (omega arith) in
     let f4 = λ (u : List ℕ) (t c : Option ℕ). optional_field 0xA3 0xA2 IsU32 natural (below_element_of (2 ^ 32)) (λ v. v.seq) (K3 u t c) _ _ _ u32_reads (f5 u t c) (omega arith) in
-    let f3 = λ (u : List ℕ) (t : Option ℕ). optional_field 0xA2 0xA1 IsMicro natural (below_element_of 1000000) (λ v. v.usec) (K2 u t) _ _ _ micro_reads (f4 u t) (omega arith) in
+    let f3 = λ (u : List ℕ) (t : Option ℕ). optional_field 0xA2 0xA1 IsMicroseconds natural (below_element_of (last_usec + 1)) (λ v. v.usec) (K2 u t) _ _ _ micro_reads (f4 u t) (omega arith) in
     let f2 = λ (u : List ℕ). optional_field 0xA1 0xA0 IsSecond time time_element_of (λ v. v.time) (K1 u) _ _ _ time_reads (f3 u) (omega arith) in
     let f1 = field 0xA0 0 Any octets octets_of (λ v. v.user_data) Any _ _ _ octets_reads f2 (omega arith) in
     under_tag 0x30 IsBody (λ b. joined (body_fields b)) _ (all_fields 0 _ IsBody body_fields _ f1

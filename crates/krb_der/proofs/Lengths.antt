@@ -15,7 +15,8 @@ use Rattle.krb_der.specs.Element.{tagged, joined, sequence, optional, octets}
 use Rattle.krb_der.specs.Integer.{integer, natural}
 use Rattle.krb_der.specs.Typed.{typed_octets}
 use Rattle.krb_der.specs.Address.{host_address}
-use Rattle.krb_der.specs.Body.{body, body_fields, IsShort, IsShortBody, part}
+use Rattle.krb_der.specs.Body.{body, body_fields, part}
+use Rattle.krb_der.specs.Writing.{IsShort, IsShortBody}
 use Rattle.krb_der.specs.Safe.{checksum, safe, safe_fields}
 use Rattle.krb_der.specs.Private.{encrypted_data, private, private_fields}
 use Rattle.krb_base.specs.Limits.{frame_limit}

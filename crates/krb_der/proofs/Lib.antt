@@ -1,10 +1,7 @@
-pub mod OptionSteps
 pub mod Numbers
 pub mod Elements
 pub mod Readers
-pub mod Calendar
 pub mod Times
-pub mod DateTimes
 pub mod Grammar
 pub mod Lengths
 pub mod Writers

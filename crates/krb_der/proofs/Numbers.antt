@@ -4,7 +4,8 @@ use Rattle.std.proofs.Math.Nat.{pow-le-pow_right, pow-succ', mod-lt, mod-eq_of_l
 use Rattle.std.proofs.lemmas.Nat.{div-mul-add, div-add-mod'}
 use Rattle.std.proofs.lemmas.Bool.{cases_lt, lt-ltb, le-ltb}
 use Rattle.std.proofs.lemmas.List.{drop-map, length-map, get_or-drop, get_or-take, get_or_past, length-take}
-use Rattle.krb_der.specs.Length.{big_endian, be_value}
+use Rattle.krb_der.specs.Length.{big_endian}
+use Rattle.krb_der.specs.Reading.{be_value}
 use Rattle.krb_der.specs.Integer.{width, complement}
 
 abbrev pub IsBytes : List ℕ → Type 0

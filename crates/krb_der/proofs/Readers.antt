@@ -4,11 +4,12 @@ use Rattle.std.specs.Prelude.{IfSome}
 use Rattle.std.proofs.lemmas.Bool.{eqb-true}
 use Rattle.std.proofs.lemmas.List.{length-append, append-nil}
 use Rattle.krb_der.specs.Length.{big_endian, length_octets}
-use Rattle.krb_der.specs.Element.{header, tagged, element_size, joined, optional}
-use Rattle.krb_der.specs.Steps.{◌>>=◌}
+use Rattle.krb_der.specs.Element.{header, tagged, joined, optional}
+use Rattle.krb_der.specs.Writing.{element_size}
+use Rattle.krb_time.specs.Steps.{◌>>=◌}
 use Rattle.krb_der.specs.Reading.{ended, tagged_at, alone, with_field, starts_with, optional_at}
 use Rattle.krb_der.proofs.Numbers.{IsBytes, if_case}
-use Rattle.krb_der.proofs.OptionSteps.{bind_some, some_is}
+use Rattle.krb_time.proofs.OptionSteps.{bind_some, some_is}
 use Rattle.krb_der.proofs.Elements.{tagged-again, tagged-found, eqb-same}
 
 cases_bool : (b : Bool) → (b ≡ true) ⊎ (b ≡ false)

@@ -4,10 +4,12 @@ use Rattle.krb_der.specs.declared.address.HostAddress.{HostAddress}
 use Rattle.krb_der.specs.declared.body.Body.{Body}
 use Rattle.krb_der.specs.Tag.{context, application, integer_tag, octet_string_tag, sequence_tag, generalized_time_tag}
 use Rattle.krb_der.specs.Length.{big_endian, length_octets}
-use Rattle.krb_der.specs.Element.{tagged, element_size, joined, sequence, optional, octets}
+use Rattle.krb_der.specs.Element.{tagged, joined, sequence, optional, octets}
 use Rattle.krb_der.specs.Integer.{width, int_octets, integer, natural}
 use Rattle.krb_der.specs.Typed.{typed_fields, typed_octets}
-use Rattle.krb_der.specs.Time.{time, kerberos_time}
+use Rattle.krb_time.specs.Time.{kerberos_time}
+use Rattle.krb_der.specs.KerberosTime.{time}
+use Rattle.krb_der.specs.Writing.{element_size}
 use Rattle.krb_der.specs.Address.{host_address}
 use Rattle.krb_der.specs.Body.{body, body_fields, part}
 use Rattle.krb_der.specs.Safe.{checksum, safe_fields, with_checksum}

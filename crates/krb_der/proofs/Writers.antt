@@ -3,11 +3,12 @@ use Rattle.std.proofs.Common.{◌≡◌, ◌↔◌, ◌⊎◌, inl, inr, ℕ, ze
 use Rattle.std.proofs.lemmas.Bool.{lt-ltb}
 use Rattle.std.proofs.lemmas.List.{append-nil}
 use Rattle.krb_der.specs.Length.{length_octets}
-use Rattle.krb_der.specs.Element.{header, tagged, element_size, joined, sequence}
+use Rattle.krb_der.specs.Element.{header, tagged, joined, sequence}
 use Rattle.krb_der.specs.Integer.{width, int_octets, integer}
 use Rattle.krb_der.specs.declared.safe.SafeMsg.{SafeMsg}
 use Rattle.krb_der.specs.Body.{body}
-use Rattle.krb_der.specs.Safe.{safe_before_data, safe_behind_data, safe_input}
+use Rattle.krb_der.specs.Safe.{safe_input}
+use Rattle.krb_der.specs.Writing.{element_size, safe_before_data, safe_behind_data}
 use Rattle.krb_der.specs.Reading.{signed}
 use Rattle.krb_der.proofs.Numbers.{length-big_endian, length-complement}
 use Rattle.krb_der.proofs.Readers.{size-tagged}

@@ -1,5 +1,5 @@
 -- Elements: a tag, the length of the content, and the content (X.690 section 8.1).
-use Rattle.std.specs.Prelude.{ℕ, ◌+◌, List, [], ◌∷◌, ◌++◌, length, Option, Some, None}
+use Rattle.std.specs.Prelude.{ℕ, List, [], ◌∷◌, ◌++◌, length, Option, Some, None}
 use Rattle.krb_der.specs.Tag.{octet_string_tag, sequence_tag}
 use Rattle.krb_der.specs.Length.{length_octets}
 
@@ -9,10 +9,6 @@ header tag n = tag ∷ length_octets n
 
 unfoldable pub tagged : ℕ → List ℕ → List ℕ
 tagged tag content = header tag (length content) ++ content
-
--- how many octets an element has whose content has n
-abbrev pub element_size : ℕ → ℕ
-element_size n = 1 + length (length_octets n) + n
 
 abbrev pub joined : List (List ℕ) → List ℕ
 joined [] = []

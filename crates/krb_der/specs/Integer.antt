@@ -32,7 +32,3 @@ IsInt32 (negsuc n) = n < 2 ^ 31
 -- UInt32 (RFC 4120 section 5.2.4)
 abbrev pub IsUInt32 : ℕ → Type 0
 IsUInt32 n = n < 2 ^ 32
-
--- Microseconds (RFC 4120 section 5.2.4)
-abbrev pub IsMicroseconds : ℕ → Type 0
-IsMicroseconds n = n < 1000000

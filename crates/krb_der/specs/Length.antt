@@ -1,15 +1,10 @@
 -- Whole numbers as octets, and the lengths of elements (X.690 sections 8.1.3 and 10.1).
-use Rattle.std.specs.Prelude.{ℕ, zero, suc, ◌+◌, ◌*◌, ◌/◌, ◌%◌, ◌^◌, List, [], ◌∷◌, length, nat_lt, if◌then◌else◌}
+use Rattle.std.specs.Prelude.{ℕ, zero, suc, ◌/◌, ◌%◌, ◌^◌, List, [], ◌∷◌, nat_lt, if◌then◌else◌}
 
 -- a number below 256 ^ k as k octets, the most significant first
 abbrev pub big_endian : ℕ → ℕ → List ℕ
 big_endian zero n = []
 big_endian (suc k) n = n / 256 ^ k ∷ big_endian k (n % 256 ^ k)
-
--- the number that octets are, the most significant first
-abbrev pub be_value : List ℕ → ℕ
-be_value [] = 0
-be_value (b ∷ bs) = b * 256 ^ length bs + be_value bs
 
 -- the definite length in the fewest octets, up to three after the first
 unfoldable pub length_octets : ℕ → List ℕ

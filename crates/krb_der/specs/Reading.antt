@@ -1,6 +1,10 @@
--- Reading from left to right: the value that bytes spell, if they spell one. Private functions alone cite
--- this file; the law `decode` rests on ties it to the grammar.
-use Rattle.std.specs.Prelude.{◌≡◌, ℕ, ◌^◌, Bool, true, false, ℤ, pos, negsuc, List, [], ◌∷◌, length, get_or, take, drop, Option, Some, None, Result, Ok, Err, nat_lt, nat_eq, if◌then◌else◌}
+-- Aids of the code, and no definitions of the standard: the value that bytes spell, read from left to right,
+-- if they spell one. Private functions alone cite this file; a law ties it to the grammar, and the contracts of
+-- `decode` and `decode_part` are in the words of Message.antt.
+use Rattle.std.specs.Prelude.{◌≡◌, ℕ, ◌+◌, ◌*◌, ◌^◌, Bool, true, false, ℤ, pos, negsuc, List, [], ◌∷◌, length, get_or, take, drop, Option, Some, None, Result, Ok, Err, nat_lt, nat_eq, if◌then◌else◌}
+use Rattle.krb_time.specs.Moment.{last_usec}
+use Rattle.krb_time.specs.Reading.{time_of}
+use Rattle.krb_time.specs.Steps.{◌>>=◌}
 use Rattle.krb_der.specs.declared.error.DerError.{DerError}
 use Rattle.krb_der.specs.declared.error.DerError.TheVariants as errors
 use Rattle.krb_der.specs.declared.address.HostAddress.{HostAddress}
@@ -10,10 +14,8 @@ use Rattle.krb_der.specs.declared.private.PrivMsg.{PrivMsg}
 use Rattle.krb_der.specs.declared.message.Message.{Message}
 use Rattle.krb_der.specs.declared.message.Message.TheVariants.{Safe, Priv}
 use Rattle.krb_der.specs.Tag.{integer_tag, octet_string_tag, generalized_time_tag, sequence_tag, context, application}
-use Rattle.krb_der.specs.Length.{big_endian, be_value}
+use Rattle.krb_der.specs.Length.{big_endian}
 use Rattle.krb_der.specs.Integer.{complement, width}
-use Rattle.krb_der.specs.Time.{time_of}
-use Rattle.krb_der.specs.Steps.{◌>>=◌}
 
 -- What a function returned, seen by view, is what reading gives, unless memory ran out.
 abbrev pub Fails : {Y : Type 0} → DerError → Option Y → Type 0
@@ -36,6 +38,11 @@ ended x [] = Some x
 ended x (b ∷ rest) = None
 
 -- ---- lengths, and what stands under a tag
+
+-- the number that octets are, the most significant first
+abbrev pub be_value : List ℕ → ℕ
+be_value [] = 0
+be_value (b ∷ bs) = b * 256 ^ length bs + be_value bs
 
 abbrev pub wide_length_at : ℕ → ℕ → List ℕ → Option (ℕ × List ℕ)
 wide_length_at k low bytes = if nat_lt (length bytes) k then None else if nat_lt (be_value (take k bytes)) low then None else Some (be_value (take k bytes), drop k bytes)
@@ -136,7 +143,7 @@ body_of bytes = do
   d ← tagged_at (context 0) fields
   user_data ← octets_of d.0
   time ← optional_at (context 1) time_element_of d.1
-  usec ← optional_at (context 2) (below_element_of 1000000) time.1
+  usec ← optional_at (context 2) (below_element_of (last_usec + 1)) time.1
   seq ← optional_at (context 3) (below_element_of (2 ^ 32)) usec.1
   s ← tagged_at (context 4) seq.1
   s_addr ← address_of s.0

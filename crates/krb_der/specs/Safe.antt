@@ -1,11 +1,11 @@
 -- KRB-SAFE (RFC 4120 section 5.6.1).
-use Rattle.std.specs.Prelude.{ℕ, ℤ, pos, List, [], ◌∷◌, ◌++◌, length}
+use Rattle.std.specs.Prelude.{ℕ, ℤ, pos, List, [], ◌∷◌}
 use Rattle.krb_der.specs.declared.safe.SafeMsg.{SafeMsg}
-use Rattle.krb_der.specs.Tag.{context, application, sequence_tag}
-use Rattle.krb_der.specs.Element.{header, tagged, joined, sequence}
+use Rattle.krb_der.specs.Tag.{context, application}
+use Rattle.krb_der.specs.Element.{tagged, sequence}
 use Rattle.krb_der.specs.Integer.{integer, IsInt32}
 use Rattle.krb_der.specs.Typed.{typed_octets}
-use Rattle.krb_der.specs.Body.{before_data, body, fields_behind_data, IsBody}
+use Rattle.krb_der.specs.Body.{body, IsBody}
 
 -- Checksum (RFC 4120 section 5.2.9): SEQUENCE { cksumtype [0] Int32, checksum [1] OCTET STRING }
 abbrev pub checksum : ℤ → List ℕ → List ℕ
@@ -33,19 +33,10 @@ pub record IsSafe (m : SafeMsg) : Type 0 where
 abbrev pub with_checksum : SafeMsg → ℤ → List ℕ → SafeMsg
 with_checksum m kind bytes = record m { cksum_type = kind; checksum = bytes }
 
--- what is under the checksum: the message with checksum type 0 and an empty checksum
+-- the message with checksum type 0 and an empty checksum, whose spelling is under the checksum (RFC 4120
+-- section 3.4.1)
+abbrev pub without_checksum : SafeMsg → SafeMsg
+without_checksum m = with_checksum m (pos 0) []
+
 abbrev pub safe_input : SafeMsg → List ℕ
-safe_input m = safe (with_checksum m (pos 0) [])
-
--- what stands there before the data of the message, and behind it
-abbrev pub safe_before_data : SafeMsg → List ℕ
-safe_before_data m =
-    let fields = safe_fields (with_checksum m (pos 0) []) in
-    header (application 20) (length (sequence fields))
-    ++ (header sequence_tag (length (joined fields))
-    ++ (tagged (context 0) (integer m.pvno)
-    ++ (tagged (context 1) (integer m.msg_type)
-    ++ (header (context 2) (length (body m.body)) ++ before_data m.body))))
-
-abbrev pub safe_behind_data : SafeMsg → List ℕ
-safe_behind_data m = joined (fields_behind_data m.body) ++ tagged (context 3) (checksum (pos 0) [])
+safe_input m = safe (without_checksum m)

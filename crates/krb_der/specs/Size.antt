@@ -1,11 +1,11 @@
 -- How many octets a message has around what it carries.
-use Rattle.std.specs.Prelude.{ℕ, ◌+◌, ◌≤◌, pos, [], length, Option, Some, None}
+use Rattle.std.specs.Prelude.{ℕ, ◌+◌, ◌≤◌, length, Option, Some, None}
 use Rattle.krb_der.specs.declared.address.HostAddress.{HostAddress}
 use Rattle.krb_der.specs.declared.body.Body.{Body}
 use Rattle.krb_der.specs.declared.safe.SafeMsg.{SafeMsg}
 use Rattle.krb_der.specs.declared.private.PrivMsg.{PrivMsg}
 use Rattle.krb_der.specs.Body.{part}
-use Rattle.krb_der.specs.Safe.{safe, with_checksum}
+use Rattle.krb_der.specs.Safe.{safe, safe_input}
 use Rattle.krb_der.specs.Private.{private}
 
 -- the octets of an address that may be left out
@@ -17,16 +17,25 @@ optional_size (Some a) = length a.bytes
 abbrev pub carried : Body → ℕ
 carried b = length b.user_data + length b.s_addr.bytes + optional_size b.r_addr
 
--- tags, lengths and numbers take few octets
+-- the octets that tags, lengths and numbers take at most
+abbrev pub part_overhead : ℕ
+part_overhead = 200
+
+abbrev pub safe_overhead : ℕ
+safe_overhead = 300
+
+abbrev pub private_overhead : ℕ
+private_overhead = 100
+
 abbrev pub SmallPart : Type 0
-SmallPart = (b : Body) → length (part b) ≤ carried b + 200
+SmallPart = (b : Body) → length (part b) ≤ carried b + part_overhead
 
 abbrev pub SmallSafe : Type 0
-SmallSafe = (m : SafeMsg) → length (safe m) ≤ carried m.body + length m.checksum + 300
+SmallSafe = (m : SafeMsg) → length (safe m) ≤ carried m.body + length m.checksum + safe_overhead
 
 abbrev pub SmallPrivate : Type 0
-SmallPrivate = (m : PrivMsg) → length (private m) ≤ length m.cipher + 100
+SmallPrivate = (m : PrivMsg) → length (private m) ≤ length m.cipher + private_overhead
 
 -- what is under the checksum of KRB-SAFE is no longer than the message
 abbrev pub ShorterInput : Type 0
-ShorterInput = (m : SafeMsg) → length (safe (with_checksum m (pos 0) [])) ≤ length (safe m)
+ShorterInput = (m : SafeMsg) → length (safe_input m) ≤ length (safe m)

@@ -1,5 +1,5 @@
 ghost use Rattle.std.specs.Prelude.{◌≡◌, ◌↔◌, IsTrue};
-ghost use Rattle.krb_der.specs.Address.{IsAddress};
+ghost use Rattle.krb_der.specs.Address.{IsAddress, same_address};
 ghost use Rattle.krb_der.specs.Reading.{Gives, address_of};
 
 use crate::error::DerError;
@@ -20,7 +20,8 @@ pub struct HostAddress {
 impl HostAddress {
     /// Whether type and bytes are equal.
     pub fn same(&self, other: &HostAddress) -> bool
-        ensures { IsTrue result ↔ self.now ≡ other.now }
+        ensures same { IsTrue result ↔ (self.now ≡ other.now) }
+        ensures test { result ≡ same_address self.now other.now }
     {
         self.kind == other.kind && self.bytes.as_slice() == other.bytes.as_slice()
     }

@@ -3,12 +3,14 @@ ghost use Rattle.krb_der.specs.declared.body.Body.{Body as BodyValue};
 ghost use Rattle.krb_der.specs.declared.error.DerError.TheVariants.{Memory};
 ghost use Rattle.krb_base.specs.Limits.{frame_limit};
 ghost use Rattle.krb_der.specs.Element.{joined, optional};
-ghost use Rattle.krb_der.specs.Time;
-ghost use Rattle.krb_der.specs.Time.{IsSecond};
+ghost use Rattle.krb_time.specs.Time.{IsSecond};
+ghost use Rattle.krb_time.specs.Reading.{time_of};
+ghost use Rattle.krb_der.specs.KerberosTime;
 ghost use Rattle.krb_der.specs.Address.{host_address, IsAddress};
-ghost use Rattle.krb_der.specs.Body.{InRange, IsBody, IsShort, IsShortBody, before_data, body, body_fields, fields_behind_data, part};
+ghost use Rattle.krb_der.specs.Body.{InRange, IsBody, body, body_fields, part};
 ghost use Rattle.krb_der.specs.Message.{Decodes, Encodes, EncodesBehind, SpellsPart};
 ghost use Rattle.krb_der.specs.Reading.{Gives, Takes, time_element_of, optional_at, address_of, body_of, part_of};
+ghost use Rattle.krb_der.specs.Writing.{IsShort, IsShortBody, before_data, fields_behind_data};
 
 use crate::address::{HostAddress, known_address, read_address};
 use crate::error::DerError;
@@ -17,17 +19,14 @@ use crate::integer::{
 };
 use crate::reader::{Reader, only_element, read_octets};
 use crate::tag;
-use crate::time::{LAST_SECOND, kerberos_time, time_at};
 use crate::typed::{typed_size, write_typed_field};
 use crate::writer::{Writer, octets_field_size, size_around};
 use krb_base::{Bytes, FRAME_LIMIT};
+use krb_time::{LAST_SECOND, LAST_USEC, kerberos_time, read_kerberos_time};
 use std::alloc::{AllocError, Global};
 
-/// How many bytes the code behind a cipher has (RFC 3962 section 6).
-const CODE_SIZE: usize = 12;
-
-/// The first number of microseconds that is a second.
-const MICROSECONDS_LIMIT: u32 = 1_000_000;
+/// The first number that is no count of microseconds beyond a second.
+const MICROSECONDS_END: u64 = LAST_USEC as u64 + 1;
 
 /// What KRB-SAFE and the encrypted part of KRB-PRIV carry (RFC 4120 sections 5.6.1 and 5.7.1).
 #[derive(Debug, Drop)]
@@ -56,11 +55,18 @@ impl Body {
             None => true,
         };
         let usec = match self.usec {
-            Some(usec) => usec < MICROSECONDS_LIMIT,
+            Some(usec) => usec <= LAST_USEC,
             None => true,
         };
         time && usec
     }
+}
+
+/// The second whose text the bytes are.
+fn time_at(text: &[u8]) -> Option<u64>
+    ensures { result ≡ time_of text.now }
+{
+    read_kerberos_time(text)
 }
 
 fn read_time(bytes: &[u8]) -> Result<u64, DerError>
@@ -105,7 +111,7 @@ pub fn read_body(alloc: Global, bytes: &[u8]) -> Result<Body, DerError>
     let mut fields = Reader::inside(tag::SEQUENCE, bytes)?;
     let user_data = read_octets(alloc, fields.element(tag::FIELD_0)?)?;
     let time = read_optional_time(&mut fields, tag::FIELD_1)?;
-    let usec = read_optional_natural(&mut fields, tag::FIELD_2, u64::from(MICROSECONDS_LIMIT))?;
+    let usec = read_optional_natural(&mut fields, tag::FIELD_2, MICROSECONDS_END)?;
     let seq = read_optional_natural(&mut fields, tag::FIELD_3, UINT32_LIMIT)?;
     let s_addr = read_address(alloc, fields.element(tag::FIELD_4)?)?;
     let r_addr = read_optional_address(alloc, &mut fields, tag::FIELD_5)?;
@@ -128,7 +134,7 @@ pub fn is_short(bytes: &[u8]) -> bool
 
 fn optional_time_size(time: Option<u64>) -> usize
     requires { IfSome time IsSecond }
-    ensures value { result ≡ length (optional 0 Time.time time) }
+    ensures value { result ≡ length (optional 0 KerberosTime.time time) }
     ensures bound { result ≤ 19 }
 {
     match time {
@@ -139,7 +145,7 @@ fn optional_time_size(time: Option<u64>) -> usize
 
 fn write_optional_time(out: &mut Writer, tag: u8, time: Option<u64>) -> Result<(), AllocError>
     requires { IfSome time IsSecond }
-    ensures { OnOk result (out.new ≡ out.old ++ optional tag Time.time time) }
+    ensures { OnOk result (out.new ≡ out.old ++ optional tag KerberosTime.time time) }
 {
     match time {
         Some(secs) => {
@@ -328,23 +334,24 @@ pub fn encode_part(alloc: Global, b: &Body) -> Result<Vec<u8>, DerError>
     Ok(b.part_spelling(alloc, &[], size)?)
 }
 
-/// A confounder and, behind it, the spelling of the body as [`encode_part`] gives it, in a `Vec`
-/// that has room for a message code of 12 bytes more: what is enciphered in place (RFC 3961
-/// section 5.3, RFC 3962 section 6).
+/// The bytes `front` and, behind them, the spelling of the body as [`encode_part`] gives it, in a
+/// `Vec` that has room for `behind` bytes more: so what an encryption puts before and behind the
+/// part needs no copy of it (RFC 3961 section 5.3).
 ///
 /// [`DerError::TooLong`] is answered exactly where the part has over 65,000 bytes, before any
 /// memory is taken.
 pub fn encode_part_behind(
     alloc: Global,
-    confounder: [u8; 16],
+    front: &[u8],
     b: &Body,
+    behind: usize,
 ) -> Result<Vec<u8>, DerError>
     requires { InRange b.now }
-    ensures { EncodesBehind confounder b.now result }
+    ensures { EncodesBehind front.now b.now result }
 {
     let size = b.limited_part_size()?;
-    let room = confounder.len() + size + CODE_SIZE;
-    Ok(b.part_spelling(alloc, &confounder, room)?)
+    let room = size.saturating_add(front.len()).saturating_add(behind);
+    Ok(b.part_spelling(alloc, front, room)?)
 }
 
 #[tactic(auto, unfolding(crate::specs::Reading::part_of))]

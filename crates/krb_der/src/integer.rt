@@ -1,10 +1,10 @@
 //! INTEGER (X.690 section 8.3).
 
 ghost use Rattle.std.specs.Prelude.{◌≡◌, ◌<◌, ◌≤◌, ◌^◌, ◌++◌, ◌+◌, length, IfSome, OnOk, pos};
-ghost use Rattle.krb_der.specs.Length.{be_value};
-ghost use Rattle.krb_der.specs.Element.{element_size, optional, tagged};
+ghost use Rattle.krb_der.specs.Element.{optional, tagged};
 ghost use Rattle.krb_der.specs.Integer.{complement, width, integer, natural, IsInt32, IsUInt32};
-ghost use Rattle.krb_der.specs.Reading.{Gives, Takes, int_of, int32_of, below_of, int32_element_of, below_element_of, optional_at, signed, five_octets};
+ghost use Rattle.krb_der.specs.Reading.{Gives, Takes, be_value, int_of, int32_of, below_of, int32_element_of, below_element_of, optional_at, signed, five_octets};
+ghost use Rattle.krb_der.specs.Writing.{element_size};
 
 use crate::error::DerError;
 use crate::length::be_number;

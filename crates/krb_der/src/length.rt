@@ -1,8 +1,8 @@
 //! The lengths of elements (X.690 sections 8.1.3 and 10.1).
 
 ghost use Rattle.std.specs.Prelude.{◌≡◌, ◌+◌, ◌<◌, ◌≤◌, ◌^◌, ◌++◌, length, OnOk};
-ghost use Rattle.krb_der.specs.Length.{be_value, length_octets};
-ghost use Rattle.krb_der.specs.Reading.{Gives, wide_length_at, length_at};
+ghost use Rattle.krb_der.specs.Length.{length_octets};
+ghost use Rattle.krb_der.specs.Reading.{Gives, be_value, wide_length_at, length_at};
 
 use crate::error::DerError;
 use std::alloc::AllocError;

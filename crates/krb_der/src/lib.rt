@@ -19,12 +19,10 @@ mod integer;
 mod laws;
 mod length;
 mod message;
-mod moment;
 mod private;
 mod reader;
 mod safe;
 mod tag;
-mod time;
 mod typed;
 mod writer;
 
@@ -32,12 +30,14 @@ pub use address::HostAddress;
 pub use body::{Body, decode_part, encode_part, encode_part_behind};
 pub use error::DerError;
 pub use krb_base::Bytes;
+pub use krb_time::{
+    LAST_SECOND, LAST_USEC, MICROS_PER_SECOND, Moment, kerberos_time,
+    kerberos_time_names_its_second, read_kerberos_time,
+};
 pub use laws::{size_laws, unique_spelling};
 pub use message::{Message, decode};
-pub use moment::Moment;
 pub use private::{PrivMsg, encode_priv};
 pub use safe::{Covered, SafeMsg, encode_safe, safe_input, safe_input_around};
-pub use time::{LAST_SECOND, kerberos_time, kerberos_time_names_its_second, read_kerberos_time};
 
 #[cfg(test)]
 mod tests;

@@ -2,7 +2,7 @@ ghost use Rattle.std.specs.Prelude.{◌≡◌, ◌≤◌, ◌+◌, ◌++◌, len
 ghost use Rattle.krb_base.specs.Limits.{frame_limit};
 ghost use Rattle.krb_der.specs.declared.message.Message.TheVariants.{Priv};
 ghost use Rattle.krb_der.specs.Element.{joined};
-ghost use Rattle.krb_der.specs.Body.{IsShort};
+ghost use Rattle.krb_der.specs.Writing.{IsShort};
 ghost use Rattle.krb_der.specs.Private.{IsPrivate, encrypted_data, encrypted_fields, private, private_fields};
 ghost use Rattle.krb_der.specs.Message.{Encodes, Spells, message};
 ghost use Rattle.krb_der.specs.Reading.{Gives, encrypted_of, private_of};

@@ -1,13 +1,14 @@
-ghost use Rattle.std.specs.Prelude.{◌≡◌, ◌<◌, ◌≤◌, ◌+◌, ◌*◌, ◌++◌, [], length, pos, Err, IfOk, IfSome, OnOk, OnErr};
+ghost use Rattle.std.specs.Prelude.{◌≡◌, ◌<◌, ◌≤◌, ◌+◌, ◌*◌, ◌++◌, length, Err, IfOk, IfSome, OnOk, OnErr};
 ghost use Rattle.krb_base.specs.Limits.{frame_limit};
 ghost use Rattle.krb_der.specs.declared.message.Message.TheVariants.{Safe};
 ghost use Rattle.krb_der.specs.Element.{joined};
 ghost use Rattle.krb_der.specs.Integer.{IsInt32};
-ghost use Rattle.krb_der.specs.Time.{IsSecond};
-ghost use Rattle.krb_der.specs.Body.{InRange, IsBody, IsShort, IsShortBody};
-ghost use Rattle.krb_der.specs.Safe.{safe, safe_before_data, safe_behind_data, safe_fields, safe_input, with_checksum};
+ghost use Rattle.krb_time.specs.Time.{IsSecond};
+ghost use Rattle.krb_der.specs.Body.{InRange, IsBody};
+ghost use Rattle.krb_der.specs.Safe.{safe, safe_fields, safe_input, with_checksum, without_checksum};
 ghost use Rattle.krb_der.specs.Message.{Covers, Encodes, Spells, message};
 ghost use Rattle.krb_der.specs.Reading.{Gives, safe_of};
+ghost use Rattle.krb_der.specs.Writing.{IsShort, IsShortBody, safe_before_data, safe_behind_data};
 
 use crate::body::{Body, is_short, read_body};
 use crate::error::DerError;
@@ -237,10 +238,14 @@ pub fn encode_safe(alloc: Global, m: &SafeMsg) -> Result<Vec<u8>, DerError>
 }
 
 /// The bytes under the checksum of the message: its spelling with checksum type 0 and an empty
-/// checksum.
+/// checksum (RFC 4120 section 3.4.1).
+///
+/// [`DerError::TooLong`] is answered exactly where they are over 65,000 bytes, before any memory is
+/// taken.
 pub fn safe_input(alloc: Global, m: &SafeMsg) -> Result<Vec<u8>, DerError>
     requires { InRange m.now.body }
-    ensures { Encodes Spells message (Safe (with_checksum m.now (pos 0) [])) result }
+    ensures input { IfOk result (λ bytes. bytes.items ≡ safe_input m.now) }
+    ensures answer { Encodes Spells message (Safe (without_checksum m.now)) result }
 {
     m.encode_with(alloc, &0, &[])
 }

@@ -4,7 +4,7 @@
 ghost use Rattle.std.specs.Prelude.{◌≡◌, ◌<◌, ◌≤◌, ◌+◌, ◌++◌, length, OnOk};
 ghost use Rattle.krb_der.specs.Element.{joined, tagged};
 ghost use Rattle.krb_der.specs.Typed.{typed_fields, typed_octets};
-ghost use Rattle.krb_der.specs.Body.{IsShort};
+ghost use Rattle.krb_der.specs.Writing.{IsShort};
 ghost use Rattle.krb_der.specs.Reading.{Gives, typed_of};
 
 use crate::error::DerError;

@@ -1,6 +1,6 @@
 ghost use Rattle.std.specs.Prelude.{◌≡◌, ◌+◌, ◌<◌, ◌≤◌, ◌^◌, ◌++◌, [], length, IfOk, OnOk};
-ghost use Rattle.krb_der.specs.Element.{header, element_size, octets, tagged};
-ghost use Rattle.krb_der.specs.Body.{IsShort};
+ghost use Rattle.krb_der.specs.Element.{header, octets, tagged};
+ghost use Rattle.krb_der.specs.Writing.{IsShort, element_size};
 
 use crate::length::{length_size, put_length};
 use crate::tag;

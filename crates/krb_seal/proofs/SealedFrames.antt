@@ -19,7 +19,8 @@ use Rattle.krb_der.specs.declared.message.Message.TheVariants as messages
 use Rattle.krb_der.specs.Tag.{context, application, sequence_tag, octet_string_tag}
 use Rattle.krb_der.specs.Element.{tagged, octets, optional, joined, sequence}
 use Rattle.krb_der.specs.Integer.{integer, natural}
-use Rattle.krb_der.specs.Moment.{moment_of, secs_of, usec_of}
+use Rattle.krb_der.specs.Moment.{micros_per_second, moment_of, secs_of, usec_of}
+use Rattle.krb_der.specs.Address.{same_address}
 use Rattle.krb_der.specs.Body.{part}
 use Rattle.krb_der.specs.Private.{private, private_fields, encrypted_data, encrypted_fields}
 use Rattle.krb_der.specs.Message.{Spells, SpellsPart}
@@ -31,7 +32,7 @@ use Rattle.krb_seal.specs.declared.session.Session.{Session}
 use Rattle.krb_seal.specs.declared.session.Expect.{Expect}
 use Rattle.krb_seal.specs.Keys.{encryption_key, tag_of, encrypted}
 use Rattle.krb_seal.specs.Seals.{safe_checksum, checksum_type, body_of, sealed_safe, sealed_priv, sealed_as, sealed_message, sealed, Seals}
-use Rattle.krb_seal.specs.Opens.{OpenerState, Outcome, Checks, Passes, Read, Decrypt, IsEncryption, OpensPart, OpensText, OpensMessage, opener_of, frame_checks, safe_checks, priv_header, text_checks, body_checks, same_address, receiver_fits, addresses_fit, is_current, is_number, is_safe, distance}
+use Rattle.krb_seal.specs.Opens.{OpenerState, Outcome, Checks, Passes, Read, Decrypt, IsEncryption, OpensPart, OpensText, OpensMessage, opener_of, frame_checks, safe_checks, priv_header, text_checks, body_checks, receiver_fits, addresses_fit, is_current, is_number, is_safe, distance}
 use Rattle.krb_seal.specs.Laws.{ReceiverAgrees, Agree, OneFrame, NowhereElse, AtItsNumber}
 use Rattle.krb_seal.proofs.CipherTexts.{one_text}
 
@@ -190,7 +191,7 @@ addresses_same s x q at now user h = both_true _ _ (address_same s.s_addr x.s_ad
 current_same : (s : Session) (x : Expect) (at now : ℕ) → Agree s x at now → is_current x now (Some (secs_of at)) (Some (usec_of at)) ≡ true
 current_same s x at now h =
     let back : moment_of (secs_of at) (usec_of at) ≡ at = omega arith in
-    le-leb _ _ (subst (λ (z : ℕ). distance now z ≤ 1_000_000 * x.skew) (sym back) h.current)
+    le-leb _ _ (subst (λ (z : ℕ). distance now z ≤ micros_per_second * x.skew) (sym back) h.current)
 
 mode_opens : (mode : Mode) (etype : ℤ) (key : List ℕ) (s : Session) (x : Expect) (q at now : ℕ) (user conf bytes : List ℕ)
     → s.mode ≡ mode → Seals etype key s q user at conf bytes → Agree s x at now

@@ -2,6 +2,7 @@
 use Rattle.std.specs.Prelude.{◌≡◌, ℕ, ◌*◌, ◌≤◌, ◌↔◌, ℤ, List, Option, Some, None, Ok, false}
 use Rattle.krb_aes.specs.Words.{AreBytes}
 use Rattle.krb_der.specs.declared.address.HostAddress.{HostAddress}
+use Rattle.krb_der.specs.Moment.{micros_per_second}
 use Rattle.krb_seal.specs.declared.session.Session.{Session}
 use Rattle.krb_seal.specs.declared.session.Expect.{Expect}
 use Rattle.krb_seal.specs.Seals.{Seals, sealed}
@@ -28,7 +29,7 @@ pub record Agree (s : Session) (x : Expect) (at now : ℕ) : Type 0 where
   pub mode : s.mode ≡ x.mode
   pub sender : s.s_addr ≡ x.s_addr
   pub receiver : ReceiverAgrees x s.r_addr
-  pub current : distance now at ≤ 1_000_000 * x.skew
+  pub current : distance now at ≤ micros_per_second * x.skew
 
 -- whatever an opener with the sealer's key expects, a sealed frame gives nothing but its data, at its own number
 abbrev pub NowhereElse : Type 0

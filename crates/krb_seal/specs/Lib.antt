@@ -9,7 +9,8 @@ pub mod HeldKeys
 pub mod KeysInside
 pub mod Opens
 pub mod Opening
-pub mod Draft
+pub mod Body
+pub mod Checksum
 pub mod SealingInside
 pub mod Unseals
 pub mod Laws

@@ -12,7 +12,8 @@ use Rattle.krb_der.specs.declared.safe.SafeMsg.{SafeMsg}
 use Rattle.krb_der.specs.declared.private.PrivMsg.{PrivMsg}
 use Rattle.krb_der.specs.declared.message.Message.{Message}
 use Rattle.krb_der.specs.declared.message.Message.TheVariants as messages
-use Rattle.krb_der.specs.Moment.{moment_of}
+use Rattle.krb_der.specs.Moment.{micros_per_second, moment_of}
+use Rattle.krb_der.specs.Address.{same_address}
 use Rattle.krb_der.specs.Message.{Spells, SpellsPart}
 use Rattle.krb_seal.specs.declared.session.Mode.{Mode}
 use Rattle.krb_seal.specs.declared.session.Mode.TheVariants.{Safe, Priv}
@@ -37,9 +38,6 @@ Outcome = Result (List ℕ) Refusal
 
 -- ---- the tests
 
-abbrev pub same_address : HostAddress → HostAddress → Bool
-same_address a b = int_eq a.kind b.kind && bytes_eq a.bytes b.bytes
-
 abbrev pub receiver_fits : Expect → Option HostAddress → Bool
 receiver_fits x None = not x.require_r
 receiver_fits x (Some a) = same_address a x.r_addr
@@ -52,7 +50,7 @@ distance a b = (a - b) + (b - a)
 
 -- in whole microseconds, and both ends of the window are current
 abbrev pub is_current : Expect → ℕ → Option ℕ → Option ℕ → Bool
-is_current x now (Some secs) (Some usec) = nat_le (distance now (moment_of secs usec)) (1_000_000 * x.skew)
+is_current x now (Some secs) (Some usec) = nat_le (distance now (moment_of secs usec)) (micros_per_second * x.skew)
 is_current x now None None = not x.expect_time
 is_current x now (Some secs) None = false
 is_current x now None (Some usec) = false

@@ -3,38 +3,30 @@
 ghost use Rattle.std.specs.Prelude.{◌≡◌};
 ghost use Rattle.krb_der.specs.Body.{InRange};
 ghost use Rattle.krb_seal.specs.Etype.{number_of};
-ghost use Rattle.krb_seal.specs.Opens.{addresses_fit, body_checks, is_current, is_number, is_safe, priv_header, receiver_fits, safe_header, same_address};
+ghost use Rattle.krb_seal.specs.Opens.{addresses_fit, body_checks, is_current, is_number, is_safe, priv_header, receiver_fits, safe_header};
 ghost use Rattle.krb_seal.specs.Unseals.{first_unmet, refusal_of};
 
 use crate::etype::Etype;
 use crate::refusal::Refusal;
 use crate::session::{Expect, Mode};
-use krb_der::{Body, HostAddress, PrivMsg, SafeMsg};
+use krb_der::{Body, HostAddress, MICROS_PER_SECOND, PrivMsg, SafeMsg};
 
 /// The fewest bytes of a cipher: a confounder, and the code behind it.
 const LEAST_CIPHER: usize = 28;
-
-const MICROS_PER_SECOND: u64 = 1_000_000;
-
-fn same_address(a: &HostAddress, b: &HostAddress) -> bool
-    ensures { result ≡ same_address a.now b.now }
-{
-    a.kind == b.kind && a.bytes.as_slice() == b.bytes.as_slice()
-}
 
 fn receiver_fits(expect: &Expect, r_addr: &Option<HostAddress>) -> bool
     ensures { result ≡ receiver_fits expect.now r_addr.now }
 {
     match r_addr {
         None => !expect.require_r,
-        Some(address) => same_address(address, &expect.r_addr),
+        Some(address) => address.same(&expect.r_addr),
     }
 }
 
 fn addresses_fit(expect: &Expect, body: &Body) -> bool
     ensures { result ≡ addresses_fit expect.now body.now }
 {
-    same_address(&body.s_addr, &expect.s_addr) && receiver_fits(expect, &body.r_addr)
+    body.s_addr.same(&expect.s_addr) && receiver_fits(expect, &body.r_addr)
 }
 
 fn is_current(expect: &Expect, now: u64, body: &Body) -> bool

@@ -1,19 +1,33 @@
 //! A message and its protection.
 
-ghost use Rattle.std.specs.Prelude.{◌≡◌, ◌≤◌, ◌++◌, false, length, IfOk, OnOk};
+ghost use Rattle.std.specs.Prelude.{◌≡◌, ◌≤◌, ◌+◌, ◌++◌, false, length, IfOk, OnOk};
 ghost use Rattle.krb_der.specs.Body.{InRange, IsBody, part};
 ghost use Rattle.krb_seal.specs.declared.session.Mode.TheVariants.{Safe, Priv};
 ghost use Rattle.krb_aes.specs.Words.{AreBytes};
 ghost use Rattle.krb_seal.specs.Etype.{number_of};
 ghost use Rattle.krb_seal.specs.Seals.{SealsBody, unsigned};
-ghost use Rattle.krb_seal.specs.Draft.{IsSmall};
+ghost use Rattle.krb_seal.specs.Body.{IsSmall, small_part_limit};
 
+use crate::checksum::checksum_of;
 use crate::etype::Etype;
-use crate::keys::Keys;
+use crate::keys::{Keys, TAG_SIZE};
 use crate::limit::within_limit;
 use crate::session::Mode;
-use krb_der::{Body, Bytes, PrivMsg, SafeMsg, encode_part_behind, encode_priv, safe_input_around};
+use krb_der::{Body, Bytes, PrivMsg, SafeMsg, encode_part_behind, encode_priv};
 use std::alloc::{AllocError, Global};
+
+/// The KRB-SAFE that carries a body, before it has its checksum.
+fn unsigned(alloc: Global, etype: Etype, body: Body) -> SafeMsg
+    ensures { result ≡ unsigned (number_of etype) body }
+{
+    SafeMsg {
+        pvno: 5,
+        msg_type: 20,
+        body,
+        cksum_type: etype.checksum_type(),
+        checksum: Bytes::new(Vec::new(alloc)),
+    }
+}
 
 /// The KRB-SAFE of a draft.
 fn safe_frame(
@@ -30,9 +44,7 @@ fn safe_frame(
     ensures { IfOk result (λ frame. SealsBody Safe (number_of etype) keys.now.key confounder
         draft.now.body frame.items) }
 {
-    let around = within_limit(safe_input_around(alloc, draft))?;
-    let data = draft.body.user_data.as_slice();
-    let checksum = keys.checksum(&[&around.before, data, &around.behind]);
+    let checksum = within_limit(checksum_of(alloc, keys, draft))?;
     within_limit(draft.encode_with_checksum(alloc, etype.checksum_type(), &checksum))
 }
 
@@ -48,9 +60,9 @@ fn text_of(alloc: Global, body: &Body, confounder: [u8; 16]) -> Result<Vec<u8>, 
     ensures value { IfOk result (λ text. text.items ≡ confounder ++ part body.now) }
     ensures bytes { IfOk result (λ text. AreBytes text.items) }
     ensures body { OnOk result (IsBody body.now) }
-    ensures short { IfOk result (λ text. length text.items ≤ 60281) }
+    ensures short { IfOk result (λ text. length text.items ≤ length confounder + small_part_limit) }
 {
-    let text = within_limit(encode_part_behind(alloc, confounder, body))?;
+    let text = within_limit(encode_part_behind(alloc, &confounder, body, TAG_SIZE))?;
     known_bytes(&text);
     Ok(text)
 }
@@ -83,24 +95,32 @@ fn priv_frame(
     within_limit(encode_priv(alloc, &message))
 }
 
-/// The message of a draft in a mode.
+/// The message that carries a body in a mode, and the body again.
 pub fn frame_of(
     alloc: Global,
     keys: &Keys,
     etype: Etype,
     mode: Mode,
-    draft: &SafeMsg,
+    body: Body,
     confounder: [u8; 16],
-) -> Result<Vec<u8>, AllocError>
+) -> (Result<Vec<u8>, AllocError>, Body)
     requires live { keys.now.wiped ≡ false }
-    requires draft { draft.now ≡ unsigned (number_of etype) draft.now.body }
-    requires range { InRange draft.now.body }
-    requires small { IsSmall draft.now.body }
-    ensures { IfOk result (λ frame. SealsBody mode (number_of etype) keys.now.key confounder
-        draft.now.body frame.items) }
+    requires range { InRange body }
+    requires small { IsSmall body }
+    ensures frame { IfOk result.0 (λ frame. SealsBody mode (number_of etype) keys.now.key confounder
+        body frame.items) }
+    ensures body { result.1 ≡ body }
 {
     match mode {
-        Mode::Safe => safe_frame(alloc, keys, etype, draft, confounder),
-        Mode::Priv => priv_frame(alloc, keys, etype, &draft.body, confounder),
+        Mode::Safe => {
+            let draft = unsigned(alloc, etype, body);
+            let frame = safe_frame(alloc, keys, etype, &draft, confounder);
+            let SafeMsg { body, .. } = draft;
+            (frame, body)
+        }
+        Mode::Priv => {
+            let frame = priv_frame(alloc, keys, etype, &body, confounder);
+            (frame, body)
+        }
     }
 }

@@ -23,7 +23,7 @@ const PRIV_USAGE: u32 = 13;
 const SAFE_USAGE: u32 = 15;
 
 /// How many bytes a message code has (RFC 3962 section 6).
-const TAG_SIZE: usize = 12;
+pub const TAG_SIZE: usize = 12;
 
 /// A derived key, ready for message codes.
 fn derived_mac_key(base: &CipherKey, usage: u32, tail: u8) -> MacKey

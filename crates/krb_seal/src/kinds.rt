@@ -12,14 +12,29 @@ use crate::session::Session;
 use krb_aes::CipherKey;
 use krb_der::Moment;
 use std::alloc::Global;
-use std::marker::Model;
+use std::marker::{Model, PhantomData};
 
-/// A sealer of encryption type 17, aes128-cts-hmac-sha1-96. Its drop overwrites all its keys.
-pub struct Aes128Sealer {
+/// The mark of encryption type 17.
+#[derive(Clone, Copy)]
+pub struct Aes128;
+
+/// The mark of encryption type 18.
+#[derive(Clone, Copy)]
+pub struct Aes256;
+
+/// A sealer of the encryption type that `E` marks. Its drop overwrites all its keys.
+pub struct AesSealer<E> {
     sealing: Sealing,
+    mark: PhantomData<E>,
 }
 
-impl Model for Aes128Sealer {
+/// A sealer of encryption type 17, aes128-cts-hmac-sha1-96.
+pub type Aes128Sealer = AesSealer<Aes128>;
+
+/// A sealer of encryption type 18, aes256-cts-hmac-sha1-96.
+pub type Aes256Sealer = AesSealer<Aes256>;
+
+impl<E> Model for AesSealer<E> {
     ghost use Rattle.krb_seal.specs.Sealer.{SealerState};
 
     ghost Value = { SealerState };
@@ -27,92 +42,48 @@ impl Model for Aes128Sealer {
     ghost view = { λ a. a.sealing };
 }
 
-impl Aes128Sealer {
+impl AesSealer<Aes128> {
     /// Takes the key: the caller's bytes are zero afterwards. The addresses of the session have at
     /// most 32 bytes each.
-    pub fn new(key: &mut [u8; 16], session: Session) -> Aes128Sealer
+    pub fn new(key: &mut [u8; 16], session: Session) -> AesSealer<Aes128>
         requires { HasShortAddresses session }
         ensures made { result ≡ new_state (pos 17) key.old session }
         ensures taken { key.new ≡ replicate 16 0 }
     {
         let held = CipherKey::from_128(*key);
         *key = [0; 16];
-        Aes128Sealer {
+        AesSealer {
             sealing: Sealing::new(Etype::Aes128, held, session),
+            mark: PhantomData,
         }
     }
 }
 
-impl Drop for Aes128Sealer {
-    fn drop(self) {
-        let Aes128Sealer { sealing } = self;
-        sealing.spend();
-    }
-}
-
-impl Sealer for Aes128Sealer {
-    ghost state = { λ s. s };
-
-    fn etype(&self) -> i32 {
-        self.sealing.etype()
-    }
-
-    fn next(&self) -> u64 {
-        self.sealing.next()
-    }
-
-    fn seal(
-        &mut self,
-        alloc: Global,
-        bytes: &[u8],
-        at: Moment,
-        confounder: [u8; 16],
-    ) -> Result<Vec<u8>, SealError> {
-        self.sealing.seal(alloc, bytes, at, confounder)
-    }
-
-    fn wipe(&mut self) {
-        self.sealing.wipe();
-    }
-}
-
-/// A sealer of encryption type 18, aes256-cts-hmac-sha1-96. Its drop overwrites all its keys.
-pub struct Aes256Sealer {
-    sealing: Sealing,
-}
-
-impl Model for Aes256Sealer {
-    ghost use Rattle.krb_seal.specs.Sealer.{SealerState};
-
-    ghost Value = { SealerState };
-
-    ghost view = { λ a. a.sealing };
-}
-
-impl Aes256Sealer {
+impl AesSealer<Aes256> {
     /// Takes the key: the caller's bytes are zero afterwards. The addresses of the session have at
     /// most 32 bytes each.
-    pub fn new(key: &mut [u8; 32], session: Session) -> Aes256Sealer
+    pub fn new(key: &mut [u8; 32], session: Session) -> AesSealer<Aes256>
         requires { HasShortAddresses session }
         ensures made { result ≡ new_state (pos 18) key.old session }
         ensures taken { key.new ≡ replicate 32 0 }
     {
         let held = CipherKey::from_256(*key);
         *key = [0; 32];
-        Aes256Sealer {
+        AesSealer {
             sealing: Sealing::new(Etype::Aes256, held, session),
+            mark: PhantomData,
         }
     }
 }
 
-impl Drop for Aes256Sealer {
+impl<E> Drop for AesSealer<E> {
     fn drop(self) {
-        let Aes256Sealer { sealing } = self;
+        let AesSealer { sealing, mark: _ } = self;
         sealing.spend();
     }
 }
 
-impl Sealer for Aes256Sealer {
+impl<E> Sealer for AesSealer<E> {
     ghost state = { λ s. s };
 
     fn etype(&self) -> i32 {

@@ -16,9 +16,10 @@
 //! ```
 #![tactic(auto)]
 
+mod body;
 mod boxed;
 mod checks;
-mod draft;
+mod checksum;
 mod etype;
 mod frame;
 mod keys;

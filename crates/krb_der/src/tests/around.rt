@@ -3,10 +3,10 @@ use crate::{encode_part_behind, safe_input_around};
 use std::test::Fail;
 
 #[test]
-fn part_stands_behind_its_confounder(rt: HostRuntime) -> Result<(), Fail> {
+fn part_stands_behind_other_bytes(rt: HostRuntime) -> Result<(), Fail> {
     let m = decode_safe(rt.alloc(), &SAFE)?;
     assert!(rt; m.body.in_range());
-    let text = encode_part_behind(rt.alloc(), [7; 16], &m.body)?;
+    let text = encode_part_behind(rt.alloc(), &[7; 16], &m.body, 12)?;
     assert!(rt; text.starts_with(&[7; 16]) && text.ends_with(&PART));
     assert_eq!(rt; (text.len(), text.capacity()), (73, 85));
     Ok(())

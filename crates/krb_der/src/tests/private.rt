@@ -2,7 +2,7 @@ use super::{
     PART, PRIV, PRIV_WITH_KVNO, SAFE, carries, decode_priv, decode_safe, is_written, priv_spelling,
     repeated, set_text, size,
 };
-use crate::{Body, DerError, HostAddress, decode_part, encode_part, unique_spelling};
+use crate::{Body, DerError, HostAddress, decode_part, encode_part};
 use std::alloc::Global;
 
 /// Whether the bytes spell a message of protocol version 5, kind 21 and encryption type 17 with
@@ -92,9 +92,4 @@ fn what_is_over_the_limit_is_not_written(rt: HostRuntime) {
     assert!(rt; size_with_cipher(rt.alloc(), 65_000 - 39) == Ok(65_000));
     assert!(rt; size_with_cipher(rt.alloc(), 65_000 - 38) == Err(DerError::TooLong));
     assert!(rt; size_of_part_with_text(rt.alloc(), 65_001) == Err(DerError::TooLong));
-}
-
-#[test]
-fn laws_are_there() {
-    unique_spelling();
 }

@@ -2,7 +2,8 @@ use Rattle.std.proofs.Common.{◌≡◌, ◌++◌, ℕ, List, length, refl, sym,
 use Rattle.std.proofs.lemmas.Result.{on_ok_weaker}
 use Rattle.krb_der.specs.Length.{length_octets}
 use Rattle.krb_der.specs.Element.{header, tagged, optional}
-use Rattle.krb_der.specs.Time.{kerberos_time, time}
+use Rattle.krb_time.specs.Time.{kerberos_time}
+use Rattle.krb_der.specs.KerberosTime.{time}
 use Rattle.krb_der.proofs.Writers.{begun}
 use Rattle.krb_der.proofs.body.write_optional_time.Goals as goal
 

@@ -1,7 +1,7 @@
 use Rattle.std.proofs.Common.{arith, subst, ℕ, List}
 use Rattle.std.specs.Prelude.{IsTrue, ◌↔◌}
 use Rattle.krb_der.specs.declared.message.Message.TheVariants.{Priv}
-use Rattle.krb_der.specs.Body.{IsShort}
+use Rattle.krb_der.specs.Writing.{IsShort}
 use Rattle.krb_der.specs.Message.{Spells, message}
 use Rattle.krb_der.proofs.Lengths.{long_priv, memory_only}
 use Rattle.krb_der.proofs.private.encode_priv.Goals as goal

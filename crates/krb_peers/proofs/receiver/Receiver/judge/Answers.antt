@@ -16,7 +16,7 @@ returns-in_err-user_data-clause-verdict c =
     let live : receiver.demand.closed ≡ false = search rules in
     let p = err_from_is_err_and c.from_residual.result c.from_residual.ensures.1 in
     rw (p.1, p.2, ← c.self.view_is)
-    (refused_is receiver c.expected-number.result c.args.now c.args.frame.now c.unseal.result c.in_err-user_data.field-0.0 live c.expected-number.ensures.number c.unseal.ensures c.in_err-user_data.was)
+    (refused_is receiver c.expected-number.result c.args.now c.args.frame.now c.unseal.result c.in_err-user_data.field-0.0 live c.expected-number.ensures.number c.unseal.ensures.answer c.in_err-user_data.was)
 
 pub returns-clause-verdict : goal.returns-clause-verdict
 returns-clause-verdict c =
@@ -24,7 +24,7 @@ returns-clause-verdict c =
     let live : receiver.demand.closed ≡ false = search rules in
     let user = c.in_ok-user_data.user_data in
     let opened : Opens receiver.opener c.expected-number.result c.args.now c.args.frame.now (Ok user.items) =
-    opened_is receiver.opener c.expected-number.result c.args.now c.args.frame.now c.unseal.result user c.unseal.ensures c.in_ok-user_data.was in
+    opened_is receiver.opener c.expected-number.result c.args.now c.args.frame.now c.unseal.result user c.unseal.ensures.answer c.in_ok-user_data.was in
     let spelled : SpellsRecord c.in-Ok.record user.items = search rules in
     elim c.match-record.branch [
       | in-Text w ↦ rw (w.result-is, ← c.self.view_is)
@@ -36,7 +36,7 @@ returns-clause-verdict c =
 pub returns-clause-in_range : goal.returns-clause-in_range
 returns-clause-in_range c =
     let opened : Opens c.self.inside.opener c.expected-number.result c.args.now c.args.frame.now (Ok c.in_ok-user_data.user_data.items) =
-    opened_is c.self.inside.opener c.expected-number.result c.args.now c.args.frame.now c.unseal.result c.in_ok-user_data.user_data c.unseal.ensures c.in_ok-user_data.was in
+    opened_is c.self.inside.opener c.expected-number.result c.args.now c.args.frame.now c.unseal.result c.in_ok-user_data.user_data c.unseal.ensures.answer c.in_ok-user_data.was in
     let small = opens_in_range c.self.inside.opener c.expected-number.result c.args.now c.args.frame.now c.in_ok-user_data.user_data.items opened in
     let same = c.expected-number.ensures.number in
     let P : ReceiverState → Type 0 = λ receiver. receiver.demand.expected ≤ last_number in

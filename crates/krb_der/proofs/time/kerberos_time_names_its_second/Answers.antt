@@ -1,5 +1,0 @@
-use Rattle.krb_der.proofs.Times.{text-named, named-text}
-use Rattle.krb_der.proofs.time.kerberos_time_names_its_second.Goals as goal
-
-pub returns : goal.returns
-returns c = λ s text. (λ h. text-named s text h, named-text s text)

@@ -1,0 +1,57 @@
+-- Aids of the code, and no definitions of the standard: sizes, and the pieces that a spelling is written in.
+-- Private functions alone cite this file; the contracts of the encoders are in the words of Message.antt.
+use Rattle.std.specs.Prelude.{ℕ, ◌+◌, ◌≤◌, pos, List, [], ◌∷◌, ◌++◌, length, IfSome}
+use Rattle.krb_base.specs.Limits.{frame_limit}
+use Rattle.krb_der.specs.declared.body.Body.{Body}
+use Rattle.krb_der.specs.declared.safe.SafeMsg.{SafeMsg}
+use Rattle.krb_der.specs.Tag.{context, application, octet_string_tag, sequence_tag}
+use Rattle.krb_der.specs.Length.{length_octets}
+use Rattle.krb_der.specs.Element.{header, tagged, joined, sequence, optional, octets}
+use Rattle.krb_der.specs.Integer.{integer, natural}
+use Rattle.krb_der.specs.KerberosTime.{time}
+use Rattle.krb_der.specs.Address.{host_address}
+use Rattle.krb_der.specs.Body.{body, body_fields}
+use Rattle.krb_der.specs.Safe.{checksum, safe_fields, without_checksum}
+
+-- ---- sizes
+
+-- how many octets an element has whose content has n
+abbrev pub element_size : ℕ → ℕ
+element_size n = 1 + length (length_octets n) + n
+
+-- no byte string is longer than a message may be
+abbrev pub IsShort : List ℕ → Type 0
+IsShort bytes = length bytes ≤ frame_limit
+
+abbrev pub IsShortBody : Body → Type 0
+IsShortBody b = IsShort b.user_data × IsShort b.s_addr.bytes × IfSome b.r_addr (λ a. IsShort a.bytes)
+
+-- ---- a body, around its data
+
+abbrev pub before_data : Body → List ℕ
+before_data b =
+    header sequence_tag (length (joined (body_fields b)))
+    ++ (header (context 0) (length (octets b.user_data)) ++ header octet_string_tag (length b.user_data))
+
+abbrev pub fields_behind_data : Body → List (List ℕ)
+fields_behind_data b =
+    optional (context 1) time b.time
+    ∷ optional (context 2) natural b.usec
+    ∷ optional (context 3) natural b.seq
+    ∷ tagged (context 4) (host_address b.s_addr)
+    ∷ optional (context 5) host_address b.r_addr
+    ∷ []
+
+-- ---- what is under the checksum of KRB-SAFE, around its data
+
+abbrev pub safe_before_data : SafeMsg → List ℕ
+safe_before_data m =
+    let fields = safe_fields (without_checksum m) in
+    header (application 20) (length (sequence fields))
+    ++ (header sequence_tag (length (joined fields))
+    ++ (tagged (context 0) (integer m.pvno)
+    ++ (tagged (context 1) (integer m.msg_type)
+    ++ (header (context 2) (length (body m.body)) ++ before_data m.body))))
+
+abbrev pub safe_behind_data : SafeMsg → List ℕ
+safe_behind_data m = joined (fields_behind_data m.body) ++ tagged (context 3) (checksum (pos 0) [])

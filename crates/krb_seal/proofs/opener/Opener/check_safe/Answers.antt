@@ -1,0 +1,37 @@
+use Rattle.std.proofs.Common.{Ok, Err, ap, subst, ◌∙◌}
+use Rattle.krb_seal.specs.Etype.{number_of}
+use Rattle.krb_seal.specs.Opens.{OpenerState, Checks, body_checks, opener_of, safe_checks, safe_header}
+use Rattle.krb_seal.specs.Unseals.{Checked, refusal_of}
+use Rattle.krb_seal.specs.declared.refusal.Refusal.TheVariants.{Modified}
+use Rattle.krb_seal.specs.Seals.{safe_checksum}
+use Rattle.krb_seal.proofs.Checking.{refused, refused_later, code_refused, code_passed}
+use Rattle.krb_seal.proofs.Frames.{memory_read, sum_is}
+use Rattle.krb_seal.proofs.opener.Opener.check_safe.Goals as goal
+
+pub within_limit-requires : goal.within_limit-requires
+within_limit-requires c = memory_read c.self.inside.keys.key c.args.m.now c.checksum_of.result c.checksum_of.ensures c.requires.short
+
+pub returns-in_err-check_safe_header : goal.returns-in_err-check_safe_header
+returns-in_err-check_safe_header c =
+    subst (λ (z : OpenerState). Checked (safe_checks z c.args.number c.args.now c.args.m.now) c.from_residual.result) c.self.view_is
+    (refused (safe_header (number_of c.self.inside.etype) c.self.inside.expect c.args.m.now) _ c.check_safe_header.result _ c.from_residual.result c.check_safe_header.ensures c.in_err-check_safe_header.was c.from_residual.ensures.1)
+
+pub returns-in_err-check_body : goal.returns-in_err-check_body
+returns-in_err-check_body c =
+    subst (λ (z : OpenerState). Checked (safe_checks z c.args.number c.args.now c.args.m.now) c.from_residual-in_err-check_body.result) c.self.view_is
+    (refused_later (safe_header (number_of c.self.inside.etype) c.self.inside.expect c.args.m.now) (body_checks c.self.inside.expect c.args.number c.args.now c.args.m.now.body) _ c.check_body.result _ c.from_residual-in_err-check_body.result
+    (c.check_safe_header.ensures ∙ ap refusal_of c.in_ok-check_safe_header.was) c.check_body.ensures c.in_err-check_body.was c.from_residual-in_err-check_body.ensures.1)
+
+pub returns-then-not-mac_equal : goal.returns-then-not-mac_equal
+returns-then-not-mac_equal c =
+    subst (λ (z : OpenerState). Checked (safe_checks z c.args.number c.args.now c.args.m.now) (Err Modified)) c.self.view_is
+    (code_refused (safe_header (number_of c.self.inside.etype) c.self.inside.expect c.args.m.now) (body_checks c.self.inside.expect c.args.number c.args.now c.args.m.now.body) c.args.m.now.checksum (safe_checksum c.self.inside.keys.key c.args.m.now) c.in_ok-checksum.checksum c.mac_equal.result Modified
+    (c.check_safe_header.ensures ∙ ap refusal_of c.in_ok-check_safe_header.was) (c.check_body.ensures ∙ ap refusal_of c.in_ok-check_body.was) (rw c.as_slice.ensures at c.mac_equal.ensures) c.if-not-mac_equal.true
+    (sum_is c.self.inside.keys.key c.args.m.now c.checksum_of.result c.in_ok-checksum.checksum c.checksum_of.ensures c.in_ok-checksum.ensures))
+
+pub returns : goal.returns
+returns c =
+    subst (λ (z : OpenerState). Checked (safe_checks z c.args.number c.args.now c.args.m.now) (Ok tt)) c.self.view_is
+    (code_passed (safe_header (number_of c.self.inside.etype) c.self.inside.expect c.args.m.now) (body_checks c.self.inside.expect c.args.number c.args.now c.args.m.now.body) c.args.m.now.checksum (safe_checksum c.self.inside.keys.key c.args.m.now) c.in_ok-checksum.checksum c.mac_equal.result Modified tt
+    (c.check_safe_header.ensures ∙ ap refusal_of c.in_ok-check_safe_header.was) (c.check_body.ensures ∙ ap refusal_of c.in_ok-check_body.was) (rw c.as_slice.ensures at c.mac_equal.ensures) c.if-not-mac_equal.false
+    (sum_is c.self.inside.keys.key c.args.m.now c.checksum_of.result c.in_ok-checksum.checksum c.checksum_of.ensures c.in_ok-checksum.ensures))

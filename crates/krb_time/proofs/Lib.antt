@@ -1,0 +1,4 @@
+pub mod OptionSteps
+pub mod Calendar
+pub mod Times
+pub mod DateTimes

@@ -1,0 +1,5 @@
+pub mod Steps
+pub mod Calendar
+pub mod Time
+pub mod Reading
+pub mod Moment
