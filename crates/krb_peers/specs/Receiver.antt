@@ -1,6 +1,7 @@
 -- What a receiver answers in code.
-use Rattle.std.specs.Prelude.{◌≡◌, ◌⊎◌, ℕ, Bool, List, Err}
+use Rattle.std.specs.Prelude.{◌≡◌, ◌⊎◌, ◌≤◌, ℕ, Bool, false, List, length, Err}
 use Rattle.krb_seal.specs.declared.refusal.Refusal.TheVariants.{Memory}
+use Rattle.krb_base.specs.Limits.{frame_limit}
 use Rattle.krb_peers.specs.Order.{demand_after, next_demand}
 use Rattle.krb_peers.specs.ReceiverState.{ReceiverState}
 use Rattle.krb_peers.specs.Verdicts.{Verdict, IsVerdict, accepted_by, verdict}
@@ -8,6 +9,10 @@ use Rattle.krb_peers.specs.Verdicts.{Verdict, IsVerdict, accepted_by, verdict}
 -- the verdict on a frame that is taken at a moment, or want of memory
 abbrev pub IsJudgement : ReceiverState → ℕ → List ℕ → Verdict → Type 0
 IsJudgement receiver now frame answer = (answer ≡ Err Memory) ⊎ IsVerdict receiver.opener receiver.demand now frame answer
+
+-- memory is taken for no frame behind a close, and for none over the limit
+abbrev pub TakesMemory : ReceiverState → List ℕ → Type 0
+TakesMemory receiver frame = (receiver.demand.closed ≡ false) × (length frame ≤ frame_limit)
 
 -- the verdict itself
 unfoldable pub verdict_by : ReceiverState → ℕ → List ℕ → Verdict

@@ -6,7 +6,7 @@ ghost use Rattle.krb_peers.specs.Record.{is_close};
 ghost use Rattle.krb_peers.specs.Sender.{moment_at};
 ghost use Rattle.krb_peers.specs.Verdicts.{IsVerdict, record_of};
 ghost use Rattle.krb_peers.specs.Order.{first_demand};
-ghost use Rattle.krb_peers.specs.Receiver.{verdict_by, IsJudgement, receiver_behind, advanced};
+ghost use Rattle.krb_peers.specs.Receiver.{verdict_by, IsJudgement, TakesMemory, receiver_behind, advanced};
 ghost use Rattle.krb_peers.specs.Logged.{noted, MayBeNoted, IsShut, LogsNext};
 
 use crate::delivery::Delivery;
@@ -85,9 +85,11 @@ impl Receiver {
     /// Takes a frame at the moment `now`: what it carries, or the refusal of the first check that
     /// it fails.
     ///
-    /// `Memory` comes where a growth was refused. Each refusal leaves the receiver as it was.
+    /// `Memory` comes where a growth was refused, and for no frame behind a close or over the limit.
+    /// Each refusal leaves the receiver as it was.
     pub fn take(&mut self, alloc: Global, frame: &[u8], now: Moment) -> Result<Delivery, Refusal>
         ensures verdict { IsJudgement self.old now frame.now result }
+        ensures memory { result ≡ Err Refusal.Memory → TakesMemory self.old frame.now }
         ensures behind { self.new ≡ receiver_behind self.old result }
 
         ensures number { OnOk result (self.new.demand.expected ≡ self.old.demand.expected + 1) }
@@ -143,6 +145,7 @@ impl Receiver {
     /// What [`take`](Receiver::take) would answer now. Nothing changes.
     fn judge(&self, alloc: Global, frame: &[u8], now: Moment) -> Result<Delivery, Refusal>
         ensures verdict { IsJudgement self.now now frame.now result }
+        ensures memory { result ≡ Err Refusal.Memory → TakesMemory self.now frame.now }
         ensures in_range { OnOk result (self.now.demand.expected ≤ last_number) }
     {
         if self.order.closed() {
