@@ -1,10 +1,10 @@
 // The words of an expanded key in the forms in which the rounds on vectors take them
 // (specs/Rounds.antt).
 
-ghost use Rattle.std.specs.Prelude.{◌≡◌, ℕ, ◌+◌, ◌*◌, ◌/◌, ◌%◌, ◌<◌, ◌≤◌, List, [], length, map, slice_index_or, bit_xor};
+ghost use Rattle.std.specs.Prelude.{◌≡◌, ℕ, ◌+◌, ◌*◌, ◌/◌, ◌%◌, ◌≤◌, List, length, map};
 ghost use Rattle.krb_aes.specs.Cipher.{sub_bytes};
 ghost use Rattle.krb_aes.specs.InverseCipher.{inv_mix_columns};
-ghost use Rattle.krb_aes.specs.Nibbles.{nibbles_of, bare_nibbles, inv_linear_nibbles, inv_affine_nibbles};
+ghost use Rattle.krb_aes.specs.Nibbles.{bare_nibbles, inv_linear_nibbles, inv_affine_nibbles};
 ghost use Rattle.krb_aes.specs.Rounds.{rows_shifted, columns_raised, round_key, AreRoundKeys, AreInverseRoundKeys};
 
 use crate::inverse_cipher::inv_round_0;
