@@ -1,4 +1,5 @@
--- What KRB-SAFE-BODY (RFC 4120 section 5.6.1) and EncKrbPrivPart (section 5.7.1) carry, field by field.
+-- What KRB-SAFE-BODY (RFC 4120 section 5.6.1) and EncKrbPrivPart (section 5.7.1) carry, field by
+-- field.
 use Rattle.std.specs.Prelude.{ℕ, List, [], ◌∷◌, IfSome}
 use Rattle.krb_der.specs.declared.body.Body.{Body}
 use Rattle.krb_time.specs.Time.{IsSecond}
@@ -33,6 +34,7 @@ pub record IsBody (b : Body) : Type 0 where
   pub s_addr : IsAddress b.s_addr
   pub r_addr : IfSome b.r_addr IsAddress
 
--- The time and the microseconds are in range. The other ranges of a body are those of its numbers' types.
+-- The time and the microseconds are in range. The other ranges of a body are those of its numbers'
+-- types.
 abbrev pub InRange : Body → Type 0
 InRange b = IfSome b.time IsSecond × IfSome b.usec IsMicroseconds

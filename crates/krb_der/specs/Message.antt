@@ -56,8 +56,8 @@ EncodesBehind front b (Err errors.TooLong) = frame_limit < length (part b)
 EncodesBehind front b (Err errors.Malformed) = ⊥
 EncodesBehind front b (Err errors.Memory) = length (part b) ≤ frame_limit
 
--- What writing the bytes under a checksum answers, around the data: with the data between them they are
--- those bytes, within the limit.
+-- What writing the bytes under a checksum answers, around the data: with the data between them
+-- they are those bytes, within the limit.
 abbrev pub Covers : SafeMsg → Result Covered DerError → Type 0
 Covers m (Ok around) =
     (around.before.items ++ (m.body.user_data ++ around.behind.items) ≡ safe_input m)

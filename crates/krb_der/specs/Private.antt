@@ -5,7 +5,8 @@ use Rattle.krb_der.specs.Tag.{context, application}
 use Rattle.krb_der.specs.Element.{tagged, sequence, optional, octets}
 use Rattle.krb_der.specs.Integer.{integer, natural, IsInt32, IsUInt32}
 
--- EncryptedData (RFC 4120 section 5.2.9): SEQUENCE { etype [0] Int32, kvno [1] UInt32 OPTIONAL, cipher [2] OCTET STRING }
+-- EncryptedData (RFC 4120 section 5.2.9): SEQUENCE { etype [0] Int32, kvno [1] UInt32 OPTIONAL,
+-- cipher [2] OCTET STRING }
 abbrev pub encrypted_fields : ℤ → Option ℕ → List ℕ → List (List ℕ)
 encrypted_fields etype kvno cipher =
     tagged (context 0) (integer etype)

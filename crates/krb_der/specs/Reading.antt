@@ -1,6 +1,6 @@
--- Aids of the code, and no definitions of the standard: the value that bytes spell, read from left to right,
--- if they spell one. Private functions alone cite this file; a law ties it to the grammar, and the contracts of
--- `decode` and `decode_part` are in the words of Message.antt.
+-- Aids of the code, and no definitions of the standard: the value that bytes spell, read from left
+-- to right, if they spell one. Private functions alone cite this file; a law ties it to the
+-- grammar, and the contracts of `decode` and `decode_part` are in the words of Message.antt.
 use Rattle.std.specs.Prelude.{◌≡◌, ℕ, ◌+◌, ◌*◌, ◌^◌, Bool, true, false, ℤ, pos, negsuc, List, [], ◌∷◌, length, get_or, take, drop, Option, Some, None, Result, Ok, Err, nat_lt, nat_eq, if◌then◌else◌}
 use Rattle.krb_time.specs.Moment.{last_usec}
 use Rattle.krb_time.specs.Reading.{time_of}

@@ -33,8 +33,8 @@ pub record IsSafe (m : SafeMsg) : Type 0 where
 abbrev pub with_checksum : SafeMsg → ℤ → List ℕ → SafeMsg
 with_checksum m kind bytes = record m { cksum_type = kind; checksum = bytes }
 
--- the message with checksum type 0 and an empty checksum, whose spelling is under the checksum (RFC 4120
--- section 3.4.1)
+-- the message with checksum type 0 and an empty checksum, whose spelling is under the checksum
+-- (RFC 4120 section 3.4.1)
 abbrev pub without_checksum : SafeMsg → SafeMsg
 without_checksum m = with_checksum m (pos 0) []
 

@@ -1,4 +1,5 @@
--- Identifier octets (X.690 section 8.1.2): the class, whether the content is made of elements, and the number.
+-- Identifier octets (X.690 section 8.1.2): the class, whether the content is made of elements, and
+-- the number.
 use Rattle.std.specs.Prelude.{ℕ, ◌+◌}
 
 -- universal tags (X.680 section 8.4)

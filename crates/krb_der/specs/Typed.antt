@@ -1,5 +1,5 @@
--- Bytes with their type, the shape of HostAddress and of Checksum (RFC 4120 sections 5.2.5 and 5.2.9):
--- SEQUENCE { type [0] Int32, bytes [1] OCTET STRING }.
+-- Bytes with their type, the shape of HostAddress and of Checksum (RFC 4120 sections 5.2.5 and
+-- 5.2.9): SEQUENCE { type [0] Int32, bytes [1] OCTET STRING }.
 use Rattle.std.specs.Prelude.{ℕ, ℤ, List, [], ◌∷◌}
 use Rattle.krb_der.specs.Tag.{context}
 use Rattle.krb_der.specs.Element.{tagged, sequence, octets}

@@ -1,5 +1,6 @@
--- Aids of the code, and no definitions of the standard: sizes, and the pieces that a spelling is written in.
--- Private functions alone cite this file; the contracts of the encoders are in the words of Message.antt.
+-- Aids of the code, and no definitions of the standard: sizes, and the pieces that a spelling is
+-- written in. Private functions alone cite this file; the contracts of the encoders are in the
+-- words of Message.antt.
 use Rattle.std.specs.Prelude.{ℕ, ◌+◌, ◌≤◌, pos, List, [], ◌∷◌, ◌++◌, length, IfSome}
 use Rattle.krb_base.specs.Limits.{frame_limit}
 use Rattle.krb_der.specs.declared.body.Body.{Body}

@@ -1,5 +1,6 @@
--- The keys that protect messages, derived from a session key (RFC 3961 section 5.3) with the key usages of
--- RFC 4120 section 7.5.1: 13 for the encrypted part of KRB-PRIV, 15 for the checksum of KRB-SAFE.
+-- The keys that protect messages, derived from a session key (RFC 3961 section 5.3) with the key
+-- usages of RFC 4120 section 7.5.1: 13 for the encrypted part of KRB-PRIV, 15 for the checksum of
+-- KRB-SAFE.
 use Rattle.std.specs.Prelude.{ℕ, List, ◌++◌}
 use Rattle.krb_aes.specs.Stealing.{cts_of}
 use Rattle.krb_keys.specs.Hmac.{hmac96}
@@ -21,7 +22,7 @@ integrity_key key = dk key 13 0x55
 abbrev pub tag_of : List ℕ → List ℕ → List ℕ
 tag_of key text = hmac96 (integrity_key key) text
 
--- encryption (RFC 3961 section 5.3, RFC 3962 section 6): a text that begins with its confounder, enciphered
--- from a state of zeros, and then its code
+-- encryption (RFC 3961 section 5.3, RFC 3962 section 6): a text that begins with its confounder,
+-- enciphered from a state of zeros, and then its code
 abbrev pub encrypted : List ℕ → List ℕ → List ℕ
 encrypted key text = cts_of (encryption_key key) text ++ tag_of key text

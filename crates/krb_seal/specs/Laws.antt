@@ -31,7 +31,8 @@ pub record Agree (s : Session) (x : Expect) (at now : ℕ) : Type 0 where
   pub receiver : ReceiverAgrees x s.r_addr
   pub current : distance now at ≤ micros_per_second * x.skew
 
--- whatever an opener with the sealer's key expects, a sealed frame gives nothing but its data, at its own number
+-- whatever an opener with the sealer's key expects, a sealed frame gives nothing but its data, at
+-- its own number
 abbrev pub NowhereElse : Type 0
 NowhereElse = (etype : ℤ) (key : List ℕ) (s : Session) (x : Expect) (q at now number : ℕ) (user conf bytes given : List ℕ)
     → Seals etype key s q user at conf bytes

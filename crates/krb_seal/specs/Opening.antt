@@ -1,5 +1,5 @@
--- Opening as a function: the same checks, with reading from left to right and stealing undone. The law `one_outcome`
--- says that it is the outcome of `Opens`.
+-- Opening as a function: the same checks, with reading from left to right and stealing undone. The
+-- law `one_outcome` says that it is the outcome of `Opens`.
 use Rattle.std.specs.Prelude.{ℕ, ◌-◌, List, length, take, drop, Option, Some, None, Ok, Err, [], ◌∷◌, if◌then◌else◌}
 use Rattle.krb_aes.specs.Keys.{expanded_key}
 use Rattle.krb_aes.specs.Unstealing.{uncts}

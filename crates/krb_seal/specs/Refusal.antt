@@ -1,4 +1,5 @@
--- The refusals of a frame: numbers and names of RFC 4120 section 7.5.9, and from 901 on this project's own.
+-- The refusals of a frame: numbers and names of RFC 4120 section 7.5.9, and from 901 on this
+-- project's own.
 use Rattle.std.specs.Prelude.{ℕ, List, codes}
 use Rattle.krb_seal.specs.declared.refusal.Refusal.{Refusal}
 use Rattle.krb_seal.specs.declared.refusal.Refusal.TheVariants.{FieldTooLong, Malformed, BadVersion, MsgType, EtypeNoSupp, BadIntegrity, InappCksum, BadAddr, Skew, BadOrder, Modified, BadRecord, AfterClose, Memory}

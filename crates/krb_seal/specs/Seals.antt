@@ -58,8 +58,8 @@ sealed_message etype key s number user at conf = sealed_as s.mode etype key conf
 unfoldable pub sealed : ℤ → List ℕ → Session → ℕ → List ℕ → ℕ → List ℕ → List ℕ
 sealed etype key s number user at conf = message (sealed_message etype key s number user at conf)
 
--- The bytes are the message that carries a body: what goes in is in range, what is enciphered is bytes, and the
--- message is spelt so.
+-- The bytes are the message that carries a body: what goes in is in range, what is enciphered is
+-- bytes, and the message is spelt so.
 pub record SealsBody (mode : Mode) (etype : ℤ) (key conf : List ℕ) (b : Body) (bytes : List ℕ) : Type 0 where
   pub body : IsBody b
   pub confounder : length conf ≡ 16

@@ -1,6 +1,6 @@
 //! The checks of a message, in their order.
 
-ghost use Rattle.std.specs.Prelude.{◌≡◌};
+ghost use Rattle.std.specs.Prelude.{◌≡◌, ◌↔◌, IsTrue};
 ghost use Rattle.krb_der.specs.Body.{InRange};
 ghost use Rattle.krb_seal.specs.Etype.{number_of};
 ghost use Rattle.krb_seal.specs.Opens.{addresses_fit, body_checks, is_current, is_number, is_safe, priv_header, receiver_fits, safe_header};
@@ -10,6 +10,7 @@ use crate::etype::Etype;
 use crate::refusal::Refusal;
 use crate::session::{Expect, Mode};
 use krb_der::{Body, HostAddress, MICROS_PER_SECOND, PrivMsg, SafeMsg};
+use krb_keys::mac_equal;
 
 /// The fewest bytes of a cipher: a confounder, and the code behind it.
 const LEAST_CIPHER: usize = 28;
@@ -95,6 +96,13 @@ pub fn check_priv_header(etype: Etype, expect: &Expect, m: &PrivMsg) -> Result<(
         return Err(Refusal::BadIntegrity);
     }
     Ok(())
+}
+
+/// Whether the message has this checksum.
+pub fn has_checksum(m: &SafeMsg, checksum: &[u8; 12]) -> bool
+    ensures { IsTrue result ↔ (m.now.checksum ≡ checksum.now) }
+{
+    mac_equal(m.checksum.as_slice(), checksum)
 }
 
 /// The addresses, the time and the number of what both kinds carry.

@@ -1,6 +1,6 @@
 //! A session key with the keys derived from it.
 
-ghost use Rattle.std.specs.Prelude.{◌≡◌, ◌≤◌, ◌++◌, false, length};
+ghost use Rattle.std.specs.Prelude.{◌≡◌, ◌↔◌, ◌≤◌, ◌++◌, IsTrue, false, length};
 ghost use Rattle.krb_aes.specs.Keys.{expanded_key};
 ghost use Rattle.krb_aes.specs.Stealing.{cts_of};
 ghost use Rattle.krb_aes.specs.Words.{AreBytes};
@@ -13,7 +13,7 @@ ghost use Rattle.krb_seal.specs.HeldKeys.{fresh_keys, wiped_keys};
 
 use krb_aes::{CipherKey, Schedule, cts_decrypt, cts_encrypt};
 use krb_base::Bytes;
-use krb_keys::{CHECKSUM_TAIL, ENCRYPTION_TAIL, INTEGRITY_TAIL, MacKey, derive};
+use krb_keys::{CHECKSUM_TAIL, ENCRYPTION_TAIL, INTEGRITY_TAIL, MacKey, derive, mac_equal};
 use std::marker::Model;
 
 /// The key usage of the encrypted part of KRB-PRIV (RFC 4120 section 7.5.1).
@@ -142,6 +142,14 @@ impl Keys {
         ensures { result ≡ tag_of self.now.key text.now }
     {
         self.integrity.hmac96(&[text])
+    }
+
+    /// Whether the code is that of a text.
+    pub fn is_tag(&self, tag: &[u8; 12], text: &[u8]) -> bool
+        requires { self.now.wiped ≡ false }
+        ensures { IsTrue result ↔ (tag.now ≡ tag_of self.now.key text.now) }
+    {
+        mac_equal(tag, &self.tag(text))
     }
 
     /// Enciphers a text in place.

@@ -9,7 +9,7 @@ ghost use Rattle.krb_der.specs.Message.{SpellsPart};
 ghost use Rattle.krb_seal.specs.Opens.{Opens, OpensMessage, OpensPart, Read, opener_of, safe_checks};
 ghost use Rattle.krb_seal.specs.Unseals.{Checked, OrMemory};
 
-use crate::checks::{check_body, check_priv_header, check_safe_header};
+use crate::checks::{check_body, check_priv_header, check_safe_header, has_checksum};
 use crate::checksum::checksum_of;
 use crate::etype::Etype;
 use crate::keys::Keys;
@@ -17,10 +17,7 @@ use crate::limit::within_limit;
 use crate::refusal::Refusal;
 use crate::session::Expect;
 use krb_aes::CipherKey;
-use krb_der::{
-    Body, DerError, Message, Moment, PrivMsg, SafeMsg, decode, decode_part,
-};
-use krb_keys::mac_equal;
+use krb_der::{Body, DerError, Message, Moment, PrivMsg, SafeMsg, decode, decode_part};
 use std::alloc::Global;
 use std::marker::Model;
 
@@ -122,7 +119,7 @@ impl Opener {
         check_safe_header(self.etype, &self.expect, m)?;
         check_body(&self.expect, number, now, &m.body)?;
         let checksum = within_limit(checksum_of(alloc, &self.keys, m))?;
-        if !mac_equal(m.checksum.as_slice(), &checksum) {
+        if !has_checksum(m, &checksum) {
             return Err(Refusal::Modified);
         }
         Ok(())
@@ -179,7 +176,7 @@ impl Opener {
         check_priv_header(self.etype, &self.expect, &m)?;
         let PrivMsg { cipher, .. } = m;
         let (text, tag) = self.keys.decrypted(cipher);
-        if !mac_equal(&tag, &self.keys.tag(&text)) {
+        if !self.keys.is_tag(&tag, &text) {
             return Err(Refusal::BadIntegrity);
         }
         self.open_part(alloc, &text[CONFOUNDER_SIZE..], number, now)

@@ -1,4 +1,5 @@
--- Seconds since 1970-01-01T00:00:00 and jiff's datetimes: which date and time of day a second has, and which second they name.
+-- Seconds since 1970-01-01T00:00:00 and jiff's datetimes: which date and time of day a second has,
+-- and which second they name.
 use Rattle.std.proofs.Common.{◌≡◌, ◌⊎◌, inl, inr, ℕ, ◌+◌, ◌*◌, ◌/◌, ◌%◌, ◌^◌, ◌<◌, ◌≤◌, Option, Some, None, Result, Ok, Err, refl, sym, ap, subst, ◌∙◌, arith, ℤ, pos, ◌+ℤ◌, ◌-ℤ◌, ◌*ℤ◌, to_z, of_z, lit≤}
 use Rattle.std.specs.Prelude.{◌↔◌, IsOk, IfOk, int_div}
 use Rattle.std.specs.Int.{Width}
@@ -92,7 +93,8 @@ pub record FindsSecond (q : ℤ) (read : Option ℕ) : Type 0 where
 between : (a b g q : ℤ) (n : ℕ) → a ≡ pos (1_000_000_000 * n) → b ≡ pos 0 → g ≡ a -ℤ b → q ≡ int_div g (pos 1_000_000_000) → q ≡ pos n
 between a b g q n ea eb eg eq = omega (arith, signed_arith)
 
--- a datetime's seconds since the start of 1970, as duration_since and as_secs give them, are what reading its parts finds
+-- a datetime's seconds since the start of 1970, as duration_since and as_secs give them, are what
+-- reading its parts finds
 pub seconds : (dt start : DateTime) (g q : ℤ) (y mo d h mi se : ℕ) → 1970 ≤ y → IsYmd (pos y) (pos mo) (pos d) dt.date → IsHms (pos h) (pos mi) (pos se) (pos 0) dt.time → civil_nanos start ≡ pos 0 → g ≡ civil_nanos dt -ℤ civil_nanos start → q ≡ int_div g (pos 1_000_000_000) → FindsSecond q (second_of y mo d h mi se)
 seconds dt start g q y mo d h mi se low ymd hms zero eg eq =
     let k = counted dt y mo d h mi se low ymd hms in

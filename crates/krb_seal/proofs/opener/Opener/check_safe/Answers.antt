@@ -22,16 +22,16 @@ returns-in_err-check_body c =
     (refused_later (safe_header (number_of c.self.inside.etype) c.self.inside.expect c.args.m.now) (body_checks c.self.inside.expect c.args.number c.args.now c.args.m.now.body) _ c.check_body.result _ c.from_residual-in_err-check_body.result
     (c.check_safe_header.ensures ∙ ap refusal_of c.in_ok-check_safe_header.was) c.check_body.ensures c.in_err-check_body.was c.from_residual-in_err-check_body.ensures.1)
 
-pub returns-then-not-mac_equal : goal.returns-then-not-mac_equal
-returns-then-not-mac_equal c =
+pub returns-then-not-has_checksum : goal.returns-then-not-has_checksum
+returns-then-not-has_checksum c =
     subst (λ (z : OpenerState). Checked (safe_checks z c.args.number c.args.now c.args.m.now) (Err Modified)) c.self.view_is
-    (code_refused (safe_header (number_of c.self.inside.etype) c.self.inside.expect c.args.m.now) (body_checks c.self.inside.expect c.args.number c.args.now c.args.m.now.body) c.args.m.now.checksum (safe_checksum c.self.inside.keys.key c.args.m.now) c.in_ok-checksum.checksum c.mac_equal.result Modified
-    (c.check_safe_header.ensures ∙ ap refusal_of c.in_ok-check_safe_header.was) (c.check_body.ensures ∙ ap refusal_of c.in_ok-check_body.was) (rw c.as_slice.ensures at c.mac_equal.ensures) c.if-not-mac_equal.true
+    (code_refused (safe_header (number_of c.self.inside.etype) c.self.inside.expect c.args.m.now) (body_checks c.self.inside.expect c.args.number c.args.now c.args.m.now.body) c.args.m.now.checksum (safe_checksum c.self.inside.keys.key c.args.m.now) c.in_ok-checksum.checksum c.has_checksum.result Modified
+    (c.check_safe_header.ensures ∙ ap refusal_of c.in_ok-check_safe_header.was) (c.check_body.ensures ∙ ap refusal_of c.in_ok-check_body.was) c.has_checksum.ensures c.if-not-has_checksum.true
     (sum_is c.self.inside.keys.key c.args.m.now c.checksum_of.result c.in_ok-checksum.checksum c.checksum_of.ensures c.in_ok-checksum.ensures))
 
 pub returns : goal.returns
 returns c =
     subst (λ (z : OpenerState). Checked (safe_checks z c.args.number c.args.now c.args.m.now) (Ok tt)) c.self.view_is
-    (code_passed (safe_header (number_of c.self.inside.etype) c.self.inside.expect c.args.m.now) (body_checks c.self.inside.expect c.args.number c.args.now c.args.m.now.body) c.args.m.now.checksum (safe_checksum c.self.inside.keys.key c.args.m.now) c.in_ok-checksum.checksum c.mac_equal.result Modified tt
-    (c.check_safe_header.ensures ∙ ap refusal_of c.in_ok-check_safe_header.was) (c.check_body.ensures ∙ ap refusal_of c.in_ok-check_body.was) (rw c.as_slice.ensures at c.mac_equal.ensures) c.if-not-mac_equal.false
+    (code_passed (safe_header (number_of c.self.inside.etype) c.self.inside.expect c.args.m.now) (body_checks c.self.inside.expect c.args.number c.args.now c.args.m.now.body) c.args.m.now.checksum (safe_checksum c.self.inside.keys.key c.args.m.now) c.in_ok-checksum.checksum c.has_checksum.result Modified tt
+    (c.check_safe_header.ensures ∙ ap refusal_of c.in_ok-check_safe_header.was) (c.check_body.ensures ∙ ap refusal_of c.in_ok-check_body.was) c.has_checksum.ensures c.if-not-has_checksum.false
     (sum_is c.self.inside.keys.key c.args.m.now c.checksum_of.result c.in_ok-checksum.checksum c.checksum_of.ensures c.in_ok-checksum.ensures))

@@ -1,4 +1,5 @@
-use Rattle.std.proofs.Common.{◌≡◌, inr, drop, ap, subst, ◌∙◌}
+use Rattle.std.proofs.Common.{◌≡◌, ◌↔◌, inr, drop, ap, subst, refl, ◌∙◌}
+use Rattle.std.specs.Prelude.{IsTrue}
 use Rattle.std.proofs.lemmas.List.{take_rest}
 use Rattle.krb_seal.specs.Keys.{tag_of}
 use Rattle.krb_seal.specs.Opens.{OpenerState, Decrypt, IsEncryption, OpensText, priv_header}
@@ -20,7 +21,7 @@ returns c =
     let opens = OpensText o c.args.number c.args.now in
     let h = subst (λ (z : OpenerState). first_unmet (priv_header z.etype z.expect c.args.m) ≡ refusal_of c.check_priv_header.result) c.self.view_is c.check_priv_header.ensures in
     let enc = subst (λ (z : OpenerState). IsEncryption z.key c.args.m.cipher text tag) c.self.view_is c.decrypted-text.ensures in
-    let code = subst (λ (z : OpenerState). c.tag.result ≡ tag_of z.key text) c.self.view_is (c.tag.ensures ∙ ap (tag_of c.self.inside.keys.key) c.deref.ensures.value) in
+    let fits = subst (λ (z : OpenerState). IsTrue c.is_tag.result ↔ (tag ≡ tag_of z.key text)) c.self.view_is (rw c.deref.ensures.value at c.is_tag.ensures) in
     all_passed (priv_header o.etype o.expect c.args.m) (Decrypt o.key c.args.m.cipher opens) c.check_priv_header.result _ c.open_part.result (inr h) c.in_ok-check_priv_header.was
     (was_deciphered o.key c.args.m.cipher text tag opens c.open_part.result enc
-    (text_opened o c.args.number c.args.now text tag c.tag.result _ c.mac_equal.result c.open_part.result c.mac_equal.ensures c.if-not-mac_equal.false code (take_rest c.deref-2.result.now 16 ∙ ap (drop 16) c.deref-2.ensures.value) c.open_part.ensures))
+    (text_opened o c.args.number c.args.now text tag (tag_of o.key text) _ c.is_tag.result c.open_part.result fits c.if-not-is_tag.false refl (take_rest c.deref-2.result.now 16 ∙ ap (drop 16) c.deref-2.ensures.value) c.open_part.ensures))
