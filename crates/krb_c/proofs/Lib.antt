@@ -1,0 +1,6 @@
+mod Values
+mod SealerBox
+mod OpenerBox
+mod Pairs
+mod Codes
+mod RoomLemmas
