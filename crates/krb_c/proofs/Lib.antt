@@ -4,3 +4,4 @@ mod OpenerBox
 mod Pairs
 mod Codes
 mod RoomLemmas
+mod Crossing

@@ -14,7 +14,7 @@ use Rattle.krb_c.specs.contracts.any_sealer.AnySealer.{the_row as sealer_row}
 use Rattle.krb_c.specs.contracts.wipeable_opener.WipeableOpener.{the_row as opener_row}
 
 -- the handle of the heap, which has no bytes
-abbrev heap : Global
+abbrev pub heap : Global
 heap = record { memory = record { seal = tt } }
 
 -- the right to free a block

@@ -19,4 +19,6 @@ mod room;
 mod sealer_handle;
 mod sealing;
 mod session;
+#[cfg(test)]
+mod tests;
 mod wipeable_opener;

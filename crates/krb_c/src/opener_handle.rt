@@ -25,6 +25,9 @@ impl Model for KrbOpener {
     ghost also_owns = { λ h. owns_opener h.at h.count h.opener };
 }
 
+/// What it holds may cross threads, so C may hand it to another thread.
+unsafe impl Send for KrbOpener {}
+
 impl KrbOpener {
     /// Holds nothing.
     pub fn none() -> KrbOpener
