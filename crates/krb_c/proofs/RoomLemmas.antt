@@ -14,7 +14,7 @@ use Rattle.krb_seal.specs.declared.session.Mode.TheVariants.{Safe, Priv}
 use Rattle.krb_seal.specs.declared.session.Session.{Session}
 use Rattle.krb_seal.specs.Keys.{encryption_key, integrity_key, encrypted, tag_of, checksum_key}
 use Rattle.krb_seal.specs.Session.{HasShortAddresses, IsShortAddress}
-use Rattle.krb_seal.specs.Seals.{Seals, SealsBody, body_of, sealed_safe, sealed_priv, unsigned}
+use Rattle.krb_seal.specs.Seals.{SealsBody, body_of, sealed_safe, sealed_priv, unsigned}
 use Rattle.krb_der.specs.Safe.{safe_input}
 use Rattle.krb_c.specs.Room.{FitsFrames, frame_room}
 
