@@ -30,7 +30,7 @@
 extern "C" {
 #endif
 
-/* The most bytes of the user data of a message that is sealed, and of any message that is opened. */
+/* The most bytes of user data that are sealed, and of a message that is opened. */
 #define KRB_USER_DATA_LIMIT 60001
 #define KRB_FRAME_LIMIT 65000
 
@@ -159,8 +159,8 @@ void krb_opener_free(struct krb_opener *handle);
 
 /* ---- Messages and answers */
 
-/* Tells what a message says of itself in clear, so that a key can be chosen. Any answer but 0 leaves
- * the header as it was: KRB_FIELD_TOOLONG, KRB_MALFORMED, KRB_MEMORY. */
+/* Tells what a message says of itself in clear, so that a key can be chosen. Any answer but 0
+ * leaves the header as it was: KRB_FIELD_TOOLONG, KRB_MALFORMED, KRB_MEMORY. */
 uint32_t krb_message_header(const uint8_t *frame, size_t len, struct krb_header *header);
 
 /* Writes the name of a refusal, at most 13 bytes, and a zero behind it, and the name's size.

@@ -101,7 +101,8 @@ impl AnySealer {
             × (self.old.next ≡ end_of_numbers)) }
         ensures unchanged { OnErr result (self.new ≡ self.old) }
     {
-        frame_size(bytes.len());
+        // Its law says that the frame fits.
+        let _room = frame_size(bytes.len());
         match &mut self.kind {
             SealerKind::Narrow(sealer) => sealer.seal(alloc, bytes, at, confounder),
             SealerKind::Wide(sealer) => sealer.seal(alloc, bytes, at, confounder),
