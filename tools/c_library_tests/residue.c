@@ -114,10 +114,26 @@ static void no_residue(uint32_t mode, int etype, enum ending how)
     }
 }
 
+/* A block that is freed with its key in it is told by both counts. */
+static void residue_is_told(void)
+{
+    uint8_t *block = malloc(200);
+    CHECK(block != NULL);
+    if (block == NULL)
+        return;
+    memset(block, 0, 200);
+    memcpy(block + 9, key, sizeof key);
+    watch_block(0, block);
+    free(block);
+    CHECK(watch[0].freed == 1 && watch[0].runs == 1 && blocks_with_key == 1);
+    blocks_with_key = 0;
+}
+
 int main(void)
 {
     for (int i = 0; i < 32; i++)
         key[i] = (uint8_t)(0xa0 + i * 5);
+    residue_is_told();
     for (uint32_t mode = KRB_SAFE; mode <= KRB_PRIV; mode++)
         for (int etype = 17; etype <= 18; etype++)
             for (unsigned how = 0; how < ENDINGS; how++)
