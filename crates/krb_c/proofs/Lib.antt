@@ -1,0 +1,7 @@
+mod Values
+mod SealerBox
+mod OpenerBox
+mod Pairs
+mod Codes
+mod RoomLemmas
+mod Crossing

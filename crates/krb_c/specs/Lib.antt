@@ -1,0 +1,10 @@
+pub mod AnySealer
+pub mod Exports
+pub mod Fault
+pub mod Header
+pub mod Held
+pub mod Names
+pub mod Reasons
+pub mod Room
+pub mod Session
+pub mod Wipeable

@@ -1,0 +1,8 @@
+-- What contracts see of an opener that can be wiped.
+use Rattle.std.specs.Prelude.{Bool, true, false, Option, Some, None}
+use Rattle.krb_seal.specs.Opens.{OpenerState}
+
+-- nothing, once it was wiped
+abbrev pub unless_wiped : Bool → OpenerState → Option OpenerState
+unless_wiped true o = None
+unless_wiped false o = Some o

@@ -1,0 +1,24 @@
+//! Sealing and opening of KRB-SAFE and KRB-PRIV messages (RFC 4120) for programs in C:
+//! `krbrelay.h` declares what this library exports, and docs/C.md has a whole program.
+//!
+//! A handle is a struct of the caller's, made of zeros, which then holds a sealer or an opener on
+//! the heap. Each export says of the handle what the function of `krb_seal` says, and each of its
+//! answers comes only where the reason of that answer holds.
+#![tactic(auto)]
+
+mod any_sealer;
+mod buffer;
+mod exports;
+mod fault;
+mod header;
+mod names;
+mod opener_handle;
+mod opening;
+mod parts;
+mod room;
+mod sealer_handle;
+mod sealing;
+mod session;
+#[cfg(test)]
+mod tests;
+mod wipeable_opener;

@@ -1,0 +1,60 @@
+//! Sealers made and used, in Rattle's types.
+
+ghost use Rattle.std.specs.Prelude.{◌≡◌, ◌≤◌, ◌++◌, drop, length, take, IfErr, IfOk, OnOk, OnErr};
+ghost use Rattle.krb_der.specs.Moment.{moment_of};
+ghost use Rattle.krb_seal.specs.Sealer.{SealsNext, advanced, new_state};
+ghost use Rattle.krb_c.specs.Reasons.{NewReason, SealReason};
+ghost use Rattle.krb_c.specs.Session.{IsKey, IsSession, session_of};
+
+use crate::any_sealer::AnySealer;
+use crate::buffer::put_front;
+use crate::fault::Fault;
+use crate::room::frame_size;
+use crate::session::{KrbSession, session};
+use krb_der::Moment;
+use krb_seal::Refusal;
+use std::alloc::Global;
+
+/// A sealer on the heap.
+pub fn new_sealer(
+    alloc: Global,
+    etype: i32,
+    key: &[u8],
+    told: &KrbSession,
+) -> Result<Box<AnySealer>, Fault>
+    ensures made { IfOk result (λ b.
+        b.value ≡ new_state etype key.now (session_of told.now)) }
+    ensures why { IfErr result (NewReason (IsKey etype (length key.now) × IsSession told.now)) }
+{
+    let sealer = AnySealer::new(etype, key, session(alloc, told)?).ok_or(Fault::Argument)?;
+    Box::new(alloc, sealer).map_err(|_| Fault::Refused(Refusal::Memory))
+}
+
+/// Seals into a buffer that has room for the frame of so much user data, and answers the frame's
+/// size. What is behind the frame stays, and the buffer as a whole where nothing is sealed.
+pub fn seal_into(
+    alloc: Global,
+    sealer: &mut AnySealer,
+    user: &[u8],
+    secs: u64,
+    usec: u32,
+    confounder: &[u8; 16],
+    out: &mut [u8],
+) -> Result<usize, Fault>
+    ensures sealed { IfOk result (λ size.
+        SealsNext sealer.old user.now (moment_of secs usec) confounder.now (take size out.new)) }
+    ensures size { IfOk result (λ size. size ≤ length out.new) }
+    ensures behind { IfOk result (λ size. drop size out.new ≡ drop size out.old) }
+    ensures advanced { OnOk result (sealer.new ≡ advanced sealer.old) }
+    ensures unchanged { OnErr result (sealer.new ≡ sealer.old) }
+    ensures kept { OnErr result (out.new ≡ out.old) }
+    ensures why { IfErr result (SealReason sealer.old (length user.now) secs usec (length out.old)) }
+{
+    if out.len() < frame_size(user.len()) {
+        return Err(Fault::Room);
+    }
+    let at = Moment::new(secs, usec).ok_or(Fault::Argument)?;
+    let frame = sealer.seal(alloc, user, at, *confounder)?;
+    put_front(out, &frame);
+    Ok(frame.len())
+}

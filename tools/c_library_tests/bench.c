@@ -1,0 +1,204 @@
+/* Messages a second of ours beside MIT's krb5_mk_* and krb5_rd_*, on one thread, in turns in one
+ * process: bench [SECONDS for each row, 0.3 where none are named].
+ *
+ * Each message is made by one end and read by the other, numbers going on, times checked by both.
+ * Told is the best batch of 32 by the thread's processor time, which is the least disturbed one on
+ * a busy machine. Our confounder comes from MIT's generator, as MIT's does. */
+#include "krbrelay.h"
+#include "session.h"
+
+#include <krb5.h>
+#include <stdio.h>
+#include <stdlib.h>
+#include <string.h>
+#include <time.h>
+
+enum { BATCH = 32, LONGEST = 60000 };
+
+static krb5_context ctx;
+static uint8_t text[LONGEST], frames[BATCH][KRB_FRAME_LIMIT], got[KRB_FRAME_LIMIT];
+static size_t sizes[BATCH];
+static krb5_data mit_frames[BATCH], mit_texts[BATCH];
+
+struct ends {
+    uint32_t mode;
+    int etype;
+    size_t len;
+    struct krb_sealer sealer;
+    struct krb_opener opener;
+    krb5_auth_context sender, receiver;
+};
+
+/* The seconds of a batch, the best so far. */
+struct best { double made, read, mit_made, mit_read, handles; };
+
+static void must(long answer, const char *what)
+{
+    if (answer != 0) {
+        fprintf(stderr, "%s: %ld\n", what, answer);
+        exit(1);
+    }
+}
+
+static double clock_at(clockid_t clock)
+{
+    struct timespec t;
+    clock_gettime(clock, &t);
+    return (double)t.tv_sec + (double)t.tv_nsec * 1e-9;
+}
+
+/* The processor time that the work takes, if it is the least so far. */
+static void measure(double *least, void (*work)(struct ends *), struct ends *e)
+{
+    double start = clock_at(CLOCK_THREAD_CPUTIME_ID), taken;
+    work(e);
+    taken = clock_at(CLOCK_THREAD_CPUTIME_ID) - start;
+    if (taken < *least)
+        *least = taken;
+}
+
+static void make_ours(struct ends *e)
+{
+    for (int i = 0; i < BATCH; i++) {
+        uint8_t confounder[16] = { 0 };
+        krb5_data random = { KV5M_DATA, sizeof confounder, (char *)confounder };
+        struct timespec now;
+        if (e->mode == KRB_PRIV)
+            must(krb5_c_random_make_octets(ctx, &random), "random");
+        clock_gettime(CLOCK_REALTIME, &now);
+        must(krb_sealer_seal(&e->sealer, text, e->len, (uint64_t)now.tv_sec,
+                             (uint32_t)(now.tv_nsec / 1000), confounder, frames[i],
+                             KRB_FRAME_LIMIT, &sizes[i]), "seal");
+    }
+}
+
+static void read_ours(struct ends *e)
+{
+    uint64_t next = 0;
+    size_t size = 0;
+    must(krb_sealer_next(&e->sealer, &next), "next");
+    for (unsigned i = 0; i < BATCH; i++) {
+        struct timespec now;
+        clock_gettime(CLOCK_REALTIME, &now);
+        must(krb_opener_unseal(&e->opener, frames[i], sizes[i], next - BATCH + i,
+                               (uint64_t)now.tv_sec, (uint32_t)(now.tv_nsec / 1000), got,
+                               sizeof got, &size), "unseal");
+    }
+    must(size != e->len || memcmp(got, text, size) != 0, "the text that was read");
+}
+
+static void make_mit(struct ends *e)
+{
+    krb5_data in = { KV5M_DATA, (unsigned)e->len, (char *)text };
+    krb5_replay_data replay;
+    for (int i = 0; i < BATCH; i++)
+        must(e->mode == KRB_SAFE ? krb5_mk_safe(ctx, e->sender, &in, &mit_frames[i], &replay)
+                                 : krb5_mk_priv(ctx, e->sender, &in, &mit_frames[i], &replay),
+             "mk");
+}
+
+static void read_mit(struct ends *e)
+{
+    krb5_replay_data replay;
+    for (int i = 0; i < BATCH; i++)
+        must(e->mode == KRB_SAFE
+                 ? krb5_rd_safe(ctx, e->receiver, &mit_frames[i], &mit_texts[i], &replay)
+                 : krb5_rd_priv(ctx, e->receiver, &mit_frames[i], &mit_texts[i], &replay),
+             "rd");
+}
+
+static void free_mit(struct ends *e)
+{
+    for (int i = 0; i < BATCH; i++) {
+        must(mit_texts[i].length != e->len, "the text that MIT's library read");
+        krb5_free_data_contents(ctx, &mit_frames[i]);
+        krb5_free_data_contents(ctx, &mit_texts[i]);
+    }
+}
+
+static uint8_t key[32];
+
+static void make_handles(struct ends *e)
+{
+    struct krb_session session = session_of(e->mode, 0);
+    for (int i = 0; i < BATCH; i++) {
+        struct krb_sealer once = { 0 };
+        must(krb_sealer_new(&once, e->etype, key, key_size(e->etype), &session), "new");
+        krb_sealer_free(&once);
+    }
+}
+
+static krb5_auth_context mit_end(int etype, uint8_t from, uint8_t to)
+{
+    uint8_t a[4] = { 10, 0, 0, from }, b[4] = { 10, 0, 0, to };
+    krb5_address local = { KV5M_ADDRESS, ADDRTYPE_INET, 4, a };
+    krb5_address remote = { KV5M_ADDRESS, ADDRTYPE_INET, 4, b };
+    krb5_keyblock block = { KV5M_KEYBLOCK, etype, (unsigned)key_size(etype), key };
+    krb5_auth_context c = NULL;
+    must(krb5_auth_con_init(ctx, &c), "auth_con_init");
+    must(krb5_auth_con_setuseruserkey(ctx, c, &block), "setuseruserkey");
+    must(krb5_auth_con_setaddrs(ctx, c, &local, &remote), "setaddrs");
+    must(krb5_auth_con_setflags(ctx, c, KRB5_AUTH_CONTEXT_DO_SEQUENCE | KRB5_AUTH_CONTEXT_DO_TIME),
+         "setflags");
+    return c;
+}
+
+static struct ends ends_of(uint32_t mode, int etype, size_t len)
+{
+    struct ends e = { .mode = mode, .etype = etype, .len = len };
+    struct krb_session session = session_of(mode, 0);
+    struct krb_expect expect = expect_of(mode);
+    must(krb_sealer_new(&e.sealer, etype, key, key_size(etype), &session), "sealer");
+    must(krb_opener_new(&e.opener, etype, key, key_size(etype), &expect), "opener");
+    e.sender = mit_end(etype, 1, 255);
+    e.receiver = mit_end(etype, 255, 1);
+    return e;
+}
+
+static void end_all(struct ends *e)
+{
+    krb_sealer_free(&e->sealer);
+    krb_opener_free(&e->opener);
+    krb5_auth_con_free(ctx, e->sender);
+    krb5_auth_con_free(ctx, e->receiver);
+}
+
+static void row(uint32_t mode, int etype, size_t len, double seconds)
+{
+    struct ends e = ends_of(mode, etype, len);
+    struct best b = { 1e9, 1e9, 1e9, 1e9, 1e9 };
+    double start = clock_at(CLOCK_MONOTONIC);
+    while (clock_at(CLOCK_MONOTONIC) - start < seconds) {
+        measure(&b.made, make_ours, &e);
+        measure(&b.read, read_ours, &e);
+        measure(&b.mit_made, make_mit, &e);
+        measure(&b.mit_read, read_mit, &e);
+        free_mit(&e);
+        measure(&b.handles, make_handles, &e);
+    }
+    printf("%s %d %6zu  %9.0f %9.0f  %9.0f %9.0f  %5.2f %5.2f  %9.0f\n",
+           mode == KRB_SAFE ? "safe" : "priv", etype, len, BATCH / b.made, BATCH / b.read,
+           BATCH / b.mit_made, BATCH / b.mit_read, b.mit_made / b.made, b.mit_read / b.read,
+           BATCH / b.handles);
+    fflush(stdout);
+    end_all(&e);
+}
+
+int main(int argc, char **argv)
+{
+    static const size_t lengths[] = { 64, 1024, LONGEST };
+    double seconds = argc > 1 ? atof(argv[1]) : 0.3;
+    setenv("KRB5_CONFIG", "/dev/null", 1);
+    must(krb5_init_context(&ctx), "init_context");
+    memset(text, 0x5a, sizeof text);
+    for (int i = 0; i < 32; i++)
+        key[i] = (uint8_t)i;
+    puts("Messages a second of one thread: ours, MIT's, and ours over MIT's.");
+    puts("mode ty  bytes       made      read   MIT made  MIT read   made  read  new+free");
+    for (uint32_t mode = KRB_SAFE; mode <= KRB_PRIV; mode++)
+        for (int etype = 17; etype <= 18; etype++)
+            for (int i = 0; i < 3; i++)
+                row(mode, etype, lengths[i], seconds);
+    krb5_free_context(ctx);
+    return 0;
+}

@@ -1,0 +1,90 @@
+/* Each allocation refused in turn: a call answers want of memory and leaves its handle usable, and
+ * the next call succeeds. Built with -Wl,--wrap=malloc -Wl,--wrap=realloc. */
+#include "check.h"
+#include "krbrelay.h"
+#include "session.h"
+
+#include <stdlib.h>
+#include <string.h>
+
+/* How many allocations come before the one that is refused; below 0 none is. */
+static long before_refusal = -1;
+
+void *__real_malloc(size_t size);
+void *__real_realloc(void *block, size_t size);
+void *__wrap_malloc(size_t size);
+void *__wrap_realloc(void *block, size_t size);
+
+static int is_refused(void) { return before_refusal >= 0 && before_refusal-- == 0; }
+
+void *__wrap_malloc(size_t size) { return is_refused() ? NULL : __real_malloc(size); }
+
+void *__wrap_realloc(void *block, size_t size)
+{
+    return is_refused() ? NULL : __real_realloc(block, size);
+}
+
+static uint8_t frame[KRB_FRAME_LIMIT], text[64];
+static const uint8_t confounder[16], key[32] = { 1, 2, 3 };
+static int refused;
+
+/* One session whose allocation number `at` is refused. Answers whether one was. */
+static int session_with_refusal(uint32_t mode, int etype, long at)
+{
+    struct krb_session session = session_of(mode, 7);
+    struct krb_expect expect = expect_of(mode);
+    struct krb_sealer s = { 0 };
+    struct krb_opener o = { 0 };
+    struct krb_header header;
+    size_t n = 0, m = 0, len = key_size(etype);
+    uint64_t next = 0;
+    int met = refused;
+    uint32_t answer;
+    session.has_r = 1;
+    before_refusal = at;
+    if ((answer = krb_sealer_new(&s, etype, key, len, &session)) != KRB_OK) {
+        refused++;
+        CHECK(answer == KRB_MEMORY && krb_sealer_next(&s, &next) == KRB_EMPTY);
+        CHECK(krb_sealer_new(&s, etype, key, len, &session) == KRB_OK);
+    }
+    if ((answer = krb_opener_new(&o, etype, key, len, &expect)) != KRB_OK) {
+        refused++;
+        CHECK(answer == KRB_MEMORY);
+        CHECK(krb_opener_new(&o, etype, key, len, &expect) == KRB_OK);
+    }
+    answer = krb_sealer_seal(&s, key, 20, SECS, USEC, confounder, frame, sizeof frame, &n);
+    if (answer != KRB_OK) {
+        refused++;
+        CHECK(answer == KRB_SEAL_MEMORY && n == 0);
+        CHECK(krb_sealer_next(&s, &next) == KRB_OK && next == 7);
+        CHECK(krb_sealer_seal(&s, key, 20, SECS, USEC, confounder, frame, sizeof frame, &n) == 0);
+    }
+    if ((answer = krb_message_header(frame, n, &header)) != KRB_OK) {
+        refused++;
+        CHECK(answer == KRB_MEMORY && krb_message_header(frame, n, &header) == KRB_OK);
+    }
+    answer = krb_opener_unseal(&o, frame, n, 7, SECS, USEC, text, sizeof text, &m);
+    if (answer != KRB_OK) {
+        refused++;
+        CHECK(answer == KRB_MEMORY && m == 0);
+        CHECK(krb_opener_unseal(&o, frame, n, 7, SECS, USEC, text, sizeof text, &m) == KRB_OK);
+    }
+    CHECK(m == 20 && memcmp(text, key, 20) == 0);
+    before_refusal = -1;
+    krb_sealer_free(&s);
+    krb_opener_free(&o);
+    return refused > met;
+}
+
+int main(void)
+{
+    for (int etype = 17; etype <= 18; etype++)
+        for (uint32_t mode = KRB_SAFE; mode <= KRB_PRIV; mode++) {
+            long at = 0;
+            while (session_with_refusal(mode, etype, at))
+                at++;
+            CHECK(at >= 8);
+        }
+    printf("memory: %d refused allocations, each answered\n", refused);
+    return check_status("memory");
+}

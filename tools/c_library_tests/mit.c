@@ -1,0 +1,301 @@
+/* A session that MIT's library opens, by its AP exchange (RFC 4120 section 3.2), and whose messages
+ * ours and MIT's library exchange in all directions. Keys, addresses and numbers are those of MIT's
+ * auth context, by its public calls: so a program can keep MIT's exchange and use ours for its
+ * messages. No KDC is asked: the ticket is made here, under a service key made here. */
+#include "check.h"
+#include "krbrelay.h"
+
+#include <krb5.h>
+#include <stdlib.h>
+#include <string.h>
+#include <time.h>
+
+/* libkrb5 exports these, and krb5.h doesn't declare them. */
+krb5_error_code krb5_encrypt_tkt_part(krb5_context, const krb5_keyblock *, krb5_ticket *);
+krb5_error_code encode_krb5_ticket(const krb5_ticket *, krb5_data **);
+void krb5_free_address(krb5_context, krb5_address *);
+
+static krb5_context ctx;
+
+/* Ends the program where MIT's library fails in the exchange. */
+static void must(krb5_error_code error, const char *what)
+{
+    if (error == 0)
+        return;
+    printf("%s: %s\n", what, krb5_get_error_message(ctx, error));
+    exit(2);
+}
+
+/* One end: MIT's auth context, and ours made of it. */
+struct end {
+    krb5_auth_context mit;
+    struct krb_sealer sealer;
+    struct krb_opener opener;
+    uint64_t expected;
+};
+
+static uint8_t client_bytes[4] = { 10, 0, 0, 1 }, server_bytes[4] = { 10, 0, 0, 255 };
+static krb5_address client_address = { KV5M_ADDRESS, ADDRTYPE_INET, 4, client_bytes };
+static krb5_address server_address = { KV5M_ADDRESS, ADDRTYPE_INET, 4, server_bytes };
+
+/* ---- the exchange, by MIT's library alone */
+
+static krb5_principal principal(const char *name)
+{
+    krb5_principal p;
+    must(krb5_parse_name(ctx, name, &p), "parse_name");
+    return p;
+}
+
+/* A ticket for the session key, under the service's key. */
+static void make_ticket(krb5_creds *creds, const krb5_keyblock *service_key)
+{
+    krb5_enc_tkt_part part = { .magic = KV5M_ENC_TKT_PART, .flags = TKT_FLG_INITIAL };
+    krb5_ticket ticket = { .magic = KV5M_TICKET, .server = creds->server, .enc_part2 = &part };
+    krb5_data *spelt;
+    part.session = &creds->keyblock;
+    part.client = creds->client;
+    part.times = creds->times;
+    part.transited.tr_type = 1;
+    must(krb5_encrypt_tkt_part(ctx, service_key, &ticket), "encrypt_tkt_part");
+    must(encode_krb5_ticket(&ticket, &spelt), "encode_ticket");
+    creds->ticket = *spelt;
+    free(spelt);
+    krb5_free_data_contents(ctx, &ticket.enc_part.ciphertext);
+}
+
+static krb5_keytab keytab_of(const char *name, krb5_principal service, const krb5_keyblock *key)
+{
+    krb5_keytab keytab;
+    krb5_keytab_entry entry = { .magic = KV5M_KEYTAB_ENTRY, .principal = service, .vno = 0 };
+    entry.key = *key;
+    must(krb5_kt_resolve(ctx, name, &keytab), "kt_resolve");
+    must(krb5_kt_add_entry(ctx, keytab, &entry), "kt_add_entry");
+    return keytab;
+}
+
+static krb5_auth_context context_of(krb5_address *local, krb5_address *remote)
+{
+    krb5_auth_context c;
+    must(krb5_auth_con_init(ctx, &c), "auth_con_init");
+    must(krb5_auth_con_setflags(ctx, c, KRB5_AUTH_CONTEXT_DO_SEQUENCE | KRB5_AUTH_CONTEXT_DO_TIME),
+         "setflags");
+    must(krb5_auth_con_setaddrs(ctx, c, local, remote), "setaddrs");
+    return c;
+}
+
+/* AP-REQ with a sub-session key of the client, and AP-REP. */
+static void exchange(krb5_enctype etype, krb5_auth_context *client, krb5_auth_context *server)
+{
+    krb5_creds creds = { .magic = KV5M_CREDS };
+    krb5_keyblock service_key;
+    krb5_data request, reply;
+    krb5_ap_rep_enc_part *part;
+    krb5_keytab keytab;
+    char name[32];
+    creds.client = principal("alice@EXAMPLE.COM");
+    creds.server = principal("relay/host@EXAMPLE.COM");
+    creds.times.authtime = creds.times.starttime = (krb5_timestamp)time(NULL);
+    creds.times.endtime = creds.times.authtime + 3600;
+    must(krb5_c_make_random_key(ctx, etype, &creds.keyblock), "random key");
+    must(krb5_c_make_random_key(ctx, ENCTYPE_AES256_CTS_HMAC_SHA1_96, &service_key), "random key");
+    make_ticket(&creds, &service_key);
+    snprintf(name, sizeof name, "MEMORY:%d", (int)etype);
+    keytab = keytab_of(name, creds.server, &service_key);
+    *client = context_of(&client_address, &server_address);
+    *server = context_of(&server_address, &client_address);
+    must(krb5_mk_req_extended(ctx, client, AP_OPTS_USE_SUBKEY | AP_OPTS_MUTUAL_REQUIRED, NULL,
+                              &creds, &request), "mk_req");
+    must(krb5_rd_req(ctx, server, &request, creds.server, keytab, NULL, NULL), "rd_req");
+    must(krb5_mk_rep(ctx, *server, &reply), "mk_rep");
+    must(krb5_rd_rep(ctx, *client, &reply, &part), "rd_rep");
+    krb5_free_ap_rep_enc_part(ctx, part);
+    krb5_free_data_contents(ctx, &request);
+    krb5_free_data_contents(ctx, &reply);
+    krb5_kt_close(ctx, keytab);
+    krb5_free_keyblock_contents(ctx, &service_key);
+    krb5_free_cred_contents(ctx, &creds);
+}
+
+/* ---- ours, of MIT's auth context */
+
+static struct krb_address address_of(const krb5_address *mit)
+{
+    struct krb_address a = { .kind = mit->addrtype, .len = mit->length };
+    CHECK(mit->length <= sizeof a.bytes);
+    memcpy(a.bytes, mit->contents, mit->length);
+    return a;
+}
+
+/* A sealer that goes on where MIT's end would send. */
+static void sealer_of(struct end *e, uint32_t mode)
+{
+    struct krb_session session = { .mode = mode };
+    krb5_address *local = NULL, *remote = NULL;
+    krb5_int32 number = 0;
+    krb5_keyblock *key = NULL;
+    must(krb5_auth_con_getaddrs(ctx, e->mit, &local, &remote), "getaddrs");
+    must(krb5_auth_con_getlocalseqnumber(ctx, e->mit, &number), "getlocalseqnumber");
+    must(krb5_auth_con_getsendsubkey(ctx, e->mit, &key), "getsendsubkey");
+    CHECK(key != NULL);
+    session.first = (uint32_t)number;
+    session.s_addr = address_of(local);
+    session.r_addr = address_of(remote);
+    CHECK(krb_sealer_new(&e->sealer, key->enctype, key->contents, key->length, &session) == 0);
+    krb5_free_keyblock(ctx, key);
+    krb5_free_address(ctx, local);
+    krb5_free_address(ctx, remote);
+}
+
+/* An opener that goes on where MIT's end would receive, and the number that it demands first. */
+static void opener_of(struct end *e, uint32_t mode)
+{
+    struct krb_expect expect = { .mode = mode, .expect_time = 1, .skew = 300 };
+    krb5_address *local = NULL, *remote = NULL;
+    krb5_int32 number = 0;
+    krb5_keyblock *key = NULL;
+    must(krb5_auth_con_getaddrs(ctx, e->mit, &local, &remote), "getaddrs");
+    must(krb5_auth_con_getremoteseqnumber(ctx, e->mit, &number), "getremoteseqnumber");
+    must(krb5_auth_con_getrecvsubkey(ctx, e->mit, &key), "getrecvsubkey");
+    CHECK(key != NULL);
+    e->expected = (uint32_t)number;
+    expect.s_addr = address_of(remote);
+    expect.r_addr = address_of(local);
+    CHECK(krb_opener_new(&e->opener, key->enctype, key->contents, key->length, &expect) == 0);
+    krb5_free_keyblock(ctx, key);
+    krb5_free_address(ctx, local);
+    krb5_free_address(ctx, remote);
+}
+
+static void ours_of(struct end *e, uint32_t mode)
+{
+    sealer_of(e, mode);
+    opener_of(e, mode);
+}
+
+/* ---- messages */
+
+static uint8_t frame[KRB_FRAME_LIMIT], text[KRB_FRAME_LIMIT], sent[60000];
+
+static void read_clock(uint64_t *secs, uint32_t *usec)
+{
+    struct timespec now;
+    clock_gettime(CLOCK_REALTIME, &now);
+    *secs = (uint64_t)now.tv_sec;
+    *usec = (uint32_t)(now.tv_nsec / 1000);
+}
+
+static size_t our_frame(struct end *e, size_t len)
+{
+    uint8_t confounder[16];
+    krb5_data random = { KV5M_DATA, sizeof confounder, (char *)confounder };
+    uint64_t secs;
+    uint32_t usec;
+    size_t size = 0;
+    must(krb5_c_random_make_octets(ctx, &random), "random");
+    read_clock(&secs, &usec);
+    CHECK(krb_sealer_seal(&e->sealer, sent, len, secs, usec, confounder, frame,
+                          krb_frame_size(len), &size) == KRB_OK);
+    return size;
+}
+
+static uint32_t open_ours(struct end *e, size_t len, size_t *size)
+{
+    uint64_t secs;
+    uint32_t usec;
+    read_clock(&secs, &usec);
+    return krb_opener_unseal(&e->opener, frame, len, e->expected, secs, usec, text, sizeof text,
+                             size);
+}
+
+/* Ours reads the frame, at its own number alone, and unchanged alone. */
+static void ours_reads(struct end *to, uint32_t mode, size_t size, size_t len)
+{
+    uint32_t changed = mode == KRB_SAFE ? KRB_MODIFIED : KRB_BAD_INTEGRITY;
+    size_t back = 0;
+    to->expected++;
+    CHECK(open_ours(to, size, &back) == KRB_BADORDER);
+    to->expected--;
+    frame[size - 1] ^= 1;
+    CHECK(open_ours(to, size, &back) == changed);
+    frame[size - 1] ^= 1;
+    CHECK(open_ours(to, size, &back) == KRB_OK);
+    CHECK(back == len && memcmp(text, sent, len) == 0);
+    to->expected++;
+}
+
+static void ours_to_mit(struct end *from, struct end *to, uint32_t mode, size_t len)
+{
+    size_t size = our_frame(from, len);
+    krb5_data in = { KV5M_DATA, (unsigned)size, (char *)frame }, out = { 0 };
+    krb5_replay_data replay;
+    krb5_error_code error = mode == KRB_SAFE ? krb5_rd_safe(ctx, to->mit, &in, &out, &replay)
+                                             : krb5_rd_priv(ctx, to->mit, &in, &out, &replay);
+    CHECK(error == 0);
+    CHECK(error != 0 || (out.length == len && memcmp(out.data, sent, len) == 0));
+    krb5_free_data_contents(ctx, &out);
+}
+
+static void mit_to_ours(struct end *from, struct end *to, uint32_t mode, size_t len)
+{
+    krb5_data in = { KV5M_DATA, (unsigned)len, (char *)sent }, out = { 0 };
+    krb5_replay_data replay;
+    struct krb_header header;
+    size_t size;
+    must(mode == KRB_SAFE ? krb5_mk_safe(ctx, from->mit, &in, &out, &replay)
+                          : krb5_mk_priv(ctx, from->mit, &in, &out, &replay), "mk");
+    size = out.length;
+    memcpy(frame, out.data, size);
+    krb5_free_data_contents(ctx, &out);
+    CHECK(krb_message_header(frame, size, &header) == KRB_OK && header.kind == mode);
+    CHECK(mode == KRB_PRIV || (header.has_number && header.number == to->expected));
+    ours_reads(to, mode, size, len);
+}
+
+static void ours_to_ours(struct end *from, struct end *to, uint32_t mode, size_t len)
+{
+    ours_reads(to, mode, our_frame(from, len), len);
+}
+
+/* What one end of a new session sends the other: first by one library, then read by another. */
+static void one_way(krb5_enctype etype, uint32_t mode, int from_server, int who)
+{
+    static const size_t sizes[] = { 0, 1, 15, 16, 17, 64, 1024, 60000 };
+    struct end client = { 0 }, server = { 0 };
+    struct end *from = from_server ? &server : &client, *to = from_server ? &client : &server;
+    exchange(etype, &client.mit, &server.mit);
+    ours_of(&client, mode);
+    ours_of(&server, mode);
+    for (size_t i = 0; i < sizeof sizes / sizeof sizes[0]; i++) {
+        if (who == 0)
+            ours_to_mit(from, to, mode, sizes[i]);
+        else if (who == 1)
+            mit_to_ours(from, to, mode, sizes[i]);
+        else
+            ours_to_ours(from, to, mode, sizes[i]);
+    }
+    krb_sealer_free(&client.sealer);
+    krb_opener_free(&client.opener);
+    krb_sealer_free(&server.sealer);
+    krb_opener_free(&server.opener);
+    krb5_auth_con_free(ctx, client.mit);
+    krb5_auth_con_free(ctx, server.mit);
+}
+
+int main(void)
+{
+    /* The service keeps no file of the requests that it read. */
+    setenv("KRB5RCACHENAME", "none:", 1);
+    setenv("KRB5_CONFIG", "/dev/null", 1);
+    if (krb5_init_context(&ctx) != 0)
+        return 2;
+    for (size_t i = 0; i < sizeof sent; i++)
+        sent[i] = (uint8_t)(i * 7 + i / 256);
+    for (krb5_enctype etype = 17; etype <= 18; etype++)
+        for (uint32_t mode = KRB_SAFE; mode <= KRB_PRIV; mode++)
+            for (int from_server = 0; from_server < 2; from_server++)
+                for (int who = 0; who < 3; who++)
+                    one_way(etype, mode, from_server, who);
+    krb5_free_context(ctx);
+    return check_status("mit");
+}

@@ -1,0 +1,145 @@
+/* No block that is freed holds a key: neither the bytes of the session key nor, of the block of a
+ * handle, eight bytes in a row of what it held while it was in use. Handles end in either order, by
+ * free, after a wipe, and by a new key in their place. Built with -Wl,--wrap=free. */
+#define _GNU_SOURCE
+#include "check.h"
+#include "krbrelay.h"
+#include "session.h"
+
+#include <malloc.h>
+#include <stdlib.h>
+#include <string.h>
+
+enum { RUN = 8 };
+
+static uint8_t key[32];
+/* The block of a handle in use, and how many runs of its bytes stood in it when it was freed. */
+struct watched { const void *block; uint8_t bytes[2048]; size_t size; int freed, runs; };
+static struct watched watch[2];
+static int blocks_with_key, blocks_freed;
+
+void __real_free(void *block);
+void __wrap_free(void *block);
+
+/* How many runs of RUN bytes that aren't zero are the same in both. */
+static int same_runs(const uint8_t *a, const uint8_t *b, size_t size)
+{
+    int runs = 0, length = 0;
+    for (size_t i = 0; i < size; i++) {
+        length = a[i] == b[i] && a[i] != 0 ? length + 1 : 0;
+        runs += length == RUN;
+    }
+    return runs;
+}
+
+void __wrap_free(void *block)
+{
+    if (block != NULL) {
+        size_t size = malloc_usable_size(block);
+        blocks_freed++;
+        if (memmem(block, size, key, 16) || memmem(block, size, key + 16, 16))
+            blocks_with_key++;
+        for (int i = 0; i < 2; i++)
+            if (watch[i].block == block) {
+                watch[i].freed++;
+                watch[i].runs = same_runs(watch[i].bytes, block, watch[i].size);
+            }
+    }
+    __real_free(block);
+}
+
+/* Keeps what the block of a handle holds, in which its key must stand. */
+static void watch_block(int i, void *block)
+{
+    watch[i].block = block;
+    watch[i].size = malloc_usable_size(block);
+    watch[i].freed = 0;
+    watch[i].runs = 0;
+    CHECK(watch[i].size <= sizeof watch[i].bytes);
+    memcpy(watch[i].bytes, block, watch[i].size);
+    CHECK(memmem(block, watch[i].size, key, 16) != NULL);
+}
+
+enum ending { FREE_SEALER_FIRST, FREE_OPENER_FIRST, WIPE_BEFORE_FREE, NEW_KEY, REFUSED_NEW, ENDINGS };
+
+static void end_both(struct krb_sealer *s, struct krb_opener *o, enum ending how, uint32_t mode)
+{
+    static const uint8_t other[32] = { 9, 8, 7, 6, 5, 4, 3, 2, 1 };
+    struct krb_session session = session_of(mode, 7);
+    struct krb_expect expect = expect_of(mode);
+    if (how == FREE_OPENER_FIRST) {
+        krb_opener_free(o);
+        CHECK(watch[1].freed == 1 && watch[0].freed == 0);
+    }
+    if (how == WIPE_BEFORE_FREE) {
+        krb_sealer_wipe(s);
+        krb_opener_wipe(o);
+        for (int i = 0; i < 2; i++)
+            CHECK(same_runs(watch[i].bytes, watch[i].block, watch[i].size) == 0);
+        CHECK(watch[0].freed == 0 && watch[1].freed == 0);
+    }
+    if (how == NEW_KEY) {
+        CHECK(krb_sealer_new(s, 17, other, 16, &session) == KRB_OK);
+        CHECK(krb_opener_new(o, 17, other, 16, &expect) == KRB_OK);
+        CHECK(watch[0].freed == 1 && watch[1].freed == 1);
+    }
+    if (how == REFUSED_NEW) {
+        CHECK(krb_sealer_new(s, 17, other, 17, &session) == KRB_ARGUMENT);
+        CHECK(krb_opener_new(o, 17, other, 17, &expect) == KRB_ARGUMENT);
+        CHECK(watch[0].freed == 1 && watch[1].freed == 1);
+    }
+    krb_sealer_free(s);
+    krb_opener_free(o);
+}
+
+static void no_residue(uint32_t mode, int etype, enum ending how)
+{
+    static uint8_t frame[KRB_FRAME_LIMIT], text[KRB_FRAME_LIMIT];
+    static const uint8_t confounder[16];
+    struct krb_session session = session_of(mode, 7);
+    struct krb_expect expect = expect_of(mode);
+    struct krb_sealer s = { 0 };
+    struct krb_opener o = { 0 };
+    size_t n = 0, m = 0;
+    CHECK(krb_sealer_new(&s, etype, key, key_size(etype), &session) == KRB_OK);
+    CHECK(krb_opener_new(&o, etype, key, key_size(etype), &expect) == KRB_OK);
+    watch_block(0, s.at);
+    watch_block(1, o.at);
+    CHECK(krb_sealer_seal(&s, frame, 50, SECS, USEC, confounder, frame + 100, 60000, &n) == 0);
+    CHECK(krb_opener_unseal(&o, frame + 100, n, 7, SECS, USEC, text, sizeof text, &m) == 0);
+    end_both(&s, &o, how, mode);
+    for (int i = 0; i < 2; i++) {
+        CHECK(watch[i].freed >= 1);
+        CHECK(watch[i].runs == 0);
+    }
+}
+
+/* A block that is freed with its key in it is told by both counts. */
+static void residue_is_told(void)
+{
+    uint8_t *block = malloc(200);
+    CHECK(block != NULL);
+    if (block == NULL)
+        return;
+    memset(block, 0, 200);
+    memcpy(block + 9, key, sizeof key);
+    watch_block(0, block);
+    free(block);
+    CHECK(watch[0].freed == 1 && watch[0].runs == 1 && blocks_with_key == 1);
+    blocks_with_key = 0;
+}
+
+int main(void)
+{
+    for (int i = 0; i < 32; i++)
+        key[i] = (uint8_t)(0xa0 + i * 5);
+    residue_is_told();
+    for (uint32_t mode = KRB_SAFE; mode <= KRB_PRIV; mode++)
+        for (int etype = 17; etype <= 18; etype++)
+            for (unsigned how = 0; how < ENDINGS; how++)
+                no_residue(mode, etype, (enum ending)how);
+    CHECK(blocks_freed > 0);
+    CHECK(blocks_with_key == 0);
+    printf("residue: %d blocks freed, %d with a key\n", blocks_freed, blocks_with_key);
+    return check_status("residue");
+}
