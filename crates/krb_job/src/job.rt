@@ -8,8 +8,8 @@ ghost use Rattle.krb_job.specs.Limits.{capacity_limit, sender_limit};
 ghost use Rattle.krb_job.specs.Sender.{seals, opens};
 
 use krb_base::Bytes;
-use krb_peers::Emit;
 use krb_der::{HostAddress, Moment};
+use krb_peers::Emit;
 use krb_seal::Mode;
 
 /// The commands that read a job.

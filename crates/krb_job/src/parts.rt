@@ -7,8 +7,8 @@ ghost use Rattle.krb_seal.specs.Session.{IsShortAddress};
 ghost use Rattle.krb_job.specs.Limits.{IsKeyOf, IsKeyOf-prop, AreShortTexts, skew_limit};
 
 use krb_base::Bytes;
-use krb_peers::Emit;
 use krb_der::{HostAddress, Moment};
+use krb_peers::Emit;
 use krb_seal::Mode;
 
 /// How the texts are protected.
