@@ -1,5 +1,5 @@
 -- A lane by two places in what its sender emits.
-use Rattle.std.proofs.Common.{◌≡◌, ◌↔◌, ℕ, zero, suc, ◌+◌, ◌-◌, ◌≤◌, ◌<◌, ◌&&◌, not, nat_lt, Bool, true, false, List, [], ◌∷◌, ◌++◌, length, take, drop, get_or, slice_get, Some, None, refl, sym, ap, ap₂, ◌∙◌, arith, inl, inr}
+use Rattle.std.proofs.Common.{◌≡◌, ◌↔◌, ℕ, zero, suc, ◌+◌, ◌-◌, ◌≤◌, ◌<◌, ◌&&◌, not, nat_lt, Bool, true, false, List, [], ◌∷◌, ◌++◌, length, take, drop, get_or, slice_get, Some, None, refl, sym, ap, ap₂, subst, ◌∙◌, arith, inl, inr}
 use Rattle.std.proofs.lemmas.Bool.{lt-ltb}
 use Rattle.std.proofs.lemmas.Bool.Decides.{leb_tells}
 use Rattle.std.proofs.lemmas.List.{drop-append-le, length-drop, drop_all}
@@ -14,9 +14,9 @@ use Rattle.krb_peers.specs.Receiver.{receiver_behind}
 use Rattle.krb_peers.specs.Log.{ended_at}
 use Rattle.krb_peers.specs.Plan.{contents}
 use Rattle.krb_peers.specs.Sender.{moment_at}
-use Rattle.krb_core.specs.Track.{TrackState, item_of, item_at, next_send, after_send, receiver_after, after_take, log_behind, log_after}
+use Rattle.krb_core.specs.Track.{TrackState, item_of, item_at, next_send, after_send, receiver_after, after_take, log_behind, log_after, LogsFront}
 use Rattle.krb_peers.specs.Receiver.{verdict_by}
-use Rattle.krb_peers.specs.Logged.{noted}
+use Rattle.krb_peers.specs.Logged.{noted, LogsNext}
 use Rattle.krb_core.specs.TrackPlaces.{items_of, lane_at, ArePlaces}
 
 -- ---- the items of a wire
@@ -169,6 +169,24 @@ module _ (wire : List (List ℕ)) (capacity s t : ℕ) (receiver : ReceiverState
         log_is = l-is ∙ (ap (λ n. noted log number (verdict_by receiver (moment_at nows n) frame)) count ∙ ap (λ q. log_behind log number here q) (sym first));
         waits = moves h lt;
       }
+
+  -- which a log has behind all that were taken before
+  pub take_logs : (log log-now : LogState) (number : ℕ) (frame : List ℕ) (receiver-now : ReceiverState) → ArePlaces wire s t → t < s → slice_get wire t ≡ Some frame
+      → LogsNext receiver log number (moment_at nows t) frame receiver-now log-now
+      → LogsFront number here log (track_at wire capacity s (t + 1) receiver-now nows) log-now
+  take_logs log log-now number frame receiver-now h lt at next first queue is =
+      let in_range = h.in_range in
+      let count : t ≡ length (take t (items_of wire)) = sym (length-sent wire t (omega arith)) in
+      let both : Frame frame ∷ drop (t + 1) (take s (items_of wire)) ≡ Frame first ∷ queue = sym (at_front (Frame frame) (ap item_of at) h lt) ∙ is in
+      let same : frame ≡ first = cc in
+      let P : List ℕ → ℕ → Type 0 = λ f n. LogsNext receiver log number (moment_at nows n) f receiver-now log-now in
+      subst (P first) count (subst (λ f. P f t) same next)
+
+  -- no frame is at the front where End is
+  pub end_logs : (log log-now : LogState) (number : ℕ) → ArePlaces wire s t → t < s → slice_get wire t ≡ None
+      → LogsFront number here log (track_at wire capacity s (t + 1) receiver nows) log-now
+  end_logs log log-now number h lt at first queue is =
+      absurd (let e : End ∷ drop (t + 1) (take s (items_of wire)) ≡ Frame first ∷ queue = sym (at_front End (ap item_of at) h lt) ∙ is in cc)
 
   -- End at the front
   pub take_end : (log log-now : LogState) (number : ℕ) → ArePlaces wire s t → t < s → slice_get wire t ≡ None → log-now ≡ ended_at log number

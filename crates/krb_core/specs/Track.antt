@@ -1,10 +1,10 @@
 -- One lane of a relay that is stepped.
-use Rattle.std.specs.Prelude.{ℕ, List, [], ◌∷◌, length, slice_get, Option, Some, None}
+use Rattle.std.specs.Prelude.{◌≡◌, ℕ, List, [], ◌∷◌, length, slice_get, Option, Some, None}
 use Rattle.krb_base.specs.Lane.{Item, Lane, Event, Frame, End, Send, Take, after_event}
 use Rattle.krb_peers.specs.Log.{ended_at}
 use Rattle.krb_peers.specs.LogState.{LogState}
 use Rattle.krb_peers.specs.ReceiverState.{ReceiverState}
-use Rattle.krb_peers.specs.Logged.{noted}
+use Rattle.krb_peers.specs.Logged.{noted, LogsNext}
 use Rattle.krb_peers.specs.Receiver.{verdict_by, receiver_behind}
 use Rattle.krb_peers.specs.Sender.{moment_at}
 use Rattle.krb_peers.specs.Verdicts.{Verdict}
@@ -54,3 +54,9 @@ log_behind log lane track (End ∷ queue) = ended_at log lane
 
 abbrev pub log_after : LogState → ℕ → TrackState → LogState
 log_after log lane track = log_behind log lane track track.lane.queue
+
+-- where a frame is at the front, a take leaves it behind all that were taken before, and other lanes' entries stay
+abbrev pub LogsFront : ℕ → TrackState → LogState → TrackState → LogState → Type 0
+LogsFront lane track log track-now log-now =
+    (frame : List ℕ) (queue : List (Item (List ℕ))) → track.lane.queue ≡ Frame frame ∷ queue
+    → LogsNext track.receiver log lane (moment_at track.nows (length track.lane.got)) frame track-now.receiver log-now

@@ -5,7 +5,7 @@ ghost use Rattle.std.specs.Prelude.{◌≡◌, ◌↔◌, ◌<◌, length, false
 ghost use Rattle.krb_base.specs.Lane.{Take, has_end, is_possible};
 ghost use Rattle.krb_peers.specs.Plan.{contents};
 ghost use Rattle.krb_core.specs.Start.{fresh};
-ghost use Rattle.krb_core.specs.Track.{next_send, after_send, after_take, log_after};
+ghost use Rattle.krb_core.specs.Track.{next_send, after_send, after_take, log_after, LogsFront};
 ghost use Rattle.krb_peers.specs.Logged.{IsShut};
 
 use crate::turn::Did;
@@ -88,6 +88,7 @@ impl Track {
         requires shut { IsShut log.old lane self.old.receiver }
         ensures after { OnOk result (self.new ≡ after_take self.old) }
         ensures log { OnOk result (log.new ≡ log_after log.old lane self.old) }
+        ensures logged { OnOk result (LogsFront lane self.old log.old self.new log.new) }
         ensures waits { IfOk result (λ did.
             (did ≡ Did.Waits) ↔ (is_possible self.old.lane Take ≡ false)) }
         ensures unchanged { OnErr result (self.new ≡ self.old) }
