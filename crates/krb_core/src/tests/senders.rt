@@ -1,4 +1,5 @@
 use super::frames::{PRIV_CLOSE, PRIV_TEXT, SAFE_CLOSE, SAFE_TEXT};
+use super::steps::assert_sender;
 use super::{MICROS, answers, moment, receiver, sealed, sealer, sending, session};
 use crate::{Ending, Sending};
 use krb_seal::{Aes128Sealer, Mode, SealError, Sealer};
@@ -34,8 +35,8 @@ fn first_record_alone(rt: HostRuntime) -> Result<(), Fail> {
     let session = session(rt.alloc(), Mode::Safe, 7)?;
     let sealer = Aes128Sealer::new(&mut { super::KEY }, session);
     let mut sending = sending(rt.alloc(), sealer, &[], &[MICROS])?;
-    assert!(rt; sending.texts.is_empty() && !sending.ats.is_empty());
-    assert!(rt; sending.sealer.next() <= krb_base::LAST_NUMBER && sending.records() == 1);
+    assert_sender(&rt, &sending);
+    assert_eq!(rt; sending.records(), 1);
     let frame = sending.seal_record(rt.alloc(), 0)?;
     let mut receiver = receiver(rt.alloc(), Mode::Safe, 7)?;
     let frames = vec![in rt.alloc(); frame]?;

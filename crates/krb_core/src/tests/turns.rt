@@ -5,7 +5,7 @@ ghost use Rattle.krb_core.specs.Stepped.{lane_of};
 
 use super::steps::{begin, receiving};
 use super::{MICROS, sealer, sending};
-use crate::{Emit, Event, Log, Sending, Status, Stepped, Turn};
+use crate::{Emit, Entry, Event, Log, Sending, Status, Stepped, Turn};
 use krb_base::Bytes;
 use krb_seal::{Aes128Sealer, Mode};
 use std::alloc::{AllocError, Global};
@@ -120,18 +120,20 @@ fn are_letters(rt: &impl Abort, log: &Log, lane: u32, count: usize) -> bool {
     right
 }
 
+/// Whether an entry says that a frame of the lane was refused by this name.
+fn is_refused(entry: &Entry, lane: u32, name: &str) -> bool {
+    match &entry.event {
+        Event::Refused(refusal) => entry.lane == lane && refusal.name() == name,
+        Event::Text(_) | Event::Closed => false,
+    }
+}
+
 /// How many frames of the lane were refused by this name.
 fn refused(log: &Log, lane: u32, name: &str) -> usize {
-    let mut count = 0;
-    for entry in log.entries() {
-        if let Event::Refused(refusal) = &entry.event
-            && entry.lane == lane
-            && refusal.name() == name
-        {
-            count += 1_usize;
-        }
-    }
-    count
+    log.entries()
+        .iter()
+        .filter(|entry| is_refused(entry, lane, name))
+        .count()
 }
 
 #[test]
@@ -159,7 +161,6 @@ fn many_turns_of_eight_lanes(rt: HostRuntime) -> Result<(), Fail> {
             );
             assert_eq!(rt; log.status(lane), status);
         }
-        let mut refusals = 0;
         for (lane, name, count) in [
             (1, "BADORDER", 40), // the second of each text's frames,
             (1, "AFTER_CLOSE", 1), // and of the close's
@@ -168,10 +169,9 @@ fn many_turns_of_eight_lanes(rt: HostRuntime) -> Result<(), Fail> {
             (4, "MALFORMED", 41),
         ] {
             assert_eq!(rt; refused(log, lane, name), count);
-            refusals += count;
         }
-        // 20 + 7 * 40 texts, 7 closes, and those refusals.
-        assert_eq!(rt; log.entries().len(), 300 + 7 + refusals);
+        // 20 + 7 * 40 texts, 7 closes, and those 111 refusals.
+        assert_eq!(rt; log.entries().len(), 300 + 7 + 111);
     }
     Ok(())
 }
