@@ -28,12 +28,12 @@ frames_of xs = bytes_of (items xs)
 abbrev pub has_end : List Item → Bool
 has_end xs = base.has_end (items xs)
 
--- the frame at place i has index k + i, which is below 2 ^ 60
+-- the frame at place i has index k + i, which is below 2 ^ 63
 abbrev pub IsNumbered : ℕ → List Numbered → Type 0
 IsNumbered k [] = Unit {0}
-IsNumbered k (f ∷ fs) = (f.index ≡ k) × (k < 2 ^ 60) × IsNumbered (suc k) fs
+IsNumbered k (f ∷ fs) = (f.index ≡ k) × (k < 2 ^ 63) × IsNumbered (suc k) fs
 
 -- behind k frames, a frame has index k
 abbrev pub IsNext : ℕ → Item → Type 0
-IsNext k (Frame i b) = (i ≡ k) × (k < 2 ^ 60)
+IsNext k (Frame i b) = (i ≡ k) × (k < 2 ^ 63)
 IsNext k End = Unit {0}

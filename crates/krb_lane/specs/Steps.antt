@@ -27,7 +27,7 @@ pub record KeepsLane : Type 0 where
       (queue : List Item) (views : List Hand) (pass : ℕ) (v : Hand) (i : ℕ) (b : List ℕ)
       (h : IsLane queue views) → Knows views pass v → v.sends ≡ true
       → length queue < v.capacity → has_end v.sent ≡ false → i ≡ length (frames_of v.sent)
-      → i < 2 ^ 60
+      → i < 2 ^ 63
       → Leaves (after_event (state_of h) (Send (item_of (Frame i b))))
       (queue ++ Frame i b ∷ []) (set views pass (puts v (Frame i b)))
   -- a send by `end` puts End at the back of a queue with room: Send of End

@@ -92,4 +92,11 @@ impl LaneRx {
     {
         self.count
     }
+
+    /// Whether End was got. Waits for nobody.
+    pub fn ended(&self) -> bool
+        ensures { result ≡ self.now.ended }
+    {
+        self.ended
+    }
 }

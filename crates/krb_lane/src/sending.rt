@@ -40,9 +40,9 @@ impl LaneTx {
     /// Sends a frame, and may wait for room. Where the other end is gone nothing is sent, and the
     /// very bytes come back.
     ///
-    /// Fewer than 2^60 frames, which is 1152921504606846976, were sent before.
+    /// Fewer than 2^63 frames were sent before.
     pub fn send(&mut self, rt: &impl Wait, bytes: Vec<u8>) -> Result<(), Vec<u8>>
-        requires { length self.old.frames < 2 ^ 60 }
+        requires { length self.old.frames < 2 ^ 63 }
         ensures ok { OnOk result
             (self.new ≡ record self.old { frames = self.old.frames ++ bytes.items ∷ [] }) }
         ensures err { OnErr result (self.new ≡ self.old) }

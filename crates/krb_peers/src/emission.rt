@@ -60,8 +60,9 @@ fn emit_all(alloc: Global, frames: &[Vec<u8>], plan: &[Emit]) -> Result<Vec<Vec<
     Ok(emitted)
 }
 
-/// What the type of its elements says.
-pub(crate) fn known_bytes(frame: &[u8])
+/// A law: the elements of a slice of bytes are bytes, as their type says. It does nothing when it
+/// runs.
+pub fn known_bytes(frame: &[u8])
     ensures { AreBytes frame.now }
 {}
 

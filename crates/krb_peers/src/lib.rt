@@ -29,7 +29,7 @@ mod sending;
 mod start;
 
 pub use delivery::Delivery;
-pub use emission::emit;
+pub use emission::{emit, known_bytes};
 pub use headline::{headline_laws, relay_laws, undisturbed_laws};
 pub use krb_base::{LAST_NUMBER, TEXT_LIMIT, USER_DATA_LIMIT};
 pub use laws::{accepted_laws, logged_laws, record_laws, rounds_laws, verdict_laws};

@@ -34,7 +34,7 @@ impl Promise<SentAll> for SentOf {
 
 // Sends all frames and End, as far as the other end is there.
 fn send_all(rt: &impl Wait, tx: LaneTx, frames: Vec<Bytes>) -> SentAll
-    requires { length tx.frames + length frames.items < 2 ^ 60 }
+    requires { length tx.frames + length frames.items < 2 ^ 63 }
     ensures lane { result.lane ≡ tx.lane }
     ensures whole { result.ended ≡ true → result.frames ≡ tx.frames ++ frames.items }
 {
@@ -84,7 +84,7 @@ pub fn pass_on<R: Threads + Wait + Sync>(
     frames: Vec<Bytes>,
 ) -> Result<(Vec<Bytes>, Met), Fault>
     requires capacity { (0 < capacity) × (capacity ≤ 64) }
-    requires few { length frames.items < 2 ^ 60 }
+    requires few { length frames.items < 2 ^ 63 }
     ensures frames { IfOk result (λ passed. passed.0.items ≡ frames.items) }
     ensures sent { IfOk result (λ passed. passed.1.sent ≡ length frames.items) }
     ensures got { IfOk result (λ passed. passed.1.got ≡ length frames.items) }
@@ -96,7 +96,7 @@ pub fn pass_on<R: Threads + Wait + Sync>(
         thread::scope_env(),
         rt,
         move |scope| -> Result<(Vec<Bytes>, Met), Fault>
-            requires { (length frames.items < 2 ^ 60) × (tx ≡ rx) × (tx.frames ≡ []) }
+            requires { (length frames.items < 2 ^ 63) × (tx ≡ rx) × (tx.frames ≡ []) }
             ensures frames { IfOk result (λ passed. passed.0.items ≡ frames.items) }
             ensures sent { IfOk result (λ passed. passed.1.sent ≡ length frames.items) }
             ensures got { IfOk result (λ passed. passed.1.got ≡ length frames.items) }
@@ -106,7 +106,7 @@ pub fn pass_on<R: Threads + Wait + Sync>(
                 frames: Snapshot::of(&frames),
             };
             let work = move || -> SentAll
-                requires { length tx.frames + length frames.items < 2 ^ 60 }
+                requires { length tx.frames + length frames.items < 2 ^ 63 }
                 ensures lane { result.lane ≡ tx.lane }
                 ensures whole { result.ended ≡ true → result.frames ≡ tx.frames ++ frames.items }
             { send_all(rt, tx, frames) };
