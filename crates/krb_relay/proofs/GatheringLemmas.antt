@@ -1,0 +1,148 @@
+-- What a level knows once its worker was joined.
+use Rattle.std.proofs.Common.{◌≡◌, ℕ, ◌+◌, ◌<◌, ◌≤◌, Bool, true, false, zero, suc, List, [], ◌∷◌, ◌++◌, length, map, reverse, refl, sym, ap, ap₂, subst, ◌∙◌, arith, rules, Option, None, Some}
+use Rattle.std.specs.Prelude.{All}
+use Rattle.std.specs.List.{AllZip}
+use Rattle.std.proofs.lemmas.List.{append_assoc, append-nil, map-append, reverse-append, same_from_push, length_push}
+use Rattle.std.proofs.lemmas.List.Elements.{All-nil, All-cons, All-head, All-tail, All-append}
+use Rattle.krb_lane.specs.Side.{Side}
+use Rattle.krb_peers.specs.declared.receiver.Receiving.{Receiving}
+use Rattle.krb_peers.specs.LogState.{LogState}
+use Rattle.krb_relay.specs.declared.cause.Cause.{Cause}
+use Rattle.krb_relay.specs.declared.fault.OwnFault.{OwnFault}
+use Rattle.krb_relay.specs.declared.fault.WorkerFault.{WorkerFault}
+use Rattle.krb_relay.specs.declared.worker.Handed.{Handed}
+use Rattle.krb_relay.specs.Gathering.{lane_of, IsEnded, IsFresh, Finished, Begun, EndsWith, Started, part_of, got_by, HasEnded, least, IsServed, Gathers, Leaves}
+use Rattle.krb_relay.specs.Heard.{Heard, BeginsAt, AreAnswers, all_heard}
+
+pub all_front : {X : Type 0} (P : X → Type 0) (xs ys : List X) → All P (xs ++ ys) → All P xs
+all_front P [] ys h = All-nil P
+all_front P (x ∷ xs) ys h = All-cons P x xs (All-head P x (xs ++ ys) h) (all_front P xs ys (All-tail P x (xs ++ ys) h))
+
+pub all_last : {X : Type 0} (P : X → Type 0) (xs : List X) (y : X) → All P (xs ++ y ∷ []) → P y
+all_last P [] y h = All-head P y [] h
+all_last P (x ∷ xs) y h = all_last P xs y (All-tail P x (xs ++ y ∷ []) h)
+
+-- ---- one end more
+
+pub begun_from : (ends mid now : List Side) (mine tx promised : Side) → now ≡ mid ++ mine ∷ [] → mid ≡ ends → mine ≡ tx → tx.frames ≡ [] → tx.ended ≡ false → promised ≡ tx → Begun ends now promised
+begun_from ends mid now mine tx promised grown mid_is rx_is frames ended promised_is = record {
+  mine = mine;
+  grown = grown ∙ ap (λ x. x ++ mine ∷ []) mid_is;
+  fresh = record { frames = ap (λ (s : Side). s.frames) rx_is ∙ frames; ended = ap (λ (s : Side). s.ended) rx_is ∙ ended };
+  empty = ap (λ (s : Side). s.frames) promised_is ∙ frames;
+  same = ap (λ (s : Side). s.lane) (rx_is ∙ sym promised_is);
+}
+
+pub begun_fresh : (ends begun : List Side) (tx : Side) → Begun ends begun tx → All IsFresh ends → All IsFresh begun
+begun_fresh ends begun tx b h =
+    let P : List Side → Type 0 = λ x. All IsFresh x in
+    subst P (sym b.grown) (All-append IsFresh ends (b.mine ∷ []) h (All-cons IsFresh b.mine [] b.fresh (All-nil IsFresh)))
+
+pub begun_length : (ends begun : List Side) (tx : Side) → Begun ends begun tx → length begun ≡ length ends + 1
+begun_length ends begun tx b = ap length b.grown ∙ length_push ends b.mine
+
+-- the ends that come back end with the one that was added
+ends_with : (now ends : List Side) (mine tx : Side) → tx.frames ≡ [] → mine.lane ≡ tx.lane → map lane_of now ≡ map lane_of (ends ++ mine ∷ []) → EndsWith now tx
+ends_with [] [] mine tx empty same h = absurd (let e = h in cc)
+ends_with [] (l ∷ ends) mine tx empty same h = absurd (let e = h in cc)
+ends_with (n ∷ []) [] mine tx empty same h =
+    let e : lane_of n ≡ lane_of mine = cc in
+    record { front = []; mine = n; split = refl; empty = empty; same = e ∙ same }
+ends_with (n ∷ m ∷ now) [] mine tx empty same h = absurd (let e = h in cc)
+ends_with (n ∷ now) (l ∷ ends) mine tx empty same h =
+    let e : map lane_of now ≡ map lane_of (ends ++ mine ∷ []) = cc in
+    let w = ends_with now ends mine tx empty same e in
+    record { front = n ∷ w.front; mine = w.mine; split = ap (λ x. n ∷ x) w.split; empty = empty; same = w.same }
+
+pub begun_ends : {S : Type 0} (gives : S → Side → Handed → Type 0) (parts : List S) (starts : List Receiving) (ends begun now : List Side) (tx : Side) (log : LogState) (own : Option OwnFault) (fault : Option WorkerFault)
+    → Begun ends begun tx → Gathers gives parts starts begun now log own fault → EndsWith now tx
+begun_ends gives parts starts ends begun now tx log own fault b g = ends_with now ends b.mine tx b.empty b.same (g.same ∙ ap (map lane_of) b.grown)
+
+-- ---- a level
+
+module _ {S : Type 0} (gives : S → Side → Handed → Type 0) where
+  -- that starts no worker
+  pub gathers_none : (parts : List S) (starts : List Receiving) (ends now : List Side) (log : LogState) (own : Option OwnFault) (fault : Option WorkerFault)
+      → fault ≡ None → (own ≡ None → parts ≡ []) → Finished starts ends now log own → Gathers gives parts starts ends now log own fault
+  gathers_none parts starts ends now log own fault named empty f =
+      let P : List Side → Type 0 = λ x. AllZip BeginsAt f.seen (all_heard starts x) in
+      record {
+        inner = [];
+        unstarted = reverse parts;
+        parts_are = refl;
+        served = All-nil (IsServed gives);
+        seen = f.seen;
+        judged = f.judged;
+        logged = f.logged;
+        begins = subst P (sym (append-nil now)) f.begins;
+        lanes = f.lanes;
+        same = f.same;
+        named = named;
+        whole = λ none. let w = f.whole none in
+            (ap reverse (empty none), w.0 ∙ ap (all_heard starts) (sym (append-nil now)), w.1, All-nil (HasEnded {S = S}), w.2);
+      }
+
+  -- that starts one, and meets its lane after the levels inside
+  gathers_more : (parts others : List S) (part : S) (starts : List Receiving) (ends : List Side) (mine : Side) (now left : List Side) (met : Side) (log : LogState) (own : Option OwnFault) (inside fault : Option WorkerFault) (tx : Side) (handed : Handed)
+      → ((inner : List (Started S)) → inside ≡ least (length ends + 1) inner → fault ≡ least (length ends) (record { part = part; tx = tx; handed = handed; got = met } ∷ inner))
+      → parts ≡ others ++ part ∷ [] → now ≡ left ++ met ∷ []
+      → IsServed gives (record { part = part; tx = tx; handed = handed; got = met })
+      → Gathers gives others starts (ends ++ mine ∷ []) now log own inside → Gathers gives parts starts ends left log own fault
+  gathers_more parts others part starts ends mine now left met log own inside fault tx handed faults parts_is now_is served g =
+      let me : Started S = record { part = part; tx = tx; handed = handed; got = met } in
+      let sides : now ++ map got_by g.inner ≡ left ++ map got_by (me ∷ g.inner) =
+      ap (λ x. x ++ map got_by g.inner) now_is ∙ append_assoc left (met ∷ []) (map got_by g.inner) in
+      let names : map lane_of left ++ lane_of met ∷ [] ≡ map lane_of ends ++ lane_of mine ∷ [] =
+      sym (map-append lane_of left (met ∷ [])) ∙ (ap (map lane_of) (sym now_is) ∙ (g.same ∙ map-append lane_of ends (mine ∷ []))) in
+      let more : length (ends ++ mine ∷ []) ≡ length ends + 1 = length_push ends mine in
+      let P : List Side → Type 0 = λ x. AllZip BeginsAt g.seen (all_heard starts x) in
+      record {
+        inner = me ∷ g.inner;
+        unstarted = g.unstarted;
+        parts_are = ap reverse parts_is ∙ (reverse-append others (part ∷ []) ∙ ap (λ x. part ∷ x) g.parts_are);
+        served = All-cons (IsServed gives) me g.inner served g.served;
+        seen = g.seen;
+        judged = g.judged;
+        logged = g.logged;
+        begins = subst P sides g.begins;
+        lanes = g.lanes;
+        same = (same_from_push (map lane_of left) (map lane_of ends) (lane_of met) (lane_of mine) names).0;
+        named = faults g.inner (g.named ∙ ap (λ n. least n g.inner) more);
+        whole = λ none. let w = g.whole none in
+            let Q : List Side → Type 0 = λ x. All IsEnded x in
+            let ended : All IsEnded (left ++ met ∷ []) = subst Q now_is w.2 in
+            (w.0, w.1 ∙ ap (all_heard starts) sides, all_front IsEnded left (met ∷ []) ended, All-cons (HasEnded {S = S}) me g.inner (all_last IsEnded left met ended) w.3, w.4);
+      }
+
+-- what a level knows once its worker was joined and its lane was met
+pub gathers_leave : {S W : Type 0} (gives : W → S → Side → Handed → Type 0) (work promised : W) (parts others : List S) (part kept : S) (starts : List Receiving) (ends begun now left : List Side) (tx : Side) (log : LogState) (own : Option OwnFault) (inside fault : Option WorkerFault) (cause : Option Cause)
+    → ((handed : Handed) (inner : List (Started S)) (got : Side) → cause ≡ handed.cause → inside ≡ least (length ends + 1) inner → fault ≡ least (length ends) (record { part = part; tx = tx; handed = handed; got = got } ∷ inner))
+    → promised ≡ work → kept ≡ part → parts ≡ others ++ part ∷ [] → Begun ends begun tx → Leaves (gives promised) now left kept tx cause → Gathers (gives work) others starts begun now log own inside
+    → Gathers (gives work) parts starts ends left log own fault
+gathers_leave {S} {W} gives work promised parts others part kept starts ends begun now left tx log own inside fault cause faults same_work same_part parts_is b l g =
+    let P : W → Type 0 = λ x. Leaves (gives x) now left kept tx cause in
+    let Q : S → Type 0 = λ x. Leaves (gives work) now left x tx cause in
+    let met : Leaves (gives work) now left part tx cause = subst Q same_part (subst P same_work l) in
+    let T : List Side → Type 0 = λ x. Gathers (gives work) others starts x now log own inside in
+    gathers_more (gives work) parts others part starts ends b.mine now left met.mine log own inside fault tx met.handed (λ inner named. faults met.handed inner met.mine met.cause_is named) parts_is met.split met.served (subst T b.grown g)
+
+-- the worker had a fault
+pub least_here : {S : Type 0} (n lane : ℕ) (part : S) (tx : Side) (handed : Handed) (got : Side) (inner : List (Started S)) (cause : Cause) → n ≡ lane → Some cause ≡ handed.cause
+    → Some (let f : WorkerFault = record { cause = cause; lane = n } in f) ≡ least lane (record { part = part; tx = tx; handed = handed; got = got } ∷ inner)
+least_here n lane part tx handed got inner cause same is = rw (← is, same) refl
+
+-- the worker had none
+pub least_later : {S : Type 0} (n : ℕ) (part : S) (tx : Side) (handed : Handed) (got : Side) (inner : List (Started S)) (cause : Option Cause) (fault : Option WorkerFault) → cause ≡ None → cause ≡ handed.cause → fault ≡ least (n + 1) inner
+    → fault ≡ least n (record { part = part; tx = tx; handed = handed; got = got } ∷ inner)
+least_later n part tx handed got inner cause fault none is rest = rw (← is, none) rest
+
+-- a level that could not begin
+pub gathers_fault : {S : Type 0} (gives : S → Side → Handed → Type 0) (parts : List S) (starts : List Receiving) (ends mid now : List Side) (log : LogState) (own : Option OwnFault) (fault : OwnFault)
+    → mid ≡ ends → own ≡ Some fault → Finished starts mid now log own → Gathers gives parts starts ends now log own None
+gathers_fault gives parts starts ends mid now log own fault mid_is own_is f =
+    let P : List Side → Type 0 = λ x. Finished starts x now log own in
+    gathers_none gives parts starts ends now log own None refl (λ none. absurd (let e : Some fault ≡ None = sym own_is ∙ none in cc)) (subst P mid_is f)
+
+pub no_ends : (now : List Side) → map lane_of now ≡ [] → now ≡ []
+no_ends [] h = refl
+no_ends (n ∷ now) h = absurd (let e = h in cc)

@@ -1,0 +1,58 @@
+-- A level around the levels inside.
+use Rattle.std.proofs.Common.{◌≡◌, ◌<◌, ◌++◌, ◌∷◌, [], ℕ, List, length, take, drop, refl, sym, ap, subst, ◌∙◌, arith, Some, None}
+use Rattle.std.specs.Prelude.{All}
+use Rattle.std.proofs.lemmas.List.{nil_from_length, take_at}
+use Rattle.krb_lane.specs.Side.{Side}
+use Rattle.krb_peers.specs.declared.receiver.Receiving.{Receiving}
+use Rattle.krb_relay.specs.Gathering.{Finished}
+use Rattle.krb_relay.proofs.GatheringLemmas.{all_front, all_last, begun_fresh, begun_ends, gathers_none, gathers_leave, gathers_fault, least_here, least_later}
+use Rattle.krb_relay.proofs.levels.+level.Goals as goal
+
+pub returns-in_default : goal.returns-in_default
+returns-in_default g t c =
+    let empty : c.args.parts.items ≡ [] = nil_from_length c.args.parts.items (sym c.args.parts.ok.0 ∙ c.in_default.ensures.cases.0) in
+    let P : List Side → Type 0 = λ x. Finished c.args.receivings.items x c.finish-own.new.ends c.finish-own.new.log c.finish-own.result in
+    let len : length c.finish-own.new.ends ≡ c.args.ends.len = omega arith in
+    rw (take_at c.finish-own.new.ends (drop (length c.finish-own.new.ends) c.args.ends.items) c.args.ends.len len)
+    (gathers_none {S = g.row.S.Denot} (g.W.Work.gives c.args.work.now) c.args.parts.items c.args.receivings.items c.args.ends.items c.finish-own.new.ends c.finish-own.new.log c.finish-own.result None refl (λ none. empty)
+    (subst P c.as_mut_slice.ensures.value c.finish-own.ensures))
+
+pub begin-requires-clause-callable : goal.begin-requires-clause-callable
+begin-requires-clause-callable g t c κs within =
+    let P : g.row.S.Denot → Type 0 = λ part. (tx : Side) → tx.frames ≡ [] → g.W.Work.can_run c.args.work.now part tx in
+    let Q : List g.row.S.Denot → Type 0 = λ x. All P x in
+    all_last P c.pop.new.self.items c.in-Some.part (subst Q c.in-Some.ensures.items c.requires.callable)
+
+pub level-inner-requires-clause-callable : goal.level-inner-requires-clause-callable
+level-inner-requires-clause-callable g t c κs within =
+    let P : g.row.S.Denot → Type 0 = λ part. (tx : Side) → tx.frames ≡ [] → g.W.Work.can_run c.args.work.now part tx in
+    let Q : List g.row.S.Denot → Type 0 = λ x. All P x in
+    all_front P c.pop.new.self.items (c.in-Some.part ∷ []) (subst Q c.in-Some.ensures.items c.requires.callable)
+
+pub level-inner-requires-clause-fresh : goal.level-inner-requires-clause-fresh
+level-inner-requires-clause-fresh g t c κs within = begun_fresh _ _ _ c.in-Ok.ensures.lane c.requires.fresh
+
+pub leave-requires-clause-last : goal.leave-requires-clause-last
+leave-requires-clause-last g t c κs within =
+    begun_ends {S = g.row.S.Denot} (g.W.Work.gives c.args.work.now) c.pop.new.self.items c.args.receivings.items c.args.ends.items _ _ _ _ _ _ c.in-Ok.ensures.lane c.level-inner.ensures
+
+pub returns-in-Err : goal.returns-in-Err
+returns-in-Err g t c =
+    let P : List Receiving → Type 0 = λ s. Finished s c.as_mut_slice-in-Err.result.now c.give_up-own.new.ends c.args.log c.give_up-own.result in
+    let Q : List Side → Type 0 = λ x. Finished c.args.receivings.items x c.give_up-own.new.ends c.args.log c.give_up-own.result in
+    let len : length c.give_up-own.new.ends ≡ c.begin.new.ends.len = omega arith in
+    rw (take_at c.give_up-own.new.ends (drop (length c.give_up-own.new.ends) c.begin.new.ends.items) c.begin.new.ends.len len)
+    (gathers_fault {S = g.row.S.Denot} (g.W.Work.gives c.args.work.now) c.args.parts.items c.args.receivings.items c.args.ends.items c.begin.new.ends.items c.give_up-own.new.ends c.args.log c.give_up-own.result _ c.in-Err.ensures.err c.give_up-own.ensures.fault
+    (subst Q c.as_mut_slice-in-Err.ensures.value (subst P c.as_slice.ensures.value c.give_up-own.ensures.finished)))
+
+pub returns-in-Some-leave : goal.returns-in-Some-leave
+returns-in-Some-leave g t c =
+    gathers_leave {S = g.row.S.Denot} {W = g.row.W.Denot} g.W.Work.gives c.args.work.now c.in-Ok.worker.promise.work.value c.args.parts.items c.pop.new.self.items c.in-Some.part c.in-Ok.worker.promise.part.value c.args.receivings.items c.args.ends.items c.begin.new.ends.items c.level-inner.result.ends.items c.leave.new.ends.items c.in-Ok.worker.promise.tx.value c.level-inner.result.log c.level-inner.result.own c.level-inner.result.fault _ c.leave.result
+    (λ handed inner got is named. least_here _ _ c.in-Some.part c.in-Ok.worker.promise.tx.value handed got inner c.in-Some-leave.cause (omega arith) (sym c.in-Some-leave.is ∙ is))
+    c.in-Ok.ensures.worker.0 c.in-Ok.ensures.worker.1 c.in-Some.ensures.items c.in-Ok.ensures.lane c.leave.ensures c.level-inner.ensures
+
+pub returns-in_default-leave : goal.returns-in_default-leave
+returns-in_default-leave g t c =
+    gathers_leave {S = g.row.S.Denot} {W = g.row.W.Denot} g.W.Work.gives c.args.work.now c.in-Ok.worker.promise.work.value c.args.parts.items c.pop.new.self.items c.in-Some.part c.in-Ok.worker.promise.part.value c.args.receivings.items c.args.ends.items c.begin.new.ends.items c.level-inner.result.ends.items c.leave.new.ends.items c.in-Ok.worker.promise.tx.value c.level-inner.result.log c.level-inner.result.own c.level-inner.result.fault c.level-inner.result.fault c.leave.result
+    (λ handed inner got is named. least_later _ c.in-Some.part c.in-Ok.worker.promise.tx.value handed got inner _ _ c.in_default-leave.is is named)
+    c.in-Ok.ensures.worker.0 c.in-Ok.ensures.worker.1 c.in-Some.ensures.items c.in-Ok.ensures.lane c.leave.ensures c.level-inner.ensures

@@ -1,0 +1,17 @@
+-- Frame after frame, each sent before the next is sealed.
+use Rattle.std.proofs.Common.{◌≡◌, ◌++◌, ◌∷◌, [], true, false, ap, sym, ◌∙◌, rules}
+use Rattle.krb_lane.specs.Side.{Side}
+use Rattle.krb_peers.proofs.ListLemmas.{AllBytes-push}
+use Rattle.krb_relay.proofs.worker.seal_and_send.Goals as goal
+
+pub loop-k-preserved : goal.loop-k-preserved
+loop-k-preserved g c =
+    let sent : c.send.new.self.frames ≡ c.loop-k.tx.frames ++ c.in_ok-frame.frame.items ∷ [] = search rules in
+    record {
+      sealed = rw sent (c.in_ok-frame.ensures.frames _ _ c.loop-k.invariant.sealed);
+      bytes = rw sent (AllBytes-push _ _ c.loop-k.invariant.bytes c.in_ok-frame.ensures.bytes);
+      none_if_wiped = λ wiped.
+          let still : (g.S.Sealer.state c.loop-k.sending.sealer).wiped ≡ true = ap (λ s. s.sealer.wiped) c.loop-k.invariant.sealed.state ∙ wiped in
+          absurd (let e : true ≡ false = sym still ∙ c.in_ok-frame.ensures.live in cc);
+      lane = search rules;
+    }

@@ -1,0 +1,33 @@
+-- Why a relay stops: numbers and words.
+use Rattle.std.specs.Prelude.{ℕ, List, codes, ◌++◌}
+use Rattle.std.specs.Fmt.{decimal}
+use Rattle.krb_relay.specs.declared.cause.Cause.{Cause}
+use Rattle.krb_relay.specs.declared.cause.Cause.TheVariants.{Memory, Spawn, Lost, BadPlan, Wiped}
+use Rattle.krb_relay.specs.declared.cause.OwnCause.{OwnCause}
+use Rattle.krb_relay.specs.declared.cause.OwnCause.TheVariants as own
+
+-- the number of a cause
+abbrev pub code_of : Cause → ℕ
+code_of Memory = 1
+code_of Spawn = 2
+code_of Lost = 3
+code_of BadPlan = 4
+code_of Wiped = 5
+
+-- what is printed of it
+abbrev pub words_of : Cause → List ℕ
+words_of Memory = codes "out of memory"
+words_of Spawn = codes "no thread could be started"
+words_of Lost = codes "the other end of the lane is gone"
+words_of BadPlan = codes "the plan names what the frames don't have"
+words_of Wiped = codes "the sealer was wiped"
+
+-- and of a fault
+abbrev pub words_at : ℕ → Cause → List ℕ
+words_at lane cause = codes "lane " ++ decimal lane ++ codes ": " ++ words_of cause
+
+-- what the calling thread meets, among all causes
+abbrev pub cause_of : OwnCause → Cause
+cause_of own.Memory = Memory
+cause_of own.Spawn = Spawn
+cause_of own.Lost = Lost

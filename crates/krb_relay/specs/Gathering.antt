@@ -1,0 +1,116 @@
+-- What fork and join over the lanes gathers.
+use Rattle.std.specs.Prelude.{◌≡◌, ℕ, ◌+◌, ◌<◌, true, false, List, [], ◌∷◌, ◌++◌, map, reverse, length, All, Option, None, Some}
+use Rattle.std.specs.List.{AllZip}
+use Rattle.krb_base.specs.Prefix.{IsPrefix}
+use Rattle.krb_lane.specs.Side.{Side, LaneId}
+use Rattle.krb_peers.specs.declared.receiver.Receiving.{Receiving}
+use Rattle.krb_peers.specs.Claims.{has_ended}
+use Rattle.krb_peers.specs.LogState.{LogState}
+use Rattle.krb_relay.specs.declared.cause.Cause.{Cause}
+use Rattle.krb_relay.specs.declared.fault.OwnFault.{OwnFault}
+use Rattle.krb_relay.specs.declared.fault.WorkerFault.{WorkerFault}
+use Rattle.krb_relay.specs.declared.worker.Handed.{Handed}
+use Rattle.krb_relay.specs.Heard.{Heard, BeginsAt, AreAnswers, rounds_heard, all_heard}
+
+abbrev pub lane_of : Side → LaneId
+lane_of rx = rx.lane
+
+abbrev pub IsEnded : Side → Type 0
+IsEnded rx = rx.ended ≡ true
+
+-- nothing came yet
+pub record IsFresh (rx : Side) : Type 0 where
+  pub frames : rx.frames ≡ []
+  pub ended : rx.ended ≡ false
+
+-- the log notes that each of so many lanes has ended
+abbrev pub NotesAll : LogState → ℕ → Type 0
+NotesAll log lanes = (lane : ℕ) → lane < lanes → has_ended lane log ≡ true
+
+-- The log is that of the rounds of the verdicts on first frames of each lane, and on all of them
+-- where the thread met no fault of its own.
+pub record Finished (starts : List Receiving) (ends now : List Side) (log : LogState) (own : Option OwnFault) : Type 0 where
+  pub seen : List Heard
+  pub judged : All AreAnswers seen
+  pub logged : log.entries ≡ rounds_heard seen
+  pub begins : AllZip BeginsAt seen (all_heard starts now)
+  pub lanes : log.lanes ≡ length starts
+  pub same : map lane_of now ≡ map lane_of ends
+  pub whole : own ≡ None → (seen ≡ all_heard starts now) × All IsEnded now × NotesAll log (length starts)
+
+-- one end more, of a fresh lane with this other end
+pub record Begun (ends now : List Side) (tx : Side) : Type 0 where
+  pub mine : Side
+  pub grown : now ≡ ends ++ mine ∷ []
+  pub fresh : IsFresh mine
+  pub empty : tx.frames ≡ []
+  pub same : mine.lane ≡ tx.lane
+
+-- the last end is of the lane of this other end
+pub record EndsWith (ends : List Side) (tx : Side) : Type 0 where
+  pub front : List Side
+  pub mine : Side
+  pub split : ends ≡ front ++ mine ∷ []
+  pub empty : tx.frames ≡ []
+  pub same : mine.lane ≡ tx.lane
+
+-- a worker that was started, with its part and its end of the lane, what it handed back, and what
+-- came through the lane
+pub record Started (S : Type 0) : Type 0 where
+  pub part : S
+  pub tx : Side
+  pub handed : Handed
+  pub got : Side
+
+abbrev pub part_of : {S : Type 0} → Started S → S
+part_of worker = worker.part
+
+abbrev pub got_by : {S : Type 0} → Started S → Side
+got_by worker = worker.got
+
+abbrev pub HasEnded : {S : Type 0} → Started S → Type 0
+HasEnded worker = worker.got.ended ≡ true
+
+-- the fault of the least lane, from this number on
+abbrev pub first_of : Option Cause → ℕ → Option WorkerFault → Option WorkerFault
+first_of None lane rest = rest
+first_of (Some cause) lane rest = Some (record { cause = cause; lane = lane })
+
+abbrev pub least : {S : Type 0} → ℕ → List (Started S) → Option WorkerFault
+least lane [] = None
+least lane (worker ∷ workers) = first_of worker.handed.cause lane (least (lane + 1) workers)
+
+module _ {S : Type 0} (gives : S → Side → Handed → Type 0) where
+  -- the worker kept its promise, and its lane handed over what it sent
+  pub record IsServed (worker : Started S) : Type 0 where
+    pub fresh : worker.tx.frames ≡ []
+    pub kept : gives worker.part worker.tx worker.handed
+    pub prefix : IsPrefix worker.got.frames worker.handed.all.frames
+    pub whole : worker.got.ended ≡ true → worker.got.frames ≡ worker.handed.all.frames
+
+  -- workers for the first of the parts, last part first, behind these ends; what they handed back, and
+  -- the log that their lanes leave
+  pub record Gathers (parts : List S) (starts : List Receiving) (ends now : List Side) (log : LogState) (own : Option OwnFault) (fault : Option WorkerFault) : Type 0 where
+    pub inner : List (Started S)
+    pub unstarted : List S
+    pub parts_are : reverse parts ≡ map part_of inner ++ unstarted
+    pub served : All IsServed inner
+    pub seen : List Heard
+    pub judged : All AreAnswers seen
+    pub logged : log.entries ≡ rounds_heard seen
+    pub begins : AllZip BeginsAt seen (all_heard starts (now ++ map got_by inner))
+    pub lanes : log.lanes ≡ length starts
+    pub same : map lane_of now ≡ map lane_of ends
+    pub named : fault ≡ least (length ends) inner
+    pub whole :
+        own ≡ None
+        → (unstarted ≡ []) × (seen ≡ all_heard starts (now ++ map got_by inner)) × All IsEnded now × All HasEnded inner
+        × NotesAll log (length starts)
+
+  -- the last lane was met, and its worker kept its promise
+  pub record Leaves (ends now : List Side) (part : S) (tx : Side) (cause : Option Cause) : Type 0 where
+    pub mine : Side
+    pub handed : Handed
+    pub split : ends ≡ now ++ mine ∷ []
+    pub cause_is : cause ≡ handed.cause
+    pub served : IsServed (record { part = part; tx = tx; handed = handed; got = mine })

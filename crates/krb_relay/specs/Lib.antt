@@ -1,0 +1,6 @@
+pub mod Cause
+pub mod Sent
+pub mod Heard
+pub mod Serving
+pub mod Gathering
+pub mod Relayed

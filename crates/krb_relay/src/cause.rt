@@ -1,0 +1,77 @@
+//! Why a relay stops.
+
+ghost use Rattle.std.specs.Prelude.{◌≡◌, Some};
+ghost use Rattle.krb_relay.specs.Cause.{code_of, words_of, cause_of};
+
+use std::error::Error;
+use std::fmt;
+
+/// Why a relay on threads stops.
+#[derive(Clone, Copy, Debug, PartialEq, Eq)]
+pub enum Cause {
+    /// A growth was refused.
+    Memory,
+    /// No thread could be started.
+    Spawn,
+    /// The other end of a lane is gone, and has sent no End.
+    Lost,
+    /// The plan names what its frames don't have, or a mask of 0.
+    BadPlan,
+    /// The sealer was wiped.
+    Wiped,
+}
+
+impl Cause {
+    /// The number of this cause, from 1 on.
+    pub fn code(&self) -> u32
+        ensures { result ≡ code_of self.now }
+    {
+        match self {
+            Cause::Memory => 1,
+            Cause::Spawn => 2,
+            Cause::Lost => 3,
+            Cause::BadPlan => 4,
+            Cause::Wiped => 5,
+        }
+    }
+}
+
+impl fmt::Display for Cause {
+    ghost output = { λ cause. Some (words_of cause) };
+
+    fn fmt<W: fmt::Write>(&self, f: &mut fmt::Formatter<W>) -> fmt::Result {
+        match self {
+            Cause::Memory => write!(f, "out of memory"),
+            Cause::Spawn => write!(f, "no thread could be started"),
+            Cause::Lost => write!(f, "the other end of the lane is gone"),
+            Cause::BadPlan => write!(f, "the plan names what the frames don't have"),
+            Cause::Wiped => write!(f, "the sealer was wiped"),
+        }
+    }
+}
+
+impl Error for Cause {}
+
+/// Why the calling thread stops: it seals nothing and follows no plan.
+#[derive(Clone, Copy)]
+pub(crate) enum OwnCause {
+    /// A growth was refused.
+    Memory,
+    /// No thread could be started.
+    Spawn,
+    /// A worker is gone without an End.
+    Lost,
+}
+
+impl OwnCause {
+    /// The same among all causes.
+    pub(crate) fn cause(self) -> Cause
+        ensures { result ≡ cause_of self }
+    {
+        match self {
+            OwnCause::Memory => Cause::Memory,
+            OwnCause::Spawn => Cause::Spawn,
+            OwnCause::Lost => Cause::Lost,
+        }
+    }
+}

@@ -1,0 +1,62 @@
+//! What is answered where a relay stops.
+
+ghost use Rattle.std.specs.Prelude.{◌≡◌, Some};
+ghost use Rattle.krb_relay.specs.Cause.{code_of, words_at};
+
+use crate::cause::{Cause, OwnCause};
+use krb_peers::Log;
+use std::error::Error;
+use std::fmt;
+
+/// Why a relay on threads stopped, and the log so far.
+///
+/// A fault of the calling thread comes before those of the workers, and among these that of the
+/// least lane is named.
+#[derive(Drop)]
+pub struct Fault {
+    /// What was met.
+    pub cause: Cause,
+    /// At which lane, from 0 on.
+    pub lane: u32,
+    /// What became of the frames until then.
+    pub log: Log,
+}
+
+impl Fault {
+    /// The number of its cause.
+    pub fn code(&self) -> u32
+        ensures { result ≡ code_of self.now.cause }
+    {
+        self.cause.code()
+    }
+}
+
+impl fmt::Display for Fault {
+    ghost output = { λ fault. Some (words_at fault.lane fault.cause) };
+
+    fn fmt<W: fmt::Write>(&self, f: &mut fmt::Formatter<W>) -> fmt::Result {
+        write!(f, "lane {}: {}", self.lane, self.cause)
+    }
+}
+
+impl fmt::Debug for Fault {
+    fn fmt<W: fmt::Write>(&self, f: &mut fmt::Formatter<W>) -> fmt::Result {
+        write!(f, "{self}")
+    }
+}
+
+impl Error for Fault {}
+
+/// What the calling thread met, with the lane that was being made, started or served.
+#[derive(Clone, Copy)]
+pub(crate) struct OwnFault {
+    pub(crate) cause: OwnCause,
+    pub(crate) lane: u32,
+}
+
+/// What the worker of a lane met.
+#[derive(Clone, Copy)]
+pub(crate) struct WorkerFault {
+    pub(crate) cause: Cause,
+    pub(crate) lane: u32,
+}

@@ -1,0 +1,33 @@
+//! The relay on threads: one to eight senders, each with a worker and a lane of its own, and one
+//! receiving thread.
+//!
+//! [`relay`] starts a worker for each sender, which seals its texts and sends the frames, and
+//! receives in rounds on the calling thread: in each round one item of each lane whose end wasn't
+//! taken, by the lane's number. The log is one list, whatever runs when: that of the stepped relay
+//! of `krb_core` when it runs to its end. A [`Gate`] stands round each seal call.
+//!
+//! ```text
+//! let report = relay(&rt, alloc, sendings, receivings, 8, &NoGate)?;
+//! for entry in report.log.entries() { .. }
+//! ```
+//!
+//! [`relay`] waits for its workers. What it answers holds if it answers.
+#![tactic(auto)]
+
+mod cause;
+mod fault;
+mod gate;
+mod levels;
+mod rounds;
+mod running;
+mod serving;
+mod work;
+mod worker;
+
+pub use cause::Cause;
+pub use fault::Fault;
+pub use gate::{Gate, NoGate};
+pub use running::{Report, relay};
+
+#[cfg(test)]
+mod tests;

@@ -1,0 +1,157 @@
+//! The calling thread receives in rounds: in each one item of each lane whose End wasn't taken.
+
+ghost use Rattle.std.specs.Prelude.{◌≡◌, ◌↔◌, ◌<◌, ◌+◌, length, map, All, IsTrue, IfNone, IfSome, OnOk, OnErr};
+ghost use Rattle.std.specs.List.{AllZip};
+ghost use Rattle.krb_lane.specs.Side.{Side};
+ghost use Rattle.krb_peers.specs.Logged.{IsShut};
+ghost use Rattle.krb_relay.specs.Gathering.{IsEnded, NotesAll, lane_of};
+ghost use Rattle.krb_relay.specs.Heard.{all_heard, rounds_heard, AreAnswers};
+ghost use Rattle.krb_relay.specs.Serving.{Drains, Stands, Stops, Turns, post};
+
+use crate::cause::OwnCause;
+use crate::fault::OwnFault;
+use krb_lane::{Item, LaneRx, Lost};
+use krb_peers::{Log, Receiving};
+use std::alloc::Global;
+use std::snapshot::Snapshot;
+use std::sync::Wait;
+
+/// Serves all lanes to their Ends.
+pub(crate) fn serve_all<R: Wait>(
+    rt: &R,
+    alloc: Global,
+    starts: &Snapshot<Vec<Receiving>>,
+    ends: &mut [LaneRx],
+    receivings: &mut [Receiving],
+    log: &mut Log,
+) -> Result<(), OwnFault>
+    requires { Stands 0 starts.now.value.items ends.old receivings.old log.old }
+    ensures judged { OnOk result (All AreAnswers (all_heard starts.now.value.items ends.new)) }
+    ensures logged { OnOk result
+        (log.new.entries ≡ rounds_heard (all_heard starts.now.value.items ends.new)) }
+    ensures ended { OnOk result (All IsEnded ends.new) }
+    ensures noted { OnOk result (NotesAll log.new (length starts.now.value.items)) }
+    ensures lanes { OnOk result (log.new.lanes ≡ length starts.now.value.items) }
+    ensures stops { OnErr result (Stops starts.now.value.items ends.old ends.new log.new) }
+    ensures same { map lane_of ends.new ≡ map lane_of ends.old }
+{
+    for _ in rt.forever() {
+        if all_ended(ends) {
+            return Ok(());
+        }
+        round(rt, alloc, starts, ends, receivings, log)?;
+    }
+    unreachable!()
+}
+
+/// Whether the End of each lane was taken.
+fn all_ended(ends: &[LaneRx]) -> bool
+    ensures { IsTrue result ↔ All IsEnded ends.now }
+{
+    ends.iter().all(|rx| rx.ended())
+}
+
+/// One round.
+fn round<R: Wait>(
+    rt: &R,
+    alloc: Global,
+    starts: &Snapshot<Vec<Receiving>>,
+    ends: &mut [LaneRx],
+    receivings: &mut [Receiving],
+    log: &mut Log,
+) -> Result<(), OwnFault>
+    requires { Stands 0 starts.now.value.items ends.old receivings.old log.old }
+    ensures ok { OnOk result (Stands 0 starts.now.value.items ends.new receivings.new log.new) }
+    ensures err { OnErr result (Stops starts.now.value.items ends.old ends.new log.new) }
+    ensures same { map lane_of ends.new ≡ map lane_of ends.old }
+{
+    for lane in 0..ends.len() {
+        if let Err(cause) = turn_at(rt, alloc, starts, lane, ends, receivings, log) {
+            return Err(OwnFault {
+                cause,
+                lane: lane as u32,
+            });
+        }
+    }
+    Ok(())
+}
+
+/// The turn of a lane in a round.
+fn turn_at<R: Wait>(
+    rt: &R,
+    alloc: Global,
+    starts: &Snapshot<Vec<Receiving>>,
+    lane: usize,
+    ends: &mut [LaneRx],
+    receivings: &mut [Receiving],
+    log: &mut Log,
+) -> Result<(), OwnCause>
+    requires there { lane < length ends.old }
+    requires stands { Stands lane starts.now.value.items ends.old receivings.old log.old }
+    ensures ok { OnOk result
+        (Stands (lane + 1) starts.now.value.items ends.new receivings.new log.new) }
+    ensures err { OnErr result (Stops starts.now.value.items ends.old ends.new log.new) }
+    ensures same { map lane_of ends.new ≡ map lane_of ends.old }
+{
+    turn(rt, alloc, lane as u32, &mut ends[lane], &mut receivings[lane], log)
+}
+
+/// Takes the next item of a lane, where its End wasn't taken: a frame is judged, and what became of
+/// it goes to the log; an End is noted there.
+fn turn<R: Wait>(
+    rt: &R,
+    alloc: Global,
+    lane: u32,
+    rx: &mut LaneRx,
+    receiving: &mut Receiving,
+    log: &mut Log,
+) -> Result<(), OwnCause>
+    requires lane { lane < log.old.lanes }
+    requires shut { IsShut log.old lane receiving.old.receiver }
+    requires moments { 0 < length receiving.old.nows.items }
+    ensures ok { OnOk result ((start : Receiving)
+        → Turns lane (post start rx.old receiving.old) log.old
+        (post start rx.new receiving.new) log.new) }
+    ensures err { OnErr result (Drains rx.old rx.new × (log.new ≡ log.old)) }
+    ensures same { rx.new.lane ≡ rx.old.lane }
+{
+    if rx.ended() {
+        return Ok(());
+    }
+    match rx.take(rt) {
+        Ok(Item::Frame { index, bytes }) => {
+            let now = receiving.moment_at(index as usize);
+            let receiver = &mut receiving.receiver;
+            match receiver.take_into(log, alloc, lane, bytes.as_slice(), now) {
+                Ok(()) => Ok(()),
+                Err(_) => Err(OwnCause::Memory),
+            }
+        }
+        Ok(Item::End) => {
+            log.end(lane);
+            Ok(())
+        }
+        Err(Lost) => Err(OwnCause::Lost),
+    }
+}
+
+/// Takes what comes through each end up to End or to its loss, and drops it.
+pub(crate) fn drain<R: Wait>(rt: &R, ends: &mut [LaneRx])
+    ensures { AllZip Drains ends.old ends.new }
+{
+    for lane in 0..ends.len() {
+        drain_one(rt, &mut ends[lane]);
+    }
+}
+
+/// The same through one end.
+fn drain_one<R: Wait>(rt: &R, rx: &mut LaneRx)
+    ensures { Drains rx.old rx.new }
+{
+    for _ in rt.forever() {
+        match rx.take(rt) {
+            Ok(Item::Frame { .. }) => {}
+            Ok(Item::End) | Err(Lost) => return,
+        }
+    }
+}

@@ -1,0 +1,182 @@
+//! The relay of one to eight senders to their receivers.
+
+ghost use Rattle.std.specs.Prelude.{◌≡◌, ◌<◌, ◌≤◌, ℕ, [], All, IfOk, IfErr, map, length, vec_len};
+ghost use Rattle.krb_lane.specs.Side.{Side};
+ghost use Rattle.krb_peers.specs.Ends.{lanes_of};
+ghost use Rattle.krb_peers.specs.Log.{lane_limit, new_log};
+ghost use Rattle.krb_peers.specs.Sending.{source_of, sent_of, IsSender};
+ghost use Rattle.krb_peers.specs.Whole.{IsWhole};
+ghost use Rattle.krb_relay.specs.Gathering.{Gathers};
+ghost use Rattle.krb_relay.specs.Relayed.{StopsRelay};
+ghost use Rattle.krb_relay.specs.declared.worker.Handed.{Handed};
+
+use crate::cause::Cause;
+use crate::fault::Fault;
+use crate::gate::Gate;
+use crate::levels::{Gathered, level};
+use crate::work::Work;
+use crate::worker::{Handed, serve};
+use krb_lane::LaneTx;
+use krb_peers::{Log, Receiving, Sending, Sent};
+use krb_seal::Sealer;
+use std::alloc::{AllocError, Global};
+use std::sync::Wait;
+use std::thread;
+use std::thread::Threads;
+
+/// What came of a relay that took every lane to its End.
+#[derive(Drop)]
+pub struct Report {
+    /// What became of the frames.
+    pub log: Log,
+    /// How much each sender sealed.
+    pub sent: Vec<Sent>,
+}
+
+/// Seals the texts of each sender in a thread of its own, and relays them to its receiver.
+///
+/// There are one to eight senders, within their limits, and as many receivers, each with a moment;
+/// a lane queues `capacity` items, 1 to 64, End counted. The log of an Ok is that of the verdicts on
+/// all that the wires carry, in rounds: the same for every schedule and capacity, with the headline
+/// of each lane. A [`Fault`] has the log of a front of each lane's wire, of which the headline holds
+/// too. `BadPlan` and `Wiped` name the least lane whose plan is bad or whose sealer was wiped: the
+/// lanes below have their whole logs, and the lane itself no entry. Waits for the workers.
+pub fn relay<R: Threads + Wait + Sync, G: Gate + Sync, S: Sealer + Send>(
+    rt: &R,
+    alloc: Global,
+    mut sendings: Vec<Sending<S>>,
+    receivings: Vec<Receiving>,
+    capacity: usize,
+    gate: &G,
+) -> Result<Report, Fault>
+    requires same { length sendings.items ≡ length receivings.items }
+    requires some { 1 ≤ length sendings.items }
+    requires few { length sendings.items ≤ lane_limit }
+    requires senders { All (λ sending. IsSender (source_of S.state sending)) sendings.items }
+    requires moments { All (λ receiving. 0 < length receiving.nows.items) receivings.items }
+    requires capacity { (0 < capacity) × (capacity ≤ 64) }
+    ensures whole { IfOk result (λ report. IsWhole
+        (lanes_of S.state sendings.items receivings.items) report.log report.sent.items) }
+    ensures lanes { IfOk result (λ report. report.log.lanes ≡ length sendings.items) }
+    ensures stopped { IfErr result (λ fault. StopsRelay
+        (lanes_of S.state sendings.items receivings.items) fault.log fault.lane fault.cause) }
+{
+    let log = Log::new(alloc, sendings.len() as u32);
+    let Ok(sent) = sents(alloc, sendings.as_slice()) else {
+        return Err(Fault {
+            cause: Cause::Memory,
+            lane: 0,
+            log,
+        });
+    };
+    // Each level takes the last one.
+    sendings.reverse();
+    let work = Serve { rt, alloc, gate };
+    let Gathered {
+        ends: _,
+        log,
+        own,
+        fault,
+    } = run_all(rt, alloc, capacity, &work, sendings, receivings, log);
+    if let Some(own) = own {
+        return Err(Fault {
+            cause: own.cause.cause(),
+            lane: own.lane,
+            log,
+        });
+    }
+    match fault {
+        Some(fault) => Err(Fault {
+            cause: fault.cause,
+            lane: fault.lane,
+            log,
+        }),
+        None => Ok(Report { log, sent }),
+    }
+}
+
+/// How much each sender seals.
+fn sents<S: Sealer>(alloc: Global, sendings: &[Sending<S>]) -> Result<Vec<Sent>, AllocError>
+    ensures { IfOk result (λ sents.
+        sents.items ≡ map (λ sending. sent_of (source_of S.state sending)) sendings.now) }
+{
+    let mut sents = Vec::with_capacity(alloc, sendings.len())?;
+    for sending in sendings {
+        sents.push(sending.sent())?;
+    }
+    Ok(sents)
+}
+
+/// What the workers share.
+#[derive(Drop)]
+struct Serve<'e, R, G> {
+    rt: &'e R,
+    alloc: Global,
+    gate: &'e G,
+}
+
+impl<'e, R: Wait, G: Gate, S: Sealer> Work<Sending<S>> for Serve<'e, R, G> {
+    ghost use Rattle.std.specs.Prelude.{◌≡◌, []};
+    ghost use Rattle.krb_peers.specs.Sending.{source_of, IsSender};
+    ghost use Rattle.krb_relay.specs.Sent.{Served};
+
+    ghost can_run = { λ work part tx. (tx.frames ≡ []) × IsSender (source_of S.state part) };
+
+    ghost gives = { λ work part tx handed. Served (source_of S.state part) tx handed };
+
+    fn run(&self, lane: u32, part: Sending<S>, tx: LaneTx) -> Handed {
+        serve(self.rt, self.alloc, self.gate, lane, part, tx)
+    }
+}
+
+/// Runs a worker for each part, last part first, and gathers what came of the lanes.
+fn run_all<R: Threads + Wait + Sync, S: Send + Drop, W: Work<S> + Sync>(
+    rt: &R,
+    alloc: Global,
+    capacity: usize,
+    work: &W,
+    parts: Vec<S>,
+    receivings: Vec<Receiving>,
+    log: Log,
+) -> Gathered
+    requires capacity { (0 < capacity) × (capacity ≤ 64) }
+    requires pairs { vec_len parts ≡ vec_len receivings }
+    requires few { length receivings.items ≤ lane_limit }
+    requires moments { All (λ receiving. 0 < length receiving.nows.items) receivings.items }
+    requires callable { All (λ part. (tx : Side) → tx.frames ≡ []
+        → W.can_run work.now part tx) parts.items }
+    requires lane { (part : S) (tx : Side) (handed : Handed)
+        → W.gives work.now part tx handed → handed.all.lane ≡ tx.lane }
+    requires log { log ≡ new_log (length receivings.items) }
+    ensures { Gathers (W.gives work.now) parts.items receivings.items []
+        result.ends.items result.log result.own result.fault }
+{
+    thread::scope(
+        thread::scope_env(),
+        rt,
+        |scope| -> Gathered
+            requires { (0 < capacity) × (capacity ≤ 64) × (vec_len parts ≡ vec_len receivings)
+                × (length receivings.items ≤ lane_limit)
+                × All (λ receiving. 0 < length receiving.nows.items) receivings.items
+                × All (λ part. (tx : Side) → tx.frames ≡ []
+                → W.can_run work.now part tx) parts.items
+                × ((part : S) (tx : Side) (handed : Handed)
+                → W.gives work.now part tx handed → handed.all.lane ≡ tx.lane)
+                × (log ≡ new_log (length receivings.items)) }
+            ensures { Gathers (W.gives work.entry.now) parts.items receivings.items []
+                result.ends.items result.log result.own result.fault }
+        {
+            level(
+                scope,
+                rt,
+                alloc,
+                capacity,
+                work,
+                parts,
+                receivings,
+                Vec::new(alloc),
+                log,
+            )
+        },
+    )
+}

@@ -1,0 +1,57 @@
+//! What the calling thread does once the workers run, or where not all of them could be started.
+
+ghost use Rattle.std.specs.Prelude.{◌≡◌, ◌<◌, ◌≤◌, length, All, Some};
+ghost use Rattle.krb_peers.specs.Log.{lane_limit, new_log};
+ghost use Rattle.krb_relay.specs.Gathering.{Finished, IsFresh};
+
+use crate::fault::OwnFault;
+use crate::rounds::{drain, serve_all};
+use krb_lane::LaneRx;
+use krb_peers::{Log, Receiving};
+use std::alloc::Global;
+use std::snapshot::Snapshot;
+use std::sync::Wait;
+
+/// Serves all lanes to their Ends. After a fault of its own it takes what comes, and drops it.
+pub(crate) fn finish<R: Wait>(
+    rt: &R,
+    alloc: Global,
+    ends: &mut [LaneRx],
+    mut receivings: Vec<Receiving>,
+    log: &mut Log,
+) -> Option<OwnFault>
+    requires each { length ends.old ≡ length receivings.items }
+    requires few { length receivings.items ≤ lane_limit }
+    requires moments { All (λ receiving. 0 < length receiving.nows.items) receivings.items }
+    requires fresh { All IsFresh ends.old }
+    requires log { log.old ≡ new_log (length receivings.items) }
+    ensures { Finished receivings.items ends.old ends.new log.new result }
+{
+    let starts = Snapshot::of(&receivings);
+    let served = serve_all(rt, alloc, &starts, ends, receivings.as_mut_slice(), log);
+    match served {
+        Ok(()) => None,
+        Err(fault) => {
+            drain(rt, ends);
+            Some(fault)
+        }
+    }
+}
+
+/// Takes what comes from the workers that were started, and drops it.
+pub(crate) fn give_up<R: Wait>(
+    rt: &R,
+    ends: &mut [LaneRx],
+    receivings: &[Receiving],
+    log: &Log,
+    fault: OwnFault,
+) -> Option<OwnFault>
+    requires each { length ends.old ≤ length receivings.now }
+    requires fresh { All IsFresh ends.old }
+    requires log { log.now ≡ new_log (length receivings.now) }
+    ensures finished { Finished receivings.now ends.old ends.new log.now result }
+    ensures fault { result ≡ Some fault }
+{
+    drain(rt, ends);
+    Some(fault)
+}

@@ -1,0 +1,217 @@
+//! What a worker does: it seals its sender's records, and sends the frames.
+
+ghost use Rattle.std.specs.Prelude.{◌≡◌, ◌+◌, ◌<◌, ◌≤◌, ◌++◌, ◌∷◌, [], ℕ, List, length, false, Some, None, IfOk, IfErr, OnOk};
+ghost use Rattle.krb_aes.specs.Words.{AreBytes};
+ghost use Rattle.krb_base.specs.Prefix.{IsPrefix};
+ghost use Rattle.krb_peers.specs.Plan.{contents};
+ghost use Rattle.krb_peers.specs.Sender.{Source, AreFrames, records};
+ghost use Rattle.krb_peers.specs.Sending.{source_of, before, IsSender, HasSealed};
+ghost use Rattle.krb_relay.specs.Sent.{IsAll, IsCut, IsOfSealing, IsTrueOf, Sends, Served, with_plan};
+
+use crate::cause::Cause;
+use crate::gate::Gate;
+use krb_lane::{LaneTx, SentAll};
+use krb_peers::{Emit, EmitError, Sending, emit, known_bytes};
+use krb_seal::{SealError, Sealer};
+use std::alloc::Global;
+use std::sync::Wait;
+
+/// What a worker hands back: its end of the lane, and why it stopped, where it didn't send all.
+#[derive(Drop)]
+pub(crate) struct Handed {
+    pub(crate) all: SentAll,
+    pub(crate) cause: Option<Cause>,
+}
+
+/// Seals and sends what a sender has for its lane, and then End.
+///
+/// Without a plan each frame is sent before the next record is sealed. With one all is sealed and
+/// emitted first. The sealer is wiped where it lies.
+pub(crate) fn serve<R: Wait, G: Gate, S: Sealer>(
+    rt: &R,
+    alloc: Global,
+    gate: &G,
+    lane: u32,
+    mut sending: Sending<S>,
+    mut tx: LaneTx,
+) -> Handed
+    requires fresh { tx.frames ≡ [] }
+    requires sender { IsSender (source_of S.state sending) }
+    ensures { Served (source_of S.state sending) tx result }
+{
+    let cause = send_all(rt, alloc, gate, lane, &mut sending, &mut tx);
+    sending.sealer.wipe();
+    match tx.end(rt) {
+        Ok(all) => Handed { all, cause },
+        Err(tx) => Handed {
+            all: tx.stop(),
+            cause: Some(cause.unwrap_or(Cause::Lost)),
+        },
+    }
+}
+
+/// Seals and sends what a sender has for its lane: why no more, where that isn't all.
+fn send_all<R: Wait, G: Gate, S: Sealer>(
+    rt: &R,
+    alloc: Global,
+    gate: &G,
+    lane: u32,
+    sending: &mut Sending<S>,
+    tx: &mut LaneTx,
+) -> Option<Cause>
+    requires fresh { tx.old.frames ≡ [] }
+    requires sender { IsSender (source_of S.state sending.old) }
+    ensures sends { Sends (source_of S.state sending.old) tx.new.frames result }
+    ensures lane { tx.new.lane ≡ tx.old.lane }
+{
+    let sent = match sending.plan.take() {
+        None => seal_and_send(rt, alloc, gate, lane, sending, tx),
+        Some(plan) => send_planned(rt, alloc, gate, lane, sending, plan.as_slice(), tx),
+    };
+    match sent {
+        Ok(()) => None,
+        Err(cause) => Some(cause),
+    }
+}
+
+/// Seals the records and sends their frames in turn.
+fn seal_and_send<R: Wait, G: Gate, S: Sealer>(
+    rt: &R,
+    alloc: Global,
+    gate: &G,
+    lane: u32,
+    sending: &mut Sending<S>,
+    tx: &mut LaneTx,
+) -> Result<(), Cause>
+    requires fresh { tx.old.frames ≡ [] }
+    requires sender { IsSender (source_of S.state sending.old) }
+    requires unplanned { (source_of S.state sending.old).plan ≡ None }
+    ensures all { OnOk result (IsAll (source_of S.state sending.old) tx.new.frames) }
+    ensures cut { IfErr result (IsCut (source_of S.state sending.old) tx.new.frames) }
+    ensures lane { tx.new.lane ≡ tx.old.lane }
+{
+    for k in 0..sending.records() {
+        let frame = seal_one(alloc, gate, lane, sending, k)?;
+        if tx.send(rt, frame).is_err() {
+            return Err(Cause::Lost);
+        }
+    }
+    Ok(())
+}
+
+/// Seals all records, and sends what the plan makes of their frames.
+fn send_planned<R: Wait, G: Gate, S: Sealer>(
+    rt: &R,
+    alloc: Global,
+    gate: &G,
+    lane: u32,
+    sending: &mut Sending<S>,
+    plan: &[Emit],
+    tx: &mut LaneTx,
+) -> Result<(), Cause>
+    requires fresh { tx.old.frames ≡ [] }
+    requires sender { IsSender (source_of S.state sending.old) }
+    ensures all { OnOk result
+        (IsAll (with_plan (Some plan.now) (source_of S.state sending.old)) tx.new.frames) }
+    ensures cut { IfErr result
+        (IsCut (with_plan (Some plan.now) (source_of S.state sending.old)) tx.new.frames) }
+    ensures lane { tx.new.lane ≡ tx.old.lane }
+{
+    let wire = seal_planned(alloc, gate, lane, sending, plan)?;
+    send_wire(rt, wire, tx)
+}
+
+/// Sends the frames in turn.
+fn send_wire<R: Wait>(rt: &R, wire: Vec<Vec<u8>>, tx: &mut LaneTx) -> Result<(), Cause>
+    requires fresh { tx.old.frames ≡ [] }
+    ensures ok { OnOk result (tx.new.frames ≡ contents wire.items) }
+    ensures lost { IfErr result (λ cause. (cause ≡ Cause.Lost)
+        × IsPrefix tx.new.frames (contents wire.items)) }
+    ensures lane { tx.new.lane ≡ tx.old.lane }
+{
+    for frame in wire {
+        if tx.send(rt, frame).is_err() {
+            return Err(Cause::Lost);
+        }
+    }
+    Ok(())
+}
+
+/// Seals all records, and emits what the plan makes of their frames.
+fn seal_planned<G: Gate, S: Sealer>(
+    alloc: Global,
+    gate: &G,
+    lane: u32,
+    sending: &mut Sending<S>,
+    plan: &[Emit],
+) -> Result<Vec<Vec<u8>>, Cause>
+    requires { IsSender (source_of S.state sending.old) }
+    ensures all { IfOk result (λ wire.
+        IsAll (with_plan (Some plan.now) (source_of S.state sending.old)) (contents wire.items)) }
+    ensures none { IfErr result
+        (IsTrueOf (with_plan (Some plan.now) (source_of S.state sending.old)) []) }
+{
+    let frames = seal_each(alloc, gate, lane, sending)?;
+    match emit(alloc, frames.as_slice(), plan) {
+        Ok(wire) => Ok(wire),
+        Err(EmitError::BadPlan) => Err(Cause::BadPlan),
+        Err(EmitError::Memory) => Err(Cause::Memory),
+    }
+}
+
+/// The frames of all records.
+fn seal_each<G: Gate, S: Sealer>(
+    alloc: Global,
+    gate: &G,
+    lane: u32,
+    sending: &mut Sending<S>,
+) -> Result<Vec<Vec<u8>>, Cause>
+    requires { IsSender (source_of S.state sending.old) }
+    ensures frames { IfOk result (λ frames. AreFrames (source_of S.state sending.old)
+        (records (source_of S.state sending.old)) (contents frames.items)) }
+    ensures live { OnOk result ((S.state sending.old.sealer).wiped ≡ false) }
+    ensures cause { IfErr result (IsOfSealing (S.state sending.old.sealer).wiped) }
+{
+    let count = sending.records();
+    let Ok(mut frames) = Vec::with_capacity(alloc, count) else {
+        return Err(Cause::Memory);
+    };
+    for k in 0..count {
+        let frame = seal_one(alloc, gate, lane, sending, k)?;
+        if frames.push(frame).is_err() {
+            return Err(Cause::Memory);
+        }
+    }
+    Ok(frames)
+}
+
+/// The frame of record `k`, sealed within the gate.
+fn seal_one<G: Gate, S: Sealer>(
+    alloc: Global,
+    gate: &G,
+    lane: u32,
+    sending: &mut Sending<S>,
+    k: usize,
+) -> Result<Vec<u8>, Cause>
+    requires sender { IsSender (source_of S.state sending.old) }
+    requires begun { k ≤ (S.state sending.old.sealer).next }
+    requires there { k < length (records (before k (source_of S.state sending.old))) }
+    ensures frames { IfOk result (λ frame. (source : Source) (frames : List (List ℕ))
+        → HasSealed source k frames (source_of S.state sending.old)
+        → HasSealed source (k + 1) (frames ++ frame.items ∷ []) (source_of S.state sending.new)) }
+    ensures bytes { IfOk result (λ frame. AreBytes frame.items) }
+    ensures live { OnOk result ((S.state sending.old.sealer).wiped ≡ false) }
+    ensures cause { IfErr result (IsOfSealing (S.state sending.old.sealer).wiped) }
+{
+    gate.enter(lane);
+    let sealed = sending.seal_record(alloc, k);
+    gate.leave(lane);
+    match sealed {
+        Ok(frame) => {
+            known_bytes(frame.as_slice());
+            Ok(frame)
+        }
+        Err(SealError::Wiped) => Err(Cause::Wiped),
+        Err(_) => Err(Cause::Memory),
+    }
+}
