@@ -6,8 +6,8 @@ mod log_lines;
 mod rows;
 mod senders;
 
-use super::*;
-use std::alloc::Global;
+use crate::{Cause, Fault};
+use krb_peers::Log;
 use std::test::Fail;
 
 #[test]
@@ -24,7 +24,7 @@ fn causes_have_numbers_and_words(rt: HostRuntime) -> Result<(), Fail> {
         let fault = Fault {
             cause,
             lane: 3,
-            log: krb_peers::Log::new(rt.alloc(), 4),
+            log: Log::new(rt.alloc(), 4),
         };
         assert_eq!(rt; fault.code(), code);
         let shown = format!(in rt.alloc(); "{fault}")?;

@@ -1,0 +1,93 @@
+-- Why a relay stops of senders that were not wiped.
+use Rattle.std.proofs.Common.{◌≡◌, ◌<◌, ℕ, zero, suc, true, false, List, [], ◌∷◌, slice_get, Some, ◌⊎◌, inl, inr, refl, sym, ap, subst, ◌∙◌, arith}
+use Rattle.std.specs.Prelude.{All}
+use Rattle.krb_job.specs.declared.bad_input.BadInput.{BadInput}
+use Rattle.krb_seal.specs.Sealer.{SealerState}
+use Rattle.krb_peers.specs.declared.receiver.Receiving.{Receiving}
+use Rattle.krb_peers.specs.declared.sending.Sending.{Sending}
+use Rattle.krb_peers.specs.Ends.{Ends, ends_of, lanes_of}
+use Rattle.krb_peers.specs.LogState.{LogState}
+use Rattle.krb_peers.specs.Run.{Run, AreRuns}
+use Rattle.krb_peers.specs.Wire.{IsWire}
+use Rattle.krb_relay.specs.declared.cause.Cause.{Cause}
+use Rattle.krb_relay.specs.declared.cause.Cause.TheVariants.{Memory, Spawn, Lost, BadPlan, Wiped}
+use Rattle.krb_relay.specs.Relayed.{IsLeast, StopsRelay}
+use Rattle.krb_commands.specs.declared.fault.Fault.{Fault}
+use Rattle.krb_commands.specs.declared.fault.Fault.TheVariants as fault
+use Rattle.krb_commands.specs.Fault.{bad_plan, of_relay, IsLiveCause, IsOfPrinting}
+use Rattle.krb_commands.specs.Relayed.{HasBadPlanFirst}
+
+-- ---- a lane and its run
+
+run_there : (lanes : List Ends) (runs : List Run) → AreRuns lanes runs → (lane : ℕ) (run : Run) → slice_get runs lane ≡ Some run → slice_get lanes lane ≡ Some run.ends
+run_there [] [] are lane run at = absurd (let e = at in cc)
+run_there [] (r ∷ runs) are lane run at = absurd are
+run_there (ends ∷ lanes) [] are lane run at = absurd are
+run_there (ends ∷ lanes) (r ∷ runs) are zero run at =
+    let e : r ≡ run = cc in
+    ap (λ x. Some x) (sym are.0 ∙ ap (λ (x : Run). x.ends) e)
+run_there (ends ∷ lanes) (r ∷ runs) are (suc lane) run at = run_there lanes runs are.2 lane run at
+
+ends_there : (lanes : List Ends) (runs : List Run) → AreRuns lanes runs → (lane : ℕ) (ends : Ends) → slice_get lanes lane ≡ Some ends → (run : Run) × (slice_get runs lane ≡ Some run) × (run.ends ≡ ends)
+ends_there [] runs are lane ends at = absurd (let e = at in cc)
+ends_there (first ∷ lanes) [] are lane ends at = absurd are
+ends_there (first ∷ lanes) (r ∷ runs) are zero ends at =
+    let e : first ≡ ends = cc in
+    (r, refl, are.0 ∙ e)
+ends_there (first ∷ lanes) (r ∷ runs) are (suc lane) ends at = ends_there lanes runs are.2 lane ends at
+
+-- ---- a plan that is named
+
+first_bad_plan : (lanes : List Ends) (log : LogState) (lane : ℕ) → StopsRelay lanes log lane BadPlan → HasBadPlanFirst lanes lane
+first_bad_plan lanes log lane h =
+    let r = h.relayed in
+    let l : IsLeast r.runs lane BadPlan = h.names in
+    record {
+      ends = l.run.ends;
+      there = run_there lanes r.runs r.are lane l.run l.named;
+      bad = l.reason.1;
+      before = λ other its lt at.
+          let found = ends_there lanes r.runs r.are other its at in
+          let whole = l.below other found.0 lt found.1 in
+          let P : Ends → Type 0 = λ e. IsWire e.source (found.0).took in
+          ((found.0).took, subst P found.2 whole.emits);
+    }
+
+-- ---- senders that were not wiped
+
+live_at : {S : Type 0} (state : S → SealerState) (sendings : List (Sending S)) (receivings : List Receiving) → All (λ s. (state s.sealer).wiped ≡ false) sendings
+    → (lane : ℕ) (ends : Ends) → slice_get (lanes_of state sendings receivings) lane ≡ Some ends → ends.source.sealer.wiped ≡ false
+live_at state [] receivings live lane ends at = absurd (let e = at in cc)
+live_at state (s ∷ ss) [] live lane ends at = absurd (let e = at in cc)
+live_at state (s ∷ ss) (r ∷ rs) live zero ends at =
+    let same : ends_of state (s, r) ≡ ends = cc in
+    let P : Ends → Type 0 = λ e. e.source.sealer.wiped ≡ false in
+    subst P same (live 0 s (omega arith))
+live_at state (s ∷ ss) (r ∷ rs) live (suc lane) ends at = live_at state ss rs (λ k d lt. live (suc k) d (omega arith)) lane ends at
+
+module _ {S : Type 0} (state : S → SealerState) (sendings : List (Sending S)) (receivings : List Receiving) (live : All (λ s. (state s.sealer).wiped ≡ false) sendings) where
+  pub live_cause : (log : LogState) (lane : ℕ) (cause : Cause) → StopsRelay (lanes_of state sendings receivings) log lane cause → IsLiveCause cause
+  live_cause log lane Memory h = tt
+  live_cause log lane Spawn h = tt
+  live_cause log lane Lost h = tt
+  live_cause log lane BadPlan h = tt
+  live_cause log lane Wiped h =
+      let r = h.relayed in
+      let l : IsLeast r.runs lane Wiped = h.names in
+      let flag : l.run.ends.source.sealer.wiped ≡ false = live_at state sendings receivings live lane l.run.ends (run_there (lanes_of state sendings receivings) r.runs r.are lane l.run l.named) in
+      let e : true ≡ false = sym (l.reason.0) ∙ flag in
+      cc
+
+none_printed : (told : Fault) (bad : BadInput) → told ≡ fault.BadInput bad → IsOfPrinting told → ⊥
+none_printed told bad is h = subst IsOfPrinting is h
+
+-- where bad input is told, it is that plan
+pub names_bad_plan : (lanes : List Ends) (log : LogState) (lane : ℕ) (cause : Cause) (told : Fault) (bad : BadInput) → StopsRelay lanes log lane cause → (told ≡ of_relay cause lane) ⊎ IsOfPrinting told → told ≡ fault.BadInput bad
+    → (at : ℕ) × (bad ≡ bad_plan at) × HasBadPlanFirst lanes at
+names_bad_plan lanes log lane cause told bad h (inr printing) named = absurd (none_printed told bad named printing)
+names_bad_plan lanes log lane Memory told bad h (inl is) named = absurd (let e : fault.Stopped ≡ fault.BadInput bad = sym is ∙ named in cc)
+names_bad_plan lanes log lane Spawn told bad h (inl is) named = absurd (let e : fault.Thread ≡ fault.BadInput bad = sym is ∙ named in cc)
+names_bad_plan lanes log lane Lost told bad h (inl is) named = absurd (let e : fault.Thread ≡ fault.BadInput bad = sym is ∙ named in cc)
+names_bad_plan lanes log lane BadPlan told bad h (inl is) named =
+    (lane, (let e : fault.BadInput (bad_plan lane) ≡ fault.BadInput bad = sym is ∙ named in let f : bad_plan lane ≡ bad = cc in sym f), first_bad_plan lanes log lane h)
+names_bad_plan lanes log lane Wiped told bad h (inl is) named = absurd (let e : fault.Memory ≡ fault.BadInput bad = sym is ∙ named in cc)
