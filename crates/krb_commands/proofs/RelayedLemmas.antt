@@ -1,5 +1,5 @@
 -- What `relay` has printed.
-use Rattle.std.proofs.Common.{◌≡◌, ℕ, suc, ◌+◌, ◌&&◌, Bool, true, false, List, [], ◌∷◌, ◌++◌, map, drop, slice_get, Some, Option, Result, Ok, Err, OnOk, OnErr, IfOk, refl, sym, ap, ap₂, subst, ◌∙◌, arith, append-nil, append_assoc, inl, inr}
+use Rattle.std.proofs.Common.{◌≡◌, ℕ, suc, ◌+◌, ◌&&◌, Bool, true, false, List, [], ◌∷◌, ◌++◌, length, map, drop, slice_get, Some, Option, Result, Ok, Err, OnOk, OnErr, IfOk, ◌⊎◌, refl, sym, ap, ap₂, subst, ◌∙◌, arith, append-nil, append_assoc, inl, inr}
 use Rattle.std.specs.List.{concat}
 use Rattle.std.specs.Io.KnownBytes.{Appends, Keeps}
 use Rattle.std.proofs.KnownBytes.{Appends-trans, Appends-nil}
@@ -7,7 +7,10 @@ use Rattle.krb_peers.specs.declared.sending.Sent.{Sent}
 use Rattle.krb_peers.specs.Log.{status_of}
 use Rattle.krb_peers.specs.LogState.{LogState}
 use Rattle.krb_peers.proofs.ListLemmas.{drop_get}
-use Rattle.krb_peers.specs.Ends.{Ends, sents_of}
+use Rattle.krb_seal.specs.Sealer.{SealerState}
+use Rattle.krb_peers.specs.declared.receiver.Receiving.{Receiving}
+use Rattle.krb_peers.specs.declared.sending.Sending.{Sending}
+use Rattle.krb_peers.specs.Ends.{Ends, lanes_of, sents_of}
 use Rattle.krb_peers.specs.Whole.{IsRelayed, IsWhole}
 use Rattle.krb_relay.specs.Relayed.{unended}
 use Rattle.krb_commands.specs.JobLines.{entry_line, entry_lines, end_line, end_lines, are_closed, is_closed_state, status_by}
@@ -58,6 +61,16 @@ module _ (old then now : Option (List ℕ)) (sents : List Sent) (log : LogState)
 
 -- ---- what is printed of a whole relay
 
+-- as much is told as there are senders
+pub sents_many : {S : Type 0} (state : S → SealerState) (sendings : List (Sending S)) (receivings : List Receiving) (sents : List Sent) → length sendings ≡ length receivings
+    → sents ≡ sents_of (lanes_of state sendings receivings) → length sents ≡ length sendings
+sents_many {S} state sendings receivings sents same are = ap length are ∙ many sendings receivings same
+  where
+    many : (ss : List (Sending S)) (rs : List Receiving) → length ss ≡ length rs → length (sents_of (lanes_of state ss rs)) ≡ length ss
+    many [] rs e = refl
+    many (s ∷ ss) [] e = absurd (omega (arith, e))
+    many (s ∷ ss) (r ∷ rs) e = ap suc (many ss rs (omega (arith, e)))
+
 module _ (lanes : List Ends) (log : LogState) (old then now : Option (List ℕ)) where
   -- the entries until it stopped, or a prefix of them
   pub part_printed : IsRelayed lanes (unended log) → Keeps old now ⊎ AppendsPrefix old now (entry_lines log.entries) → PrintsRelayedPrefix lanes old now
@@ -65,8 +78,8 @@ module _ (lanes : List Ends) (log : LogState) (old then now : Option (List ℕ))
   part_printed relayed (inr p) = inr (inr (log, relayed, p))
 
   -- a prefix of the entries of a whole relay
-  pub entries_front : IsWhole lanes log (sents_of lanes) → AppendsPrefix old now (entry_lines log.entries) → PrintsRelayedPrefix lanes old now
-  entries_front h p = inr (inl (log, h, AppendsPrefix-after old old now [] (entry_lines log.entries) (relayed_text lanes log) (Appends-nil old) p (end_lines 0 (sents_of lanes) log) refl))
+  pub entries_front : (sents : List Sent) → IsWhole lanes log sents → AppendsPrefix old now (entry_lines log.entries) → PrintsRelayedPrefix lanes old now
+  entries_front sents h p = inr (inl (log, subst (λ (l : List Sent). IsWhole lanes log l) h.sealed h, AppendsPrefix-after old old now [] (entry_lines log.entries) (relayed_text lanes log) (Appends-nil old) p (end_lines 0 (sents_of lanes) log) refl))
 
   module _ (sents : List Sent) (left : IsWhole lanes log sents) (are : sents ≡ sents_of lanes) (first : Appends old then (concat (map entry_line log.entries))) where
     h : IsWhole lanes log (sents_of lanes)

@@ -4,15 +4,13 @@ use Rattle.std.specs.Io.KnownBytes.{Keeps}
 use Rattle.krb_peers.specs.Sender.{Source}
 use Rattle.krb_peers.specs.Ends.{Ends}
 use Rattle.krb_peers.specs.Wire.{IsBad}
-use Rattle.krb_core.specs.Start.{FailsAt}
-use Rattle.krb_peers.specs.declared.start.StartError.TheVariants as start
 use Rattle.krb_job.specs.declared.bad_input.BadInput.{BadInput}
 use Rattle.krb_job.specs.Job.{Job}
 use Rattle.krb_job.specs.Sender.{Sender}
 use Rattle.krb_commands.specs.Fault.{bad_plan}
 use Rattle.krb_commands.specs.Sealed.{PrintsSealed, PrintsSealedPrefix}
 use Rattle.krb_commands.specs.Opened.{PrintsFirst, PrintsOpened, PrintsOpenedPrefix}
-use Rattle.krb_commands.specs.Relayed.{PrintsRelayed, PrintsRelayedPrefix, PrintsStopped}
+use Rattle.krb_commands.specs.Relayed.{HasBadPlanFirst, PrintsRelayed, PrintsRelayedPrefix, PrintsStopped}
 use Rattle.krb_commands.specs.Ends.{source_told, receiver_of, lane_told}
 use Rattle.krbrelay.specs.Told.{Told, TellsOne}
 
@@ -79,11 +77,11 @@ RelaysJobPrefix job old new =
 abbrev pub StopsJob : Job → Option (List ℕ) → Option (List ℕ) → Type 0
 StopsJob job old new = (lanes : List Ends) × AreLanes job lanes × PrintsStopped lanes old new
 
--- the first lane that doesn't begin has a bad plan
+-- the plan of a lane is bad, and of none before it
 abbrev pub HasBadPlan : Job → BadInput → Type 0
 HasBadPlan job bad =
     (lanes : List Ends) × (lane : ℕ) × AreLanes job lanes × (bad ≡ bad_plan lane)
-    × FailsAt job.capacity lanes (start.BadPlan lane)
+    × HasBadPlanFirst lanes lane
 
 abbrev pub Relays : Told → Option (List ℕ) → Option (List ℕ) → ℕ → Type 0
 Relays told old new status = (job : Job) × (told ≡ Ok job) × RelaysJob job old new status

@@ -21,9 +21,12 @@ use krb_commands::{
 };
 use krb_job::{Command, Job, SenderJob, read_job};
 use krb_peers::{Receiving, Sending};
+use krb_relay::NoGate;
 use krb_seal::{Aes128Sealer, Aes256Sealer, Sealer};
 use std::alloc::Global;
 use std::io::{Read, Write};
+use std::sync::Wait;
+use std::thread::Threads;
 
 /// Seals the texts of the job's one sender.
 pub fn seal<R: Read, W: Write>(alloc: Global, reader: &mut R, writer: &mut W) -> Result<u8, Fault>
@@ -43,6 +46,7 @@ pub fn seal<R: Read, W: Write>(alloc: Global, reader: &mut R, writer: &mut W) ->
     ensures read_fault_prints_nothing { result ≡ Err Fault.Read
         → Keeps (W.contents writer.old) (W.contents writer.new) }
     ensures never_stopped { ¬ (result ≡ Err Fault.Stopped) }
+    ensures no_thread { ¬ (result ≡ Err Fault.Thread) }
     ensures prefix { (told : Told) → IsTold Command.Seal (R.remaining reader.old) told
         → OnErr result (SealsPrefix told (W.contents writer.old) (W.contents writer.new)) }
 {
@@ -121,6 +125,7 @@ pub fn open<R: Read, W: Write>(alloc: Global, reader: &mut R, writer: &mut W) ->
     ensures stopped { (told : Told) → IsTold Command.Open (R.remaining reader.old) told
         → result ≡ Err Fault.Stopped
         → OpensFirst told (W.contents writer.old) (W.contents writer.new) }
+    ensures no_thread { ¬ (result ≡ Err Fault.Thread) }
     ensures prefix { (told : Told) → IsTold Command.Open (R.remaining reader.old) told
         → OnErr result (OpensPrefix told (W.contents writer.old) (W.contents writer.new)) }
 {
@@ -129,8 +134,13 @@ pub fn open<R: Read, W: Write>(alloc: Global, reader: &mut R, writer: &mut W) ->
     open_job(alloc, receiving, sender.frames.as_slice(), writer)
 }
 
-/// Relays the texts of all senders of the job.
-pub fn relay<R: Read, W: Write>(alloc: Global, reader: &mut R, writer: &mut W) -> Result<u8, Fault>
+/// Relays the texts of all senders of the job, each sealed in a thread of its own.
+pub fn relay<T: Threads + Wait + Sync, R: Read, W: Write>(
+    rt: &T,
+    alloc: Global,
+    reader: &mut R,
+    writer: &mut W,
+) -> Result<u8, Fault>
     ensures printed { (told : Told) → IsTold Command.Relay (R.remaining reader.old) told
         → IfOk result (Relays told (W.contents writer.old) (W.contents writer.new)) }
 
@@ -148,15 +158,23 @@ pub fn relay<R: Read, W: Write>(alloc: Global, reader: &mut R, writer: &mut W) -
     ensures stopped { (told : Told) → IsTold Command.Relay (R.remaining reader.old) told
         → result ≡ Err Fault.Stopped
         → StopsRelay told (W.contents writer.old) (W.contents writer.new) }
+    ensures thread { (told : Told) → IsTold Command.Relay (R.remaining reader.old) told
+        → result ≡ Err Fault.Thread
+        → StopsRelay told (W.contents writer.old) (W.contents writer.new) }
     ensures prefix { (told : Told) → IsTold Command.Relay (R.remaining reader.old) told
         → OnErr result (RelaysPrefix told (W.contents writer.old) (W.contents writer.new)) }
 {
     let job = told_job(alloc, reader, Command::Relay)?;
-    relay_senders(alloc, job, writer)
+    relay_senders(rt, alloc, job, writer)
 }
 
 /// Relays the texts of the senders of a job, each of which has a seed.
-fn relay_senders<W: Write>(alloc: Global, job: Job, writer: &mut W) -> Result<u8, Fault>
+fn relay_senders<T: Threads + Wait + Sync, W: Write>(
+    rt: &T,
+    alloc: Global,
+    job: Job,
+    writer: &mut W,
+) -> Result<u8, Fault>
     requires { All (λ sender. IsSome sender.seed) job.senders.items }
     ensures printed { IfOk result (λ status.
         RelaysJob (job_view job) (W.contents writer.old) (W.contents writer.new) status) }
@@ -166,6 +184,8 @@ fn relay_senders<W: Write>(alloc: Global, job: Job, writer: &mut W) -> Result<u8
     ensures bad_plan_prints_nothing { (bad : BadInput) → result ≡ Err (Fault.BadInput bad)
         → Keeps (W.contents writer.old) (W.contents writer.new) }
     ensures stopped { result ≡ Err Fault.Stopped
+        → StopsJob (job_view job) (W.contents writer.old) (W.contents writer.new) }
+    ensures thread { result ≡ Err Fault.Thread
         → StopsJob (job_view job) (W.contents writer.old) (W.contents writer.new) }
     ensures prefix { OnErr result
         (RelaysJobPrefix (job_view job) (W.contents writer.old) (W.contents writer.new)) }
@@ -182,7 +202,7 @@ fn relay_senders<W: Write>(alloc: Global, job: Job, writer: &mut W) -> Result<u8
         };
         push_told(alloc, &mut sendings, &mut receivings, sender, sealer)?;
     }
-    relay_job(alloc, sendings, receivings, capacity, writer)
+    relay_job(rt, alloc, sendings, receivings, capacity, writer, &NoGate)
 }
 
 /// Adds a sender's lane to those of the senders before it.

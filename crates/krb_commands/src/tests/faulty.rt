@@ -13,7 +13,9 @@ use std::alloc::Global;
 use std::io;
 use std::io::{ErrorKind, Read, Write};
 use std::process::Abort;
+use std::sync::Wait;
 use std::test::Fail;
+use std::thread::Threads;
 
 /// What happens at the call that fails.
 #[derive(Clone, Copy, PartialEq, Eq)]
@@ -135,7 +137,7 @@ fn each_write_fails_or_takes_nothing_in_turn(rt: HostRuntime) {
 
 /// What a command answers and writes where the writer fails.
 fn run_with_write_fault(
-    rt: &(impl Abort + Alloc<A = Global>),
+    rt: &(impl Threads + Wait + Sync + Abort + Alloc<A = Global>),
     command: Command,
     job: &str,
     fails_at: usize,
@@ -154,7 +156,7 @@ fn run_with_write_fault(
 /// Asserts that each call before the last tells its fault and leaves a part of the text, and that
 /// the last is not made.
 fn assert_write_faults(
-    rt: &(impl Abort + Alloc<A = Global>),
+    rt: &(impl Threads + Wait + Sync + Abort + Alloc<A = Global>),
     command: Command,
     job: &str,
     last: usize,

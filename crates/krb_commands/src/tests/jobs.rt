@@ -1,6 +1,6 @@
 //! The job that the tests change, and what a command answers to it.
 
-ghost use Rattle.std.specs.Prelude.{◌≡◌, ◌≤◌, false, IsSome};
+ghost use Rattle.std.specs.Prelude.{◌≡◌, ◌<◌, ◌≤◌, false, IsSome};
 ghost use Rattle.krb_base.specs.Limits.{last_number};
 
 use crate::ends::{SessionKey, key_of, push_lane, receiving_of, sending_of, session_of};
@@ -9,11 +9,14 @@ use crate::opening::open_job;
 use crate::relaying::relay_job;
 use crate::sealing::seal_job;
 use krb_job::{Command, Job, SenderJob, read_job};
+use krb_relay::NoGate;
 use krb_seal::{Aes128Sealer, Aes256Sealer, Sealer};
 use std::alloc::{AllocError, Global};
 use std::io::Write;
 use std::process::Abort;
+use std::sync::Wait;
 use std::test::Fail;
+use std::thread::Threads;
 
 /// The keys of a sender and their values, as TOML. A key with no value is left out.
 ///
@@ -86,7 +89,7 @@ pub fn sender_with(
 
 /// Runs a command on a job of one or two senders.
 pub fn run<W: Write>(
-    rt: &(impl Abort + Alloc<A = Global>),
+    rt: &(impl Threads + Wait + Sync + Abort + Alloc<A = Global>),
     command: Command,
     job: &str,
     writer: &mut W,
@@ -111,7 +114,7 @@ fn open<W: Write>(alloc: Global, sender: SenderJob, writer: &mut W) -> Result<u8
 }
 
 fn seal<W: Write>(
-    rt: &(impl Abort + Alloc<A = Global>),
+    rt: &(impl Threads + Wait + Sync + Abort + Alloc<A = Global>),
     sender: SenderJob,
     writer: &mut W,
 ) -> Result<u8, Fault> {
@@ -131,12 +134,13 @@ fn seal<W: Write>(
 }
 
 fn relay_one<W: Write>(
-    rt: &(impl Abort + Alloc<A = Global>),
+    rt: &(impl Threads + Wait + Sync + Abort + Alloc<A = Global>),
     sender: SenderJob,
     capacity: usize,
     writer: &mut W,
 ) -> Result<u8, Fault> {
-    assert!(rt; sender.seed.is_some() && capacity >= 1);
+    assert!(rt; sender.seed.is_some());
+    assert!(rt; 0 < capacity && capacity <= 64);
     let alloc = rt.alloc();
     let session = session_of(alloc, &sender)?;
     let receivings = vec![in alloc; receiving_of(alloc, &sender)?]?;
@@ -144,24 +148,25 @@ fn relay_one<W: Write>(
         SessionKey::Aes128(mut key) => {
             let sealer = Aes128Sealer::new(&mut key, session);
             let sendings = vec![in alloc; sending_of(alloc, sender, sealer)?]?;
-            relay_job(alloc, sendings, receivings, capacity, writer)
+            relay_job(rt, alloc, sendings, receivings, capacity, writer, &NoGate)
         }
         SessionKey::Aes256(mut key) => {
             let sealer = Aes256Sealer::new(&mut key, session);
             let sendings = vec![in alloc; sending_of(alloc, sender, sealer)?]?;
-            relay_job(alloc, sendings, receivings, capacity, writer)
+            relay_job(rt, alloc, sendings, receivings, capacity, writer, &NoGate)
         }
     }
 }
 
 fn relay_two<W: Write>(
-    rt: &(impl Abort + Alloc<A = Global>),
+    rt: &(impl Threads + Wait + Sync + Abort + Alloc<A = Global>),
     first: SenderJob,
     second: SenderJob,
     capacity: usize,
     writer: &mut W,
 ) -> Result<u8, Fault> {
-    assert!(rt; first.seed.is_some() && second.seed.is_some() && capacity >= 1);
+    assert!(rt; first.seed.is_some() && second.seed.is_some());
+    assert!(rt; 0 < capacity && capacity <= 64);
     let alloc = rt.alloc();
     let session = session_of(alloc, &first)?;
     let sealer: Box<dyn Sealer + Send> = match key_of(&first) {
@@ -173,11 +178,12 @@ fn relay_two<W: Write>(
         SessionKey::Aes128(mut key) => Box::new(alloc, Aes128Sealer::new(&mut key, session))?,
         SessionKey::Aes256(mut key) => Box::new(alloc, Aes256Sealer::new(&mut key, session))?,
     };
-    relay_sealed(alloc, (first, sealer), (second, other), capacity, writer)
+    relay_sealed(rt, alloc, (first, sealer), (second, other), capacity, writer)
 }
 
 /// Relays the texts of two senders, each with its sealer.
-fn relay_sealed<S: Sealer, W: Write>(
+fn relay_sealed<T: Threads + Wait + Sync, S: Sealer + Send, W: Write>(
+    rt: &T,
     alloc: Global,
     first: (SenderJob, S),
     second: (SenderJob, S),
@@ -190,18 +196,18 @@ fn relay_sealed<S: Sealer, W: Write>(
     requires other_next { (S.state second.1).next ≤ last_number }
     requires live { (S.state first.1).wiped ≡ false }
     requires other_live { (S.state second.1).wiped ≡ false }
-    requires room { 1 ≤ capacity }
+    requires room { (0 < capacity) × (capacity ≤ 64) }
 {
     let mut sendings = Vec::new(alloc);
     let mut receivings = Vec::new(alloc);
     push_lane(alloc, &mut sendings, &mut receivings, first.0, first.1)?;
     push_lane(alloc, &mut sendings, &mut receivings, second.0, second.1)?;
-    relay_job(alloc, sendings, receivings, capacity, writer)
+    relay_job(rt, alloc, sendings, receivings, capacity, writer, &NoGate)
 }
 
 /// Whether the command answers the job by this status and this output.
 pub fn answers(
-    rt: &(impl Abort + Alloc<A = Global>),
+    rt: &(impl Threads + Wait + Sync + Abort + Alloc<A = Global>),
     command: Command,
     job: &str,
     status: u8,
@@ -214,7 +220,7 @@ pub fn answers(
 
 /// Whether the command answers a job of one sender, with these changes, so.
 pub fn prints(
-    rt: &(impl Abort + Alloc<A = Global>),
+    rt: &(impl Threads + Wait + Sync + Abort + Alloc<A = Global>),
     command: Command,
     changes: &[(&str, &str)],
     status: u8,
@@ -226,7 +232,7 @@ pub fn prints(
 
 /// Whether the command finds the job bad, for which this is its line, and prints nothing.
 pub fn is_bad(
-    rt: &(impl Abort + Alloc<A = Global>),
+    rt: &(impl Threads + Wait + Sync + Abort + Alloc<A = Global>),
     command: Command,
     job: &str,
     line: &str,

@@ -5,7 +5,9 @@ use super::jobs::{answers, listed, run, sender_with};
 use krb_job::Command;
 use std::alloc::{AllocError, Global};
 use std::process::Abort;
+use std::sync::Wait;
 use std::test::Fail;
+use std::thread::Threads;
 
 /// The job of the receiver of these frames, with these changes. It has no keys of a sender.
 pub fn receiver(
@@ -25,7 +27,7 @@ pub fn receiver(
 
 /// Whether `open` answers so to these frames, with these changes of the job.
 fn opens(
-    rt: &(impl Abort + Alloc<A = Global>),
+    rt: &(impl Threads + Wait + Sync + Abort + Alloc<A = Global>),
     changes: &[(&str, &str)],
     frames: &[&str],
     status: u8,
@@ -96,7 +98,7 @@ fn all_of(alloc: Global, texts: &[&str]) -> Result<String, AllocError> {
 
 /// Whether `open` gives each text of what `seal` makes of them, with these changes of the job.
 fn come_back(
-    rt: &(impl Abort + Alloc<A = Global>),
+    rt: &(impl Threads + Wait + Sync + Abort + Alloc<A = Global>),
     changes: &[(&str, &str)],
     texts: &[&str],
 ) -> Result<bool, Fail> {

@@ -5,11 +5,13 @@ use super::jobs::{answers, is_bad, prints, sender, sender_with};
 use krb_job::Command;
 use std::alloc::{AllocError, Global};
 use std::process::Abort;
+use std::sync::Wait;
 use std::test::Fail;
+use std::thread::Threads;
 
 /// Whether `relay` answers so to a job of one sender, with these changes.
 fn relays(
-    rt: &(impl Abort + Alloc<A = Global>),
+    rt: &(impl Threads + Wait + Sync + Abort + Alloc<A = Global>),
     changes: &[(&str, &str)],
     status: u8,
     text: &str,
@@ -27,7 +29,7 @@ lane 1 sent 0 of 0 DONE CLOSED
 
 /// A job of two senders. The first says `a` and `b`, the second has these changes.
 pub fn two_senders(
-    rt: &(impl Abort + Alloc<A = Global>),
+    rt: &(impl Threads + Wait + Sync + Abort + Alloc<A = Global>),
     capacity: usize,
     changes: &[(&str, &str)],
 ) -> Result<String, AllocError> {
@@ -183,7 +185,7 @@ fn receiver_may_require_its_address(rt: HostRuntime) -> Result<(), Fail> {
 
 /// Whether the one made-up frame of the wire is refused so.
 fn refuses(
-    rt: &(impl Abort + Alloc<A = Global>),
+    rt: &(impl Threads + Wait + Sync + Abort + Alloc<A = Global>),
     changes: &[(&str, &str)],
     digits: &str,
     refusal: &str,

@@ -7,11 +7,13 @@ use super::jobs::{is_bad, prints, sender};
 use krb_job::Command;
 use std::alloc::{AllocError, Global};
 use std::process::Abort;
+use std::sync::Wait;
 use std::test::Fail;
+use std::thread::Threads;
 
 /// Whether `seal` prints these lines of the job with these changes.
 fn seals(
-    rt: &(impl Abort + Alloc<A = Global>),
+    rt: &(impl Threads + Wait + Sync + Abort + Alloc<A = Global>),
     changes: &[(&str, &str)],
     lines: &[&str],
 ) -> Result<bool, Fail> {
@@ -20,7 +22,7 @@ fn seals(
 }
 
 /// The lines, each with its line feed.
-fn joined(rt: &(impl Abort + Alloc<A = Global>), lines: &[&str]) -> Result<String, AllocError> {
+fn joined(rt: &(impl Threads + Wait + Sync + Abort + Alloc<A = Global>), lines: &[&str]) -> Result<String, AllocError> {
     let mut text = String::new(rt.alloc());
     for line in lines {
         text.push_str(line)?;
