@@ -4,6 +4,7 @@ use super::log_lines::is_log;
 use super::senders::{Lanes, Odd, PLAIN, run};
 use crate::{Cause, NoGate};
 use krb_peers::Emit;
+use std::alloc::Global;
 use std::process::Abort;
 use std::sync::atomic::{AtomicU64, Ordering};
 use std::sync::{Arc, Wait};
@@ -12,6 +13,7 @@ use std::thread::Threads;
 
 /// What is wrong with the worked example of two senders: the call of the first sealer that answers
 /// `Memory` (0: none), and of the second sender whether its sealer was wiped and its plan is bad.
+#[derive(Clone, Copy, Drop)]
 struct Wrong {
     fails_at: u64,
     wiped: bool,
@@ -21,7 +23,7 @@ struct Wrong {
 /// Asserts which fault comes, and the log.
 fn assert_stops<R: Threads + Wait + Abort + Sync>(
     rt: &R,
-    alloc: std::alloc::Global,
+    alloc: Global,
     wrong: &Wrong,
     cause: Cause,
     lane: u32,
