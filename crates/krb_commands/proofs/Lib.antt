@@ -4,7 +4,7 @@ pub mod LinesLemmas
 pub mod OpenedLemmas
 pub mod OutputLemmas
 pub mod Readings
-pub mod RelayStartLemmas
+pub mod StoppedLemmas
 pub mod RelayedLemmas
 pub mod SealedLemmas
 pub mod ShowLemmas

@@ -1,16 +1,17 @@
 -- What `relay` has printed.
 use Rattle.std.proofs.Common.{◌≡◌, ℕ, suc, ◌+◌, ◌&&◌, Bool, true, false, List, [], ◌∷◌, ◌++◌, map, drop, slice_get, Some, Option, Result, Ok, Err, OnOk, OnErr, IfOk, refl, sym, ap, ap₂, subst, ◌∙◌, arith, append-nil, append_assoc, inl, inr}
 use Rattle.std.specs.List.{concat}
-use Rattle.std.specs.Io.KnownBytes.{Appends}
+use Rattle.std.specs.Io.KnownBytes.{Appends, Keeps}
 use Rattle.std.proofs.KnownBytes.{Appends-trans, Appends-nil}
 use Rattle.krb_peers.specs.declared.sending.Sent.{Sent}
 use Rattle.krb_peers.specs.Log.{status_of}
 use Rattle.krb_peers.specs.LogState.{LogState}
 use Rattle.krb_peers.proofs.ListLemmas.{drop_get}
 use Rattle.krb_peers.specs.Ends.{Ends, sents_of}
-use Rattle.krb_peers.specs.Whole.{IsRelayed, IsWhole, IsPart}
+use Rattle.krb_peers.specs.Whole.{IsRelayed, IsWhole}
+use Rattle.krb_relay.specs.Relayed.{unended}
 use Rattle.krb_commands.specs.JobLines.{entry_line, entry_lines, end_line, end_lines, are_closed, is_closed_state, status_by}
-use Rattle.krb_commands.specs.Relayed.{relayed_text, PrintsRelayed, PrintsRelayedPrefix, PrintsStopped}
+use Rattle.krb_commands.specs.Relayed.{relayed_text, PrintsRelayed, PrintsRelayedPrefix}
 use Rattle.krb_commands.specs.Output.{AppendsPrefix}
 use Rattle.krb_commands.proofs.OutputLemmas.{AppendsPrefix-after}
 
@@ -57,19 +58,15 @@ module _ (old then now : Option (List ℕ)) (sents : List Sent) (log : LogState)
 
 -- ---- what is printed of a whole relay
 
-whole : (old now : Option (List ℕ)) (text : List ℕ) → Appends old now text → AppendsPrefix old now text
-whole old now text h = (text, h, ([], sym (append-nil text)))
-
 module _ (lanes : List Ends) (log : LogState) (old then now : Option (List ℕ)) where
-  -- the entries so far, or a prefix of them
-  pub part_printed : IsRelayed lanes log → IsPart lanes log → AppendsPrefix old now (concat (map entry_line log.entries)) → PrintsRelayedPrefix lanes old now
-  part_printed relayed h p = inr (inr (log, relayed, h, p))
+  -- the entries until it stopped, or a prefix of them
+  pub part_printed : IsRelayed lanes (unended log) → Keeps old now ⊎ AppendsPrefix old now (entry_lines log.entries) → PrintsRelayedPrefix lanes old now
+  part_printed relayed (inl kept) = inl kept
+  part_printed relayed (inr p) = inr (inr (log, relayed, p))
 
-  pub entries_alone : IsRelayed lanes log → IsPart lanes log → Appends old now (concat (map entry_line log.entries)) → PrintsRelayedPrefix lanes old now
-  entries_alone relayed h p = part_printed relayed h (whole old now (concat (map entry_line log.entries)) p)
-
-  pub entries_stopped : IsRelayed lanes log → IsPart lanes log → Appends old now (concat (map entry_line log.entries)) → PrintsStopped lanes old now
-  entries_stopped relayed h p = (log, relayed, h, p)
+  -- a prefix of the entries of a whole relay
+  pub entries_front : IsWhole lanes log (sents_of lanes) → AppendsPrefix old now (entry_lines log.entries) → PrintsRelayedPrefix lanes old now
+  entries_front h p = inr (inl (log, h, AppendsPrefix-after old old now [] (entry_lines log.entries) (relayed_text lanes log) (Appends-nil old) p (end_lines 0 (sents_of lanes) log) refl))
 
   module _ (sents : List Sent) (left : IsWhole lanes log sents) (are : sents ≡ sents_of lanes) (first : Appends old then (concat (map entry_line log.entries))) where
     h : IsWhole lanes log (sents_of lanes)

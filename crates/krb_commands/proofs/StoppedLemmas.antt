@@ -1,21 +1,59 @@
--- Why senders that were not wiped don't begin.
-use Rattle.std.proofs.Common.{◌≡◌, ℕ, zero, suc, true, false, List, [], ◌∷◌, ◌++◌, length, slice_get, Some, inl, inr, refl, sym, ap, subst, ◌∙◌, arith}
+-- Why a relay stops of senders that were not wiped.
+use Rattle.std.proofs.Common.{◌≡◌, ◌<◌, ℕ, zero, suc, true, false, List, [], ◌∷◌, slice_get, Some, ◌⊎◌, inl, inr, refl, sym, ap, subst, ◌∙◌, arith}
 use Rattle.std.specs.Prelude.{All}
 use Rattle.krb_job.specs.declared.bad_input.BadInput.{BadInput}
 use Rattle.krb_seal.specs.Sealer.{SealerState}
 use Rattle.krb_peers.specs.declared.receiver.Receiving.{Receiving}
 use Rattle.krb_peers.specs.declared.sending.Sending.{Sending}
-use Rattle.krb_peers.specs.declared.start.StartError.{StartError}
-use Rattle.krb_peers.specs.declared.start.StartError.TheVariants.{Memory, BadPlan, Wiped}
 use Rattle.krb_peers.specs.Ends.{Ends, ends_of, lanes_of}
-use Rattle.krb_core.specs.Start.{FailsToBegin, FailsAt}
+use Rattle.krb_peers.specs.LogState.{LogState}
+use Rattle.krb_peers.specs.Run.{Run, AreRuns}
+use Rattle.krb_peers.specs.Wire.{IsWire}
+use Rattle.krb_relay.specs.declared.cause.Cause.{Cause}
+use Rattle.krb_relay.specs.declared.cause.Cause.TheVariants.{Memory, Spawn, Lost, BadPlan, Wiped}
+use Rattle.krb_relay.specs.Relayed.{IsLeast, StopsRelay}
 use Rattle.krb_commands.specs.declared.fault.Fault.{Fault}
 use Rattle.krb_commands.specs.declared.fault.Fault.TheVariants as fault
-use Rattle.krb_commands.specs.Fault.{bad_plan, of_start, IsLive}
+use Rattle.krb_commands.specs.Fault.{bad_plan, of_relay, IsLiveCause, IsOfPrinting}
+use Rattle.krb_commands.specs.Relayed.{HasBadPlanFirst}
 
-at_middle : {X : Type 0} (before : List X) (x : X) (behind : List X) → slice_get (before ++ x ∷ behind) (length before) ≡ Some x
-at_middle [] x behind = refl
-at_middle (y ∷ before) x behind = at_middle before x behind
+-- ---- a lane and its run
+
+run_there : (lanes : List Ends) (runs : List Run) → AreRuns lanes runs → (lane : ℕ) (run : Run) → slice_get runs lane ≡ Some run → slice_get lanes lane ≡ Some run.ends
+run_there [] [] are lane run at = absurd (let e = at in cc)
+run_there [] (r ∷ runs) are lane run at = absurd are
+run_there (ends ∷ lanes) [] are lane run at = absurd are
+run_there (ends ∷ lanes) (r ∷ runs) are zero run at =
+    let e : r ≡ run = cc in
+    ap (λ x. Some x) (sym are.0 ∙ ap (λ (x : Run). x.ends) e)
+run_there (ends ∷ lanes) (r ∷ runs) are (suc lane) run at = run_there lanes runs are.2 lane run at
+
+ends_there : (lanes : List Ends) (runs : List Run) → AreRuns lanes runs → (lane : ℕ) (ends : Ends) → slice_get lanes lane ≡ Some ends → (run : Run) × (slice_get runs lane ≡ Some run) × (run.ends ≡ ends)
+ends_there [] runs are lane ends at = absurd (let e = at in cc)
+ends_there (first ∷ lanes) [] are lane ends at = absurd are
+ends_there (first ∷ lanes) (r ∷ runs) are zero ends at =
+    let e : first ≡ ends = cc in
+    (r, refl, are.0 ∙ e)
+ends_there (first ∷ lanes) (r ∷ runs) are (suc lane) ends at = ends_there lanes runs are.2 lane ends at
+
+-- ---- a plan that is named
+
+first_bad_plan : (lanes : List Ends) (log : LogState) (lane : ℕ) → StopsRelay lanes log lane BadPlan → HasBadPlanFirst lanes lane
+first_bad_plan lanes log lane h =
+    let r = h.relayed in
+    let l : IsLeast r.runs lane BadPlan = h.names in
+    record {
+      ends = l.run.ends;
+      there = run_there lanes r.runs r.are lane l.run l.named;
+      bad = l.reason.1;
+      before = λ other its lt at.
+          let found = ends_there lanes r.runs r.are other its at in
+          let whole = l.below other found.0 lt found.1 in
+          let P : Ends → Type 0 = λ e. IsWire e.source (found.0).took in
+          ((found.0).took, subst P found.2 whole.emits);
+    }
+
+-- ---- senders that were not wiped
 
 live_at : {S : Type 0} (state : S → SealerState) (sendings : List (Sending S)) (receivings : List Receiving) → All (λ s. (state s.sealer).wiped ≡ false) sendings
     → (lane : ℕ) (ends : Ends) → slice_get (lanes_of state sendings receivings) lane ≡ Some ends → ends.source.sealer.wiped ≡ false
@@ -27,20 +65,29 @@ live_at state (s ∷ ss) (r ∷ rs) live zero ends at =
     subst P same (live 0 s (omega arith))
 live_at state (s ∷ ss) (r ∷ rs) live (suc lane) ends at = live_at state ss rs (λ k d lt. live (suc k) d (omega arith)) lane ends at
 
-module _ {S : Type 0} (state : S → SealerState) (sendings : List (Sending S)) (receivings : List Receiving) (capacity : ℕ) (live : All (λ s. (state s.sealer).wiped ≡ false) sendings) where
-  live_lane : (error : StartError) (h : FailsAt capacity (lanes_of state sendings receivings) error) → h.ends.source.sealer.wiped ≡ false
-  live_lane error h =
-      live_at state sendings receivings live (length h.before) h.ends (ap (λ l. slice_get l (length h.before)) h.lanes_are ∙ at_middle h.before h.ends h.behind)
+module _ {S : Type 0} (state : S → SealerState) (sendings : List (Sending S)) (receivings : List Receiving) (live : All (λ s. (state s.sealer).wiped ≡ false) sendings) where
+  pub live_cause : (log : LogState) (lane : ℕ) (cause : Cause) → StopsRelay (lanes_of state sendings receivings) log lane cause → IsLiveCause cause
+  live_cause log lane Memory h = tt
+  live_cause log lane Spawn h = tt
+  live_cause log lane Lost h = tt
+  live_cause log lane BadPlan h = tt
+  live_cause log lane Wiped h =
+      let r = h.relayed in
+      let l : IsLeast r.runs lane Wiped = h.names in
+      let flag : l.run.ends.source.sealer.wiped ≡ false = live_at state sendings receivings live lane l.run.ends (run_there (lanes_of state sendings receivings) r.runs r.are lane l.run l.named) in
+      let e : true ≡ false = sym (l.reason.0) ∙ flag in
+      cc
 
-  pub live_start : (error : StartError) → FailsToBegin capacity (lanes_of state sendings receivings) error → IsLive error
-  live_start Memory h = tt
-  live_start (BadPlan lane) h = tt
-  live_start (Wiped lane) (inl h) = let e = h in cc
-  live_start (Wiped lane) (inr h) = let f : true ≡ false = sym (h.reason.1) ∙ live_lane (Wiped lane) h in cc
+none_printed : (told : Fault) (bad : BadInput) → told ≡ fault.BadInput bad → IsOfPrinting told → ⊥
+none_printed told bad is h = subst IsOfPrinting is h
 
-  pub names_bad_plan : (error : StartError) (told : Fault) (bad : BadInput) → FailsToBegin capacity (lanes_of state sendings receivings) error → told ≡ of_start error → told ≡ fault.BadInput bad
-      → (lane : ℕ) × (bad ≡ bad_plan lane) × FailsAt capacity (lanes_of state sendings receivings) (BadPlan lane)
-  names_bad_plan Memory told bad h is named = absurd (let e : fault.Memory ≡ fault.BadInput bad = sym is ∙ named in cc)
-  names_bad_plan (BadPlan lane) told bad (inl h) is named = absurd (let e = h in cc)
-  names_bad_plan (BadPlan lane) told bad (inr h) is named = (lane, (let e : fault.BadInput (bad_plan lane) ≡ fault.BadInput bad = sym is ∙ named in let f : bad_plan lane ≡ bad = cc in sym f), h)
-  names_bad_plan (Wiped lane) told bad h is named = absurd (let e : fault.Memory ≡ fault.BadInput bad = sym is ∙ named in cc)
+-- where bad input is told, it is that plan
+pub names_bad_plan : (lanes : List Ends) (log : LogState) (lane : ℕ) (cause : Cause) (told : Fault) (bad : BadInput) → StopsRelay lanes log lane cause → (told ≡ of_relay cause lane) ⊎ IsOfPrinting told → told ≡ fault.BadInput bad
+    → (at : ℕ) × (bad ≡ bad_plan at) × HasBadPlanFirst lanes at
+names_bad_plan lanes log lane cause told bad h (inr printing) named = absurd (none_printed told bad named printing)
+names_bad_plan lanes log lane Memory told bad h (inl is) named = absurd (let e : fault.Stopped ≡ fault.BadInput bad = sym is ∙ named in cc)
+names_bad_plan lanes log lane Spawn told bad h (inl is) named = absurd (let e : fault.Thread ≡ fault.BadInput bad = sym is ∙ named in cc)
+names_bad_plan lanes log lane Lost told bad h (inl is) named = absurd (let e : fault.Thread ≡ fault.BadInput bad = sym is ∙ named in cc)
+names_bad_plan lanes log lane BadPlan told bad h (inl is) named =
+    (lane, (let e : fault.BadInput (bad_plan lane) ≡ fault.BadInput bad = sym is ∙ named in let f : bad_plan lane ≡ bad = cc in sym f), first_bad_plan lanes log lane h)
+names_bad_plan lanes log lane Wiped told bad h (inl is) named = absurd (let e : fault.Memory ≡ fault.BadInput bad = sym is ∙ named in cc)

@@ -2,6 +2,8 @@
 use Rattle.std.specs.Prelude.{ℕ}
 use Rattle.krb_peers.specs.declared.start.StartError.{StartError}
 use Rattle.krb_peers.specs.declared.start.StartError.TheVariants as start
+use Rattle.krb_relay.specs.declared.cause.Cause.{Cause}
+use Rattle.krb_relay.specs.declared.cause.Cause.TheVariants as cause
 use Rattle.krb_job.specs.declared.bad_input.BadInput.{BadInput}
 use Rattle.krb_job.specs.declared.bad_input.BadInput.TheVariants as bad
 use Rattle.krb_job.specs.declared.bad_input.JobError.{JobError}
@@ -16,6 +18,7 @@ fault_status fault.TooLong = 2
 fault_status (fault.BadInput b) = 2
 fault_status fault.Memory = 4
 fault_status fault.Stopped = 4
+fault_status fault.Thread = 4
 fault_status fault.Read = 4
 fault_status fault.Write = 4
 
@@ -38,12 +41,25 @@ of_start start.Memory = fault.Memory
 of_start (start.BadPlan lane) = fault.BadInput (bad_plan lane)
 of_start (start.Wiped lane) = fault.Memory
 
+-- the same of a relay that stops
+abbrev pub IsLiveCause : Cause → Type 0
+IsLiveCause cause.Wiped = ⊥
+IsLiveCause other = Unit {0}
+
+abbrev pub of_relay : Cause → ℕ → Fault
+of_relay cause.Memory lane = fault.Stopped
+of_relay cause.Spawn lane = fault.Thread
+of_relay cause.Lost lane = fault.Thread
+of_relay cause.BadPlan lane = fault.BadInput (bad_plan lane)
+of_relay cause.Wiped lane = fault.Memory
+
 -- a fault of reading an input
 abbrev pub IsOfReading : Fault → Type 0
 IsOfReading fault.TooLong = Unit {0}
 IsOfReading (fault.BadInput b) = ⊥
 IsOfReading fault.Memory = Unit {0}
 IsOfReading fault.Stopped = ⊥
+IsOfReading fault.Thread = ⊥
 IsOfReading fault.Read = Unit {0}
 IsOfReading fault.Write = ⊥
 
@@ -53,6 +69,7 @@ IsOfPrinting fault.TooLong = ⊥
 IsOfPrinting (fault.BadInput b) = ⊥
 IsOfPrinting fault.Memory = Unit {0}
 IsOfPrinting fault.Stopped = ⊥
+IsOfPrinting fault.Thread = ⊥
 IsOfPrinting fault.Read = ⊥
 IsOfPrinting fault.Write = Unit {0}
 
@@ -62,6 +79,7 @@ IsOfNoJob fault.TooLong = Unit {0}
 IsOfNoJob (fault.BadInput b) = ⊥
 IsOfNoJob fault.Memory = Unit {0}
 IsOfNoJob fault.Stopped = ⊥
+IsOfNoJob fault.Thread = ⊥
 IsOfNoJob fault.Read = Unit {0}
 IsOfNoJob fault.Write = Unit {0}
 
@@ -71,6 +89,7 @@ IsOfSealing fault.TooLong = ⊥
 IsOfSealing (fault.BadInput b) = Unit {0}
 IsOfSealing fault.Memory = Unit {0}
 IsOfSealing fault.Stopped = ⊥
+IsOfSealing fault.Thread = ⊥
 IsOfSealing fault.Read = ⊥
 IsOfSealing fault.Write = Unit {0}
 
@@ -80,6 +99,7 @@ IsOfOpening fault.TooLong = ⊥
 IsOfOpening (fault.BadInput b) = ⊥
 IsOfOpening fault.Memory = Unit {0}
 IsOfOpening fault.Stopped = Unit {0}
+IsOfOpening fault.Thread = ⊥
 IsOfOpening fault.Read = ⊥
 IsOfOpening fault.Write = Unit {0}
 
@@ -89,6 +109,7 @@ IsOfRelaying fault.TooLong = ⊥
 IsOfRelaying (fault.BadInput b) = Unit {0}
 IsOfRelaying fault.Memory = Unit {0}
 IsOfRelaying fault.Stopped = Unit {0}
+IsOfRelaying fault.Thread = Unit {0}
 IsOfRelaying fault.Read = ⊥
 IsOfRelaying fault.Write = Unit {0}
 
@@ -98,5 +119,6 @@ IsOfTelling fault.TooLong = Unit {0}
 IsOfTelling (fault.BadInput b) = Unit {0}
 IsOfTelling fault.Memory = Unit {0}
 IsOfTelling fault.Stopped = ⊥
+IsOfTelling fault.Thread = ⊥
 IsOfTelling fault.Read = Unit {0}
 IsOfTelling fault.Write = ⊥

@@ -1,9 +1,11 @@
 -- What `relay` prints.
-use Rattle.std.specs.Prelude.{◌≡◌, ◌⊎◌, ℕ, List, ◌++◌, Option}
+use Rattle.std.specs.Prelude.{◌≡◌, ◌<◌, ◌⊎◌, ℕ, List, ◌++◌, slice_get, Option, Some}
 use Rattle.std.specs.Io.KnownBytes.{Appends, Keeps}
 use Rattle.krb_peers.specs.LogState.{LogState}
 use Rattle.krb_peers.specs.Ends.{Ends, sents_of}
-use Rattle.krb_peers.specs.Whole.{IsRelayed, IsWhole, IsPart}
+use Rattle.krb_peers.specs.Whole.{IsRelayed, IsWhole}
+use Rattle.krb_peers.specs.Wire.{IsWire, IsBad}
+use Rattle.krb_relay.specs.Relayed.{unended}
 use Rattle.krb_commands.specs.JobLines.{entry_lines, end_lines, are_closed, status_by}
 use Rattle.krb_commands.specs.Output.{AppendsPrefix}
 
@@ -24,7 +26,7 @@ PrintsRelayed lanes old new status =
 -- What becomes of the frames that were taken until the run stopped is printed, and the headline holds of each lane.
 abbrev pub PrintsStopped : List Ends → Option (List ℕ) → Option (List ℕ) → Type 0
 PrintsStopped lanes old new =
-    (log : LogState) × IsRelayed lanes log × IsPart lanes log × Appends old new (entry_lines log.entries)
+    (log : LogState) × IsRelayed lanes (unended log) × Appends old new (entry_lines log.entries)
 
 -- A prefix of what is printed of all, or of the lines of the first entries alone, or nothing. The first
 -- entries are what becomes of the frames that were taken of each lane, and the headline holds of each.
@@ -32,4 +34,12 @@ abbrev pub PrintsRelayedPrefix : List Ends → Option (List ℕ) → Option (Lis
 PrintsRelayedPrefix lanes old new =
     Keeps old new
     ⊎ (((log : LogState) × IsWhole lanes log (sents_of lanes) × AppendsPrefix old new (relayed_text lanes log))
-    ⊎ ((log : LogState) × IsRelayed lanes log × IsPart lanes log × AppendsPrefix old new (entry_lines log.entries)))
+    ⊎ ((log : LogState) × IsRelayed lanes (unended log) × AppendsPrefix old new (entry_lines log.entries)))
+
+-- The plan of this lane names what the frames of its sender don't have, and all lanes before it have a
+-- wire.
+pub record HasBadPlanFirst (lanes : List Ends) (lane : ℕ) : Type 0 where
+  pub ends : Ends
+  pub there : slice_get lanes lane ≡ Some ends
+  pub bad : IsBad ends.source
+  pub before : (other : ℕ) (its : Ends) → other < lane → slice_get lanes other ≡ Some its → (emitted : List (List ℕ)) × IsWire its.source emitted

@@ -1,10 +1,11 @@
 //! What ends a run before its output is whole.
 ghost use Rattle.std.specs.Prelude.{◌≡◌};
 ghost use Rattle.krb_commands.specs.declared.fault.Fault.TheVariants.{Memory};
-ghost use Rattle.krb_commands.specs.Fault.{fault_status, of_job, of_start, IsLive};
+ghost use Rattle.krb_commands.specs.Fault.{bad_plan, fault_status, of_job, of_relay, of_start, IsLive, IsLiveCause};
 
 use krb_job::{BadInput, JobError, Place};
 use krb_peers::StartError;
+use krb_relay::Cause;
 use std::alloc::{AllocError, AllocFailed};
 use thiserror::Error;
 
@@ -24,6 +25,9 @@ pub enum Fault {
     /// printed.
     #[error("krbrelay: out of memory")]
     Stopped,
+    /// A thread couldn't be started, or was lost: what became of the frames until then is printed.
+    #[error("krbrelay: thread fault")]
+    Thread,
     /// The reader failed.
     #[error("krbrelay: read fault")]
     Read,
@@ -39,7 +43,7 @@ impl Fault {
     {
         match self {
             Fault::TooLong | Fault::BadInput(_) => 2,
-            Fault::Memory | Fault::Stopped | Fault::Read | Fault::Write => 4,
+            Fault::Memory | Fault::Stopped | Fault::Thread | Fault::Read | Fault::Write => 4,
         }
     }
 
@@ -50,12 +54,32 @@ impl Fault {
     {
         match error {
             StartError::Memory => Fault::Memory,
-            StartError::BadPlan { lane } => Fault::BadInput(BadInput::InSender {
-                sender: lane as usize,
-                place: Place::Plan,
-            }),
+            StartError::BadPlan { lane } => Fault::bad_plan(lane),
             StartError::Wiped { .. } => unreachable!(),
         }
+    }
+
+    /// Why a relay of sealers that weren't wiped stops, as a fault: a bad plan is bad input.
+    pub(crate) fn of_relay(cause: Cause, lane: u32) -> Fault
+        requires { IsLiveCause cause }
+        ensures { result ≡ of_relay cause lane }
+    {
+        match cause {
+            Cause::Memory => Fault::Stopped,
+            Cause::Spawn | Cause::Lost => Fault::Thread,
+            Cause::BadPlan => Fault::bad_plan(lane),
+            Cause::Wiped => unreachable!(),
+        }
+    }
+
+    /// The plan of a sender names what its frames don't have.
+    fn bad_plan(lane: u32) -> Fault
+        ensures { result ≡ Fault.BadInput (bad_plan lane) }
+    {
+        Fault::BadInput(BadInput::InSender {
+            sender: lane as usize,
+            place: Place::Plan,
+        })
     }
 }
 
@@ -123,6 +147,7 @@ mod tests {
             ),
             (Fault::from(JobError::Memory), "krbrelay: out of memory", 4),
             (Fault::Stopped, "krbrelay: out of memory", 4),
+            (Fault::Thread, "krbrelay: thread fault", 4),
             (Fault::Read, "krbrelay: read fault", 4),
             (Fault::Write, "krbrelay: write fault", 4),
         ];
