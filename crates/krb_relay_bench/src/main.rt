@@ -13,12 +13,16 @@ mod relays;
 
 use lanes::Size;
 use relays::{run_stepped, run_threads};
+use std::alloc::Global;
 use std::process::ExitCode;
-use std::time::Instant;
+use std::sync::Wait;
+use std::thread::Threads;
+use std::time::{Clock, Instant};
 use std::{env, io};
 
 /// What is said of other arguments.
-const USAGE: &str = "krb_relay_bench ROUNDS SENDERS TEXTS BYTES CAPACITY, or krb_relay_bench soak N";
+const USAGE: &str =
+    "krb_relay_bench ROUNDS SENDERS TEXTS BYTES CAPACITY, or krb_relay_bench soak N";
 
 /// The best times of both relays, in microseconds, and whether each ended well.
 #[derive(Clone, Copy)]
@@ -29,7 +33,11 @@ struct Best {
 }
 
 /// The best of so many rounds.
-fn best_of(rt: &HostRuntime, rounds: u32, size: Size) -> io::Result<Best> {
+fn best_of(
+    rt: &(impl Threads + Wait + Sync + Clock + Alloc<A = Global>),
+    rounds: u32,
+    size: Size,
+) -> io::Result<Best> {
     let mut best = Best {
         stepped: u128::MAX,
         threads: u128::MAX,
@@ -53,17 +61,26 @@ fn rate(count: u128, micros: u128) -> u128 {
 }
 
 /// Times both relays.
-fn compare(rt: &HostRuntime, rounds: u32, size: Size) -> io::Result<bool> {
+fn compare(
+    rt: &(impl Threads + Wait + Sync + Clock + Print + Alloc<A = Global>),
+    rounds: u32,
+    size: Size,
+) -> io::Result<bool> {
     let best = best_of(rt, rounds, size)?;
     let messages = (size.senders as u128).saturating_mul((size.texts as u128).saturating_add(1));
     let (stepped, threads) = (rate(messages, best.stepped), rate(messages, best.threads));
     let percent = best.threads.saturating_mul(100) / best.stepped.max(1);
-    println!(rt; "stepped {stepped}, threads {threads} messages a second: {percent} % of the time")?;
+    println!(rt;
+        "stepped {stepped}, threads {threads} messages a second: {percent} % of the time"
+    )?;
     Ok(best.whole)
 }
 
 /// Relays so many small jobs.
-fn soak(rt: &HostRuntime, jobs: u32) -> io::Result<bool> {
+fn soak(
+    rt: &(impl Threads + Wait + Sync + Clock + Print + Alloc<A = Global>),
+    jobs: u32,
+) -> io::Result<bool> {
     let size = Size {
         senders: 2,
         texts: 5,

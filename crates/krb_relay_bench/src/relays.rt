@@ -8,8 +8,11 @@ use crate::lanes::{Lanes, Size, are_senders, have_moments, lanes_of};
 use krb_core::Stepped;
 use krb_peers::{Log, Status};
 use krb_relay::{NoGate, relay};
+use std::alloc::Global;
 use std::io;
-use std::time::Instant;
+use std::sync::Wait;
+use std::thread::Threads;
+use std::time::{Clock, Instant};
 
 /// Whether the lanes and their room keep the limits of a relay.
 fn is_ready(lanes: &Lanes, capacity: usize) -> bool
@@ -37,7 +40,10 @@ fn all_closed(log: &Log) -> bool {
 }
 
 /// Relays by turns: the microseconds that it takes, and whether all was relayed.
-pub(crate) fn run_stepped(rt: &HostRuntime, size: Size) -> io::Result<(u128, bool)> {
+pub(crate) fn run_stepped(
+    rt: &(impl Clock + Alloc<A = Global>),
+    size: Size,
+) -> io::Result<(u128, bool)> {
     let lanes = lanes_of(rt.alloc(), size)?;
     if !is_ready(&lanes, size.capacity) {
         return Ok((0, false));
@@ -53,7 +59,10 @@ pub(crate) fn run_stepped(rt: &HostRuntime, size: Size) -> io::Result<(u128, boo
 }
 
 /// Relays in threads: the microseconds that it takes, and whether all was relayed.
-pub(crate) fn run_threads(rt: &HostRuntime, size: Size) -> io::Result<(u128, bool)> {
+pub(crate) fn run_threads<R: Threads + Wait + Sync + Clock + Alloc<A = Global>>(
+    rt: &R,
+    size: Size,
+) -> io::Result<(u128, bool)> {
     let lanes = lanes_of(rt.alloc(), size)?;
     if !is_ready(&lanes, size.capacity) {
         return Ok((0, false));
