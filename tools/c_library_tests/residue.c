@@ -1,6 +1,6 @@
 /* The block of a handle, once freed, has no eight bytes in a row of what it held while it was in
- * use. Handles end in either order, by free, after a wipe, and by a new key in their place. Built by
- * -Wl,--wrap=free, and run by tools/residue, which looks for the keys in all blocks that are freed.
+ * use. Handles end in either order, by free, after a wipe, and by a new key in their place. Built
+ * with -Wl,--wrap=free, and run by tools/residue, which looks for keys in all blocks that are freed.
  *
  *   residue         ends handles in each way
  *   residue left    frees a block with the key in it, which is to be told */

@@ -1,7 +1,7 @@
 /* Preloaded: tells each block that is freed, or left by realloc, while it holds one of the byte
  * strings that the variable RESIDUE_STRINGS names, as NAME=HEX,NAME=HEX. For each it appends a line
- * 'SIZE NAME' to the file that RESIDUE_REPORT names, and 'end BLOCKS' at the end, with the number of
- * blocks that were looked at. realloc always moves here, so that no block that it could leave is
+ * 'SIZE NAME' to the file that RESIDUE_REPORT names, and 'end BLOCKS' at the end, with the number
+ * of blocks that were looked at. realloc always moves here, so that no block that it could leave is
  * missed, and nothing depends on the allocator. */
 #define _GNU_SOURCE
 #include <dlfcn.h>
