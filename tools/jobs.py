@@ -16,7 +16,7 @@ def sender(etype, mode, key, texts=None, frames=None, first=7, at=MICROS, now=MI
            origin=(2, bytes([10, 0, 0, 1])), to=(2, bytes([10, 0, 0, 255])), write_to=False,
            seed=bytes(32)):
     """One sender, of texts to be sealed or of frames to be opened. A key that is too short is
-    repeated."""
+    repeated, and a longer one cut."""
     size = 16 if etype == 17 else 32
     key = (key * size)[:size]
     lines = ["[[sender]]", f"etype = {etype}", f'key = "{key.hex()}"', f'mode = "{mode}"',
