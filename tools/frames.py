@@ -165,6 +165,8 @@ def print_frames():
     # krb_core's tests draw for the first two records.
     drawn = bytes.fromhex("76b8e0ada0f13d90405d6ae55386bd28bdd219b8a08ded1aa836efcc8b770dc7")
     second = body(b"C", MICROS, 8, SENDER)
+    before_last = body(b"Da", MICROS, 4294967294, SENDER)
+    no_record = body(b"X", MICROS, 7, SENDER)
 
     lines = [
         ("safe 17", seal_safe(KEY_128, inner)),
@@ -174,6 +176,10 @@ def print_frames():
         ("safe 17, to the receiver", seal_safe(KEY_128, told)),
         ("safe 18", seal_safe(KEY_256, inner)),
         ("safe 17, last number", seal_safe(KEY_128, close)),
+        ("safe 17, the text 61 before the last number", seal_safe(KEY_128, before_last)),
+        ("safe 17, no record", seal_safe(KEY_128, no_record)),
+        ("safe 17, an empty checksum", safe(inner, 15, b"")),
+        ("safe 17, what is under the checksum", safe(inner, 0, b"")),
         ("safe 17, no usec", seal_safe(KEY_128, without(0xA2))),
         ("safe 17, no time", seal_safe(KEY_128, without(0xA1))),
         ("safe 17, neither", seal_safe(KEY_128, without(0xA1, 0xA2))),
