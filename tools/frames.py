@@ -1,13 +1,16 @@
 #!/usr/bin/env python3
 """An independent sealer of KRB-SAFE and KRB-PRIV messages, in plain Python over the package
-`cryptography` and the standard library. It prints the frames that the tests of krb_seal and krb_core
-expect.
+`cryptography` and the standard library. It prints the frames that tests expect, or of a session key
+the strings for tools/residue: the key, its digits as a job file has them, and the derived keys.
+
+    tools/frames.py [--keys KEYHEX]
 
 It shares no code with the crates: the definitions are those of RFC 4120, 3961, 3962 and 2104.
 """
 import hashlib
 import hmac
 import math
+import sys
 import time
 
 from cryptography.hazmat.primitives.ciphers import Cipher, algorithms, modes
@@ -138,7 +141,19 @@ KEY_128 = bytes(range(16))
 KEY_256 = bytes([0x11] * 32)
 
 
-def main():
+def keys(key):
+    """The strings that tell of a session key, as NAME=HEX,NAME=HEX."""
+    strings = {
+        "key": key,
+        "digits": key.hex().encode(),
+        "Kc": derive(key, 15, 0x99),
+        "Ke": derive(key, 13, 0xAA),
+        "Ki": derive(key, 13, 0x55),
+    }
+    return ",".join(f"{name}={string.hex()}" for name, string in strings.items())
+
+
+def print_frames():
     inner = body(b"Dhi", MICROS, 7, SENDER)
     told = body(b"Dhi", MICROS, 7, SENDER, RECEIVER)
     close = body(b"C", MICROS, 4294967295, SENDER)
@@ -150,6 +165,8 @@ def main():
     # krb_core's tests draw for the first two records.
     drawn = bytes.fromhex("76b8e0ada0f13d90405d6ae55386bd28bdd219b8a08ded1aa836efcc8b770dc7")
     second = body(b"C", MICROS, 8, SENDER)
+    before_last = body(b"Da", MICROS, 4294967294, SENDER)
+    no_record = body(b"X", MICROS, 7, SENDER)
 
     lines = [
         ("safe 17", seal_safe(KEY_128, inner)),
@@ -159,6 +176,10 @@ def main():
         ("safe 17, to the receiver", seal_safe(KEY_128, told)),
         ("safe 18", seal_safe(KEY_256, inner)),
         ("safe 17, last number", seal_safe(KEY_128, close)),
+        ("safe 17, the text 61 before the last number", seal_safe(KEY_128, before_last)),
+        ("safe 17, no record", seal_safe(KEY_128, no_record)),
+        ("safe 17, an empty checksum", safe(inner, 15, b"")),
+        ("safe 17, what is under the checksum", safe(inner, 0, b"")),
         ("safe 17, no usec", seal_safe(KEY_128, without(0xA2))),
         ("safe 17, no time", seal_safe(KEY_128, without(0xA1))),
         ("safe 17, neither", seal_safe(KEY_128, without(0xA1, 0xA2))),
@@ -175,5 +196,14 @@ def main():
         print(f"{name} ({len(frame)} bytes)\n  {frame.hex()}")
 
 
+def main(words):
+    if not words:
+        print_frames()
+    elif len(words) == 2 and words[0] == "--keys" and len(words[1]) in (32, 64):
+        print(keys(bytes.fromhex(words[1])))
+    else:
+        sys.exit(__doc__)
+
+
 if __name__ == "__main__":
-    main()
+    main(sys.argv[1:])

@@ -127,44 +127,55 @@ static struct krb_address address_of(const krb5_address *mit)
     return a;
 }
 
+/* What MIT's end has for the messages of one direction. The key is the caller's to free. */
+struct direction { struct krb_address local, remote; uint32_t number; krb5_keyblock *key; };
+
+typedef krb5_error_code number_call(krb5_context, krb5_auth_context, krb5_int32 *);
+typedef krb5_error_code key_call(krb5_context, krb5_auth_context, krb5_keyblock **);
+
+static struct direction direction_of(const struct end *e, number_call *get_number,
+                                     key_call *get_key)
+{
+    struct direction d = { 0 };
+    krb5_address *local = NULL, *remote = NULL;
+    krb5_int32 number = 0;
+    must(krb5_auth_con_getaddrs(ctx, e->mit, &local, &remote), "getaddrs");
+    must(get_number(ctx, e->mit, &number), "the sequence number");
+    must(get_key(ctx, e->mit, &d.key), "the sub-session key");
+    CHECK(d.key != NULL);
+    d.number = (uint32_t)number;
+    d.local = address_of(local);
+    d.remote = address_of(remote);
+    krb5_free_address(ctx, local);
+    krb5_free_address(ctx, remote);
+    return d;
+}
+
 /* A sealer that goes on where MIT's end would send. */
 static void sealer_of(struct end *e, uint32_t mode)
 {
-    struct krb_session session = { .mode = mode };
-    krb5_address *local = NULL, *remote = NULL;
-    krb5_int32 number = 0;
-    krb5_keyblock *key = NULL;
-    must(krb5_auth_con_getaddrs(ctx, e->mit, &local, &remote), "getaddrs");
-    must(krb5_auth_con_getlocalseqnumber(ctx, e->mit, &number), "getlocalseqnumber");
-    must(krb5_auth_con_getsendsubkey(ctx, e->mit, &key), "getsendsubkey");
-    CHECK(key != NULL);
-    session.first = (uint32_t)number;
-    session.s_addr = address_of(local);
-    session.r_addr = address_of(remote);
-    CHECK(krb_sealer_new(&e->sealer, key->enctype, key->contents, key->length, &session) == 0);
-    krb5_free_keyblock(ctx, key);
-    krb5_free_address(ctx, local);
-    krb5_free_address(ctx, remote);
+    struct direction d = direction_of(e, krb5_auth_con_getlocalseqnumber,
+                                      krb5_auth_con_getsendsubkey);
+    struct krb_session session = {
+        .mode = mode, .first = d.number, .s_addr = d.local, .r_addr = d.remote
+    };
+    CHECK(krb_sealer_new(&e->sealer, d.key->enctype, d.key->contents, d.key->length,
+                         &session) == KRB_OK);
+    krb5_free_keyblock(ctx, d.key);
 }
 
 /* An opener that goes on where MIT's end would receive, and the number that it demands first. */
 static void opener_of(struct end *e, uint32_t mode)
 {
-    struct krb_expect expect = { .mode = mode, .expect_time = 1, .skew = 300 };
-    krb5_address *local = NULL, *remote = NULL;
-    krb5_int32 number = 0;
-    krb5_keyblock *key = NULL;
-    must(krb5_auth_con_getaddrs(ctx, e->mit, &local, &remote), "getaddrs");
-    must(krb5_auth_con_getremoteseqnumber(ctx, e->mit, &number), "getremoteseqnumber");
-    must(krb5_auth_con_getrecvsubkey(ctx, e->mit, &key), "getrecvsubkey");
-    CHECK(key != NULL);
-    e->expected = (uint32_t)number;
-    expect.s_addr = address_of(remote);
-    expect.r_addr = address_of(local);
-    CHECK(krb_opener_new(&e->opener, key->enctype, key->contents, key->length, &expect) == 0);
-    krb5_free_keyblock(ctx, key);
-    krb5_free_address(ctx, local);
-    krb5_free_address(ctx, remote);
+    struct direction d = direction_of(e, krb5_auth_con_getremoteseqnumber,
+                                      krb5_auth_con_getrecvsubkey);
+    struct krb_expect expect = {
+        .mode = mode, .s_addr = d.remote, .r_addr = d.local, .expect_time = 1, .skew = 300
+    };
+    e->expected = d.number;
+    CHECK(krb_opener_new(&e->opener, d.key->enctype, d.key->contents, d.key->length,
+                         &expect) == KRB_OK);
+    krb5_free_keyblock(ctx, d.key);
 }
 
 static void ours_of(struct end *e, uint32_t mode)

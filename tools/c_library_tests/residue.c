@@ -1,6 +1,9 @@
-/* No block that is freed holds a key: neither the bytes of the session key nor, of the block of a
- * handle, eight bytes in a row of what it held while it was in use. Handles end in either order, by
- * free, after a wipe, and by a new key in their place. Built with -Wl,--wrap=free. */
+/* The block of a handle, once freed, has no eight bytes in a row of what it held while it was in
+ * use. Handles end in either order, by free, after a wipe, and by a new key in their place. Built
+ * with -Wl,--wrap=free, and run by tools/residue, which looks for keys in all blocks that are freed.
+ *
+ *   residue         ends handles in each way
+ *   residue left    frees a block with the key in it, which is to be told */
 #define _GNU_SOURCE
 #include "check.h"
 #include "krbrelay.h"
@@ -16,7 +19,7 @@ static uint8_t key[32];
 /* The block of a handle in use, and how many runs of its bytes stood in it when it was freed. */
 struct watched { const void *block; uint8_t bytes[2048]; size_t size; int freed, runs; };
 static struct watched watch[2];
-static int blocks_with_key, blocks_freed;
+static int blocks_freed;
 
 void __real_free(void *block);
 void __wrap_free(void *block);
@@ -35,10 +38,7 @@ static int same_runs(const uint8_t *a, const uint8_t *b, size_t size)
 void __wrap_free(void *block)
 {
     if (block != NULL) {
-        size_t size = malloc_usable_size(block);
         blocks_freed++;
-        if (memmem(block, size, key, 16) || memmem(block, size, key + 16, 16))
-            blocks_with_key++;
         for (int i = 0; i < 2; i++)
             if (watch[i].block == block) {
                 watch[i].freed++;
@@ -60,7 +60,9 @@ static void watch_block(int i, void *block)
     CHECK(memmem(block, watch[i].size, key, 16) != NULL);
 }
 
-enum ending { FREE_SEALER_FIRST, FREE_OPENER_FIRST, WIPE_BEFORE_FREE, NEW_KEY, REFUSED_NEW, ENDINGS };
+enum ending {
+    FREE_SEALER_FIRST, FREE_OPENER_FIRST, WIPE_BEFORE_FREE, NEW_KEY, REFUSED_NEW, ENDINGS
+};
 
 static void end_both(struct krb_sealer *s, struct krb_opener *o, enum ending how, uint32_t mode)
 {
@@ -114,8 +116,8 @@ static void no_residue(uint32_t mode, int etype, enum ending how)
     }
 }
 
-/* A block that is freed with its key in it is told by both counts. */
-static void residue_is_told(void)
+/* A block that is freed with its key in it is told. */
+static void leave_key(void)
 {
     uint8_t *block = malloc(200);
     CHECK(block != NULL);
@@ -125,21 +127,25 @@ static void residue_is_told(void)
     memcpy(block + 9, key, sizeof key);
     watch_block(0, block);
     free(block);
-    CHECK(watch[0].freed == 1 && watch[0].runs == 1 && blocks_with_key == 1);
-    blocks_with_key = 0;
+    CHECK(watch[0].freed == 1 && watch[0].runs == 1);
 }
 
-int main(void)
+static void end_in_each_way(void)
 {
-    for (int i = 0; i < 32; i++)
-        key[i] = (uint8_t)(0xa0 + i * 5);
-    residue_is_told();
     for (uint32_t mode = KRB_SAFE; mode <= KRB_PRIV; mode++)
         for (int etype = 17; etype <= 18; etype++)
             for (unsigned how = 0; how < ENDINGS; how++)
                 no_residue(mode, etype, (enum ending)how);
     CHECK(blocks_freed > 0);
-    CHECK(blocks_with_key == 0);
-    printf("residue: %d blocks freed, %d with a key\n", blocks_freed, blocks_with_key);
+}
+
+int main(int argc, char **argv)
+{
+    for (int i = 0; i < 32; i++)
+        key[i] = (uint8_t)(0xa0 + i * 5);
+    if (argc > 1 && strcmp(argv[1], "left") == 0)
+        leave_key();
+    else
+        end_in_each_way();
     return check_status("residue");
 }

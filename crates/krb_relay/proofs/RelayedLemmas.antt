@@ -213,6 +213,7 @@ module _ {P : Type 0} (gives : P → Side → Handed → Type 0) (src : P → So
           let P : ℕ → Type 0 = λ k. slice_get runs k ≡ Some w.run in
           let Q : ℕ → Type 0 = λ k. (other : ℕ) (its : Run) → other < k → slice_get runs other ≡ Some its → IsWholeRun its in
           record { run = w.run; named = subst P e w.at; reason = w.reason; below = subst Q e w.below }
+
       by_cause : (cause : Cause) → cause ≡ fault.cause → NamesLeast runs fault.lane cause
       by_cause Memory e = tt
       by_cause Spawn e = tt

@@ -148,12 +148,12 @@ fresh_stands starts ends log each few moments fresh is =
     let at : (k : ℕ) (p : Post) → k < length ps → get_or ps k p ≡ post (get_or starts k p.start) (get_or ends k p.rx) (get_or starts k p.start) =
     λ k p lt. posts_at starts ends starts k p.start p.rx p.start p each refl (omega (arith, count, lt)) in
     let tied : AreTied (new_log (length starts)) ps = λ k p lt.
-        let P : Post → Type 0 = λ q. IsTied (new_log (length starts)) k q in
-        subst P (sym (at k p lt))
-        (fresh_tied (length starts) k (get_or starts k p.start) (get_or ends k p.rx) (omega (arith, count, lt, few)) (moments k p.start (omega (arith, count, lt))) (fresh k p.rx (omega (arith, count, lt, each)))) in
+    let P : Post → Type 0 = λ q. IsTied (new_log (length starts)) k q in
+    subst P (sym (at k p lt))
+    (fresh_tied (length starts) k (get_or starts k p.start) (get_or ends k p.rx) (omega (arith, count, lt, few)) (moments k p.start (omega (arith, count, lt))) (fresh k p.rx (omega (arith, count, lt, each)))) in
     let level : All (IsLevel 0) ps = λ k p lt.
-        let P : Post → Type 0 = λ q. IsLevel 0 q in
-        subst P (sym (at k p lt)) (fresh_level (post (get_or starts k p.start) (get_or ends k p.rx) (get_or starts k p.start)) (fresh k p.rx (omega (arith, count, lt, each)))) in
+    let P : Post → Type 0 = λ q. IsLevel 0 q in
+    subst P (sym (at k p lt)) (fresh_level (post (get_or starts k p.start) (get_or ends k p.rx) (get_or starts k p.start)) (fresh k p.rx (omega (arith, count, lt, each)))) in
     let none : All (λ (rx : Side). rx.frames ≡ []) ends = λ k d lt. (fresh k d lt).frames in
     let Q : LogState → Type 0 = λ l. Stands 0 starts ends starts l in
     subst Q (sym is) (record {

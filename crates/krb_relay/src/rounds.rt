@@ -93,7 +93,14 @@ fn turn_at<R: Wait>(
     ensures err { OnErr result (Stops starts.now.value.items ends.old ends.new log.new) }
     ensures same { map lane_of ends.new ≡ map lane_of ends.old }
 {
-    turn(rt, alloc, lane as u32, &mut ends[lane], &mut receivings[lane], log)
+    turn(
+        rt,
+        alloc,
+        lane as u32,
+        &mut ends[lane],
+        &mut receivings[lane],
+        log,
+    )
 }
 
 /// Takes the next item of a lane, where its End wasn't taken: a frame is judged, and what became of

@@ -16,7 +16,11 @@ fn causes_have_numbers_and_words(rt: HostRuntime) -> Result<(), Fail> {
         (Cause::Memory, 1, "out of memory"),
         (Cause::Spawn, 2, "no thread could be started"),
         (Cause::Lost, 3, "the other end of the lane is gone"),
-        (Cause::BadPlan, 4, "the plan names what the frames don't have"),
+        (
+            Cause::BadPlan,
+            4,
+            "the plan names what the frames don't have",
+        ),
         (Cause::Wiped, 5, "the sealer was wiped"),
     ] {
         assert_eq!(rt; cause.code(), code);
@@ -28,7 +32,10 @@ fn causes_have_numbers_and_words(rt: HostRuntime) -> Result<(), Fail> {
         };
         assert_eq!(rt; fault.code(), code);
         let shown = format!(in rt.alloc(); "{fault}")?;
-        assert_eq!(rt; shown.as_str(), format!(in rt.alloc(); "lane 3: {words}")?.as_str());
+        assert_eq!(rt;
+            shown.as_str(),
+            format!(in rt.alloc(); "lane 3: {words}")?.as_str()
+        );
     }
     Ok(())
 }

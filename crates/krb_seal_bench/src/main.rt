@@ -138,8 +138,12 @@ fn run(rt: &HostRuntime, rounds: u32) -> io::Result<bool> {
 fn main(rt: HostRuntime) -> io::Result<ExitCode> {
     match env::args(&rt)?.nth(1) {
         None => Ok(ExitCode::SUCCESS),
-        Some(rounds) => {
-            if run(&rt, rounds.parse().unwrap_or(1))? {
+        Some(word) => {
+            let Ok(rounds) = word.parse() else {
+                eprintln!(&rt; "usage: krb_seal_bench ROUNDS")?;
+                return Ok(ExitCode::from(2));
+            };
+            if run(&rt, rounds)? {
                 Ok(ExitCode::SUCCESS)
             } else {
                 Ok(ExitCode::FAILURE)

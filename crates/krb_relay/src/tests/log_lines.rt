@@ -14,9 +14,6 @@ fn is_event(event: &Event, word: &str) -> bool {
 /// Whether a log has these entries: the lane, and the text, `closed` or the refusal's name.
 pub(super) fn is_log(log: &Log, expected: &[(u32, &str)]) -> bool {
     log.entries().len() == expected.len()
-        && log
-            .entries()
-            .iter()
-            .zip(expected)
-            .all(|(entry, (lane, word))| entry.lane == *lane && is_event(&entry.event, word))
+        && log.entries().iter().zip(expected).all(|(entry, (lane, word))| entry.lane == *lane
+            && is_event(&entry.event, word))
 }

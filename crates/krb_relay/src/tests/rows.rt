@@ -83,6 +83,7 @@ fn last_number_is_kept_for_the_close(rt: HostRuntime) -> Result<(), Fail> {
                 return Err(Fail::from("a fault"));
             };
             assert!(rt; is_log(&report.log, expected));
+            assert_eq!(rt; report.sent.len(), 1);
             assert_eq!(rt; (report.sent[0].k, report.sent[0].n), (k, 2));
             assert_eq!(rt; report.sent[0].ending, Ending::LastNumber);
         }
@@ -100,7 +101,11 @@ fn eight_senders_in_rounds(rt: HostRuntime) -> Result<(), Fail> {
         let mut lanes = Lanes::new(rt.alloc());
         let mut expected = Vec::new(rt.alloc());
         for lane in 0..8 {
-            let mode = if lane % 2 == 0 { Mode::Safe } else { Mode::Priv };
+            let mode = if lane % 2 == 0 {
+                Mode::Safe
+            } else {
+                Mode::Priv
+            };
             lanes.add(rt.alloc(), lane > 3, mode, 7, &texts[..lane])?;
         }
         for (place, word) in words.iter().enumerate() {

@@ -203,7 +203,8 @@ impl Lanes {
             Box::new(alloc, Aes128Sealer::new(&mut { KEY }, session))?
         };
         self.sendings.push(sending(alloc, sealer, texts)?)?;
-        self.receivings.push(receiving(alloc, long, mode, host, first)?)?;
+        self.receivings
+            .push(receiving(alloc, long, mode, host, first)?)?;
         Ok(())
     }
 
@@ -229,7 +230,8 @@ impl Lanes {
         }
         let sealer: Box<dyn Sealer + Send> = Box::new(alloc, sealer)?;
         self.sendings.push(sending(alloc, sealer, texts)?)?;
-        self.receivings.push(receiving(alloc, false, Mode::Safe, host, 7)?)?;
+        self.receivings
+            .push(receiving(alloc, false, Mode::Safe, host, 7)?)?;
         Ok(())
     }
 
@@ -247,14 +249,21 @@ fn are_short(texts: &[Vec<u8>]) -> bool
     texts.iter().all(|text| text.len() <= TEXT_LIMIT)
 }
 
+/// Asserts the limits of a sender.
+fn assert_sender<S: Sealer>(rt: &impl Abort, sending: &Sending<S>)
+    ensures { IsSender (source_of S.state sending.now) }
+{
+    assert!(rt; are_short(sending.texts.as_slice()));
+    assert!(rt; !sending.ats.is_empty());
+    assert!(rt; sending.sealer.next() <= LAST_NUMBER);
+}
+
 /// Asserts the limits of all senders.
 fn assert_senders<S: Sealer>(rt: &impl Abort, sendings: &[Sending<S>])
     ensures { All (λ sending. IsSender (source_of S.state sending)) sendings.now }
 {
     for sending in sendings {
-        assert!(rt; are_short(sending.texts.as_slice()));
-        assert!(rt; !sending.ats.is_empty());
-        assert!(rt; sending.sealer.next() <= LAST_NUMBER);
+        assert_sender(rt, sending);
     }
 }
 

@@ -1,0 +1,133 @@
+//! Times the relay on threads beside the stepped one, over the same lanes.
+//!
+//! `krb_relay_bench ROUNDS SENDERS TEXTS BYTES CAPACITY` relays TEXTS texts of BYTES bytes from each
+//! of SENDERS senders (KRB-PRIV under encryption type 18) by `Stepped` and by `relay`, in turn, and
+//! prints how many messages a second each relays, the best of that many rounds, and what part of the
+//! stepped relay's time `relay` takes. `krb_relay_bench soak N` relays N jobs of two senders with
+//! five texts of 64 bytes each by `relay`, and prints how many a second. With no argument it does
+//! nothing.
+#![tactic(auto)]
+
+mod lanes;
+mod relays;
+
+use lanes::Size;
+use relays::{run_stepped, run_threads};
+use std::alloc::Global;
+use std::process::ExitCode;
+use std::sync::Wait;
+use std::thread::Threads;
+use std::time::{Clock, Instant};
+use std::{env, io};
+
+/// What is said of other arguments.
+const USAGE: &str =
+    "krb_relay_bench ROUNDS SENDERS TEXTS BYTES CAPACITY, or krb_relay_bench soak N";
+
+/// The best times of both relays, in microseconds, and whether each ended well.
+#[derive(Clone, Copy)]
+struct Best {
+    stepped: u128,
+    threads: u128,
+    whole: bool,
+}
+
+/// The best of so many rounds.
+fn best_of(
+    rt: &(impl Threads + Wait + Sync + Clock + Alloc<A = Global>),
+    rounds: u32,
+    size: Size,
+) -> io::Result<Best> {
+    let mut best = Best {
+        stepped: u128::MAX,
+        threads: u128::MAX,
+        whole: true,
+    };
+    for _ in 0..rounds {
+        let (stepped, well) = run_stepped(rt, size)?;
+        let (threads, fine) = run_threads(rt, size)?;
+        best = Best {
+            stepped: best.stepped.min(stepped),
+            threads: best.threads.min(threads),
+            whole: best.whole && well && fine,
+        };
+    }
+    Ok(best)
+}
+
+/// How many a second, where so many take so many microseconds.
+fn rate(count: u128, micros: u128) -> u128 {
+    count.saturating_mul(1_000_000) / micros.max(1)
+}
+
+/// Times both relays.
+fn compare(
+    rt: &(impl Threads + Wait + Sync + Clock + Print + Alloc<A = Global>),
+    rounds: u32,
+    size: Size,
+) -> io::Result<bool> {
+    let best = best_of(rt, rounds, size)?;
+    let messages = (size.senders as u128).saturating_mul((size.texts as u128).saturating_add(1));
+    let (stepped, threads) = (rate(messages, best.stepped), rate(messages, best.threads));
+    let percent = best.threads.saturating_mul(100) / best.stepped.max(1);
+    println!(rt;
+        "stepped {stepped}, threads {threads} messages a second: {percent} % of the time"
+    )?;
+    Ok(best.whole)
+}
+
+/// Relays so many small jobs.
+fn soak(
+    rt: &(impl Threads + Wait + Sync + Clock + Print + Alloc<A = Global>),
+    jobs: u32,
+) -> io::Result<bool> {
+    let size = Size {
+        senders: 2,
+        texts: 5,
+        bytes: 64,
+        capacity: 2,
+    };
+    let start = Instant::now(rt)?;
+    let mut whole = true;
+    for _ in 0..jobs {
+        let (_, well) = run_threads(rt, size)?;
+        whole = whole && well;
+    }
+    let speed = rate(u128::from(jobs), start.elapsed(rt)?.as_micros());
+    println!(rt; "{jobs} jobs, {speed} a second")?;
+    Ok(whole)
+}
+
+fn exit_code(whole: bool) -> ExitCode {
+    if whole {
+        ExitCode::SUCCESS
+    } else {
+        ExitCode::FAILURE
+    }
+}
+
+fn main(rt: HostRuntime) -> io::Result<ExitCode> {
+    let words: Vec<String> = env::args(&rt)?.collect(rt.alloc())?;
+    let numbers: Vec<u32> = words
+        .iter()
+        .skip(1)
+        .filter_map(|word| word.parse().ok())
+        .collect(rt.alloc())?;
+    match numbers.as_slice() {
+        [] => Ok(ExitCode::SUCCESS),
+        [jobs] => Ok(exit_code(soak(&rt, *jobs)?)),
+        [rounds, senders, texts, bytes, capacity] => {
+            let size = Size {
+                senders: *senders as usize,
+                texts: *texts as usize,
+                bytes: *bytes as usize,
+                capacity: *capacity as usize,
+            };
+            Ok(exit_code(compare(&rt, *rounds, size)?))
+        }
+        _ => {
+            println!(&rt; "{USAGE}")?;
+            Ok(ExitCode::from(2))
+        }
+    }
+}
