@@ -1,7 +1,7 @@
 #!/usr/bin/env python3
 """An independent sealer of KRB-SAFE and KRB-PRIV messages, in plain Python over the package
-`cryptography` and the standard library. It prints the frames that the tests of krb_seal and krb_core
-expect.
+`cryptography` and the standard library. It prints the frames that the tests of krb_seal, krb_core,
+krb_commands and krbrelay expect.
 
 It shares no code with the crates: the definitions are those of RFC 4120, 3961, 3962 and 2104.
 """
@@ -158,6 +158,9 @@ def main():
         ("priv 17, the close behind it", seal_priv(KEY_128, second, drawn[16:])),
         ("safe 17, to the receiver", seal_safe(KEY_128, told)),
         ("safe 18", seal_safe(KEY_256, inner)),
+        ("safe 18, the close behind it", seal_safe(KEY_256, second)),
+        ("priv 18, first drawn confounder", seal_priv(KEY_256, inner, drawn[:16])),
+        ("priv 18, the close behind it", seal_priv(KEY_256, second, drawn[16:])),
         ("safe 17, last number", seal_safe(KEY_128, close)),
         ("safe 17, no usec", seal_safe(KEY_128, without(0xA2))),
         ("safe 17, no time", seal_safe(KEY_128, without(0xA1))),
