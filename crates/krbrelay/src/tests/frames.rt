@@ -1,5 +1,5 @@
-//! Frames as the sealer of `tools/frames.py` makes them, in digits: the text 68 69 at number 7 and the
-//! close at number 8, of each encryption type and each mode.
+//! Frames as the sealer of `tools/frames.py` makes them, in digits: the text 68 69 at number 7 and
+//! the close at number 8, of each encryption type and each mode.
 
 /// As KRB-SAFE under encryption type 17.
 pub const SAFE_17: [&str; 2] = [
@@ -7,8 +7,8 @@ pub const SAFE_17: [&str; 2] = [
     "745c305aa003020105a103020114a2353033a003040143a111180f32303233313131343232313332305aa203020105a303020108a40f300da003020102a10604040a000001a3173015a00302010fa10e040cdf342fb60cf4919b27269153",
 ];
 
-/// As KRB-PRIV under encryption type 17: the confounders are the first 32 bytes that ChaCha20 gives
-/// for a key of zeros (RFC 8439 appendix A.1).
+/// As KRB-PRIV under encryption type 17: the confounders are the first 32 bytes that ChaCha20
+/// gives for a key of zeros (RFC 8439 appendix A.1).
 pub const PRIV_17: [&str; 2] = [
     "756e306ca003020105a103020115a360305ea003020111a2570455dd63698edb7275f9e8bb8a302b2ff36a92033076ee044dc849f29d7c65269530b6f05eab80f68f1bd49a538d534a1c39f4138d57b238d03e0ae1f1e41a41aa7eef519bf43bc6723c73d4f1497afad975fe42cf8796",
     "756c306aa003020105a103020115a35e305ca003020111a2550453cea45cf8491086d211a07df8abbe0875bb3b8a2b189b55a02cd0f4112df8bb3e3033fb5bacccb38a558976e98335baf0eabb169305b3f872786fa9a0e0fb1f6129a2cb2d64a1fd169dbb95db5f002f9ff9e02d",
@@ -20,8 +20,8 @@ pub const SAFE_18: [&str; 2] = [
     "745c305aa003020105a103020114a2353033a003040143a111180f32303233313131343232313332305aa203020105a303020108a40f300da003020102a10604040a000001a3173015a003020110a10e040cecb818c0c9db51ebcb07e7ae",
 ];
 
-/// As KRB-PRIV under encryption type 18: the confounders are the first 32 bytes that ChaCha20 gives
-/// for a key of zeros (RFC 8439 appendix A.1).
+/// As KRB-PRIV under encryption type 18: the confounders are the first 32 bytes that ChaCha20
+/// gives for a key of zeros (RFC 8439 appendix A.1).
 pub const PRIV_18: [&str; 2] = [
     "756e306ca003020105a103020115a360305ea003020112a25704554866f41db0511cf98b9266ce63abecdbfcb91835b486f18cdba292038b801584dd5adacd21662ed41de1158e98feff37e9b77c0091afa5af07c59612e735b5351bee0ea1d9b3ac63e3969f905d6744f6d3b4c2b433",
     "756c306aa003020105a103020115a35e305ca003020112a2550453c6d18ab088574045abeafe0bc3833bb8d90150a98d56a2e2a2b73b4cc9f3430249cd6c238b71320980b0f0a5ba15290da54a9cc21df4ccc414788bc72d7398f5c70a8ed268d3e1d7895637609788b3eea7dee3",

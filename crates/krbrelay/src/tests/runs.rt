@@ -1,5 +1,5 @@
-//! What the program prints, from its words and the job's bytes on, for each encryption type and each
-//! mode. The lines that don't depend on either were worked by hand; the frames are those of an
+//! What the program prints, from its words and the job's bytes on, for each encryption type and
+//! each mode. The lines that don't depend on either were worked by hand; the frames are those of an
 //! independent sealer, `tools/frames.py`.
 
 use super::frames::{PRIV_17, PRIV_18, SAFE_17, SAFE_18};
