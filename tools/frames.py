@@ -1,7 +1,7 @@
 #!/usr/bin/env python3
 """An independent sealer of KRB-SAFE and KRB-PRIV messages, in plain Python over the package
-`cryptography` and the standard library. It prints the frames that tests expect, or of a session key
-the strings for tools/residue: the key, its digits as a job file has them, and the derived keys.
+`cryptography` and the standard library. It prints the frames that the tests of krb_seal, krb_core,
+krb_commands and krbrelay expect, or of a session key the strings for tools/residue: the key, its digits as a job file has them, and the derived keys.
 
     tools/frames.py [--keys KEYHEX]
 
@@ -175,6 +175,9 @@ def print_frames():
         ("priv 17, the close behind it", seal_priv(KEY_128, second, drawn[16:])),
         ("safe 17, to the receiver", seal_safe(KEY_128, told)),
         ("safe 18", seal_safe(KEY_256, inner)),
+        ("safe 18, the close behind it", seal_safe(KEY_256, second)),
+        ("priv 18, first drawn confounder", seal_priv(KEY_256, inner, drawn[:16])),
+        ("priv 18, the close behind it", seal_priv(KEY_256, second, drawn[16:])),
         ("safe 17, last number", seal_safe(KEY_128, close)),
         ("safe 17, the text 61 before the last number", seal_safe(KEY_128, before_last)),
         ("safe 17, no record", seal_safe(KEY_128, no_record)),

@@ -1,4 +1,4 @@
-use crate::{Bytes, lane_laws, limit_laws, prefix_laws};
+use crate::{Bytes, FRAME_LIMIT, LAST_NUMBER, RAW_LIMIT, TEXT_LIMIT, USER_DATA_LIMIT};
 use std::test::Fail;
 
 #[test]
@@ -10,8 +10,9 @@ fn bytes_give_back_what_they_were_made_of(rt: HostRuntime) -> Result<(), Fail> {
 }
 
 #[test]
-fn laws_are_there() {
-    limit_laws();
-    lane_laws::<u8>();
-    prefix_laws::<u8>();
+fn limits_are_those_that_users_are_told(rt: HostRuntime) {
+    assert_eq!(rt; (TEXT_LIMIT, USER_DATA_LIMIT), (60_000, 60_001));
+    assert_eq!(rt; (FRAME_LIMIT, RAW_LIMIT), (65_000, 70_000));
+    // UInt32 ends here (RFC 4120 section 5.2.4).
+    assert_eq!(rt; LAST_NUMBER, 0xffff_ffff);
 }

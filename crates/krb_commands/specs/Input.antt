@@ -2,6 +2,10 @@
 use Rattle.std.specs.Prelude.{◌≡◌, ℕ, ◌+◌, List, length, Option}
 use Rattle.std.specs.Io.KnownBytes.{Consumes, IsAtEnd}
 
+-- the most bytes that an input may have: 16 MiB
+abbrev pub input_limit : ℕ
+input_limit = 16777216
+
 -- the reader gave these bytes and has no more
 abbrev pub ReadsAll : Option (List ℕ) → Option (List ℕ) → List ℕ → Type 0
 ReadsAll old new bytes = Consumes old new bytes × IsAtEnd new

@@ -31,7 +31,7 @@ pub use ends::{
     SessionKey, job_lanes_are_paired, key_of, push_lane, receiving_of, sending_of, session_of,
 };
 pub use fault::Fault;
-pub use input::{LIMIT, read_all};
+pub use input::{LIMIT, limit_law, read_all};
 pub use messages::{one_reading, show};
 pub use opening::open_job;
 pub use published::vectors;

@@ -2,7 +2,7 @@ ghost use Rattle.std.specs.Prelude.{◌≡◌};
 
 mod passing;
 
-use crate::{Item, LaneError, LaneRx, Lost, every_step, lane, meet};
+use crate::{Item, LaneError, LaneRx, Lost, lane, meet};
 use krb_base::Bytes;
 use passing::pass_on;
 use std::sync::Wait;
@@ -72,6 +72,22 @@ fn what_was_sent_comes_back_where_the_receiver_is_gone(rt: HostRuntime) -> Resul
 }
 
 #[test]
+fn longest_raw_frame_comes_back_whole(rt: HostRuntime) -> Result<(), Fail> {
+    let alloc = rt.alloc();
+    let (mut tx, rx) = lane(&rt, alloc, 64)?;
+    drop(rx);
+    let expected = vec![in alloc; 0x61; 70_000]?;
+    match tx.send(&rt, vec![in alloc; 0x61; 70_000]?) {
+        Ok(()) => Err(Fail::from("sent")),
+        Err(back) => {
+            assert!(rt; back.as_slice() == expected.as_slice());
+            assert_eq!(rt; tx.count(), 0);
+            Ok(())
+        }
+    }
+}
+
+#[test]
 fn lost_follows_the_frames_where_the_sender_is_gone(rt: HostRuntime) -> Result<(), Fail> {
     let alloc = rt.alloc();
     let (mut tx, mut rx) = lane(&rt, alloc, 2)?;
@@ -129,9 +145,4 @@ fn errors_have_numbers_and_words(rt: HostRuntime) -> Result<(), Fail> {
         "the sending end is gone, and sent no End"
     );
     Ok(())
-}
-
-#[test]
-fn the_law_is_there() {
-    every_step();
 }

@@ -240,7 +240,11 @@ fn bytes_that_are_no_message_or_no_record_are_refused(rt: HostRuntime) -> Result
 
 #[test]
 fn frame_of_more_than_65_000_bytes_is_too_long(rt: HostRuntime) -> Result<(), Fail> {
-    for (length, refusal) in [(130_000, "901 MALFORMED"), (130_002, "61 FIELD_TOOLONG")] {
+    for (length, refusal) in [
+        (130_000, "901 MALFORMED"),
+        (130_002, "61 FIELD_TOOLONG"),
+        (140_000, "61 FIELD_TOOLONG"),
+    ] {
         let digits = vec![in rt.alloc(); b'0'; length]?;
         let text = str::from_utf8(digits.as_slice()).ok().ok_or("no text")?;
         assert!(rt; refuses(&rt, &[], text, refusal)?, "{refusal}");

@@ -2,7 +2,7 @@
 
 use crate::fault::Fault;
 use crate::input::{LIMIT, read_all};
-use crate::messages::{one_reading, show};
+use crate::messages::show;
 use std::alloc::AllocError;
 use std::test::Fail;
 
@@ -179,9 +179,4 @@ fn input_over_the_limit_is_refused(rt: HostRuntime) -> Result<(), Fail> {
     let fault = read_all(rt.alloc(), &mut input.as_slice()).err();
     assert_eq!(rt; fault, Some(Fault::TooLong));
     Ok(())
-}
-
-#[test]
-fn law_of_one_reading_is_called() {
-    one_reading();
 }
