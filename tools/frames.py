@@ -1,7 +1,8 @@
 #!/usr/bin/env python3
 """An independent sealer of KRB-SAFE and KRB-PRIV messages, in plain Python over the package
 `cryptography` and the standard library. It prints the frames that the tests of krb_seal, krb_core,
-krb_commands and krbrelay expect, or of a session key the strings for tools/residue: the key, its digits as a job file has them, and the derived keys.
+krb_commands and krbrelay expect, or of a session key the
+strings for tools/residue: the key, its digits as a job file has them, and the derived keys.
 
     tools/frames.py [--keys KEYHEX]
 

@@ -55,7 +55,7 @@ fn eight_lanes_of_2_000_emissions_are_relayed(rt: HostRuntime) -> Result<(), Fai
     let job = job(rt.alloc(), plan.as_str())?;
     let lines = lines(rt.alloc())?;
     let mut output = Vec::new(rt.alloc());
-    let result = relay(rt.alloc(), &mut job.as_bytes(), &mut output);
+    let result = relay(&rt, rt.alloc(), &mut job.as_bytes(), &mut output);
     assert_eq!(rt; result, Ok(0));
     assert!(rt; output.as_slice() == lines.as_bytes());
     Ok(())

@@ -8,7 +8,9 @@ use krb_commands::Fault;
 use std::alloc::Global;
 use std::io::BufWriter;
 use std::process::Abort;
+use std::sync::Wait;
 use std::test::Fail;
+use std::thread::Threads;
 
 const TYPE_17: &str = "etype = 17
 key = '000102030405060708090a0b0c0d0e0f'
@@ -41,7 +43,7 @@ const KINDS: [(&str, &str, [&str; 2]); 4] = [
 /// Whether the program answers a job of this type and mode, and of these further keys, so, and all
 /// of its output has left its buffer.
 fn answers(
-    rt: &(impl Abort + Alloc<A = Global>),
+    rt: &(impl Threads + Wait + Sync + Abort + Alloc<A = Global>),
     word: &str,
     kind: (&str, &str),
     keys: &str,
@@ -51,7 +53,7 @@ fn answers(
     let job = format!(in rt.alloc(); "[[sender]]\n{etype}mode = '{mode}'\n{SESSION}{keys}")?;
     let mut writer = BufWriter::new(rt.alloc(), Vec::new(rt.alloc()))?;
     let words = ["krbrelay", word];
-    let outcome = obey(rt.alloc(), &words, &mut job.as_bytes(), &mut writer)?;
+    let outcome = obey(rt, rt.alloc(), &words, &mut job.as_bytes(), &mut writer)?;
     Ok(outcome == Ok(expected.0) && writer.get_ref().as_slice() == expected.1.as_bytes())
 }
 
@@ -192,7 +194,7 @@ fn bad_job_prints_nothing(rt: HostRuntime) -> Result<(), Fail> {
     for word in ["seal", "open", "relay"] {
         let mut writer = BufWriter::new(rt.alloc(), Vec::new(rt.alloc()))?;
         let mut reader = b"capacity = 0".as_slice();
-        let outcome = obey(rt.alloc(), &["krbrelay", word], &mut reader, &mut writer)?;
+        let outcome = obey(&rt, rt.alloc(), &["krbrelay", word], &mut reader, &mut writer)?;
         assert!(rt; matches!(outcome, Err(Fault::BadInput(_))), "{word}");
         assert!(rt;
             writer.get_ref().is_empty() && writer.buffer().is_empty(),
