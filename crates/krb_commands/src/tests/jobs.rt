@@ -94,11 +94,23 @@ pub fn run<W: Write>(
     job: &str,
     writer: &mut W,
 ) -> Result<u8, Fault> {
+    run_with_room(rt, command, job, 1, writer)
+}
+
+/// The same, with room for at least so many items in each lane.
+fn run_with_room<W: Write>(
+    rt: &(impl Threads + Wait + Sync + Abort + Alloc<A = Global>),
+    command: Command,
+    job: &str,
+    room: usize,
+    writer: &mut W,
+) -> Result<u8, Fault> {
     let Job {
         capacity,
         mut senders,
     } = read_job(rt.alloc(), job.as_bytes(), command)?;
-    assert!(rt; 1 <= senders.len() && senders.len() <= 2 && capacity >= 1);
+    let capacity = capacity.max(room);
+    assert!(rt; 1 <= senders.len() && senders.len() <= 2);
     let last = senders.pop().unwrap();
     match (command, senders.pop()) {
         (Command::Open, _) => open(rt.alloc(), last, writer),
@@ -178,7 +190,14 @@ fn relay_two<W: Write>(
         SessionKey::Aes128(mut key) => Box::new(alloc, Aes128Sealer::new(&mut key, session))?,
         SessionKey::Aes256(mut key) => Box::new(alloc, Aes256Sealer::new(&mut key, session))?,
     };
-    relay_sealed(rt, alloc, (first, sealer), (second, other), capacity, writer)
+    relay_sealed(
+        rt,
+        alloc,
+        (first, sealer),
+        (second, other),
+        capacity,
+        writer,
+    )
 }
 
 /// Relays the texts of two senders, each with its sealer.
@@ -205,7 +224,8 @@ fn relay_sealed<T: Threads + Wait + Sync, S: Sealer + Send, W: Write>(
     relay_job(rt, alloc, sendings, receivings, capacity, writer, &NoGate)
 }
 
-/// Whether the command answers the job by this status and this output.
+/// Whether the command answers the job by this status and this output, also with the most room in
+/// each lane.
 pub fn answers(
     rt: &(impl Threads + Wait + Sync + Abort + Alloc<A = Global>),
     command: Command,
@@ -213,9 +233,14 @@ pub fn answers(
     status: u8,
     text: &str,
 ) -> bool {
-    let mut output = Vec::new(rt.alloc());
-    let result = run(rt, command, job, &mut output);
-    result == Ok(status) && output.as_slice() == text.as_bytes()
+    for room in [1, 64] {
+        let mut output = Vec::new(rt.alloc());
+        let result = run_with_room(rt, command, job, room, &mut output);
+        if result != Ok(status) || output.as_slice() != text.as_bytes() {
+            return false;
+        }
+    }
+    true
 }
 
 /// Whether the command answers a job of one sender, with these changes, so.

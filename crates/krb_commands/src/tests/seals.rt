@@ -22,7 +22,10 @@ fn seals(
 }
 
 /// The lines, each with its line feed.
-fn joined(rt: &(impl Threads + Wait + Sync + Abort + Alloc<A = Global>), lines: &[&str]) -> Result<String, AllocError> {
+fn joined(
+    rt: &(impl Threads + Wait + Sync + Abort + Alloc<A = Global>),
+    lines: &[&str],
+) -> Result<String, AllocError> {
     let mut text = String::new(rt.alloc());
     for line in lines {
         text.push_str(line)?;
