@@ -113,10 +113,10 @@ fn main(rt: HostRuntime) -> io::Result<ExitCode> {
         .skip(1)
         .filter_map(|word| word.parse().ok())
         .collect(rt.alloc())?;
-    match numbers.as_slice() {
-        [] => Ok(ExitCode::SUCCESS),
-        [jobs] => Ok(exit_code(soak(&rt, *jobs)?)),
-        [rounds, senders, texts, bytes, capacity] => {
+    match (words.len(), numbers.as_slice()) {
+        (0 | 1, _) => Ok(ExitCode::SUCCESS),
+        (_, [jobs]) => Ok(exit_code(soak(&rt, *jobs)?)),
+        (_, [rounds, senders, texts, bytes, capacity]) => {
             let size = Size {
                 senders: *senders as usize,
                 texts: *texts as usize,
