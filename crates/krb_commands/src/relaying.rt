@@ -28,10 +28,10 @@ use std::thread::Threads;
 ///
 /// Each sender seals in a thread of its own, whose seal calls stand within the gate. There are one
 /// to eight senders, within their limits and none of them wiped, as many receivers, and room for 1
-/// to 64 items in each lane. The answer is the exit status: 0 where every lane's close was accepted,
-/// else 3. A bad plan is bad input, and nothing is printed. `Stopped` is want of memory in the run
-/// and `Thread` a fault of its threads: the lines of what came until then are printed. After a fault
-/// of printing a prefix is.
+/// to 64 items in each lane. The answer is the exit status: 0 where every lane's close was
+/// accepted, else 3. A bad plan is bad input, and nothing is printed. `Stopped` is want of memory
+/// in the run and `Thread` a fault of its threads: the lines of what came until then are printed.
+/// After a fault of printing a prefix is.
 pub fn relay_job<T: Threads + Wait + Sync, G: Gate + Sync, S: Sealer + Send, W: Write>(
     rt: &T,
     alloc: Global,

@@ -36,11 +36,12 @@ pub struct Report {
 /// Seals the texts of each sender in a thread of its own, and relays them to its receiver.
 ///
 /// There are one to eight senders, within their limits, and as many receivers, each with a moment;
-/// a lane queues `capacity` items, 1 to 64, End counted. The log of an Ok is that of the verdicts on
-/// all that the wires carry, in rounds: the same for every schedule and capacity, with the headline
-/// of each lane. A [`Fault`] has the log of a front of each lane's wire, of which the headline holds
-/// too. `BadPlan` and `Wiped` name the least lane whose plan is bad or whose sealer was wiped: the
-/// lanes below have their whole logs, and the lane itself no entry. Waits for the workers.
+/// a lane queues `capacity` items, 1 to 64, End counted. The log of an Ok is that of the verdicts
+/// on all that the wires carry, in rounds: the same for every schedule and capacity, with the
+/// headline of each lane. A [`Fault`] has the log of a front of each lane's wire, of which the
+/// headline holds too. `BadPlan` and `Wiped` name the least lane whose plan is bad or whose sealer
+/// was wiped: the lanes below have their whole logs, and the lane itself no entry. Waits for the
+/// workers.
 pub fn relay<R: Threads + Wait + Sync, G: Gate + Sync, S: Sealer + Send>(
     rt: &R,
     alloc: Global,

@@ -1,11 +1,11 @@
 //! Times the relay on threads beside the stepped one, over the same lanes.
 //!
-//! `krb_relay_bench ROUNDS SENDERS TEXTS BYTES CAPACITY` relays TEXTS texts of BYTES bytes from each
-//! of SENDERS senders (KRB-PRIV under encryption type 18) by `Stepped` and by `relay`, in turn, and
-//! prints how many messages a second each relays, the best of that many rounds, and what part of the
-//! stepped relay's time `relay` takes. `krb_relay_bench soak N` relays N jobs of two senders with
-//! five texts of 64 bytes each by `relay`, and prints how many a second. With no argument it does
-//! nothing.
+//! `krb_relay_bench ROUNDS SENDERS TEXTS BYTES CAPACITY` relays TEXTS texts of BYTES bytes from
+//! each of SENDERS senders (KRB-PRIV under encryption type 18) by `Stepped` and by `relay`, in
+//! turn, and prints how many messages a second each relays, the best of that many rounds, and what
+//! part of the stepped relay's time `relay` takes. `krb_relay_bench soak N` relays N jobs of two
+//! senders with five texts of 64 bytes each by `relay`, and prints how many a second. With no
+//! argument it does nothing.
 #![tactic(auto)]
 
 mod lanes;
