@@ -3,6 +3,7 @@
 
 mod finish;
 mod frames;
+mod hostile;
 mod lanes;
 mod senders;
 mod starts;
