@@ -1,5 +1,5 @@
 -- The ends that the calling thread holds, and what comes through them where it stops.
-use Rattle.std.proofs.Common.{◌≡◌, ℕ, ◌+◌, ◌<◌, ◌≤◌, Bool, true, false, zero, suc, List, [], ◌∷◌, ◌++◌, length, map, set, get_or, refl, sym, ap, ap₂, subst, ◌∙◌, arith, rules}
+use Rattle.std.proofs.Common.{◌≡◌, ℕ, ◌<◌, zero, suc, List, [], ◌∷◌, length, map, set, get_or, refl, ap, ap₂, ◌∙◌, arith}
 use Rattle.std.specs.Prelude.{All}
 use Rattle.std.specs.List.{AllZip}
 use Rattle.std.proofs.lemmas.List.Elements.{All-nil, All-cons, All-head, All-tail}
@@ -7,7 +7,7 @@ use Rattle.krb_base.proofs.PrefixLemmas.{prefix_same, prefix_trans}
 use Rattle.krb_lane.specs.Side.{Side}
 use Rattle.krb_peers.specs.declared.receiver.Receiving.{Receiving}
 use Rattle.krb_relay.specs.Gathering.{lane_of}
-use Rattle.krb_relay.specs.Heard.{Heard, heard, AreAnswers, BeginsAt, all_heard}
+use Rattle.krb_relay.specs.Heard.{heard, AreAnswers, BeginsAt, all_heard}
 use Rattle.krb_relay.specs.Serving.{Post, post, posts, heard_at, Drains}
 use Rattle.krb_relay.proofs.HeardLemmas.{begins_self}
 

@@ -1,5 +1,5 @@
 -- What a level knows once its worker was joined.
-use Rattle.std.proofs.Common.{◌≡◌, ℕ, ◌+◌, ◌<◌, ◌≤◌, Bool, true, false, zero, suc, List, [], ◌∷◌, ◌++◌, length, map, reverse, refl, sym, ap, ap₂, subst, ◌∙◌, arith, rules, Option, None, Some}
+use Rattle.std.proofs.Common.{◌≡◌, ℕ, ◌+◌, false, List, [], ◌∷◌, ◌++◌, length, map, reverse, refl, sym, ap, subst, ◌∙◌, Option, None, Some}
 use Rattle.std.specs.Prelude.{All}
 use Rattle.std.specs.List.{AllZip}
 use Rattle.std.proofs.lemmas.List.{append_assoc, append-nil, map-append, reverse-append, same_from_push, length_push}
@@ -11,8 +11,8 @@ use Rattle.krb_relay.specs.declared.cause.Cause.{Cause}
 use Rattle.krb_relay.specs.declared.fault.OwnFault.{OwnFault}
 use Rattle.krb_relay.specs.declared.fault.WorkerFault.{WorkerFault}
 use Rattle.krb_relay.specs.declared.worker.Handed.{Handed}
-use Rattle.krb_relay.specs.Gathering.{lane_of, IsEnded, IsFresh, Finished, Begun, EndsWith, Started, part_of, got_by, HasEnded, least, IsServed, Gathers, Leaves}
-use Rattle.krb_relay.specs.Heard.{Heard, BeginsAt, AreAnswers, all_heard}
+use Rattle.krb_relay.specs.Gathering.{lane_of, IsEnded, IsFresh, Finished, Begun, EndsWith, Started, got_by, HasEnded, least, IsServed, Gathers, Leaves}
+use Rattle.krb_relay.specs.Heard.{BeginsAt, all_heard}
 
 pub all_front : {X : Type 0} (P : X → Type 0) (xs ys : List X) → All P (xs ++ ys) → All P xs
 all_front P [] ys h = All-nil P

@@ -1,18 +1,18 @@
 -- What comes of the frames that were heard.
-use Rattle.std.proofs.Common.{◌≡◌, ℕ, suc, ◌+◌, ◌≤◌, ◌<◌, List, [], ◌∷◌, ◌++◌, length, map, refl, sym, ap, ◌∙◌, arith}
+use Rattle.std.proofs.Common.{◌≡◌, ℕ, suc, ◌+◌, ◌≤◌, List, [], ◌∷◌, ◌++◌, length, map, refl, sym, ap, ◌∙◌, arith}
 use Rattle.std.specs.Prelude.{All}
 use Rattle.std.specs.List.{AllZip}
 use Rattle.std.proofs.lemmas.List.{length-map}
 use Rattle.std.proofs.lemmas.List.Elements.{All-nil, All-cons, All-head, All-tail}
-use Rattle.krb_base.proofs.PrefixLemmas.{prefix_same, prefix_trans}
+use Rattle.krb_base.proofs.PrefixLemmas.{prefix_same}
 use Rattle.krb_seal.specs.Opens.{OpenerState}
 use Rattle.krb_lane.specs.Side.{Side}
 use Rattle.krb_peers.specs.declared.receiver.Receiving.{Receiving}
 use Rattle.krb_peers.specs.Demand.{Demand}
 use Rattle.krb_peers.specs.Order.{demand_after}
 use Rattle.krb_peers.specs.Sender.{moment_at}
-use Rattle.krb_peers.specs.Rounds.{rounds, NoneLonger}
-use Rattle.krb_peers.specs.Verdicts.{Verdict, verdict, verdicts, accepted_by, records_of, events_by}
+use Rattle.krb_peers.specs.Rounds.{NoneLonger}
+use Rattle.krb_peers.specs.Verdicts.{verdict, verdicts, accepted_by, records_of, events_by}
 use Rattle.krb_peers.proofs.RoundsLemmas.{rounds-from_below}
 use Rattle.krb_peers.proofs.VerdictLemmas.{verdicts-push}
 use Rattle.krb_relay.specs.Heard.{Heard, heard, answers, AreAnswers, groups_in, rounds_heard, BeginsAt, all_heard}

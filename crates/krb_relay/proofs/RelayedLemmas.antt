@@ -1,16 +1,12 @@
 -- What a relay knows whose levels have all returned.
-use Rattle.std.proofs.Common.{◌≡◌, ◌≢◌, ℕ, ◌+◌, ◌<◌, ◌≤◌, Bool, true, false, zero, suc, List, [], ◌∷◌, ◌++◌, length, map, reverse, slice_get, get_or, refl, sym, ap, ap₂, subst, ◌∙◌, arith, rules, Option, None, Some}
+use Rattle.std.proofs.Common.{◌≡◌, ℕ, ◌+◌, ◌<◌, true, false, zero, suc, List, [], ◌∷◌, ◌++◌, length, map, reverse, slice_get, refl, sym, ap, ap₂, subst, ◌∙◌, arith, Option, None, Some}
 use Rattle.std.specs.Prelude.{All}
 use Rattle.std.specs.List.{AllZip, zip}
-use Rattle.std.proofs.lemmas.List.{append_assoc, append-nil, map-append, length-map, length-append, reverse-reverse}
+use Rattle.std.proofs.lemmas.List.{append-nil, length-map, reverse-reverse}
 use Rattle.std.proofs.lemmas.List.Elements.{All-nil, All-cons, All-head, All-tail, length_all_zip}
-use Rattle.krb_base.specs.Prefix.{IsPrefix}
-use Rattle.krb_base.proofs.PrefixLemmas.{prefix_trans}
 use Rattle.krb_lane.specs.Side.{Side}
-use Rattle.krb_peers.specs.declared.log.Event.{Event}
 use Rattle.krb_peers.specs.declared.receiver.Receiving.{Receiving}
 use Rattle.krb_peers.specs.declared.sending.Sent.{Sent}
-use Rattle.krb_peers.specs.Claims.{has_ended}
 use Rattle.krb_peers.specs.Ends.{Ends, sents_of}
 use Rattle.krb_peers.specs.Log.{new_log}
 use Rattle.krb_peers.specs.LogState.{LogState}
@@ -20,7 +16,7 @@ use Rattle.krb_peers.specs.Sender.{Source}
 use Rattle.krb_peers.specs.Sending.{sent_of}
 use Rattle.krb_peers.specs.Undisturbed.{TakesAll}
 use Rattle.krb_peers.specs.Verdicts.{groups_of}
-use Rattle.krb_peers.specs.Whole.{rounds_of, EndsWhole, IsRelayed, IsWholeRun, IsWhole}
+use Rattle.krb_peers.specs.Whole.{rounds_of, EndsWhole, IsWholeRun, IsWhole}
 use Rattle.krb_peers.proofs.WholeLemmas.{relayed_of}
 use Rattle.krb_relay.specs.declared.cause.Cause.{Cause}
 use Rattle.krb_relay.specs.declared.cause.Cause.TheVariants.{Memory, Spawn, Lost, BadPlan, Wiped}
@@ -30,8 +26,8 @@ use Rattle.krb_relay.specs.declared.fault.OwnFault.{OwnFault}
 use Rattle.krb_relay.specs.declared.fault.WorkerFault.{WorkerFault}
 use Rattle.krb_relay.specs.declared.worker.Handed.{Handed}
 use Rattle.krb_relay.specs.Cause.{cause_of}
-use Rattle.krb_relay.specs.Gathering.{lane_of, IsEnded, NotesAll, Started, part_of, got_by, HasEnded, first_of, least, IsServed, Gathers}
-use Rattle.krb_relay.specs.Heard.{Heard, heard, answers, groups_in, AreAnswers, BeginsAt, all_heard, rounds_heard}
+use Rattle.krb_relay.specs.Gathering.{Started, part_of, got_by, HasEnded, first_of, least, IsServed, Gathers}
+use Rattle.krb_relay.specs.Heard.{Heard, heard, answers, groups_in, AreAnswers, BeginsAt, all_heard}
 use Rattle.krb_relay.specs.Relayed.{unended, IsLeast, NamesLeast, StopsRelay}
 use Rattle.krb_relay.specs.Sent.{IsFront, IsAll, IsTrueOf, IsCut, Sends, Served}
 use Rattle.krb_relay.proofs.GatheringLemmas.{no_ends}

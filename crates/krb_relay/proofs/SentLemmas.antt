@@ -1,15 +1,13 @@
 -- What a worker sent of its sender's wire.
-use Rattle.std.proofs.Common.{◌≡◌, ℕ, zero, suc, ◌+◌, ◌-◌, ◌<◌, ◌≤◌, Bool, true, false, List, [], ◌∷◌, ◌++◌, length, map, take, Option, Some, None, refl, sym, ap, ap₂, subst, ◌∙◌, arith, rules}
+use Rattle.std.proofs.Common.{◌≡◌, ℕ, ◌≤◌, Bool, true, false, List, [], length, take, Option, Some, None, refl, sym, ap, subst, ◌∙◌, arith}
 use Rattle.std.specs.Prelude.{unwrap_or}
 use Rattle.std.proofs.lemmas.List.{take_all, take_at, take-take, length-append, length-take}
-use Rattle.krb_base.specs.Limits.{last_number}
 use Rattle.krb_base.specs.Prefix.{IsPrefix}
 use Rattle.krb_peers.specs.declared.plan.Emit.{Emit}
 use Rattle.krb_peers.specs.Plan.{is_good, wire}
 use Rattle.krb_peers.specs.Sender.{Source, records, AreFrames, HaveShortTexts}
-use Rattle.krb_peers.specs.Sending.{sealed_of, HasSealed}
+use Rattle.krb_peers.specs.Sending.{HasSealed}
 use Rattle.krb_peers.specs.Verdicts.{AllBytes}
-use Rattle.krb_peers.specs.Wire.{IsWire, IsBad}
 use Rattle.krb_peers.proofs.SendingLemmas.{length-records}
 use Rattle.krb_relay.specs.declared.cause.Cause.{Cause}
 use Rattle.krb_relay.specs.declared.cause.Cause.TheVariants.{Memory, Spawn, Lost, BadPlan, Wiped}

@@ -1,17 +1,16 @@
 -- How a round goes on.
-use Rattle.std.proofs.Common.{◌≡◌, ◌≢◌, ℕ, ◌+◌, ◌<◌, ◌≤◌, ◌==◌, Bool, true, false, zero, suc, List, [], ◌∷◌, ◌++◌, length, map, take, drop, set, get_or, refl, sym, ap, ap₂, subst, ◌∙◌, inl, inr, arith, rules}
+use Rattle.std.proofs.Common.{◌≡◌, ◌≢◌, ℕ, ◌+◌, ◌<◌, ◌≤◌, true, false, suc, List, [], ◌∷◌, ◌++◌, length, map, take, drop, set, get_or, refl, sym, ap, ap₂, subst, ◌∙◌, inl, inr, arith}
 use Rattle.std.specs.Prelude.{All}
-use Rattle.std.proofs.lemmas.List.{append_assoc, append-nil, length-append, length-map, map-append, set_split, take_more_set, take-append-drop, drop_more, drop-set-lt, length-take-le, take_all, length-set, get_or-set_same, get_or-set_other}
+use Rattle.std.proofs.lemmas.List.{length-append, length-map, map-append, set_split, take_more_set, take-append-drop, drop_more, drop-set-lt, length-take-le, take_all, length-set, get_or-set_same, get_or-set_other}
 use Rattle.std.proofs.lemmas.List.Elements.{All-nil, All-cons, All-head, All-tail, All-append, All-weaker}
 use Rattle.std.proofs.lemmas.Bool.Decides.{eqb_tells}
 use Rattle.krb_lane.specs.Side.{Side}
 use Rattle.krb_peers.specs.declared.log.Event.{Event}
 use Rattle.krb_peers.specs.declared.receiver.Receiving.{Receiving}
 use Rattle.krb_peers.specs.Claims.{has_ended}
-use Rattle.krb_peers.specs.Demand.{Demand}
 use Rattle.krb_peers.specs.Log.{ended_at, entries_for}
 use Rattle.krb_peers.specs.LogState.{LogState}
-use Rattle.krb_peers.specs.Logged.{HasLogged, entries_by, noted}
+use Rattle.krb_peers.specs.Logged.{HasLogged, entries_by}
 use Rattle.krb_peers.specs.Order.{demand_after}
 use Rattle.krb_peers.specs.Receiver.{verdict_by}
 use Rattle.krb_peers.specs.ReceiverState.{ReceiverState}
@@ -19,8 +18,8 @@ use Rattle.krb_peers.specs.Rounds.{rounds, NoneLonger}
 use Rattle.krb_peers.specs.Sender.{moment_at}
 use Rattle.krb_peers.specs.Verdicts.{Verdict, events_by, groups_of, records_of, verdict}
 use Rattle.krb_peers.proofs.RoundsLemmas.{rounds-push}
-use Rattle.krb_relay.specs.Heard.{Heard, heard, answers, AreAnswers, groups_in, rounds_heard, all_heard}
-use Rattle.krb_relay.specs.Serving.{Post, post, posts, heard_at, IsTied, AreTied, IsLevel, InRound, passed, closed, Rests, Ends, Judges, Turns, verdict_next}
+use Rattle.krb_relay.specs.Heard.{heard, answers, groups_in, rounds_heard}
+use Rattle.krb_relay.specs.Serving.{Post, heard_at, IsTied, AreTied, IsLevel, InRound, closed, Rests, Ends, Judges, Turns, verdict_next}
 use Rattle.krb_relay.proofs.HeardLemmas.{length-groups, answers-push}
 
 -- ---- a frame was judged

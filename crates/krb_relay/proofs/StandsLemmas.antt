@@ -1,9 +1,9 @@
 -- What the calling thread's ends and receivers stand at, turn by turn.
-use Rattle.std.proofs.Common.{◌≡◌, ◌≢◌, ℕ, ◌+◌, ◌<◌, ◌≤◌, Bool, true, false, zero, suc, List, [], ◌∷◌, ◌++◌, length, map, drop, set, get_or, replicate, Option, Some, None, refl, sym, ap, ap₂, subst, ◌∙◌, arith, rules}
+use Rattle.std.proofs.Common.{◌≡◌, ℕ, ◌+◌, ◌<◌, ◌≤◌, true, false, suc, List, [], ◌∷◌, length, map, set, get_or, replicate, Some, None, refl, sym, ap, subst, ◌∙◌, arith}
 use Rattle.std.specs.Prelude.{All}
 use Rattle.std.specs.List.{AllZip}
 use Rattle.std.proofs.lemmas.List.{length-set, length-replicate, get_or-replicate}
-use Rattle.std.proofs.lemmas.List.Elements.{All-nil, All-cons, All-head, All-tail, All-weaker}
+use Rattle.std.proofs.lemmas.List.Elements.{All-nil}
 use Rattle.krb_lane.specs.Side.{Side}
 use Rattle.krb_peers.specs.declared.receiver.Receiving.{Receiving}
 use Rattle.krb_peers.specs.Claims.{has_ended}
@@ -14,7 +14,7 @@ use Rattle.krb_peers.proofs.LoggedLemmas.{logged_none, logged_shut}
 use Rattle.krb_relay.specs.declared.fault.OwnFault.{OwnFault}
 use Rattle.krb_relay.specs.Gathering.{lane_of, IsEnded, IsFresh, NotesAll, Finished}
 use Rattle.krb_relay.specs.Heard.{Heard, heard, answers, AreAnswers, rounds_heard, all_heard}
-use Rattle.krb_relay.specs.Serving.{Post, post, posts, heard_at, IsTied, AreTied, IsLevel, InRound, Stands, Turns, Drains, Stops}
+use Rattle.krb_relay.specs.Serving.{Post, post, posts, IsTied, AreTied, IsLevel, InRound, Stands, Turns, Drains, Stops}
 use Rattle.krb_relay.proofs.HeardLemmas.{rounds_none, none_answered, begins_selves}
 use Rattle.krb_relay.proofs.EndsLemmas.{posts_length, posts_at, posts_set, posts_heard, posts_answered, all_drains_self, all_drains_set, all_drains_more, drained_begins, drained_same}
 use Rattle.krb_relay.proofs.ServingLemmas.{turn_step, round_over}

@@ -1,11 +1,11 @@
 -- What a relay on threads leaves.
-use Rattle.std.specs.Prelude.{◌≡◌, ℕ, ◌<◌, List, [], length, slice_get, Some}
+use Rattle.std.specs.Prelude.{◌≡◌, ℕ, ◌<◌, List, [], slice_get, Some}
 use Rattle.krb_peers.specs.Ends.{Ends}
 use Rattle.krb_peers.specs.LogState.{LogState}
 use Rattle.krb_peers.specs.Run.{Run}
 use Rattle.krb_peers.specs.Whole.{IsRelayed, IsWholeRun}
 use Rattle.krb_relay.specs.declared.cause.Cause.{Cause}
-use Rattle.krb_relay.specs.declared.cause.Cause.TheVariants.{Memory, Spawn, Lost, BadPlan, Wiped}
+use Rattle.krb_relay.specs.declared.cause.Cause.TheVariants.{BadPlan, Wiped}
 use Rattle.krb_relay.specs.Sent.{IsTrueOf}
 
 -- The same log, with no lane noted as ended. After a fault a lane's End may stand behind a front of its

@@ -6,7 +6,7 @@ use Rattle.krb_peers.specs.Plan.{wire}
 use Rattle.krb_peers.specs.Sender.{Source, records, AreFrames}
 use Rattle.krb_peers.specs.Wire.{IsWire, IsBad}
 use Rattle.krb_relay.specs.declared.cause.Cause.{Cause}
-use Rattle.krb_relay.specs.declared.cause.Cause.TheVariants.{Memory, Spawn, Lost, BadPlan, Wiped}
+use Rattle.krb_relay.specs.declared.cause.Cause.TheVariants.{Memory, BadPlan, Wiped}
 use Rattle.krb_relay.specs.declared.worker.Handed.{Handed}
 
 -- the same sender with this plan

@@ -1,5 +1,5 @@
 -- What the calling thread does with its ends of the lanes.
-use Rattle.std.specs.Prelude.{◌≡◌, ℕ, suc, ◌+◌, ◌≤◌, ◌<◌, ◌⊎◌, Bool, true, false, List, [], ◌∷◌, ◌++◌, length, map, take, drop, get_or, All}
+use Rattle.std.specs.Prelude.{◌≡◌, ℕ, suc, ◌≤◌, ◌<◌, ◌⊎◌, true, false, List, [], ◌∷◌, ◌++◌, length, map, take, drop, get_or, All}
 use Rattle.std.specs.List.{AllZip}
 use Rattle.krb_base.specs.Prefix.{IsPrefix}
 use Rattle.krb_lane.specs.Side.{Side}
@@ -11,7 +11,7 @@ use Rattle.krb_peers.specs.Logged.{HasLogged, LogsNext, noted}
 use Rattle.krb_peers.specs.Receiver.{verdict_by, receiver_behind}
 use Rattle.krb_peers.specs.Sender.{moment_at}
 use Rattle.krb_peers.specs.Verdicts.{Verdict}
-use Rattle.krb_relay.specs.Heard.{Heard, heard, answers, groups_in, AreAnswers, rounds_heard, all_heard}
+use Rattle.krb_relay.specs.Heard.{Heard, heard, answers, AreAnswers, rounds_heard, all_heard}
 
 -- one lane at the calling thread: its end, its receiver as it stood at first, and as it stands
 pub record Post : Type 0 where

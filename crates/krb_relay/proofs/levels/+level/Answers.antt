@@ -1,5 +1,5 @@
 -- A level around the levels inside.
-use Rattle.std.proofs.Common.{◌≡◌, ◌<◌, ◌++◌, ◌∷◌, [], ℕ, List, length, take, drop, refl, sym, ap, subst, ◌∙◌, arith, Some, None}
+use Rattle.std.proofs.Common.{◌≡◌, ◌∷◌, [], List, length, drop, refl, sym, subst, ◌∙◌, arith, None}
 use Rattle.std.specs.Prelude.{All}
 use Rattle.std.proofs.lemmas.List.{nil_from_length, take_at}
 use Rattle.krb_lane.specs.Side.{Side}

@@ -1,6 +1,6 @@
 -- After the last lane the next round begins.
 use Rattle.std.proofs.Common.{arith}
-use Rattle.krb_relay.proofs.StandsLemmas.{lane_small, next_round, stops_since}
+use Rattle.krb_relay.proofs.StandsLemmas.{lane_small, next_round}
 use Rattle.krb_relay.proofs.rounds.round.Goals as goal
 
 pub overflow_cast-result : goal.overflow_cast-result

@@ -1,6 +1,6 @@
 -- The log of lanes that have all ended.
 use Rattle.std.proofs.Common.{refl}
-use Rattle.krb_relay.proofs.StandsLemmas.{all_answered, all_logged, all_noted, lanes_are, stops_since}
+use Rattle.krb_relay.proofs.StandsLemmas.{all_answered, all_logged, all_noted, lanes_are}
 use Rattle.krb_relay.proofs.rounds.serve_all.Goals as goal
 
 pub returns-then-all_ended-clause-judged : goal.returns-then-all_ended-clause-judged

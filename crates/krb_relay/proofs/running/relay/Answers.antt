@@ -1,5 +1,5 @@
 -- From what was gathered of all lanes.
-use Rattle.std.proofs.Common.{◌≡◌, List, length, map, refl, ap, sym, subst, ◌∙◌, rules}
+use Rattle.std.proofs.Common.{◌≡◌, length, map, ap, ◌∙◌, rules}
 use Rattle.krb_peers.specs.Log.{new_log}
 use Rattle.krb_peers.specs.Sending.{source_of}
 use Rattle.krb_relay.specs.Sent.{Served}

@@ -1,8 +1,7 @@
 -- The receivers at first are those that were given.
-use Rattle.std.proofs.Common.{ap, sym, subst, List, None, Some}
+use Rattle.std.proofs.Common.{ap, subst, List, None, Some}
 use Rattle.krb_peers.specs.declared.receiver.Receiving.{Receiving}
 use Rattle.krb_relay.specs.Gathering.{Finished}
-use Rattle.krb_relay.specs.Serving.{Stands}
 use Rattle.krb_relay.proofs.StandsLemmas.{fresh_stands, finished_well, finished_badly}
 use Rattle.krb_relay.proofs.serving.finish.Goals as goal
 

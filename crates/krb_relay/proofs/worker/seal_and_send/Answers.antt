@@ -1,6 +1,5 @@
 -- Frame after frame, each sent before the next is sealed.
 use Rattle.std.proofs.Common.{◌≡◌, ◌++◌, ◌∷◌, [], true, false, ap, sym, ◌∙◌, rules}
-use Rattle.krb_lane.specs.Side.{Side}
 use Rattle.krb_peers.proofs.ListLemmas.{AllBytes-push}
 use Rattle.krb_relay.proofs.worker.seal_and_send.Goals as goal
 

@@ -1,5 +1,5 @@
 -- Nothing was sent of what was not sealed, and a front of the wire where the other end was lost.
-use Rattle.std.proofs.Common.{◌≡◌, List, ℕ, Some, [], sym, rules}
+use Rattle.std.proofs.Common.{Some}
 use Rattle.std.proofs.lemmas.Result.{IfErr-weaker, err_from_is_err_and}
 use Rattle.krb_peers.specs.Plan.{contents}
 use Rattle.krb_peers.specs.Sending.{source_of}
