@@ -4,6 +4,7 @@
 
 mod faulty;
 mod frames;
+mod gates;
 mod jobs;
 mod opens;
 mod relays;

@@ -9,7 +9,7 @@ use crate::opening::open_job;
 use crate::relaying::relay_job;
 use crate::sealing::seal_job;
 use krb_job::{Command, Job, SenderJob, read_job};
-use krb_relay::NoGate;
+use krb_relay::{Gate, NoGate};
 use krb_seal::{Aes128Sealer, Aes256Sealer, Sealer};
 use std::alloc::{AllocError, Global};
 use std::io::Write;
@@ -94,16 +94,17 @@ pub fn run<W: Write>(
     job: &str,
     writer: &mut W,
 ) -> Result<u8, Fault> {
-    run_with_room(rt, command, job, 1, writer)
+    run_under(rt, command, job, 1, writer, &NoGate)
 }
 
-/// The same, with room for at least so many items in each lane.
-fn run_with_room<W: Write>(
+/// The same, with room for at least so many items in each lane, and under a gate.
+pub fn run_under<W: Write, G: Gate + Sync>(
     rt: &(impl Threads + Wait + Sync + Abort + Alloc<A = Global>),
     command: Command,
     job: &str,
     room: usize,
     writer: &mut W,
+    gate: &G,
 ) -> Result<u8, Fault> {
     let Job {
         capacity,
@@ -115,8 +116,8 @@ fn run_with_room<W: Write>(
     match (command, senders.pop()) {
         (Command::Open, _) => open(rt.alloc(), last, writer),
         (Command::Seal, _) => seal(rt, last, writer),
-        (Command::Relay, None) => relay_one(rt, last, capacity, writer),
-        (Command::Relay, Some(first)) => relay_two(rt, first, last, capacity, writer),
+        (Command::Relay, None) => relay_one(rt, last, capacity, writer, gate),
+        (Command::Relay, Some(first)) => relay_two(rt, first, last, capacity, writer, gate),
     }
 }
 
@@ -145,11 +146,12 @@ fn seal<W: Write>(
     }
 }
 
-fn relay_one<W: Write>(
+fn relay_one<W: Write, G: Gate + Sync>(
     rt: &(impl Threads + Wait + Sync + Abort + Alloc<A = Global>),
     sender: SenderJob,
     capacity: usize,
     writer: &mut W,
+    gate: &G,
 ) -> Result<u8, Fault> {
     assert!(rt; sender.seed.is_some());
     assert!(rt; 0 < capacity && capacity <= 64);
@@ -160,22 +162,23 @@ fn relay_one<W: Write>(
         SessionKey::Aes128(mut key) => {
             let sealer = Aes128Sealer::new(&mut key, session);
             let sendings = vec![in alloc; sending_of(alloc, sender, sealer)?]?;
-            relay_job(rt, alloc, sendings, receivings, capacity, writer, &NoGate)
+            relay_job(rt, alloc, sendings, receivings, capacity, writer, gate)
         }
         SessionKey::Aes256(mut key) => {
             let sealer = Aes256Sealer::new(&mut key, session);
             let sendings = vec![in alloc; sending_of(alloc, sender, sealer)?]?;
-            relay_job(rt, alloc, sendings, receivings, capacity, writer, &NoGate)
+            relay_job(rt, alloc, sendings, receivings, capacity, writer, gate)
         }
     }
 }
 
-fn relay_two<W: Write>(
+fn relay_two<W: Write, G: Gate + Sync>(
     rt: &(impl Threads + Wait + Sync + Abort + Alloc<A = Global>),
     first: SenderJob,
     second: SenderJob,
     capacity: usize,
     writer: &mut W,
+    gate: &G,
 ) -> Result<u8, Fault> {
     assert!(rt; first.seed.is_some() && second.seed.is_some());
     assert!(rt; 0 < capacity && capacity <= 64);
@@ -190,24 +193,19 @@ fn relay_two<W: Write>(
         SessionKey::Aes128(mut key) => Box::new(alloc, Aes128Sealer::new(&mut key, session))?,
         SessionKey::Aes256(mut key) => Box::new(alloc, Aes256Sealer::new(&mut key, session))?,
     };
-    relay_sealed(
-        rt,
-        alloc,
-        (first, sealer),
-        (second, other),
-        capacity,
-        writer,
-    )
+    let (first, second) = ((first, sealer), (second, other));
+    relay_sealed(rt, alloc, first, second, capacity, writer, gate)
 }
 
 /// Relays the texts of two senders, each with its sealer.
-fn relay_sealed<T: Threads + Wait + Sync, S: Sealer + Send, W: Write>(
+fn relay_sealed<T: Threads + Wait + Sync, S: Sealer + Send, W: Write, G: Gate + Sync>(
     rt: &T,
     alloc: Global,
     first: (SenderJob, S),
     second: (SenderJob, S),
     capacity: usize,
     writer: &mut W,
+    gate: &G,
 ) -> Result<u8, Fault>
     requires seed { IsSome first.0.seed }
     requires other_seed { IsSome second.0.seed }
@@ -221,7 +219,7 @@ fn relay_sealed<T: Threads + Wait + Sync, S: Sealer + Send, W: Write>(
     let mut receivings = Vec::new(alloc);
     push_lane(alloc, &mut sendings, &mut receivings, first.0, first.1)?;
     push_lane(alloc, &mut sendings, &mut receivings, second.0, second.1)?;
-    relay_job(rt, alloc, sendings, receivings, capacity, writer, &NoGate)
+    relay_job(rt, alloc, sendings, receivings, capacity, writer, gate)
 }
 
 /// Whether the command answers the job by this status and this output, also with the most room in
@@ -235,7 +233,7 @@ pub fn answers(
 ) -> bool {
     for room in [1, 64] {
         let mut output = Vec::new(rt.alloc());
-        let result = run_with_room(rt, command, job, room, &mut output);
+        let result = run_under(rt, command, job, room, &mut output, &NoGate);
         if result != Ok(status) || output.as_slice() != text.as_bytes() {
             return false;
         }
