@@ -194,7 +194,13 @@ fn bad_job_prints_nothing(rt: HostRuntime) -> Result<(), Fail> {
     for word in ["seal", "open", "relay"] {
         let mut writer = BufWriter::new(rt.alloc(), Vec::new(rt.alloc()))?;
         let mut reader = b"capacity = 0".as_slice();
-        let outcome = obey(&rt, rt.alloc(), &["krbrelay", word], &mut reader, &mut writer)?;
+        let outcome = obey(
+            &rt,
+            rt.alloc(),
+            &["krbrelay", word],
+            &mut reader,
+            &mut writer,
+        )?;
         assert!(rt; matches!(outcome, Err(Fault::BadInput(_))), "{word}");
         assert!(rt;
             writer.get_ref().is_empty() && writer.buffer().is_empty(),
