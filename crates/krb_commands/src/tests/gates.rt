@@ -8,7 +8,7 @@ use std::sync::atomic::{AtomicU64, Ordering};
 use std::test::Fail;
 
 /// How often a gate looks for another worker.
-const TURNS: u64 = 100_000_000;
+const TURNS: u64 = 1_000_000_000;
 
 /// The first `enter` of each of two lanes looks for the other's.
 #[derive(Drop)]

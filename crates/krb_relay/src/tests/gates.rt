@@ -9,7 +9,7 @@ use std::sync::atomic::{AtomicU64, Ordering};
 use std::test::Fail;
 
 /// How often a gate looks for another worker.
-const TURNS: u64 = 100_000_000;
+const TURNS: u64 = 1_000_000_000;
 
 /// Whether a number comes to stand there while a gate looks.
 fn comes_to(word: &AtomicU64, least: u64) -> bool {
