@@ -108,13 +108,15 @@ pub fn sending_of<S: Sealer>(
         → IsSender (source_of S.state sending)) }
 {
     let seed = sender.seed.unwrap();
-    Ok(Sending {
+    let mut sending = Sending {
         sealer,
-        texts: vectors_of(alloc, sender.texts)?,
+        texts: Vec::new(alloc),
         ats: sender.ats,
         draws: ChaCha20Rng::from_seed(seed),
         plan: sender.plan,
-    })
+    };
+    sending.texts = vectors_of(alloc, sender.texts)?;
+    Ok(sending)
 }
 
 /// Adds the ends of a job's lane to those of the lanes before it, around a sealer of its session.
@@ -143,8 +145,10 @@ pub fn push_lane<S: Sealer>(
         (length sendings.new.items ≡ length sendings.old.items + 1) }
     ensures faults { IfErr result (λ fault. fault ≡ Fault.Memory) }
 {
-    let receiving = receiving_of(alloc, &sender)?;
+    let receiving = receiving_of(alloc, &sender);
+    // A sender lets its sealer go wiped, so it is made first.
     let sending = sending_of(alloc, sender, sealer)?;
+    let receiving = receiving?;
     receivings.push(receiving)?;
     sendings.push(sending)?;
     Ok(())

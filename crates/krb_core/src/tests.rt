@@ -10,6 +10,7 @@ mod starts;
 mod steps;
 mod turns;
 mod undisturbed;
+mod wiped;
 
 ghost use Rattle.std.specs.Prelude.{◌≡◌, IfOk, nat_le, length};
 ghost use Rattle.std.specs.List.{list_all};

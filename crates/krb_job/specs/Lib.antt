@@ -8,6 +8,7 @@ pub mod Keys
 pub mod Limits
 pub mod Lists
 pub mod Place
+pub mod Secret
 pub mod Sender
 pub mod SenderView
 pub mod Steps

@@ -7,6 +7,7 @@ ghost use Rattle.krb_job.specs.Limits.{IsKeyOf, IsKeyOf-prop, AreShortTexts, ske
 ghost use Rattle.krb_job.specs.Limits.{capacity_limit, sender_limit};
 ghost use Rattle.krb_job.specs.Sender.{seals, opens};
 
+use crate::secret::Secret;
 use krb_base::Bytes;
 use krb_der::{HostAddress, Moment};
 use krb_peers::Emit;
@@ -45,7 +46,7 @@ pub struct SenderJob {
     /// The encryption type, 17 or 18 (RFC 3962 section 7).
     pub etype: i32,
     /// The key, 16 bytes for 17 and 32 for 18.
-    pub key: Bytes,
+    pub key: Secret,
     /// How the texts are protected.
     pub mode: Mode,
     /// The first sequence number.

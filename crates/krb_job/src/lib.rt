@@ -11,6 +11,7 @@ mod lists;
 mod parts;
 mod place;
 mod read;
+mod secret;
 mod sender;
 mod table;
 mod text;
@@ -21,6 +22,7 @@ pub use bad_input::{BadInput, JobError};
 pub use job::{Command, Job, SenderJob};
 pub use place::Place;
 pub use read::read_job;
+pub use secret::Secret;
 
 #[cfg(test)]
 mod tests;

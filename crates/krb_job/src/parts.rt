@@ -6,6 +6,7 @@ ghost use Rattle.krb_base.specs.Limits.{last_number};
 ghost use Rattle.krb_seal.specs.Session.{IsShortAddress};
 ghost use Rattle.krb_job.specs.Limits.{IsKeyOf, IsKeyOf-prop, AreShortTexts, skew_limit};
 
+use crate::secret::Secret;
 use krb_base::Bytes;
 use krb_der::{HostAddress, Moment};
 use krb_peers::Emit;
@@ -15,7 +16,7 @@ use krb_seal::Mode;
 #[derive(Drop)]
 pub(crate) struct Protection {
     pub(crate) etype: u64,
-    pub(crate) key: Bytes,
+    pub(crate) key: Secret,
     pub(crate) mode: Mode,
     pub(crate) first: u64,
     ghost key_fits: { IsKeyOf (pos etype) key } by { IsKeyOf-prop (pos etype) key },

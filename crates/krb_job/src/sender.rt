@@ -15,11 +15,11 @@ ghost use Rattle.krb_job.specs.SenderView.{sender_view};
 use crate::job::{Command, SenderJob};
 use crate::parts::{Ends, Protection, Traffic};
 use crate::place::{KeyError, Place};
+use crate::secret::Secret;
 use crate::table::{
     address, entry, flag, frames, has_only, mode, moments, moments_if, number, plan, seed, texts,
 };
 use crate::values::read_bytes;
-use krb_base::Bytes;
 use std::alloc::Global;
 use toml::{Table, Value};
 
@@ -41,12 +41,13 @@ fn read_key(
     value: &Value,
     etype: u64,
     earlier: &[SenderJob],
-) -> Result<Bytes, KeyError>
+) -> Result<Secret, KeyError>
     ensures { Gives (λ b. b) result
         (ok_or (key_of etype (keys_of earlier.now) (view value.now)) Place.Key) }
 {
     let size = key_size(etype);
-    let key = read_bytes(alloc, Place::Key, value, size, size)?;
+    let bytes = read_bytes(alloc, Place::Key, value, size, size)?;
+    let key = Secret::new(bytes.into_vec());
     if is_used(key.as_slice(), earlier) {
         Err(KeyError::Bad(Place::Key))
     } else {
@@ -54,7 +55,7 @@ fn read_key(
     }
 }
 
-fn key(alloc: Global, table: &Table, etype: u64, earlier: &[SenderJob]) -> Result<Bytes, KeyError>
+fn key(alloc: Global, table: &Table, etype: u64, earlier: &[SenderJob]) -> Result<Secret, KeyError>
     ensures { Gives (λ b. b) result
         (needed Place.Key (key_of etype (keys_of earlier.now)) (table_view table.now)) }
 {

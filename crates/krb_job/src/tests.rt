@@ -9,6 +9,7 @@ mod moments;
 mod order;
 mod plan;
 mod protection;
+mod secret;
 mod senders;
 mod texts;
 mod whole;

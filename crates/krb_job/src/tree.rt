@@ -9,6 +9,7 @@ ghost use Rattle.krb_job.specs.Job.{are_tables, are_senders, most_senders, has_t
 
 use crate::bad_input::{BadInput, JobError};
 use crate::job::Command;
+use crate::secret::Secret;
 use crate::table::{get, has_only};
 use crate::values::read_number;
 use std::alloc::Global;
@@ -23,6 +24,31 @@ pub(crate) fn read_tree(alloc: Global, bytes: &[u8]) -> Result<Table, JobError>
         Ok(table) => Ok(table),
         Err(error) if error.is_memory() => Err(JobError::Memory),
         Err(_) => Err(JobError::Bad(BadInput::Toml)),
+    }
+}
+
+/// Lets a document go, and overwrites the texts of its senders, their keys among them.
+pub(crate) fn forget_tree(table: Table) {
+    for (_, value) in table {
+        if let Value::Array(items) = value {
+            forget_senders(items);
+        }
+    }
+}
+
+fn forget_senders(items: Array) {
+    for item in items {
+        if let Value::Table(table) = item {
+            forget_texts(table);
+        }
+    }
+}
+
+fn forget_texts(table: Table) {
+    for (_, value) in table {
+        if let Value::String(text) = value {
+            drop(Secret::new(text.into_bytes()));
+        }
     }
 }
 

@@ -132,6 +132,14 @@ impl Order {
         self.expected += 1;
         self.closed = close;
     }
+
+    /// Refuses each record from now on, as behind a close.
+    pub(crate) fn shut(&mut self)
+        ensures closed { IsTrue self.new.closed }
+        ensures expected { self.new.expected ≡ self.old.expected }
+    {
+        self.closed = true;
+    }
 }
 
 #[cfg(test)]

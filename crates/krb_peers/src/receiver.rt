@@ -1,6 +1,7 @@
 //! The receiver of a lane.
 
-ghost use Rattle.std.specs.Prelude.{◌≡◌, ◌+◌, ◌<◌, ◌≤◌, length, IfOk, OnOk, OnErr};
+ghost use Rattle.std.specs.Prelude.{◌≡◌, ◌+◌, ◌<◌, ◌≤◌, length, IsTrue, IfOk, OnOk, OnErr};
+ghost use Rattle.krb_aes.specs.Keys.{AreZero};
 ghost use Rattle.krb_base.specs.Limits.{last_number};
 ghost use Rattle.krb_peers.specs.Record.{is_close};
 ghost use Rattle.krb_peers.specs.Sender.{moment_at};
@@ -140,6 +141,16 @@ impl Receiver {
             Err(refusal) => note(log, lane, Err(refusal))?,
         }
         Ok(())
+    }
+
+    /// Overwrites the keys where they lie. Each frame is refused from then on, as behind a close.
+    pub fn wipe(&mut self)
+        ensures key { AreZero self.new.opener.key }
+        ensures closed { IsTrue self.new.demand.closed }
+        ensures expected { self.new.demand.expected ≡ self.old.demand.expected }
+    {
+        self.opener.wipe();
+        self.order.shut();
     }
 
     /// What [`take`](Receiver::take) would answer now. Nothing changes.

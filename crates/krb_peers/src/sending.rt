@@ -25,9 +25,8 @@ use std::alloc::{AllocError, Global};
 ///
 /// Its limits: a text has at most 60,000 bytes, there is at least one moment, and the sealer's next
 /// number is at most [`LAST_NUMBER`]. With fewer moments than records, the last one serves the
-/// others.
-#[derive(Drop)]
-pub struct Sending<S = Box<dyn Sealer + Send>> {
+/// others. Its drop wipes the sealer where it lies, a boxed one in its box.
+pub struct Sending<S: Sealer = Box<dyn Sealer + Send>> {
     /// What seals.
     pub sealer: S,
     /// The texts, in order.
@@ -38,6 +37,19 @@ pub struct Sending<S = Box<dyn Sealer + Send>> {
     pub draws: ChaCha20Rng,
     /// What the wire makes of the frames. Without a plan it carries them as they are.
     pub plan: Option<Vec<Emit>>,
+}
+
+impl<S: Sealer> Drop for Sending<S> {
+    fn drop(self) {
+        let Sending {
+            mut sealer,
+            texts: _,
+            ats: _,
+            draws: _,
+            plan: _,
+        } = self;
+        sealer.wipe();
+    }
 }
 
 /// How much of a sender's texts is sealed.

@@ -235,9 +235,6 @@ module _ {P : Type 0} (gives : P → Side → Handed → Type 0) (src : P → So
     seen_long : length g.seen ≡ length starts
     seen_long = length_all_zip BeginsAt g.seen (all_heard starts (map got_by g.inner)) begun ∙ length_heard starts (map got_by g.inner)
 
-    runs : List Run
-    runs = runs_by parts g.seen
-
     are : AreRuns (lanes_by parts starts) (runs_by parts g.seen)
     are =
         let Q : List P → Type 0 = λ ps. AreRuns (lanes_by ps starts) (runs_by ps g.seen) in

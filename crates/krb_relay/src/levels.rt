@@ -69,7 +69,7 @@ pub(crate) fn level<'s, 'e, R: Threads + Wait, S: Send + Drop + 's, W: Work<S> +
                 cause,
                 lane: number,
             };
-            let own = give_up(rt, ends.as_mut_slice(), receivings.as_slice(), &log, fault);
+            let own = give_up(rt, ends.as_mut_slice(), receivings, &log, fault);
             Gathered {
                 ends,
                 log,

@@ -17,7 +17,7 @@ use crate::levels::{Gathered, level};
 use crate::work::Work;
 use crate::worker::{Handed, serve};
 use krb_lane::LaneTx;
-use krb_peers::{Log, Receiving, Sending, Sent};
+use krb_peers::{Log, Receiving, Sending, Sent, wipe_receivers};
 use krb_seal::Sealer;
 use std::alloc::{AllocError, Global};
 use std::sync::Wait;
@@ -46,7 +46,7 @@ pub fn relay<R: Threads + Wait + Sync, G: Gate + Sync, S: Sealer + Send>(
     rt: &R,
     alloc: Global,
     mut sendings: Vec<Sending<S>>,
-    receivings: Vec<Receiving>,
+    mut receivings: Vec<Receiving>,
     capacity: usize,
     gate: &G,
 ) -> Result<Report, Fault>
@@ -64,6 +64,7 @@ pub fn relay<R: Threads + Wait + Sync, G: Gate + Sync, S: Sealer + Send>(
 {
     let log = Log::new(alloc, sendings.len() as u32);
     let Ok(sent) = sents(alloc, sendings.as_slice()) else {
+        wipe_receivers(&mut receivings);
         return Err(Fault {
             cause: Cause::Memory,
             lane: 0,

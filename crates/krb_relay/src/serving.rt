@@ -7,12 +7,13 @@ ghost use Rattle.krb_relay.specs.Gathering.{Finished, IsFresh};
 use crate::fault::OwnFault;
 use crate::rounds::{drain, serve_all};
 use krb_lane::LaneRx;
-use krb_peers::{Log, Receiving};
+use krb_peers::{Log, Receiving, wipe_receivers};
 use std::alloc::Global;
 use std::snapshot::Snapshot;
 use std::sync::Wait;
 
-/// Serves all lanes to their Ends. After a fault of its own it takes what comes, and drops it.
+/// Serves all lanes to their Ends, and wipes the receivers where they lie. After a fault of its own
+/// it takes what comes, and drops it.
 pub(crate) fn finish<R: Wait>(
     rt: &R,
     alloc: Global,
@@ -29,6 +30,7 @@ pub(crate) fn finish<R: Wait>(
 {
     let starts = Snapshot::of(&receivings);
     let served = serve_all(rt, alloc, &starts, ends, receivings.as_mut_slice(), log);
+    wipe_receivers(&mut receivings);
     match served {
         Ok(()) => None,
         Err(fault) => {
@@ -38,20 +40,22 @@ pub(crate) fn finish<R: Wait>(
     }
 }
 
-/// Takes what comes from the workers that were started, and drops it.
+/// Takes what comes from the workers that were started, and drops it. The receivers are wiped where
+/// they lie.
 pub(crate) fn give_up<R: Wait>(
     rt: &R,
     ends: &mut [LaneRx],
-    receivings: &[Receiving],
+    mut receivings: Vec<Receiving>,
     log: &Log,
     fault: OwnFault,
 ) -> Option<OwnFault>
-    requires each { length ends.old ≤ length receivings.now }
+    requires each { length ends.old ≤ length receivings.items }
     requires fresh { All IsFresh ends.old }
-    requires log { log.now ≡ new_log (length receivings.now) }
-    ensures finished { Finished receivings.now ends.old ends.new log.now result }
+    requires log { log.now ≡ new_log (length receivings.items) }
+    ensures finished { Finished receivings.items ends.old ends.new log.now result }
     ensures fault { result ≡ Some fault }
 {
+    wipe_receivers(&mut receivings);
     drain(rt, ends);
     Some(fault)
 }

@@ -1,6 +1,7 @@
 //! What opens the frames of a session.
 
 ghost use Rattle.std.specs.Prelude.{◌≡◌, ◌≤◌, pos, length, replicate, Err};
+ghost use Rattle.krb_aes.specs.Keys.{AreZero};
 ghost use Rattle.krb_base.specs.Limits.{frame_limit};
 ghost use Rattle.krb_der.specs.declared.message.Message.TheVariants as messages;
 ghost use Rattle.krb_der.specs.Body.{InRange};
@@ -20,6 +21,7 @@ use krb_aes::CipherKey;
 use krb_der::{Body, DerError, Message, Moment, PrivMsg, SafeMsg, decode, decode_part};
 use std::alloc::Global;
 use std::marker::Model;
+use std::mem;
 
 /// How many bytes stand before an encrypted part (RFC 3961 section 5.3).
 const CONFOUNDER_SIZE: usize = 16;
@@ -106,6 +108,21 @@ impl Opener {
             Err(DerError::Malformed) => Err(Refusal::Malformed),
             Err(DerError::Memory) => Err(Refusal::Memory),
         }
+    }
+
+    /// Overwrites all keys where they lie. What is left is the opener of a key of zeros, which is
+    /// nobody's.
+    pub fn wipe(&mut self)
+        ensures key { AreZero self.new.key }
+        ensures etype { self.new.etype ≡ self.old.etype }
+        ensures expect { self.new.expect ≡ self.old.expect }
+    {
+        self.keys.wipe();
+        let zeros = match self.etype {
+            Etype::Aes128 => CipherKey::from_128([0; 16]),
+            Etype::Aes256 => CipherKey::from_256([0; 32]),
+        };
+        mem::replace(&mut self.keys, Keys::new(zeros)).spend();
     }
 }
 

@@ -19,8 +19,8 @@ use krb_commands::{
     Fault, LIMIT, SessionKey, key_of, open_job, push_lane, read_all, receiving_of, relay_job,
     seal_job, sending_of, session_of,
 };
-use krb_job::{Command, Job, SenderJob, read_job};
-use krb_peers::{Receiving, Sending};
+use krb_job::{Command, Job, Secret, SenderJob, read_job};
+use krb_peers::{Receivers, Receiving, Sending};
 use krb_relay::NoGate;
 use krb_seal::{Aes128Sealer, Aes256Sealer, Sealer};
 use std::alloc::Global;
@@ -193,16 +193,19 @@ fn relay_senders<T: Threads + Wait + Sync, W: Write>(
 {
     let Job { capacity, senders } = job;
     let mut sendings = Vec::with_capacity(alloc, senders.len())?;
-    let mut receivings = Vec::with_capacity(alloc, senders.len())?;
+    let mut receivers = Receivers::with_capacity(alloc, senders.len())?;
     for sender in senders {
         let session = session_of(alloc, &sender)?;
         let sealer: Box<dyn Sealer + Send> = match key_of(&sender) {
             SessionKey::Aes128(mut key) => Box::new(alloc, Aes128Sealer::new(&mut key, session))?,
             SessionKey::Aes256(mut key) => Box::new(alloc, Aes256Sealer::new(&mut key, session))?,
         };
-        push_told(alloc, &mut sendings, &mut receivings, sender, sealer)?;
+        push_told(alloc, &mut sendings, &mut receivers.items, sender, sealer)?;
     }
-    relay_job(rt, alloc, sendings, receivings, capacity, writer, &NoGate)
+    let receivings = receivers.into_vec(alloc);
+    relay_job(
+        rt, alloc, sendings, receivings, capacity, writer, &NoGate,
+    )
 }
 
 /// Adds a sender's lane to those of the senders before it.
@@ -246,8 +249,9 @@ fn told_job<R: Read>(alloc: Global, reader: &mut R, command: Command) -> Result<
         → IfSome (R.remaining reader.old) (λ input. LIMIT < length input) }
     ensures faults { IfErr result IsOfTelling }
 {
-    let input = read_all(alloc, reader)?;
-    Ok(read_job(alloc, &input, command)?)
+    let bytes = read_all(alloc, reader)?;
+    let input = Secret::new(bytes);
+    Ok(read_job(alloc, input.as_slice(), command)?)
 }
 
 /// The one sender of a job for such a command.

@@ -57,7 +57,7 @@ fn moment() -> Result<Moment, Fail> {
 }
 
 /// What a sealer does besides sealing: it answers `Memory` at one of its calls (0: at none), and
-/// its drop is counted.
+/// its drop is counted where it was wiped before.
 #[derive(Drop)]
 pub(super) struct Odd {
     /// The call that answers `Memory`, from 1 on.
@@ -72,7 +72,8 @@ pub(super) const PLAIN: Odd = Odd {
     wiped: false,
 };
 
-/// A sealer of type 17 that answers `Memory` at one of its calls, and counts its drops.
+/// A sealer of type 17 that answers `Memory` at one of its calls, and counts its drop where it was
+/// wiped before.
 pub(super) struct OddSealer {
     inner: Aes128Sealer,
     wiped: bool,
@@ -86,12 +87,12 @@ impl Drop for OddSealer {
     fn drop(self) {
         let OddSealer {
             inner: _,
-            wiped: _,
+            wiped,
             calls: _,
             fails_at: _,
             drops,
         } = self;
-        drops.fetch_add(1, Ordering::SeqCst);
+        drops.fetch_add(u64::from(wiped), Ordering::SeqCst);
     }
 }
 

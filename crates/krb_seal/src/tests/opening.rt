@@ -162,3 +162,17 @@ fn half_a_time_is_none(rt: HostRuntime) -> Result<(), Fail> {
     }
     Ok(())
 }
+
+#[test]
+fn wiped_opener_is_nobodys(rt: HostRuntime) -> Result<(), Fail> {
+    for (mode, frame, code) in [
+        (Mode::Safe, SAFE_17.as_slice(), 41),
+        (Mode::Priv, PRIV_17.as_slice(), 31),
+    ] {
+        let mut opener = opener(rt.alloc(), mode)?;
+        assert_eq!(rt; answer(rt.alloc(), &opener, frame, 7, MICROS), 0);
+        opener.wipe();
+        assert_eq!(rt; answer(rt.alloc(), &opener, frame, 7, MICROS), code);
+    }
+    Ok(())
+}

@@ -38,12 +38,11 @@ leave-requires-clause-last g t c κs within =
 
 pub returns-in-Err : goal.returns-in-Err
 returns-in-Err g t c =
-    let P : List Receiving → Type 0 = λ s. Finished s c.as_mut_slice-in-Err.result.now c.give_up-own.new.ends c.args.log c.give_up-own.result in
     let Q : List Side → Type 0 = λ x. Finished c.args.receivings.items x c.give_up-own.new.ends c.args.log c.give_up-own.result in
     let len : length c.give_up-own.new.ends ≡ c.begin.new.ends.len = omega arith in
     rw (take_at c.give_up-own.new.ends (drop (length c.give_up-own.new.ends) c.begin.new.ends.items) c.begin.new.ends.len len)
     (gathers_fault {S = g.row.S.Denot} (g.W.Work.gives c.args.work.now) c.args.parts.items c.args.receivings.items c.args.ends.items c.begin.new.ends.items c.give_up-own.new.ends c.args.log c.give_up-own.result _ c.in-Err.ensures.err c.give_up-own.ensures.fault
-    (subst Q c.as_mut_slice-in-Err.ensures.value (subst P c.as_slice.ensures.value c.give_up-own.ensures.finished)))
+    (subst Q c.as_mut_slice-in-Err.ensures.value c.give_up-own.ensures.finished))
 
 pub returns-in-Some-leave : goal.returns-in-Some-leave
 returns-in-Some-leave g t c =

@@ -8,6 +8,6 @@ use Rattle.krbrelay.proofs.jobs.relay_senders.Given as goal
 -- the ends of one lane for each sender so far
 abbrev pub invariant-loop-sender : goal.invariant-loop-sender
 invariant-loop-sender g l =
-    AreReady (λ s. ((own-1.entry s.vtable).1.state s.value)) l.sendings.items l.receivings.items
+    AreReady (λ s. ((own-1.entry s.vtable).1.state s.value)) l.sendings.items l.receivers.items.items
     × (length l.sendings.items ≡ length l.yielded)
-    × (map Some (lanes_of (λ s. ((own-1.entry s.vtable).1.state s.value)) l.sendings.items l.receivings.items) ≡ map lane_told (map sender_view l.yielded))
+    × (map Some (lanes_of (λ s. ((own-1.entry s.vtable).1.state s.value)) l.sendings.items l.receivers.items.items) ≡ map lane_told (map sender_view l.yielded))

@@ -1,0 +1,19 @@
+use super::{MICROS, moment, receiver, sealed, sealer, sending};
+use krb_seal::{Mode, Refusal};
+use std::test::Fail;
+
+#[test]
+fn wiped_receiver_takes_nothing(rt: HostRuntime) -> Result<(), Fail> {
+    for mode in [Mode::Safe, Mode::Priv] {
+        let sealer = sealer(rt.alloc(), mode, 7)?;
+        let mut sending = sending(rt.alloc(), sealer, &[b"hi".as_slice()], &[MICROS])?;
+        let frames = sealed(&rt, rt.alloc(), &mut sending).map_err(|_| "not sealed")?;
+        let mut receiver = receiver(rt.alloc(), mode, 7)?;
+        receiver.wipe();
+        let taken = receiver.take(rt.alloc(), frames[0].as_slice(), moment(MICROS)?);
+        assert_eq!(rt; taken.err(), Some(Refusal::AfterClose));
+        assert!(rt; receiver.closed());
+        assert_eq!(rt; receiver.expected(), 7);
+    }
+    Ok(())
+}

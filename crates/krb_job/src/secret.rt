@@ -1,0 +1,79 @@
+//! Bytes that are overwritten before they are let go.
+
+ghost use Rattle.std.specs.Prelude.{◌≡◌, ◌++◌, OnOk, OnErr, Some};
+ghost use Rattle.krb_job.specs.Secret.{words};
+
+use std::alloc::{AllocError, Global};
+use std::fmt;
+use std::marker::Model;
+use std::mem;
+
+/// A key on the heap, or a text that holds keys. Contracts see it as the list of its bytes.
+///
+/// Its drop overwrites the bytes where they lie, as does a growth with those that it leaves.
+/// `Debug` shows none of them.
+pub struct Secret {
+    bytes: Vec<u8>,
+}
+
+impl Model for Secret {
+    ghost use Rattle.std.specs.Prelude.{List, ℕ};
+
+    ghost Value = { List ℕ };
+
+    ghost view = { λ secret. secret.bytes.items };
+}
+
+impl Drop for Secret {
+    fn drop(self) {
+        let Secret { mut bytes } = self;
+        bytes.fill(0);
+    }
+}
+
+impl fmt::Debug for Secret {
+    ghost debug_output = { λ _. Some words };
+
+    fn fmt<W: fmt::Write>(&self, f: &mut fmt::Formatter<W>) -> fmt::Result {
+        f.write_str("Secret")
+    }
+}
+
+impl Secret {
+    /// The bytes of `bytes`, which stay where they are.
+    pub fn new(bytes: Vec<u8>) -> Secret
+        ensures { result ≡ bytes.items }
+    {
+        Secret { bytes }
+    }
+
+    /// The bytes as a slice.
+    pub fn as_slice(&self) -> &[u8]
+        ensures { result.now ≡ self.now }
+    {
+        self.bytes.as_slice()
+    }
+
+    /// Appends bytes. Want of memory, which is the only error, changes nothing.
+    pub fn append(&mut self, alloc: Global, more: &[u8]) -> Result<(), AllocError>
+        ensures ok { OnOk result (self.new ≡ self.old ++ more.now) }
+        ensures err { OnErr result (self.new ≡ self.old) }
+    {
+        let room = self.bytes.capacity();
+        if room - self.bytes.len() < more.len() {
+            let count = self.bytes.len().saturating_add(more.len());
+            let mut wider = Vec::with_capacity(alloc, count.max(room.saturating_mul(2)))?;
+            wider.extend_from_slice(self.bytes.as_slice())?;
+            let mut left = mem::replace(&mut self.bytes, wider);
+            left.fill(0);
+        }
+        self.bytes.extend_from_slice(more)
+    }
+
+    /// The bytes as a `Vec`, which is let go as any other.
+    pub fn into_vec(mut self, alloc: Global) -> Vec<u8>
+        ensures { result.items ≡ self }
+    {
+        mem::replace(&mut self.bytes, Vec::new(alloc))
+    }
+}
