@@ -1,4 +1,4 @@
--- The limits of this project's profile. No other definition holds these numbers. The first four count bytes.
+-- The limits of this project's profile. No other definition holds these numbers. The first five count bytes.
 use Rattle.std.specs.Prelude.{ℕ, ◌+◌}
 
 -- a text
@@ -16,6 +16,30 @@ frame_limit = 65000
 -- a raw emission of a plan
 abbrev pub raw_limit : ℕ
 raw_limit = 70000
+
+-- an address of a session
+abbrev pub address_limit : ℕ
+address_limit = 32
+
+-- the lanes of a relay, and the senders of a job
+abbrev pub lane_limit : ℕ
+lane_limit = 8
+
+-- the items of a lane, its end counted
+abbrev pub capacity_limit : ℕ
+capacity_limit = 64
+
+-- the seconds that a message's time may be off: a day
+abbrev pub skew_limit : ℕ
+skew_limit = 86400
+
+-- the texts of a job's sender
+abbrev pub texts_limit : ℕ
+texts_limit = 1000
+
+-- its moments, and its emissions or frames
+abbrev pub entries_limit : ℕ
+entries_limit = 2000
 
 -- the last sequence number (RFC 4120 section 5.2.4, UInt32)
 abbrev pub last_number : ℕ

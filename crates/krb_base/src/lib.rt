@@ -14,7 +14,10 @@ mod prefix;
 
 pub use bytes::Bytes;
 pub use lane::lane_laws;
-pub use limits::{FRAME_LIMIT, LAST_NUMBER, RAW_LIMIT, TEXT_LIMIT, USER_DATA_LIMIT, limit_laws};
+pub use limits::{
+    ADDRESS_LIMIT, CAPACITY_LIMIT, ENTRIES_LIMIT, FRAME_LIMIT, LANE_LIMIT, LAST_NUMBER, RAW_LIMIT,
+    SKEW_LIMIT, TEXT_LIMIT, TEXTS_LIMIT, USER_DATA_LIMIT, limit_laws,
+};
 pub use prefix::prefix_laws;
 
 #[cfg(test)]

@@ -1,5 +1,6 @@
 ghost use Rattle.std.specs.Prelude.{◌≡◌};
-ghost use Rattle.krb_base.specs.Limits.{text_limit, user_data_limit, frame_limit, raw_limit, last_number};
+ghost use Rattle.krb_base.specs.Limits.{text_limit, user_data_limit, frame_limit, raw_limit, address_limit, last_number};
+ghost use Rattle.krb_base.specs.Limits.{lane_limit, capacity_limit, skew_limit, texts_limit, entries_limit};
 
 /// The most bytes of a text.
 pub const TEXT_LIMIT: usize = 60_000;
@@ -13,6 +14,24 @@ pub const FRAME_LIMIT: usize = 65_000;
 /// The most bytes of a raw emission of a plan.
 pub const RAW_LIMIT: usize = 70_000;
 
+/// The most bytes of an address of a session.
+pub const ADDRESS_LIMIT: usize = 32;
+
+/// The most lanes of a relay, and senders of a job.
+pub const LANE_LIMIT: usize = 8;
+
+/// The most items of a lane, its end counted.
+pub const CAPACITY_LIMIT: usize = 64;
+
+/// The most seconds that a message's time may be off: a day.
+pub const SKEW_LIMIT: u32 = 86_400;
+
+/// The most texts of a job's sender.
+pub const TEXTS_LIMIT: usize = 1_000;
+
+/// The most moments of a job's sender, and the most emissions or frames.
+pub const ENTRIES_LIMIT: usize = 2_000;
+
 /// The last sequence number (RFC 4120 section 5.2.4, UInt32). It is kept for the close.
 pub const LAST_NUMBER: u64 = 4_294_967_295;
 
@@ -22,5 +41,11 @@ pub fn limit_laws()
     ensures user_data { USER_DATA_LIMIT ≡ user_data_limit }
     ensures frame { FRAME_LIMIT ≡ frame_limit }
     ensures raw { RAW_LIMIT ≡ raw_limit }
+    ensures address { ADDRESS_LIMIT ≡ address_limit }
+    ensures lane { LANE_LIMIT ≡ lane_limit }
+    ensures capacity { CAPACITY_LIMIT ≡ capacity_limit }
+    ensures skew { SKEW_LIMIT ≡ skew_limit }
+    ensures texts { TEXTS_LIMIT ≡ texts_limit }
+    ensures entries { ENTRIES_LIMIT ≡ entries_limit }
     ensures number { LAST_NUMBER ≡ last_number }
 {}

@@ -1,4 +1,7 @@
-use crate::{Bytes, FRAME_LIMIT, LAST_NUMBER, RAW_LIMIT, TEXT_LIMIT, USER_DATA_LIMIT};
+use crate::{
+    ADDRESS_LIMIT, Bytes, CAPACITY_LIMIT, ENTRIES_LIMIT, FRAME_LIMIT, LANE_LIMIT, LAST_NUMBER,
+    RAW_LIMIT, SKEW_LIMIT, TEXT_LIMIT, TEXTS_LIMIT, USER_DATA_LIMIT,
+};
 use std::test::Fail;
 
 #[test]
@@ -13,6 +16,9 @@ fn bytes_give_back_what_they_were_made_of(rt: HostRuntime) -> Result<(), Fail> {
 fn limits_are_those_that_users_are_told(rt: HostRuntime) {
     assert_eq!(rt; (TEXT_LIMIT, USER_DATA_LIMIT), (60_000, 60_001));
     assert_eq!(rt; (FRAME_LIMIT, RAW_LIMIT), (65_000, 70_000));
+    assert_eq!(rt; (ADDRESS_LIMIT, SKEW_LIMIT), (32, 86_400));
+    assert_eq!(rt; (LANE_LIMIT, CAPACITY_LIMIT), (8, 64));
+    assert_eq!(rt; (TEXTS_LIMIT, ENTRIES_LIMIT), (1_000, 2_000));
     // UInt32 ends here (RFC 4120 section 5.2.4).
     assert_eq!(rt; LAST_NUMBER, 0xffff_ffff);
 }

@@ -211,7 +211,7 @@ pub extern "C" fn krb_opener_wipe(alloc: Global, handle: &mut KrbOpener)
     ensures { handle.new.opener ≡ opener_wiped_if handle.old.opener }
 {
     if let Some(mut opener) = handle.take(alloc) {
-        opener.wipe(alloc);
+        opener.wipe();
         handle.put(alloc, opener);
     }
 }

@@ -105,7 +105,7 @@ impl KrbOpener {
         let held = KrbOpener::of_parts(Parts::of(opener));
         // A drop moves the value first, so the keys on the heap are overwritten here.
         if let Some(mut old) = mem::replace(self, held).into_box(alloc) {
-            old.wipe(alloc);
+            old.wipe();
         }
     }
 
@@ -114,7 +114,7 @@ impl KrbOpener {
         ensures { self.new.opener ≡ None }
     {
         if let Some(mut old) = self.take(alloc) {
-            old.wipe(alloc);
+            old.wipe();
         }
     }
 }

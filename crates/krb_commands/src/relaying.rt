@@ -3,7 +3,6 @@
 ghost use Rattle.std.specs.Prelude.{◌≡◌, ◌⊎◌, ◌≤◌, ◌<◌, ℕ, false, length, All, IfOk, IfErr, OnOk, OnErr};
 ghost use Rattle.std.specs.Io.KnownBytes.{Keeps};
 ghost use Rattle.krb_job.specs.declared.bad_input.BadInput.{BadInput};
-ghost use Rattle.krb_peers.specs.Log.{lane_limit};
 ghost use Rattle.krb_peers.specs.Sending.{source_of, IsSender};
 ghost use Rattle.krb_peers.specs.Ends.{lanes_of};
 ghost use Rattle.krb_commands.specs.Fault.{bad_plan, of_relay, IsLiveCause, IsOfPrinting, IsOfRelaying};
@@ -11,6 +10,7 @@ ghost use Rattle.krb_commands.specs.JobLines.{are_closed, end_lines, entry_lines
 ghost use Rattle.krb_commands.specs.Output.{AppendsPrefix};
 ghost use Rattle.krb_commands.specs.Relayed.{HasBadPlanFirst, PrintsRelayed, PrintsRelayedPrefix, PrintsStopped};
 ghost use Rattle.std.specs.Io.KnownBytes.{Appends};
+ghost use Rattle.krb_base.specs.Limits.{lane_limit, capacity_limit};
 
 use crate::fault::Fault;
 use crate::job_lines::{EndLine, exit_status, is_closed};
@@ -47,7 +47,7 @@ pub fn relay_job<T: Threads + Wait + Sync, G: Gate + Sync, S: Sealer + Send, W: 
     requires senders { All (λ sending. IsSender (source_of S.state sending)) sendings.items }
     requires live { All (λ sending. (S.state sending.sealer).wiped ≡ false) sendings.items }
     requires moments { All (λ receiving. 0 < length receiving.nows.items) receivings.items }
-    requires room { (0 < capacity) × (capacity ≤ 64) }
+    requires room { (0 < capacity) × (capacity ≤ capacity_limit) }
     ensures printed { IfOk result (PrintsRelayed
         (lanes_of S.state sendings.items receivings.items)
         (W.contents writer.old) (W.contents writer.new)) }

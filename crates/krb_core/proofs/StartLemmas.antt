@@ -4,6 +4,7 @@ use Rattle.std.proofs.lemmas.List.{map_push, map-append, length-map}
 use Rattle.krb_peers.specs.Sending.{source_of}
 use Rattle.std.specs.List.{zip}
 use Rattle.std.specs.Prelude.{Vec, IsTrue, IfErr, IsErrAnd, option_map}
+use Rattle.krb_base.specs.Limits.{lane_limit}
 use Rattle.krb_peers.specs.declared.plan.Emit.{Emit}
 use Rattle.krb_peers.specs.Plan.{is_good, wire}
 use Rattle.krb_peers.specs.Sender.{HaveShortTexts, Source, records, AreFrames}
@@ -13,7 +14,7 @@ use Rattle.krb_peers.specs.declared.sending.Sending.{Sending}
 use Rattle.krb_peers.specs.declared.sending.Sent.{Sent}
 use Rattle.krb_peers.specs.declared.start.StartError.{StartError}
 use Rattle.krb_peers.specs.declared.log.Entry.{Entry}
-use Rattle.krb_peers.specs.Log.{lane_limit, new_log, is_closed}
+use Rattle.krb_peers.specs.Log.{new_log, is_closed}
 use Rattle.krb_peers.specs.LogState.{LogState}
 use Rattle.krb_core.specs.Track.{TrackState}
 use Rattle.krb_core.specs.Stepped.{IsRelay}

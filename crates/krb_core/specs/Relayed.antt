@@ -1,13 +1,14 @@
 -- What is so of a relay that is stepped, whatever its turns.
 use Rattle.std.specs.Prelude.{◌≡◌, ◌≤◌, ℕ, ◌==◌, List, [], ◌∷◌, ◌++◌, length, slice_get, Option, Some, None, if◌then◌else◌}
 use Rattle.std.specs.List.{flat_map}
+use Rattle.krb_base.specs.Limits.{lane_limit}
 use Rattle.krb_base.specs.Prefix.{IsPrefix}
 use Rattle.krb_base.specs.Lane.{Item, Frame, End, IsReached, empty, frames}
 use Rattle.krb_base.specs.Lane as machine
 use Rattle.krb_peers.specs.declared.log.Entry.{Entry}
 use Rattle.krb_core.specs.declared.turn.Turn.{Turn}
 use Rattle.krb_core.specs.declared.turn.Turn.TheVariants.{Send, Take}
-use Rattle.krb_peers.specs.Log.{lane_limit, new_log}
+use Rattle.krb_peers.specs.Log.{new_log}
 use Rattle.krb_peers.specs.LogState.{LogState}
 use Rattle.krb_peers.specs.Verdicts.{Verdict}
 use Rattle.krb_peers.specs.Claims.{Headline}

@@ -1,7 +1,8 @@
 //! A relay that is stepped: one event of one lane at a time, in any order that the caller likes.
 
 ghost use Rattle.std.specs.Prelude.{◌≡◌, ◌↔◌, ◌<◌, ◌≤◌, ℕ, length, take, [], ◌∷◌, Some, false, slice_get, All, IfOk, IfErr, OnOk, OnErr};
-ghost use Rattle.krb_peers.specs.Log.{lane_limit, new_log};
+ghost use Rattle.krb_base.specs.Limits.{lane_limit};
+ghost use Rattle.krb_peers.specs.Log.{new_log};
 ghost use Rattle.krb_peers.specs.Sending.{source_of, IsSender};
 ghost use Rattle.krb_peers.specs.Ends.{lanes_of};
 ghost use Rattle.krb_core.specs.Start.{AreBegun, FailsToBegin};

@@ -4,6 +4,7 @@ use Rattle.std.proofs.lemmas.Bool.Decides.{nat_tests}
 use Rattle.std.proofs.lemmas.List.{length-map}
 use Rattle.std.proofs.Math.ListN.{get_or-map}
 use Rattle.std.proofs.lemmas.List.Elements.{All-nil, All-cons}
+use Rattle.krb_base.specs.Limits.{capacity_limit, lane_limit}
 use Rattle.toml.specs.Data.{Data, string, integer, float, boolean, datetime, array, table, Items, no_items, item, Members, get_member}
 use Rattle.krb_job.specs.declared.bad_input.BadInput.{BadInput}
 use Rattle.krb_job.specs.declared.bad_input.JobError.{JobError}
@@ -15,7 +16,6 @@ use Rattle.krb_job.specs.declared.job.Command.TheVariants.{Seal, Open, Relay}
 use Rattle.krb_job.specs.declared.place.Place.{Place}
 use Rattle.krb_job.specs.declared.place.Place.TheVariants.{Seed, At, Now, Texts, Plan, Frames}
 use Rattle.krb_job.specs.Checks.{◌>>=◌}
-use Rattle.krb_job.specs.Limits.{capacity_limit, sender_limit}
 use Rattle.krb_job.specs.Values.{number_of, seed_of}
 use Rattle.krb_job.specs.Lists.{count, moments_of, texts_of, plan_of, frames_of}
 use Rattle.krb_job.specs.Keys.{needed, optional, some, only_if, has_only}
@@ -70,7 +70,7 @@ count_fits : (command : Command) (ms : Members) (ds : Items) → items_of_sender
 count_fits command ms ds e = let o = get_member (codes "sender") ms in count-within command o ds (given (senders_if_there command o) bad.Sender ds e)
 
 -- no command allows more than `relay`
-most_senders-≤ : (command : Command) → most_senders command ≤ sender_limit
+most_senders-≤ : (command : Command) → most_senders command ≤ lane_limit
 most_senders-≤ Seal = lit≤ tt
 most_senders-≤ Open = lit≤ tt
 most_senders-≤ Relay = lit≤ tt
@@ -92,7 +92,7 @@ senders-count command ms ds senders there read = rw (length-senders command 0 []
 
 -- a job has one sender at least, and no more than the limit
 pub senders_fit : (command : Command) (ms : Members) (ds : Items) (senders : List SenderJob)
-    → items_of_senders command ms ≡ Ok ds → senders_from command 0 [] ds ≡ Ok (map sender_view senders) → (1 ≤ length senders) × (length senders ≤ sender_limit)
+    → items_of_senders command ms ≡ Ok ds → senders_from command 0 [] ds ≡ Ok (map sender_view senders) → (1 ≤ length senders) × (length senders ≤ lane_limit)
 senders_fit command ms ds senders there read =
     let fits = rw (length-map senders sender_view) at (senders-count command ms ds (map sender_view senders) there read) in
     let most = most_senders-≤ command in

@@ -1,8 +1,8 @@
 -- Addresses, as `2:c0000201`: the type of an address (RFC 4120 section 7.5.3), a colon, and its bytes.
 use Rattle.std.specs.Prelude.{ℕ, List, Option, Some, None}
+use Rattle.krb_base.specs.Limits.{address_limit}
 use Rattle.toml.specs.Data.{Data, string}
 use Rattle.krb_der.specs.declared.address.HostAddress.{HostAddress}
-use Rattle.krb_seal.specs.Session.{address_limit}
 use Rattle.krb_job.specs.Steps.{◌>>=◌}
 use Rattle.krb_job.specs.Decimal.{int32_of}
 use Rattle.krb_job.specs.Text.{split_at}

@@ -7,6 +7,7 @@ use Rattle.toml.specs.View.{table_view}
 use Rattle.toml.specs.declared.value.Value.{Value}
 use Rattle.std.specs.BTreeMap.{BTreeMap}
 use Rattle.std.specs.declared.alloc.Global.{Global}
+use Rattle.krb_base.specs.Limits.{capacity_limit, lane_limit}
 use Rattle.krb_job.specs.declared.place.Place.{Place}
 use Rattle.krb_job.specs.declared.job.Command.{Command}
 use Rattle.krb_job.specs.declared.job.Command.TheVariants.{Seal, Open, Relay}
@@ -17,7 +18,6 @@ use Rattle.krb_job.specs.declared.bad_input.JobError.{JobError}
 use Rattle.krb_job.specs.declared.bad_input.JobError.TheVariants as errors
 use Rattle.krb_job.specs.Checks.{◌>>=◌}
 use Rattle.krb_job.specs.Values.{number_of}
-use Rattle.krb_job.specs.Limits.{capacity_limit, sender_limit}
 use Rattle.krb_job.specs.Lists.{count}
 use Rattle.krb_job.specs.Keys.{has_only}
 use Rattle.krb_job.specs.Sender.{Sender, sender_of}
@@ -49,7 +49,7 @@ are_tables (item d ds) = is_table d && are_tables ds
 abbrev pub most_senders : Command → ℕ
 most_senders Seal = 1
 most_senders Open = 1
-most_senders Relay = sender_limit
+most_senders Relay = lane_limit
 
 -- tables, as many as the command allows
 abbrev pub are_senders : Command → Items → Bool

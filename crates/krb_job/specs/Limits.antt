@@ -24,15 +24,3 @@ IsKeyOf-prop etype key (inr a) (inr b) = ap inr (×_prop (ℤ_set etype (pos 18)
 -- no text is too long
 abbrev pub AreShortTexts : List (List ℕ) → Type 0
 AreShortTexts texts = All (λ text. length text ≤ text_limit) texts
-
--- the seconds of a day: the most that a message's time may be off
-abbrev pub skew_limit : ℕ
-skew_limit = 86400
-
--- the frames of a lane
-abbrev pub capacity_limit : ℕ
-capacity_limit = 64
-
--- the senders of a job
-abbrev pub sender_limit : ℕ
-sender_limit = 8

@@ -1,7 +1,7 @@
 -- Lists of a job.
 use Rattle.std.specs.Prelude.{ℕ, ◌+◌, nat_le, ◌&&◌, List, [], ◌∷◌, Option, Some, None, if◌then◌else◌}
 use Rattle.toml.specs.Data.{Data, array, Items, no_items, item}
-use Rattle.krb_base.specs.Limits.{text_limit, raw_limit}
+use Rattle.krb_base.specs.Limits.{text_limit, raw_limit, texts_limit, entries_limit}
 use Rattle.krb_der.specs.Moment.{last_moment}
 use Rattle.krb_peers.specs.declared.plan.Emit.{Emit}
 use Rattle.krb_job.specs.Steps.{◌>>=◌}
@@ -33,13 +33,13 @@ abbrev pub moment_of : Data → Option ℕ
 moment_of = number_of 0 last_moment
 
 abbrev pub moments_of : Data → Option (List ℕ)
-moments_of = list_of 1 2000 moment_of
+moments_of = list_of 1 entries_limit moment_of
 
 abbrev pub texts_of : Data → Option (List (List ℕ))
-texts_of = list_of 0 1000 (bytes_of 0 text_limit)
+texts_of = list_of 0 texts_limit (bytes_of 0 text_limit)
 
 abbrev pub plan_of : Data → Option (List Emit)
-plan_of = list_of 0 2000 emission_of
+plan_of = list_of 0 entries_limit emission_of
 
 abbrev pub frames_of : Data → Option (List (List ℕ))
-frames_of = list_of 0 2000 (bytes_of 0 raw_limit)
+frames_of = list_of 0 entries_limit (bytes_of 0 raw_limit)

@@ -1,7 +1,7 @@
 -- One sender of a job: its keys in the order in which they are checked, unknown keys last.
 use Rattle.std.specs.Prelude.{ℕ, ℤ, pos, Bool, true, false, List, [], ◌∷◌, map, Option, None, Result, Ok, Err}
 use Rattle.toml.specs.Data.{Members}
-use Rattle.krb_base.specs.Limits.{last_number}
+use Rattle.krb_base.specs.Limits.{last_number, skew_limit}
 use Rattle.krb_der.specs.declared.address.HostAddress.{HostAddress}
 use Rattle.krb_seal.specs.declared.session.Mode.{Mode as ModeOf}
 use Rattle.krb_job.specs.declared.place.Place.{Place}
@@ -10,7 +10,6 @@ use Rattle.krb_job.specs.declared.job.Command.{Command}
 use Rattle.krb_job.specs.declared.job.Command.TheVariants.{Seal, Open, Relay}
 use Rattle.krb_peers.specs.declared.plan.Emit.{Emit}
 use Rattle.krb_job.specs.Checks.{◌>>=◌}
-use Rattle.krb_job.specs.Limits.{skew_limit}
 use Rattle.krb_job.specs.Place.{name_of}
 use Rattle.krb_job.specs.Values.{number_of, flag_of, mode_of, key_of, seed_of}
 use Rattle.krb_job.specs.Address.{address_of}

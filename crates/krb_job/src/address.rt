@@ -9,12 +9,10 @@ use crate::decimal::read_int32;
 use crate::place::{KeyError, Place};
 use crate::text::split_at;
 use crate::values::read_hex;
+use krb_base::ADDRESS_LIMIT;
 use krb_der::HostAddress;
 use std::alloc::Global;
 use toml::Value;
-
-/// The most bytes of an address.
-const ADDRESS_LIMIT: usize = 32;
 
 /// The address that a text as `2:c0000201` names.
 pub(crate) fn read_address(

@@ -2,9 +2,9 @@
 
 ghost use Rattle.std.specs.Prelude.{◌≡◌, ◌≤◌, ◌<◌, length, IsSome};
 ghost use Rattle.std.proofs.Props.{props};
+ghost use Rattle.krb_base.specs.Limits.{skew_limit, capacity_limit, lane_limit};
 ghost use Rattle.krb_seal.specs.Session.{IsShortAddress};
-ghost use Rattle.krb_job.specs.Limits.{IsKeyOf, IsKeyOf-prop, AreShortTexts, skew_limit};
-ghost use Rattle.krb_job.specs.Limits.{capacity_limit, sender_limit};
+ghost use Rattle.krb_job.specs.Limits.{IsKeyOf, IsKeyOf-prop, AreShortTexts};
 ghost use Rattle.krb_job.specs.Sender.{seals, opens};
 
 use crate::secret::Secret;
@@ -94,6 +94,6 @@ pub struct Job {
     pub senders: Vec<SenderJob>,
     pub ghost capacity_fits: { capacity ≤ capacity_limit },
     pub ghost has_capacity: { 1 ≤ capacity },
-    pub ghost senders_fit: { length senders.items ≤ sender_limit },
+    pub ghost senders_fit: { length senders.items ≤ lane_limit },
     pub ghost has_sender: { 1 ≤ length senders.items },
 }

@@ -2,6 +2,7 @@
 
 ghost use Rattle.std.specs.Prelude.{◌≡◌, ok_or, option_map};
 ghost use Rattle.toml.specs.View.{view, array_view, items_view};
+ghost use Rattle.krb_base.specs.Limits.{entries_limit};
 ghost use Rattle.krb_job.specs.Checks.{Gives};
 ghost use Rattle.krb_job.specs.Values.{bytes_of};
 ghost use Rattle.krb_job.specs.Emission.{emission_of};
@@ -11,20 +12,14 @@ ghost use Rattle.krb_job.specs.Lists.{frames_of};
 use crate::emission::read_emission;
 use crate::place::{KeyError, Place};
 use crate::values::read_bytes;
-use krb_base::{Bytes, RAW_LIMIT, TEXT_LIMIT};
+use krb_base::{Bytes, ENTRIES_LIMIT, RAW_LIMIT, TEXT_LIMIT, TEXTS_LIMIT};
 use krb_der::Moment;
 use krb_peers::Emit;
 use std::alloc::Global;
 use toml::Value;
 use toml::value::Array;
 
-/// The most texts of a sender.
-const MOST_TEXTS: usize = 1000;
-
-/// The most moments, and the most emissions or frames, of a sender.
-const MOST_ITEMS: usize = 2000;
-
-/// 1 to 2000 moments, each a number of microseconds since 1970-01-01T00:00:00Z.
+/// 1 to [`ENTRIES_LIMIT`] moments, each a number of microseconds since 1970-01-01T00:00:00Z.
 pub(crate) fn read_moments(
     alloc: Global,
     place: Place,
@@ -32,23 +27,23 @@ pub(crate) fn read_moments(
 ) -> Result<Vec<Moment>, KeyError>
     ensures { Gives (λ v. v.items) result (ok_or (moments_of (view value.now)) place) }
 {
-    match items_of(value, 1, MOST_ITEMS) {
+    match items_of(value, 1, ENTRIES_LIMIT) {
         Some(items) => each_moment(alloc, place, items.as_slice()),
         None => Err(KeyError::Bad(place)),
     }
 }
 
-/// At most 1000 texts.
+/// At most [`TEXTS_LIMIT`] texts.
 pub(crate) fn read_texts(alloc: Global, place: Place, value: &Value) -> Result<Vec<Bytes>, KeyError>
     ensures { Gives (λ v. v.items) result (ok_or (texts_of (view value.now)) place) }
 {
-    match items_of(value, 0, MOST_TEXTS) {
+    match items_of(value, 0, TEXTS_LIMIT) {
         Some(items) => each_bytes(alloc, place, items.as_slice(), TEXT_LIMIT),
         None => Err(KeyError::Bad(place)),
     }
 }
 
-/// At most 2000 frames.
+/// At most [`ENTRIES_LIMIT`] frames.
 pub(crate) fn read_frames(
     alloc: Global,
     place: Place,
@@ -56,20 +51,28 @@ pub(crate) fn read_frames(
 ) -> Result<Vec<Bytes>, KeyError>
     ensures { Gives (λ v. v.items) result (ok_or (frames_of (view value.now)) place) }
 {
-    match items_of(value, 0, MOST_ITEMS) {
+    match entries_of(value) {
         Some(items) => each_bytes(alloc, place, items.as_slice(), RAW_LIMIT),
         None => Err(KeyError::Bad(place)),
     }
 }
 
-/// At most 2000 emissions.
+/// At most [`ENTRIES_LIMIT`] emissions.
 pub(crate) fn read_plan(alloc: Global, place: Place, value: &Value) -> Result<Vec<Emit>, KeyError>
     ensures { Gives (λ v. v.items) result (ok_or (plan_of (view value.now)) place) }
 {
-    match items_of(value, 0, MOST_ITEMS) {
+    match entries_of(value) {
         Some(items) => each_emission(alloc, place, items.as_slice()),
         None => Err(KeyError::Bad(place)),
     }
+}
+
+/// The items of a list of at most [`ENTRIES_LIMIT`] items.
+fn entries_of(value: &Value) -> Option<&Array>
+    ensures { option_map (λ v. array_view v.now) result
+        ≡ items_of 0 entries_limit (view value.now) }
+{
+    items_of(value, 0, ENTRIES_LIMIT)
 }
 
 /// The items of a list of `low` to `high` items.

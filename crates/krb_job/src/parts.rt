@@ -2,9 +2,9 @@
 
 ghost use Rattle.std.specs.Prelude.{◌≤◌, ◌<◌, pos, length, IsSome};
 ghost use Rattle.std.proofs.Props.{props};
-ghost use Rattle.krb_base.specs.Limits.{last_number};
+ghost use Rattle.krb_base.specs.Limits.{last_number, skew_limit};
 ghost use Rattle.krb_seal.specs.Session.{IsShortAddress};
-ghost use Rattle.krb_job.specs.Limits.{IsKeyOf, IsKeyOf-prop, AreShortTexts, skew_limit};
+ghost use Rattle.krb_job.specs.Limits.{IsKeyOf, IsKeyOf-prop, AreShortTexts};
 
 use crate::secret::Secret;
 use krb_base::Bytes;

@@ -12,7 +12,7 @@ use crate::bad_input::{BadInput, JobError};
 use crate::job::{Command, Job, SenderJob};
 use crate::place::KeyError;
 use crate::sender::read_sender;
-use crate::tree::{capacity, forget_tree, has_top_keys, read_tree, sender_items};
+use crate::tree::{capacity, has_top_keys, read_tree, sender_items, wipe_tree};
 use std::alloc::Global;
 use toml::{Table, Value};
 
@@ -36,7 +36,7 @@ pub fn read_job(alloc: Global, bytes: &[u8], command: Command) -> Result<Job, Jo
     match read_tree(alloc, bytes) {
         Ok(table) => {
             let job = read_members(alloc, &table, command);
-            forget_tree(table);
+            wipe_tree(table);
             job
         }
         Err(error) => Err(error),

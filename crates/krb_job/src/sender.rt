@@ -20,6 +20,7 @@ use crate::table::{
     address, entry, flag, frames, has_only, mode, moments, moments_if, number, plan, seed, texts,
 };
 use crate::values::read_bytes;
+use krb_base::SKEW_LIMIT;
 use std::alloc::Global;
 use toml::{Table, Value};
 
@@ -95,7 +96,7 @@ fn read_ends(alloc: Global, table: &Table) -> Result<Ends, KeyError>
     let write_to = flag(table, Place::WriteTo, false)?;
     let require_to = flag(table, Place::RequireTo, false)?;
     let expect_time = flag(table, Place::ExpectTime, true)?;
-    let skew = number(table, Place::Skew, 0, 86_400)?;
+    let skew = number(table, Place::Skew, 0, u64::from(SKEW_LIMIT))?;
     Ok(Ends {
         from,
         to,

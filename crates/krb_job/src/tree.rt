@@ -12,6 +12,7 @@ use crate::job::Command;
 use crate::secret::Secret;
 use crate::table::{get, has_only};
 use crate::values::read_number;
+use krb_base::{CAPACITY_LIMIT, LANE_LIMIT};
 use std::alloc::Global;
 use toml::value::Array;
 use toml::{Table, Value};
@@ -28,23 +29,23 @@ pub(crate) fn read_tree(alloc: Global, bytes: &[u8]) -> Result<Table, JobError>
 }
 
 /// Lets a document go, and overwrites the texts of its senders, their keys among them.
-pub(crate) fn forget_tree(table: Table) {
+pub(crate) fn wipe_tree(table: Table) {
     for (_, value) in table {
         if let Value::Array(items) = value {
-            forget_senders(items);
+            wipe_senders(items);
         }
     }
 }
 
-fn forget_senders(items: Array) {
+fn wipe_senders(items: Array) {
     for item in items {
         if let Value::Table(table) = item {
-            forget_texts(table);
+            wipe_texts(table);
         }
     }
 }
 
-fn forget_texts(table: Table) {
+fn wipe_texts(table: Table) {
     for (_, value) in table {
         if let Value::String(text) = value {
             drop(Secret::new(text.into_bytes()));
@@ -57,7 +58,7 @@ pub(crate) fn capacity(table: &Table) -> Result<usize, JobError>
     ensures { GivesJob (λ n. n) result (capacity_of (table_view table.now)) }
 {
     match get(table, "capacity") {
-        Some(value) => match read_number(value, 1, 64) {
+        Some(value) => match read_number(value, 1, CAPACITY_LIMIT as u64) {
             Some(capacity) => Ok(capacity as usize),
             None => Err(JobError::Bad(BadInput::Capacity)),
         },
@@ -98,7 +99,7 @@ fn most_senders(command: Command) -> usize
     match command {
         Command::Seal => 1,
         Command::Open => 1,
-        Command::Relay => 8,
+        Command::Relay => LANE_LIMIT,
     }
 }
 

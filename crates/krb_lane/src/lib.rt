@@ -15,6 +15,7 @@
 //! Only `send`, `end` and `take` may wait. A call that answers `Err` has changed nothing.
 #![tactic(auto)]
 
+mod credit;
 mod item;
 mod meeting;
 mod opening;

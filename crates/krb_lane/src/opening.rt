@@ -1,9 +1,11 @@
 ghost use Rattle.std.specs.Prelude.{◌≡◌, ◌<◌, ◌≤◌, [], ◌∷◌, true, false, Some, IfOk};
+ghost use Rattle.krb_base.specs.Limits.{capacity_limit};
 ghost use Rattle.crossbeam_channel.specs.Claims.{view, IsSeatAt};
 ghost use Rattle.crossbeam_channel.specs.Ends.{sends_on, ruled_capacity};
 ghost use Rattle.krb_lane.specs.Errors.{words_of_lane_error};
 ghost use Rattle.krb_lane.specs.Rule.{hand, uncut};
 
+use crate::credit::open_credit;
 use crate::item::Item;
 use crate::passes::{Halves, Room};
 use crate::receiving::LaneRx;
@@ -73,7 +75,7 @@ fn cut<B: Room>(sender: &Front, pass: &mut Pass<Item, Hand>) -> Pass<Item, Hand>
 ///
 /// The capacity is 1 to 64. Nothing is waited for. Fails only where memory is refused.
 pub fn lane<R>(rt: &R, alloc: Global, capacity: usize) -> Result<(LaneTx, LaneRx), LaneError>
-    requires { (0 < capacity) × (capacity ≤ 64) }
+    requires { (0 < capacity) × (capacity ≤ capacity_limit) }
     ensures one { IfOk result (λ ends. ends.0 ≡ ends.1) }
     ensures capacity { IfOk result (λ ends. ends.0.capacity ≡ capacity) }
     ensures frames { IfOk result (λ ends. ends.0.frames ≡ []) }
@@ -81,6 +83,7 @@ pub fn lane<R>(rt: &R, alloc: Global, capacity: usize) -> Result<(LaneTx, LaneRx
 {
     // Every call of a lane is passed the handle, and this one has no use for it.
     let _ = rt;
+    let (allowance, credit) = open_credit(alloc, capacity)?;
     let (sender, receiver, mut pass) = bounded_with::<Item, Hand, LaneRule, Global>(
         alloc, capacity,
     )?;
@@ -89,12 +92,14 @@ pub fn lane<R>(rt: &R, alloc: Global, capacity: usize) -> Result<(LaneTx, LaneRx
         sender,
         pass,
         count: 0,
+        allowance,
     };
     let rx = LaneRx {
         receiver,
         pass: other,
         count: 0,
         ended: false,
+        credit,
     };
     Ok((tx, rx))
 }

@@ -2,6 +2,7 @@ ghost use Rattle.std.specs.Prelude.{◌≡◌, true, length, Some, Ok, IfOk, OnE
 ghost use Rattle.krb_lane.specs.Errors.{words_of_lost};
 ghost use Rattle.krb_lane.specs.Side.{Takes as Taken};
 
+use crate::credit::Credit;
 use crate::item::Item;
 use crate::passes::Takes;
 use crate::rule::{Hand, LaneRule};
@@ -47,6 +48,7 @@ pub struct LaneRx {
     pub(crate) pass: Pass<Item, Hand>,
     pub(crate) count: u64,
     pub(crate) ended: bool,
+    pub(crate) credit: Credit,
 }
 
 impl Model for LaneRx {
@@ -76,6 +78,7 @@ impl LaneRx {
         match self.receiver.recv_as::<Takes, _>(rt, &mut self.pass) {
             Ok(Item::Frame { index, bytes }) => {
                 self.count += 1;
+                self.credit.earn(rt);
                 Ok(Item::Frame { index, bytes })
             }
             Ok(Item::End) => {

@@ -1,6 +1,7 @@
 ghost use Rattle.std.specs.Prelude.{◌≡◌, ◌<◌, ◌^◌, ◌++◌, [], ◌∷◌, true, false, length};
 ghost use Rattle.std.specs.Prelude.{IfOk, IfErr, OnOk, OnErr};
 
+use crate::credit::Allowance;
 use crate::item::Item;
 use crate::passes::Sends;
 use crate::rule::{Hand, LaneRule};
@@ -22,6 +23,7 @@ pub struct LaneTx {
     pub(crate) sender: Front,
     pub(crate) pass: Pass<Item, Hand>,
     pub(crate) count: u64,
+    pub(crate) allowance: Allowance,
 }
 
 impl Model for LaneTx {
@@ -48,6 +50,7 @@ impl LaneTx {
         ensures err { OnErr result (self.new ≡ self.old) }
         ensures back { IfErr result (λ back. back.items ≡ bytes.items) }
     {
+        self.allowance.spend(rt);
         let item = Item::Frame {
             index: self.count,
             bytes: Bytes::new(bytes),
@@ -74,6 +77,7 @@ impl LaneTx {
             sender,
             mut pass,
             count,
+            allowance,
         } = self;
         match sender.send_as::<Sends, _>(rt, &mut pass, Item::End) {
             Ok(()) => Ok(SentAll {
@@ -85,6 +89,7 @@ impl LaneTx {
                 sender,
                 pass,
                 count,
+                allowance,
             }),
         }
     }
@@ -98,6 +103,7 @@ impl LaneTx {
             sender,
             pass,
             count,
+            allowance: _,
         } = self;
         SentAll {
             sender,

@@ -1,4 +1,4 @@
-ghost use Rattle.std.specs.Prelude.{◌≡◌};
+ghost use Rattle.std.specs.Prelude.{◌≡◌, ◌<◌, ◌≤◌};
 
 mod passing;
 
@@ -112,15 +112,17 @@ fn what_is_queued_was_sent_and_not_got(rt: HostRuntime) -> Result<(), Fail> {
     Ok(())
 }
 
-#[test]
-fn ten_thousand_frames_pass_between_two_threads(rt: HostRuntime) -> Result<(), Fail> {
+/// Passes 10,000 frames, frame i with i as its bytes.
+fn pass_ten_thousand(rt: &HostRuntime, capacity: usize) -> Result<(), Fail>
+    requires { (0 < capacity) × (capacity ≤ 64) }
+{
     let alloc = rt.alloc();
     let mut frames = Vec::new(alloc);
     for i in 0..10_000u64 {
         frames.push(Bytes::new(i.to_be_bytes().to_vec(alloc)?))?;
     }
     assert_eq!(rt; frames.len(), 10_000);
-    let Ok((got, met)) = pass_on(&rt, alloc, 1, frames) else {
+    let Ok((got, met)) = pass_on(rt, alloc, capacity, frames) else {
         return Err(Fail::from("a fault"));
     };
     assert_eq!(rt; got.len(), 10_000);
@@ -131,6 +133,14 @@ fn ten_thousand_frames_pass_between_two_threads(rt: HostRuntime) -> Result<(), F
     }
     assert_eq!(rt; (met.sent, met.got), (10_000, 10_000));
     Ok(())
+}
+
+// In the first lane each frame makes room; in the others room is given back by four and by 32.
+#[test]
+fn ten_thousand_frames_pass_between_two_threads(rt: HostRuntime) -> Result<(), Fail> {
+    pass_ten_thousand(&rt, 1)?;
+    pass_ten_thousand(&rt, 9)?;
+    pass_ten_thousand(&rt, 64)
 }
 
 #[test]

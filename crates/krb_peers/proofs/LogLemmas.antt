@@ -4,11 +4,12 @@ use Rattle.std.proofs.lemmas.List.{append-nil, length-map, map-set, get_or-map}
 use Rattle.std.proofs.Math.Seq.{map-set_same}
 use Rattle.std.proofs.lemmas.Option.{slice_get_within, get_or_from_slice_get, slice_get-get_or}
 use Rattle.std.proofs.lemmas.Bool.Decides.{eqb_tells}
+use Rattle.krb_base.specs.Limits.{lane_limit}
 use Rattle.krb_seal.specs.declared.refusal.Refusal.{Refusal}
 use Rattle.krb_peers.specs.declared.log.Event.{Event}
 use Rattle.krb_peers.specs.declared.log.Event.TheVariants.{Text, Closed, Refused}
 use Rattle.krb_peers.specs.declared.log.Entry.{Entry}
-use Rattle.krb_peers.specs.Log.{lane_limit, events_of, texts_in, texts_of, has_closed, is_closed}
+use Rattle.krb_peers.specs.Log.{events_of, texts_in, texts_of, has_closed, is_closed}
 use Rattle.krb_peers.specs.LogIndex.{text_place, places_from, IsIndexed}
 use Rattle.krb_peers.proofs.ListLemmas.{or_assoc, or_false, or_true}
 

@@ -5,11 +5,8 @@ use Rattle.krb_peers.specs.declared.log.Event.TheVariants.{Text, Closed, Refused
 use Rattle.krb_peers.specs.declared.log.Entry.{Entry}
 use Rattle.krb_peers.specs.declared.log.Status.{Status}
 use Rattle.krb_peers.specs.declared.log.Status.TheVariants as status
+use Rattle.krb_base.specs.Limits.{lane_limit}
 use Rattle.krb_peers.specs.LogState.{LogState}
-
--- the most lanes of a log
-abbrev pub lane_limit : ℕ
-lane_limit = 8
 
 -- the events of a lane, in the log's order
 abbrev pub events_of : ℕ → List Entry → List Event

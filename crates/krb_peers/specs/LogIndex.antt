@@ -1,9 +1,10 @@
 -- What a log keeps beside its entries.
 use Rattle.std.specs.Prelude.{◌≡◌, ℕ, ◌+◌, ◌<◌, ◌≤◌, ◌==◌, Bool, false, List, [], ◌∷◌, ◌++◌, slice_index_or, if◌then◌else◌}
+use Rattle.krb_base.specs.Limits.{lane_limit}
 use Rattle.krb_peers.specs.declared.log.Event.{Event}
 use Rattle.krb_peers.specs.declared.log.Event.TheVariants.{Text, Closed, Refused}
 use Rattle.krb_peers.specs.declared.log.Entry.{Entry}
-use Rattle.krb_peers.specs.Log.{lane_limit, is_closed}
+use Rattle.krb_peers.specs.Log.{is_closed}
 
 -- the place of an event, where it is a text
 abbrev pub text_place : ℕ → Event → List ℕ

@@ -1,16 +1,16 @@
 //! The log of a relay: what became of each frame, lane by lane, in one order.
 
 ghost use Rattle.std.specs.Prelude.{◌≡◌, ◌<◌, ◌≤◌, [], length, replicate, slice_get, OnOk, OnErr, false, option_map};
-ghost use Rattle.krb_peers.specs.Log.{lane_limit, texts_of, status_of, appended, ended_at, MayFollow};
+ghost use Rattle.krb_base.specs.Limits.{lane_limit};
+ghost use Rattle.krb_peers.specs.Log.{texts_of, status_of, appended, ended_at, MayFollow};
 
-use krb_base::Bytes;
+use krb_base::{Bytes, LANE_LIMIT};
 use krb_seal::Refusal;
 use std::alloc::{AllocError, Global};
 use std::array;
 use std::marker::Model;
 
 /// The most lanes of a log.
-const LANE_LIMIT: usize = 8;
 
 /// What became of a frame.
 #[derive(Debug, Drop)]

@@ -4,10 +4,11 @@ use Rattle.std.specs.Prelude.{All}
 use Rattle.std.specs.List.{AllZip}
 use Rattle.std.proofs.lemmas.List.{length-set, length-replicate, get_or-replicate}
 use Rattle.std.proofs.lemmas.List.Elements.{All-nil}
+use Rattle.krb_base.specs.Limits.{lane_limit}
 use Rattle.krb_lane.specs.Side.{Side}
 use Rattle.krb_peers.specs.declared.receiver.Receiving.{Receiving}
 use Rattle.krb_peers.specs.Claims.{has_ended}
-use Rattle.krb_peers.specs.Log.{lane_limit, new_log}
+use Rattle.krb_peers.specs.Log.{new_log}
 use Rattle.krb_peers.specs.LogState.{LogState}
 use Rattle.krb_peers.specs.Logged.{IsShut, HasLogged}
 use Rattle.krb_peers.proofs.LoggedLemmas.{logged_none, logged_shut}

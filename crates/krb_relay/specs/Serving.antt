@@ -1,11 +1,12 @@
 -- What the calling thread does with its ends of the lanes.
 use Rattle.std.specs.Prelude.{◌≡◌, ℕ, suc, ◌≤◌, ◌<◌, ◌⊎◌, true, false, List, [], ◌∷◌, ◌++◌, length, map, take, drop, get_or, All}
 use Rattle.std.specs.List.{AllZip}
+use Rattle.krb_base.specs.Limits.{lane_limit}
 use Rattle.krb_base.specs.Prefix.{IsPrefix}
 use Rattle.krb_lane.specs.Side.{Side}
 use Rattle.krb_peers.specs.declared.receiver.Receiving.{Receiving}
 use Rattle.krb_peers.specs.Claims.{has_ended}
-use Rattle.krb_peers.specs.Log.{lane_limit, ended_at}
+use Rattle.krb_peers.specs.Log.{ended_at}
 use Rattle.krb_peers.specs.LogState.{LogState}
 use Rattle.krb_peers.specs.Logged.{HasLogged, LogsNext, noted}
 use Rattle.krb_peers.specs.Receiver.{verdict_by, receiver_behind}

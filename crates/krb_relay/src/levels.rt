@@ -1,8 +1,9 @@
 //! Fork and join over the lanes: each level starts one worker, and the innermost one receives.
 
 ghost use Rattle.std.specs.Prelude.{◌≡◌, ◌<◌, ◌≤◌, ◌+◌, ℕ, [], All, OnErr, IfOk, vec_len, length};
+ghost use Rattle.krb_base.specs.Limits.{lane_limit, capacity_limit};
 ghost use Rattle.krb_lane.specs.Side.{Side};
-ghost use Rattle.krb_peers.specs.Log.{lane_limit, new_log};
+ghost use Rattle.krb_peers.specs.Log.{new_log};
 ghost use Rattle.krb_relay.specs.Gathering.{Begun, EndsWith, Gathers, IsFresh, Leaves};
 ghost use Rattle.krb_relay.specs.declared.worker.Handed.{Handed};
 
@@ -40,7 +41,7 @@ pub(crate) fn level<'s, 'e, R: Threads + Wait, S: Send + Drop + 's, W: Work<S> +
     mut ends: Vec<LaneRx>,
     mut log: Log,
 ) -> Gathered
-    requires capacity { (0 < capacity) × (capacity ≤ 64) }
+    requires capacity { (0 < capacity) × (capacity ≤ capacity_limit) }
     requires pairs { vec_len ends + vec_len parts ≡ vec_len receivings }
     requires few { length receivings.items ≤ lane_limit }
     requires moments { All (λ receiving. 0 < length receiving.nows.items) receivings.items }
@@ -102,7 +103,7 @@ fn begin<'s, 'e, R: Threads + Wait, S: Send + Drop + 's, W: Work<S> + Sync>(
     part: S,
     ends: &mut Vec<LaneRx>,
 ) -> Result<Worker<S, W>, OwnCause>
-    requires capacity { (0 < capacity) × (capacity ≤ 64) }
+    requires capacity { (0 < capacity) × (capacity ≤ capacity_limit) }
     requires few { vec_len ends.old < lane_limit }
     requires callable { (tx : Side) → tx.frames ≡ [] → W.can_run work.now part tx }
     ensures err { OnErr result (ends.new.items ≡ ends.old.items) }

@@ -1,9 +1,10 @@
 //! The relay of one to eight senders to their receivers.
 
 ghost use Rattle.std.specs.Prelude.{◌≡◌, ◌<◌, ◌≤◌, ℕ, [], All, IfOk, IfErr, map, length, vec_len};
+ghost use Rattle.krb_base.specs.Limits.{lane_limit, capacity_limit};
 ghost use Rattle.krb_lane.specs.Side.{Side};
 ghost use Rattle.krb_peers.specs.Ends.{lanes_of};
-ghost use Rattle.krb_peers.specs.Log.{lane_limit, new_log};
+ghost use Rattle.krb_peers.specs.Log.{new_log};
 ghost use Rattle.krb_peers.specs.Sending.{source_of, sent_of, IsSender};
 ghost use Rattle.krb_peers.specs.Whole.{IsWhole};
 ghost use Rattle.krb_relay.specs.Gathering.{Gathers};
@@ -55,7 +56,7 @@ pub fn relay<R: Threads + Wait + Sync, G: Gate + Sync, S: Sealer + Send>(
     requires few { length sendings.items ≤ lane_limit }
     requires senders { All (λ sending. IsSender (source_of S.state sending)) sendings.items }
     requires moments { All (λ receiving. 0 < length receiving.nows.items) receivings.items }
-    requires capacity { (0 < capacity) × (capacity ≤ 64) }
+    requires capacity { (0 < capacity) × (capacity ≤ capacity_limit) }
     ensures whole { IfOk result (λ report. IsWhole
         (lanes_of S.state sendings.items receivings.items) report.log report.sent.items) }
     ensures lanes { IfOk result (λ report. report.log.lanes ≡ length sendings.items) }
@@ -141,7 +142,7 @@ fn run_all<R: Threads + Wait + Sync, S: Send + Drop, W: Work<S> + Sync>(
     receivings: Vec<Receiving>,
     log: Log,
 ) -> Gathered
-    requires capacity { (0 < capacity) × (capacity ≤ 64) }
+    requires capacity { (0 < capacity) × (capacity ≤ capacity_limit) }
     requires pairs { vec_len parts ≡ vec_len receivings }
     requires few { length receivings.items ≤ lane_limit }
     requires moments { All (λ receiving. 0 < length receiving.nows.items) receivings.items }
@@ -157,7 +158,7 @@ fn run_all<R: Threads + Wait + Sync, S: Send + Drop, W: Work<S> + Sync>(
         thread::scope_env(),
         rt,
         |scope| -> Gathered
-            requires { (0 < capacity) × (capacity ≤ 64) × (vec_len parts ≡ vec_len receivings)
+            requires { (0 < capacity) × (capacity ≤ capacity_limit) × (vec_len parts ≡ vec_len receivings)
                 × (length receivings.items ≤ lane_limit)
                 × All (λ receiving. 0 < length receiving.nows.items) receivings.items
                 × All (λ part. (tx : Side) → tx.frames ≡ []

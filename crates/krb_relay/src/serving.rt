@@ -1,7 +1,8 @@
 //! What the calling thread does once the workers run, or where not all of them could be started.
 
 ghost use Rattle.std.specs.Prelude.{◌≡◌, ◌<◌, ◌≤◌, length, All, Some};
-ghost use Rattle.krb_peers.specs.Log.{lane_limit, new_log};
+ghost use Rattle.krb_base.specs.Limits.{lane_limit};
+ghost use Rattle.krb_peers.specs.Log.{new_log};
 ghost use Rattle.krb_relay.specs.Gathering.{Finished, IsFresh};
 
 use crate::fault::OwnFault;

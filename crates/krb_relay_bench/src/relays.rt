@@ -1,7 +1,7 @@
 //! One relay of each kind, with its time.
 
 ghost use Rattle.std.specs.Prelude.{◌≡◌, ◌<◌, ◌≤◌, All, IsTrue, length};
-ghost use Rattle.krb_peers.specs.Log.{lane_limit};
+ghost use Rattle.krb_base.specs.Limits.{lane_limit};
 ghost use Rattle.krb_peers.specs.Sending.{source_of, IsSender};
 
 use crate::lanes::{Lanes, Size, are_senders, have_moments, lanes_of};

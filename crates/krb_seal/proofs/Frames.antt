@@ -2,7 +2,7 @@
 use Rattle.std.proofs.Common.{◌≡◌, ℕ, ◌+◌, ◌≤◌, List, length, Option, Some, None, Result, Ok, Err, refl, sym, ◌∙◌, arith}
 use Rattle.std.specs.Global.{Vec}
 use Rattle.std.specs.Option.{ForSome}
-use Rattle.krb_base.specs.Limits.{frame_limit}
+use Rattle.krb_base.specs.Limits.{frame_limit, address_limit}
 use Rattle.krb_der.specs.declared.error.DerError.{DerError}
 use Rattle.krb_der.specs.declared.error.DerError.TheVariants as errors
 use Rattle.krb_der.specs.declared.address.HostAddress.{HostAddress}
@@ -16,7 +16,7 @@ use Rattle.krb_der.specs.Size.{optional_size, carried, private_overhead}
 use Rattle.krb_der.specs.Safe.{safe, safe_input, without_checksum}
 use Rattle.krb_der.proofs.Sizes.{small_part, small_safe, small_private, shorter_input}
 use Rattle.krb_seal.specs.Seals.{safe_checksum}
-use Rattle.krb_seal.specs.Session.{IsShortAddress, address_limit}
+use Rattle.krb_seal.specs.Session.{IsShortAddress}
 use Rattle.krb_seal.specs.Body.{IsSmall, small_body_limit, small_part_limit}
 use Rattle.krb_seal.specs.Checksum.{Sums}
 

@@ -1,10 +1,10 @@
 -- The bodies that a session's messages carry.
 use Rattle.std.specs.Prelude.{ℕ, ◌+◌, ◌*◌, ◌≤◌, length}
 use Rattle.std.specs.Option.{ForSome}
-use Rattle.krb_base.specs.Limits.{user_data_limit}
+use Rattle.krb_base.specs.Limits.{user_data_limit, address_limit}
 use Rattle.krb_der.specs.declared.body.Body.{Body}
 use Rattle.krb_der.specs.Size.{part_overhead}
-use Rattle.krb_seal.specs.Session.{IsShortAddress, address_limit}
+use Rattle.krb_seal.specs.Session.{IsShortAddress}
 
 -- the data and the addresses of a body are within the limits
 pub record IsSmall (b : Body) : Type 0 where

@@ -1,12 +1,9 @@
 -- The limit of this project's profile for a session's addresses.
 use Rattle.std.specs.Prelude.{ℕ, ◌≤◌, length}
 use Rattle.std.specs.Option.{ForSome}
+use Rattle.krb_base.specs.Limits.{address_limit}
 use Rattle.krb_der.specs.declared.address.HostAddress.{HostAddress}
 use Rattle.krb_seal.specs.declared.session.Session.{Session}
-
--- the bytes of an address
-abbrev pub address_limit : ℕ
-address_limit = 32
 
 abbrev pub IsShortAddress : HostAddress → Type 0
 IsShortAddress a = length a.bytes ≤ address_limit

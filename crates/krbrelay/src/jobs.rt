@@ -203,9 +203,7 @@ fn relay_senders<T: Threads + Wait + Sync, W: Write>(
         push_told(alloc, &mut sendings, &mut receivers.items, sender, sealer)?;
     }
     let receivings = receivers.into_vec(alloc);
-    relay_job(
-        rt, alloc, sendings, receivings, capacity, writer, &NoGate,
-    )
+    relay_job(rt, alloc, sendings, receivings, capacity, writer, &NoGate)
 }
 
 /// Adds a sender's lane to those of the senders before it.

@@ -8,7 +8,10 @@ fn secret_grows_and_is_given_back(rt: HostRuntime) -> Result<(), Fail> {
         secret.append(rt.alloc(), &[*digit])?;
     }
     assert_eq!(rt; secret.as_slice(), b"0123456789".as_slice());
-    assert_eq!(rt; secret.into_vec(rt.alloc()).as_slice(), b"0123456789".as_slice());
+    assert_eq!(rt;
+        secret.into_vec(rt.alloc()).as_slice(),
+        b"0123456789".as_slice()
+    );
     Ok(())
 }
 

@@ -1,7 +1,8 @@
 -- Each place that is kept is that of a text.
 use Rattle.std.proofs.Common.{◌≡◌, ◌<◌, ◌≤◌, get_or, length, ap, sym, ◌∙◌, Some, inl, inr, rules, arith}
 use Rattle.std.proofs.lemmas.Option.{slice_get_past}
-use Rattle.krb_peers.specs.Log.{lane_limit, texts_of}
+use Rattle.krb_base.specs.Limits.{lane_limit}
+use Rattle.krb_peers.specs.Log.{texts_of}
 use Rattle.krb_peers.specs.LogIndex.{places_from}
 use Rattle.krb_peers.proofs.LogLemmas.{places_read, length-places_from, IsTextAt, text_read, IsTextAt-below, text_found, text_not_closed, text_not_refused}
 use Rattle.krb_peers.proofs.log.Log.text.Goals as goal

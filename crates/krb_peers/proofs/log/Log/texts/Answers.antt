@@ -1,6 +1,6 @@
 -- The places that are kept are as many as the texts.
 use Rattle.std.proofs.Common.{◌≡◌, ◌<◌, length, ap, ◌∙◌, rules}
-use Rattle.krb_peers.specs.Log.{lane_limit}
+use Rattle.krb_base.specs.Limits.{lane_limit}
 use Rattle.krb_peers.specs.LogIndex.{places_from}
 use Rattle.krb_peers.proofs.LogLemmas.{places_read, length-places_from}
 use Rattle.krb_peers.proofs.log.Log.texts.Goals as goal
