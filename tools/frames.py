@@ -1,7 +1,7 @@
 #!/usr/bin/env python3
 """An independent sealer of KRB-SAFE and KRB-PRIV messages, in plain Python over the package
 `cryptography` and the standard library. It prints the frames that the tests of krb_seal, krb_core,
-krb_commands and krbrelay expect, or of a session key the
+krb_commands, krbrelay and krb_c and the program example_seal expect, or of a session key the
 strings for tools/residue: the key, its digits as a job file has them, and the derived keys.
 
     tools/frames.py [--keys KEYHEX]
@@ -168,6 +168,7 @@ def print_frames():
     second = body(b"C", MICROS, 8, SENDER)
     before_last = body(b"Da", MICROS, 4294967294, SENDER)
     no_record = body(b"X", MICROS, 7, SENDER)
+    data = body(b"hi", MICROS, 7, SENDER)
 
     lines = [
         ("safe 17", seal_safe(KEY_128, inner)),
@@ -195,6 +196,7 @@ def print_frames():
         ("priv 17, no part", seal_part(KEY_128, bytes(16))),
         ("priv 17, a part cut short", seal_part(KEY_128, bytes(16) + tlv(0x7C, inner)[:-1])),
         ("priv 17, a wide length", seal_part(KEY_128, bytes(16) + b"\x7c\x81\x37" + inner)),
+        ("priv 18, the data hi of example_seal", seal_priv(KEY_256, data, bytes([7] * 16))),
     ]
     for name, frame in lines:
         print(f"{name} ({len(frame)} bytes)\n  {frame.hex()}")

@@ -1,10 +1,11 @@
 ghost use Rattle.std.specs.Prelude.{◌≡◌};
 
+use std::alloc::AllocError;
 use std::marker::Model;
 
 /// A byte string on the heap, which contracts see as the list of its bytes.
 ///
-/// Neither making one nor giving its `Vec` back takes memory.
+/// Neither making one nor giving its `Vec` back takes memory; a clone takes its own.
 #[derive(Debug, Drop)]
 pub struct Bytes {
     vec: Vec<u8>,
@@ -39,5 +40,16 @@ impl Bytes {
     {
         let Bytes { vec } = self;
         vec
+    }
+}
+
+/// Another byte string with the same bytes. Only want of memory can refuse it.
+impl Clone for Bytes {
+    ghost is_clone = { λ bytes copy. copy ≡ bytes };
+
+    fn clone(&self) -> Result<Bytes, AllocError> {
+        Ok(Bytes {
+            vec: self.vec.clone()?,
+        })
     }
 }

@@ -1,9 +1,10 @@
 //! Words that several crates of the relay speak of: byte strings on the heap, prefixes of lists, the
 //! lane as a state machine, and the limits of texts and messages.
 //!
-//! ```text
-//! let text = Bytes::new(vec);
-//! let same_vec = text.into_vec();
+//! ```rust crates/krb_base/src/tests.rt
+//! let bytes = Bytes::new(vec![in rt.alloc(); 0x68, 0x69]?);
+//! assert_eq!(rt; bytes.as_slice(), b"hi".as_slice());
+//! assert_eq!(rt; bytes.into_vec().as_slice(), b"hi".as_slice());
 //! ```
 #![tactic(auto)]
 

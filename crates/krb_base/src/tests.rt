@@ -13,6 +13,15 @@ fn bytes_give_back_what_they_were_made_of(rt: HostRuntime) -> Result<(), Fail> {
 }
 
 #[test]
+fn clone_outlives_its_bytes(rt: HostRuntime) -> Result<(), Fail> {
+    let bytes = Bytes::new(vec![in rt.alloc(); 0x68, 0x69]?);
+    let copy = bytes.clone()?;
+    drop(bytes);
+    assert_eq!(rt; copy.as_slice(), b"hi".as_slice());
+    Ok(())
+}
+
+#[test]
 fn limits_are_those_that_users_are_told(rt: HostRuntime) {
     assert_eq!(rt; (TEXT_LIMIT, USER_DATA_LIMIT), (60_000, 60_001));
     assert_eq!(rt; (FRAME_LIMIT, RAW_LIMIT), (65_000, 70_000));

@@ -5,11 +5,11 @@
 //! headline of each lane, by what the log has of it. Senders, receivers, plans and the log are those
 //! of [`krb_peers`], and have their paths here too.
 //!
-//! ```text
-//! let mut relay = Stepped::new(alloc, sendings, receivings, 8)?;
-//! relay.run(&[Turn::Send(0), Turn::Take(0)])?; // the first frame of lane 0
-//! relay.finish()?;
-//! for entry in relay.log().entries() { .. }
+//! ```rust crates/krb_core/src/tests/steps.rt
+//! relay.run(&[SEND, SEND, TAKE, TAKE, SEND, TAKE, SEND, TAKE])?;
+//! assert!(rt; is_whole(relay.log()) && relay.done());
+//! let sent = relay.sent(0);
+//! assert_eq!(rt; (sent.k, sent.n), (1, 1));
 //! ```
 #![tactic(auto)]
 

@@ -1,4 +1,4 @@
-ghost use Rattle.std.specs.Prelude.{◌≡◌, ◌↔◌, IsTrue};
+ghost use Rattle.std.specs.Prelude.{◌≡◌, ◌↔◌, IsTrue, IfOk};
 ghost use Rattle.krb_der.specs.Address.{IsAddress, same_address};
 ghost use Rattle.krb_der.specs.Reading.{Gives, address_of};
 
@@ -6,9 +6,11 @@ use crate::error::DerError;
 use crate::integer::known_int32;
 use crate::typed::read_typed;
 use krb_base::Bytes;
-use std::alloc::Global;
+use std::alloc::{AllocError, Global};
 
 /// A network address (RFC 4120 section 5.2.5).
+///
+/// It has any number of bytes; those of a session (`krb_seal::Session`) have at most 32.
 #[derive(Debug, Drop)]
 pub struct HostAddress {
     /// The type of the address, 2 for IPv4 (RFC 4120 section 7.5.3).
@@ -18,12 +20,35 @@ pub struct HostAddress {
 }
 
 impl HostAddress {
+    /// The address of this type with a copy of these bytes, which are in network order.
+    pub fn new(alloc: Global, kind: i32, bytes: &[u8]) -> Result<HostAddress, AllocError>
+        ensures kind { IfOk result (λ address. address.kind ≡ kind) }
+        ensures bytes { IfOk result (λ address. address.bytes ≡ bytes.now) }
+    {
+        Ok(HostAddress {
+            kind,
+            bytes: Bytes::new(Vec::from_slice(alloc, bytes)?),
+        })
+    }
+
     /// Whether type and bytes are equal.
     pub fn same(&self, other: &HostAddress) -> bool
         ensures same { IsTrue result ↔ (self.now ≡ other.now) }
         ensures test { result ≡ same_address self.now other.now }
     {
         self.kind == other.kind && self.bytes.as_slice() == other.bytes.as_slice()
+    }
+}
+
+/// The same address, with bytes of its own. Only want of memory can refuse it.
+impl Clone for HostAddress {
+    ghost is_clone = { λ address copy. copy ≡ address };
+
+    fn clone(&self) -> Result<HostAddress, AllocError> {
+        Ok(HostAddress {
+            kind: self.kind,
+            bytes: self.bytes.clone()?,
+        })
     }
 }
 

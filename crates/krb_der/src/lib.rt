@@ -4,10 +4,12 @@
 //! Each value has one spelling, and each spelling one value: [`decode`] reads exactly what the
 //! grammar spells, and [`encode_safe`], [`encode_priv`] and [`encode_part`] write it.
 //!
-//! ```text
-//! match decode(alloc, bytes)? {
-//!     Message::Safe(m) => use_text(m.body.user_data.as_slice()),
-//!     Message::Priv(m) => decrypt(m.etype, m.cipher.as_slice()),
+//! ```rust crates/krb_der/src/tests.rt
+//! fn decode_safe(alloc: Global, bytes: &[u8]) -> Result<SafeMsg, DerError> {
+//!     match decode(alloc, bytes)? {
+//!         Message::Safe(m) => Ok(m),
+//!         Message::Priv(_) => Err(DerError::Malformed),
+//!     }
 //! }
 //! ```
 #![tactic(auto)]

@@ -1,6 +1,7 @@
 //! Messages worked out by hand, and what an independent reader makes of them
 //! (`tools/count_refusals.py`).
 
+mod address;
 mod around;
 mod numbers;
 mod private;

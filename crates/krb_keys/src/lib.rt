@@ -1,11 +1,13 @@
 //! n-fold, HMAC-SHA1 and key derivation, as Kerberos uses them (RFC 3961, 3962 and 2104).
 //!
-//! ```text
-//! let mut integrity = derive(&key, 13, INTEGRITY_TAIL);
-//! let code = hmac96(integrity.bytes(), &[confounder, part]);
-//! integrity.wipe();
-//! integrity.spend();
-//! let is_whole = mac_equal(&code, received);
+//! ```rust crates/krb_keys/src/tests.rt
+//! let mut mac = MacKey::new(key);
+//! let first = mac.hmac_sha1(&[data]);
+//! let second = mac.hmac_sha1(&[&[], data, &[]]);
+//! let short = mac.hmac96(&[data]);
+//! mac.wipe();
+//! let wiped = mac.hmac_sha1(&[data]);
+//! mac.spend();
 //! ```
 #![tactic(auto)]
 

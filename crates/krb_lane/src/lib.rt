@@ -3,13 +3,21 @@
 //! [`lane`] makes both ends, which may stand in two threads. Where both came to rest, [`meet`]
 //! brings them together, and then what was got is what was sent.
 //!
-//! ```text
+//! ```rust crates/krb_lane/src/tests.rt
 //! let (mut tx, mut rx) = lane(&rt, alloc, 2)?;
-//! tx.send(&rt, bytes)?;
-//! let sent = tx.end(&rt)?;
-//! rx.take(&rt)?; // Item::Frame { index: 0, bytes }
-//! rx.take(&rt)?; // Item::End
-//! let met = meet(sent, rx); // Met { sent: 1, got: 1 }
+//! tx.send(&rt, [0x61].to_vec(alloc)?)?;
+//! tx.send(&rt, [0x62].to_vec(alloc)?)?;
+//! assert_eq!(rt; tx.count(), 2);
+//! assert!(rt; next_is(&rt, &mut rx, 0, 0x61));
+//! assert!(rt; next_is(&rt, &mut rx, 1, 0x62));
+//! let Ok(sent) = tx.end(&rt) else {
+//!     return Err(Fail::from("end"));
+//! };
+//! assert!(rt; next_is_end(&rt, &mut rx));
+//! assert!(rt; next_is_end(&rt, &mut rx));
+//! assert_eq!(rt; (sent.count(), rx.count()), (2, 2));
+//! let met = meet(sent, rx);
+//! assert_eq!(rt; (met.sent, met.got), (2, 2));
 //! ```
 //!
 //! Only `send`, `end` and `take` may wait. A call that answers `Err` has changed nothing.

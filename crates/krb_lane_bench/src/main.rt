@@ -9,10 +9,11 @@ ghost use Rattle.std.specs.Prelude.{◌≡◌, ◌<◌, ◌≤◌, ◌+◌, ◌^
 
 use krb_lane::{Item, LaneRx, LaneTx, SentAll, lane, meet};
 use std::alloc::Global;
+use std::process::ExitCode;
 use std::snapshot::Snapshot;
 use std::sync::Wait;
 use std::thread::{Promise, Threads};
-use std::time::Instant;
+use std::time::{Clock, Instant};
 use std::{env, io, thread};
 
 /// How many bytes a frame has.
@@ -114,15 +115,17 @@ fn pass_frames<R: Threads + Wait + Sync>(
     )
 }
 
-fn main(rt: HostRuntime) -> io::Result<()> {
-    let Some(frames) = env::args(&rt)?.nth(1) else {
-        return Ok(());
-    };
-    let frames = frames.parse().unwrap_or(1).min(MOST);
+// Passes so many frames through a lane of each capacity, and prints how fast they went.
+fn run(
+    rt: &(impl Threads + Wait + Sync + Clock + Print + Alloc<A = Global>),
+    frames: u64,
+) -> io::Result<()>
+    requires { frames < 2 ^ 60 }
+{
     for capacity in [1, 8, 64] {
-        let start = Instant::now(&rt)?;
-        let passed = pass_frames(&rt, rt.alloc(), capacity, frames);
-        let micros = start.elapsed(&rt)?.as_micros().max(1);
+        let start = Instant::now(rt)?;
+        let passed = pass_frames(rt, rt.alloc(), capacity, frames);
+        let micros = start.elapsed(rt)?.as_micros().max(1);
         match passed {
             None => println!(rt; "capacity {capacity}: no memory, or no thread")?,
             Some(got) => {
@@ -135,4 +138,16 @@ fn main(rt: HostRuntime) -> io::Result<()> {
         }
     }
     Ok(())
+}
+
+fn main(rt: HostRuntime) -> io::Result<ExitCode> {
+    let Some(word) = env::args(&rt)?.nth(1) else {
+        return Ok(ExitCode::SUCCESS);
+    };
+    let Ok(frames) = word.parse::<u64>() else {
+        eprintln!(&rt; "usage: krb_lane_bench FRAMES")?;
+        return Ok(ExitCode::from(2));
+    };
+    run(&rt, frames.min(MOST))?;
+    Ok(ExitCode::SUCCESS)
 }

@@ -7,11 +7,14 @@
 //! delivered and refused, whatever the plan; [`relay_laws`] says it of the log of any relay, stepped
 //! or on threads, that has the verdicts of all lanes in rounds.
 //!
-//! ```text
-//! let frames = sending.seal_all(alloc)?;
-//! let wire = emit(alloc, &frames, &[Emit::Frame(0), Emit::Frame(0)])?;
-//! let first = receiver.take(alloc, &wire[0], now)?; // Delivery::Text
-//! let again = receiver.take(alloc, &wire[1], now); // Err(Refusal::BadOrder)
+//! ```rust crates/example_relay/src/main.rt
+//! Ok(Sending {
+//!     sealer: Aes256Sealer::new(&mut [host; 32], session(alloc, host)?),
+//!     texts: vec![in alloc; Vec::from_slice(alloc, text)?]?,
+//!     ats: vec![in alloc; at]?,
+//!     draws: ChaCha20Rng::from_seed([host; 32]),
+//!     plan,
+//! })
 //! ```
 #![tactic(auto)]
 

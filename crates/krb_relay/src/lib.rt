@@ -6,9 +6,10 @@
 //! taken, by the lane's number. The log is one list, whatever runs when: that of the stepped relay
 //! of `krb_core` when it runs to its end. A [`Gate`] stands round each seal call.
 //!
-//! ```text
-//! let report = relay(&rt, alloc, sendings, receivings, 8, &NoGate)?;
-//! for entry in report.log.entries() { .. }
+//! ```rust crates/example_relay/src/main.rt
+//! let sendings = vec![in alloc; first, second]?;
+//! let receivings = vec![in alloc; receiving(alloc, 1, at)?, receiving(alloc, 2, at)?]?;
+//! Ok(relay(rt, alloc, sendings, receivings, 8, &NoGate)?)
 //! ```
 //!
 //! [`relay`] waits for its workers. What it answers holds if it answers.

@@ -4,14 +4,17 @@
 //! A [`Sealer`] of one of the two kinds seals data at one sequence number after another, and an
 //! [`Opener`] answers the data of a frame at a demanded number, or the first check that it fails.
 //!
-//! ```text
-//! let session = Session { mode: Mode::Priv, s_addr, r_addr: None, first: 7 };
-//! let mut sealer = Aes128Sealer::new(&mut key, session);
-//! let frame = sealer.seal(alloc, b"hi", at, confounder)?;
-//! let opener = Opener::new_128(&mut same_key, expect);
-//! match opener.unseal(alloc, &frame, 7, now) {
-//!     Ok(user_data) => deliver(user_data),
-//!     Err(refusal) => log(refusal.code(), refusal.name()),
+//! ```rust crates/example_seal/src/main.rt
+//! let mut sealer = Aes256Sealer::new(&mut { KEY }, session(alloc)?);
+//! let frame = sealer.seal(alloc, b"hi", at, CONFOUNDER)?;
+//! println!(rt; "sealed: {} bytes", frame.len())?;
+//!
+//! let opener = Opener::new_256(&mut { KEY }, expect(alloc)?);
+//! for number in [7, 8] {
+//!     match opener.unseal(alloc, &frame, number, at) {
+//!         Ok(data) => println!(rt; "at {number}: {}", String::from_utf8(data)?)?,
+//!         Err(refusal) => println!(rt; "at {number}: {} {}", refusal.code(), refusal.name())?,
+//!     }
 //! }
 //! ```
 #![tactic(auto)]

@@ -1,31 +1,21 @@
 //! Both ends of a session.
 
 ghost use Rattle.std.specs.Prelude.{IfOk};
-ghost use Rattle.krb_seal.specs.Session.{HasShortAddresses, IsShortAddress};
+ghost use Rattle.krb_seal.specs.Session.{HasShortAddresses};
 
-use krb_der::{Bytes, HostAddress, Moment};
+use krb_der::{HostAddress, Moment};
 use krb_seal::{Aes128Sealer, Aes256Sealer, Expect, Mode, Opener, SealError, Sealer, Session};
 use std::alloc::{AllocError, Global};
 
 /// 2023-11-14T22:13:20Z and 5 microseconds.
 const MICROS: u64 = 1_700_000_000_000_005;
 
-/// The address 10.0.0.`host`.
-fn address(alloc: Global, host: u8) -> Result<HostAddress, AllocError>
-    ensures { IfOk result IsShortAddress }
-{
-    Ok(HostAddress {
-        kind: 2,
-        bytes: Bytes::new(Vec::from_slice(alloc, &[10, 0, 0, host])?),
-    })
-}
-
 fn session(alloc: Global, mode: Mode) -> Result<Session, AllocError>
     ensures { IfOk result HasShortAddresses }
 {
     Ok(Session {
         mode,
-        s_addr: address(alloc, 1)?,
+        s_addr: HostAddress::new(alloc, 2, &[10, 0, 0, 1])?,
         r_addr: None,
         first: 0,
     })
@@ -34,8 +24,8 @@ fn session(alloc: Global, mode: Mode) -> Result<Session, AllocError>
 fn expectation(alloc: Global, mode: Mode) -> Result<Expect, AllocError> {
     Ok(Expect {
         mode,
-        s_addr: address(alloc, 1)?,
-        r_addr: address(alloc, 2)?,
+        s_addr: HostAddress::new(alloc, 2, &[10, 0, 0, 1])?,
+        r_addr: HostAddress::new(alloc, 2, &[10, 0, 0, 2])?,
         require_r: false,
         expect_time: true,
         skew: 300,

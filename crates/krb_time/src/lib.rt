@@ -1,10 +1,12 @@
 //! The times of Kerberos V5 (RFC 4120 section 5.2.3): moments in whole microseconds since
 //! 1970-01-01T00:00:00Z, and the fifteen bytes YYYYMMDDHHMMSSZ that name a second.
 //!
-//! ```text
-//! let at = Moment::new(500_159_187, 5)?;
-//! let text = kerberos_time(at.secs());           // 19851106210627Z
-//! let secs = read_kerberos_time(&text)?;         // 500159187
+//! ```rust crates/krb_time/src/time.rt
+//! fn is_time_of(secs: u64, text: &[u8; 15]) -> bool {
+//!     secs <= LAST_SECOND
+//!         && kerberos_time(secs) == *text
+//!         && read_kerberos_time(text) == Some(secs)
+//! }
 //! ```
 #![tactic(auto)]
 

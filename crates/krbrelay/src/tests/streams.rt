@@ -181,6 +181,10 @@ fn fault_of_usage_is_told_on_standard_error(rt: HostRuntime) -> Result<(), Fail>
             ["krbrelay", "show", "it"].as_slice(),
             "error: unexpected argument 'it' found",
         ),
+        (
+            ["krbrelay", "relay", "job.toml"].as_slice(),
+            "Usage: krbrelay relay < JOB.toml\n",
+        ),
     ] {
         let error = command_of(rt.alloc(), words).err().ok_or("a command")?;
         let streams = Streams::new(rt.alloc());
@@ -200,7 +204,7 @@ fn help_is_told_on_standard_output(rt: HostRuntime) -> Result<(), Fail> {
         ),
         (
             ["krbrelay", "seal", "-h"].as_slice(),
-            "Usage: krbrelay seal",
+            "Usage: krbrelay seal < JOB.toml\n",
         ),
         (["krbrelay", "--version"].as_slice(), "krbrelay 0.1.0\n"),
     ] {

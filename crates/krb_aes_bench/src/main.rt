@@ -1,11 +1,12 @@
 //! Times `cts_encrypt` and `cts_decrypt` of krb_aes on texts of 16,384 bytes.
 //!
-//! `krb_bench ROUNDS` prints the best speed of that many short runs, one line for each key size and direction, in
-//! thousands of bytes a second, as `openssl speed` does. With no argument it does nothing.
-//! `tools/bench_aes` runs it side by side with OpenSSL.
+//! `krb_aes_bench ROUNDS` prints the best speed of that many short runs, one line for each key size
+//! and direction, in thousands of bytes a second, as `openssl speed` does. With no argument it does
+//! nothing. `tools/bench_aes` runs it side by side with OpenSSL.
 #![tactic(auto)]
 
 use krb_aes::{CipherKey, Schedule, cts_decrypt, cts_encrypt};
+use std::process::ExitCode;
 use std::time::Instant;
 use std::{env, io};
 
@@ -106,9 +107,14 @@ fn run(rt: &HostRuntime, rounds: u32) -> io::Result<()> {
     print(rt, &measured?)
 }
 
-fn main(rt: HostRuntime) -> io::Result<()> {
-    match env::args(&rt)?.nth(1) {
-        None => Ok(()),
-        Some(rounds) => run(&rt, rounds.parse().unwrap_or(1)),
-    }
+fn main(rt: HostRuntime) -> io::Result<ExitCode> {
+    let Some(word) = env::args(&rt)?.nth(1) else {
+        return Ok(ExitCode::SUCCESS);
+    };
+    let Ok(rounds) = word.parse() else {
+        eprintln!(&rt; "usage: krb_aes_bench ROUNDS")?;
+        return Ok(ExitCode::from(2));
+    };
+    run(&rt, rounds)?;
+    Ok(ExitCode::SUCCESS)
 }

@@ -1,0 +1,18 @@
+use super::{SAFE, decode_safe};
+use crate::{DerError, HostAddress};
+use std::alloc::Global;
+
+/// Whether an address made of these parts, and its clone, are the sender's of `SAFE`.
+fn are_senders(alloc: Global, kind: i32, bytes: &[u8]) -> Result<(bool, bool), DerError> {
+    let m = decode_safe(alloc, &SAFE)?;
+    let made = HostAddress::new(alloc, kind, bytes)?;
+    let copy = made.clone()?;
+    Ok((made.same(&m.body.s_addr), copy.same(&m.body.s_addr)))
+}
+
+#[test]
+fn address_is_made_of_its_parts_and_cloned(rt: HostRuntime) {
+    assert!(rt; are_senders(rt.alloc(), 2, &[10, 0, 0, 1]) == Ok((true, true)));
+    assert!(rt; are_senders(rt.alloc(), 3, &[10, 0, 0, 1]) == Ok((false, false)));
+    assert!(rt; are_senders(rt.alloc(), 2, &[10, 0, 0]) == Ok((false, false)));
+}
