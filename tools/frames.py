@@ -72,7 +72,8 @@ def tlv(tag, content):
 
 
 def integer(n):
-    return tlv(2, n.to_bytes(n.bit_length() // 8 + 1, "big", signed=True))
+    fewest = (n + (n < 0)).bit_length() // 8 + 1
+    return tlv(2, n.to_bytes(fewest, "big", signed=True))
 
 
 def octets(content):

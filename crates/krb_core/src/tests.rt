@@ -8,6 +8,7 @@ mod lanes;
 mod senders;
 mod starts;
 mod steps;
+mod sweep;
 mod turns;
 mod undisturbed;
 mod wiped;

@@ -7,6 +7,7 @@ mod numbers;
 mod private;
 mod refusals;
 mod safe;
+mod sweep;
 
 use crate::{Body, Bytes, DerError, Message, PrivMsg, SafeMsg, decode, encode_priv, encode_safe};
 use std::alloc::{AllocError, Global};

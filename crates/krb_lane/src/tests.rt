@@ -1,6 +1,7 @@
 ghost use Rattle.std.specs.Prelude.{◌≡◌, ◌<◌, ◌≤◌};
 
 mod passing;
+mod sweep;
 
 use crate::{Item, LaneError, LaneRx, Lost, lane, meet};
 use krb_base::Bytes;

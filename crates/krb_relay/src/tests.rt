@@ -5,6 +5,7 @@ mod gates;
 mod log_lines;
 mod rows;
 mod senders;
+mod sweep;
 
 use crate::{Cause, Fault};
 use krb_peers::Log;

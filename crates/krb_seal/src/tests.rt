@@ -6,6 +6,7 @@ mod frames;
 mod opening;
 mod refusals;
 mod sealing;
+mod sweep;
 
 ghost use Rattle.std.specs.Prelude.{IfOk};
 ghost use Rattle.krb_seal.specs.Session.{HasShortAddresses, IsShortAddress};

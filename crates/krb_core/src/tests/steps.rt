@@ -62,7 +62,7 @@ pub(super) fn receiving(alloc: Global, mode: Mode) -> Result<Receiving, Fail> {
 }
 
 /// A relay of one sender that says `hi`, at capacity 1.
-fn relay_of_one(rt: &impl Abort, alloc: Global) -> Result<Stepped, Fail>
+pub(super) fn relay_of_one(rt: &impl Abort, alloc: Global) -> Result<Stepped, Fail>
     ensures { IfOk result (λ stepped. length stepped.tracks ≡ 1) }
 {
     let sending = sending(alloc, sealer(alloc, Mode::Safe, 7)?, &[b"hi"], &[MICROS])?;
@@ -76,7 +76,7 @@ const SEND: Turn = Turn::Send(0);
 const TAKE: Turn = Turn::Take(0);
 
 /// Whether the log has the text `hi` and then the close.
-fn is_whole(log: &Log) -> bool {
+pub(super) fn is_whole(log: &Log) -> bool {
     match log.entries() {
         [first, second] => {
             matches!(&first.event, Event::Text(text) if text.as_slice() == b"hi".as_slice())

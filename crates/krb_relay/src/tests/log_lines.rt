@@ -3,7 +3,7 @@
 use krb_peers::{Event, Log};
 
 /// Whether an event is the text of this word, a close, or the refusal of this name.
-fn is_event(event: &Event, word: &str) -> bool {
+pub(super) fn is_event(event: &Event, word: &str) -> bool {
     match event {
         Event::Text(text) => text.as_slice() == word.as_bytes(),
         Event::Closed => word == "closed",

@@ -1,0 +1,102 @@
+//! Sealing and opening, where each growth in turn may be refused: the answer is the known frame or
+//! its data, or want of memory, and then the same call with memory gives the answer. `tools/sweep`
+//! refuses the growths, and counts the lines that tell of a refusal.
+
+use super::frames::{PRIV_17, PRIV_18, SAFE_17, SAFE_18};
+use super::{KEY_128, KEY_256, MICROS, answer, expect_of, session};
+use crate::{Aes128Sealer, Aes256Sealer, Mode, Opener, SealError, Sealer};
+use krb_der::Moment;
+use std::alloc::Global;
+use std::process::Abort;
+use std::test::Fail;
+
+/// The kinds of frames: whether the encryption type is 18, the mode, and the frame of the number 7
+/// under a confounder of zeros.
+const KINDS: [(&str, bool, Mode, &[u8]); 4] = [
+    ("KRB-SAFE under type 17", false, Mode::Safe, &SAFE_17),
+    ("KRB-PRIV under type 17", false, Mode::Priv, &PRIV_17),
+    ("KRB-SAFE under type 18", true, Mode::Safe, &SAFE_18),
+    ("KRB-PRIV under type 18", true, Mode::Priv, &PRIV_18),
+];
+
+/// Asserts that a sealer seals the frame, or wants memory, stands as before and then seals it.
+/// Answers whether it wanted memory.
+fn seals(
+    rt: &impl Abort,
+    alloc: Global,
+    sealer: &mut impl Sealer,
+    frame: &[u8],
+) -> Result<bool, Fail> {
+    let at = Moment::from_micros(MICROS).ok_or("past the year 9999")?;
+    let etype = sealer.etype();
+    let mut sealed = sealer.seal(alloc, b"Dhi", at, [0; 16]);
+    let refused = matches!(sealed, Err(SealError::Memory));
+    if refused {
+        assert_eq!(rt; (sealer.etype(), sealer.next()), (etype, 7));
+        sealed = sealer.seal(alloc, b"Dhi", at, [0; 16]);
+    }
+    let Ok(sealed) = sealed else {
+        return Err(Fail::from("not sealed with memory"));
+    };
+    assert_eq!(rt; sealed.as_slice(), frame);
+    assert_eq!(rt; (sealer.etype(), sealer.next()), (etype, 8));
+    Ok(refused)
+}
+
+#[test]
+fn frame_is_sealed_or_memory_wanted(rt: HostRuntime) -> Result<(), Fail> {
+    for (name, wide, mode, frame) in KINDS {
+        let session = session(rt.alloc(), mode, 7)?;
+        let refused = if wide {
+            let mut sealer = Aes256Sealer::new(&mut { KEY_256 }, session);
+            seals(&rt, rt.alloc(), &mut sealer, frame)?
+        } else {
+            let mut sealer = Aes128Sealer::new(&mut { KEY_128 }, session);
+            seals(&rt, rt.alloc(), &mut sealer, frame)?
+        };
+        if refused {
+            println!(rt; "refused: seal of {name}")?;
+        }
+    }
+    Ok(())
+}
+
+/// Asserts that an opener answers by this code (0 for the data), or wants memory and then answers
+/// so. Answers whether it wanted memory.
+fn opens(
+    rt: &impl Abort,
+    alloc: Global,
+    opener: &Opener,
+    frame: &[u8],
+    number: u64,
+    code: u32,
+) -> bool {
+    let first = answer(alloc, opener, frame, number, MICROS);
+    let refused = first == 904;
+    let last = if refused {
+        answer(alloc, opener, frame, number, MICROS)
+    } else {
+        first
+    };
+    assert_eq!(rt; last, code);
+    refused
+}
+
+#[test]
+fn frame_is_opened_or_memory_wanted(rt: HostRuntime) -> Result<(), Fail> {
+    for (name, wide, mode, frame) in KINDS {
+        let expect = expect_of(rt.alloc(), mode, 1)?;
+        let opener = if wide {
+            Opener::new_256(&mut { KEY_256 }, expect)
+        } else {
+            Opener::new_128(&mut { KEY_128 }, expect)
+        };
+        if opens(&rt, rt.alloc(), &opener, frame, 7, 0) {
+            println!(rt; "refused: unseal of {name}")?;
+        }
+        if opens(&rt, rt.alloc(), &opener, frame, 8, 42) {
+            println!(rt; "refused: unseal of {name} at another number")?;
+        }
+    }
+    Ok(())
+}

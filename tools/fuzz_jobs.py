@@ -1,0 +1,208 @@
+"""Drawn jobs for `seal`, `open` and `relay` of krbrelay, and what it is to print of them by an
+independent sender and receiver (opener.py): sessions at the edges of what a job may say, whose
+wires carry right frames, frames that are repeated, dropped, exchanged, cut or changed, and frames
+that somebody with the key, or with another one, made up."""
+import frames
+import fuzz_messages
+import jobs
+import opener
+
+LAST_MOMENT = 253_402_300_799_999_999
+NUMBERS = [0, 1, 7, 127, 128, 2**31 - 1, 2**31, 2**32 - 3, 2**32 - 2, 2**32 - 1]
+KINDS = [-(2**31), -1, 0, 2, 24, 2**31 - 1]
+MOMENTS = [5, 951_782_400_000_000, jobs.MICROS, jobs.MICROS + 999_994, LAST_MOMENT]
+SIZES = [0, 0, 1, 2, 2, 3, 13, 14, 15, 16, 31, 100, 200, 1000]
+
+
+def near(value, dice, distance):
+    """A moment at most about so far from another."""
+    step = dice.choice([0, 0, 0, distance, distance + 1, dice.randrange(distance + 1)])
+    return min(max(value + dice.choice([-step, step]), 0), LAST_MOMENT)
+
+
+def address(dice):
+    return dice.choice(KINDS), dice.randbytes(dice.choice([0, 1, 4, 4, 4, 16, 32]))
+
+
+def session(dice):
+    return opener.Session(
+        key=dice.randbytes(dice.choice([16, 32])), mode=dice.choice(["safe", "priv"]),
+        first=dice.choice(NUMBERS), origin=address(dice), to=address(dice),
+        write_to=dice.random() < 0.5, require_to=dice.random() < 0.2,
+        expect_time=dice.random() < 0.8, skew=dice.choice([0, 1, 300, 86_400]))
+
+
+def sender(dice, most):
+    """A sender of at most so many texts."""
+    texts = [dice.randbytes(dice.choice(SIZES)) for _ in range(dice.randrange(most + 1))]
+    if dice.random() < 0.01:
+        texts.append(dice.randbytes(dice.choice([59_999, 60_000])))
+    middle = dice.choice(MOMENTS)
+    ats = [near(middle, dice, 5_000_000) for _ in range(dice.randrange(1, 4))]
+    return opener.Sender(session(dice), texts, ats, dice.randbytes(32))
+
+
+def nows(dice, sent):
+    """Moments of the receiver: mostly within the skew."""
+    skew = 1_000_000 * sent.session.skew
+    return [near(at, dice, skew) for at in sent.ats[:dice.randrange(1, 4)]]
+
+
+# ---- frames that somebody makes up
+
+def record(dice):
+    return dice.choice([b"D", b"C", b"D" + dice.randbytes(3), b"", b"X", b"CC", b"B"])
+
+
+def body(dice, sent, number):
+    """A body of the session, with at most a few things wrong."""
+    it, at = sent.session, dice.choice(sent.ats)
+    odd = dice.random() < 0.5
+    left_out = dice.choice([(), (0xA1,), (0xA2,), (0xA1, 0xA2), (0xA3,)]) if odd else ()
+    origin = address(dice) if dice.random() < 0.1 else it.origin
+    to = dice.choice([None, it.to, it.to, address(dice)])
+    number += dice.choice([0, 0, 0, 0, -1, 1])
+    return frames.body(record(dice), near(at, dice, 1_000_000 * it.skew),
+                       min(max(number, 0), opener.LAST_NUMBER), origin, to, left_out)
+
+
+def safe_frame(dice, key, inner):
+    kind = frames.etype_of(key) - 2 + dice.choice([0] * 9 + [1])
+    code = frames.checksum_of(key, inner)
+    return frames.safe(inner, kind, dice.choice([code] * 8 + [code[:-1], code + b"\0", b""]))
+
+
+def private_frame(dice, key, inner):
+    part = frames.tlv(0x7C, inner)
+    part = dice.choice([part] * 8 + [part[:-1], part + b"\0", inner, b""])
+    return frames.seal_part(key, dice.randbytes(16) + part)
+
+
+def made_up(dice, sent, number):
+    """A frame that the sealer never sealed, mostly under its key and of its kind."""
+    key, mode = sent.session.key, sent.session.mode
+    if dice.random() < 0.1:
+        key = dice.randbytes(dice.choice([16, 32]))
+    if dice.random() < 0.1:
+        mode = dice.choice(["safe", "priv"])
+    make = safe_frame if mode == "safe" else private_frame
+    return make(dice, key, body(dice, sent, number))
+
+
+def changed(dice, frame):
+    """A frame with an element or some bytes changed; sometimes it has too many."""
+    how = dice.random()
+    if how < 0.01:
+        return bytes(dice.choice([65_000, 65_001, 70_000]))
+    if how < 0.5:
+        root = fuzz_messages.tree(frame)[0]
+        change = dice.choice([fuzz_messages.change_node, fuzz_messages.change_content])
+        change(dice, root, [fuzz_messages.tree(frame)[0]])
+        return fuzz_messages.spelling(root)[:70_000]
+    return fuzz_messages.change_bytes(dice, frame, [fuzz_messages.tree(frame)[0]])[:70_000]
+
+
+def disturbed(dice, items):
+    """The items with some of them dropped, repeated and exchanged."""
+    items = list(items)
+    for _ in range(dice.choice([0, 0, 0, 1, 1, 2])):
+        place, how = dice.randrange(len(items) + 1), dice.randrange(3)
+        if how == 0:
+            del items[place:place + 1]
+        elif how == 1:
+            items[place:place] = items[place:place + 1]
+        else:
+            items[place:place + 2] = reversed(items[place:place + 2])
+    return items
+
+
+# ---- jobs
+
+def wire(dice, sent):
+    """What comes to the receiver of a sender."""
+    right, first = sent.frames(), sent.session.first
+    found = []
+    for place, frame in enumerate(right):
+        while dice.random() < 0.3:
+            found.append(made_up(dice, sent, first + place))
+        while dice.random() < 0.2:
+            found.append(changed(dice, frame))
+        found.append(frame)
+    found += [right[-1]] * (dice.random() < 0.2)
+    return disturbed(dice, found)
+
+
+def emission(dice, sent, place, size):
+    """An emission that isn't the frame of this place, which has so many bytes."""
+    how = dice.random()
+    if how < 0.5:
+        return "flip", place, dice.randrange(size), 1 << dice.randrange(8)
+    if how < 0.99:
+        return "raw", made_up(dice, sent, sent.session.first + place)
+    return dice.choice([("frame", place + 2000), ("flip", place, size, 1), ("flip", place, 0, 0)])
+
+
+def plan(dice, sent):
+    """No plan, or the frames of the sender with others among them."""
+    if dice.random() < 0.2:
+        return None
+    found = []
+    for place, frame in enumerate(sent.frames()):
+        while dice.random() < 0.3:
+            found.append(emission(dice, sent, place, len(frame)))
+        found.append(("frame", place))
+    return disturbed(dice, found)
+
+
+def keys_of(it):
+    """The keys of a session in a job."""
+    return dict(etype=it.etype, mode=it.mode, key=it.key, first=it.first, origin=it.origin,
+                to=it.to, write_to=it.write_to, require_to=it.require_to,
+                expect_time=it.expect_time, skew=it.skew)
+
+
+def open_job(dice):
+    """A job for `open`, its lines, and how many frames it has."""
+    sent = sender(dice, 6)
+    came, moments = wire(dice, sent), nows(dice, sent)
+    text = jobs.job([jobs.sender(**keys_of(sent.session), now=moments, frames=came)])
+    return text, opener.open_lines(sent.session, moments, came), len(came)
+
+
+def lane(dice, most):
+    """A sender with its plan, its receiver's moments, and both as a job has them."""
+    sent = sender(dice, most)
+    sent.plan = plan(dice, sent)
+    moments = nows(dice, sent)
+    table = jobs.sender(**keys_of(sent.session), at=sent.ats, now=moments, texts=sent.texts,
+                        seed=sent.seed, plan=sent.plan)
+    return sent, moments, table
+
+
+def bad_plan(senders):
+    """The line of the least sender whose plan is bad, or None."""
+    least = opener.first_bad_plan(senders)
+    return None if least is None else f"krbrelay: bad input: sender {least}: plan"
+
+
+def emissions(senders):
+    return sum(len(it.frames()) if it.plan is None else len(it.plan) for it in senders)
+
+
+def seal_job(dice):
+    """A job for `seal`, its lines, and how many frames it emits."""
+    sent, _, table = lane(dice, 8)
+    fault = bad_plan([sent])
+    lines = [fault] if fault else opener.seal_lines(sent)
+    return jobs.job([table]), lines, emissions([sent])
+
+
+def relay_job(dice):
+    """A job for `relay`, its lines, and how many frames it emits."""
+    lanes = [lane(dice, 4) for _ in range(dice.choice([1, 1, 2, 2, 3, 8]))]
+    senders = [sent for sent, _, _ in lanes]
+    fault = bad_plan(senders)
+    pairs = [(sent, moments) for sent, moments, _ in lanes]
+    lines = [fault] if fault else opener.relay_lines(pairs)
+    tables = [table for _, _, table in lanes]
+    return jobs.job(tables, dice.choice([1, 2, 64])), lines, emissions(senders)
