@@ -60,11 +60,13 @@ fn moments(alloc: Global) -> Result<Vec<Moment>, AllocError> {
     Ok(moments)
 }
 
+/// A sender of texts of one letter each, the next one in each text.
 fn sending(alloc: Global, host: u8, size: Size) -> Result<Sending<Aes256Sealer>, AllocError> {
     let session = session(alloc, host)?;
     let mut texts = Vec::with_capacity(alloc, size.texts)?;
-    for _ in 0..size.texts {
-        texts.push(vec![in alloc; 0x61u8; size.bytes]?)?;
+    for place in 0..size.texts {
+        let letter = b'a' + (place % 26) as u8;
+        texts.push(vec![in alloc; letter; size.bytes]?)?;
     }
     Ok(Sending {
         sealer: Aes256Sealer::new(&mut [host; 32], session),

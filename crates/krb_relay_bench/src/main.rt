@@ -3,16 +3,17 @@
 //! `krb_relay_bench ROUNDS SENDERS TEXTS BYTES CAPACITY` relays TEXTS texts of BYTES bytes from
 //! each of SENDERS senders (KRB-PRIV under encryption type 18) by `Stepped` and by `relay`, in
 //! turn, and prints how many messages a second each relays, the best of that many rounds, and what
-//! part of the stepped relay's time `relay` takes. `krb_relay_bench soak N` relays N jobs of two
-//! senders with five texts of 64 bytes each by `relay`, and prints how many a second. With no
-//! argument it does nothing.
+//! part of the stepped relay's time `relay` takes. `krb_relay_bench soak N` relays one job of two
+//! senders with five texts of 64 bytes each by `relay` and then N more like it, and prints how many
+//! a second, and of how many the log isn't that of the first. It ends with 1 where a relay didn't
+//! end well or a log differs. With no argument it does nothing.
 #![tactic(auto)]
 
 mod lanes;
 mod relays;
 
 use lanes::Size;
-use relays::{run_stepped, run_threads};
+use relays::{is_same, run_stepped, run_threads};
 use std::alloc::Global;
 use std::process::ExitCode;
 use std::sync::Wait;
@@ -45,11 +46,11 @@ fn best_of(
     };
     for _ in 0..rounds {
         let (stepped, well) = run_stepped(rt, size)?;
-        let (threads, fine) = run_threads(rt, size)?;
+        let (threads, log) = run_threads(rt, size)?;
         best = Best {
             stepped: best.stepped.min(stepped),
             threads: best.threads.min(threads),
-            whole: best.whole && well && fine,
+            whole: best.whole && well && log.is_some(),
         };
     }
     Ok(best)
@@ -76,7 +77,7 @@ fn compare(
     Ok(best.whole)
 }
 
-/// Relays so many small jobs.
+/// Relays a small job and then so many more like it, and compares each log with the first.
 fn soak(
     rt: &(impl Threads + Wait + Sync + Clock + Print + Alloc<A = Global>),
     jobs: u32,
@@ -87,15 +88,21 @@ fn soak(
         bytes: 64,
         capacity: 2,
     };
+    let (_, Some(first)) = run_threads(rt, size)? else {
+        println!(rt; "the first job wasn't relayed")?;
+        return Ok(false);
+    };
     let start = Instant::now(rt)?;
-    let mut whole = true;
+    let mut different = 0u32;
     for _ in 0..jobs {
-        let (_, well) = run_threads(rt, size)?;
-        whole = whole && well;
+        let (_, log) = run_threads(rt, size)?;
+        if !log.is_some_and(|log| is_same(&log, &first)) {
+            different = different.saturating_add(1);
+        }
     }
     let speed = rate(u128::from(jobs), start.elapsed(rt)?.as_micros());
-    println!(rt; "{jobs} jobs, {speed} a second")?;
-    Ok(whole)
+    println!(rt; "{jobs} jobs, {speed} a second, {different} other logs")?;
+    Ok(different == 0)
 }
 
 fn exit_code(whole: bool) -> ExitCode {

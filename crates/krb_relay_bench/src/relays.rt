@@ -1,4 +1,4 @@
-//! One relay of each kind, with its time.
+//! One relay of each kind, with its time, and whether two logs are the same.
 
 ghost use Rattle.std.specs.Prelude.{◌≡◌, ◌<◌, ◌≤◌, All, IsTrue, length};
 ghost use Rattle.krb_base.specs.Limits.{lane_limit};
@@ -6,8 +6,8 @@ ghost use Rattle.krb_peers.specs.Sending.{source_of, IsSender};
 
 use crate::lanes::{Lanes, Size, are_senders, have_moments, lanes_of};
 use krb_core::Stepped;
-use krb_peers::{Log, Status};
-use krb_relay::{NoGate, relay};
+use krb_peers::{Entry, Event, Log, Status};
+use krb_relay::{NoGate, Report, relay};
 use std::alloc::Global;
 use std::io;
 use std::sync::Wait;
@@ -58,14 +58,14 @@ pub(crate) fn run_stepped(
     Ok((micros, finished && all_closed(stepped.log())))
 }
 
-/// Relays in threads: the microseconds that it takes, and whether all was relayed.
+/// Relays in threads: the microseconds that it takes, and the log where all was relayed.
 pub(crate) fn run_threads<R: Threads + Wait + Sync + Clock + Alloc<A = Global>>(
     rt: &R,
     size: Size,
-) -> io::Result<(u128, bool)> {
+) -> io::Result<(u128, Option<Log>)> {
     let lanes = lanes_of(rt.alloc(), size)?;
     if !is_ready(&lanes, size.capacity) {
-        return Ok((0, false));
+        return Ok((0, None));
     }
     let start = Instant::now(rt)?;
     let Lanes {
@@ -74,5 +74,31 @@ pub(crate) fn run_threads<R: Threads + Wait + Sync + Clock + Alloc<A = Global>>(
     } = lanes;
     let relayed = relay(rt, rt.alloc(), sendings, receivings, size.capacity, &NoGate);
     let micros = start.elapsed(rt)?.as_micros();
-    Ok((micros, relayed.is_ok_and(|report| all_closed(&report.log))))
+    let log = match relayed {
+        Ok(Report { log, sent: _ }) => log,
+        Err(_) => return Ok((micros, None)),
+    };
+    let whole = all_closed(&log);
+    Ok((micros, if whole { Some(log) } else { None }))
+}
+
+/// Whether two logs have as many lanes and the same entries.
+pub(crate) fn is_same(one: &Log, other: &Log) -> bool {
+    let (first, second) = (one.entries(), other.entries());
+    one.lanes() == other.lanes()
+        && first.len() == second.len()
+        && first
+            .iter()
+            .zip(second)
+            .all(|(entry, like)| is_same_entry(entry, like))
+}
+
+fn is_same_entry(one: &Entry, other: &Entry) -> bool {
+    one.lane == other.lane
+        && match (&one.event, &other.event) {
+            (Event::Text(text), Event::Text(like)) => text.as_slice() == like.as_slice(),
+            (Event::Closed, Event::Closed) => true,
+            (Event::Refused(refusal), Event::Refused(like)) => refusal == like,
+            _ => false,
+        }
 }

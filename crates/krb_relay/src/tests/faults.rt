@@ -4,7 +4,7 @@ use super::log_lines::is_log;
 use super::senders::{Lanes, Odd, PLAIN, run};
 use crate::{Cause, NoGate};
 use krb_peers::Emit;
-use std::alloc::Global;
+use std::alloc::{AllocError, Global};
 use std::process::Abort;
 use std::sync::atomic::{AtomicU64, Ordering};
 use std::sync::{Arc, Wait};
@@ -109,5 +109,58 @@ fn a_worker_that_stops_is_drained(rt: HostRuntime) -> Result<(), Fail> {
     assert_eq!(rt; (fault.cause, fault.lane), (Cause::Memory, 0));
     assert!(rt; is_log(&fault.log, &[(0, "x"), (1, "closed"), (0, "x")]));
     assert_eq!(rt; drops.load(Ordering::SeqCst), 2);
+    Ok(())
+}
+
+/// Each sealer is dropped once also where all is relayed.
+#[test]
+fn sealers_of_a_whole_relay_are_dropped(rt: HostRuntime) -> Result<(), Fail> {
+    let expected = [(0, "a"), (1, "closed"), (0, "b"), (0, "closed")];
+    for capacity in [1, 64] {
+        let drops = Arc::new(rt.alloc(), AtomicU64::new(0))?;
+        let mut lanes = Lanes::new(rt.alloc());
+        lanes.add_odd(rt.alloc(), PLAIN, &drops, &[b"a", b"b"])?;
+        lanes.add_odd(rt.alloc(), PLAIN, &drops, &[])?;
+        let Ok(report) = run(&rt, rt.alloc(), lanes, capacity, &NoGate) else {
+            return Err(Fail::from("a fault"));
+        };
+        assert!(rt; is_log(&report.log, &expected));
+        assert_eq!(rt; drops.load(Ordering::SeqCst), 2);
+    }
+    Ok(())
+}
+
+/// Adds an entry of this word for each of the first seven lanes.
+fn push_round(
+    entries: &mut Vec<(u32, &'static str)>,
+    word: &'static str,
+) -> Result<(), AllocError> {
+    for lane in 0..7 {
+        entries.push((lane, word))?;
+    }
+    Ok(())
+}
+
+/// No want of memory is told where there is memory, and the lanes below are served whole.
+#[test]
+fn wiped_sealer_of_the_last_lane_is_named(rt: HostRuntime) -> Result<(), Fail> {
+    let drops = Arc::new(rt.alloc(), AtomicU64::new(0))?;
+    let mut lanes = Lanes::new(rt.alloc());
+    for lane in 0..8 {
+        let sealer = Odd {
+            fails_at: 0,
+            wiped: lane == 7,
+        };
+        lanes.add_odd(rt.alloc(), sealer, &drops, &[b"a"])?;
+    }
+    let Err(fault) = run(&rt, rt.alloc(), lanes, 64, &NoGate) else {
+        return Err(Fail::from("no fault"));
+    };
+    assert_eq!(rt; (fault.cause, fault.lane), (Cause::Wiped, 7));
+    let mut expected = Vec::new(rt.alloc());
+    push_round(&mut expected, "a")?;
+    push_round(&mut expected, "closed")?;
+    assert!(rt; is_log(&fault.log, expected.as_slice()));
+    assert_eq!(rt; drops.load(Ordering::SeqCst), 8);
     Ok(())
 }

@@ -72,7 +72,12 @@ fn plans_of_both_types_and_modes(rt: HostRuntime) -> Result<(), Fail> {
 
 #[test]
 fn last_number_is_kept_for_the_close(rt: HostRuntime) -> Result<(), Fail> {
-    for (long, mode) in [(false, Mode::Safe), (true, Mode::Priv)] {
+    for (long, mode) in [
+        (false, Mode::Safe),
+        (true, Mode::Safe),
+        (false, Mode::Priv),
+        (true, Mode::Priv),
+    ] {
         for (first, k, expected) in [
             (4_294_967_294, 1, [(0, "a"), (0, "closed")].as_slice()),
             (4_294_967_295, 0, &[(0, "closed")]),
