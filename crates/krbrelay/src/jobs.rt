@@ -72,10 +72,14 @@ fn seal_sender<W: Write>(alloc: Global, sender: SenderJob, writer: &mut W) -> Re
     let session = session_of(alloc, &sender)?;
     match key_of(&sender) {
         SessionKey::Aes128(mut key) => {
-            seal_with(alloc, sender, Aes128Sealer::new(&mut key, session), writer)
+            let sealer: Box<dyn Sealer + Send> =
+                Box::new(alloc, Aes128Sealer::new(&mut key, session))?;
+            seal_with(alloc, sender, sealer, writer)
         }
         SessionKey::Aes256(mut key) => {
-            seal_with(alloc, sender, Aes256Sealer::new(&mut key, session), writer)
+            let sealer: Box<dyn Sealer + Send> =
+                Box::new(alloc, Aes256Sealer::new(&mut key, session))?;
+            seal_with(alloc, sender, sealer, writer)
         }
     }
 }
