@@ -10,4 +10,5 @@ mod opens;
 mod relays;
 mod seals;
 mod shows;
+mod sweep;
 mod vectors;

@@ -3,7 +3,7 @@
 use crate::fault::Fault;
 use crate::published::vectors;
 
-const PUBLISHED: &str = "aes128 69c4e0d86a7b0430d8cdb78070b4c55a
+pub const PUBLISHED: &str = "aes128 69c4e0d86a7b0430d8cdb78070b4c55a
 aes256 8ea2b7ca516745bfeafc49904b496089
 cts17 c6353568f2bf8cb4d8a580362da7ff7f97
 cts32 39312523a78662d5be7fcbcc98ebf5a897687268d6ecccc0c07b25e25ecfe584
