@@ -1,4 +1,4 @@
-//! A sealer that refuses one of its calls, and counts its drops.
+//! A sealer that refuses one of its calls, and counts its drops behind a wipe.
 
 ghost use Rattle.std.specs.Prelude.{◌≡◌};
 
@@ -10,7 +10,8 @@ use std::alloc::{AllocError, Global};
 use std::sync::Arc;
 use std::sync::atomic::{AtomicU64, Ordering};
 
-/// A sealer of type 17 that answers `Memory` at one of its calls, and counts its drops.
+/// A sealer of type 17 that answers `Memory` at one of its calls, and counts its drop where it was
+/// wiped before.
 pub(super) struct OddSealer {
     inner: Aes128Sealer,
     wiped: bool,
@@ -43,12 +44,12 @@ impl Drop for OddSealer {
     fn drop(self) {
         let OddSealer {
             inner: _,
-            wiped: _,
+            wiped,
             calls: _,
             fails_at: _,
             drops,
         } = self;
-        drops.fetch_add(1, Ordering::SeqCst);
+        drops.fetch_add(u64::from(wiped), Ordering::SeqCst);
     }
 }
 
