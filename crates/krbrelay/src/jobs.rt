@@ -72,13 +72,17 @@ fn seal_sender<W: Write>(alloc: Global, sender: SenderJob, writer: &mut W) -> Re
     let session = session_of(alloc, &sender)?;
     match key_of(&sender) {
         SessionKey::Aes128(mut key) => {
-            let sealer: Box<dyn Sealer + Send> =
-                Box::new(alloc, Aes128Sealer::new(&mut key, session))?;
+            let sealer: Box<dyn Sealer + Send> = Box::new(
+                alloc,
+                Aes128Sealer::new(&mut key, session),
+            )?;
             seal_with(alloc, sender, sealer, writer)
         }
         SessionKey::Aes256(mut key) => {
-            let sealer: Box<dyn Sealer + Send> =
-                Box::new(alloc, Aes256Sealer::new(&mut key, session))?;
+            let sealer: Box<dyn Sealer + Send> = Box::new(
+                alloc,
+                Aes256Sealer::new(&mut key, session),
+            )?;
             seal_with(alloc, sender, sealer, writer)
         }
     }
