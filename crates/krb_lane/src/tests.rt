@@ -6,8 +6,11 @@ mod sweep;
 use crate::{Item, LaneError, LaneRx, Lost, lane, meet};
 use krb_base::Bytes;
 use passing::pass_on;
+use std::alloc::Global;
+use std::process::Abort;
 use std::sync::Wait;
 use std::test::Fail;
+use std::thread::Threads;
 
 // Whether the next item is this frame.
 fn next_is(rt: &impl Wait, rx: &mut LaneRx, index: u64, byte: u8) -> bool
@@ -114,10 +117,13 @@ fn what_is_queued_was_sent_and_not_got(rt: HostRuntime) -> Result<(), Fail> {
 }
 
 /// Passes 10,000 frames, frame i with i as its bytes.
-fn pass_ten_thousand(rt: &HostRuntime, capacity: usize) -> Result<(), Fail>
+fn pass_ten_thousand<R: Abort + Threads + Wait + Sync>(
+    rt: &R,
+    alloc: Global,
+    capacity: usize,
+) -> Result<(), Fail>
     requires { (0 < capacity) × (capacity ≤ 64) }
 {
-    let alloc = rt.alloc();
     let mut frames = Vec::new(alloc);
     for i in 0..10_000u64 {
         frames.push(Bytes::new(i.to_be_bytes().to_vec(alloc)?))?;
@@ -139,9 +145,9 @@ fn pass_ten_thousand(rt: &HostRuntime, capacity: usize) -> Result<(), Fail>
 // In the first lane each frame makes room; in the others room is given back by four and by 32.
 #[test]
 fn ten_thousand_frames_pass_between_two_threads(rt: HostRuntime) -> Result<(), Fail> {
-    pass_ten_thousand(&rt, 1)?;
-    pass_ten_thousand(&rt, 9)?;
-    pass_ten_thousand(&rt, 64)
+    pass_ten_thousand(&rt, rt.alloc(), 1)?;
+    pass_ten_thousand(&rt, rt.alloc(), 9)?;
+    pass_ten_thousand(&rt, rt.alloc(), 64)
 }
 
 #[test]
