@@ -2,12 +2,15 @@
 ghost use Rattle.std.specs.Prelude.{Some};
 
 use crate::fault::Fault;
+use crate::input::read_all;
 use crate::messages::show;
+use crate::published::vectors;
 use crate::tests::frames::{SAFE_CLOSE, SAFE_TEXT as SAFE_FRAME};
 use crate::tests::jobs::{run, sender};
 use crate::tests::opens::receiver;
 use crate::tests::relays::{SILENT, TWO_LANES, two_senders};
 use crate::tests::shows::{SAFE_LINE, SAFE_TEXT};
+use crate::tests::vectors::PUBLISHED;
 use krb_job::Command;
 use std::alloc::Global;
 use std::io;
@@ -202,4 +205,63 @@ fn each_write_of_relay_fails_in_turn(rt: HostRuntime) -> Result<(), Fail> {
     // lines of 15, 14, 15, 14, 31 and 31 bytes, two a call
     assert_write_faults(&rt, Command::Relay, job.as_str(), 63, TWO_LANES);
     Ok(())
+}
+
+/// What `read_all` answers where the reader fails at this call.
+fn read_with_fault(rt: &HostRuntime, fails_at: usize) -> Result<Vec<u8>, Fault> {
+    let mut reader = FaultyReader {
+        rest: SAFE_LINE.as_bytes(),
+        calls: 0,
+        fails_at,
+    };
+    read_all(rt.alloc(), &mut reader)
+}
+
+#[test]
+fn each_read_of_an_input_fails_in_turn(rt: HostRuntime) -> Result<(), Fail> {
+    for call in 1..59 {
+        assert_eq!(rt;
+            read_with_fault(&rt, call).err(),
+            Some(Fault::Read),
+            "call {call}"
+        );
+    }
+    let input = read_with_fault(&rt, 59)?;
+    assert_eq!(rt; input.as_slice(), SAFE_LINE.as_bytes());
+    Ok(())
+}
+
+/// What `vectors` answers and writes where the writer fails.
+fn vectors_with_fault(
+    rt: &HostRuntime,
+    fails_at: usize,
+    failure: Failure,
+) -> (Result<u8, Fault>, Vec<u8>) {
+    let mut writer = FaultyWriter {
+        taken: Vec::new(rt.alloc()),
+        calls: 0,
+        fails_at,
+        failure,
+    };
+    let result = vectors(rt.alloc(), &mut writer);
+    (result, writer.taken)
+}
+
+#[test]
+fn each_write_of_vectors_fails_in_turn(rt: HostRuntime) {
+    for failure in [Failure::Error, Failure::Nothing] {
+        // 376 bytes, two a call
+        for call in 1..189 {
+            let (result, output) = vectors_with_fault(&rt, call, failure);
+            assert_eq!(rt; result, Err(Fault::Write), "call {call}");
+            assert_eq!(rt; output.len(), 2 * (call - 1));
+            assert!(rt;
+                PUBLISHED.as_bytes().starts_with(output.as_slice()),
+                "call {call}"
+            );
+        }
+        let (result, output) = vectors_with_fault(&rt, 189, failure);
+        assert_eq!(rt; result, Ok(0));
+        assert_eq!(rt; output.as_slice(), PUBLISHED.as_bytes());
+    }
 }
