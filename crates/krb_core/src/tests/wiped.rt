@@ -10,7 +10,8 @@ fn wiped_receiver_takes_nothing(rt: HostRuntime) -> Result<(), Fail> {
         let frames = sealed(&rt, rt.alloc(), &mut sending).map_err(|_| "not sealed")?;
         let mut receiver = receiver(rt.alloc(), mode, 7)?;
         receiver.wipe();
-        let taken = receiver.take(rt.alloc(), frames[0].as_slice(), moment(MICROS)?);
+        let frame = frames.first().ok_or("no frame")?;
+        let taken = receiver.take(rt.alloc(), frame.as_slice(), moment(MICROS)?);
         assert_eq!(rt; taken.err(), Some(Refusal::AfterClose));
         assert!(rt; receiver.closed());
         assert_eq!(rt; receiver.expected(), 7);
