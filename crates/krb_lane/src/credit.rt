@@ -10,7 +10,8 @@ use std::sync::Wait;
 /// The least capacity whose room is given back in parts. In a smaller lane each frame makes room.
 const LEAST: usize = 8;
 
-/// How many parts may be given back and not yet used: those of a whole lane, and one.
+/// Room for the parts that are given back and not yet used: never more than the two of a whole lane,
+/// so giving one back never waits.
 const PARTS: usize = 4;
 
 /// How many frames a sender may send before it waits for a part.
