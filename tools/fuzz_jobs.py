@@ -36,7 +36,7 @@ def sender(dice, most):
     """A sender of at most so many texts."""
     texts = [dice.randbytes(dice.choice(SIZES)) for _ in range(dice.randrange(most + 1))]
     if dice.random() < 0.01:
-        texts.append(dice.randbytes(dice.choice([59_999, 60_000])))
+        texts.append(dice.randbytes(dice.choice([59_999, 65_535, 999_999, 1_000_000])))
     middle = dice.choice(MOMENTS)
     ats = [near(middle, dice, 5_000_000) for _ in range(dice.randrange(1, 4))]
     return opener.Sender(session(dice), texts, ats, dice.randbytes(32))
@@ -93,13 +93,13 @@ def changed(dice, frame):
     """A frame with an element or some bytes changed; sometimes it has too many."""
     how = dice.random()
     if how < 0.01:
-        return bytes(dice.choice([65_000, 65_001, 70_000]))
+        return bytes(dice.choice([1_005_000, 1_005_001, 1_010_000]))
     if how < 0.5:
         root = fuzz_messages.tree(frame)[0]
         change = dice.choice([fuzz_messages.change_node, fuzz_messages.change_content])
         change(dice, root, [fuzz_messages.tree(frame)[0]])
-        return fuzz_messages.spelling(root)[:70_000]
-    return fuzz_messages.change_bytes(dice, frame, [fuzz_messages.tree(frame)[0]])[:70_000]
+        return fuzz_messages.spelling(root)[:1_010_000]
+    return fuzz_messages.change_bytes(dice, frame, [fuzz_messages.tree(frame)[0]])[:1_010_000]
 
 
 def disturbed(dice, items):

@@ -6,7 +6,7 @@ fields of a SEQUENCE, with None for an absent one."""
 
 import datetime
 
-LIMIT = 65_000
+LIMIT = 1_005_000
 
 
 class Malformed(Exception):

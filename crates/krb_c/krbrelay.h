@@ -31,8 +31,8 @@ extern "C" {
 #endif
 
 /* The most bytes of user data that are sealed, and of a message that is opened. */
-#define KRB_USER_DATA_LIMIT 60001
-#define KRB_FRAME_LIMIT 65000
+#define KRB_USER_DATA_LIMIT 1000001
+#define KRB_FRAME_LIMIT 1005000
 
 /* The room for the message of len bytes of user data, for arrays: krb_frame_size(len) where len is
  * at most KRB_USER_DATA_LIMIT. */

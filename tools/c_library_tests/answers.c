@@ -83,13 +83,14 @@ static void frames_of_another_sealer(void)
 static void round_trips(void)
 {
     static uint8_t data[KRB_USER_DATA_LIMIT];
-    static const size_t sizes[] = { 0, 1, 15, 16, 17, 100, 255, 256, 1024, 60000, 60001 };
+    static const size_t sizes[] = { 0, 1, 15, 16, 17, 100, 255, 256, 1024, 60000, 65535, 65536,
+                                    1000000, 1000001 };
     for (size_t i = 0; i < sizeof data; i++)
         data[i] = (uint8_t)(i * 7);
     for (int etype = 17; etype <= 18; etype++)
         for (uint32_t mode = KRB_SAFE; mode <= KRB_PRIV; mode++)
             for (uint32_t told = 0; told < 2; told++) {
-                struct krb_session session = session_of(mode, UINT32_MAX - 11);
+                struct krb_session session = session_of(mode, UINT32_MAX - 14);
                 struct krb_expect expect = expect_of(mode);
                 struct krb_sealer s = { 0 };
                 struct krb_opener o = { 0 };
@@ -102,7 +103,7 @@ static void round_trips(void)
                     size_t n = sizes[i], size = 0, back = 0;
                     uint64_t number = 0;
                     CHECK(krb_sealer_next(&s, &number) == KRB_OK);
-                    CHECK(number == UINT32_MAX - 11 + i);
+                    CHECK(number == UINT32_MAX - 14 + i);
                     CHECK(seal(&s, data, n, krb_frame_size(n), &size) == KRB_OK);
                     CHECK(size <= krb_frame_size(n));
                     CHECK(krb_opener_unseal(&o, frame, size, number, SECS + 1, USEC, text, n,
@@ -135,7 +136,7 @@ static void answers_of_a_sealer(void)
     CHECK(new_sealer(&s, 17, KRB_PRIV, UINT32_MAX) == KRB_OK);
     memset(frame, 0xee, sizeof frame);
     CHECK(seal(&s, "hi", 2, krb_frame_size(2) - 1, &size) == KRB_ROOM);
-    CHECK(seal(&s, text, 60002, krb_frame_size(60002), &size) == KRB_SEAL_TOO_LONG);
+    CHECK(seal(&s, text, 1000002, krb_frame_size(1000002), &size) == KRB_SEAL_TOO_LONG);
     CHECK(krb_sealer_seal(&s, text, 2, SECS, 1000000, zeros, frame, 1000, &size) == KRB_ARGUMENT);
     CHECK(krb_sealer_seal(&s, text, 2, 253402300800, 0, zeros, frame, 1000, &size)
           == KRB_ARGUMENT);

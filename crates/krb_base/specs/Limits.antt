@@ -3,7 +3,7 @@ use Rattle.std.specs.Prelude.{ℕ, ◌+◌}
 
 -- a text
 abbrev pub text_limit : ℕ
-text_limit = 60000
+text_limit = 1000000
 
 -- the user data of a message: a text and the byte before it
 abbrev pub user_data_limit : ℕ
@@ -11,11 +11,11 @@ user_data_limit = text_limit + 1
 
 -- a message on the wire, and the encrypted part of one
 abbrev pub frame_limit : ℕ
-frame_limit = 65000
+frame_limit = 1005000
 
 -- a raw emission of a plan
 abbrev pub raw_limit : ℕ
-raw_limit = 70000
+raw_limit = 1010000
 
 -- an address of a session
 abbrev pub address_limit : ℕ

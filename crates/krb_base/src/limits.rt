@@ -3,16 +3,16 @@ ghost use Rattle.krb_base.specs.Limits.{text_limit, user_data_limit, frame_limit
 ghost use Rattle.krb_base.specs.Limits.{lane_limit, capacity_limit, skew_limit, texts_limit, entries_limit};
 
 /// The most bytes of a text.
-pub const TEXT_LIMIT: usize = 60_000;
+pub const TEXT_LIMIT: usize = 1_000_000;
 
 /// The most bytes of the user data of a message: a text and the byte before it.
 pub const USER_DATA_LIMIT: usize = TEXT_LIMIT + 1;
 
 /// The most bytes of a message on the wire, and of the encrypted part of one.
-pub const FRAME_LIMIT: usize = 65_000;
+pub const FRAME_LIMIT: usize = 1_005_000;
 
 /// The most bytes of a raw emission of a plan.
-pub const RAW_LIMIT: usize = 70_000;
+pub const RAW_LIMIT: usize = 1_010_000;
 
 /// The most bytes of an address of a session.
 pub const ADDRESS_LIMIT: usize = 32;

@@ -23,8 +23,8 @@ fn clone_outlives_its_bytes(rt: HostRuntime) -> Result<(), Fail> {
 
 #[test]
 fn limits_are_those_that_users_are_told(rt: HostRuntime) {
-    assert_eq!(rt; (TEXT_LIMIT, USER_DATA_LIMIT), (60_000, 60_001));
-    assert_eq!(rt; (FRAME_LIMIT, RAW_LIMIT), (65_000, 70_000));
+    assert_eq!(rt; (TEXT_LIMIT, USER_DATA_LIMIT), (1_000_000, 1_000_001));
+    assert_eq!(rt; (FRAME_LIMIT, RAW_LIMIT), (1_005_000, 1_010_000));
     assert_eq!(rt; (ADDRESS_LIMIT, SKEW_LIMIT), (32, 86_400));
     assert_eq!(rt; (LANE_LIMIT, CAPACITY_LIMIT), (8, 64));
     assert_eq!(rt; (TEXTS_LIMIT, ENTRIES_LIMIT), (1_000, 2_000));

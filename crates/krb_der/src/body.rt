@@ -324,7 +324,7 @@ impl Body {
 
 /// The spelling of the body as the encrypted part of KRB-PRIV (RFC 4120 section 5.7.1).
 ///
-/// [`DerError::TooLong`] is answered exactly where it has over 65,000 bytes, before any memory is
+/// [`DerError::TooLong`] is answered exactly where it has over 1,005,000 bytes, before any memory is
 /// taken.
 pub fn encode_part(alloc: Global, b: &Body) -> Result<Vec<u8>, DerError>
     requires { InRange b.now }
@@ -338,7 +338,7 @@ pub fn encode_part(alloc: Global, b: &Body) -> Result<Vec<u8>, DerError>
 /// `Vec` that has room for `behind` bytes more: so what an encryption puts before and behind the
 /// part needs no copy of it (RFC 3961 section 5.3).
 ///
-/// [`DerError::TooLong`] is answered exactly where the part has over 65,000 bytes, before any
+/// [`DerError::TooLong`] is answered exactly where the part has over 1,005,000 bytes, before any
 /// memory is taken.
 pub fn encode_part_behind(
     alloc: Global,
@@ -363,7 +363,7 @@ fn read_part(alloc: Global, bytes: &[u8]) -> Result<Body, DerError>
 
 /// The body that the bytes spell as the encrypted part of KRB-PRIV.
 ///
-/// [`DerError::TooLong`] is answered exactly where there are over 65,000 bytes, and
+/// [`DerError::TooLong`] is answered exactly where there are over 1,005,000 bytes, and
 /// [`DerError::Malformed`] exactly where there are no more and they spell nothing. A body that is
 /// read is in range.
 pub fn decode_part(alloc: Global, bytes: &[u8]) -> Result<Body, DerError>

@@ -153,7 +153,7 @@ impl PrivMsg {
 
 /// The spelling of the message.
 ///
-/// [`DerError::TooLong`] is answered exactly where it has over 65,000 bytes, before any memory is
+/// [`DerError::TooLong`] is answered exactly where it has over 1,005,000 bytes, before any memory is
 /// taken.
 pub fn encode_priv(alloc: Global, m: &PrivMsg) -> Result<Vec<u8>, DerError>
     ensures { Encodes Spells message (Priv m.now) result }

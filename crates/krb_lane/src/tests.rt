@@ -80,8 +80,8 @@ fn longest_raw_frame_comes_back_whole(rt: HostRuntime) -> Result<(), Fail> {
     let alloc = rt.alloc();
     let (mut tx, rx) = lane(&rt, alloc, 64)?;
     drop(rx);
-    let expected = vec![in alloc; 0x61; 70_000]?;
-    match tx.send(&rt, vec![in alloc; 0x61; 70_000]?) {
+    let expected = vec![in alloc; 0x61; 1_010_000]?;
+    match tx.send(&rt, vec![in alloc; 0x61; 1_010_000]?) {
         Ok(()) => Err(Fail::from("sent")),
         Err(back) => {
             assert!(rt; back.as_slice() == expected.as_slice());

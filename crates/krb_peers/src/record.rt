@@ -175,7 +175,7 @@ mod tests {
 
     #[test]
     fn longest_text(rt: HostRuntime) -> Result<(), Fail> {
-        let mut bytes = vec![in rt.alloc(); 0x61; 60_001]?;
+        let mut bytes = vec![in rt.alloc(); 0x61; 1_000_001]?;
         assert_eq!(rt; bytes.len(), USER_DATA_LIMIT);
         bytes[0] = 0x44;
         let record = read_record(rt.alloc(), bytes.as_slice())?;

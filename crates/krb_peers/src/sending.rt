@@ -23,7 +23,7 @@ use std::alloc::{AllocError, Global};
 
 /// A sealer and what it is to seal.
 ///
-/// Its limits: a text has at most 60,000 bytes, there is at least one moment, and the sealer's next
+/// Its limits: a text has at most 1,000,000 bytes, there is at least one moment, and the sealer's next
 /// number is at most [`LAST_NUMBER`]. With fewer moments than records, the last one serves the
 /// others. Its drop wipes the sealer where it lies, a boxed one in its box.
 pub struct Sending<S: Sealer = Box<dyn Sealer + Send>> {

@@ -137,7 +137,7 @@ fn thousand_sealed_texts_come_back(rt: HostRuntime) -> Result<(), Fail> {
 
 #[test]
 fn longest_text_comes_back(rt: HostRuntime) -> Result<(), Fail> {
-    let digits = vec![in rt.alloc(); b'7'; 120_000]?;
+    let digits = vec![in rt.alloc(); b'7'; 2_000_000]?;
     let text = str::from_utf8(digits.as_slice()).ok().ok_or("no text")?;
     for mode in ["'safe'", "'priv'"] {
         assert!(rt; come_back(&rt, &[("mode", mode)], &[text])?, "{mode}");

@@ -239,11 +239,11 @@ fn bytes_that_are_no_message_or_no_record_are_refused(rt: HostRuntime) -> Result
 }
 
 #[test]
-fn frame_of_more_than_65_000_bytes_is_too_long(rt: HostRuntime) -> Result<(), Fail> {
+fn frame_of_more_than_1_005_000_bytes_is_too_long(rt: HostRuntime) -> Result<(), Fail> {
     for (length, refusal) in [
-        (130_000, "901 MALFORMED"),
-        (130_002, "61 FIELD_TOOLONG"),
-        (140_000, "61 FIELD_TOOLONG"),
+        (2_010_000, "901 MALFORMED"),
+        (2_010_002, "61 FIELD_TOOLONG"),
+        (2_020_000, "61 FIELD_TOOLONG"),
     ] {
         let digits = vec![in rt.alloc(); b'0'; length]?;
         let text = str::from_utf8(digits.as_slice()).ok().ok_or("no text")?;
@@ -305,8 +305,8 @@ pub fn two_senders_of_one_key_are_bad_input(rt: HostRuntime) -> Result<(), Fail>
 }
 
 #[test]
-fn text_may_have_60_000_bytes(rt: HostRuntime) -> Result<(), Fail> {
-    let digits = vec![in rt.alloc(); b'6'; 120_000]?;
+fn text_may_have_1_000_000_bytes(rt: HostRuntime) -> Result<(), Fail> {
+    let digits = vec![in rt.alloc(); b'6'; 2_000_000]?;
     let text = str::from_utf8(digits.as_slice()).ok().ok_or("no text")?;
     let texts = format!(in rt.alloc(); "['{text}']")?;
     let printed = format!(in rt.alloc();
@@ -317,8 +317,8 @@ fn text_may_have_60_000_bytes(rt: HostRuntime) -> Result<(), Fail> {
 }
 
 #[test]
-fn text_of_60_001_bytes_is_bad_input(rt: HostRuntime) -> Result<(), Fail> {
-    let digits = vec![in rt.alloc(); b'6'; 120_002]?;
+fn text_of_1_000_001_bytes_is_bad_input(rt: HostRuntime) -> Result<(), Fail> {
+    let digits = vec![in rt.alloc(); b'6'; 2_000_002]?;
     let text = str::from_utf8(digits.as_slice()).ok().ok_or("no text")?;
     let texts = format!(in rt.alloc(); "['{text}']")?;
     let job = sender(rt.alloc(), &[("texts", texts.as_str())])?;

@@ -147,15 +147,15 @@ fn zeros(rt: &HostRuntime, digits: usize) -> Result<Vec<u8>, AllocError> {
 }
 
 #[test]
-fn bytes_up_to_65_000_are_decoded(rt: HostRuntime) -> Result<(), Fail> {
-    let input = zeros(&rt, 130_000)?;
+fn bytes_up_to_1_005_000_are_decoded(rt: HostRuntime) -> Result<(), Fail> {
+    let input = zeros(&rt, 2_010_000)?;
     assert!(rt; shows(&rt, input.as_slice(), 2, "refused 901 MALFORMED\n"));
     Ok(())
 }
 
 #[test]
-fn more_than_65_000_bytes_are_too_long(rt: HostRuntime) -> Result<(), Fail> {
-    let input = zeros(&rt, 130_002)?;
+fn more_than_1_005_000_bytes_are_too_long(rt: HostRuntime) -> Result<(), Fail> {
+    let input = zeros(&rt, 2_010_002)?;
     assert!(rt; shows(&rt, input.as_slice(), 2, "refused 61 FIELD_TOOLONG\n"));
     Ok(())
 }

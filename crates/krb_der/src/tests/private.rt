@@ -89,8 +89,8 @@ fn size_of_part_with_text(alloc: Global, count: usize) -> Result<usize, DerError
 
 #[test]
 fn what_is_over_the_limit_is_not_written(rt: HostRuntime) {
-    assert!(rt; size_with_cipher(rt.alloc(), 65_000 - 39) == Ok(65_000));
-    assert!(rt; size_with_cipher(rt.alloc(), 65_000 - 38) == Err(DerError::TooLong));
-    assert!(rt; size_of_part_with_text(rt.alloc(), 65_000 - 62) == Ok(65_000));
-    assert!(rt; size_of_part_with_text(rt.alloc(), 65_000 - 61) == Err(DerError::TooLong));
+    assert!(rt; size_with_cipher(rt.alloc(), 1_005_000 - 45) == Ok(1_005_000));
+    assert!(rt; size_with_cipher(rt.alloc(), 1_005_000 - 44) == Err(DerError::TooLong));
+    assert!(rt; size_of_part_with_text(rt.alloc(), 1_005_000 - 66) == Ok(1_005_000));
+    assert!(rt; size_of_part_with_text(rt.alloc(), 1_005_000 - 65) == Err(DerError::TooLong));
 }

@@ -57,11 +57,12 @@ fn errors_have_their_numbers(rt: HostRuntime) {
 
 #[test]
 fn what_spells_nothing_is_malformed(rt: HostRuntime) {
-    let inputs: [&[u8]; 8] = [
+    let inputs: [&[u8]; 9] = [
         &[],
         &[0x74, 0x80],
         &SAFE[..83],
         &[0x74, 0x82, 0xff, 0xff],
+        &[0x74, 0x83, 0x00, 0xff, 0xff],
         &[0x74, 0x84, 0xff, 0xff, 0xff, 0xff],
         &[0x74, 0xff],
         &[0x74, 0x00],
@@ -138,8 +139,8 @@ fn answers_to_zeros(alloc: Global, count: usize) -> Result<(u32, u32), AllocErro
 
 #[test]
 fn more_than_the_limit_is_too_long(rt: HostRuntime) {
-    assert!(rt; answers_to_zeros(rt.alloc(), 65_001) == Ok((1, 1)));
-    assert!(rt; answers_to_zeros(rt.alloc(), 65_000) == Ok((2, 2)));
+    assert!(rt; answers_to_zeros(rt.alloc(), 1_005_001) == Ok((1, 1)));
+    assert!(rt; answers_to_zeros(rt.alloc(), 1_005_000) == Ok((2, 2)));
 }
 
 /// How many of the proper prefixes are malformed.

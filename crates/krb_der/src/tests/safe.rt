@@ -128,6 +128,32 @@ fn text_of_60000_bytes_is_carried(rt: HostRuntime) {
     assert!(rt; is_carried(rt.alloc(), 0x61, 60_001, &begin) == Ok(true));
 }
 
+#[test]
+fn text_of_1000000_bytes_is_carried(rt: HostRuntime) {
+    // Lengths of 1,000,095, 1,000,090, 1,000,062, 1,000,057, 1,000,006 and 1,000,001.
+    let begin = [
+        0x74, 0x83, 0x0f, 0x42, 0x9f, 0x30, 0x83, 0x0f, 0x42, 0x9a, 0xa0, 0x03, 0x02, 0x01, 0x05,
+        0xa1, 0x03, 0x02, 0x01, 0x14, 0xa2, 0x83, 0x0f, 0x42, 0x7e, 0x30, 0x83, 0x0f, 0x42, 0x79,
+        0xa0, 0x83, 0x0f, 0x42, 0x46, 0x04, 0x83, 0x0f, 0x42, 0x41, 0x61,
+    ];
+    assert!(rt; size_with_text(rt.alloc(), 0x61, 1_000_001) == Ok(1_000_100));
+    assert!(rt; is_carried(rt.alloc(), 0x61, 1_000_001, &begin) == Ok(true));
+}
+
+#[test]
+fn lengths_take_a_third_octet_from_65536_on(rt: HostRuntime) {
+    let last_of_two = [0x04, 0x82, 0xff, 0xff];
+    let first_of_three = [0x04, 0x83, 0x01, 0x00, 0x00];
+    assert!(rt; stands_at(rt.alloc(), 65_535, 35, &last_of_two) == Ok(true));
+    assert!(rt; stands_at(rt.alloc(), 65_536, 35, &first_of_three) == Ok(true));
+}
+
+/// Whether these bytes stand at a place of the message with a text of so many bytes.
+fn stands_at(alloc: Global, count: usize, place: usize, these: &[u8]) -> Result<bool, DerError> {
+    let bytes = spelling_with_text(alloc, 0, count)?;
+    Ok(is_at(bytes.as_slice(), place, these))
+}
+
 /// What `encode_safe` answers for a text of so many bytes: how many the message has, or the error.
 fn size_with_text(alloc: Global, byte: u8, count: usize) -> Result<usize, DerError> {
     size(spelling_with_text(alloc, byte, count))
@@ -135,9 +161,9 @@ fn size_with_text(alloc: Global, byte: u8, count: usize) -> Result<usize, DerErr
 
 #[test]
 fn message_over_the_limit_is_not_written(rt: HostRuntime) {
-    assert!(rt; size_with_text(rt.alloc(), 0, 65_000 - 93) == Ok(65_000));
-    assert!(rt; size_with_text(rt.alloc(), 0, 65_000 - 92) == Err(DerError::TooLong));
-    assert!(rt; size_with_text(rt.alloc(), 0, 70_000) == Err(DerError::TooLong));
+    assert!(rt; size_with_text(rt.alloc(), 0, 1_005_000 - 99) == Ok(1_005_000));
+    assert!(rt; size_with_text(rt.alloc(), 0, 1_005_000 - 98) == Err(DerError::TooLong));
+    assert!(rt; size_with_text(rt.alloc(), 0, 1_010_000) == Err(DerError::TooLong));
 }
 
 #[test]

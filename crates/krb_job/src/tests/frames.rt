@@ -34,10 +34,10 @@ fn many_frames(rt: HostRuntime) -> Result<(), Fail> {
     assert_bad(&rt, rt.alloc(), Command::Open, bad.as_slice())
 }
 
-/// A frame has at most 70000 bytes.
+/// A frame has at most 1,010,000 bytes.
 #[test]
 fn long_frames(rt: HostRuntime) -> Result<(), Fail> {
-    let digits = zeros(rt.alloc(), 70000)?;
+    let digits = zeros(rt.alloc(), 1_010_000)?;
     let most = format!(in rt.alloc(); "frames = [\"{digits}\"]")?;
     let more = format!(in rt.alloc(); "frames = [\"{digits}00\"]")?;
     let good = [(Place::Frames, most.as_str())];

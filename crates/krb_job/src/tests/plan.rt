@@ -77,10 +77,10 @@ fn many_emissions(rt: HostRuntime) -> Result<(), Fail> {
     assert_bad(&rt, rt.alloc(), Command::Seal, bad.as_slice())
 }
 
-/// A raw emission has at most 70000 bytes.
+/// A raw emission has at most 1,010,000 bytes.
 #[test]
 fn long_raws(rt: HostRuntime) -> Result<(), Fail> {
-    let digits = zeros(rt.alloc(), 70000)?;
+    let digits = zeros(rt.alloc(), 1_010_000)?;
     let most = format!(in rt.alloc(); "plan = [\"raw {digits}\"]")?;
     let more = format!(in rt.alloc(); "plan = [\"raw {digits}00\"]")?;
     let good = [(Place::Plan, most.as_str())];

@@ -36,10 +36,10 @@ fn many_texts(rt: HostRuntime) -> Result<(), Fail> {
     assert_bad(&rt, rt.alloc(), Command::Seal, bad.as_slice())
 }
 
-/// A text has at most 60000 bytes.
+/// A text has at most 1,000,000 bytes.
 #[test]
 fn long_texts(rt: HostRuntime) -> Result<(), Fail> {
-    let digits = zeros(rt.alloc(), 60000)?;
+    let digits = zeros(rt.alloc(), 1_000_000)?;
     let most = format!(in rt.alloc(); "texts = [\"{digits}\"]")?;
     let more = format!(in rt.alloc(); "texts = [\"{digits}00\"]")?;
     let good = [(Place::Texts, most.as_str())];

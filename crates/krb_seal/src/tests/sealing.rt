@@ -79,18 +79,18 @@ fn errors_come_in_their_order(rt: HostRuntime) -> Result<(), Fail> {
         session(rt.alloc(), Mode::Priv, 4_294_967_295)?,
     );
     let too_long = (Some(SealError::TooLong), 4_294_967_295);
-    assert_eq!(rt; sealed(rt.alloc(), &mut sealer, 60_002), too_long);
+    assert_eq!(rt; sealed(rt.alloc(), &mut sealer, 1_000_002), too_long);
     assert_eq!(rt;
-        sealed(rt.alloc(), &mut sealer, 60_001),
+        sealed(rt.alloc(), &mut sealer, 1_000_001),
         (None, 4_294_967_296)
     );
     let too_long = (Some(SealError::TooLong), 4_294_967_296);
-    assert_eq!(rt; sealed(rt.alloc(), &mut sealer, 60_002), too_long);
+    assert_eq!(rt; sealed(rt.alloc(), &mut sealer, 1_000_002), too_long);
     let exhausted = (Some(SealError::Exhausted), 4_294_967_296);
     assert_eq!(rt; sealed(rt.alloc(), &mut sealer, 1), exhausted);
     sealer.wipe();
     let wiped = (Some(SealError::Wiped), 4_294_967_296);
-    assert_eq!(rt; sealed(rt.alloc(), &mut sealer, 60_002), wiped);
+    assert_eq!(rt; sealed(rt.alloc(), &mut sealer, 1_000_002), wiped);
     Ok(())
 }
 
