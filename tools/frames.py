@@ -170,6 +170,7 @@ def print_frames():
     before_last = body(b"Da", MICROS, 4294967294, SENDER)
     no_record = body(b"X", MICROS, 7, SENDER)
     data = body(b"hi", MICROS, 7, SENDER)
+    long = body(b"D" + bytes(1_000_000), MICROS, 7, SENDER)
 
     lines = [
         ("safe 17", seal_safe(KEY_128, inner)),
@@ -183,6 +184,7 @@ def print_frames():
         ("priv 18, the close behind it", seal_priv(KEY_256, second, drawn[16:])),
         ("safe 17, last number", seal_safe(KEY_128, close)),
         ("safe 17, the text 61 before the last number", seal_safe(KEY_128, before_last)),
+        ("safe 17, the front of a text of 1,000,000 bytes", seal_safe(KEY_128, long)[:41]),
         ("safe 17, no record", seal_safe(KEY_128, no_record)),
         ("safe 17, an empty checksum", safe(inner, 15, b"")),
         ("safe 17, what is under the checksum", safe(inner, 0, b"")),

@@ -6,3 +6,4 @@ pub mod Grammar
 pub mod Lengths
 pub mod Writers
 pub mod Sizes
+pub mod Earlier

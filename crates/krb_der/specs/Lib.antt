@@ -12,6 +12,7 @@ pub mod Body
 pub mod Safe
 pub mod Private
 pub mod Message
+pub mod Earlier
 pub mod Error
 pub mod Size
 pub mod Reading

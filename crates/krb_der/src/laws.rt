@@ -1,3 +1,4 @@
+ghost use Rattle.krb_der.specs.Earlier.{SpellsAsEarlier, PartSpellsAsEarlier};
 ghost use Rattle.krb_der.specs.Message.{Spells, SpellsPart, UniqueSpelling};
 ghost use Rattle.krb_der.specs.Size.{SmallPart, SmallSafe, SmallPrivate, ShorterInput};
 
@@ -16,4 +17,12 @@ pub fn size_laws()
     ensures safe { SmallSafe }
     ensures private { SmallPrivate }
     ensures covered { ShorterInput }
+{}
+
+/// What spelt a message, or an encrypted part, when messages had at most 65,000 bytes and lengths at
+/// most two octets after the first, spells the same today. So a reader of today takes what an
+/// earlier sender wrote.
+pub fn earlier_spellings()
+    ensures messages { SpellsAsEarlier }
+    ensures parts { PartSpellsAsEarlier }
 {}

@@ -36,7 +36,7 @@ pub use krb_time::{
     LAST_SECOND, LAST_USEC, MICROS_PER_SECOND, Moment, kerberos_time,
     kerberos_time_names_its_second, read_kerberos_time,
 };
-pub use laws::{size_laws, unique_spelling};
+pub use laws::{earlier_spellings, size_laws, unique_spelling};
 pub use message::{Message, decode};
 pub use private::{PrivMsg, encode_priv};
 pub use safe::{Covered, SafeMsg, encode_safe, safe_input, safe_input_around};

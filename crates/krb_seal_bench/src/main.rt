@@ -1,7 +1,8 @@
 //! Times `seal` and `unseal` of krb_seal.
 //!
-//! `krb_seal_bench ROUNDS` prints, for both encryption types and modes and for data of 64, 1,024 and
-//! 60,000 bytes, how many messages a second are made and read: the best of that many short runs.
+//! `krb_seal_bench ROUNDS` prints, for both encryption types and modes and for data of 64, 1,024,
+//! 60,000 and 1,000,000 bytes, how many messages a second are made and read: the best of that many
+//! short runs.
 //! With no argument it does nothing.
 #![tactic(auto)]
 
@@ -19,7 +20,8 @@ fn times(size: usize) -> u32 {
     match size {
         0..=1_000 => 4_000,
         1_001..=10_000 => 1_000,
-        _ => 25,
+        10_001..=100_000 => 25,
+        _ => 3,
     }
 }
 
@@ -113,7 +115,7 @@ fn print_sizes<S: Sealer>(
     let mut whole = true;
     let mode = mode_name(mode);
     let etype = sealer.etype();
-    for size in [64, 1_024, 60_000] {
+    for size in [64, 1_024, 60_000, 1_000_000] {
         let best = best_of(rt, sealer, opener, size, rounds)?;
         let made = rate(times(size), best.make);
         let read = rate(times(size), best.read);

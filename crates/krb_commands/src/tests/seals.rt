@@ -1,9 +1,10 @@
 //! What `seal` prints. The frames are those of an independent sealer.
 
 use super::frames::{
-    LAST_CLOSE, PRIV_CLOSE, PRIV_TEXT, SAFE_CLOSE, SAFE_TEXT, TEXT_BEFORE_LAST, TOLD_TEXT,
+    LAST_CLOSE, LONG_TEXT, PRIV_CLOSE, PRIV_TEXT, SAFE_CLOSE, SAFE_TEXT, TEXT_BEFORE_LAST,
+    TOLD_TEXT,
 };
-use super::jobs::{is_bad, prints, sender};
+use super::jobs::{is_bad, prints, run, sender};
 use krb_job::Command;
 use std::alloc::{AllocError, Global};
 use std::process::Abort;
@@ -42,6 +43,29 @@ fn text_and_close_are_sealed(rt: HostRuntime) -> Result<(), Fail> {
     assert!(rt; seals(&rt, &[("mode", "'priv'")], &private)?);
     let none = [SAFE_CLOSE, "sent 0 of 0 DONE"];
     assert!(rt; seals(&rt, &[("first", "8"), ("texts", "[]")], &none)?);
+    Ok(())
+}
+
+/// How many characters the first line has, where it begins with these.
+fn first_line_from(printed: &str, beginning: &str) -> Option<usize> {
+    let line = printed.lines().next()?;
+    if line.starts_with(beginning) {
+        Some(line.len())
+    } else {
+        None
+    }
+}
+
+#[test]
+fn lengths_of_a_long_text_take_three_octets(rt: HostRuntime) -> Result<(), Fail> {
+    let digits = vec![in rt.alloc(); b'6'; 2_000_000]?;
+    let text = str::from_utf8(digits.as_slice()).ok().ok_or("no text")?;
+    let texts = format!(in rt.alloc(); "['{text}']")?;
+    let job = sender(rt.alloc(), &[("texts", texts.as_str())])?;
+    let mut printed = Vec::new(rt.alloc());
+    assert_eq!(rt; run(&rt, Command::Seal, job.as_str(), &mut printed).ok(), Some(0));
+    let printed = str::from_utf8(printed.as_slice()).ok().ok_or("no text")?;
+    assert_eq!(rt; first_line_from(printed, LONG_TEXT), Some(2 * 1_000_112));
     Ok(())
 }
 
