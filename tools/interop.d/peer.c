@@ -9,13 +9,14 @@
  * MODE is safe or priv, an address KIND:BYTES, WRITE_TO 1 where messages tell the receiver's
  * address, and bytes are hexadecimal digits. Where the library fails, 'error NUMBER WORDS' is
  * printed. */
+#include <ctype.h>
 #include <errno.h>
 #include <krb5.h>
 #include <stdio.h>
 #include <stdlib.h>
 #include <string.h>
 
-enum { LONGEST = 70000, FLAGS = KRB5_AUTH_CONTEXT_DO_SEQUENCE | KRB5_AUTH_CONTEXT_DO_TIME };
+enum { LONGEST = 1010000, FLAGS = KRB5_AUTH_CONTEXT_DO_SEQUENCE | KRB5_AUTH_CONTEXT_DO_TIME };
 
 struct bytes { size_t size; unsigned char at[LONGEST]; };
 
@@ -31,9 +32,12 @@ static void must(krb5_error_code error, const char *what)
 
 static void read_digits(struct bytes *to, const char *digits)
 {
-    unsigned value;
-    for (to->size = 0; to->size < LONGEST && sscanf(digits, "%2x", &value) == 1; digits += 2)
-        to->at[to->size++] = (unsigned char)value;
+    char pair[3] = "";
+    for (to->size = 0; to->size < LONGEST && isxdigit((unsigned char)digits[0])
+                       && isxdigit((unsigned char)digits[1]); digits += 2) {
+        memcpy(pair, digits, 2);
+        to->at[to->size++] = (unsigned char)strtoul(pair, NULL, 16);
+    }
 }
 
 static void print_bytes(const char *what, const void *at, size_t size)
