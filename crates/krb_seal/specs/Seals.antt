@@ -43,8 +43,12 @@ unsigned etype b = record { pvno = pos 5; msg_type = pos 20; body = b; cksum_typ
 abbrev pub sealed_safe : ℤ → List ℕ → Body → SafeMsg
 sealed_safe etype key b = record (unsigned etype b) { checksum = safe_checksum key (unsigned etype b) }
 
+-- KRB-PRIV of a text that is enciphered
+abbrev pub priv_of : ℤ → List ℕ → List ℕ → PrivMsg
+priv_of etype key text = record { pvno = pos 5; msg_type = pos 21; etype = etype; kvno = None; cipher = encrypted key text }
+
 abbrev pub sealed_priv : ℤ → List ℕ → List ℕ → Body → PrivMsg
-sealed_priv etype key conf b = record { pvno = pos 5; msg_type = pos 21; etype = etype; kvno = None; cipher = encrypted key (conf ++ part b) }
+sealed_priv etype key conf b = priv_of etype key (conf ++ part b)
 
 abbrev pub sealed_as : Mode → ℤ → List ℕ → List ℕ → Body → Message
 sealed_as Safe etype key conf b = messages.Safe (sealed_safe etype key b)

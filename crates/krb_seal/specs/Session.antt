@@ -1,5 +1,5 @@
 -- The limit of this project's profile for a session's addresses.
-use Rattle.std.specs.Prelude.{ℕ, ◌≤◌, length}
+use Rattle.std.specs.Prelude.{◌≤◌, length}
 use Rattle.std.specs.Option.{ForSome}
 use Rattle.krb_base.specs.Limits.{address_limit}
 use Rattle.krb_der.specs.declared.address.HostAddress.{HostAddress}

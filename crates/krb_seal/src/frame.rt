@@ -5,14 +5,17 @@ ghost use Rattle.krb_der.specs.Body.{InRange, IsBody, part};
 ghost use Rattle.krb_seal.specs.declared.session.Mode.TheVariants.{Safe, Priv};
 ghost use Rattle.krb_aes.specs.Words.{AreBytes};
 ghost use Rattle.krb_seal.specs.Etype.{number_of};
-ghost use Rattle.krb_seal.specs.Seals.{SealsBody, unsigned};
+ghost use Rattle.krb_der.specs.Message.{Spells};
+ghost use Rattle.krb_der.specs.declared.message.Message.TheVariants as messages;
+ghost use Rattle.krb_seal.specs.Seals.{SealsBody, unsigned, priv_of};
 ghost use Rattle.krb_seal.specs.Body.{IsSmall, small_part_limit};
 
+use crate::body::take_back;
 use crate::checksum::checksum_of;
 use crate::etype::Etype;
 use crate::keys::{Keys, TAG_SIZE};
 use crate::limit::within_limit;
-use crate::session::Mode;
+use crate::session::{Mode, Session};
 use krb_der::{Body, Bytes, PrivMsg, SafeMsg, encode_part_behind, encode_priv};
 use std::alloc::{AllocError, Global};
 
@@ -67,21 +70,20 @@ fn text_of(alloc: Global, body: &Body, confounder: [u8; 16]) -> Result<Vec<u8>, 
     Ok(text)
 }
 
-/// The KRB-PRIV that carries a body.
+/// The KRB-PRIV of a text that is a confounder and an encrypted part.
 fn priv_frame(
     alloc: Global,
     keys: &Keys,
     etype: Etype,
-    body: &Body,
-    confounder: [u8; 16],
+    text: Vec<u8>,
 ) -> Result<Vec<u8>, AllocError>
     requires live { keys.now.wiped ≡ false }
-    requires range { InRange body.now }
-    requires small { IsSmall body.now }
-    ensures { IfOk result (λ frame. SealsBody Priv (number_of etype) keys.now.key confounder
-        body.now frame.items) }
+    requires confounder { 16 ≤ length text.items }
+    requires short { length text.items ≤ 16 + small_part_limit }
+    ensures { IfOk result (λ frame. Spells
+        (messages.Priv (priv_of (number_of etype) keys.now.key text.items)) frame.items) }
 {
-    let mut cipher = text_of(alloc, body, confounder)?;
+    let mut cipher = text;
     let tag = keys.tag(&cipher);
     keys.encipher(&mut cipher);
     cipher.extend_from_slice(&tag)?;
@@ -95,32 +97,36 @@ fn priv_frame(
     within_limit(encode_priv(alloc, &message))
 }
 
-/// The message that carries a body in a mode, and the body again.
+/// The message that carries a body. Whatever the answer, the body's addresses go back into the
+/// session, and its data is let go as soon as it was written.
 pub fn frame_of(
     alloc: Global,
     keys: &Keys,
     etype: Etype,
-    mode: Mode,
+    session: &mut Session,
     body: Body,
     confounder: [u8; 16],
-) -> (Result<Vec<u8>, AllocError>, Body)
+) -> Result<Vec<u8>, AllocError>
     requires live { keys.now.wiped ≡ false }
     requires range { InRange body }
     requires small { IsSmall body }
-    ensures frame { IfOk result.0 (λ frame. SealsBody mode (number_of etype) keys.now.key confounder
-        body frame.items) }
-    ensures body { result.1 ≡ body }
+    ensures frame { IfOk result (λ frame. SealsBody session.old.mode (number_of etype) keys.now.key
+        confounder body frame.items) }
+    ensures session { session.new
+        ≡ record session.old { s_addr = body.s_addr; r_addr = body.r_addr } }
 {
-    match mode {
+    match session.mode {
         Mode::Safe => {
             let draft = unsigned(alloc, etype, body);
             let frame = safe_frame(alloc, keys, etype, &draft, confounder);
             let SafeMsg { body, .. } = draft;
-            (frame, body)
+            take_back(session, body);
+            frame
         }
         Mode::Priv => {
-            let frame = priv_frame(alloc, keys, etype, &body, confounder);
-            (frame, body)
+            let text = text_of(alloc, &body, confounder);
+            take_back(session, body);
+            priv_frame(alloc, keys, etype, text?)
         }
     }
 }

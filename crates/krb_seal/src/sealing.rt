@@ -6,7 +6,7 @@ ghost use Rattle.krb_seal.specs.Etype.{number_of};
 ghost use Rattle.krb_seal.specs.Session.{HasShortAddresses};
 ghost use Rattle.krb_seal.specs.Sealer.{SealerState, SealsNext, advanced, end_of_numbers, new_state, wiped_state};
 
-use crate::body::{body_of, take_back};
+use crate::body::body_of;
 use crate::etype::Etype;
 use crate::frame::frame_of;
 use crate::keys::Keys;
@@ -101,10 +101,8 @@ impl Sealing {
         let user_data = Bytes::new(Vec::from_slice(alloc, bytes)?);
         let number = self.next as u32;
         let body = body_of(alloc, &mut self.session, number, user_data, at);
-        let mode = self.session.mode;
-        let (frame, body) = frame_of(alloc, &self.keys, self.etype, mode, body, confounder);
-        take_back(&mut self.session, body);
-        let frame = frame?;
+        let session = &mut self.session;
+        let frame = frame_of(alloc, &self.keys, self.etype, session, body, confounder)?;
         self.next += 1;
         Ok(frame)
     }

@@ -1,6 +1,6 @@
 use Rattle.std.proofs.Common.{Ok, Err, ap, subst, ◌∙◌}
 use Rattle.krb_seal.specs.Etype.{number_of}
-use Rattle.krb_seal.specs.Opens.{OpenerState, Checks, body_checks, opener_of, safe_checks, safe_header}
+use Rattle.krb_seal.specs.Opens.{OpenerState, body_checks, safe_checks, safe_header}
 use Rattle.krb_seal.specs.Unseals.{Checked, refusal_of}
 use Rattle.krb_seal.specs.declared.refusal.Refusal.TheVariants.{Modified}
 use Rattle.krb_seal.specs.Seals.{safe_checksum}
