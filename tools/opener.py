@@ -166,7 +166,7 @@ class Receiver:
         data = unseal(self.session, self.expected, now, frame)
         if data == b"C":
             return None
-        refuse(902, data[:1] != b"D" or len(data) > 60_001)
+        refuse(902, data[:1] != b"D" or len(data) > 1_000_001)
         return data[1:]
 
 

@@ -83,48 +83,79 @@ string_same bytes = whole octet_string_tag bytes
 
 typed_same : (kind : ℤ) (bytes : List ℕ) → Same (earlier_typed kind bytes) (typed_octets kind bytes)
 unfolding typed_octets
-typed_same kind bytes = sequence_same (earlier_typed_fields kind bytes) (typed_fields kind bytes)
-  (field 0 (earlier_integer kind) (integer kind) (integer_same kind),
-  (field 1 (earlier_string bytes) (octets bytes) (string_same bytes),
-  tt))
+typed_same kind bytes = sequence_same (earlier_typed_fields kind bytes) (typed_fields kind bytes) (
+  field 0 (earlier_integer kind) (integer kind) (integer_same kind),
+  (
+    field 1 (earlier_string bytes) (octets bytes) (string_same bytes),
+    tt,
+  ),
+)
 
 address_same : (a : HostAddress) → Same (earlier_address a) (host_address a)
 address_same a = typed_same a.kind a.bytes
 
 body_same : (b : Body) → Same (earlier_body b) (body b)
 unfolding body
-body_same b = sequence_same (earlier_body_fields b) (body_fields b)
-  (field 0 (earlier_string b.user_data) (octets b.user_data) (string_same b.user_data),
-  (optional_same 1 earlier_time time b.time time_same,
-  (optional_same 2 earlier_natural natural b.usec natural_same,
-  (optional_same 3 earlier_natural natural b.seq natural_same,
-  (field 4 (earlier_address b.s_addr) (host_address b.s_addr) (address_same b.s_addr),
-  (optional_same 5 earlier_address host_address b.r_addr address_same,
-  tt))))))
+body_same b = sequence_same (earlier_body_fields b) (body_fields b) (
+  field 0 (earlier_string b.user_data) (octets b.user_data) (string_same b.user_data),
+  (
+    optional_same 1 earlier_time time b.time time_same,
+    (
+      optional_same 2 earlier_natural natural b.usec natural_same,
+      (
+        optional_same 3 earlier_natural natural b.seq natural_same,
+        (
+          field 4 (earlier_address b.s_addr) (host_address b.s_addr) (address_same b.s_addr),
+          (
+            optional_same 5 earlier_address host_address b.r_addr address_same,
+            tt,
+          ),
+        ),
+      ),
+    ),
+  ),
+)
 
 part_same : (b : Body) → Same (earlier_part b) (part b)
 part_same b = element (application 28) (earlier_body b) (body b) (body_same b)
 
 encrypted_same : (etype : ℤ) (kvno : Option ℕ) (cipher : List ℕ) → Same (earlier_encrypted etype kvno cipher) (encrypted_data etype kvno cipher)
 unfolding encrypted_data
-encrypted_same etype kvno cipher = sequence_same (earlier_encrypted_fields etype kvno cipher) (encrypted_fields etype kvno cipher)
-  (field 0 (earlier_integer etype) (integer etype) (integer_same etype),
-  (optional_same 1 earlier_natural natural kvno natural_same,
-  (field 2 (earlier_string cipher) (octets cipher) (string_same cipher),
-  tt)))
+encrypted_same etype kvno cipher = sequence_same (earlier_encrypted_fields etype kvno cipher) (encrypted_fields etype kvno cipher) (
+  field 0 (earlier_integer etype) (integer etype) (integer_same etype),
+  (
+    optional_same 1 earlier_natural natural kvno natural_same,
+    (
+      field 2 (earlier_string cipher) (octets cipher) (string_same cipher),
+      tt,
+    ),
+  ),
+)
 
 message_same : (m : Message) → Same (earlier_message m) (message m)
-message_same (Safe m) = element (application 20) (earlier_sequence (earlier_safe_fields m)) (sequence (safe_fields m)) (sequence_same (earlier_safe_fields m) (safe_fields m)
-  (field 0 (earlier_integer m.pvno) (integer m.pvno) (integer_same m.pvno),
-  (field 1 (earlier_integer m.msg_type) (integer m.msg_type) (integer_same m.msg_type),
-  (field 2 (earlier_body m.body) (body m.body) (body_same m.body),
-  (field 3 (earlier_typed m.cksum_type m.checksum) (typed_octets m.cksum_type m.checksum) (typed_same m.cksum_type m.checksum),
-  tt)))))
-message_same (Priv m) = element (application 21) (earlier_sequence (earlier_private_fields m)) (sequence (private_fields m)) (sequence_same (earlier_private_fields m) (private_fields m)
-  (field 0 (earlier_integer m.pvno) (integer m.pvno) (integer_same m.pvno),
-  (field 1 (earlier_integer m.msg_type) (integer m.msg_type) (integer_same m.msg_type),
-  (field 3 (earlier_encrypted m.etype m.kvno m.cipher) (encrypted_data m.etype m.kvno m.cipher) (encrypted_same m.etype m.kvno m.cipher),
-  tt))))
+message_same (Safe m) = element (application 20) (earlier_sequence (earlier_safe_fields m)) (sequence (safe_fields m)) (sequence_same (earlier_safe_fields m) (safe_fields m) (
+  field 0 (earlier_integer m.pvno) (integer m.pvno) (integer_same m.pvno),
+  (
+    field 1 (earlier_integer m.msg_type) (integer m.msg_type) (integer_same m.msg_type),
+    (
+      field 2 (earlier_body m.body) (body m.body) (body_same m.body),
+      (
+        field 3 (earlier_typed m.cksum_type m.checksum) (typed_octets m.cksum_type m.checksum) (typed_same m.cksum_type m.checksum),
+        tt,
+      ),
+    ),
+  ),
+))
+message_same (Priv m) = element (application 21) (earlier_sequence (earlier_private_fields m)) (sequence (private_fields m)) (sequence_same (earlier_private_fields m) (private_fields m) (
+  field 0 (earlier_integer m.pvno) (integer m.pvno) (integer_same m.pvno),
+  (
+    field 1 (earlier_integer m.msg_type) (integer m.msg_type) (integer_same m.msg_type),
+    (
+      field 3 (earlier_encrypted m.etype m.kvno m.cipher) (encrypted_data m.etype m.kvno m.cipher) (encrypted_same m.etype m.kvno m.cipher),
+      tt,
+    ),
+  ),
+))
 
 stays : {V : Type 0} (P : V → Type 0) (before now : V → List ℕ) (limit : ℕ) → earlier_limit ≤ limit → ((v : V) → Same (before v) (now v))
     → (v : V) (bytes : List ℕ) → SpellsWithin earlier_limit P before v bytes → SpellsWithin limit P now v bytes

@@ -1,8 +1,9 @@
-ghost use Rattle.std.specs.Prelude.{◌≡◌, ◌↔◌, ◌<◌, ◌≤◌, ◌+◌, ◌*◌, ◌++◌, length, Err, IfOk, OnOk, OnErr, IfSome, IsTrue, MatchResult};
+ghost use Rattle.std.specs.Prelude.{◌≡◌, ◌↔◌, ◌<◌, ◌≤◌, ◌+◌, ◌*◌, ◌++◌, length, Err, Some, IfOk, OnOk, OnErr, IfSome, IsTrue, MatchResult};
 ghost use Rattle.krb_der.specs.declared.body.Body.{Body as BodyValue};
 ghost use Rattle.krb_der.specs.declared.error.DerError.TheVariants.{Memory};
 ghost use Rattle.krb_base.specs.Limits.{frame_limit};
 ghost use Rattle.krb_der.specs.Element.{joined, optional};
+ghost use Rattle.krb_time.specs.Moment.{secs_of, usec_of};
 ghost use Rattle.krb_time.specs.Time.{IsSecond};
 ghost use Rattle.krb_time.specs.Reading.{time_of};
 ghost use Rattle.krb_der.specs.KerberosTime;
@@ -22,8 +23,9 @@ use crate::tag;
 use crate::typed::{typed_size, write_typed_field};
 use crate::writer::{Writer, octets_field_size, size_around};
 use krb_base::{Bytes, FRAME_LIMIT};
-use krb_time::{LAST_SECOND, LAST_USEC, kerberos_time, read_kerberos_time};
+use krb_time::{LAST_SECOND, LAST_USEC, Moment, kerberos_time, read_kerberos_time};
 use std::alloc::{AllocError, Global};
+use std::marker::Model;
 
 /// The first number that is no count of microseconds beyond a second.
 const MICROSECONDS_END: u64 = LAST_USEC as u64 + 1;
@@ -189,16 +191,95 @@ fn known_optional_address(address: &Option<HostAddress>)
     }
 }
 
+/// A [`Body`] whose data and addresses are lent: so a message is written from where they lie, with no
+/// copy of its own.
+#[derive(Drop)]
+pub struct BodyRef<'a> {
+    user_data: &'a [u8],
+    time: Option<u64>,
+    usec: Option<u32>,
+    seq: Option<u32>,
+    s_addr: &'a HostAddress,
+    r_addr: &'a Option<HostAddress>,
+}
+
+impl<'a> Model for BodyRef<'a> {
+    ghost use Rattle.krb_der.specs.declared.body.Body.{Body};
+
+    ghost Value = { Body };
+
+    ghost view = { λ b. record {
+      user_data = b.user_data.now;
+      time = b.time;
+      usec = b.usec;
+      seq = b.seq;
+      s_addr = b.s_addr.now;
+      r_addr = b.r_addr.now;
+    } };
+}
+
 impl Body {
+    /// The body, lent.
+    pub fn borrowed(&self) -> BodyRef<'_>
+        ensures { result ≡ self.now }
+    {
+        BodyRef {
+            user_data: self.user_data.as_slice(),
+            time: self.time,
+            usec: self.usec,
+            seq: self.seq,
+            s_addr: &self.s_addr,
+            r_addr: &self.r_addr,
+        }
+    }
+}
+
+impl<'a> BodyRef<'a> {
+    /// The body with this data, at a moment and a number, from one address to another.
+    pub fn new(
+        user_data: &'a [u8],
+        at: Moment,
+        seq: u32,
+        s_addr: &'a HostAddress,
+        r_addr: &'a Option<HostAddress>,
+    ) -> BodyRef<'a>
+        ensures { result ≡ record {
+          user_data = user_data.now;
+          time = Some (secs_of at);
+          usec = Some (usec_of at);
+          seq = Some seq;
+          s_addr = s_addr.now;
+          r_addr = r_addr.now;
+        } }
+    {
+        BodyRef {
+            user_data,
+            time: Some(at.secs()),
+            usec: Some(at.usec()),
+            seq: Some(seq),
+            s_addr,
+            r_addr,
+        }
+    }
+
+    /// The data.
+    pub fn user_data(&self) -> &'a [u8]
+        ensures { result.now ≡ self.now.user_data }
+    {
+        self.user_data
+    }
+}
+
+impl<'a> BodyRef<'a> {
     /// Whether no byte string of it is longer than a message may be.
     pub(crate) fn is_short(&self) -> bool
         ensures { IsTrue result ↔ IsShortBody self.now }
     {
-        let r_addr = match &self.r_addr {
+        let r_addr = match self.r_addr {
             Some(address) => is_short(address.bytes.as_slice()),
             None => true,
         };
-        is_short(self.user_data.as_slice()) && is_short(self.s_addr.bytes.as_slice()) && r_addr
+        is_short(self.user_data) && is_short(self.s_addr.bytes.as_slice()) && r_addr
     }
 
     /// What the types of its numbers say, beside the ranges that are required.
@@ -207,8 +288,8 @@ impl Body {
         ensures { IsBody self.now }
     {
         known_uint32(&self.seq);
-        known_address(&self.s_addr);
-        known_optional_address(&self.r_addr);
+        known_address(self.s_addr);
+        known_optional_address(self.r_addr);
     }
 
     fn fields_size(&self) -> usize
@@ -217,12 +298,12 @@ impl Body {
         ensures value { result ≡ length (joined (body_fields self.now)) }
         ensures bound { result ≤ 3 * frame_limit + 200 }
     {
-        octets_field_size(self.user_data.as_slice())
+        octets_field_size(self.user_data)
             + optional_time_size(self.time)
             + natural_field_size(self.usec)
             + natural_field_size(self.seq)
             + size_around(typed_size(&self.s_addr.kind, self.s_addr.bytes.as_slice()))
-            + optional_address_size(&self.r_addr)
+            + optional_address_size(self.r_addr)
     }
 
     /// How many bytes it has.
@@ -241,7 +322,7 @@ impl Body {
         requires time { IfSome self.now.time IsSecond }
         ensures { OnOk result (out.new ≡ out.old ++ before_data self.now) }
     {
-        let data = self.user_data.as_slice().len();
+        let data = self.user_data.len();
         out.begin(tag::SEQUENCE, self.fields_size())?;
         out.begin(tag::FIELD_0, size_around(data))?;
         out.begin(tag::OCTET_STRING, data)
@@ -262,7 +343,7 @@ impl Body {
             &self.s_addr.kind,
             self.s_addr.bytes.as_slice(),
         )?;
-        write_optional_address(out, tag::FIELD_5, &self.r_addr)
+        write_optional_address(out, tag::FIELD_5, self.r_addr)
     }
 
     /// Adds it.
@@ -272,12 +353,12 @@ impl Body {
         ensures { OnOk result (out.new ≡ out.old ++ body self.now) }
     {
         self.write_before_data(out)?;
-        out.put(self.user_data.as_slice())?;
+        out.put(self.user_data)?;
         self.write_behind_data(out)
     }
 }
 
-impl Body {
+impl<'a> BodyRef<'a> {
     /// How many bytes its spelling as an encrypted part has.
     fn part_size(&self) -> usize
         requires short { IsShortBody self.now }
@@ -330,6 +411,7 @@ pub fn encode_part(alloc: Global, b: &Body) -> Result<Vec<u8>, DerError>
     requires { InRange b.now }
     ensures { Encodes SpellsPart part b.now result }
 {
+    let b = b.borrowed();
     let size = b.limited_part_size()?;
     Ok(b.part_spelling(alloc, &[], size)?)
 }
@@ -343,7 +425,7 @@ pub fn encode_part(alloc: Global, b: &Body) -> Result<Vec<u8>, DerError>
 pub fn encode_part_behind(
     alloc: Global,
     front: &[u8],
-    b: &Body,
+    b: &BodyRef<'_>,
     behind: usize,
 ) -> Result<Vec<u8>, DerError>
     requires { InRange b.now }

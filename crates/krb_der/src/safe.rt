@@ -1,4 +1,4 @@
-ghost use Rattle.std.specs.Prelude.{◌≡◌, ◌<◌, ◌≤◌, ◌+◌, ◌*◌, ◌++◌, length, Err, IfOk, IfSome, OnOk, OnErr};
+ghost use Rattle.std.specs.Prelude.{◌≡◌, ◌<◌, ◌≤◌, ◌+◌, ◌*◌, ◌++◌, [], length, Err, IfOk, IfSome, OnOk, OnErr};
 ghost use Rattle.krb_base.specs.Limits.{frame_limit};
 ghost use Rattle.krb_der.specs.declared.message.Message.TheVariants.{Safe};
 ghost use Rattle.krb_der.specs.Element.{joined};
@@ -10,7 +10,7 @@ ghost use Rattle.krb_der.specs.Message.{Covers, Encodes, Spells, message};
 ghost use Rattle.krb_der.specs.Reading.{Gives, safe_of};
 ghost use Rattle.krb_der.specs.Writing.{IsShort, IsShortBody, safe_before_data, safe_behind_data};
 
-use crate::body::{Body, is_short, read_body};
+use crate::body::{Body, BodyRef, is_short, read_body};
 use crate::error::DerError;
 use crate::integer::{int32_field_size, known_int32, read_int32, write_int32_field};
 use crate::reader::Reader;
@@ -19,6 +19,7 @@ use crate::typed::{read_typed, typed_size, write_typed_field};
 use crate::writer::{Writer, size_around};
 use krb_base::{Bytes, FRAME_LIMIT};
 use std::alloc::{AllocError, Global};
+use std::marker::Model;
 
 /// Room for the tags, lengths and numbers before the data of a KRB-SAFE.
 const HEADERS_SIZE: usize = 64;
@@ -67,7 +68,74 @@ pub struct Covered {
     pub behind: Vec<u8>,
 }
 
+/// A [`SafeMsg`] whose data, addresses and checksum are lent.
+#[derive(Drop)]
+pub struct SafeRef<'a> {
+    pvno: i32,
+    msg_type: i32,
+    body: BodyRef<'a>,
+    cksum_type: i32,
+    checksum: &'a [u8],
+}
+
+impl<'a> Model for SafeRef<'a> {
+    ghost use Rattle.krb_der.specs.declared.safe.SafeMsg.{SafeMsg};
+
+    ghost Value = { SafeMsg };
+
+    ghost view = { λ m. record {
+      pvno = m.pvno;
+      msg_type = m.msg_type;
+      body = m.body;
+      cksum_type = m.cksum_type;
+      checksum = m.checksum.now;
+    } };
+}
+
 impl SafeMsg {
+    /// The message, lent.
+    pub fn borrowed(&self) -> SafeRef<'_>
+        ensures { result ≡ self.now }
+    {
+        SafeRef {
+            pvno: self.pvno,
+            msg_type: self.msg_type,
+            body: self.body.borrowed(),
+            cksum_type: self.cksum_type,
+            checksum: self.checksum.as_slice(),
+        }
+    }
+}
+
+impl<'a> SafeRef<'a> {
+    /// The message that carries a body, with an empty checksum.
+    pub fn unsigned(pvno: i32, msg_type: i32, body: BodyRef<'a>, cksum_type: i32) -> SafeRef<'a>
+        ensures { result ≡ record {
+          pvno = pvno;
+          msg_type = msg_type;
+          body = body.entry;
+          cksum_type = cksum_type;
+          checksum = [];
+        } }
+    {
+        SafeRef {
+            pvno,
+            msg_type,
+            body,
+            cksum_type,
+            checksum: &[],
+        }
+    }
+
+    /// The data.
+    pub fn user_data(&self) -> &'a [u8]
+        ensures { result.now ≡ self.now.body.user_data }
+    {
+        self.body.user_data()
+    }
+}
+
+impl<'a> SafeRef<'a> {
     fn fields_size(&self, kind: &i32, checksum: &[u8]) -> usize
         requires short { IsShortBody self.now.body }
         requires short_checksum { IsShort checksum.now }
@@ -234,7 +302,8 @@ pub fn encode_safe(alloc: Global, m: &SafeMsg) -> Result<Vec<u8>, DerError>
     requires { InRange m.now.body }
     ensures { Encodes Spells message (Safe m.now) result }
 {
-    m.encode_with(alloc, &m.cksum_type, m.checksum.as_slice())
+    let lent = m.borrowed();
+    lent.encode_with(alloc, &m.cksum_type, m.checksum.as_slice())
 }
 
 /// The bytes under the checksum of the message: its spelling with checksum type 0 and an empty
@@ -247,7 +316,7 @@ pub fn safe_input(alloc: Global, m: &SafeMsg) -> Result<Vec<u8>, DerError>
     ensures input { IfOk result (λ bytes. bytes.items ≡ safe_input m.now) }
     ensures answer { Encodes Spells message (Safe (without_checksum m.now)) result }
 {
-    m.encode_with(alloc, &0, &[])
+    m.borrowed().encode_with(alloc, &0, &[])
 }
 
 /// The bytes under the checksum of the message, around its data: with the data between them they
@@ -255,13 +324,13 @@ pub fn safe_input(alloc: Global, m: &SafeMsg) -> Result<Vec<u8>, DerError>
 ///
 /// [`DerError::TooLong`] is answered exactly where they are over 1,005,000 bytes, before any memory is
 /// taken.
-pub fn safe_input_around(alloc: Global, m: &SafeMsg) -> Result<Covered, DerError>
+pub fn safe_input_around(alloc: Global, m: &SafeRef<'_>) -> Result<Covered, DerError>
     requires { InRange m.now.body }
     ensures { Covers m.now result }
 {
     m.known();
     let size = m.limited_input_size()?;
-    let room = size.saturating_sub(m.body.user_data.as_slice().len());
+    let room = size.saturating_sub(m.user_data().len());
     Ok(Covered {
         before: m.before_data(alloc)?,
         behind: m.behind_data(alloc, room)?,

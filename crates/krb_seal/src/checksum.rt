@@ -5,7 +5,7 @@ ghost use Rattle.krb_der.specs.Body.{InRange};
 ghost use Rattle.krb_seal.specs.Checksum.{Sums};
 
 use crate::keys::Keys;
-use krb_der::{DerError, SafeMsg, safe_input_around};
+use krb_der::{DerError, SafeRef, safe_input_around};
 use std::alloc::Global;
 
 /// The checksum that the message must have (RFC 4120 section 3.4.1). The data are not copied to be
@@ -13,12 +13,11 @@ use std::alloc::Global;
 ///
 /// [`DerError::TooLong`] is answered exactly where what is under the checksum is longer than a
 /// message may be.
-pub fn checksum_of(alloc: Global, keys: &Keys, m: &SafeMsg) -> Result<[u8; 12], DerError>
+pub fn checksum_of(alloc: Global, keys: &Keys, m: &SafeRef<'_>) -> Result<[u8; 12], DerError>
     requires live { keys.now.wiped ≡ false }
     requires range { InRange m.now.body }
     ensures { Sums keys.now.key m.now result }
 {
     let around = safe_input_around(alloc, m)?;
-    let data = m.body.user_data.as_slice();
-    Ok(keys.checksum(&[&around.before, data, &around.behind]))
+    Ok(keys.checksum(&[&around.before, m.user_data(), &around.behind]))
 }

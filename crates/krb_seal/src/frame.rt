@@ -10,26 +10,19 @@ ghost use Rattle.krb_der.specs.declared.message.Message.TheVariants as messages;
 ghost use Rattle.krb_seal.specs.Seals.{SealsBody, unsigned, priv_of};
 ghost use Rattle.krb_seal.specs.Body.{IsSmall, small_part_limit};
 
-use crate::body::take_back;
 use crate::checksum::checksum_of;
 use crate::etype::Etype;
 use crate::keys::{Keys, TAG_SIZE};
 use crate::limit::within_limit;
-use crate::session::{Mode, Session};
-use krb_der::{Body, Bytes, PrivMsg, SafeMsg, encode_part_behind, encode_priv};
+use crate::session::Mode;
+use krb_der::{BodyRef, Bytes, PrivMsg, SafeRef, encode_part_behind, encode_priv};
 use std::alloc::{AllocError, Global};
 
 /// The KRB-SAFE that carries a body, before it has its checksum.
-fn unsigned(alloc: Global, etype: Etype, body: Body) -> SafeMsg
-    ensures { result ≡ unsigned (number_of etype) body }
+fn unsigned<'a>(etype: Etype, body: BodyRef<'a>) -> SafeRef<'a>
+    ensures { result ≡ unsigned (number_of etype) body.entry }
 {
-    SafeMsg {
-        pvno: 5,
-        msg_type: 20,
-        body,
-        cksum_type: etype.checksum_type(),
-        checksum: Bytes::new(Vec::new(alloc)),
-    }
+    SafeRef::unsigned(5, 20, body, etype.checksum_type())
 }
 
 /// The KRB-SAFE of a draft.
@@ -37,7 +30,7 @@ fn safe_frame(
     alloc: Global,
     keys: &Keys,
     etype: Etype,
-    draft: &SafeMsg,
+    draft: &SafeRef<'_>,
     confounder: [u8; 16],
 ) -> Result<Vec<u8>, AllocError>
     requires live { keys.now.wiped ≡ false }
@@ -57,7 +50,7 @@ fn known_bytes(bytes: &[u8])
 {}
 
 /// A confounder and the encrypted part behind it, with room for the code.
-fn text_of(alloc: Global, body: &Body, confounder: [u8; 16]) -> Result<Vec<u8>, AllocError>
+fn text_of(alloc: Global, body: &BodyRef<'_>, confounder: [u8; 16]) -> Result<Vec<u8>, AllocError>
     requires range { InRange body.now }
     requires small { IsSmall body.now }
     ensures value { IfOk result (λ text. text.items ≡ confounder ++ part body.now) }
@@ -97,36 +90,26 @@ fn priv_frame(
     within_limit(encode_priv(alloc, &message))
 }
 
-/// The message that carries a body. Whatever the answer, the body's addresses go back into the
-/// session, and its data is let go as soon as it was written.
+/// The message that carries a body in a mode.
 pub fn frame_of(
     alloc: Global,
     keys: &Keys,
     etype: Etype,
-    session: &mut Session,
-    body: Body,
+    mode: Mode,
+    body: BodyRef<'_>,
     confounder: [u8; 16],
 ) -> Result<Vec<u8>, AllocError>
     requires live { keys.now.wiped ≡ false }
     requires range { InRange body }
     requires small { IsSmall body }
-    ensures frame { IfOk result (λ frame. SealsBody session.old.mode (number_of etype) keys.now.key
-        confounder body frame.items) }
-    ensures session { session.new
-        ≡ record session.old { s_addr = body.s_addr; r_addr = body.r_addr } }
+    ensures { IfOk result (λ frame. SealsBody mode (number_of etype) keys.now.key confounder
+        body.entry frame.items) }
 {
-    match session.mode {
-        Mode::Safe => {
-            let draft = unsigned(alloc, etype, body);
-            let frame = safe_frame(alloc, keys, etype, &draft, confounder);
-            let SafeMsg { body, .. } = draft;
-            take_back(session, body);
-            frame
-        }
+    match mode {
+        Mode::Safe => safe_frame(alloc, keys, etype, &unsigned(etype, body), confounder),
         Mode::Priv => {
-            let text = text_of(alloc, &body, confounder);
-            take_back(session, body);
-            priv_frame(alloc, keys, etype, text?)
+            let text = text_of(alloc, &body, confounder)?;
+            priv_frame(alloc, keys, etype, text)
         }
     }
 }

@@ -19,7 +19,6 @@
 //! ```
 #![tactic(auto)]
 
-mod body;
 mod boxed;
 mod checks;
 mod checksum;

@@ -135,7 +135,7 @@ impl Opener {
     {
         check_safe_header(self.etype, &self.expect, m)?;
         check_body(&self.expect, number, now, &m.body)?;
-        let checksum = within_limit(checksum_of(alloc, &self.keys, m))?;
+        let checksum = within_limit(checksum_of(alloc, &self.keys, &m.borrowed()))?;
         if !has_checksum(m, &checksum) {
             return Err(Refusal::Modified);
         }

@@ -6,7 +6,6 @@ ghost use Rattle.krb_seal.specs.Etype.{number_of};
 ghost use Rattle.krb_seal.specs.Session.{HasShortAddresses};
 ghost use Rattle.krb_seal.specs.Sealer.{SealerState, SealsNext, advanced, end_of_numbers, new_state, wiped_state};
 
-use crate::body::body_of;
 use crate::etype::Etype;
 use crate::frame::frame_of;
 use crate::keys::Keys;
@@ -14,7 +13,7 @@ use crate::seal_error::SealError;
 use crate::session::Session;
 use krb_aes::CipherKey;
 use krb_base::{LAST_NUMBER, USER_DATA_LIMIT};
-use krb_der::{Bytes, Moment};
+use krb_der::{BodyRef, Moment};
 use std::alloc::Global;
 use std::marker::Model;
 
@@ -98,11 +97,11 @@ impl Sealing {
         if self.next > LAST_NUMBER {
             return Err(SealError::Exhausted);
         }
-        let user_data = Bytes::new(Vec::from_slice(alloc, bytes)?);
+        let session = &self.session;
+        let mode = session.mode;
         let number = self.next as u32;
-        let body = body_of(alloc, &mut self.session, number, user_data, at);
-        let session = &mut self.session;
-        let frame = frame_of(alloc, &self.keys, self.etype, session, body, confounder)?;
+        let body = BodyRef::new(bytes, at, number, &session.s_addr, &session.r_addr);
+        let frame = frame_of(alloc, &self.keys, self.etype, mode, body, confounder)?;
         self.next += 1;
         Ok(frame)
     }

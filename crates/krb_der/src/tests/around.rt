@@ -6,7 +6,7 @@ use std::test::Fail;
 fn part_stands_behind_other_bytes(rt: HostRuntime) -> Result<(), Fail> {
     let m = decode_safe(rt.alloc(), &SAFE)?;
     assert!(rt; m.body.in_range());
-    let text = encode_part_behind(rt.alloc(), &[7; 16], &m.body, 12)?;
+    let text = encode_part_behind(rt.alloc(), &[7; 16], &m.body.borrowed(), 12)?;
     assert!(rt; text.starts_with(&[7; 16]) && text.ends_with(&PART));
     assert_eq!(rt; (text.len(), text.capacity()), (73, 85));
     Ok(())
@@ -16,7 +16,7 @@ fn part_stands_behind_other_bytes(rt: HostRuntime) -> Result<(), Fail> {
 fn bytes_under_a_checksum_stand_around_the_data(rt: HostRuntime) -> Result<(), Fail> {
     let m = decode_safe(rt.alloc(), &SAFE)?;
     assert!(rt; m.body.in_range());
-    let around = safe_input_around(rt.alloc(), &m)?;
+    let around = safe_input_around(rt.alloc(), &m.borrowed())?;
     // The data are the three bytes from place 22 on.
     assert_eq!(rt; around.before.as_slice(), &SAFE[..22]);
     assert_eq!(rt; around.behind.as_slice(), &SAFE[25..]);
@@ -27,6 +27,7 @@ fn bytes_under_a_checksum_stand_around_the_data(rt: HostRuntime) -> Result<(), F
 fn message_has_the_checksum_that_it_is_given(rt: HostRuntime) -> Result<(), Fail> {
     let m = decode_safe(rt.alloc(), &SAFE)?;
     assert!(rt; m.body.in_range());
+    let m = m.borrowed();
     let bytes = m.encode_with_checksum(rt.alloc(), 15, &[0xa5; 12])?;
     let again = decode_safe(rt.alloc(), &bytes)?;
     assert_eq!(rt; (bytes.len(), again.cksum_type), (96, 15));

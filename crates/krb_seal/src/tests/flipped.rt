@@ -71,7 +71,7 @@ fn no_prefix_is_a_frame(rt: HostRuntime) -> Result<(), Fail> {
 #[test]
 fn too_long_comes_before_malformed(rt: HostRuntime) -> Result<(), Fail> {
     let opener = opener(rt.alloc(), Mode::Safe)?;
-    let zeros = vec![in rt.alloc(); 0u8; 65_001]?;
+    let zeros = vec![in rt.alloc(); 0u8; 1_005_001]?;
     assert_eq!(rt; answer(rt.alloc(), &opener, &zeros, 7, MICROS), 61);
     assert_eq!(rt; answer(rt.alloc(), &opener, &zeros[1..], 7, MICROS), 901);
     Ok(())

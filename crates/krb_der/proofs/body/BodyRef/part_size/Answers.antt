@@ -1,0 +1,6 @@
+use Rattle.std.proofs.Common.{arith}
+use Rattle.krb_der.proofs.Writers.{sizes}
+use Rattle.krb_der.proofs.body.BodyRef.part_size.Goals as goal
+
+pub returns : goal.returns
+returns c = grind (arith, sizes)

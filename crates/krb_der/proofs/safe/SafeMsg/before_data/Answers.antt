@@ -1,9 +1,0 @@
-use Rattle.std.proofs.Common.{[], arith, append_assoc, pos}
-use Rattle.krb_der.specs.Tag.{sequence_tag}
-use Rattle.krb_der.specs.Element.{joined}
-use Rattle.krb_der.specs.Safe.{safe_fields, with_checksum}
-use Rattle.krb_der.proofs.Readers.{size-tagged}
-use Rattle.krb_der.proofs.safe.SafeMsg.before_data.Goals as goal
-
-pub returns : goal.returns
-returns c = grind (arith, append_assoc, size-tagged sequence_tag (joined (safe_fields (with_checksum c.args.self.now (pos 0) []))))
