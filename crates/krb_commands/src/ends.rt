@@ -154,7 +154,8 @@ pub fn push_lane<S: Sealer>(
     Ok(())
 }
 
-/// Both ends of a job's lane have one key, and the number that is demanded first is the sender's.
+/// A law, and no work: both ends of a job's lane have one key, and the number that is demanded
+/// first is the sender's.
 pub fn job_lanes_are_paired()
     ensures { (sender : Sender) (seed : List ℕ)
         → IsPaired (ends.ends_with sender (ends.source_with sender (ends.sealer_of sender) seed)) }
