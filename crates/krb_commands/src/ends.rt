@@ -175,8 +175,5 @@ fn vectors_of(alloc: Global, texts: Vec<Bytes>) -> Result<Vec<Vec<u8>>, AllocErr
 fn copy_of(alloc: Global, address: &HostAddress) -> Result<HostAddress, AllocError>
     ensures { IfOk result (λ copy. copy ≡ address.now) }
 {
-    Ok(HostAddress {
-        kind: address.kind,
-        bytes: Bytes::new(Vec::from_slice(alloc, address.bytes.as_slice())?),
-    })
+    HostAddress::new(alloc, address.kind, address.bytes.as_slice())
 }

@@ -17,7 +17,7 @@ use crate::parts::{Ends, Protection, Traffic};
 use crate::place::{KeyError, Place};
 use crate::secret::Secret;
 use crate::table::{
-    address, entry, flag, frames, has_only, mode, moments, moments_if, number, plan, seed, texts,
+    address, flag, frames, has_only, mode, moments, moments_if, needed, number, plan, seed, texts,
 };
 use crate::values::read_bytes;
 use krb_base::SKEW_LIMIT;
@@ -60,10 +60,7 @@ fn key(alloc: Global, table: &Table, etype: u64, earlier: &[SenderJob]) -> Resul
     ensures { Gives (λ b. b) result
         (needed Place.Key (key_of etype (keys_of earlier.now)) (table_view table.now)) }
 {
-    match entry(table, Place::Key) {
-        Some(value) => read_key(alloc, value, etype, earlier),
-        None => Err(KeyError::Bad(Place::Key)),
-    }
+    read_key(alloc, needed(table, Place::Key)?, etype, earlier)
 }
 
 #[tactic(auto, unfolding(crate::specs::Sender::protection_of))]
