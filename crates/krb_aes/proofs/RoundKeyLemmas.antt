@@ -61,9 +61,6 @@ length-round_key w n = refl
 
 -- ---- for the inverse cipher
 
-abbrev pub ahead_lanes : List ℕ → List ℕ → List ℕ
-ahead_lanes p r = let y : List ℕ = zip2 bit_xor r (replicate 16 0x63) in pick_l 0 (y ++ y) p
-
 abbrev pub no_words : List ℕ
 no_words = replicate 4 0
 
@@ -99,10 +96,6 @@ undone_key w n =
     ap (λ (x : List ℕ). add_round_key no_words 0 (inv_sub_bytes x)) (inv_shift-shift (sub_bytes k) (IsState-sub k h))
     ∙ ap (add_round_key no_words 0) (inv_sub-sub k (record { bytes = h; cells = cells-round_key w n }))
     ∙ zero_round_key w n
-
-pub rows_shifted-mixed : (s : List ℕ) → rows_shifted 0 (inv_mix_columns s) ≡ inv_mix_columns s
-unfolding rows_shifted inv_mix_columns
-rows_shifted-mixed s = refl
 
 -- after ShiftRows, turned 3 times, rows stand as before it
 pub rows_shifted-shifted : (w : List ℕ) (n : ℕ) → sub_bytes (round_key w n) ≡ rows_shifted 3 (shift_rows (sub_bytes (round_key w n)))

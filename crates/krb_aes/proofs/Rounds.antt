@@ -29,11 +29,6 @@ mixed_lanes p1 p3 a b k =
 abbrev pub last_lanes : List ℕ → List ℕ → List ℕ → List ℕ
 last_lanes p a k = zip2 bit_xor (pick_l 0 (a ++ a) p) k
 
--- the lanes of a vector of bytes
-pub shifted_none : (s : List ℕ) → length s ≡ 16 → rows_shifted 0 s ≡ s
-unfolding rows_shifted
-shifted_none s e = cells_16 s e
-
 start_cells : (b : List ℕ) (w : List ℕ) → AreBytes b → zip2 bit_xor (map nibbles_of (from_cells (cell b))) (map nibbles_of (round_key w 0)) ≡ map nibbles_of (rows_shifted 0 (add_round_key w 0 b))
 unfolding rows_shifted add_round_key round_key
 start_cells b w h = λ i.

@@ -35,7 +35,7 @@ pub const ENTRIES_LIMIT: usize = 2_000;
 /// The last sequence number (RFC 4120 section 5.2.4, UInt32). It is kept for the close.
 pub const LAST_NUMBER: u64 = 4_294_967_295;
 
-/// The constants are the limits that the definitions speak of.
+/// Laws, and no work: the constants are the limits that the definitions speak of.
 pub fn limit_laws()
     ensures text { TEXT_LIMIT ≡ text_limit }
     ensures user_data { USER_DATA_LIMIT ≡ user_data_limit }

@@ -1,7 +1,7 @@
 -- What `relay` has printed.
-use Rattle.std.proofs.Common.{◌≡◌, ℕ, suc, ◌+◌, ◌&&◌, Bool, true, false, List, [], ◌∷◌, ◌++◌, length, map, drop, slice_get, Some, Option, Result, Ok, Err, OnOk, OnErr, IfOk, ◌⊎◌, refl, sym, ap, ap₂, subst, ◌∙◌, arith, append-nil, append_assoc, inl, inr}
+use Rattle.std.proofs.Common.{◌≡◌, ℕ, suc, ◌+◌, ◌&&◌, Bool, true, false, List, [], ◌∷◌, ◌++◌, length, map, drop, slice_get, Some, Option, Result, Ok, Err, OnOk, OnErr, IfOk, refl, sym, ap, subst, ◌∙◌, arith, append-nil, append_assoc, inl, inr}
 use Rattle.std.specs.List.{concat}
-use Rattle.std.specs.Io.KnownBytes.{Appends, Keeps}
+use Rattle.std.specs.Io.KnownBytes.{Appends}
 use Rattle.std.proofs.KnownBytes.{Appends-trans, Appends-nil}
 use Rattle.krb_peers.specs.declared.sending.Sent.{Sent}
 use Rattle.krb_peers.specs.Log.{status_of}
@@ -11,8 +11,7 @@ use Rattle.krb_seal.specs.Sealer.{SealerState}
 use Rattle.krb_peers.specs.declared.receiver.Receiving.{Receiving}
 use Rattle.krb_peers.specs.declared.sending.Sending.{Sending}
 use Rattle.krb_peers.specs.Ends.{Ends, lanes_of, sents_of}
-use Rattle.krb_peers.specs.Whole.{IsRelayed, IsWhole}
-use Rattle.krb_relay.specs.Relayed.{unended}
+use Rattle.krb_peers.specs.Whole.{IsWhole}
 use Rattle.krb_commands.specs.JobLines.{entry_line, entry_lines, end_line, end_lines, are_closed, is_closed_state, status_by}
 use Rattle.krb_commands.specs.Relayed.{relayed_text, PrintsRelayed, PrintsRelayedPrefix}
 use Rattle.krb_commands.specs.Output.{AppendsPrefix}
@@ -72,11 +71,6 @@ sents_many {S} state sendings receivings sents same are = ap length are ∙ many
     many (s ∷ ss) (r ∷ rs) e = ap suc (many ss rs (omega (arith, e)))
 
 module _ (lanes : List Ends) (log : LogState) (old then now : Option (List ℕ)) where
-  -- the entries until it stopped, or a prefix of them
-  pub part_printed : IsRelayed lanes (unended log) → Keeps old now ⊎ AppendsPrefix old now (entry_lines log.entries) → PrintsRelayedPrefix lanes old now
-  part_printed relayed (inl kept) = inl kept
-  part_printed relayed (inr p) = inr (inr (log, relayed, p))
-
   -- a prefix of the entries of a whole relay
   pub entries_front : (sents : List Sent) → IsWhole lanes log sents → AppendsPrefix old now (entry_lines log.entries) → PrintsRelayedPrefix lanes old now
   entries_front sents h p = inr (inl (log, subst (λ (l : List Sent). IsWhole lanes log l) h.sealed h, AppendsPrefix-after old old now [] (entry_lines log.entries) (relayed_text lanes log) (Appends-nil old) p (end_lines 0 (sents_of lanes) log) refl))

@@ -1,12 +1,11 @@
 -- What `seal` has printed.
-use Rattle.std.proofs.Common.{◌≡◌, ◌↔◌, ℕ, ◌==◌, cond, true, false, List, [], ◌∷◌, ◌++◌, length, map, Option, Vec, Bool, append-nil, append_assoc, refl, sym, ap, ap₂, subst, ◌∙◌, inr}
+use Rattle.std.proofs.Common.{◌≡◌, ℕ, List, [], ◌∷◌, ◌++◌, map, Option, Vec, append-nil, append_assoc, refl, sym, ap, subst, ◌∙◌, inr}
 use Rattle.std.specs.List.{concat}
 use Rattle.std.specs.Io.KnownBytes.{Appends}
 use Rattle.std.proofs.KnownBytes.{Appends-trans}
 use Rattle.krb_peers.specs.declared.sending.Sent.{Sent}
 use Rattle.krb_peers.specs.Plan.{contents}
 use Rattle.krb_peers.specs.Sender.{Source}
-use Rattle.krb_peers.specs.Sending.{sealed_of}
 use Rattle.krb_peers.specs.Wire.{IsWire}
 use Rattle.krb_peers.specs.Sending.{sent_of}
 use Rattle.krb_commands.specs.JobLines.{frame_line, frame_lines, sent_line}

@@ -1,5 +1,5 @@
 -- The lines that are printed for a job.
-use Rattle.std.specs.Prelude.{ℕ, ◌+◌, ◌==◌, ◌&&◌, Bool, true, false, List, [], ◌∷◌, ◌++◌, length, map, codes, if◌then◌else◌}
+use Rattle.std.specs.Prelude.{ℕ, ◌+◌, ◌&&◌, Bool, true, false, List, [], ◌∷◌, ◌++◌, map, codes, if◌then◌else◌}
 use Rattle.std.specs.List.{concat}
 use Rattle.std.specs.Fmt.{decimal}
 use Rattle.hex.specs.Hex.{encode_lower}
@@ -15,8 +15,6 @@ use Rattle.krb_peers.specs.declared.sending.Ending.{Ending}
 use Rattle.krb_peers.specs.declared.sending.Ending.TheVariants.{Done, LastNumber}
 use Rattle.krb_peers.specs.Log.{status_of}
 use Rattle.krb_peers.specs.LogState.{LogState}
-use Rattle.krb_peers.specs.Sender.{Source}
-use Rattle.krb_peers.specs.Sending.{sealed_of}
 
 -- a frame that is put on the wire
 abbrev pub frame_line : List ℕ → List ℕ

@@ -154,7 +154,8 @@ pub fn push_lane<S: Sealer>(
     Ok(())
 }
 
-/// Both ends of a job's lane have one key, and the number that is demanded first is the sender's.
+/// A law, and no work: both ends of a job's lane have one key, and the number that is demanded
+/// first is the sender's.
 pub fn job_lanes_are_paired()
     ensures { (sender : Sender) (seed : List ℕ)
         → IsPaired (ends.ends_with sender (ends.source_with sender (ends.sealer_of sender) seed)) }
@@ -174,8 +175,5 @@ fn vectors_of(alloc: Global, texts: Vec<Bytes>) -> Result<Vec<Vec<u8>>, AllocErr
 fn copy_of(alloc: Global, address: &HostAddress) -> Result<HostAddress, AllocError>
     ensures { IfOk result (λ copy. copy ≡ address.now) }
 {
-    Ok(HostAddress {
-        kind: address.kind,
-        bytes: Bytes::new(Vec::from_slice(alloc, address.bytes.as_slice())?),
-    })
+    HostAddress::new(alloc, address.kind, address.bytes.as_slice())
 }

@@ -129,7 +129,7 @@ pub(crate) fn is_closed(status: Status) -> bool
 }
 
 /// The exit status: 0 where all that ended was closed, else 3.
-pub(crate) fn exit_status(closed: bool) -> u8
+pub(crate) fn status_of_lanes(closed: bool) -> u8
     ensures { result ≡ lines.status_by closed }
 {
     if closed { 0 } else { 3 }

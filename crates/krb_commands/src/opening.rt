@@ -6,7 +6,7 @@ ghost use Rattle.krb_commands.specs.Fault.{IsOfOpening};
 ghost use Rattle.krb_commands.specs.Opened.{LogsFrames, PrintsFirst, PrintsOpened, PrintsOpenedPrefix};
 
 use crate::fault::Fault;
-use crate::job_lines::{StateLine, exit_status, is_closed};
+use crate::job_lines::{StateLine, is_closed, status_of_lanes};
 use crate::line::{print_line, print_lines};
 use krb_base::Bytes;
 use krb_peers::{Log, Receiving};
@@ -43,7 +43,7 @@ pub fn open_job<W: Write>(
     log.end(0);
     let status = log.status(0);
     print_line(alloc, &StateLine { lane: 0, status }, writer)?;
-    Ok(exit_status(is_closed(status)))
+    Ok(status_of_lanes(is_closed(status)))
 }
 
 /// Gives each frame to the receiver at the moment of its place, and what became of it to a new log.

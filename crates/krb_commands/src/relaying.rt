@@ -13,7 +13,7 @@ ghost use Rattle.std.specs.Io.KnownBytes.{Appends};
 ghost use Rattle.krb_base.specs.Limits.{lane_limit, capacity_limit};
 
 use crate::fault::Fault;
-use crate::job_lines::{EndLine, exit_status, is_closed};
+use crate::job_lines::{EndLine, is_closed, status_of_lanes};
 use crate::line::{print_line, print_lines};
 use krb_peers::{Receiving, Sending};
 use krb_relay::{Gate, Report, relay};
@@ -125,5 +125,5 @@ fn print_ends<W: Write>(alloc: Global, report: &Report, writer: &mut W) -> Resul
         print_line(alloc, &end, writer)?;
         all_closed &= is_closed(end.status);
     }
-    Ok(exit_status(all_closed))
+    Ok(status_of_lanes(all_closed))
 }

@@ -61,7 +61,7 @@ pub fn read_address(alloc: Global, bytes: &[u8]) -> Result<HostAddress, DerError
     Ok(HostAddress { kind, bytes })
 }
 
-/// What the type of its number says.
+/// A law: the number of an address is an Int32, as its type says. It does nothing when it runs.
 pub fn known_address(address: &HostAddress)
     ensures { IsAddress address.now }
 {

@@ -183,6 +183,7 @@ fn write_optional_address(
     }
 }
 
+// A law: the number of an address is an Int32, as its type says. It does nothing when it runs.
 fn known_optional_address(address: &Option<HostAddress>)
     ensures { IfSome address.now IsAddress }
 {

@@ -229,14 +229,14 @@ pub fn write_natural_field(out: &mut Writer, tag: u8, n: Option<u32>) -> Result<
     }
 }
 
-/// What the type of the number says.
+/// A law: the number is an Int32, as its type says. It does nothing when it runs.
 pub fn known_int32(z: &i32)
     ensures { IsInt32 z.now }
 {
     let _z = *z;
 }
 
-/// What the type of the number says.
+/// A law: the number is a UInt32, as its type says. It does nothing when it runs.
 pub fn known_uint32(n: &Option<u32>)
     ensures { IfSome n.now IsUInt32 }
 {

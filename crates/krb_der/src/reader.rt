@@ -52,13 +52,9 @@ impl<'a> Reader<'a> {
     pub fn element(&mut self, tag: u8) -> Result<&'a [u8], DerError>
         ensures { Takes (λ x. x.now) result self.new (tagged_at tag self.old) }
     {
-        match split_element(tag, self.rest) {
-            Ok((content, rest)) => {
-                self.rest = rest;
-                Ok(content)
-            }
-            Err(error) => Err(error),
-        }
+        let (content, rest) = split_element(tag, self.rest)?;
+        self.rest = rest;
+        Ok(content)
     }
 
     /// The value, where nothing is left.

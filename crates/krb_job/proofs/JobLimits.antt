@@ -19,7 +19,7 @@ use Rattle.krb_job.specs.Checks.{◌>>=◌}
 use Rattle.krb_job.specs.Values.{number_of, seed_of}
 use Rattle.krb_job.specs.Lists.{count, moments_of, texts_of, plan_of, frames_of}
 use Rattle.krb_job.specs.Keys.{needed, optional, some, only_if, has_only}
-use Rattle.krb_job.specs.Sender.{Sender, Traffic, seals, opens, sender_of, protection_of, ends_of, traffic_of, sender_keys, together, if_known}
+use Rattle.krb_job.specs.Sender.{Sender, Traffic, seals, opens, sender_of, protection_of, parties_of, traffic_of, sender_keys, together, if_known}
 use Rattle.krb_job.specs.Job.{Job, capacity_of, capacity_if_there, are_tables, are_senders, most_senders, senders_if_there, items_of_senders, sender_at, senders_from, in_sender, GivesJob, job_view, has_top_keys, if_top_known, job_of}
 use Rattle.krb_job.specs.SenderView.{sender_view}
 use Rattle.krb_job.proofs.Given.{checked, given, within, value_at}
@@ -136,9 +136,9 @@ seed_of-sender : (command : Command) (earlier : List (List ℕ)) (ms : Members) 
 unfolding sender_of
 seed_of-sender command earlier ms s sealing e =
     let protection = checked (protection_of earlier ms) _ s e in
-    let ends = checked (ends_of ms) _ s protection.2 in
-    let traffic = checked (traffic_of command ms) _ s ends.2 in
-    let known = known-ok (has_only sender_keys ms) (together protection.0 ends.0 traffic.0) s traffic.2 in
+    let parties = checked (parties_of ms) _ s protection.2 in
+    let traffic = checked (traffic_of command ms) _ s parties.2 in
+    let known = known-ok (has_only sender_keys ms) (together protection.0 parties.0 traffic.0) s traffic.2 in
     let same : traffic.0.seed ≡ s.seed = ap (λ (x : Sender). x.seed) known in
     rw (← same) (seed_of-traffic command ms traffic.0 sealing traffic.1)
 

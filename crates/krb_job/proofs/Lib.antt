@@ -8,4 +8,5 @@ pub mod KeyLemmas
 pub mod ListLemmas
 pub mod SenderLemmas
 pub mod SenderLimits
+pub mod TextLemmas
 pub mod TreeLemmas

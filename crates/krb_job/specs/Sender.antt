@@ -24,7 +24,7 @@ pub record Protection : Type 0 where
   pub first : ℕ
 
 -- who speaks to whom, and what the receiver demands
-pub record Ends : Type 0 where
+pub record Parties : Type 0 where
   pub from : HostAddress
   pub to : HostAddress
   pub write_to : Bool
@@ -79,8 +79,8 @@ protection_of earlier ms = do
   first ← needed First (number_of 0 last_number) ms
   Ok (record { etype = etype; key = key; mode = mode; first = first })
 
-unfoldable pub ends_of : Members → Result Ends Place
-ends_of ms = do
+unfoldable pub parties_of : Members → Result Parties Place
+parties_of ms = do
   from ← needed From address_of ms
   to ← needed To address_of ms
   write_to ← optional false WriteTo flag_of ms
@@ -103,7 +103,7 @@ traffic_of command ms = do
 abbrev pub sender_keys : List (List ℕ)
 sender_keys = map name_of (Etype ∷ Key ∷ Mode ∷ First ∷ From ∷ To ∷ WriteTo ∷ RequireTo ∷ ExpectTime ∷ Skew ∷ Seed ∷ At ∷ Now ∷ Texts ∷ Plan ∷ Frames ∷ [])
 
-abbrev pub together : Protection → Ends → Traffic → Sender
+abbrev pub together : Protection → Parties → Traffic → Sender
 together p e t = record {
   etype = pos p.etype;
   key = p.key;
@@ -130,6 +130,6 @@ if_known false x = Err UnknownKey
 unfoldable pub sender_of : Command → List (List ℕ) → Members → Result Sender Place
 sender_of command earlier ms = do
   protection ← protection_of earlier ms
-  ends ← ends_of ms
+  parties ← parties_of ms
   traffic ← traffic_of command ms
-  if_known (has_only sender_keys ms) (together protection ends traffic)
+  if_known (has_only sender_keys ms) (together protection parties traffic)

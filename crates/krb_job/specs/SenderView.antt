@@ -2,15 +2,15 @@
 use Rattle.std.specs.Prelude.{ℕ, List, map, option_map}
 use Rattle.krb_job.specs.declared.job.SenderJob.{SenderJob}
 use Rattle.krb_job.specs.declared.parts.Protection.{Protection as ReadProtection}
-use Rattle.krb_job.specs.declared.parts.Ends.{Ends as ReadEnds}
+use Rattle.krb_job.specs.declared.parts.Parties.{Parties as ReadParties}
 use Rattle.krb_job.specs.declared.parts.Traffic.{Traffic as ReadTraffic}
-use Rattle.krb_job.specs.Sender.{Sender, Protection, Ends, Traffic}
+use Rattle.krb_job.specs.Sender.{Sender, Protection, Parties, Traffic}
 
 abbrev pub protection_view : ReadProtection → Protection
 protection_view p = record { etype = p.etype; key = p.key; mode = p.mode; first = p.first }
 
-abbrev pub ends_view : ReadEnds → Ends
-ends_view e = record { from = e.from; to = e.to; write_to = e.write_to; require_to = e.require_to; expect_time = e.expect_time; skew = e.skew }
+abbrev pub parties_view : ReadParties → Parties
+parties_view p = record { from = p.from; to = p.to; write_to = p.write_to; require_to = p.require_to; expect_time = p.expect_time; skew = p.skew }
 
 abbrev pub traffic_view : ReadTraffic → Traffic
 traffic_view t = record {

@@ -27,14 +27,14 @@ pub(crate) fn read_emission(alloc: Global, place: Place, value: &Value) -> Resul
     }
 }
 
-#[tactic(auto, unfolding(crate::specs::Emission::emission_named))]
+#[tactic(auto, using(crate::proofs::TextLemmas::same_turned), unfolding(crate::specs::Emission::emission_named))]
 fn emission_named(alloc: Global, place: Place, text: &[u8]) -> Result<Emit, KeyError>
     ensures { Gives (λ e. e) result (ok_or (emission_named text.now) place) }
 {
-    if text.starts_with(b"flip ") {
-        flip_of(&text[5..]).ok_or(KeyError::Bad(place))
-    } else if text.starts_with(b"raw ") {
-        let bytes = read_hex(alloc, place, &text[4..], 0, RAW_LIMIT)?;
+    if let Some(flip) = text.strip_prefix(b"flip ") {
+        flip_of(flip).ok_or(KeyError::Bad(place))
+    } else if let Some(digits) = text.strip_prefix(b"raw ") {
+        let bytes = read_hex(alloc, place, digits, 0, RAW_LIMIT)?;
         Ok(Emit::Raw(bytes))
     } else {
         let k = read_decimal(text, NUMBER_DIGITS).ok_or(KeyError::Bad(place))?;

@@ -25,7 +25,7 @@ pub(crate) struct Protection {
 
 /// Who speaks to whom, and what the receiver demands.
 #[derive(Drop)]
-pub(crate) struct Ends {
+pub(crate) struct Parties {
     pub(crate) from: HostAddress,
     pub(crate) to: HostAddress,
     pub(crate) write_to: bool,

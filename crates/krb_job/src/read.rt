@@ -33,14 +33,10 @@ pub fn read_job(alloc: Global, bytes: &[u8], command: Command) -> Result<Job, Jo
     ensures seeds { seals command ≡ true
         → IfOk result (λ job. All (λ sender. IsSome sender.seed) job.senders.items) }
 {
-    match read_tree(alloc, bytes) {
-        Ok(table) => {
-            let job = read_members(alloc, &table, command);
-            wipe_tree(table);
-            job
-        }
-        Err(error) => Err(error),
-    }
+    let table = read_tree(alloc, bytes)?;
+    let job = read_members(alloc, &table, command);
+    wipe_tree(table);
+    job
 }
 
 #[tactic(auto, unfolding(crate::specs::Job::job_of))]
@@ -69,11 +65,10 @@ fn read_sender_at(
     let Some(table) = item.as_table() else {
         return Err(JobError::Bad(BadInput::Sender));
     };
-    match read_sender(alloc, table, command, earlier) {
-        Ok(sender) => Ok(sender),
-        Err(KeyError::Bad(place)) => { Err(JobError::Bad(BadInput::InSender { sender: j, place })) }
-        Err(KeyError::Memory) => Err(JobError::Memory),
-    }
+    read_sender(alloc, table, command, earlier).map_err(|error| match error {
+        KeyError::Bad(place) => JobError::Bad(BadInput::InSender { sender: j, place }),
+        KeyError::Memory => JobError::Memory,
+    })
 }
 
 fn read_senders(

@@ -7,17 +7,17 @@ ghost use Rattle.toml.specs.View.{view, table_view};
 ghost use Rattle.krb_job.specs.Checks.{Gives};
 ghost use Rattle.krb_job.specs.Values.{key_size, key_of};
 ghost use Rattle.krb_job.specs.Keys.{needed, has_only};
-ghost use Rattle.krb_job.specs.Sender.{protection_of, ends_of, traffic_of, sender_of};
+ghost use Rattle.krb_job.specs.Sender.{protection_of, parties_of, traffic_of, sender_of};
 ghost use Rattle.krb_job.specs.Sender.{sender_keys, together};
-ghost use Rattle.krb_job.specs.SenderView.{keys_of, protection_view, ends_view, traffic_view};
+ghost use Rattle.krb_job.specs.SenderView.{keys_of, protection_view, parties_view, traffic_view};
 ghost use Rattle.krb_job.specs.SenderView.{sender_view};
 
 use crate::job::{Command, SenderJob};
-use crate::parts::{Ends, Protection, Traffic};
+use crate::parts::{Parties, Protection, Traffic};
 use crate::place::{KeyError, Place};
 use crate::secret::Secret;
 use crate::table::{
-    address, entry, flag, frames, has_only, mode, moments, moments_if, number, plan, seed, texts,
+    address, flag, frames, has_only, mode, moments, moments_if, needed, number, plan, seed, texts,
 };
 use crate::values::read_bytes;
 use krb_base::SKEW_LIMIT;
@@ -60,10 +60,7 @@ fn key(alloc: Global, table: &Table, etype: u64, earlier: &[SenderJob]) -> Resul
     ensures { Gives (λ b. b) result
         (needed Place.Key (key_of etype (keys_of earlier.now)) (table_view table.now)) }
 {
-    match entry(table, Place::Key) {
-        Some(value) => read_key(alloc, value, etype, earlier),
-        None => Err(KeyError::Bad(Place::Key)),
-    }
+    read_key(alloc, needed(table, Place::Key)?, etype, earlier)
 }
 
 #[tactic(auto, unfolding(crate::specs::Sender::protection_of))]
@@ -87,9 +84,9 @@ fn read_protection(
     })
 }
 
-#[tactic(auto, unfolding(crate::specs::Sender::ends_of))]
-fn read_ends(alloc: Global, table: &Table) -> Result<Ends, KeyError>
-    ensures { Gives ends_view result (ends_of (table_view table.now)) }
+#[tactic(auto, unfolding(crate::specs::Sender::parties_of))]
+fn read_parties(alloc: Global, table: &Table) -> Result<Parties, KeyError>
+    ensures { Gives parties_view result (parties_of (table_view table.now)) }
 {
     let from = address(alloc, table, Place::From)?;
     let to = address(alloc, table, Place::To)?;
@@ -97,7 +94,7 @@ fn read_ends(alloc: Global, table: &Table) -> Result<Ends, KeyError>
     let require_to = flag(table, Place::RequireTo, false)?;
     let expect_time = flag(table, Place::ExpectTime, true)?;
     let skew = number(table, Place::Skew, 0, u64::from(SKEW_LIMIT))?;
-    Ok(Ends {
+    Ok(Parties {
         from,
         to,
         write_to,
@@ -169,30 +166,30 @@ pub(crate) fn read_sender(
         (sender_of command (keys_of earlier.now) (table_view table.now)) }
 {
     let protection = read_protection(alloc, table, earlier)?;
-    let ends = read_ends(alloc, table)?;
+    let parties = read_parties(alloc, table)?;
     let traffic = read_traffic(alloc, table, command)?;
     if has_sender_keys(table) {
-        Ok(together(protection, ends, traffic))
+        Ok(together(protection, parties, traffic))
     } else {
         Err(KeyError::Bad(Place::UnknownKey))
     }
 }
 
-fn together(protection: Protection, ends: Ends, traffic: Traffic) -> SenderJob
+fn together(protection: Protection, parties: Parties, traffic: Traffic) -> SenderJob
     ensures { sender_view result
-        ≡ together (protection_view protection) (ends_view ends) (traffic_view traffic) }
+        ≡ together (protection_view protection) (parties_view parties) (traffic_view traffic) }
 {
     SenderJob {
         etype: protection.etype as i32,
         key: protection.key,
         mode: protection.mode,
         first: protection.first as u32,
-        from: ends.from,
-        to: ends.to,
-        write_to: ends.write_to,
-        require_to: ends.require_to,
-        expect_time: ends.expect_time,
-        skew: ends.skew as u32,
+        from: parties.from,
+        to: parties.to,
+        write_to: parties.write_to,
+        require_to: parties.require_to,
+        expect_time: parties.expect_time,
+        skew: parties.skew as u32,
         seed: traffic.seed,
         ats: traffic.ats,
         nows: traffic.nows,

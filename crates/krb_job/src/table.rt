@@ -1,6 +1,6 @@
 //! The keys of a table.
 
-ghost use Rattle.std.specs.Prelude.{◌≡◌, ◌≤◌, [], map, ok_or, option_map, string_bytes, IfOk};
+ghost use Rattle.std.specs.Prelude.{◌≡◌, ◌≤◌, [], map, option_map, string_bytes, IfOk};
 ghost use Rattle.std.specs.BTreeMap.{keys};
 ghost use Rattle.std.specs.List.{list_all, list_any};
 ghost use Rattle.std.specs.Str.{bytes_eq};
@@ -31,10 +31,31 @@ pub(crate) fn get<'a>(table: &'a Table, key: &str) -> Option<&'a Value>
 }
 
 /// The value of a key of a sender.
-pub(crate) fn entry<'a>(table: &'a Table, place: Place) -> Option<&'a Value>
+fn entry(table: &Table, place: Place) -> Option<&Value>
     ensures { option_map (λ v. view v.now) result ≡ at_key place (table_view table.now) }
 {
     get(table, place.name())
+}
+
+/// The value of a key of a sender that has to be there.
+pub(crate) fn needed(table: &Table, place: Place) -> Result<&Value, KeyError>
+    ensures { Gives (λ v. view v.now) result (needed place Some (table_view table.now)) }
+{
+    entry(table, place).ok_or(KeyError::Bad(place))
+}
+
+/// The value of a key of some commands alone: it has to be there where it is allowed, and may not
+/// be there where it isn't.
+fn if_allowed(table: &Table, place: Place, allowed: bool) -> Result<Option<&Value>, KeyError>
+    ensures { Gives (option_map (λ v. view v.now)) result
+        (only_if allowed None place (needed place (some Some) (table_view table.now))
+        (table_view table.now)) }
+{
+    match entry(table, place) {
+        Some(value) if allowed => Ok(Some(value)),
+        None if !allowed => Ok(None),
+        _ => Err(KeyError::Bad(place)),
+    }
 }
 
 pub(crate) fn number(table: &Table, place: Place, low: u64, high: u64) -> Result<u64, KeyError>
@@ -43,10 +64,7 @@ pub(crate) fn number(table: &Table, place: Place, low: u64, high: u64) -> Result
     ensures low { IfOk result (λ n. low ≤ n) }
     ensures high { IfOk result (λ n. n ≤ high) }
 {
-    match entry(table, place) {
-        Some(value) => read_number(value, low, high).ok_or(KeyError::Bad(place)),
-        None => Err(KeyError::Bad(place)),
-    }
+    read_number(needed(table, place)?, low, high).ok_or(KeyError::Bad(place))
 }
 
 pub(crate) fn flag(table: &Table, place: Place, absent: bool) -> Result<bool, KeyError>
@@ -61,19 +79,13 @@ pub(crate) fn flag(table: &Table, place: Place, absent: bool) -> Result<bool, Ke
 pub(crate) fn mode(table: &Table, place: Place) -> Result<Mode, KeyError>
     ensures { Gives (λ m. m) result (needed place mode_of (table_view table.now)) }
 {
-    match entry(table, place) {
-        Some(value) => read_mode(value).ok_or(KeyError::Bad(place)),
-        None => Err(KeyError::Bad(place)),
-    }
+    read_mode(needed(table, place)?).ok_or(KeyError::Bad(place))
 }
 
 pub(crate) fn address(alloc: Global, table: &Table, place: Place) -> Result<HostAddress, KeyError>
     ensures { Gives (λ a. a) result (needed place address_of (table_view table.now)) }
 {
-    match entry(table, place) {
-        Some(value) => read_address(alloc, place, value),
-        None => Err(KeyError::Bad(place)),
-    }
+    read_address(alloc, place, needed(table, place)?)
 }
 
 pub(crate) fn seed(table: &Table, place: Place, allowed: bool) -> Result<Option<[u8; 32]>, KeyError>
@@ -81,23 +93,16 @@ pub(crate) fn seed(table: &Table, place: Place, allowed: bool) -> Result<Option<
         (only_if allowed None place (needed place (some seed_of) (table_view table.now))
         (table_view table.now)) }
 {
-    match entry(table, place) {
-        Some(value) if allowed => match read_seed(value) {
-            Some(seed) => Ok(Some(seed)),
-            None => Err(KeyError::Bad(place)),
-        },
-        None if !allowed => Ok(None),
-        _ => Err(KeyError::Bad(place)),
+    match if_allowed(table, place, allowed)? {
+        Some(value) => read_seed(value).map(Some).ok_or(KeyError::Bad(place)),
+        None => Ok(None),
     }
 }
 
 pub(crate) fn moments(alloc: Global, table: &Table, place: Place) -> Result<Vec<Moment>, KeyError>
     ensures { Gives (λ v. v.items) result (needed place moments_of (table_view table.now)) }
 {
-    match entry(table, place) {
-        Some(value) => read_moments(alloc, place, value),
-        None => Err(KeyError::Bad(place)),
-    }
+    read_moments(alloc, place, needed(table, place)?)
 }
 
 pub(crate) fn moments_if(
@@ -110,10 +115,9 @@ pub(crate) fn moments_if(
         (only_if allowed [] place (needed place moments_of (table_view table.now))
         (table_view table.now)) }
 {
-    match entry(table, place) {
-        Some(value) if allowed => read_moments(alloc, place, value),
-        None if !allowed => Ok(Vec::new(alloc)),
-        _ => Err(KeyError::Bad(place)),
+    match if_allowed(table, place, allowed)? {
+        Some(value) => read_moments(alloc, place, value),
+        None => Ok(Vec::new(alloc)),
     }
 }
 
@@ -127,10 +131,9 @@ pub(crate) fn texts(
         (only_if allowed [] place (needed place texts_of (table_view table.now))
         (table_view table.now)) }
 {
-    match entry(table, place) {
-        Some(value) if allowed => read_texts(alloc, place, value),
-        None if !allowed => Ok(Vec::new(alloc)),
-        _ => Err(KeyError::Bad(place)),
+    match if_allowed(table, place, allowed)? {
+        Some(value) => read_texts(alloc, place, value),
+        None => Ok(Vec::new(alloc)),
     }
 }
 
@@ -144,10 +147,9 @@ pub(crate) fn frames(
         (only_if allowed [] place (needed place frames_of (table_view table.now))
         (table_view table.now)) }
 {
-    match entry(table, place) {
-        Some(value) if allowed => read_frames(alloc, place, value),
-        None if !allowed => Ok(Vec::new(alloc)),
-        _ => Err(KeyError::Bad(place)),
+    match if_allowed(table, place, allowed)? {
+        Some(value) => read_frames(alloc, place, value),
+        None => Ok(Vec::new(alloc)),
     }
 }
 
@@ -162,19 +164,9 @@ pub(crate) fn plan(
         (table_view table.now)) }
 {
     match entry(table, place) {
-        Some(value) if allowed => some_plan(alloc, place, value),
+        Some(value) if allowed => Ok(Some(read_plan(alloc, place, value)?)),
         None => Ok(None),
         _ => Err(KeyError::Bad(place)),
-    }
-}
-
-fn some_plan(alloc: Global, place: Place, value: &Value) -> Result<Option<Vec<Emit>>, KeyError>
-    ensures { Gives (λ o. option_map (λ v. v.items) o) result
-        (ok_or (some plan_of (view value.now)) place) }
-{
-    match read_plan(alloc, place, value) {
-        Ok(plan) => Ok(Some(plan)),
-        Err(error) => Err(error),
     }
 }
 

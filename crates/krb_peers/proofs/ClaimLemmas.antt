@@ -1,6 +1,5 @@
 -- The headline of a lane, by what a log has of it.
 use Rattle.std.proofs.Common.{◌≡◌, ℕ, true, List, sym, ap, subst, ◌∙◌}
-use Rattle.krb_base.specs.Prefix.{IsPrefix}
 use Rattle.krb_peers.specs.declared.log.Event.{Event}
 use Rattle.krb_peers.specs.Log.{events_of, texts_in, has_closed}
 use Rattle.krb_peers.specs.LogState.{LogState}
@@ -8,7 +7,7 @@ use Rattle.krb_peers.specs.Sender.{sealed_texts}
 use Rattle.krb_peers.specs.Verdicts.{events_from}
 use Rattle.krb_peers.specs.Run.{Run, IsRun}
 use Rattle.krb_peers.specs.Undisturbed.{TakesAll}
-use Rattle.krb_peers.specs.Claims.{has_ended, Headline, NothingAfterClose, DeliversPrefix}
+use Rattle.krb_peers.specs.Claims.{has_ended, Headline, DeliversPrefix}
 use Rattle.krb_peers.proofs.HeadlineLemmas.{records_prefix, delivered_prefix, delivered_whole, quiet_after, refuses, refusal_nothing}
 use Rattle.krb_peers.proofs.UndisturbedLemmas.{all_texts}
 

@@ -1,7 +1,7 @@
 -- No frame opens at a number over the last, and none over the limit opens at all.
-use Rattle.std.proofs.Common.{◌≡◌, ℕ, ◌≤◌, true, List, length, Option, Some, None, Ok, IfSome, inl, inr, arith, drop}
+use Rattle.std.proofs.Common.{◌≡◌, ℕ, ◌≤◌, true, List, Option, Some, None, Ok, IfSome, inl, inr, arith, drop}
 use Rattle.std.proofs.lemmas.Bool.{eqb-true}
-use Rattle.krb_base.specs.Limits.{last_number, frame_limit}
+use Rattle.krb_base.specs.Limits.{last_number}
 use Rattle.krb_der.specs.declared.message.Message.{Message}
 use Rattle.krb_der.specs.declared.message.Message.TheVariants as messages
 use Rattle.krb_der.specs.Integer.{IsUInt32}
@@ -35,12 +35,4 @@ opens_in_range o number now bytes given h =
     elim a.1 [
       | inl r ↦ absurd (let e = r.1 in cc)
       | inr r ↦ message_small o number now given r.0 r.1.in_range r.2
-    ]
-
-pub opens_within : (o : OpenerState) (number now : ℕ) (bytes given : List ℕ) → Opens o number now bytes (Ok given) → length bytes ≤ frame_limit
-opens_within o number now bytes given h =
-    let a = met_all (frame_checks bytes) (Read Spells bytes (OpensMessage o number now)) given h in
-    elim a.1 [
-      | inl r ↦ absurd (let e = r.1 in cc)
-      | inr r ↦ r.1.short
     ]

@@ -1,5 +1,5 @@
 -- What a verdict leaves of a receiver and of a log.
-use Rattle.std.proofs.Common.{◌≡◌, ℕ, Bool, List, Ok, Err, inl, inr, refl, sym, ap, ◌∙◌}
+use Rattle.std.proofs.Common.{◌≡◌, ℕ, Bool, List, Ok, Err, inl, inr, sym, ap, ◌∙◌}
 use Rattle.krb_aes.specs.Words.{AreBytes}
 use Rattle.krb_seal.specs.declared.refusal.Refusal.{Refusal}
 use Rattle.krb_seal.specs.declared.refusal.Refusal.TheVariants.{Memory}

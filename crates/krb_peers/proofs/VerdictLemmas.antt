@@ -1,11 +1,9 @@
 -- One verdict for each frame, and no other.
-use Rattle.std.proofs.Common.{◌≡◌, ℕ, zero, suc, ◌+◌, ◌≤◌, ◌||◌, ◌&&◌, ◌⊎◌, leb, eqb, cond, Bool, true, false, List, [], ◌∷◌, ◌++◌, length, take, slice_get, Option, Some, None, Ok, Err, inl, inr, refl, sym, ap, ap₂, subst, ◌∙◌, arith, length-append, ◌<◌}
+use Rattle.std.proofs.Common.{◌≡◌, ℕ, zero, suc, ◌+◌, ◌≤◌, ◌&&◌, ◌⊎◌, leb, eqb, cond, Bool, true, false, List, [], ◌∷◌, ◌++◌, length, take, slice_get, Option, Some, None, Ok, Err, inl, inr, refl, sym, ap, ap₂, subst, ◌∙◌, arith, length-append, ◌<◌}
 use Rattle.std.specs.Result.{MatchResult}
-use Rattle.std.specs.List.{list_any}
 use Rattle.std.proofs.lemmas.Bool.{eqb-true, leb-true, le-leb}
 use Rattle.std.proofs.lemmas.List.{take-append-le, take_all}
 use Rattle.std.proofs.lemmas.Option.{slice_get_within}
-use Rattle.std.proofs.lemmas.List.Folds.{list_any-append}
 use Rattle.krb_base.specs.Limits.{text_limit}
 use Rattle.krb_seal.specs.declared.refusal.Refusal.{Refusal}
 use Rattle.krb_seal.specs.declared.refusal.Refusal.TheVariants as refusals
@@ -14,7 +12,6 @@ use Rattle.krb_seal.specs.Opens.{OpenerState, Outcome, Opens}
 use Rattle.krb_seal.specs.Opening.{opens}
 use Rattle.krb_seal.proofs.Openings.{one_outcome}
 use Rattle.krb_seal.proofs.Outcomes.{Unique, outcomes_unique}
-use Rattle.krb_peers.specs.declared.record.Record.{Record}
 use Rattle.krb_peers.specs.declared.record.Record.TheVariants as records
 use Rattle.krb_peers.specs.declared.delivery.Delivery.{Delivery}
 use Rattle.krb_peers.specs.declared.delivery.Delivery.TheVariants.{Text, Closed}
@@ -24,7 +21,7 @@ use Rattle.krb_peers.specs.Sender.{moment_at}
 use Rattle.krb_peers.specs.Order.{demand_after}
 use Rattle.krb_peers.specs.Verdicts.{Verdict, AllBytes, record_of, accepted_by, records_of, IsNoRecord, IsVerdict, AreVerdicts, delivery_in, judged, verdict_on, verdict, verdicts}
 use Rattle.krb_peers.proofs.OrderLemmas.{demand_after-nil, demand_after-append}
-use Rattle.krb_peers.proofs.ListLemmas.{or_assoc, or_false, both_true, slice_get-front, slice_get-end, lt_or_same}
+use Rattle.krb_peers.proofs.ListLemmas.{both_true, slice_get-front, slice_get-end, lt_or_same}
 
 -- ---- what user data delivers
 

@@ -1,21 +1,19 @@
 -- What any relay leaves, and what one leaves that ran to its end.
-use Rattle.std.proofs.Common.{◌≡◌, ◌↔◌, ℕ, zero, suc, ◌<◌, ◌≤◌, true, List, [], ◌∷◌, ◌++◌, length, map, take, slice_get, Some, Result, Ok, Err, OnOk, refl, sym, ap, ap₂, subst, ◌∙◌, arith}
-use Rattle.std.proofs.lemmas.List.{take_all, length-map, map-append}
+use Rattle.std.proofs.Common.{◌≡◌, ℕ, zero, suc, List, [], ◌∷◌, map, slice_get, Some, refl, sym, ap, ap₂, subst, ◌∙◌}
 use Rattle.krb_peers.specs.declared.sending.Sent.{Sent}
 use Rattle.krb_peers.specs.Log.{events_of as events_in}
 use Rattle.krb_peers.specs.LogState.{LogState}
 use Rattle.krb_peers.specs.Plan.{wire}
-use Rattle.krb_peers.specs.Sender.{Source, AreFrames, records}
-use Rattle.krb_peers.specs.Verdicts.{Verdict, events_by, groups_of, verdicts}
+use Rattle.krb_peers.specs.Sender.{AreFrames, records}
+use Rattle.krb_peers.specs.Verdicts.{Verdict, groups_of, verdicts}
 use Rattle.krb_peers.specs.Claims.{Headline}
 use Rattle.krb_peers.specs.Ends.{Ends}
-use Rattle.krb_peers.specs.Logged.{entries_by, noted}
-use Rattle.krb_peers.specs.Rounds.{rounds, joined, list_of, NoneLonger}
+use Rattle.krb_peers.specs.Rounds.{joined, list_of}
 use Rattle.krb_peers.specs.Run.{Run, IsRun, AreRuns, OfRuns}
 use Rattle.krb_peers.specs.Whole.{EndsWhole, IsRelayed, IsWholeRun, rounds_of, IsWhole}
 use Rattle.krb_peers.proofs.HeadlineLemmas.{same_frames}
-use Rattle.krb_peers.proofs.VerdictLemmas.{verdicts_follow, follow_same}
-use Rattle.krb_peers.proofs.RoundsLemmas.{of_lane, joined-groups, rounds-push}
+use Rattle.krb_peers.proofs.VerdictLemmas.{follow_same}
+use Rattle.krb_peers.proofs.RoundsLemmas.{of_lane, joined-groups}
 use Rattle.krb_peers.proofs.ClaimLemmas.{headline_of}
 
 -- ---- the headline of any relay
@@ -46,27 +44,6 @@ relayed_of lanes runs log are entries all_taken = record {
   all_taken = all_taken;
   claims = claims_of lanes runs log are entries all_taken;
 }
-
--- ---- one verdict more in rounds
-
-map-seam : {X Y : Type 0} (f : X → Y) (front back : List X) (x : X) → map f (front ++ x ∷ back) ≡ map f front ++ f x ∷ map f back
-map-seam f front back x = map-append f front (x ∷ back)
-
--- where a log has the verdicts of all lanes in rounds, and the next verdict is of this lane: no lane before it
--- has more than it has then, and no lane behind it more than it had
-pub noted_next : (front back : List (List Verdict)) (vs : List Verdict) (v : Verdict) (log : LogState) → log.entries ≡ rounds (map groups_of (front ++ vs ∷ back))
-    → NoneLonger (suc (length vs)) (map groups_of front) → NoneLonger (length vs) (map groups_of back)
-    → (noted log (length front) v).entries ≡ rounds (map groups_of (front ++ (vs ++ v ∷ []) ∷ back))
-noted_next front back vs v log is before behind =
-    let lane : length (map groups_of front) ≡ length front = length-map front groups_of in
-    let count : length (groups_of vs) ≡ length vs = length-map vs events_by in
-    let in-front : NoneLonger (suc (length (groups_of vs))) (map groups_of front) = rw count before in
-    let in-back : NoneLonger (length (groups_of vs)) (map groups_of back) = rw count behind in
-    let group : groups_of (vs ++ v ∷ []) ≡ groups_of vs ++ events_by v ∷ [] = map-append events_by vs (v ∷ []) in
-    ap (λ es. es ++ entries_by (length front) v) (is ∙ ap rounds (map-seam groups_of front back vs))
-    ∙ (ap (λ (k : ℕ). rounds (map groups_of front ++ groups_of vs ∷ map groups_of back) ++ entries_by k v) (sym lane)
-    ∙ (sym (rounds-push (map groups_of front) (groups_of vs) (events_by v) (map groups_of back) in-front in-back)
-    ∙ ap rounds (ap (λ g. map groups_of front ++ g ∷ map groups_of back) (sym group) ∙ sym (map-seam groups_of front back (vs ++ v ∷ [])))))
 
 -- ---- the whole log is one list
 

@@ -1,5 +1,5 @@
 -- What a level knows once its worker was joined.
-use Rattle.std.proofs.Common.{◌≡◌, ℕ, ◌+◌, false, List, [], ◌∷◌, ◌++◌, length, map, reverse, refl, sym, ap, subst, ◌∙◌, Option, None, Some}
+use Rattle.std.proofs.Common.{◌≡◌, ℕ, ◌+◌, List, [], ◌∷◌, ◌++◌, length, map, reverse, refl, sym, ap, subst, ◌∙◌, Option, None, Some}
 use Rattle.std.specs.Prelude.{All}
 use Rattle.std.specs.List.{AllZip}
 use Rattle.std.proofs.lemmas.List.{append_assoc, append-nil, map-append, reverse-append, same_from_push, length_push}
@@ -24,22 +24,10 @@ all_last P (x ∷ xs) y h = all_last P xs y (All-tail P x (xs ++ y ∷ []) h)
 
 -- ---- one end more
 
-pub begun_from : (ends mid now : List Side) (mine tx promised : Side) → now ≡ mid ++ mine ∷ [] → mid ≡ ends → mine ≡ tx → tx.frames ≡ [] → tx.ended ≡ false → promised ≡ tx → Begun ends now promised
-begun_from ends mid now mine tx promised grown mid_is rx_is frames ended promised_is = record {
-  mine = mine;
-  grown = grown ∙ ap (λ x. x ++ mine ∷ []) mid_is;
-  fresh = record { frames = ap (λ (s : Side). s.frames) rx_is ∙ frames; ended = ap (λ (s : Side). s.ended) rx_is ∙ ended };
-  empty = ap (λ (s : Side). s.frames) promised_is ∙ frames;
-  same = ap (λ (s : Side). s.lane) (rx_is ∙ sym promised_is);
-}
-
 pub begun_fresh : (ends begun : List Side) (tx : Side) → Begun ends begun tx → All IsFresh ends → All IsFresh begun
 begun_fresh ends begun tx b h =
     let P : List Side → Type 0 = λ x. All IsFresh x in
     subst P (sym b.grown) (All-append IsFresh ends (b.mine ∷ []) h (All-cons IsFresh b.mine [] b.fresh (All-nil IsFresh)))
-
-pub begun_length : (ends begun : List Side) (tx : Side) → Begun ends begun tx → length begun ≡ length ends + 1
-begun_length ends begun tx b = ap length b.grown ∙ length_push ends b.mine
 
 -- the ends that come back end with the one that was added
 ends_with : (now ends : List Side) (mine tx : Side) → tx.frames ≡ [] → mine.lane ≡ tx.lane → map lane_of now ≡ map lane_of (ends ++ mine ∷ []) → EndsWith now tx

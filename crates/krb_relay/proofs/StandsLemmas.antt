@@ -115,11 +115,6 @@ module _ (lane : ℕ) (starts : List Receiving) (ends : List Side) (receivings :
           posts_at starts ends receivings k p.start p.rx p.receiving p h.each_end h.each_receiver lt in
           t.ended ∙ (ap (λ (q : Post). q.rx.ended) same ∙ ended k p.rx at)
 
--- the lanes were others before
-pub stops_since : (starts : List Receiving) (first ends now : List Side) (log : LogState) → map lane_of ends ≡ map lane_of first → Stops starts ends now log → Stops starts first now log
-stops_since starts first ends now log same s =
-    record { mid = s.mid; judged = s.judged; logged = s.logged; lanes = s.lanes; same = s.same ∙ same; drained = s.drained }
-
 -- ---- at first
 
 fresh_ended : (lane : ℕ) → lane < lane_limit → get_or (replicate lane_limit false) lane false ≡ false

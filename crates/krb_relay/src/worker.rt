@@ -68,10 +68,7 @@ fn send_all<R: Wait, G: Gate, S: Sealer>(
         None => seal_and_send(rt, alloc, gate, lane, sending, tx),
         Some(plan) => send_planned(rt, alloc, gate, lane, sending, plan.as_slice(), tx),
     };
-    match sent {
-        Ok(()) => None,
-        Err(cause) => Some(cause),
-    }
+    sent.err()
 }
 
 /// Seals the records and sends their frames in turn.

@@ -44,7 +44,8 @@ fn safe_frame(
     within_limit(draft.encode_with_checksum(alloc, etype.checksum_type(), &checksum))
 }
 
-/// What the type of its elements says.
+/// A law: the elements of a slice of bytes are bytes, as their type says. It does nothing when it
+/// runs.
 fn known_bytes(bytes: &[u8])
     ensures { AreBytes bytes.now }
 {}

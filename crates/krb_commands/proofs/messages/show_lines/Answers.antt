@@ -14,4 +14,4 @@ loop-line-preserved g c =
 
 pub returns-clause-shown : goal.returns-clause-shown
 returns-clause-shown g c =
-    printed_all _ _ _ c.loop-line.rest.now c.loop-line.all_messages c.exit_status.result c.loop-line.invariant c.in_default.ensures.line c.exit_status.ensures
+    printed_all _ _ _ c.loop-line.rest.now c.loop-line.all_messages c.status_of_messages.result c.loop-line.invariant c.in_default.ensures.line c.status_of_messages.ensures

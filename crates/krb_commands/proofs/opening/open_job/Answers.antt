@@ -31,4 +31,4 @@ returns-clause-printed g c =
     let well : is_err c.take_all-outcome.result ≡ false = search rules in
     let all = took_all _ _ _ _ _ c.take_all-outcome.ensures well in
     all_printed _ _ _ _ _ c.take_all-outcome.ensures _ _ _ all (rw c.entries.ensures at c.in_ok-print_lines.ensures.printed)
-    c.status-status.result (rw c.end.ensures at c.status-status.ensures) c.in_ok-print_line.ensures.printed _ (c.exit_status.ensures ∙ ap status_by c.is_closed.ensures)
+    c.status-status.result (rw c.end.ensures at c.status-status.ensures) c.in_ok-print_line.ensures.printed _ (c.status_of_lanes.ensures ∙ ap status_by c.is_closed.ensures)

@@ -1,5 +1,5 @@
 -- What is printed, by what the relay answers.
-use Rattle.std.proofs.Common.{◌≡◌, ◌∙◌, sym}
+use Rattle.std.proofs.Common.{◌∙◌, sym}
 use Rattle.krb_peers.specs.Ends.{lanes_of}
 use Rattle.krb_commands.proofs.StoppedLemmas.{live_cause, names_bad_plan}
 use Rattle.krb_commands.proofs.RelayedLemmas.{entries_front, relayed_by, front_by, sents_many}

@@ -1,4 +1,3 @@
-use Rattle.std.proofs.Common.{ℕ}
 use Rattle.std.specs.List.{AllWithin}
 use Rattle.krb_aes.specs.Keys.{AreZero}
 use Rattle.krb_peers.proofs.receivers.wipe_receivers.Given as goal

@@ -3,7 +3,6 @@ use Rattle.std.proofs.Common.{◌≡◌, ◌∷◌, [], List, length, drop, refl
 use Rattle.std.specs.Prelude.{All}
 use Rattle.std.proofs.lemmas.List.{nil_from_length, take_at}
 use Rattle.krb_lane.specs.Side.{Side}
-use Rattle.krb_peers.specs.declared.receiver.Receiving.{Receiving}
 use Rattle.krb_relay.specs.Gathering.{Finished}
 use Rattle.krb_relay.proofs.GatheringLemmas.{all_front, all_last, begun_fresh, begun_ends, gathers_none, gathers_leave, gathers_fault, least_here, least_later}
 use Rattle.krb_relay.proofs.levels.+level.Goals as goal
