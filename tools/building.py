@@ -1,10 +1,12 @@
-"""Which programs lie built in crates/NAME/out, and from which sources.
+"""Which programs lie built in crates/NAME/out, and from which sources; and the C compiler.
 
 Beside each program that a tool has had proved and built stands a file that tells the digest of the
 sources and of the program: where both are still the same, it isn't built again.
 """
 import hashlib
 import os
+import shlex
+import shutil
 import subprocess
 
 TOP = os.path.dirname(os.path.dirname(os.path.realpath(__file__)))
@@ -31,6 +33,11 @@ def krbrelay():
     subprocess.run([os.path.join(TOP, "tools", "krbrelay"), "--version"], check=True,
                    stdin=subprocess.DEVNULL, stdout=subprocess.DEVNULL)
     return KRBRELAY
+
+
+def c_compiler():
+    """The words that start the C compiler: those of the variable CC, else cc or gcc."""
+    return shlex.split(os.environ.get("CC", "")) or ["cc" if shutil.which("cc") else "gcc"]
 
 
 # ---- what a crate stands on
