@@ -1,0 +1,105 @@
+"""Which programs lie built in crates/NAME/out, and from which sources; and the C compiler.
+
+Beside each program that a tool has had proved and built stands a file that tells the digest of the
+sources and of the program: where both are still the same, it isn't built again.
+"""
+import hashlib
+import os
+import shlex
+import shutil
+import subprocess
+
+TOP = os.path.dirname(os.path.dirname(os.path.realpath(__file__)))
+
+
+def folder_of(crate):
+    return os.path.join(TOP, "crates", crate)
+
+
+def program_of(crate):
+    return os.path.join(folder_of(crate), "out", crate)
+
+
+def tests_of(crate):
+    """The test program of a crate."""
+    return program_of(crate) + "_tests"
+
+
+KRBRELAY = program_of("krbrelay")
+
+
+def krbrelay():
+    """The program, which is proved and built before where that is needed."""
+    subprocess.run([os.path.join(TOP, "tools", "krbrelay"), "--version"], check=True,
+                   stdin=subprocess.DEVNULL, stdout=subprocess.DEVNULL)
+    return KRBRELAY
+
+
+def c_compiler():
+    """The words that start the C compiler: those of the variable CC, else cc or gcc."""
+    return shlex.split(os.environ.get("CC", "")) or ["cc" if shutil.which("cc") else "gcc"]
+
+
+# ---- what a crate stands on
+
+def below():
+    """Each crate of the repository with the crates of the repository that it stands on."""
+    with open(os.path.join(TOP, "crates.txt"), encoding="utf-8") as file:
+        lines = [line.split("#")[0].partition(":") for line in file]
+    found = {head.split()[0]: words.split() for head, _, words in lines if head.strip()}
+    return {crate: [it for it in deps if it in found] for crate, deps in found.items()}
+
+
+def in_order(crate, deps=None, found=None):
+    """The crates that it stands on, lowest first, and it."""
+    deps = below() if deps is None else deps
+    found = [] if found is None else found
+    for dep in deps[crate]:
+        in_order(dep, deps, found)
+    if crate not in found:
+        found.append(crate)
+    return found
+
+
+# ---- what is built from what
+
+def sources(crates):
+    """The files that these crates are proved and built from."""
+    yield os.path.join(TOP, "crates.txt")
+    for crate in crates:
+        for part in ("src", "specs", "proofs"):
+            for folder, folders, names in os.walk(os.path.join(folder_of(crate), part)):
+                folders.sort()
+                yield from (os.path.join(folder, name) for name in sorted(names))
+
+
+def digest(paths):
+    total = hashlib.sha256()
+    for path in paths:
+        with open(path, "rb") as file:
+            total.update(hashlib.sha256(file.read()).digest())
+        total.update(os.path.relpath(path, TOP).encode() + b"\0")
+    return total.hexdigest()
+
+
+def digest_of(crate):
+    """A digest of all sources that the crate is proved and built from."""
+    return digest(sources(in_order(crate)))
+
+
+def stamp_of(program):
+    return program + ".built_from"
+
+
+def is_built(crate, program):
+    """Whether a program of the crate is the one that was built last, from these very sources."""
+    if not os.path.exists(stamp_of(program)) or not os.path.exists(program):
+        return False
+    with open(stamp_of(program), encoding="utf-8") as file:
+        return file.read() == digest_of(crate) + digest([program])
+
+
+def note(program, built_from):
+    """Tells that the program was proved and built from sources of this digest."""
+    with open(stamp_of(program), "w", encoding="utf-8") as file:
+        file.write(built_from + digest([program]))
