@@ -1,6 +1,6 @@
 ghost use Rattle.std.specs.Prelude.{◌≡◌};
 ghost use Rattle.krb_base.specs.Limits.{text_limit, user_data_limit, frame_limit, raw_limit, address_limit, last_number};
-ghost use Rattle.krb_base.specs.Limits.{lane_limit, capacity_limit, skew_limit, texts_limit, entries_limit};
+ghost use Rattle.krb_base.specs.Limits.{lane_limit, capacity_limit, skew_limit, texts_limit, batch_limit, batch_size_limit, entries_limit};
 
 /// The most bytes of a text.
 pub const TEXT_LIMIT: usize = 1_000_000;
@@ -29,6 +29,12 @@ pub const SKEW_LIMIT: u32 = 86_400;
 /// The most texts of a job's sender.
 pub const TEXTS_LIMIT: usize = 1_000;
 
+/// The most texts of a batch.
+pub const BATCH_LIMIT: usize = 1_000;
+
+/// The most bytes of a batch behind its first byte: four and its length for each text.
+pub const BATCH_SIZE_LIMIT: usize = 1_000_000;
+
 /// The most moments of a job's sender, and the most emissions or frames.
 pub const ENTRIES_LIMIT: usize = 2_000;
 
@@ -46,6 +52,8 @@ pub fn limit_laws()
     ensures capacity { CAPACITY_LIMIT ≡ capacity_limit }
     ensures skew { SKEW_LIMIT ≡ skew_limit }
     ensures texts { TEXTS_LIMIT ≡ texts_limit }
+    ensures batch { BATCH_LIMIT ≡ batch_limit }
+    ensures batch_size { BATCH_SIZE_LIMIT ≡ batch_size_limit }
     ensures entries { ENTRIES_LIMIT ≡ entries_limit }
     ensures number { LAST_NUMBER ≡ last_number }
 {}

@@ -1,6 +1,6 @@
 use crate::{
-    ADDRESS_LIMIT, Bytes, CAPACITY_LIMIT, ENTRIES_LIMIT, FRAME_LIMIT, LANE_LIMIT, LAST_NUMBER,
-    RAW_LIMIT, SKEW_LIMIT, TEXT_LIMIT, TEXTS_LIMIT, USER_DATA_LIMIT,
+    ADDRESS_LIMIT, BATCH_LIMIT, BATCH_SIZE_LIMIT, Bytes, CAPACITY_LIMIT, ENTRIES_LIMIT, FRAME_LIMIT,
+    LANE_LIMIT, LAST_NUMBER, RAW_LIMIT, SKEW_LIMIT, TEXT_LIMIT, TEXTS_LIMIT, USER_DATA_LIMIT,
 };
 use std::test::Fail;
 
@@ -28,6 +28,7 @@ fn limits_are_those_that_users_are_told(rt: HostRuntime) {
     assert_eq!(rt; (ADDRESS_LIMIT, SKEW_LIMIT), (32, 86_400));
     assert_eq!(rt; (LANE_LIMIT, CAPACITY_LIMIT), (8, 64));
     assert_eq!(rt; (TEXTS_LIMIT, ENTRIES_LIMIT), (1_000, 2_000));
+    assert_eq!(rt; (BATCH_LIMIT, BATCH_SIZE_LIMIT), (1_000, 1_000_000));
     // UInt32 ends here (RFC 4120 section 5.2.4).
     assert_eq!(rt; LAST_NUMBER, 0xffff_ffff);
 }

@@ -1,0 +1,24 @@
+//! Batches: several texts as the user data of one message.
+//!
+//! A batch is byte 42 (hexadecimal) followed by 2 to 1,000 texts, each as its length in four bytes,
+//! most significant first, and its bytes. The format is this project's own. [`batch_bytes`] writes
+//! [`Texts`] so, and [`read_batch`] reads them again; [`batch_laws`] says that each batch has one
+//! spelling and each spelling one batch. [`group_end`] says how many of a sender's texts go
+//! together, and [`group_laws`] what the groups of all of them are.
+//!
+//! ```rust crates/krb_batch/src/tests.rt
+//! let texts = read_batch(rt.alloc(), b"\x42\0\0\0\x01\x61\0\0\0\x01\x62")?;
+//! assert_eq!(rt; texts.as_slice().len(), 2);
+//! ```
+#![tactic(auto)]
+
+mod batch;
+mod groups;
+mod texts;
+
+pub use batch::{BatchError, batch_bytes, batch_laws, read_batch};
+pub use groups::{group_end, group_laws};
+pub use texts::Texts;
+
+#[cfg(test)]
+mod tests;
