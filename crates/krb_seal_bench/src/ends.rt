@@ -50,7 +50,7 @@ pub fn ends_256(alloc: Global, mode: Mode) -> Result<(Aes256Sealer, Opener), All
     ))
 }
 
-/// Seals the data so many times, and gives the last frame.
+/// Seals the data so many times, at least once, and gives the last frame.
 pub fn seal_often<S: Sealer>(
     alloc: Global,
     sealer: &mut S,
@@ -58,11 +58,10 @@ pub fn seal_often<S: Sealer>(
     at: Moment,
     times: u32,
 ) -> Result<Vec<u8>, SealError> {
-    let mut last = Vec::new(alloc);
-    for _ in 0..times {
-        last = sealer.seal(alloc, data, at, [7; 16])?;
+    for _ in 1..times {
+        sealer.seal(alloc, data, at, [7; 16])?;
     }
-    Ok(last)
+    sealer.seal(alloc, data, at, [7; 16])
 }
 
 /// Opens the frame so many times, and says how often it gave its data.

@@ -1,5 +1,5 @@
 use super::{PART, SAFE, decode_safe};
-use crate::{encode_part_behind, safe_input_around};
+use crate::{BodyRef, Moment, SafeRef, encode_part_behind, safe_input_around};
 use std::test::Fail;
 
 #[test]
@@ -36,5 +36,18 @@ fn message_has_the_checksum_that_it_is_given(rt: HostRuntime) -> Result<(), Fail
         m.encode_with_checksum(rt.alloc(), 0, &[])?.as_slice(),
         SAFE.as_slice()
     );
+    Ok(())
+}
+
+#[test]
+fn message_is_written_from_what_is_lent(rt: HostRuntime) -> Result<(), Fail> {
+    let m = decode_safe(rt.alloc(), &SAFE)?;
+    let at = Moment::from_micros(1_700_000_000_000_005).ok_or("no moment")?;
+    let body = BodyRef::new(b"\x44hi", at, 7, &m.body.s_addr, &None);
+    assert_eq!(rt; body.user_data(), b"\x44hi".as_slice());
+    let lent = SafeRef::unsigned(5, 20, body, 15);
+    assert_eq!(rt; lent.user_data(), b"\x44hi".as_slice());
+    let bytes = lent.encode_with_checksum(rt.alloc(), 0, &[])?;
+    assert_eq!(rt; bytes.as_slice(), SAFE.as_slice());
     Ok(())
 }
