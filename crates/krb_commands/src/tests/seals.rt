@@ -63,7 +63,10 @@ fn lengths_of_a_long_text_take_three_octets(rt: HostRuntime) -> Result<(), Fail>
     let texts = format!(in rt.alloc(); "['{text}']")?;
     let job = sender(rt.alloc(), &[("texts", texts.as_str())])?;
     let mut printed = Vec::new(rt.alloc());
-    assert_eq!(rt; run(&rt, Command::Seal, job.as_str(), &mut printed).ok(), Some(0));
+    assert_eq!(rt;
+        run(&rt, Command::Seal, job.as_str(), &mut printed).ok(),
+        Some(0)
+    );
     let printed = str::from_utf8(printed.as_slice()).ok().ok_or("no text")?;
     assert_eq!(rt; first_line_from(printed, LONG_TEXT), Some(2 * 1_000_112));
     Ok(())
