@@ -50,7 +50,8 @@ pub fn ends_256(alloc: Global, mode: Mode) -> Result<(Aes256Sealer, Opener), All
     ))
 }
 
-/// Seals the data so many times, at least once, and gives the last frame.
+/// Seals the data so many times, and gives the last frame. Each frame is kept until the next is made,
+/// so that the allocator doesn't hand a large one back to the system between the two.
 pub fn seal_often<S: Sealer>(
     alloc: Global,
     sealer: &mut S,
@@ -58,10 +59,11 @@ pub fn seal_often<S: Sealer>(
     at: Moment,
     times: u32,
 ) -> Result<Vec<u8>, SealError> {
-    for _ in 1..times {
-        sealer.seal(alloc, data, at, [7; 16])?;
+    let mut last = Vec::new(alloc);
+    for _ in 0..times {
+        last = sealer.seal(alloc, data, at, [7; 16])?;
     }
-    sealer.seal(alloc, data, at, [7; 16])
+    Ok(last)
 }
 
 /// Opens the frame so many times, and says how often it gave its data.
