@@ -7,8 +7,8 @@ ghost use Rattle.krb_base.specs.Lane.{Lane, Event, empty, has_end, is_possible, 
 /// After any events of an empty lane, what was sent is what was got and then what is queued
 /// (`linked`), the queue is within the capacity (`within`), and End stands last and at most once
 /// (`end_last`). So what was got begins what was sent (`begins`), and is all of it where End was
-/// got (`whole`). The capacity stays (`capacity`). A possible event moves its item (`possible`), and
-/// an impossible one changes nothing (`impossible`).
+/// got (`whole`). The capacity stays (`capacity`). A possible event moves its item (`possible`),
+/// and an impossible one changes nothing (`impossible`).
 pub fn lane_laws<F>()
     ensures linked { Always F (λ lane. lane.sent ≡ lane.got ++ lane.queue) }
     ensures within { Always F (λ lane. length lane.queue ≤ lane.capacity) }

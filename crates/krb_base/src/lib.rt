@@ -1,5 +1,5 @@
-//! Words that several crates of the relay speak of: byte strings on the heap, prefixes of lists, the
-//! lane as a state machine, and the limits of texts and messages.
+//! Words that several crates of the relay speak of: byte strings on the heap, prefixes of lists,
+//! the lane as a state machine, and the limits of texts and messages.
 //!
 //! ```rust crates/krb_base/src/tests.rt
 //! let bytes = Bytes::new(vec![in rt.alloc(); 0x68, 0x69]?);

@@ -2,7 +2,8 @@ ghost use Rattle.std.specs.Prelude.{◌≡◌, ℕ, ◌+◌, ◌-◌, ◌*◌, �
 ghost use Rattle.krb_keys.specs.Nfold.{number, lcm, IsLcm, nfold};
 ghost use Rattle.krb_keys.specs.Stream.{rotated_byte, stream_byte, around};
 
-// Adds `piece` and a carry to `out`, byte by byte from the low end, and gives the carry that is left.
+// Adds `piece` and a carry to `out`, byte by byte from the low end, and gives the carry that is
+// left.
 fn add_with_carry(out: &mut [u8], piece: &[u8], carry: u16) -> u16
     requires same { length piece.now ≡ length out.old }
     requires one { carry ≤ 1 }

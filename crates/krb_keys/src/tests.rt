@@ -1,4 +1,5 @@
-// Values from outside: the vectors of the RFCs, and those of another implementation for derived keys.
+// Values from outside: the vectors of the RFCs, and those of another implementation for derived
+// keys.
 
 use crate::{
     CHECKSUM_TAIL, ENCRYPTION_TAIL, INTEGRITY_TAIL, MacKey, derive, hmac_sha1, hmac96, mac_equal,

@@ -1,5 +1,5 @@
-//! Room of a lane that is given back in parts, so that a sender who has filled the lane is woken once
-//! a part and not at each frame.
+//! Room of a lane that is given back in parts, so that a sender who has filled the lane is woken
+//! once a part and not at each frame.
 
 ghost use Rattle.std.specs.Prelude.{◌<◌};
 
@@ -10,8 +10,8 @@ use std::sync::Wait;
 /// The least capacity whose room is given back in parts. In a smaller lane each frame makes room.
 const LEAST: usize = 8;
 
-/// Room for the parts that are given back and not yet used: never more than the two of a whole lane,
-/// so giving one back never waits.
+/// Room for the parts that are given back and not yet used: never more than the two of a whole
+/// lane, so giving one back never waits.
 const PARTS: usize = 4;
 
 /// How many frames a sender may send before it waits for a part.
