@@ -1,6 +1,6 @@
 -- What the earlier grammar spells, today's spells the same: within the earlier limit no content is so
 -- long that its length would take a third octet.
-use Rattle.std.proofs.Common.{◌≡◌, ℕ, ◌+◌, ◌<◌, ◌≤◌, ℤ, pos, List, [], ◌∷◌, ◌++◌, length, Option, Some, None, refl, sym, subst, ap, ◌∙◌, arith}
+use Rattle.std.proofs.Common.{◌≡◌, ℕ, ◌<◌, ◌≤◌, ℤ, pos, List, [], ◌∷◌, ◌++◌, length, Option, Some, None, refl, subst, ap, ◌∙◌, arith}
 use Rattle.std.proofs.lemmas.Bool.{lt-ltb}
 use Rattle.std.proofs.lemmas.List.{length-append}
 use Rattle.krb_der.specs.declared.address.HostAddress.{HostAddress}
@@ -16,8 +16,8 @@ use Rattle.krb_der.specs.KerberosTime.{time}
 use Rattle.krb_der.specs.Typed.{typed_fields, typed_octets}
 use Rattle.krb_der.specs.Address.{host_address}
 use Rattle.krb_der.specs.Body.{body_fields, body, part}
-use Rattle.krb_der.specs.Safe.{safe_fields, safe}
-use Rattle.krb_der.specs.Private.{encrypted_fields, encrypted_data, private_fields, private}
+use Rattle.krb_der.specs.Safe.{safe_fields}
+use Rattle.krb_der.specs.Private.{encrypted_fields, encrypted_data, private_fields}
 use Rattle.krb_der.specs.Message.{message, SpellsWithin}
 use Rattle.krb_der.specs.Earlier.{earlier_limit, earlier_octets, earlier, earlier_sequence, earlier_optional, earlier_string, earlier_integer, earlier_natural, earlier_time, earlier_typed_fields, earlier_typed, earlier_address, earlier_body_fields, earlier_body, earlier_part, earlier_safe_fields, earlier_encrypted_fields, earlier_encrypted, earlier_private_fields, earlier_message, SpellsAsEarlier, PartSpellsAsEarlier}
 

@@ -5,5 +5,6 @@ pub mod Times
 pub mod Grammar
 pub mod Lengths
 pub mod Writers
+pub mod Drafts
 pub mod Sizes
 pub mod Earlier

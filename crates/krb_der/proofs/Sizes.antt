@@ -9,9 +9,8 @@ use Rattle.krb_der.specs.Integer.{width, int_octets, integer, natural}
 use Rattle.krb_der.specs.Typed.{typed_fields, typed_octets}
 use Rattle.krb_time.specs.Time.{kerberos_time}
 use Rattle.krb_der.specs.KerberosTime.{time}
-use Rattle.krb_der.specs.Writing.{element_size}
 use Rattle.krb_der.specs.Address.{host_address}
-use Rattle.krb_der.specs.Body.{body, body_fields, part}
+use Rattle.krb_der.specs.Body.{body, body_fields}
 use Rattle.krb_der.specs.Safe.{checksum, safe_fields, with_checksum}
 use Rattle.krb_der.specs.Private.{encrypted_fields, encrypted_data, private_fields}
 use Rattle.krb_der.specs.Size.{optional_size, carried, SmallPart, SmallSafe, SmallPrivate, ShorterInput}

@@ -3,12 +3,15 @@ use Rattle.std.proofs.Common.{◌≡◌, ◌↔◌, ◌⊎◌, inl, inr, ℕ, ze
 use Rattle.std.proofs.lemmas.Bool.{lt-ltb}
 use Rattle.std.proofs.lemmas.List.{append-nil}
 use Rattle.krb_der.specs.Length.{length_octets}
-use Rattle.krb_der.specs.Element.{header, tagged, joined, sequence}
-use Rattle.krb_der.specs.Integer.{width, int_octets, integer}
+use Rattle.krb_der.specs.Element.{header, tagged, joined, sequence, optional, octets}
+use Rattle.krb_der.specs.Tag.{context, application, octet_string_tag, sequence_tag}
+use Rattle.krb_der.specs.Integer.{width, int_octets, integer, natural}
 use Rattle.krb_der.specs.declared.safe.SafeMsg.{SafeMsg}
+use Rattle.krb_der.specs.declared.private.PrivMsg.{PrivMsg}
 use Rattle.krb_der.specs.Body.{body}
 use Rattle.krb_der.specs.Safe.{safe_input}
-use Rattle.krb_der.specs.Writing.{element_size, safe_before_data, safe_behind_data}
+use Rattle.krb_der.specs.Private.{encrypted_fields, encrypted_data, private_fields, private}
+use Rattle.krb_der.specs.Writing.{element_size, safe_before_data, safe_behind_data, encrypted_fields_size, encrypted_before_cipher, private_fields_size, private_size, private_before_cipher}
 use Rattle.krb_der.specs.Reading.{signed}
 use Rattle.krb_der.proofs.Numbers.{length-big_endian, length-complement}
 use Rattle.krb_der.proofs.Readers.{size-tagged}
@@ -51,3 +54,53 @@ pub covered_is : (m : SafeMsg) (before behind : List ℕ) → before ≡ safe_be
     → before ++ (m.body.user_data ++ behind) ≡ safe_input m
 unfolding tagged body
 covered_is m before behind a b = grind (arith, append_assoc, append-nil)
+
+-- ---- KRB-PRIV, up to its cipher
+
+length-optional : (tag : ℕ) (n : Option ℕ) → length (optional tag natural n) ≡ length (optional 0 natural n)
+length-optional tag None = refl
+length-optional tag (Some n) = size-tagged tag (natural n) ∙ sym (size-tagged 0 (natural n))
+
+length-octets : (bytes : List ℕ) → length (octets bytes) ≡ element_size (length bytes)
+length-octets bytes = size-tagged octet_string_tag bytes
+
+length-encrypted_fields : (etype : ℤ) (kvno : Option ℕ) (cipher : List ℕ)
+    → length (joined (encrypted_fields etype kvno cipher)) ≡ encrypted_fields_size etype kvno (length cipher)
+length-encrypted_fields etype kvno cipher =
+    grind (arith, length-append, size-tagged, length-optional (context 1) kvno, length-octets cipher)
+
+length-private_fields : (m : PrivMsg) → length (joined (private_fields m)) ≡ private_fields_size m (length m.cipher)
+unfolding encrypted_data
+length-private_fields m =
+    grind (arith, length-append, size-tagged, length-encrypted_fields m.etype m.kvno m.cipher)
+
+pub length-private : (m : PrivMsg) → length (private m) ≡ private_size m (length m.cipher)
+length-private m =
+    size-tagged 0x75 (sequence (private_fields m)) ∙ ap element_size (size-tagged 0x30 (joined (private_fields m)) ∙ ap element_size (length-private_fields m))
+
+encrypted_is : (etype : ℤ) (kvno : Option ℕ) (cipher : List ℕ) → encrypted_before_cipher etype kvno (length cipher) ++ cipher ≡ encrypted_data etype kvno cipher
+unfolding encrypted_data tagged
+encrypted_is etype kvno cipher =
+    grind (arith, append_assoc, append-nil, length-encrypted_fields etype kvno cipher, length-octets cipher)
+
+length-encrypted_data : (etype : ℤ) (kvno : Option ℕ) (cipher : List ℕ) → length (encrypted_data etype kvno cipher) ≡ element_size (encrypted_fields_size etype kvno (length cipher))
+unfolding encrypted_data
+length-encrypted_data etype kvno cipher =
+    size-tagged sequence_tag (joined (encrypted_fields etype kvno cipher)) ∙ ap element_size (length-encrypted_fields etype kvno cipher)
+
+-- a message of two fields and one that ends in a cipher
+around_cipher : (tag k n i : ℕ) (a b inner front cipher : List ℕ) → front ++ cipher ≡ inner → i ≡ length inner
+    → n ≡ length (a ++ (b ++ (tagged (context 3) inner ++ []))) → k ≡ length (tagged sequence_tag (a ++ (b ++ (tagged (context 3) inner ++ []))))
+    → (header tag k ++ (header sequence_tag n ++ (a ++ (b ++ (header (context 3) i ++ front))))) ++ cipher ≡ tagged tag (tagged sequence_tag (a ++ (b ++ (tagged (context 3) inner ++ []))))
+unfolding tagged
+around_cipher tag k n i a b inner front cipher whole size fields sequence =
+    rw (size, fields, sequence, ← whole) grind (arith, append_assoc, append-nil)
+
+pub private_is : (m : PrivMsg) → private_before_cipher m (length m.cipher) ++ m.cipher ≡ private m
+private_is m =
+    around_cipher (application 21) _ _ _ (tagged (context 0) (integer m.pvno)) (tagged (context 1) (integer m.msg_type))
+    (encrypted_data m.etype m.kvno m.cipher) (encrypted_before_cipher m.etype m.kvno (length m.cipher)) m.cipher
+    (encrypted_is m.etype m.kvno m.cipher)
+    (sym (length-encrypted_data m.etype m.kvno m.cipher))
+    (sym (length-private_fields m))
+    (sym (size-tagged sequence_tag (joined (private_fields m)) ∙ ap element_size (length-private_fields m)))

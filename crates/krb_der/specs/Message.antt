@@ -1,5 +1,5 @@
 -- What bytes spell, and what reading and writing answer.
-use Rattle.std.specs.Prelude.{◌≡◌, ℕ, ◌<◌, ◌≤◌, List, ◌++◌, length, Result, Ok, Err}
+use Rattle.std.specs.Prelude.{◌≡◌, ℕ, ◌<◌, ◌≤◌, List, ◌++◌, length, take, drop, Result, Ok, Err}
 use Rattle.std.specs.Global.{Vec}
 use Rattle.krb_base.specs.Limits.{frame_limit}
 use Rattle.krb_der.specs.declared.error.DerError.{DerError}
@@ -7,6 +7,8 @@ use Rattle.krb_der.specs.declared.error.DerError.TheVariants as errors
 use Rattle.krb_der.specs.declared.body.Body.{Body}
 use Rattle.krb_der.specs.declared.safe.SafeMsg.{SafeMsg}
 use Rattle.krb_der.specs.declared.safe.Covered.{Covered}
+use Rattle.krb_der.specs.declared.private.Draft.{Draft}
+use Rattle.krb_der.specs.declared.private.PrivMsg.{PrivMsg}
 use Rattle.krb_der.specs.declared.message.Message.{Message}
 use Rattle.krb_der.specs.declared.message.Message.TheVariants.{Safe, Priv}
 use Rattle.krb_der.specs.Body.{part, IsBody}
@@ -49,12 +51,32 @@ Encodes Spelt spelling v (Err errors.TooLong) = frame_limit < length (spelling v
 Encodes Spelt spelling v (Err errors.Malformed) = ⊥
 Encodes Spelt spelling v (Err errors.Memory) = length (spelling v) ≤ frame_limit
 
--- What writing a body as an encrypted part behind other bytes answers.
-abbrev pub EncodesBehind : List ℕ → Body → Result (Vec ℕ) DerError → Type 0
-EncodesBehind front b (Ok bytes) = (bytes.items ≡ front ++ part b) × SpellsPart b (part b)
-EncodesBehind front b (Err errors.TooLong) = frame_limit < length (part b)
-EncodesBehind front b (Err errors.Malformed) = ⊥
-EncodesBehind front b (Err errors.Memory) = length (part b) ≤ frame_limit
+-- The front of a message up to its cipher: with any cipher of n octets behind it, the message is
+-- spelt.
+abbrev pub Precedes : PrivMsg → ℕ → List ℕ → Type 0
+Precedes m n front = (cipher : List ℕ) → length cipher ≡ n → Spells (Priv (record m { cipher = cipher })) (front ++ cipher)
+
+-- A message whose cipher is to be of n octets: up to `start` its front, and from there the text to
+-- be enciphered, which is other bytes and the part of a body behind them.
+pub record IsDraft (m : PrivMsg) (before : List ℕ) (b : Body) (n : ℕ) (draft : Draft) : Type 0 where
+  pub body : IsBody b
+  pub within : draft.start ≤ length draft.bytes.items
+  pub front : Precedes m n (take draft.start draft.bytes.items)
+  pub text : drop draft.start draft.bytes.items ≡ before ++ part b
+
+-- the message with a cipher of n octets, whichever they are, is within the limit, or over it
+abbrev pub IsWithinLimit : PrivMsg → ℕ → Type 0
+IsWithinLimit m n = (cipher : List ℕ) → length cipher ≡ n → length (private (record m { cipher = cipher })) ≤ frame_limit
+
+abbrev pub IsOverLimit : PrivMsg → ℕ → Type 0
+IsOverLimit m n = (cipher : List ℕ) → length cipher ≡ n → frame_limit < length (private (record m { cipher = cipher }))
+
+-- What writing such a draft answers, where the cipher is of n octets.
+abbrev pub Drafts : PrivMsg → List ℕ → Body → ℕ → Result Draft DerError → Type 0
+Drafts m before b n (Ok draft) = IsDraft m before b n draft
+Drafts m before b n (Err errors.TooLong) = IsOverLimit m n
+Drafts m before b n (Err errors.Malformed) = ⊥
+Drafts m before b n (Err errors.Memory) = IsWithinLimit m n
 
 -- What writing the bytes under a checksum answers, around the data: with the data between them
 -- they are those bytes, within the limit.

@@ -1,10 +1,11 @@
 -- Aids of the code, and no definitions of the standard: sizes, and the pieces that a spelling is
 -- written in. Private functions alone cite this file; the contracts of the encoders are in the
 -- words of Message.antt.
-use Rattle.std.specs.Prelude.{ℕ, ◌+◌, ◌≤◌, pos, List, [], ◌∷◌, ◌++◌, length, IfSome}
+use Rattle.std.specs.Prelude.{ℕ, ◌+◌, ◌≤◌, ℤ, pos, List, [], ◌∷◌, ◌++◌, length, Option, IfSome}
 use Rattle.krb_base.specs.Limits.{frame_limit}
 use Rattle.krb_der.specs.declared.body.Body.{Body}
 use Rattle.krb_der.specs.declared.safe.SafeMsg.{SafeMsg}
+use Rattle.krb_der.specs.declared.private.PrivMsg.{PrivMsg}
 use Rattle.krb_der.specs.Tag.{context, application, octet_string_tag, sequence_tag}
 use Rattle.krb_der.specs.Length.{length_octets}
 use Rattle.krb_der.specs.Element.{header, tagged, joined, sequence, optional, octets}
@@ -56,3 +57,34 @@ safe_before_data m =
 
 abbrev pub safe_behind_data : SafeMsg → List ℕ
 safe_behind_data m = joined (fields_behind_data m.body) ++ tagged (context 3) (checksum (pos 0) [])
+
+-- ---- KRB-PRIV with a cipher of n octets, up to the cipher
+
+abbrev pub encrypted_fields_size : ℤ → Option ℕ → ℕ → ℕ
+encrypted_fields_size etype kvno n =
+    element_size (length (integer etype)) + length (optional 0 natural kvno) + element_size (element_size n)
+
+abbrev pub private_fields_size : PrivMsg → ℕ → ℕ
+private_fields_size m n =
+    element_size (length (integer m.pvno))
+    + element_size (length (integer m.msg_type))
+    + element_size (element_size (encrypted_fields_size m.etype m.kvno n))
+
+abbrev pub private_size : PrivMsg → ℕ → ℕ
+private_size m n = element_size (element_size (private_fields_size m n))
+
+abbrev pub encrypted_before_cipher : ℤ → Option ℕ → ℕ → List ℕ
+encrypted_before_cipher etype kvno n =
+    header sequence_tag (encrypted_fields_size etype kvno n)
+    ++ (tagged (context 0) (integer etype)
+    ++ (optional (context 1) natural kvno
+    ++ (header (context 2) (element_size n) ++ header octet_string_tag n)))
+
+abbrev pub private_before_cipher : PrivMsg → ℕ → List ℕ
+private_before_cipher m n =
+    header (application 21) (element_size (private_fields_size m n))
+    ++ (header sequence_tag (private_fields_size m n)
+    ++ (tagged (context 0) (integer m.pvno)
+    ++ (tagged (context 1) (integer m.msg_type)
+    ++ (header (context 3) (element_size (encrypted_fields_size m.etype m.kvno n))
+    ++ encrypted_before_cipher m.etype m.kvno n))))

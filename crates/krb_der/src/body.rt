@@ -9,7 +9,7 @@ ghost use Rattle.krb_time.specs.Reading.{time_of};
 ghost use Rattle.krb_der.specs.KerberosTime;
 ghost use Rattle.krb_der.specs.Address.{host_address, IsAddress};
 ghost use Rattle.krb_der.specs.Body.{InRange, IsBody, body, body_fields, part};
-ghost use Rattle.krb_der.specs.Message.{Decodes, Encodes, EncodesBehind, SpellsPart};
+ghost use Rattle.krb_der.specs.Message.{Decodes, Encodes, SpellsPart};
 ghost use Rattle.krb_der.specs.Reading.{Gives, Takes, time_element_of, optional_at, address_of, body_of, part_of};
 ghost use Rattle.krb_der.specs.Writing.{IsShort, IsShortBody, before_data, fields_behind_data};
 
@@ -192,8 +192,8 @@ fn known_optional_address(address: &Option<HostAddress>)
     }
 }
 
-/// A [`Body`] whose data and addresses are lent: so a message is written from where they lie, with no
-/// copy of its own.
+/// A [`Body`] whose data and addresses are lent: so a message is written from where they lie, with
+/// no copy of its own.
 #[derive(Drop)]
 pub struct BodyRef<'a> {
     user_data: &'a [u8],
@@ -370,7 +370,7 @@ impl<'a> BodyRef<'a> {
     }
 
     /// The same, where it is within the limit.
-    fn limited_part_size(&self) -> Result<usize, DerError>
+    pub(crate) fn limited_part_size(&self) -> Result<usize, DerError>
         requires { InRange self.now }
         ensures value { IfOk result (λ size. size ≡ length (part self.now)) }
         ensures limit { IfOk result (λ size. size ≤ frame_limit) }
@@ -390,51 +390,40 @@ impl<'a> BodyRef<'a> {
         Ok(size)
     }
 
-    /// Its spelling as an encrypted part behind other bytes, in a `Vec` with room for so many.
-    fn part_spelling(&self, alloc: Global, front: &[u8], room: usize) -> Result<Vec<u8>, AllocError>
+    /// Adds its spelling as an encrypted part.
+    #[tactic(auto, unfolding(crate::specs::Element::tagged))]
+    pub(crate) fn write_part(&self, out: &mut Writer) -> Result<(), AllocError>
         requires short { IsShortBody self.now }
         requires time { IfSome self.now.time IsSecond }
-        ensures { IfOk result (λ v. v.items ≡ front.now ++ part self.now) }
+        ensures { OnOk result (out.new ≡ out.old ++ part self.now) }
+    {
+        out.begin(tag::ENC_KRB_PRIV_PART, self.size())?;
+        self.write(out)
+    }
+
+    /// Its spelling as an encrypted part, in a `Vec` with room for so many bytes.
+    fn part_spelling(&self, alloc: Global, room: usize) -> Result<Vec<u8>, AllocError>
+        requires short { IsShortBody self.now }
+        requires time { IfSome self.now.time IsSecond }
+        ensures { IfOk result (λ v. v.items ≡ part self.now) }
     {
         let mut out = Writer::with_capacity(alloc, room)?;
-        out.put(front)?;
-        out.begin(tag::ENC_KRB_PRIV_PART, self.size())?;
-        self.write(&mut out)?;
+        self.write_part(&mut out)?;
         Ok(out.into_vec())
     }
 }
 
 /// The spelling of the body as the encrypted part of KRB-PRIV (RFC 4120 section 5.7.1).
 ///
-/// [`DerError::TooLong`] is answered exactly where it has over 1,005,000 bytes, before any memory is
-/// taken.
+/// [`DerError::TooLong`] is answered exactly where it has over 1,005,000 bytes, before any memory
+/// is taken.
 pub fn encode_part(alloc: Global, b: &Body) -> Result<Vec<u8>, DerError>
     requires { InRange b.now }
     ensures { Encodes SpellsPart part b.now result }
 {
     let b = b.borrowed();
     let size = b.limited_part_size()?;
-    Ok(b.part_spelling(alloc, &[], size)?)
-}
-
-/// The bytes `front` and, behind them, the spelling of the body as [`encode_part`] gives it, in a
-/// `Vec` that has room for `behind` bytes more: so what an encryption puts before and behind the
-/// part needs no copy of it (RFC 3961 section 5.3).
-///
-/// [`DerError::TooLong`] is answered exactly where the part has over 1,005,000 bytes, before any
-/// memory is taken.
-pub fn encode_part_behind(
-    alloc: Global,
-    front: &[u8],
-    b: &BodyRef<'_>,
-    behind: usize,
-) -> Result<Vec<u8>, DerError>
-    requires { InRange b.now }
-    ensures { EncodesBehind front.now b.now result }
-{
-    let size = b.limited_part_size()?;
-    let room = size.saturating_add(front.len()).saturating_add(behind);
-    Ok(b.part_spelling(alloc, front, room)?)
+    Ok(b.part_spelling(alloc, size)?)
 }
 
 #[tactic(auto, unfolding(crate::specs::Reading::part_of))]

@@ -19,8 +19,8 @@ pub fn size_laws()
     ensures covered { ShorterInput }
 {}
 
-/// What spelt a message, or an encrypted part, when messages had at most 65,000 bytes and lengths at
-/// most two octets after the first, spells the same today. So a reader of today takes what an
+/// What spelt a message, or an encrypted part, when messages had at most 65,000 bytes and lengths
+/// at most two octets after the first, spells the same today. So a reader of today takes what an
 /// earlier sender wrote.
 pub fn earlier_spellings()
     ensures messages { SpellsAsEarlier }

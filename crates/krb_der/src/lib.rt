@@ -29,7 +29,7 @@ mod typed;
 mod writer;
 
 pub use address::HostAddress;
-pub use body::{Body, BodyRef, decode_part, encode_part, encode_part_behind};
+pub use body::{Body, BodyRef, decode_part, encode_part};
 pub use error::DerError;
 pub use krb_base::Bytes;
 pub use krb_time::{
@@ -38,7 +38,7 @@ pub use krb_time::{
 };
 pub use laws::{earlier_spellings, size_laws, unique_spelling};
 pub use message::{Message, decode};
-pub use private::{PrivMsg, encode_priv};
+pub use private::{Draft, PrivMsg, draft_priv, encode_priv};
 pub use safe::{Covered, SafeMsg, SafeRef, encode_safe, safe_input, safe_input_around};
 
 #[cfg(test)]

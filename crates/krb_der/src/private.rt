@@ -1,13 +1,14 @@
-ghost use Rattle.std.specs.Prelude.{◌≡◌, ◌≤◌, ◌+◌, ◌++◌, length, IfOk, OnOk};
+ghost use Rattle.std.specs.Prelude.{◌≡◌, ◌<◌, ◌≤◌, ◌+◌, ◌++◌, length, Err, IfOk, IfSome, OnOk, OnErr};
 ghost use Rattle.krb_base.specs.Limits.{frame_limit};
 ghost use Rattle.krb_der.specs.declared.message.Message.TheVariants.{Priv};
-ghost use Rattle.krb_der.specs.Element.{joined};
-ghost use Rattle.krb_der.specs.Writing.{IsShort};
-ghost use Rattle.krb_der.specs.Private.{IsPrivate, encrypted_data, encrypted_fields, private, private_fields};
-ghost use Rattle.krb_der.specs.Message.{Encodes, Spells, message};
+ghost use Rattle.krb_der.specs.Writing.{IsShort, IsShortBody, encrypted_fields_size, encrypted_before_cipher, private_fields_size, private_size, private_before_cipher};
+ghost use Rattle.krb_time.specs.Time.{IsSecond};
+ghost use Rattle.krb_der.specs.Body.{InRange, part};
+ghost use Rattle.krb_der.specs.Private.{IsPrivate, private};
+ghost use Rattle.krb_der.specs.Message.{Drafts, Encodes, Spells, message};
 ghost use Rattle.krb_der.specs.Reading.{Gives, encrypted_of, private_of};
 
-use crate::body::is_short;
+use crate::body::BodyRef;
 use crate::error::DerError;
 use crate::integer::{
     UINT32_LIMIT, int32_field_size, known_int32, known_uint32, natural_field_size, read_int32,
@@ -15,7 +16,7 @@ use crate::integer::{
 };
 use crate::reader::{Reader, read_octets};
 use crate::tag;
-use crate::writer::{Writer, octets_field_size, size_around};
+use crate::writer::{Writer, size_around};
 use krb_base::{Bytes, FRAME_LIMIT};
 use std::alloc::{AllocError, Global};
 
@@ -74,67 +75,82 @@ impl PrivMsg {
         known_uint32(&self.kvno);
     }
 
-    fn encrypted_fields_size(&self) -> usize
-        requires { IsShort self.now.cipher }
-        ensures value { result
-            ≡ length (joined (encrypted_fields self.now.etype self.now.kvno self.now.cipher)) }
+    fn encrypted_fields_size(&self, cipher: usize) -> usize
+        requires { cipher ≤ frame_limit }
+        ensures value { result ≡ encrypted_fields_size self.now.etype self.now.kvno cipher }
         ensures bound { result ≤ frame_limit + 40 }
     {
         int32_field_size(&self.etype)
             + natural_field_size(self.kvno)
-            + octets_field_size(self.cipher.as_slice())
+            + size_around(size_around(cipher))
     }
 
-    /// How many bytes its encrypted data has.
-    fn encrypted_size(&self) -> usize
-        requires { IsShort self.now.cipher }
-        ensures value { result
-            ≡ length (encrypted_data self.now.etype self.now.kvno self.now.cipher) }
-        ensures bound { result ≤ frame_limit + 50 }
-    {
-        size_around(self.encrypted_fields_size())
-    }
-
-    /// Adds the encrypted data.
-    #[tactic(auto, unfolding(crate::specs::Private::encrypted_data))]
-    fn write_encrypted(&self, out: &mut Writer) -> Result<(), AllocError>
-        requires { IsShort self.now.cipher }
+    /// Adds the encrypted data up to a cipher of so many bytes.
+    #[tactic(auto, unfolding(crate::specs::Element::tagged))]
+    fn write_encrypted(&self, out: &mut Writer, cipher: usize) -> Result<(), AllocError>
+        requires { cipher ≤ frame_limit }
         ensures { OnOk result (out.new
-            ≡ out.old ++ encrypted_data self.now.etype self.now.kvno self.now.cipher) }
+            ≡ out.old ++ encrypted_before_cipher self.now.etype self.now.kvno cipher) }
     {
-        out.begin(tag::SEQUENCE, self.encrypted_fields_size())?;
+        out.begin(tag::SEQUENCE, self.encrypted_fields_size(cipher))?;
         write_int32_field(out, tag::FIELD_0, &self.etype)?;
         write_natural_field(out, tag::FIELD_1, self.kvno)?;
-        out.octets_field(tag::FIELD_2, self.cipher.as_slice())
+        out.begin(tag::FIELD_2, size_around(cipher))?;
+        out.begin(tag::OCTET_STRING, cipher)
     }
 
-    fn fields_size(&self) -> usize
-        requires { IsShort self.now.cipher }
-        ensures value { result ≡ length (joined (private_fields self.now)) }
+    fn fields_size(&self, cipher: usize) -> usize
+        requires { cipher ≤ frame_limit }
+        ensures value { result ≡ private_fields_size self.now cipher }
         ensures bound { result ≤ frame_limit + 100 }
     {
         int32_field_size(&self.pvno)
             + int32_field_size(&self.msg_type)
-            + size_around(self.encrypted_size())
+            + size_around(size_around(self.encrypted_fields_size(cipher)))
     }
 
-    /// How many bytes its spelling has.
-    fn size(&self) -> usize
-        requires { IsShort self.now.cipher }
-        ensures { result ≡ length (private self.now) }
+    /// How many bytes its spelling has with a cipher of so many bytes.
+    fn size(&self, cipher: usize) -> usize
+        requires { cipher ≤ frame_limit }
+        ensures value { result ≡ private_size self.now cipher }
+        ensures bound { result ≤ frame_limit + 110 }
     {
-        size_around(size_around(self.fields_size()))
+        size_around(size_around(self.fields_size(cipher)))
     }
 
-    /// Adds its fields.
-    fn write_fields(&self, out: &mut Writer) -> Result<(), AllocError>
-        requires { IsShort self.now.cipher }
-        ensures { OnOk result (out.new ≡ out.old ++ joined (private_fields self.now)) }
+    /// The same, where it is within the limit.
+    fn limited_size(&self, cipher: usize) -> Result<usize, DerError>
+        ensures value { IfOk result (λ size. size ≡ private_size self.now cipher) }
+        ensures limit { IfOk result (λ size. size ≤ frame_limit) }
+        ensures short { OnOk result (cipher ≤ frame_limit) }
+        ensures too_long { OnErr result (frame_limit < private_size self.now cipher) }
+        ensures err { OnErr result (result ≡ Err DerError.TooLong) }
     {
+        if cipher > FRAME_LIMIT {
+            return Err(DerError::TooLong);
+        }
+        let size = self.size(cipher);
+        if size > FRAME_LIMIT {
+            return Err(DerError::TooLong);
+        }
+        Ok(size)
+    }
+
+    /// Adds what stands before a cipher of so many bytes.
+    fn write_before_cipher(&self, out: &mut Writer, cipher: usize) -> Result<(), AllocError>
+        requires { cipher ≤ frame_limit }
+        ensures { OnOk result (out.new ≡ out.old ++ private_before_cipher self.now cipher) }
+    {
+        let fields = self.fields_size(cipher);
+        out.begin(tag::KRB_PRIV, size_around(fields))?;
+        out.begin(tag::SEQUENCE, fields)?;
         write_int32_field(out, tag::FIELD_0, &self.pvno)?;
         write_int32_field(out, tag::FIELD_1, &self.msg_type)?;
-        out.begin(tag::FIELD_3, self.encrypted_size())?;
-        self.write_encrypted(out)
+        out.begin(
+            tag::FIELD_3,
+            size_around(self.encrypted_fields_size(cipher)),
+        )?;
+        self.write_encrypted(out, cipher)
     }
 
     /// Its spelling, in a `Vec` with room for so many bytes.
@@ -142,29 +158,84 @@ impl PrivMsg {
         requires { IsShort self.now.cipher }
         ensures { IfOk result (λ v. v.items ≡ private self.now) }
     {
-        let fields = self.fields_size();
+        let cipher = self.cipher.as_slice();
         let mut out = Writer::with_capacity(alloc, size)?;
-        out.begin(tag::KRB_PRIV, size_around(fields))?;
-        out.begin(tag::SEQUENCE, fields)?;
-        self.write_fields(&mut out)?;
+        self.write_before_cipher(&mut out, cipher.len())?;
+        out.put(cipher)?;
         Ok(out.into_vec())
+    }
+
+    /// The draft of the message with a cipher of so many bytes, in a `Vec` with room for `size`.
+    fn draft(
+        &self,
+        alloc: Global,
+        before: &[u8],
+        b: &BodyRef<'_>,
+        cipher: usize,
+        size: usize,
+    ) -> Result<Draft, AllocError>
+        requires limit { cipher ≤ frame_limit }
+        requires short { IsShortBody b.now }
+        requires time { IfSome b.now.time IsSecond }
+        ensures start { IfOk result (λ draft.
+            draft.start ≡ length (private_before_cipher self.now cipher)) }
+        ensures bytes { IfOk result (λ draft. draft.bytes.items
+            ≡ private_before_cipher self.now cipher ++ (before.now ++ part b.now)) }
+    {
+        let mut out = Writer::with_capacity(alloc, size)?;
+        self.write_before_cipher(&mut out, cipher)?;
+        let start = out.len();
+        out.put(before)?;
+        b.write_part(&mut out)?;
+        Ok(Draft {
+            bytes: out.into_vec(),
+            start,
+        })
     }
 }
 
 /// The spelling of the message.
 ///
-/// [`DerError::TooLong`] is answered exactly where it has over 1,005,000 bytes, before any memory is
-/// taken.
+/// [`DerError::TooLong`] is answered exactly where it has over 1,005,000 bytes, before any memory
+/// is taken.
 pub fn encode_priv(alloc: Global, m: &PrivMsg) -> Result<Vec<u8>, DerError>
     ensures { Encodes Spells message (Priv m.now) result }
 {
     m.known();
-    if !is_short(m.cipher.as_slice()) {
-        return Err(DerError::TooLong);
-    }
-    let size = m.size();
-    if size > FRAME_LIMIT {
-        return Err(DerError::TooLong);
-    }
+    let size = m.limited_size(m.cipher.as_slice().len())?;
     Ok(m.spelling(alloc, size)?)
+}
+
+/// A KRB-PRIV whose cipher isn't one yet: from `start` on stands the text that is to be enciphered
+/// there, and there is room for what an encryption puts behind it.
+#[derive(Debug, Drop)]
+pub struct Draft {
+    /// The message so far.
+    pub bytes: Vec<u8>,
+    /// Where its cipher begins.
+    pub start: usize,
+}
+
+/// The message with the bytes `before` and the part of a body where its cipher is to be, and with
+/// room for `behind` bytes of that cipher more: so a part is enciphered where it is written (RFC
+/// 3961 section 5.3). The cipher of `m` itself plays no part.
+///
+/// [`DerError::TooLong`] is answered exactly where the message would have over 1,005,000 bytes,
+/// before any memory is taken.
+pub fn draft_priv(
+    alloc: Global,
+    m: &PrivMsg,
+    before: &[u8],
+    b: &BodyRef<'_>,
+    behind: usize,
+) -> Result<Draft, DerError>
+    requires { InRange b.now }
+    ensures { Drafts m.now before.now b.now
+        (length before.now + length (part b.now) + behind) result }
+{
+    m.known();
+    let part = b.limited_part_size()?;
+    let cipher = before.len().saturating_add(part).saturating_add(behind);
+    let size = m.limited_size(cipher)?;
+    Ok(m.draft(alloc, before, b, cipher, size)?)
 }

@@ -199,8 +199,8 @@ impl<'a> SafeRef<'a> {
     /// Its spelling with this type of checksum and this checksum in place of its own: one value
     /// gives both what is under a checksum and the message that has it.
     ///
-    /// [`DerError::TooLong`] is answered exactly where it has over 1,005,000 bytes, before any memory
-    /// is taken.
+    /// [`DerError::TooLong`] is answered exactly where it has over 1,005,000 bytes, before any
+    /// memory is taken.
     pub fn encode_with_checksum(
         &self,
         alloc: Global,
@@ -296,8 +296,8 @@ impl<'a> SafeRef<'a> {
 
 /// The spelling of the message.
 ///
-/// [`DerError::TooLong`] is answered exactly where it has over 1,005,000 bytes, before any memory is
-/// taken.
+/// [`DerError::TooLong`] is answered exactly where it has over 1,005,000 bytes, before any memory
+/// is taken.
 pub fn encode_safe(alloc: Global, m: &SafeMsg) -> Result<Vec<u8>, DerError>
     requires { InRange m.now.body }
     ensures { Encodes Spells message (Safe m.now) result }
@@ -309,8 +309,8 @@ pub fn encode_safe(alloc: Global, m: &SafeMsg) -> Result<Vec<u8>, DerError>
 /// The bytes under the checksum of the message: its spelling with checksum type 0 and an empty
 /// checksum (RFC 4120 section 3.4.1).
 ///
-/// [`DerError::TooLong`] is answered exactly where they are over 1,005,000 bytes, before any memory is
-/// taken.
+/// [`DerError::TooLong`] is answered exactly where they are over 1,005,000 bytes, before any memory
+/// is taken.
 pub fn safe_input(alloc: Global, m: &SafeMsg) -> Result<Vec<u8>, DerError>
     requires { InRange m.now.body }
     ensures input { IfOk result (λ bytes. bytes.items ≡ safe_input m.now) }
@@ -322,8 +322,8 @@ pub fn safe_input(alloc: Global, m: &SafeMsg) -> Result<Vec<u8>, DerError>
 /// The bytes under the checksum of the message, around its data: with the data between them they
 /// are what [`safe_input`] gives.
 ///
-/// [`DerError::TooLong`] is answered exactly where they are over 1,005,000 bytes, before any memory is
-/// taken.
+/// [`DerError::TooLong`] is answered exactly where they are over 1,005,000 bytes, before any memory
+/// is taken.
 pub fn safe_input_around(alloc: Global, m: &SafeRef<'_>) -> Result<Covered, DerError>
     requires { InRange m.now.body }
     ensures { Covers m.now result }

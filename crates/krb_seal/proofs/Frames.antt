@@ -1,5 +1,12 @@
 -- From the spellings that the code wrote to the frame.
-use Rattle.std.proofs.Common.{◌≡◌, ℕ, ◌+◌, ◌≤◌, List, length, Option, Some, None, Result, Ok, Err, refl, sym, ◌∙◌, arith}
+use Rattle.std.proofs.Common.{◌≡◌, ℕ, ◌+◌, ◌≤◌, ℤ, List, ◌++◌, length, take, drop, replicate, Option, Some, None, Result, Ok, Err, refl, sym, ap, subst, ◌∙◌, arith, length-append}
+use Rattle.std.proofs.lemmas.List.{length-replicate}
+use Rattle.krb_aes.specs.Keys.{expanded_key}
+use Rattle.krb_aes.specs.Stealing.{cts}
+use Rattle.krb_aes.specs.Words.{AreBytes}
+use Rattle.krb_aes.proofs.StealingLemmas.{length-cts}
+use Rattle.krb_keys.proofs.HmacLemmas.{length-hmac96}
+use Rattle.std.specs.Prelude.{IfOk, OnOk}
 use Rattle.std.specs.Global.{Vec}
 use Rattle.std.specs.Option.{ForSome}
 use Rattle.krb_base.specs.Limits.{frame_limit, address_limit}
@@ -11,13 +18,16 @@ use Rattle.krb_der.specs.declared.safe.SafeMsg.{SafeMsg}
 use Rattle.krb_der.specs.declared.private.PrivMsg.{PrivMsg}
 use Rattle.krb_der.specs.declared.message.Message.TheVariants as messages
 use Rattle.krb_der.specs.Body.{part}
-use Rattle.krb_der.specs.Message.{message, Encodes, EncodesBehind, Spells}
+use Rattle.krb_der.specs.Message.{message, Encodes, Drafts, IsDraft, Spells}
 use Rattle.krb_der.specs.Size.{optional_size, carried, private_overhead}
 use Rattle.krb_der.specs.Safe.{safe, safe_input, without_checksum}
 use Rattle.krb_der.proofs.Sizes.{small_part, small_safe, small_private, shorter_input}
-use Rattle.krb_seal.specs.Seals.{safe_checksum}
+use Rattle.krb_der.specs.declared.private.Draft.{Draft}
+use Rattle.krb_seal.specs.declared.session.Mode.TheVariants.{Priv}
+use Rattle.krb_seal.specs.Keys.{encryption_key, integrity_key, tag_of, encrypted}
+use Rattle.krb_seal.specs.Seals.{safe_checksum, SealsBody, unenciphered, priv_of}
 use Rattle.krb_seal.specs.Session.{IsShortAddress}
-use Rattle.krb_seal.specs.Body.{IsSmall, small_body_limit, small_part_limit}
+use Rattle.krb_seal.specs.Body.{IsSmall, small_body_limit}
 use Rattle.krb_seal.specs.Checksum.{Sums}
 
 -- a writing within the limit fails for want of memory alone
@@ -39,18 +49,54 @@ pub memory_safe : (m : SafeMsg) (r : Result (Vec ℕ) DerError) → Encodes Spel
     → (e : DerError) → r ≡ Err e → e ≡ errors.Memory
 memory_safe m r h small sum = memory_alone Spells message (messages.Safe m) r h (omega (arith, small_safe m, carried-small m.body small))
 
-pub short_part : (b : Body) → IsSmall b → length (part b) ≤ small_part_limit
-short_part b h = omega (arith, small_part b, carried-small b h)
-
-pub memory_part : (conf : List ℕ) (b : Body) (r : Result (Vec ℕ) DerError) → EncodesBehind conf b r → IsSmall b → (e : DerError) → r ≡ Err e → e ≡ errors.Memory
-memory_part conf b (Ok bytes) h small e is = absurd cc
-memory_part conf b (Err errors.TooLong) h small e is = absurd (omega (arith, short_part b small))
-memory_part conf b (Err errors.Malformed) h small e is = absurd h
-memory_part conf b (Err errors.Memory) h small e is = cc
-
-pub memory_priv : (m : PrivMsg) (r : Result (Vec ℕ) DerError) → Encodes Spells message (messages.Priv m) r → length m.cipher + private_overhead ≤ frame_limit
+pub memory_draft : (m : PrivMsg) (conf : List ℕ) (b : Body) (n : ℕ) (r : Result Draft DerError) → Drafts m conf b n r → n + private_overhead ≤ frame_limit
     → (e : DerError) → r ≡ Err e → e ≡ errors.Memory
-memory_priv m r h size = memory_alone Spells message (messages.Priv m) r h (omega (arith, small_private m))
+memory_draft m conf b n (Ok draft) h le e is = absurd cc
+memory_draft m conf b n (Err errors.TooLong) h le e is =
+    let any : List ℕ = replicate n 0 in
+    absurd (omega (arith, h any (length-replicate {A = ℕ} n 0), length-replicate {A = ℕ} n 0, small_private (record m { cipher = any })))
+memory_draft m conf b n (Err errors.Malformed) h le e is = absurd h
+memory_draft m conf b n (Err errors.Memory) h le e is = cc
+
+-- the cipher of a small body is well below the limit
+pub small_cipher : (b : Body) → IsSmall b → 16 + length (part b) + 12 + private_overhead ≤ frame_limit
+small_cipher b h = omega (arith, small_part b, carried-small b h)
+
+-- ---- KRB-PRIV from a draft
+
+length-encrypted : (key text : List ℕ) → 16 ≤ length text → length (encrypted key text) ≡ length text + 12
+length-encrypted key text long =
+    let w : List ℕ = expanded_key (encryption_key key) in
+    omega (arith, length-append (cts w text) (tag_of key text), length-cts w text long, length-hmac96 (integrity_key key) text)
+
+pub long_text : (m : PrivMsg) (conf : List ℕ) (b : Body) (n : ℕ) (draft : Draft) → length conf ≡ 16 → IsDraft m conf b n draft → 16 ≤ length (drop draft.start draft.bytes.items)
+long_text m conf b n draft size d = omega (arith, ap length d.text, length-append conf (part b))
+
+sealed_draft : (etype : ℤ) (key conf : List ℕ) (b : Body) (draft : Draft) (frame : List ℕ) → length conf ≡ 16
+    → IsDraft (unenciphered etype) conf b (length conf + length (part b) + 12) draft
+    → frame ≡ take draft.start draft.bytes.items ++ encrypted key (drop draft.start draft.bytes.items)
+    → AreBytes (drop draft.start draft.bytes.items)
+    → SealsBody Priv etype key conf b frame
+sealed_draft etype key conf b draft frame size d is plain =
+    let text : List ℕ = conf ++ part b in
+    let front : List ℕ = take draft.start draft.bytes.items in
+    let same : frame ≡ front ++ encrypted key text = is ∙ ap (λ (t : List ℕ). front ++ encrypted key t) d.text in
+    let long : length (encrypted key text) ≡ length conf + length (part b) + 12 =
+    omega (arith, length-append conf (part b), length-encrypted key text (omega (arith, length-append conf (part b)))) in
+    record {
+      body = d.body;
+      confounder = size;
+      plain = λ _. subst (λ (t : List ℕ). AreBytes t) d.text plain;
+      spelt = subst (λ (s : List ℕ). Spells (messages.Priv (priv_of etype key text)) s) (sym same) (d.front (encrypted key text) long);
+    }
+
+pub seals_draft : {E : Type 0} (etype : ℤ) (key conf : List ℕ) (b : Body) (draft : Draft) (r : Result (Vec ℕ) E) → length conf ≡ 16
+    → IsDraft (unenciphered etype) conf b (length conf + length (part b) + 12) draft
+    → IfOk r (λ frame. frame.items ≡ take draft.start draft.bytes.items ++ encrypted key (drop draft.start draft.bytes.items))
+    → OnOk r (AreBytes (drop draft.start draft.bytes.items))
+    → IfOk r (λ frame. SealsBody Priv etype key conf b frame.items)
+seals_draft etype key conf b draft (Ok frame) size d is plain = sealed_draft etype key conf b draft frame.items size d is plain
+seals_draft etype key conf b draft (Err e) size d is plain = tt
 
 -- computing a checksum over bytes within the limit fails for want of memory alone
 memory_sum : (key : List ℕ) (m : SafeMsg) (r : Result (List ℕ) DerError) → Sums key m r → length (safe_input m) ≤ frame_limit → (e : DerError) → r ≡ Err e → e ≡ errors.Memory

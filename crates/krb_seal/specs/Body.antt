@@ -3,7 +3,6 @@ use Rattle.std.specs.Prelude.{ℕ, ◌+◌, ◌*◌, ◌≤◌, length}
 use Rattle.std.specs.Option.{ForSome}
 use Rattle.krb_base.specs.Limits.{user_data_limit, address_limit}
 use Rattle.krb_der.specs.declared.body.Body.{Body}
-use Rattle.krb_der.specs.Size.{part_overhead}
 use Rattle.krb_seal.specs.Session.{IsShortAddress}
 
 -- the data and the addresses of a body are within the limits
@@ -12,9 +11,6 @@ pub record IsSmall (b : Body) : Type 0 where
   pub sender : IsShortAddress b.s_addr
   pub receiver : ForSome b.r_addr IsShortAddress
 
--- the data and two addresses, and as an encrypted part the tags, lengths and numbers around them
+-- the data and two addresses
 abbrev pub small_body_limit : ℕ
 small_body_limit = user_data_limit + 2 * address_limit
-
-abbrev pub small_part_limit : ℕ
-small_part_limit = small_body_limit + part_overhead

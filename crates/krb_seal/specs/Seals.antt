@@ -43,9 +43,13 @@ unsigned etype b = record { pvno = pos 5; msg_type = pos 20; body = b; cksum_typ
 abbrev pub sealed_safe : ℤ → List ℕ → Body → SafeMsg
 sealed_safe etype key b = record (unsigned etype b) { checksum = safe_checksum key (unsigned etype b) }
 
+-- KRB-PRIV before it has its cipher
+abbrev pub unenciphered : ℤ → PrivMsg
+unenciphered etype = record { pvno = pos 5; msg_type = pos 21; etype = etype; kvno = None; cipher = [] }
+
 -- KRB-PRIV of a text that is enciphered
 abbrev pub priv_of : ℤ → List ℕ → List ℕ → PrivMsg
-priv_of etype key text = record { pvno = pos 5; msg_type = pos 21; etype = etype; kvno = None; cipher = encrypted key text }
+priv_of etype key text = record (unenciphered etype) { cipher = encrypted key text }
 
 abbrev pub sealed_priv : ℤ → List ℕ → List ℕ → Body → PrivMsg
 sealed_priv etype key conf b = priv_of etype key (conf ++ part b)

@@ -1,21 +1,20 @@
 //! A message and its protection.
 
-ghost use Rattle.std.specs.Prelude.{◌≡◌, ◌≤◌, ◌+◌, ◌++◌, false, length, IfOk, OnOk};
-ghost use Rattle.krb_der.specs.Body.{InRange, IsBody, part};
+ghost use Rattle.std.specs.Prelude.{◌≡◌, ◌≤◌, ◌++◌, false, length, take, drop, IfOk, OnOk};
+ghost use Rattle.krb_der.specs.Body.{InRange};
 ghost use Rattle.krb_seal.specs.declared.session.Mode.TheVariants.{Safe, Priv};
 ghost use Rattle.krb_aes.specs.Words.{AreBytes};
 ghost use Rattle.krb_seal.specs.Etype.{number_of};
-ghost use Rattle.krb_der.specs.Message.{Spells};
-ghost use Rattle.krb_der.specs.declared.message.Message.TheVariants as messages;
-ghost use Rattle.krb_seal.specs.Seals.{SealsBody, unsigned, priv_of};
-ghost use Rattle.krb_seal.specs.Body.{IsSmall, small_part_limit};
+ghost use Rattle.krb_seal.specs.Keys.{encrypted};
+ghost use Rattle.krb_seal.specs.Seals.{SealsBody, unsigned, unenciphered};
+ghost use Rattle.krb_seal.specs.Body.{IsSmall};
 
 use crate::checksum::checksum_of;
 use crate::etype::Etype;
 use crate::keys::{Keys, TAG_SIZE};
 use crate::limit::within_limit;
 use crate::session::Mode;
-use krb_der::{BodyRef, Bytes, PrivMsg, SafeRef, encode_part_behind, encode_priv};
+use krb_der::{BodyRef, Bytes, Draft, PrivMsg, SafeRef, draft_priv};
 use std::alloc::{AllocError, Global};
 
 /// The KRB-SAFE that carries a body, before it has its checksum.
@@ -50,45 +49,66 @@ fn known_bytes(bytes: &[u8])
     ensures { AreBytes bytes.now }
 {}
 
-/// A confounder and the encrypted part behind it, with room for the code.
-fn text_of(alloc: Global, body: &BodyRef<'_>, confounder: [u8; 16]) -> Result<Vec<u8>, AllocError>
-    requires range { InRange body.now }
-    requires small { IsSmall body.now }
-    ensures value { IfOk result (λ text. text.items ≡ confounder ++ part body.now) }
-    ensures bytes { IfOk result (λ text. AreBytes text.items) }
-    ensures body { OnOk result (IsBody body.now) }
-    ensures short { IfOk result (λ text. length text.items ≤ length confounder + small_part_limit) }
+/// Enciphers a text where it stands, and gives the code to put behind it.
+fn encipher(keys: &Keys, text: &mut [u8]) -> [u8; TAG_SIZE]
+    requires live { keys.now.wiped ≡ false }
+    requires long { 16 ≤ length text.old }
+    ensures encrypted { text.new ++ result ≡ encrypted keys.now.key text.old }
+    ensures bytes { AreBytes text.old }
 {
-    let text = within_limit(encode_part_behind(alloc, &confounder, body, TAG_SIZE))?;
-    known_bytes(&text);
-    Ok(text)
+    known_bytes(text);
+    let tag = keys.tag(text);
+    keys.encipher(text);
+    tag
 }
 
-/// The KRB-PRIV of a text that is a confounder and an encrypted part.
-fn priv_frame(
-    alloc: Global,
-    keys: &Keys,
-    etype: Etype,
-    text: Vec<u8>,
-) -> Result<Vec<u8>, AllocError>
+/// The KRB-PRIV of a draft.
+fn finished(keys: &Keys, draft: Draft) -> Result<Vec<u8>, AllocError>
     requires live { keys.now.wiped ≡ false }
-    requires confounder { 16 ≤ length text.items }
-    requires short { length text.items ≤ 16 + small_part_limit }
-    ensures { IfOk result (λ frame. Spells
-        (messages.Priv (priv_of (number_of etype) keys.now.key text.items)) frame.items) }
+    requires within { draft.start ≤ length draft.bytes.items }
+    requires long { 16 ≤ length (drop draft.start draft.bytes.items) }
+    ensures frame { IfOk result (λ frame. frame.items
+        ≡ take draft.start draft.bytes.items
+        ++ encrypted keys.now.key (drop draft.start draft.bytes.items)) }
+    ensures plain { OnOk result (AreBytes (drop draft.start draft.bytes.items)) }
 {
-    let mut cipher = text;
-    let tag = keys.tag(&cipher);
-    keys.encipher(&mut cipher);
-    cipher.extend_from_slice(&tag)?;
-    let message = PrivMsg {
+    let Draft { mut bytes, start } = draft;
+    let tag = encipher(keys, &mut bytes[start..]);
+    bytes.extend_from_slice(&tag)?;
+    Ok(bytes)
+}
+
+/// A KRB-PRIV before it has its cipher.
+fn unenciphered(alloc: Global, etype: Etype) -> PrivMsg
+    ensures { result ≡ unenciphered (number_of etype) }
+{
+    PrivMsg {
         pvno: 5,
         msg_type: 21,
         etype: etype.number(),
         kvno: None,
-        cipher: Bytes::new(cipher),
-    };
-    within_limit(encode_priv(alloc, &message))
+        cipher: Bytes::new(Vec::new(alloc)),
+    }
+}
+
+/// The KRB-PRIV that carries a body. The part is written, and enciphered, where it stands in the
+/// frame.
+fn priv_frame(
+    alloc: Global,
+    keys: &Keys,
+    etype: Etype,
+    body: &BodyRef<'_>,
+    confounder: [u8; 16],
+) -> Result<Vec<u8>, AllocError>
+    requires live { keys.now.wiped ≡ false }
+    requires range { InRange body.now }
+    requires small { IsSmall body.now }
+    ensures { IfOk result (λ frame. SealsBody Priv (number_of etype) keys.now.key confounder
+        body.now frame.items) }
+{
+    let message = unenciphered(alloc, etype);
+    let draft = within_limit(draft_priv(alloc, &message, &confounder, body, TAG_SIZE))?;
+    finished(keys, draft)
 }
 
 /// The message that carries a body in a mode.
@@ -108,9 +128,6 @@ pub fn frame_of(
 {
     match mode {
         Mode::Safe => safe_frame(alloc, keys, etype, &unsigned(etype, body), confounder),
-        Mode::Priv => {
-            let text = text_of(alloc, &body, confounder)?;
-            priv_frame(alloc, keys, etype, text)
-        }
+        Mode::Priv => priv_frame(alloc, keys, etype, &body, confounder),
     }
 }

@@ -50,8 +50,8 @@ pub fn ends_256(alloc: Global, mode: Mode) -> Result<(Aes256Sealer, Opener), All
     ))
 }
 
-/// Seals the data so many times, and gives the last frame. Each frame is kept until the next is made,
-/// so that the allocator doesn't hand a large one back to the system between the two.
+/// Seals the data so many times, and gives the last frame. Each frame is kept until the next is
+/// made, so that the allocator doesn't hand a large one back to the system between the two.
 pub fn seal_often<S: Sealer>(
     alloc: Global,
     sealer: &mut S,
@@ -66,7 +66,8 @@ pub fn seal_often<S: Sealer>(
     Ok(last)
 }
 
-/// Opens the frame so many times, and says how often it gave its data.
+/// Opens the frame so many times, and says how often it gave its data. The data are kept until the
+/// next are there, as a frame is.
 pub fn open_often(
     alloc: Global,
     opener: &Opener,
@@ -76,11 +77,14 @@ pub fn open_often(
     times: u32,
 ) -> u32 {
     let mut opened = 0u32;
+    let mut last = Vec::new(alloc);
     for _ in 0..times {
-        if opener.unseal(alloc, frame, number, at).is_ok() {
+        if let Ok(data) = opener.unseal(alloc, frame, number, at) {
             opened = opened.saturating_add(1);
+            last = data;
         }
     }
+    drop(last);
     opened
 }
 

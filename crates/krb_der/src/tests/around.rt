@@ -1,14 +1,29 @@
-use super::{PART, SAFE, decode_safe};
-use crate::{BodyRef, Moment, SafeRef, encode_part_behind, safe_input_around};
+use super::{PART, SAFE, decode_priv, decode_safe};
+use crate::{BodyRef, Bytes, Moment, PrivMsg, SafeRef, draft_priv, safe_input_around};
 use std::test::Fail;
 
 #[test]
-fn part_stands_behind_other_bytes(rt: HostRuntime) -> Result<(), Fail> {
+fn part_is_drafted_where_its_cipher_is_to_be(rt: HostRuntime) -> Result<(), Fail> {
     let m = decode_safe(rt.alloc(), &SAFE)?;
     assert!(rt; m.body.in_range());
-    let text = encode_part_behind(rt.alloc(), &[7; 16], &m.body.borrowed(), 12)?;
+    let message = PrivMsg {
+        pvno: 5,
+        msg_type: 21,
+        etype: 17,
+        kvno: None,
+        cipher: Bytes::new(Vec::new(rt.alloc())),
+    };
+    let draft = draft_priv(rt.alloc(), &message, &[7; 16], &m.body.borrowed(), 12)?;
+    let text = &draft.bytes[draft.start..];
     assert!(rt; text.starts_with(&[7; 16]) && text.ends_with(&PART));
-    assert_eq!(rt; (text.len(), text.capacity()), (73, 85));
+    assert_eq!(rt; draft.bytes.capacity(), draft.bytes.len() + 12);
+    // The rest of the cipher makes it a message.
+    let mut bytes = draft.bytes;
+    bytes.extend_from_slice(&[9; 12])?;
+    assert_eq!(rt;
+        decode_priv(rt.alloc(), &bytes)?.cipher.as_slice().len(),
+        85
+    );
     Ok(())
 }
 

@@ -1,15 +1,21 @@
-use Rattle.std.proofs.Common.{arith, subst, ℕ, List}
-use Rattle.std.specs.Prelude.{IsTrue, ◌↔◌}
+use Rattle.std.proofs.Common.{◌≡◌, refl, ap, arith, length}
+use Rattle.krb_der.specs.declared.error.DerError.TheVariants.{TooLong}
 use Rattle.krb_der.specs.declared.message.Message.TheVariants.{Priv}
-use Rattle.krb_der.specs.Writing.{IsShort}
 use Rattle.krb_der.specs.Message.{Spells, message}
-use Rattle.krb_der.proofs.Lengths.{long_priv, memory_only}
+use Rattle.krb_der.proofs.Lengths.{memory_only}
+use Rattle.krb_der.proofs.Drafts.{private_spelt, private_too_long, within_limit}
 use Rattle.krb_der.proofs.private.encode_priv.Goals as goal
 
-pub returns-then-not-is_short : goal.returns-then-not-is_short
-returns-then-not-is_short c =
-    long_priv c.args.m.now c.is_short.result (subst (λ (b : List ℕ). IsTrue c.is_short.result ↔ IsShort b) c.as_slice.ensures c.is_short.ensures) c.if-not-is_short.true
+pub returns-in_err-size : goal.returns-in_err-size
+returns-in_err-size c =
+    let is : c.in_err-size.field-0.0 ≡ TooLong = cc c.in_err-size.ensures.err in
+    private_too_long c.args.m.now _ c.from_residual.result _ (ap length c.as_slice.ensures) c.from_residual.ensures.1 is c.in_err-size.ensures.too_long
 
 pub returns-in_err-spelling : goal.returns-in_err-spelling
 returns-in_err-spelling c =
-    memory_only Spells message (Priv c.args.m.now) c.from_residual.result c.from_residual.ensures.1 (omega (arith, c.size-size.ensures))
+    memory_only Spells message (Priv c.args.m.now) c.from_residual-in_err-spelling.result c.from_residual-in_err-spelling.ensures.1
+    (within_limit c.args.m.now (length c.as_slice.result.now) _ (ap length c.as_slice.ensures) (omega (arith, c.in_ok-size.ensures)) c.args.m.now.cipher refl)
+
+pub returns : goal.returns
+returns c =
+    private_spelt c.args.m.now (length c.as_slice.result.now) _ (ap length c.as_slice.ensures) c.known.ensures (omega (arith, c.in_ok-size.ensures)) c.in_ok-spelling.ensures

@@ -1,10 +1,6 @@
-use Rattle.std.proofs.Common.{◌∙◌}
-use Rattle.krb_der.specs.Private.{private_fields}
-use Rattle.krb_der.proofs.Writers.{message_written}
+use Rattle.std.proofs.Common.{arith}
+use Rattle.krb_der.proofs.Writers.{private_is}
 use Rattle.krb_der.proofs.private.PrivMsg.spelling.Goals as goal
 
 pub returns : goal.returns
-returns c =
-    c.into_vec.ensures
-    ∙ message_written 0x75 c.fields_size-fields.result c.size_around.result (private_fields c.args.self.now) c.in_ok-out.out c.begin.new.self c.begin-2.new.self c.write_fields.new.out
-    c.in_ok-out.ensures c.fields_size-fields.ensures.value c.size_around.ensures.value c.in_ok-begin.ensures c.in_ok-begin-2.ensures c.in_ok-write_fields.ensures
+returns c = grind (arith, private_is c.args.self.now)
