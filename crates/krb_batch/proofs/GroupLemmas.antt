@@ -1,9 +1,9 @@
 -- The groups of texts.
-use Rattle.std.proofs.Common.{◌≡◌, ◌≢◌, ℕ, ◌+◌, ◌<◌, ◌≤◌, ◌&&◌, max, Bool, true, false, nat_lt, nat_le, List, [], ◌∷◌, ◌++◌, length, take, drop, map, refl, sym, ap, ap₂, subst, ◌∙◌, append_assoc, arith, length-append, inl, inr, if◌then◌else◌}
+use Rattle.std.proofs.Common.{◌≡◌, ◌≢◌, ℕ, zero, suc, ◌+◌, ◌<◌, ◌≤◌, ◌&&◌, max, Bool, true, false, nat_lt, nat_le, List, [], ◌∷◌, ◌++◌, length, take, drop, map, refl, sym, ap, ap₂, subst, ◌∙◌, append_assoc, arith, length-append, inl, inr, if◌then◌else◌}
 use Rattle.std.specs.Prelude.{All, ◌⊎◌}
 use Rattle.std.specs.List.{flat_map}
 use Rattle.std.proofs.lemmas.Bool.{cases_lt, ltb-true, leb-true, lt-ltb, le-leb}
-use Rattle.std.proofs.lemmas.List.{take_at, take-take, length-take, take-append-drop}
+use Rattle.std.proofs.lemmas.List.{take_at, drop_at, drop-drop, take-take, length-take, take-append-drop}
 use Rattle.std.proofs.lemmas.List.Elements.{All-nil, All-cons}
 use Rattle.std.proofs.lemmas.List.Sums.{sum_by-take-le}
 use Rattle.krb_base.specs.Limits.{batch_limit, batch_size_limit}
@@ -179,19 +179,39 @@ sizes b texts (g ∷ gs) le h =
     let few = h.2.1.0.few in
     All-cons (λ group. (1 ≤ length group) × (length group ≤ b)) g gs (omega (arith, is), omega (arith, is, few, le)) (sizes b h.0 gs le h.3)
 
+-- a first group of two or more texts is no larger than a batch
+pub first_is_small : (b n : ℕ) (texts : List (List ℕ)) → IsFirstGroup b texts n → 2 ≤ n → (n ≤ b) × (texts_size (take n texts) ≤ batch_size_limit)
+first_is_small b n texts first several =
+    let fits = first.1.0 in
+    let few = fits.few in
+    let small = fits.small in
+    let same : first.0 ≡ n = let is = first.2 in omega (arith, is, several) in
+    let size : texts_size (take first.0 texts) ≡ texts_size (take n texts) = ap (λ k. texts_size (take k texts)) same in
+    (omega (arith, few, same), omega (arith, small, size))
+
+pub first_is_some : (b n : ℕ) (texts : List (List ℕ)) → IsFirstGroup b texts n → 1 ≤ length texts → (1 ≤ n) × (n ≤ length texts)
+first_is_some b n texts first some =
+    let is = first.2 in
+    let there = first.1.0.there in
+    (omega (arith, is), omega (arith, is, there, some))
+
+-- and so each group
+pub small_groups : (b : ℕ) (texts : List (List ℕ)) (parts : List (List (List ℕ))) → AreGroups b texts parts
+    → All (λ group. (1 ≤ length group) × (2 ≤ length group → (length group ≤ b) × (texts_size group ≤ batch_size_limit))) parts
+small_groups b texts [] h = All-nil (λ group. (1 ≤ length group) × (2 ≤ length group → (length group ≤ b) × (texts_size group ≤ batch_size_limit)))
+small_groups b texts (g ∷ gs) h =
+    let front : take (length g) texts ≡ g = ap (λ l. take (length g) l) h.1 ∙ take_at g h.0 (length g) refl in
+    let size : texts_size (take (length g) texts) ≡ texts_size g = ap texts_size front in
+    let is = h.2.2 in
+    All-cons (λ group. (1 ≤ length group) × (2 ≤ length group → (length group ≤ b) × (texts_size group ≤ batch_size_limit))) g gs
+    (omega (arith, is), λ several. let two = first_is_small b (length g) texts h.2 several in (two.0, let s = two.1 in omega (arith, s, size)))
+    (small_groups b h.0 gs h.3)
+
 pub batches : (b : ℕ) (texts : List (List ℕ)) (parts : List (List (List ℕ))) → b ≤ batch_limit → AreGroups b texts parts → All (λ group. 2 ≤ length group → IsBatch group) parts
-batches b texts [] le h = All-nil (λ group. 2 ≤ length group → IsBatch group)
-batches b texts (g ∷ gs) le h =
-    All-cons (λ group. 2 ≤ length group → IsBatch group) g gs (is_batch h.2.0 h.2.1.0 h.2.2) (batches b h.0 gs le h.3)
-  where
-    is_batch : (longest : ℕ) → Fits b texts longest → length g ≡ max 1 longest → 2 ≤ length g → IsBatch g
-    is_batch longest fits is several =
-        let few = fits.few in
-        let small = fits.small in
-        let same : longest ≡ length g = omega (arith, is, several) in
-        let front : take longest texts ≡ g = ap₂ (λ k l. take k l) same h.1 ∙ take_at g h.0 (length g) refl in
-        let size : texts_size (take longest texts) ≡ texts_size g = ap texts_size front in
-        record { several = several; few = omega (arith, few, same, le); small = omega (arith, size, small) }
+batches b texts parts le h k d below several =
+    let two = (small_groups b texts parts h k d below).1 several in
+    let few = two.0 in
+    record { several = several; few = omega (arith, few, le); small = two.1 }
 
 pub single : (texts : List (List ℕ)) → groups 1 texts ≡ map (λ text. text ∷ []) texts
 single [] = refl
@@ -212,3 +232,23 @@ next_groups b n texts some first =
     let len : n ≡ length (take n texts) = omega (arith, length-take n texts, is, there, some_text texts some) in
     one_grouping b texts (groups b texts) (take n texts ∷ groups b (drop n texts)) (groups_are b texts)
     (drop n texts, sym (take-append-drop n texts), subst (λ k. IsFirstGroup b texts k) len first, groups_are b (drop n texts))
+
+-- behind the first k groups stand the groups of the texts behind them
+behind_parts : (b k : ℕ) (texts : List (List ℕ)) (parts : List (List (List ℕ))) → AreGroups b texts parts
+    → AreGroups b (drop (length (flat_map (λ group. group) (take k parts))) texts) (drop k parts)
+behind_parts b zero texts parts are = are
+behind_parts b (suc k) texts [] are = are_none are
+  where
+    are_none : texts ≡ [] → drop 0 texts ≡ []
+    are_none e = e
+behind_parts b (suc k) texts (g ∷ gs) are =
+    let passed : List (List ℕ) = flat_map (λ group. group) (take k gs) in
+    let n : length (g ++ passed) ≡ length g + length passed = length-append g passed in
+    let behind : drop (length (g ++ passed)) texts ≡ drop (length passed) are.0 =
+    ap₂ (λ m l. drop m l) n are.1 ∙ (sym (drop-drop (length passed) (length g) (g ++ are.0)) ∙ ap (λ l. drop (length passed) l) (drop_at g are.0 (length g) refl)) in
+    subst (λ l. AreGroups b l (drop k gs)) (sym behind) (behind_parts b k are.0 gs are.3)
+
+pub groups_behind : (b k : ℕ) (texts : List (List ℕ)) → groups b (drop (length (flat_map (λ group. group) (take k (groups b texts)))) texts) ≡ drop k (groups b texts)
+groups_behind b k texts =
+    let rest = drop (length (flat_map (λ group. group) (take k (groups b texts)))) texts in
+    one_grouping b rest (groups b rest) (drop k (groups b texts)) (groups_are b rest) (behind_parts b k texts (groups b texts) (groups_are b texts))

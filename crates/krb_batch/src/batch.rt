@@ -4,6 +4,7 @@ ghost use Rattle.std.specs.Prelude.{◌≡◌, ◌↔◌, ◌≤◌, ◌<◌, �
 ghost use Rattle.std.specs.List.{flat_map};
 ghost use Rattle.krb_base.specs.Limits.{batch_size_limit, text_limit, user_data_limit};
 ghost use Rattle.krb_batch.specs.Batch.{IsBatch, SpellsBatch, text_bytes, texts_size, words_of};
+ghost use Rattle.krb_batch.specs.Reading.{batch_in};
 
 use crate::texts::Texts;
 use krb_base::{BATCH_LIMIT, BATCH_SIZE_LIMIT, Bytes};
@@ -62,11 +63,10 @@ fn size_of(texts: &[Bytes]) -> usize
 ///
 /// The texts are 2 to [`BATCH_LIMIT`], and take at most [`BATCH_SIZE_LIMIT`] bytes: four and its
 /// length for each. The only error is want of memory.
-pub fn batch_bytes(alloc: Global, texts: &Texts) -> Result<Vec<u8>, AllocError>
-    requires { IsBatch «texts».now }
-    ensures { IfOk result (λ bytes. SpellsBatch «texts».now bytes.items) }
+pub fn batch_bytes(alloc: Global, texts: &[Bytes]) -> Result<Vec<u8>, AllocError>
+    requires { IsBatch texts.now }
+    ensures { IfOk result (λ bytes. SpellsBatch texts.now bytes.items) }
 {
-    let texts = texts.as_slice();
     let mut bytes = Vec::with_capacity(alloc, 1 + size_of(texts))?;
     bytes.push(BATCH_TAG)?;
     for text in texts {
@@ -190,7 +190,8 @@ pub fn read_batch(alloc: Global, bytes: &[u8]) -> Result<Texts, BatchError>
 /// The laws of batches.
 ///
 /// Each batch has one spelling (`one_spelling`), and each spelling is of one batch (`one_batch`). A
-/// spelling is short enough for a message (`short`), and so is each text of a batch (`texts`).
+/// spelling is short enough for a message (`short`), and so is each text of a batch (`texts`). The
+/// function `batch_in` finds the batch that bytes are of (`found`).
 pub fn batch_laws()
     ensures one_spelling { (texts : List (List ℕ)) (a b : List ℕ)
         → SpellsBatch texts a → SpellsBatch texts b → a ≡ b }
@@ -200,4 +201,6 @@ pub fn batch_laws()
         → SpellsBatch texts bytes → length bytes ≤ user_data_limit }
     ensures texts { (texts : List (List ℕ)) → IsBatch texts
         → All (λ text. length text ≤ text_limit) texts }
+    ensures found { (texts : List (List ℕ)) (bytes : List ℕ)
+        → SpellsBatch texts bytes ↔ (batch_in bytes ≡ Some texts) }
 {}

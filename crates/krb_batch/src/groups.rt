@@ -13,8 +13,7 @@ use krb_base::{BATCH_SIZE_LIMIT, Bytes};
 /// It is the longest prefix of at most `batch` texts that take at most [`BATCH_SIZE_LIMIT`] bytes,
 /// four and its length for each, or the first text alone where that prefix is empty.
 pub fn group_end(texts: &[Bytes], batch: usize) -> usize
-    requires batch { (1 ≤ batch) × (batch ≤ batch_limit) }
-    requires some { texts.now ≢ [] }
+    requires { texts.now ≢ [] }
     ensures { IsFirstGroup batch texts.now result }
 {
     let mut size = 0;
@@ -32,7 +31,7 @@ pub fn group_end(texts: &[Bytes], batch: usize) -> usize
 /// Texts have groups (`some`), and no others (`only`). The groups joined are the texts (`joined`),
 /// and each has at least one text and at most `b` (`sizes`), so by ones each text is a group of its
 /// own (`single`). A group of two or more texts is a batch (`batch`). Behind the first group stand
-/// the groups of the texts behind it (`next`).
+/// the groups of the texts behind it (`next`), and so behind the first k (`behind`).
 pub fn group_laws()
     ensures some { (b : ℕ) (texts : List (List ℕ)) → AreGroups b texts (groups b texts) }
     ensures only { (b : ℕ) (texts : List (List ℕ)) (parts : List (List (List ℕ)))
@@ -46,4 +45,7 @@ pub fn group_laws()
         → All (λ group. 2 ≤ length group → IsBatch group) (groups b texts) }
     ensures next { (b n : ℕ) (texts : List (List ℕ)) → texts ≢ [] → IsFirstGroup b texts n
         → groups b texts ≡ take n texts ∷ groups b (drop n texts) }
+    ensures behind { (b k : ℕ) (texts : List (List ℕ))
+        → let passed = length (flat_map (λ group. group) (take k (groups b texts))) in
+        groups b (drop passed texts) ≡ drop k (groups b texts) }
 {}

@@ -29,7 +29,7 @@ fn end_of_two(alloc: Global, first: usize, second: usize) -> Result<usize, Alloc
 fn batch_of_two(rt: HostRuntime) -> Result<(), Fail> {
     let texts = read_batch(rt.alloc(), b"\x42\0\0\0\x01\x61\0\0\0\x01\x62")?;
     assert_eq!(rt; texts.as_slice().len(), 2);
-    let bytes = batch_bytes(rt.alloc(), &texts)?;
+    let bytes = batch_bytes(rt.alloc(), texts.as_slice())?;
     assert_eq!(rt;
         bytes.as_slice(),
         b"\x42\0\0\0\x01\x61\0\0\0\x01\x62".as_slice()
@@ -42,7 +42,7 @@ fn texts_are_spelt_in_order(rt: HostRuntime) -> Result<(), Fail> {
     let first = Bytes::new(vec![in rt.alloc(); 0x68, 0x69]?);
     let second = Bytes::new(vec![in rt.alloc(); 0x21]?);
     let texts = Texts::new(vec![in rt.alloc(); first, second]?);
-    let bytes = batch_bytes(rt.alloc(), &texts)?;
+    let bytes = batch_bytes(rt.alloc(), texts.as_slice())?;
     assert_eq!(rt; bytes.as_slice(), b"\x42\0\0\0\x02hi\0\0\0\x01!".as_slice());
     Ok(())
 }
@@ -99,7 +99,7 @@ fn most_texts(rt: HostRuntime) -> Result<(), Fail> {
     bytes[0] = 0x42;
     let texts = read_batch(rt.alloc(), bytes.as_slice())?;
     assert_eq!(rt; texts.as_slice().len(), 1_000);
-    assert!(rt; batch_bytes(rt.alloc(), &texts)?.as_slice() == bytes.as_slice());
+    assert!(rt; batch_bytes(rt.alloc(), texts.as_slice())?.as_slice() == bytes.as_slice());
     bytes.extend_from_slice(&[0, 0, 0, 0])?;
     let answer = read_batch(rt.alloc(), bytes.as_slice());
     assert!(rt; matches!(answer, Err(BatchError::NoBatch)));
@@ -115,7 +115,7 @@ fn largest_batch(rt: HostRuntime) -> Result<(), Fail> {
     for text in texts.as_slice() {
         assert_eq!(rt; text.as_slice().len(), 499_996);
     }
-    assert!(rt; batch_bytes(rt.alloc(), &texts)?.as_slice() == bytes.as_slice());
+    assert!(rt; batch_bytes(rt.alloc(), texts.as_slice())?.as_slice() == bytes.as_slice());
     let bytes = two_texts(rt.alloc(), [0, 7, 0xa1, 0x1d], [0, 7, 0xa1, 0x1c])?;
     let answer = read_batch(rt.alloc(), bytes.as_slice());
     assert!(rt; matches!(answer, Err(BatchError::NoBatch)));

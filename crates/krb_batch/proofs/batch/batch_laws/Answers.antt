@@ -1,4 +1,5 @@
 use Rattle.krb_batch.proofs.BatchLemmas.{one_batch, short_batch, short_texts}
+use Rattle.krb_batch.proofs.ReadingLemmas.{found_is_spelt, spelt_is_found}
 use Rattle.krb_batch.proofs.batch.batch_laws.Goals as goal
 
 pub returns-clause-one_batch : goal.returns-clause-one_batch
@@ -9,3 +10,6 @@ returns-clause-short c = short_batch
 
 pub returns-clause-texts : goal.returns-clause-texts
 returns-clause-texts c texts is = short_texts texts is.small
+
+pub returns-clause-found : goal.returns-clause-found
+returns-clause-found c texts bytes = (spelt_is_found texts bytes, found_is_spelt texts bytes)

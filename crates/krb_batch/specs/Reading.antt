@@ -1,0 +1,27 @@
+-- Reading a batch, as a function: the law `batch_laws` says that it gives the one batch that bytes are of.
+use Rattle.std.specs.Prelude.{ℕ, zero, suc, Bool, nat_le, ◌&&◌, List, [], ◌∷◌, length, take, drop, Option, Some, None, if◌then◌else◌}
+use Rattle.std.specs.Int.{w32, from_be_bytes}
+use Rattle.std.specs.Str.{bytes_eq}
+use Rattle.krb_base.specs.Limits.{batch_limit, batch_size_limit}
+use Rattle.krb_batch.specs.Batch.{texts_size, spelling}
+
+-- the texts that stand one behind the other, n at most: four bytes are the length of each
+abbrev pub texts_in : ℕ → List ℕ → List (List ℕ)
+texts_in zero bytes = []
+texts_in (suc n) [] = []
+texts_in (suc n) (b ∷ rest) =
+    let behind = drop 4 (b ∷ rest) in
+    let len = from_be_bytes w32 (take 4 (b ∷ rest)) in
+    take len behind ∷ texts_in n (drop len behind)
+
+-- these texts can be one batch
+abbrev pub can_be_batch : List (List ℕ) → Bool
+can_be_batch texts = nat_le 2 (length texts) && (nat_le (length texts) batch_limit && nat_le (texts_size texts) batch_size_limit)
+
+-- the texts, where they are a batch and the bytes are its spelling
+abbrev pub if_spelt : List ℕ → List (List ℕ) → Option (List (List ℕ))
+if_spelt bytes texts = if can_be_batch texts && bytes_eq bytes (spelling texts) then Some texts else None
+
+-- the texts of the batch that the bytes are of
+abbrev pub batch_in : List ℕ → Option (List (List ℕ))
+batch_in bytes = if_spelt bytes (texts_in (length bytes) (drop 1 bytes))
