@@ -134,6 +134,33 @@ def seal_part(key, text):
     return tlv(0x75, sequence(tlv(0xA0, integer(5)), tlv(0xA1, integer(21)), tlv(0xA3, data)))
 
 
+# ---- records
+
+MOST_TEXTS, MOST_BYTES = 1000, 1_000_000    # of a batch; a text takes four bytes more than it has
+
+
+def groups(texts, most):
+    """The texts of each record: as many as go together, up to `most`, but one at least."""
+    found, place = [], 0
+    while place < len(texts):
+        end, size = place + 1, 4 + len(texts[place])
+        while end < min(len(texts), place + most) and size + 4 + len(texts[end]) <= MOST_BYTES:
+            size += 4 + len(texts[end])
+            end += 1
+        found.append(texts[place:end])
+        place = end
+    return found
+
+
+def batch(texts):
+    """Several texts as one record, each behind its length."""
+    return b"B" + b"".join(len(text).to_bytes(4, "big") + text for text in texts)
+
+
+def record(group):
+    return b"D" + group[0] if len(group) == 1 else batch(group)
+
+
 # ---- what the tests expect
 
 MICROS = 1700000000000005
@@ -163,11 +190,15 @@ def print_frames():
     def without(*tags):
         return body(b"Dhi", MICROS, 7, SENDER, left_out=tags)
 
-    # The first 32 bytes that ChaCha20 gives for a key of zeros (RFC 8439 appendix A.1): what
-    # krb_core's tests draw for the first two records.
-    drawn = bytes.fromhex("76b8e0ada0f13d90405d6ae55386bd28bdd219b8a08ded1aa836efcc8b770dc7")
+    # The first 48 bytes that ChaCha20 gives for a key of zeros (RFC 8439 appendix A.1): what
+    # krb_core's tests draw for the first three records.
+    drawn = bytes.fromhex("76b8e0ada0f13d90405d6ae55386bd28bdd219b8a08ded1aa836efcc8b770dc7"
+                          "da41597c5157488d7724e03fb8d84a37")
     second = body(b"C", MICROS, 8, SENDER)
     before_last = body(b"Da", MICROS, 4294967294, SENDER)
+    texts = [record(group) for group in groups([b"a", b"b", b"c"], 2)] + [b"C"]
+    batches = [body(it, MICROS, 7 + place, SENDER) for place, it in enumerate(texts)]
+    batch_before_last = body(texts[0], MICROS, 4294967294, SENDER)
     no_record = body(b"X", MICROS, 7, SENDER)
     data = body(b"hi", MICROS, 7, SENDER)
     long = body(b"D" + bytes(1_000_000), MICROS, 7, SENDER)
@@ -176,15 +207,23 @@ def print_frames():
         ("safe 17", seal_safe(KEY_128, inner)),
         ("safe 17, the close behind it", seal_safe(KEY_128, second)),
         ("priv 17, first drawn confounder", seal_priv(KEY_128, inner, drawn[:16])),
-        ("priv 17, the close behind it", seal_priv(KEY_128, second, drawn[16:])),
+        ("priv 17, the close behind it", seal_priv(KEY_128, second, drawn[16:32])),
         ("safe 17, to the receiver", seal_safe(KEY_128, told)),
         ("safe 18", seal_safe(KEY_256, inner)),
         ("safe 18, the close behind it", seal_safe(KEY_256, second)),
         ("priv 18, first drawn confounder", seal_priv(KEY_256, inner, drawn[:16])),
-        ("priv 18, the close behind it", seal_priv(KEY_256, second, drawn[16:])),
+        ("priv 18, the close behind it", seal_priv(KEY_256, second, drawn[16:32])),
         ("safe 17, last number", seal_safe(KEY_128, close)),
         ("safe 17, the text 61 before the last number", seal_safe(KEY_128, before_last)),
         ("safe 17, the front of a text of 1,000,000 bytes", seal_safe(KEY_128, long)[:41]),
+        ("safe 17, the batch of 61 and 62", seal_safe(KEY_128, batches[0])),
+        ("safe 17, the text 63 behind it", seal_safe(KEY_128, batches[1])),
+        ("safe 17, the close behind both", seal_safe(KEY_128, batches[2])),
+        ("safe 17, the batch before the last number", seal_safe(KEY_128, batch_before_last)),
+        ("priv 17, the batch, first drawn confounder",
+         seal_priv(KEY_128, batches[0], drawn[:16])),
+        ("priv 17, the text 63 behind it", seal_priv(KEY_128, batches[1], drawn[16:32])),
+        ("priv 17, the close behind both", seal_priv(KEY_128, batches[2], drawn[32:])),
         ("safe 17, no record", seal_safe(KEY_128, no_record)),
         ("safe 17, an empty checksum", safe(inner, 15, b"")),
         ("safe 17, what is under the checksum", safe(inner, 0, b"")),

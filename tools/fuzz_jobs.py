@@ -1,7 +1,7 @@
 """Drawn jobs for `seal`, `open` and `relay` of krbrelay, and what it is to print of them by an
 independent sender and receiver (opener.py): sessions at the edges of what a job may say, whose
-wires carry right frames, frames that are repeated, dropped, exchanged, cut or changed, and frames
-that somebody with the key, or with another one, made up."""
+wires carry right frames, of one text or of several, frames that are repeated, dropped, exchanged,
+cut or changed, and frames that somebody with the key, or with another one, made up."""
 import frames
 import fuzz_messages
 import jobs
@@ -12,6 +12,10 @@ NUMBERS = [0, 1, 7, 127, 128, 2**31 - 1, 2**31, 2**32 - 3, 2**32 - 2, 2**32 - 1]
 KINDS = [-(2**31), -1, 0, 2, 24, 2**31 - 1]
 MOMENTS = [5, 951_782_400_000_000, jobs.MICROS, jobs.MICROS + 999_994, LAST_MOMENT]
 SIZES = [0, 0, 1, 2, 2, 3, 13, 14, 15, 16, 31, 100, 200, 1000]
+LONG = [[59_999], [65_535], [999_999], [1_000_000], [499_996, 499_996], [499_997, 499_996],
+        [999_992, 0], [999_993, 0]]
+BATCHES = [1, 2, 2, 3, 4, 1000]
+WRONG_BATCHES = ["0", "1001", "-2", "2.0", "true", '"2"']
 
 
 def near(value, dice, distance):
@@ -36,10 +40,11 @@ def sender(dice, most):
     """A sender of at most so many texts."""
     texts = [dice.randbytes(dice.choice(SIZES)) for _ in range(dice.randrange(most + 1))]
     if dice.random() < 0.01:
-        texts.append(dice.randbytes(dice.choice([59_999, 65_535, 999_999, 1_000_000])))
+        texts += [dice.randbytes(size) for size in dice.choice(LONG)]
     middle = dice.choice(MOMENTS)
     ats = [near(middle, dice, 5_000_000) for _ in range(dice.randrange(1, 4))]
-    return opener.Sender(session(dice), texts, ats, dice.randbytes(32))
+    batch = dice.choice(BATCHES) if dice.random() < 0.5 else 1
+    return opener.Sender(session(dice), texts, ats, dice.randbytes(32), batch=batch)
 
 
 def nows(dice, sent):
@@ -50,7 +55,25 @@ def nows(dice, sent):
 
 # ---- frames that somebody makes up
 
+def batch(dice):
+    """A batch, or what is nearly one."""
+    how = dice.random()
+    if how < 0.01:
+        return frames.batch([bytes(dice.choice([999_992, 999_993])), b""])
+    if how < 0.05:
+        return frames.batch([b""] * dice.choice([1000, 1001]))
+    count = dice.choice([0, 1, 2, 2, 2, 3, 20])
+    data = frames.batch([dice.randbytes(dice.choice([0, 1, 3])) for _ in range(count)])
+    if how < 0.5:
+        return data
+    place = dice.randrange(1, len(data) + 1)
+    return dice.choice([data[:place], data + b"\0", data + data[1:],
+                        data[:place] + dice.randbytes(1) + data[place + 1:]])
+
+
 def record(dice):
+    if dice.random() < 0.3:
+        return batch(dice)
     return dice.choice([b"D", b"C", b"D" + dice.randbytes(3), b"", b"X", b"CC", b"B"])
 
 
@@ -165,8 +188,19 @@ def open_job(dice):
     """A job for `open`, its lines, and how many frames it has."""
     sent = sender(dice, 6)
     came, moments = wire(dice, sent), nows(dice, sent)
-    text = jobs.job([jobs.sender(**keys_of(sent.session), now=moments, frames=came)])
-    return text, opener.open_lines(sent.session, moments, came), len(came)
+    told = 1 if dice.random() < 0.01 else None    # a batch is no key for `open`
+    text = jobs.job([jobs.sender(**keys_of(sent.session), now=moments, frames=came, batch=told)])
+    lines = opener.open_lines(sent.session, moments, came)
+    return text, [bad_input(0, "batch")] if told else lines, len(came)
+
+
+def batch_key(dice, sent):
+    """The batch of a sender as a job has it: seldom a wrong one, which is 0 in the sender, and
+    sometimes none for 1."""
+    if dice.random() < 0.01:
+        sent.batch = 0
+        return dice.choice(WRONG_BATCHES)
+    return None if sent.batch == 1 and dice.random() < 0.9 else sent.batch
 
 
 def lane(dice, most):
@@ -175,14 +209,22 @@ def lane(dice, most):
     sent.plan = plan(dice, sent)
     moments = nows(dice, sent)
     table = jobs.sender(**keys_of(sent.session), at=sent.ats, now=moments, texts=sent.texts,
-                        seed=sent.seed, plan=sent.plan)
+                        seed=sent.seed, batch=batch_key(dice, sent), plan=sent.plan)
     return sent, moments, table
 
 
-def bad_plan(senders):
-    """The line of the least sender whose plan is bad, or None."""
+def bad_input(place, key):
+    return f"krbrelay: bad input: sender {place}: {key}"
+
+
+def fault_of(senders):
+    """The line of the least sender whose batch is wrong, else of the least whose plan is bad, or
+    None."""
+    for place, it in enumerate(senders):
+        if it.batch == 0:
+            return bad_input(place, "batch")
     least = opener.first_bad_plan(senders)
-    return None if least is None else f"krbrelay: bad input: sender {least}: plan"
+    return None if least is None else bad_input(least, "plan")
 
 
 def emissions(senders):
@@ -192,7 +234,7 @@ def emissions(senders):
 def seal_job(dice):
     """A job for `seal`, its lines, and how many frames it emits."""
     sent, _, table = lane(dice, 8)
-    fault = bad_plan([sent])
+    fault = fault_of([sent])
     lines = [fault] if fault else opener.seal_lines(sent)
     return jobs.job([table]), lines, emissions([sent])
 
@@ -201,7 +243,7 @@ def relay_job(dice):
     """A job for `relay`, its lines, and how many frames it emits."""
     lanes = [lane(dice, 4) for _ in range(dice.choice([1, 1, 2, 2, 3, 8]))]
     senders = [sent for sent, _, _ in lanes]
-    fault = bad_plan(senders)
+    fault = fault_of(senders)
     pairs = [(sent, moments) for sent, moments, _ in lanes]
     lines = [fault] if fault else opener.relay_lines(pairs)
     tables = [table for _, _, table in lanes]

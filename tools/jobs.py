@@ -26,7 +26,8 @@ def emission(kind, what, at=0, mask=0):
 
 def sender(etype, mode, key, texts=None, frames=None, first=7, at=MICROS, now=MICROS,
            origin=(2, bytes([10, 0, 0, 1])), to=(2, bytes([10, 0, 0, 255])), write_to=False,
-           require_to=False, expect_time=True, skew=300, seed=bytes(32), plan=None):
+           require_to=False, expect_time=True, skew=300, seed=bytes(32), batch=None,
+           plan=None):
     """One sender, of texts to be sealed or of frames to be opened. A key that is too short is
     repeated, and a longer one cut."""
     size = 16 if etype == 17 else 32
@@ -38,6 +39,8 @@ def sender(etype, mode, key, texts=None, frames=None, first=7, at=MICROS, now=MI
              f"now = {moments(now)}"]
     if texts is not None:
         lines += [f'seed = "{seed.hex()}"', f"at = {moments(at)}", f"texts = {digits(texts)}"]
+    if batch is not None:
+        lines.append(f"batch = {batch}")
     if plan is not None:
         lines.append(f"plan = [{', '.join(emission(*it) for it in plan)}]")
     if frames is not None:

@@ -148,47 +148,62 @@ class Receiver:
         self.expected, self.closed, self.place = session.first, False, 0
 
     def take(self, frame):
-        """What the log says of the frame, without the lane."""
+        """The lines of the log for the frame, without the lane."""
         now = self.nows[min(self.place, len(self.nows) - 1)]
         self.place += 1
         try:
-            text = self.accepted(frame, now)
+            texts = self.accepted(frame, now)
         except Refused as refused:
             code = refused.args[0]
-            return f"refused {code} {NAMES[code]}"
+            return [f"refused {code} {NAMES[code]}"]
         self.expected += 1
-        self.closed = text is None
-        return "closed" if text is None else f"text {text.hex()}"
+        self.closed = texts is None
+        return ["closed"] if texts is None else [f"text {text.hex()}" for text in texts]
 
     def accepted(self, frame, now):
-        """The text of the frame, or None for a close."""
+        """The texts of the frame, or None for a close."""
         refuse(903, self.closed)
         data = unseal(self.session, self.expected, now, frame)
         if data == b"C":
             return None
-        refuse(902, data[:1] != b"D" or len(data) > 1_000_001)
-        return data[1:]
+        refuse(902, data[:1] not in (b"D", b"B") or len(data) > 1_000_001)
+        return [data[1:]] if data[:1] == b"D" else batch_texts(data)
+
+
+def batch_texts(data):
+    """The texts of a batch, which has two at least."""
+    texts, place = [], 1
+    while place < len(data):
+        start = place + 4
+        size = int.from_bytes(data[place:start], "big")
+        refuse(902, len(data) < start + size)
+        texts.append(data[start:start + size])
+        place = start + size
+    refuse(902, not 2 <= len(texts) <= frames.MOST_TEXTS)
+    return texts
 
 
 # ---- what is sealed
 
 @dataclasses.dataclass
 class Sender:
-    """The texts of a session, their moments and the seed of their confounders. A plan is None or a
-    list of ("frame", k), ("flip", k, at, mask) and ("raw", bytes)."""
+    """The texts of a session, their moments, the seed of their confounders, and how many of them a
+    frame carries at most. A plan is None or a list of ("frame", k), ("flip", k, at, mask) and
+    ("raw", bytes)."""
     session: Session
     texts: list
     ats: list
     seed: bytes = bytes(32)
     plan: list = None
+    batch: int = 1
 
-    def count(self):
-        """How many texts are sealed: the last number is kept for the close."""
-        return min(len(self.texts), LAST_NUMBER - self.session.first)
+    def groups(self):
+        """The texts that are sealed, frame by frame: the last number is kept for the close."""
+        return frames.groups(self.texts, self.batch)[:LAST_NUMBER - self.session.first]
 
     def frames(self):
         """The frames of the texts that are sealed and of the close."""
-        records = [b"D" + text for text in self.texts[:self.count()]] + [b"C"]
+        records = [frames.record(group) for group in self.groups()] + [b"C"]
         drawn = stream(self.seed, 16 * len(records))
         return [self.sealed(record, place, drawn[16 * place:16 * place + 16])
                 for place, record in enumerate(records)]
@@ -210,8 +225,8 @@ class Sender:
 
     def told(self):
         """How many of the texts were sealed."""
-        done = self.count() == len(self.texts)
-        return f"sent {self.count()} of {len(self.texts)} {'DONE' if done else 'LAST_NUMBER'}"
+        count, all_texts = sum(map(len, self.groups())), len(self.texts)
+        return f"sent {count} of {all_texts} {'DONE' if count == all_texts else 'LAST_NUMBER'}"
 
 
 def stream(seed, size):
@@ -242,17 +257,18 @@ def seal_lines(sender):
 
 def open_lines(session, nows, wire):
     receiver = Receiver(session, nows)
-    lines = [f"lane 0 {receiver.take(frame)}" for frame in wire]
+    lines = [f"lane 0 {line}" for frame in wire for line in receiver.take(frame)]
     return lines + [f"lane 0 {'CLOSED' if receiver.closed else 'TRUNCATED'}"]
 
 
 def relay_lines(lanes):
-    """The log in rounds and how each lane ended; a lane is a sender and its receiver's moments."""
+    """The log in rounds, in each of which the lines of one frame stand together, and how each lane
+    ended; a lane is a sender and its receiver's moments."""
     receivers = [Receiver(sender.session, nows) for sender, nows in lanes]
     logs = [[it.take(frame) for frame in sender.wire()]
             for it, (sender, _) in zip(receivers, lanes)]
-    lines = [f"lane {lane} {log[place]}" for place in range(max(map(len, logs)))
-             for lane, log in enumerate(logs) if place < len(log)]
+    lines = [f"lane {lane} {line}" for place in range(max(map(len, logs)))
+             for lane, log in enumerate(logs) if place < len(log) for line in log[place]]
     for lane, (receiver, (sender, _)) in enumerate(zip(receivers, lanes)):
         lines.append(f"lane {lane} {sender.told()} {'CLOSED' if receiver.closed else 'TRUNCATED'}")
     return lines

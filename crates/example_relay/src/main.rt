@@ -7,6 +7,7 @@ ghost use Rattle.krb_peers.specs.Sending.{source_of, IsSender};
 ghost use Rattle.krb_seal.specs.Session.{HasShortAddresses};
 
 use anyhow::{Context, Result};
+use krb_base::Bytes;
 use krb_der::{HostAddress, Moment};
 use krb_peers::{Emit, Entry, Event, Receiver, Receiving, Sending};
 use krb_relay::{NoGate, Report, relay};
@@ -31,7 +32,8 @@ fn session(alloc: Global, host: u8) -> Result<Session, AllocError>
     })
 }
 
-/// A sender of one text. Its key and its seed are fixed, so that the program always prints the same.
+/// A sender of one text. Its key and its seed are fixed, so that the program always prints the
+/// same.
 fn sending(
     alloc: Global,
     host: u8,
@@ -44,7 +46,8 @@ fn sending(
 {
     Ok(Sending {
         sealer: Aes256Sealer::new(&mut [host; 32], session(alloc, host)?),
-        texts: vec![in alloc; Vec::from_slice(alloc, text)?]?,
+        texts: vec![in alloc; Bytes::new(Vec::from_slice(alloc, text)?)]?,
+        batch: 1,
         ats: vec![in alloc; at]?,
         draws: ChaCha20Rng::from_seed([host; 32]),
         plan,

@@ -7,7 +7,7 @@ use Rattle.krb_peers.specs.declared.receiver.Receiving.{Receiving}
 use Rattle.krb_peers.specs.declared.sending.Sending.{Sending}
 use Rattle.krb_peers.specs.Sending.{source_of, IsSender}
 use Rattle.krb_peers.specs.Ends.{Ends, ends_of, lanes_of}
-use Rattle.krb_job.specs.Sender.{Sender}
+use Rattle.krb_job.specs.SenderKeys.{Sender}
 use Rattle.krb_commands.specs.Ends.{AreReady, receiver_of, source_in, ends_with, ends_in}
 use Rattle.std.proofs.lemmas.List.{map-append}
 

@@ -12,7 +12,7 @@ use Rattle.krb_peers.specs.declared.sending.Sending.{Sending}
 use Rattle.krb_peers.specs.Sending.{source_of, IsSender}
 use Rattle.krb_peers.specs.Sender.{Source}
 use Rattle.krb_peers.specs.Ends.{Ends}
-use Rattle.krb_job.specs.Sender.{Sender}
+use Rattle.krb_job.specs.SenderKeys.{Sender}
 use Rattle.krb_commands.specs.declared.ends.SessionKey.{SessionKey}
 use Rattle.krb_commands.specs.declared.ends.SessionKey.TheVariants.{Aes128, Aes256}
 
@@ -56,6 +56,7 @@ abbrev pub source_with : Sender → SealerState → List ℕ → Source
 source_with sender sealer seed = record {
   sealer = sealer;
   texts = sender.texts;
+  batch = sender.batch;
   ats = sender.ats;
   draws = of_seed seed;
   plan = sender.plan;

@@ -3,16 +3,14 @@
 ghost use Rattle.std.specs.Prelude.{◌≡◌, ◌+◌, ◌<◌, ◌≤◌, ◌∷◌, ◌++◌, [], false, ℕ, List, length, map, IsSome, IfOk, IfErr, OnOk, Some};
 ghost use Rattle.krb_seal.specs.Session.{HasShortAddresses};
 ghost use Rattle.krb_peers.specs.Premises.{IsPaired};
-ghost use Rattle.krb_peers.specs.Plan.{contents};
 ghost use Rattle.krb_peers.specs.Ends.{lanes_of};
-ghost use Rattle.krb_job.specs.Sender.{Sender};
+ghost use Rattle.krb_job.specs.SenderKeys.{Sender};
 ghost use Rattle.krb_job.specs.SenderView.{sender_view};
 ghost use Rattle.krb_peers.specs.Sending.{source_of, IsSender};
 ghost use Rattle.krb_base.specs.Limits.{last_number};
 ghost use Rattle.krb_commands.specs.Ends as ends;
 
 use crate::fault::Fault;
-use krb_base::Bytes;
 use krb_der::HostAddress;
 use krb_job::SenderJob;
 use krb_peers::{Receiver, Receiving, Sending};
@@ -95,28 +93,22 @@ pub fn receiving_of(alloc: Global, sender: &SenderJob) -> Result<Receiving, Allo
 /// The sender of a job's lane, around a sealer of its session.
 ///
 /// The job is one of a command that seals, so it has a seed.
-pub fn sending_of<S: Sealer>(
-    alloc: Global,
-    sender: SenderJob,
-    sealer: S,
-) -> Result<Sending<S>, AllocError>
+pub fn sending_of<S: Sealer>(sender: SenderJob, sealer: S) -> Sending<S>
     requires seed { IsSome sender.seed }
-    ensures source { IfOk result (λ sending.
-        Some (source_of S.state sending) ≡ ends.source_in (sender_view sender) (S.state sealer)) }
-    ensures sealer { IfOk result (λ sending. S.state sending.sealer ≡ S.state sealer) }
-    ensures limits { IfOk result (λ sending. (S.state sealer).next ≤ last_number
-        → IsSender (source_of S.state sending)) }
+    ensures source { Some (source_of S.state result)
+        ≡ ends.source_in (sender_view sender) (S.state sealer) }
+    ensures sealer { S.state result.sealer ≡ S.state sealer }
+    ensures limits { (S.state sealer).next ≤ last_number → IsSender (source_of S.state result) }
 {
     let seed = sender.seed.unwrap();
-    let mut sending = Sending {
+    Sending {
         sealer,
-        texts: Vec::new(alloc),
+        texts: sender.texts,
+        batch: sender.batch,
         ats: sender.ats,
         draws: ChaCha20Rng::from_seed(seed),
         plan: sender.plan,
-    };
-    sending.texts = vectors_of(alloc, sender.texts)?;
-    Ok(sending)
+    }
 }
 
 /// Adds the ends of a job's lane to those of the lanes before it, around a sealer of its session.
@@ -147,7 +139,7 @@ pub fn push_lane<S: Sealer>(
 {
     let receiving = receiving_of(alloc, &sender);
     // A sender lets its sealer go wiped, so it is made first.
-    let sending = sending_of(alloc, sender, sealer)?;
+    let sending = sending_of(sender, sealer);
     let receiving = receiving?;
     receivings.push(receiving)?;
     sendings.push(sending)?;
@@ -160,17 +152,6 @@ pub fn job_lanes_are_paired()
     ensures { (sender : Sender) (seed : List ℕ)
         → IsPaired (ends.ends_with sender (ends.source_with sender (ends.sealer_of sender) seed)) }
 {}
-
-/// The vectors of texts, whose bytes stay where they are.
-fn vectors_of(alloc: Global, texts: Vec<Bytes>) -> Result<Vec<Vec<u8>>, AllocError>
-    ensures { IfOk result (λ vectors. contents vectors.items ≡ texts.items) }
-{
-    let mut vectors = Vec::with_capacity(alloc, texts.len())?;
-    for text in texts {
-        vectors.push(text.into_vec())?;
-    }
-    Ok(vectors)
-}
 
 fn copy_of(alloc: Global, address: &HostAddress) -> Result<HostAddress, AllocError>
     ensures { IfOk result (λ copy. copy ≡ address.now) }

@@ -2,6 +2,7 @@
 //! told only where the reader or the writer failed. The messages and their lines were written by
 //! hand from the grammar of RFC 4120; the sealed frames are those of an independent sealer.
 
+mod batches;
 mod faulty;
 mod frames;
 mod gates;

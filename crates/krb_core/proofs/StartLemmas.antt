@@ -7,7 +7,7 @@ use Rattle.std.specs.Prelude.{Vec, IsTrue, IfErr, IsErrAnd, option_map}
 use Rattle.krb_base.specs.Limits.{lane_limit}
 use Rattle.krb_peers.specs.declared.plan.Emit.{Emit}
 use Rattle.krb_peers.specs.Plan.{is_good, wire}
-use Rattle.krb_peers.specs.Sender.{HaveShortTexts, Source, records, AreFrames}
+use Rattle.krb_peers.specs.Sender.{IsWithinLimits, Source, records, AreFrames}
 use Rattle.krb_seal.specs.Sealer.{SealerState}
 use Rattle.krb_peers.specs.declared.receiver.Receiving.{Receiving}
 use Rattle.krb_peers.specs.declared.sending.Sending.{Sending}

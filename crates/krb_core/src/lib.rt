@@ -2,8 +2,8 @@
 //! thread, in any order of turns.
 //!
 //! [`Stepped`] has one to eight lanes and one [`Log`]. [`stepped_laws`] says what turns leave: the
-//! headline of each lane, by what the log has of it. Senders, receivers, plans and the log are those
-//! of [`krb_peers`], and have their paths here too.
+//! headline of each lane, by what the log has of it. Senders, receivers, plans and the log are
+//! those of [`krb_peers`], and have their paths here too.
 //!
 //! ```rust crates/krb_core/src/tests/steps.rt
 //! relay.run(&[SEND, SEND, TAKE, TAKE, SEND, TAKE, SEND, TAKE])?;
@@ -21,7 +21,7 @@ mod turn;
 
 pub use krb_peers::{
     Delivery, Emit, EmitError, Ending, Entry, Event, LAST_NUMBER, Log, Order, OrderRefusal,
-    Receiver, Receiving, Record, RecordError, Sending, Sent, StartError, Status, TEXT_LIMIT,
+    Receiver, Receiving, Record, RecordError, Sending, Sent, StartError, Status, TEXT_LIMIT, Texts,
     USER_DATA_LIMIT, accepted_laws, emit, emit_sealed, headline_laws, logged_laws, read_record,
     record_bytes, record_laws, relay_laws, rounds_laws, undisturbed_laws, verdict_laws,
 };

@@ -22,7 +22,7 @@ ghost use Rattle.krb_base.specs.Limits.{text_limit};
 ghost use Rattle.krb_seal.specs.Session.{HasShortAddresses, IsShortAddress};
 
 use crate::{Delivery, Receiver, Sending};
-use krb_base::{Bytes, LAST_NUMBER, TEXT_LIMIT};
+use krb_base::{BATCH_LIMIT, Bytes, LAST_NUMBER, TEXT_LIMIT};
 use krb_der::{HostAddress, Moment};
 use krb_seal::{Aes128Sealer, Expect, Mode, Opener, Refusal, SealError, Sealer, Session};
 use rand_chacha::ChaCha20Rng;
@@ -66,7 +66,7 @@ fn sealer(alloc: Global, mode: Mode, first: u32) -> Result<Aes128Sealer, AllocEr
     Ok(Aes128Sealer::new(&mut { KEY }, session))
 }
 
-/// A sender of these texts at these moments, with the seed of zeros and no plan.
+/// A sender of these texts, each alone, at these moments, with the seed of zeros and no plan.
 fn sending<S: Sealer>(
     alloc: Global,
     sealer: S,
@@ -76,12 +76,14 @@ fn sending<S: Sealer>(
     let mut sending = Sending {
         sealer,
         texts: Vec::new(alloc),
+        batch: 1,
         ats: Vec::new(alloc),
         draws: ChaCha20Rng::from_seed([0; 32]),
         plan: None,
     };
     for text in texts {
-        sending.texts.push(Vec::from_slice(alloc, text)?)?;
+        let text = Vec::from_slice(alloc, text)?;
+        sending.texts.push(Bytes::new(text))?;
     }
     for at in micros {
         sending.ats.push(moment(*at)?)?;
@@ -93,10 +95,10 @@ fn moment(micros: u64) -> Result<Moment, Fail> {
     Ok(Moment::from_micros(micros).ok_or("past the year 9999")?)
 }
 
-fn are_short(texts: &[Vec<u8>]) -> bool
-    ensures { result ≡ list_all (λ text. nat_le (length text.items) text_limit) texts.now }
+fn are_short(texts: &[Bytes]) -> bool
+    ensures { result ≡ list_all (λ text. nat_le (length text) text_limit) texts.now }
 {
-    texts.iter().all(|text| text.len() <= TEXT_LIMIT)
+    texts.iter().all(|text| text.as_slice().len() <= TEXT_LIMIT)
 }
 
 /// All frames of a sender.
@@ -105,7 +107,7 @@ fn sealed<S: Sealer>(
     alloc: Global,
     sending: &mut Sending<S>,
 ) -> Result<Vec<Vec<u8>>, SealError> {
-    assert!(rt; are_short(sending.texts.as_slice()));
+    assert!(rt; are_short(sending.texts.as_slice()) && sending.batch <= BATCH_LIMIT);
     assert!(rt; !sending.ats.is_empty());
     assert!(rt; sending.sealer.next() <= LAST_NUMBER);
     sending.seal_all(alloc)
@@ -124,13 +126,23 @@ fn receiver(alloc: Global, mode: Mode, first: u32) -> Result<Receiver, AllocErro
     Ok(Receiver::new(Opener::new_128(&mut { KEY }, expect), first))
 }
 
-/// What became of a frame: the text, or one word.
+/// What became of a frame: the text, the letters of a batch's texts, or one word.
 fn is_answer(answer: &Result<Delivery, Refusal>, expected: &str) -> bool {
     match answer {
         Ok(Delivery::Text(text)) => text.as_slice() == expected.as_bytes(),
+        Ok(Delivery::Batch(texts)) => are_letters(texts.as_slice(), expected),
         Ok(Delivery::Closed) => expected == "closed",
         Err(refusal) => refusal.name() == expected,
     }
+}
+
+/// Whether the texts are these letters, one each.
+fn are_letters(texts: &[Bytes], letters: &str) -> bool {
+    texts.len() == letters.len()
+        && texts
+            .iter()
+            .zip(letters.as_bytes())
+            .all(|(text, letter)| text.as_slice() == [*letter].as_slice())
 }
 
 /// Whether a receiver answers so to these frames, one after another, all at one moment.

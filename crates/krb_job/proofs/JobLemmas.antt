@@ -7,7 +7,7 @@ use Rattle.krb_job.specs.declared.job.Command.{Command}
 use Rattle.krb_job.specs.declared.job.SenderJob.{SenderJob}
 use Rattle.krb_job.specs.declared.bad_input.BadInput.{BadInput}
 use Rattle.krb_job.specs.Checks.{◌>>=◌}
-use Rattle.krb_job.specs.Sender.{Sender}
+use Rattle.krb_job.specs.SenderKeys.{Sender}
 use Rattle.krb_job.specs.SenderView.{sender_view, keys_of}
 use Rattle.krb_job.specs.Job.{sender_at, senders_from}
 

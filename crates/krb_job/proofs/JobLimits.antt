@@ -4,7 +4,7 @@ use Rattle.std.proofs.lemmas.Bool.Decides.{nat_tests}
 use Rattle.std.proofs.lemmas.List.{length-map}
 use Rattle.std.proofs.Math.ListN.{get_or-map}
 use Rattle.std.proofs.lemmas.List.Elements.{All-nil, All-cons}
-use Rattle.krb_base.specs.Limits.{capacity_limit, lane_limit}
+use Rattle.krb_base.specs.Limits.{batch_limit, capacity_limit, lane_limit}
 use Rattle.toml.specs.Data.{Data, string, integer, float, boolean, datetime, array, table, Items, no_items, item, Members, get_member}
 use Rattle.krb_job.specs.declared.bad_input.BadInput.{BadInput}
 use Rattle.krb_job.specs.declared.bad_input.JobError.{JobError}
@@ -14,12 +14,12 @@ use Rattle.krb_job.specs.declared.job.SenderJob.{SenderJob}
 use Rattle.krb_job.specs.declared.job.Command.{Command}
 use Rattle.krb_job.specs.declared.job.Command.TheVariants.{Seal, Open, Relay}
 use Rattle.krb_job.specs.declared.place.Place.{Place}
-use Rattle.krb_job.specs.declared.place.Place.TheVariants.{Seed, At, Now, Texts, Plan, Frames}
+use Rattle.krb_job.specs.declared.place.Place.TheVariants.{Seed, At, Now, Texts, Batch, Plan, Frames}
 use Rattle.krb_job.specs.Checks.{◌>>=◌}
 use Rattle.krb_job.specs.Values.{number_of, seed_of}
 use Rattle.krb_job.specs.Lists.{count, moments_of, texts_of, plan_of, frames_of}
 use Rattle.krb_job.specs.Keys.{needed, optional, some, only_if, has_only}
-use Rattle.krb_job.specs.Sender.{Sender, Traffic, seals, opens, sender_of, protection_of, parties_of, traffic_of, sender_keys, together, if_known}
+use Rattle.krb_job.specs.SenderKeys.{Sender, Traffic, seals, opens, sender_of, protection_of, parties_of, traffic_of, sender_keys, together, if_known}
 use Rattle.krb_job.specs.Job.{Job, capacity_of, capacity_if_there, are_tables, are_senders, most_senders, senders_if_there, items_of_senders, sender_at, senders_from, in_sender, GivesJob, job_view, has_top_keys, if_top_known, job_of}
 use Rattle.krb_job.specs.SenderView.{sender_view}
 use Rattle.krb_job.proofs.Given.{checked, given, within, value_at}
@@ -126,7 +126,8 @@ seed_of-traffic command ms t sealing e =
     let ats = checked (only_if (seals command) [] At (needed At moments_of ms) ms) _ t seed.2 in
     let nows = checked (needed Now moments_of ms) _ t ats.2 in
     let texts = checked (only_if (seals command) [] Texts (needed Texts texts_of ms) ms) _ t nows.2 in
-    let plan = checked (only_if (seals command) None Plan (optional None Plan (some plan_of) ms) ms) _ t texts.2 in
+    let batch = checked (only_if (seals command) 1 Batch (optional 1 Batch (number_of 1 batch_limit) ms) ms) _ t texts.2 in
+    let plan = checked (only_if (seals command) None Plan (optional None Plan (some plan_of) ms) ms) _ t batch.2 in
     let frames = checked (only_if (opens command) [] Frames (needed Frames frames_of ms) ms) _ t plan.2 in
     let there = value_at Seed (some seed_of) ms seed.0 (allowed-ok (seals command) Seed (needed Seed (some seed_of) ms) ms seed.0 sealing seed.1) in
     let same : seed.0 ≡ t.seed = ap (λ (x : Traffic). x.seed) (value-ok _ t frames.2) in

@@ -20,7 +20,7 @@ use Rattle.krb_job.specs.Checks.{◌>>=◌}
 use Rattle.krb_job.specs.Values.{number_of}
 use Rattle.krb_job.specs.Lists.{count}
 use Rattle.krb_job.specs.Keys.{has_only}
-use Rattle.krb_job.specs.Sender.{Sender, sender_of}
+use Rattle.krb_job.specs.SenderKeys.{Sender, sender_of}
 use Rattle.krb_job.specs.SenderView.{sender_view}
 
 pub record Job : Type 0 where

@@ -9,7 +9,7 @@ pub mod Limits
 pub mod Lists
 pub mod Place
 pub mod Secret
-pub mod Sender
+pub mod SenderKeys
 pub mod SenderView
 pub mod Steps
 pub mod Text

@@ -4,7 +4,7 @@ use Rattle.krb_job.specs.declared.job.SenderJob.{SenderJob}
 use Rattle.krb_job.specs.declared.parts.Protection.{Protection as ReadProtection}
 use Rattle.krb_job.specs.declared.parts.Parties.{Parties as ReadParties}
 use Rattle.krb_job.specs.declared.parts.Traffic.{Traffic as ReadTraffic}
-use Rattle.krb_job.specs.Sender.{Sender, Protection, Parties, Traffic}
+use Rattle.krb_job.specs.SenderKeys.{Sender, Protection, Parties, Traffic}
 
 abbrev pub protection_view : ReadProtection → Protection
 protection_view p = record { etype = p.etype; key = p.key; mode = p.mode; first = p.first }
@@ -18,6 +18,7 @@ traffic_view t = record {
   ats = t.ats.items;
   nows = t.nows.items;
   texts = t.texts.items;
+  batch = t.batch;
   plan = option_map (λ v. v.items) t.plan;
   frames = t.frames.items;
 }
@@ -38,6 +39,7 @@ sender_view s = record {
   ats = s.ats.items;
   nows = s.nows.items;
   texts = s.texts.items;
+  batch = s.batch;
   plan = option_map (λ v. v.items) s.plan;
   frames = s.frames.items;
 }

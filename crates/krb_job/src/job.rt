@@ -2,10 +2,10 @@
 
 ghost use Rattle.std.specs.Prelude.{◌≡◌, ◌≤◌, ◌<◌, length, IsSome};
 ghost use Rattle.std.proofs.Props.{props};
-ghost use Rattle.krb_base.specs.Limits.{skew_limit, capacity_limit, lane_limit};
+ghost use Rattle.krb_base.specs.Limits.{skew_limit, batch_limit, capacity_limit, lane_limit};
 ghost use Rattle.krb_seal.specs.Session.{IsShortAddress};
 ghost use Rattle.krb_job.specs.Limits.{IsKeyOf, IsKeyOf-prop, AreShortTexts};
-ghost use Rattle.krb_job.specs.Sender.{seals, opens};
+ghost use Rattle.krb_job.specs.SenderKeys.{seals, opens};
 
 use crate::secret::Secret;
 use krb_base::Bytes;
@@ -71,6 +71,8 @@ pub struct SenderJob {
     pub nows: Vec<Moment>,
     /// What is sent.
     pub texts: Vec<Bytes>,
+    /// How many texts a frame carries at most, 1 to 1,000; 1 where the job does not say it.
+    pub batch: usize,
     /// What is put on the wire, if not each frame once.
     pub plan: Option<Vec<Emit>>,
     /// What is opened.
@@ -81,6 +83,8 @@ pub struct SenderJob {
     pub ghost to_short: { IsShortAddress to },
     pub ghost skew_fits: { skew ≤ skew_limit },
     pub ghost texts_short: { AreShortTexts texts.items } by { Prim.hlevel props },
+    pub ghost has_batch: { 1 ≤ batch },
+    pub ghost batch_fits: { batch ≤ batch_limit },
     pub ghost has_nows: { 0 < length nows.items },
     pub ghost has_ats: { IsSome seed → 0 < length ats.items },
 }

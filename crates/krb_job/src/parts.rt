@@ -2,7 +2,7 @@
 
 ghost use Rattle.std.specs.Prelude.{◌≤◌, ◌<◌, pos, length, IsSome};
 ghost use Rattle.std.proofs.Props.{props};
-ghost use Rattle.krb_base.specs.Limits.{last_number, skew_limit};
+ghost use Rattle.krb_base.specs.Limits.{last_number, skew_limit, batch_limit};
 ghost use Rattle.krb_seal.specs.Session.{IsShortAddress};
 ghost use Rattle.krb_job.specs.Limits.{IsKeyOf, IsKeyOf-prop, AreShortTexts};
 
@@ -44,9 +44,12 @@ pub(crate) struct Traffic {
     pub(crate) ats: Vec<Moment>,
     pub(crate) nows: Vec<Moment>,
     pub(crate) texts: Vec<Bytes>,
+    pub(crate) batch: usize,
     pub(crate) plan: Option<Vec<Emit>>,
     pub(crate) frames: Vec<Bytes>,
     ghost texts_short: { AreShortTexts texts.items } by { Prim.hlevel props },
+    ghost has_batch: { 1 ≤ batch },
+    ghost batch_fits: { batch ≤ batch_limit },
     ghost has_nows: { 0 < length nows.items },
     ghost has_ats: { IsSome seed → 0 < length ats.items },
 }

@@ -6,7 +6,7 @@ ghost use Rattle.krb_job.specs.SenderView.{keys_of, sender_view};
 ghost use Rattle.toml.specs.Data.{Members};
 ghost use Rattle.krb_job.specs.Job.{GivesJob, IsTree, job_of, job_view, most_senders, sender_at};
 ghost use Rattle.krb_job.specs.Job.{senders_from};
-ghost use Rattle.krb_job.specs.Sender.{seals};
+ghost use Rattle.krb_job.specs.SenderKeys.{seals};
 
 use crate::bad_input::{BadInput, JobError};
 use crate::job::{Command, Job, SenderJob};

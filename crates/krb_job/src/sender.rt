@@ -7,8 +7,8 @@ ghost use Rattle.toml.specs.View.{view, table_view};
 ghost use Rattle.krb_job.specs.Checks.{Gives};
 ghost use Rattle.krb_job.specs.Values.{key_size, key_of};
 ghost use Rattle.krb_job.specs.Keys.{needed, has_only};
-ghost use Rattle.krb_job.specs.Sender.{protection_of, parties_of, traffic_of, sender_of};
-ghost use Rattle.krb_job.specs.Sender.{sender_keys, together};
+ghost use Rattle.krb_job.specs.SenderKeys.{protection_of, parties_of, traffic_of, sender_of};
+ghost use Rattle.krb_job.specs.SenderKeys.{sender_keys, together};
 ghost use Rattle.krb_job.specs.SenderView.{keys_of, protection_view, parties_view, traffic_view};
 ghost use Rattle.krb_job.specs.SenderView.{sender_view};
 
@@ -17,7 +17,8 @@ use crate::parts::{Parties, Protection, Traffic};
 use crate::place::{KeyError, Place};
 use crate::secret::Secret;
 use crate::table::{
-    address, flag, frames, has_only, mode, moments, moments_if, needed, number, plan, seed, texts,
+    address, batch, flag, frames, has_only, mode, moments, moments_if, needed, number, plan, seed,
+    texts,
 };
 use crate::values::read_bytes;
 use krb_base::SKEW_LIMIT;
@@ -63,7 +64,7 @@ fn key(alloc: Global, table: &Table, etype: u64, earlier: &[SenderJob]) -> Resul
     read_key(alloc, needed(table, Place::Key)?, etype, earlier)
 }
 
-#[tactic(auto, unfolding(crate::specs::Sender::protection_of))]
+#[tactic(auto, unfolding(crate::specs::SenderKeys::protection_of))]
 fn read_protection(
     alloc: Global,
     table: &Table,
@@ -84,7 +85,7 @@ fn read_protection(
     })
 }
 
-#[tactic(auto, unfolding(crate::specs::Sender::parties_of))]
+#[tactic(auto, unfolding(crate::specs::SenderKeys::parties_of))]
 fn read_parties(alloc: Global, table: &Table) -> Result<Parties, KeyError>
     ensures { Gives parties_view result (parties_of (table_view table.now)) }
 {
@@ -104,7 +105,7 @@ fn read_parties(alloc: Global, table: &Table) -> Result<Parties, KeyError>
     })
 }
 
-#[tactic(auto, unfolding(crate::specs::Sender::traffic_of))]
+#[tactic(auto, unfolding(crate::specs::SenderKeys::traffic_of))]
 fn read_traffic(alloc: Global, table: &Table, command: Command) -> Result<Traffic, KeyError>
     ensures { Gives traffic_view result (traffic_of command (table_view table.now)) }
 {
@@ -113,6 +114,7 @@ fn read_traffic(alloc: Global, table: &Table, command: Command) -> Result<Traffi
     let ats = moments_if(alloc, table, Place::At, seals)?;
     let nows = moments(alloc, table, Place::Now)?;
     let texts = texts(alloc, table, Place::Texts, seals)?;
+    let batch = batch(table, Place::Batch, seals)?;
     let plan = plan(alloc, table, Place::Plan, seals)?;
     let frames = frames(alloc, table, Place::Frames, command.opens())?;
     Ok(Traffic {
@@ -120,13 +122,14 @@ fn read_traffic(alloc: Global, table: &Table, command: Command) -> Result<Traffi
         ats,
         nows,
         texts,
+        batch,
         plan,
         frames,
     })
 }
 
 /// The keys that a sender may have.
-static SENDER_KEYS: [&str; 16] = [
+static SENDER_KEYS: [&str; 17] = [
     "etype",
     "key",
     "mode",
@@ -141,6 +144,7 @@ static SENDER_KEYS: [&str; 16] = [
     "at",
     "now",
     "texts",
+    "batch",
     "plan",
     "frames",
 ];
@@ -155,7 +159,7 @@ fn has_sender_keys(table: &Table) -> bool
 ///
 /// An error names the first key, in the order of [`Place`], that is absent, is not allowed or
 /// stands for nothing, or the keys that no sender has.
-#[tactic(auto, unfolding(crate::specs::Sender::sender_of))]
+#[tactic(auto, unfolding(crate::specs::SenderKeys::sender_of))]
 pub(crate) fn read_sender(
     alloc: Global,
     table: &Table,
@@ -194,6 +198,7 @@ fn together(protection: Protection, parties: Parties, traffic: Traffic) -> Sende
         ats: traffic.ats,
         nows: traffic.nows,
         texts: traffic.texts,
+        batch: traffic.batch,
         plan: traffic.plan,
         frames: traffic.frames,
     }

@@ -6,6 +6,7 @@ ghost use Rattle.std.specs.List.{list_all, list_any};
 ghost use Rattle.std.specs.Str.{bytes_eq};
 ghost use Rattle.toml.specs.Data.{get_member};
 ghost use Rattle.toml.specs.View.{view, table_view};
+ghost use Rattle.krb_base.specs.Limits.{batch_limit};
 ghost use Rattle.krb_job.specs.Checks.{Gives};
 ghost use Rattle.krb_job.specs.Values.{number_of, flag_of, mode_of, seed_of};
 ghost use Rattle.krb_job.specs.Address.{address_of};
@@ -16,7 +17,7 @@ use crate::address::read_address;
 use crate::lists::{read_frames, read_moments, read_plan, read_texts};
 use crate::place::{KeyError, Place};
 use crate::values::{read_flag, read_mode, read_number, read_seed};
-use krb_base::Bytes;
+use krb_base::{BATCH_LIMIT, Bytes};
 use krb_der::{HostAddress, Moment};
 use krb_peers::Emit;
 use krb_seal::Mode;
@@ -134,6 +135,24 @@ pub(crate) fn texts(
     match if_allowed(table, place, allowed)? {
         Some(value) => read_texts(alloc, place, value),
         None => Ok(Vec::new(alloc)),
+    }
+}
+
+/// How many texts a frame carries at most: 1 where the job does not say it.
+pub(crate) fn batch(table: &Table, place: Place, allowed: bool) -> Result<usize, KeyError>
+    ensures value { Gives (λ n. n) result
+        (only_if allowed 1 place (optional 1 place (number_of 1 batch_limit) (table_view table.now))
+        (table_view table.now)) }
+    ensures low { IfOk result (λ n. 1 ≤ n) }
+    ensures high { IfOk result (λ n. n ≤ batch_limit) }
+{
+    match entry(table, place) {
+        Some(value) if allowed => match read_number(value, 1, BATCH_LIMIT as u64) {
+            Some(batch) => Ok(batch as usize),
+            None => Err(KeyError::Bad(place)),
+        },
+        None => Ok(1),
+        _ => Err(KeyError::Bad(place)),
     }
 }
 

@@ -1,5 +1,6 @@
 //! Jobs of one sender with a line changed, and what reading them gives.
 
+mod batch;
 mod document;
 mod ends;
 mod errors;

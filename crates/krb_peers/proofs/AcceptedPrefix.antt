@@ -6,7 +6,7 @@ use Rattle.std.proofs.lemmas.List.Concat.{flat_map-append}
 use Rattle.krb_base.specs.Prefix.{IsPrefix}
 use Rattle.krb_base.proofs.PrefixLemmas.{prefix_whole}
 use Rattle.krb_peers.specs.declared.record.Record.{Record}
-use Rattle.krb_peers.specs.declared.record.Record.TheVariants.{Text, Close}
+use Rattle.krb_peers.specs.declared.record.Record.TheVariants.{Text, Batch, Close}
 use Rattle.krb_peers.specs.Record.{is_close, texts_of}
 use Rattle.krb_peers.specs.Order.{Offer, Answer}
 use Rattle.krb_peers.specs.Accepted.{accepted_of, Accepted, IsNumbered, AreNumbered, EndsWithItsClose}
@@ -48,7 +48,7 @@ none_of_both [] ys is = sym is
 none_of_both (x ∷ xs) ys is = absurd (let e = is in cc)
 
 -- a prefix that holds the one close at the end is the whole list
-none_left : (accepted rest front : List Record) → list_any is_close accepted ≡ true → list_any is_close front ≡ false → front ++ Close ∷ [] ≡ accepted ++ rest → rest ≡ []
+pub none_left : (accepted rest front : List Record) → list_any is_close accepted ≡ true → list_any is_close front ≡ false → front ++ Close ∷ [] ≡ accepted ++ rest → rest ≡ []
 none_left [] rest front closed quiet is = absurd (let e : false ≡ true = closed in cc)
 none_left (r ∷ accepted) rest [] closed quiet is =
     let e : Close ∷ [] ≡ r ∷ (accepted ++ rest) = is in
@@ -57,6 +57,12 @@ none_left (r ∷ accepted) rest [] closed quiet is =
 none_left (Text text ∷ accepted) rest (f ∷ front) closed quiet is =
     let e : f ∷ (front ++ Close ∷ []) ≡ Text text ∷ (accepted ++ rest) = is in
     let head : f ≡ Text text = cc in
+    let tail : front ++ Close ∷ [] ≡ accepted ++ rest = cc in
+    let P : Record → Type 0 = λ z. list_any is_close (z ∷ front) ≡ false in
+    none_left accepted rest front closed (subst P head quiet) tail
+none_left (Batch texts ∷ accepted) rest (f ∷ front) closed quiet is =
+    let e : f ∷ (front ++ Close ∷ []) ≡ Batch texts ∷ (accepted ++ rest) = is in
+    let head : f ≡ Batch texts = cc in
     let tail : front ++ Close ∷ [] ≡ accepted ++ rest = cc in
     let P : Record → Type 0 = λ z. list_any is_close (z ∷ front) ≡ false in
     none_left accepted rest front closed (subst P head quiet) tail

@@ -3,7 +3,7 @@ use Rattle.std.proofs.Common.{◌≡◌, ℕ, true, List, sym, ap, subst, ◌∙
 use Rattle.krb_peers.specs.declared.log.Event.{Event}
 use Rattle.krb_peers.specs.Log.{events_of, texts_in, has_closed}
 use Rattle.krb_peers.specs.LogState.{LogState}
-use Rattle.krb_peers.specs.Sender.{sealed_texts}
+use Rattle.krb_peers.specs.Sender.{sealed_groups}
 use Rattle.krb_peers.specs.Verdicts.{events_from}
 use Rattle.krb_peers.specs.Run.{Run, IsRun}
 use Rattle.krb_peers.specs.Undisturbed.{TakesAll}
@@ -25,10 +25,10 @@ headline_of run lane log is entries takes_all =
     record {
       delivered_prefix = λ paired honest.
           let P : List Event → Type 0 = λ es. DeliversPrefix source es in
-          subst P (sym entries) (delivered_prefix vs (sealed_texts source) (records_prefix run is paired honest));
+          subst P (sym entries) (delivered_prefix vs (sealed_groups source) (records_prefix run is paired honest));
       nothing_after_close = λ front back at. quiet_after receiver.opener nows start 0 took vs is.judged front back (sym entries ∙ at);
       all_where_closed = λ paired honest closed.
-          ap texts_in entries ∙ delivered_whole vs (sealed_texts source) (records_prefix run is paired honest) (ap has_closed (sym entries) ∙ closed);
+          ap texts_in entries ∙ delivered_whole vs (sealed_groups source) (records_prefix run is paired honest) (ap has_closed (sym entries) ∙ closed);
       all_where_undisturbed = λ calm ended. ap texts_in entries ∙ all_texts run calm (takes_all ended).fits is (takes_all ended);
       refused_exactly = λ place frame refusal at. refuses receiver.opener nows start took vs is.judged place frame refusal at;
       refusals_deliver_nothing = λ front back refusal at.

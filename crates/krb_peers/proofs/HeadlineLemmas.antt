@@ -1,6 +1,12 @@
 -- What is claimed of a lane.
-use Rattle.std.proofs.Common.{◌≡◌, ℕ, zero, suc, ◌+◌, ◌<◌, ◌||◌, if◌then◌else◌, Bool, true, false, List, [], ◌∷◌, ◌++◌, length, map, take, drop, get_or, slice_get, Option, Some, None, Ok, Err, refl, sym, ap, ap₂, subst, ◌∙◌, arith, append-nil, ◌⊎◌, inl, inr}
-use Rattle.std.specs.List.{list_any}
+use Rattle.std.proofs.Common.{◌≡◌, ℕ, zero, suc, ◌+◌, ◌<◌, ◌≤◌, ◌||◌, if◌then◌else◌, Bool, true, false, List, [], ◌∷◌, ◌++◌, length, map, take, drop, get_or, slice_get, Option, Some, None, Ok, Err, refl, sym, ap, ap₂, subst, ◌∙◌, arith, append-nil, ◌⊎◌, inl, inr}
+use Rattle.std.specs.List.{list_any, flat_map}
+use Rattle.std.proofs.lemmas.Bool.{cases_lt}
+use Rattle.std.proofs.lemmas.List.Concat.{flat_map-append}
+use Rattle.krb_base.specs.Limits.{batch_size_limit}
+use Rattle.krb_batch.specs.Batch.{texts_size, text_bytes}
+use Rattle.krb_batch.proofs.BatchLemmas.{length-texts, one_reading}
+use Rattle.krb_batch.proofs.GroupLemmas.{small_groups}
 use Rattle.std.proofs.lemmas.Bool.{ltb-true}
 use Rattle.std.proofs.lemmas.Option.{slice_get-get_or, slice_get_within}
 use Rattle.krb_base.specs.Prefix.{IsPrefix}
@@ -10,16 +16,16 @@ use Rattle.krb_seal.proofs.SealedFrames.{nowhere_else, one_frame}
 use Rattle.krb_peers.specs.declared.record.Record.{Record}
 use Rattle.krb_peers.specs.declared.record.Record.TheVariants as records
 use Rattle.krb_peers.specs.declared.delivery.Delivery.{Delivery}
-use Rattle.krb_peers.specs.declared.delivery.Delivery.TheVariants.{Text, Closed}
+use Rattle.krb_peers.specs.declared.delivery.Delivery.TheVariants.{Text, Batch, Closed}
 use Rattle.krb_peers.specs.declared.log.Event.{Event}
 use Rattle.krb_peers.specs.declared.log.Event.TheVariants as events
 use Rattle.krb_peers.specs.declared.plan.Emit.{Emit}
 use Rattle.krb_peers.specs.declared.plan.Emit.TheVariants.{Frame, Flip, Raw}
 use Rattle.krb_peers.specs.Demand.{Demand}
-use Rattle.krb_peers.specs.Record.{SpellsRecord, bytes_of, is_close}
+use Rattle.krb_peers.specs.Record.{SpellsRecord, bytes_of, texts_of, is_close}
 use Rattle.krb_peers.specs.Log.{texts_in, has_closed}
 use Rattle.krb_peers.specs.Plan.{is_good, is_good_emission, emission, emissions, wire}
-use Rattle.krb_peers.specs.Sender.{Source, sealed_texts, records_for, AreFrames, moment_at}
+use Rattle.krb_peers.specs.Sender.{Source, text_groups, texts_of_groups, sealed_count, record_for, records_for, AreFrames, moment_at}
 use Rattle.krb_peers.specs.Sender as sender
 use Rattle.krb_peers.specs.Order.{demand_after}
 use Rattle.krb_peers.specs.ReceiverState.{ReceiverState}
@@ -29,8 +35,10 @@ use Rattle.krb_peers.specs.Run.{Run, IsRun}
 use Rattle.krb_peers.specs.Premises.{is_altered_one, altered_at, AlteredAreHonest, IsPaired}
 use Rattle.krb_peers.specs.Claims.{NothingAfterClose, RefusesExactly, RefusalsDeliverNothing}
 use Rattle.krb_peers.proofs.VerdictLemmas.{AreVerdicts-behind, unique_verdict}
-use Rattle.krb_peers.proofs.LoggedLemmas.{texts_in-append, has_closed-append, closed_one, or_left, or_right}
-use Rattle.krb_peers.proofs.ListLemmas.{slice_get-take, drop_get, all_pass, same_lists}
+use Rattle.krb_peers.proofs.AcceptedPrefix.{none_left, texts_prefix}
+use Rattle.krb_peers.proofs.LoggedLemmas.{texts_in-append, has_closed-append, texts_in-texts, has_closed-texts, closed_one, closed_events, or_left, or_right}
+use Rattle.krb_peers.proofs.SendingLemmas.{record_there, close_there, groups_of_source}
+use Rattle.krb_peers.proofs.ListLemmas.{slice_get-take, drop_get, all_pass, same_lists, length-take, get_or-take}
 
 -- ---- lists
 
@@ -74,11 +82,45 @@ origin frames (Some plan) place frame h = origin_by frames plan place frame (is_
 same_head : (a b : ℕ) (xs ys : List ℕ) → a ∷ xs ≡ b ∷ ys → a ≡ b
 same_head a b xs ys e = cc
 
-same_record : (r s : Record) → bytes_of r ≡ bytes_of s → r ≡ s
-same_record (records.Text t) (records.Text u) e = let same : t ≡ u = cc in ap records.Text same
-same_record (records.Text t) records.Close e = absurd (omega (arith, same_head 0x44 0x43 t [] e))
-same_record records.Close (records.Text u) e = absurd (omega (arith, same_head 0x43 0x44 [] u e))
-same_record records.Close records.Close e = refl
+-- the texts of a batch are no larger than a batch may be
+abbrev IsSmall : Record → Type 0
+IsSmall (records.Text text) = Unit {0}
+IsSmall (records.Batch texts) = texts_size texts ≤ batch_size_limit
+IsSmall records.Close = Unit {0}
+
+same_record : (r s : Record) (user : List ℕ) → IsSmall r → bytes_of r ≡ user → SpellsRecord s user → r ≡ s
+same_record (records.Text t) (records.Text u) user small e spelled = (let f = e ∙ spelled.1 in let same : t ≡ u = cc in ap records.Text same)
+same_record (records.Text t) (records.Batch us) user small e spelled = absurd (omega (arith, same_head 0x44 0x42 t _ (e ∙ spelled.1)))
+same_record (records.Text t) records.Close user small e spelled = absurd (omega (arith, same_head 0x44 0x43 t [] (e ∙ spelled.1)))
+same_record (records.Batch ts) (records.Text u) user small e spelled = absurd (omega (arith, same_head 0x42 0x44 _ u (e ∙ spelled.1)))
+same_record (records.Batch ts) (records.Batch us) user small e spelled =
+    let tails : flat_map text_bytes us ≡ flat_map text_bytes ts = sym (ap (λ l. drop 1 l) (e ∙ spelled.1)) in
+    let short : length (flat_map text_bytes us) ≤ batch_size_limit = let few = spelled.0.small in omega (arith, few, length-texts us) in
+    ap records.Batch (one_reading (flat_map text_bytes us) us ts short refl tails)
+same_record (records.Batch ts) records.Close user small e spelled = absurd (omega (arith, same_head 0x42 0x43 _ [] (e ∙ spelled.1)))
+same_record records.Close (records.Text u) user small e spelled = absurd (omega (arith, same_head 0x43 0x44 [] u (e ∙ spelled.1)))
+same_record records.Close (records.Batch us) user small e spelled = absurd (omega (arith, same_head 0x43 0x42 [] _ (e ∙ spelled.1)))
+same_record records.Close records.Close user small e spelled = refl
+
+-- so is each record of a sender
+small_for : (group : List (List ℕ)) → (2 ≤ length group → texts_size group ≤ batch_size_limit) → IsSmall (record_for group)
+small_for [] small = omega arith
+small_for (t ∷ []) small = tt
+small_for (t ∷ u ∷ ts) small = small (omega arith)
+
+small_record : (source : Source) (count k : ℕ) (r : Record) → slice_get (take count (sender.records source)) k ≡ Some r → IsSmall r
+small_record source count k r at =
+    let all = text_groups source in
+    let m = sealed_count source.sealer.next (length all) in
+    let here : slice_get (records_for (take m all)) k ≡ Some r = slice_get-take count k (sender.records source) r at in
+    elim (cases_lt k (length (take m all))) [
+      | inl below ↦
+          let n = length-take m all in
+          let is : r ≡ record_for (get_or all k []) = record_there (take m all) k r below here ∙ ap record_for (get_or-take m k all [] (omega (arith, below, n))) in
+          let group = small_groups source.batch source.texts all (groups_of_source source) k [] (omega (arith, below, n)) in
+          subst IsSmall (sym is) (small_for (get_or all k []) (λ several. (group.1 several).1))
+      | inr past ↦ subst IsSmall (sym (close_there (take m all) k r past here)) tt
+    ]
 
 -- one of the sender's own frames carries its own record, and no other number opens it
 own_record : (ends : Ends) (count : ℕ) (frames : List (List ℕ)) → IsPaired ends → AreFrames ends.source (take count (sender.records ends.source)) frames
@@ -96,7 +138,7 @@ own_record ends count frames paired sealed k frame at c now user opened r spelle
     rw (← paired.etype, ← paired.key, ← paired.expected) opened in
     let w = nowhere_else s.etype s.key s.session opener.expect (s.next + k) _ now (s.next + c) (bytes_of it) _ frame user (sealed.each k it frame at-r at) as_sealer in
     let place : c ≡ k = omega (arith, w.0) in
-    let same : it ≡ r = same_record it r (sym w.1 ∙ spelled.1) in
+    let same : it ≡ r = same_record it r user (small_record source count k it at-r) (sym w.1) spelled in
     rw place (at-r ∙ ap (λ x. Some x) same)
 
 -- where each accepted record is the one of its number, the records are a prefix
@@ -165,46 +207,49 @@ module _ (run : Run) (is : IsRun run) where
 
 -- ---- so the texts are a prefix, and all where a close was accepted
 
-nothing_accepted : (vs : List Verdict) → records_of vs ≡ [] → (delivered vs ≡ []) × (has_closed (events_from vs) ≡ false)
-nothing_accepted [] h = (refl, refl)
-nothing_accepted (Ok d ∷ vs) h = absurd (let e = h in cc)
-nothing_accepted (Err refusal ∷ vs) h = nothing_accepted vs h
+-- what is delivered are the texts of the records that are accepted
+texts_by : (v : Verdict) → texts_in (events_by v) ≡ flat_map texts_of (accepted_by v)
+texts_by (Ok (Text text)) = refl
+texts_by (Ok (Batch texts)) = texts_in-texts texts ∙ sym (append-nil texts)
+texts_by (Ok Closed) = refl
+texts_by (Err refusal) = refl
 
-none_of_both : {X : Type 0} (xs ys : List X) → [] ≡ xs ++ ys → xs ≡ []
-none_of_both [] ys h = refl
-none_of_both (x ∷ xs) ys h = absurd (let e = h in cc)
+pub delivered_texts : (vs : List Verdict) → delivered vs ≡ flat_map texts_of (records_of vs)
+delivered_texts [] = refl
+delivered_texts (v ∷ vs) =
+    texts_in-append (events_by v) (events_from vs)
+    ∙ (ap₂ (λ xs ys. xs ++ ys) (texts_by v) (delivered_texts vs) ∙ sym (flat_map-append texts_of (accepted_by v) (records_of vs)))
 
-pub delivered_prefix : (vs : List Verdict) (texts : List (List ℕ)) → IsPrefix (records_of vs) (records_for texts) → IsPrefix (delivered vs) texts
-delivered_prefix [] texts h = (texts, refl)
-delivered_prefix (Ok (Text t) ∷ vs) [] h = absurd (let e : records.Close ∷ [] ≡ records.Text t ∷ (records_of vs ++ h.0) = h.1 in cc)
-delivered_prefix (Ok (Text t) ∷ vs) (u ∷ us) h =
-    let e : records.Text u ∷ records_for us ≡ records.Text t ∷ (records_of vs ++ h.0) = h.1 in
-    let same : u ≡ t = cc in
-    let tail : records_for us ≡ records_of vs ++ h.0 = cc in
-    let w = delivered_prefix vs us (h.0, tail) in
-    (w.0, ap (λ x. x ∷ us) same ∙ ap (λ z. t ∷ z) w.1)
-delivered_prefix (Ok Closed ∷ vs) [] h =
-    let e : records.Close ∷ [] ≡ records.Close ∷ (records_of vs ++ h.0) = h.1 in
-    let tail : [] ≡ records_of vs ++ h.0 = cc in
-    let none = nothing_accepted vs (none_of_both (records_of vs) h.0 tail) in
-    ([], sym (append-nil (delivered vs) ∙ none.0))
-delivered_prefix (Ok Closed ∷ vs) (u ∷ us) h = absurd (let e : records.Text u ∷ records_for us ≡ records.Close ∷ (records_of vs ++ h.0) = h.1 in cc)
-delivered_prefix (Err refusal ∷ vs) texts h = delivered_prefix vs texts h
+-- the record of a group carries its texts, and isn't the close
+texts_of_record : (group : List (List ℕ)) → texts_of (record_for group) ≡ group
+texts_of_record [] = refl
+texts_of_record (t ∷ []) = refl
+texts_of_record (t ∷ u ∷ ts) = refl
 
-pub delivered_whole : (vs : List Verdict) (texts : List (List ℕ)) → IsPrefix (records_of vs) (records_for texts) → has_closed (events_from vs) ≡ true → delivered vs ≡ texts
-delivered_whole [] texts h closed = absurd (let e = closed in cc)
-delivered_whole (Ok (Text t) ∷ vs) [] h closed = absurd (let e : records.Close ∷ [] ≡ records.Text t ∷ (records_of vs ++ h.0) = h.1 in cc)
-delivered_whole (Ok (Text t) ∷ vs) (u ∷ us) h closed =
-    let e : records.Text u ∷ records_for us ≡ records.Text t ∷ (records_of vs ++ h.0) = h.1 in
-    let same : t ≡ u = cc in
-    let tail : records_for us ≡ records_of vs ++ h.0 = cc in
-    ap (λ z. t ∷ z) (delivered_whole vs us (h.0, tail) closed) ∙ ap (λ x. x ∷ us) same
-delivered_whole (Ok Closed ∷ vs) [] h closed =
-    let e : records.Close ∷ [] ≡ records.Close ∷ (records_of vs ++ h.0) = h.1 in
-    let tail : [] ≡ records_of vs ++ h.0 = cc in
-    (nothing_accepted vs (none_of_both (records_of vs) h.0 tail)).0
-delivered_whole (Ok Closed ∷ vs) (u ∷ us) h closed = absurd (let e : records.Text u ∷ records_for us ≡ records.Close ∷ (records_of vs ++ h.0) = h.1 in cc)
-delivered_whole (Err refusal ∷ vs) texts h closed = delivered_whole vs texts h closed
+pub not_close : (group : List (List ℕ)) → is_close (record_for group) ≡ false
+not_close [] = refl
+not_close (t ∷ []) = refl
+not_close (t ∷ u ∷ ts) = refl
+
+pub texts_of_records : (groups : List (List (List ℕ))) → flat_map texts_of (records_for groups) ≡ texts_of_groups groups
+texts_of_records [] = refl
+texts_of_records (g ∷ groups) = ap₂ (λ xs ys. xs ++ ys) (texts_of_record g) (texts_of_records groups)
+
+none_close : (groups : List (List (List ℕ))) → list_any is_close (map record_for groups) ≡ false
+none_close [] = refl
+none_close (g ∷ groups) = rw not_close (none_close groups)
+
+pub delivered_prefix : (vs : List Verdict) (groups : List (List (List ℕ))) → IsPrefix (records_of vs) (records_for groups) → IsPrefix (delivered vs) (texts_of_groups groups)
+delivered_prefix vs groups h =
+    let w = texts_prefix (records_of vs) (records_for groups) h in
+    (w.0, sym (texts_of_records groups) ∙ (w.1 ∙ ap (λ l. l ++ w.0) (sym (delivered_texts vs))))
+
+pub delivered_whole : (vs : List Verdict) (groups : List (List (List ℕ))) → IsPrefix (records_of vs) (records_for groups) → has_closed (events_from vs) ≡ true → delivered vs ≡ texts_of_groups groups
+delivered_whole vs groups h closed =
+    let any : list_any is_close (records_of vs) ≡ true = sym (closed_events vs) ∙ closed in
+    let none : h.0 ≡ [] = none_left (records_of vs) h.0 (map record_for groups) any (none_close groups) h.1 in
+    let same : records_for groups ≡ records_of vs = h.1 ∙ (ap (λ z. records_of vs ++ z) none ∙ append-nil (records_of vs)) in
+    delivered_texts vs ∙ (ap (λ z. flat_map texts_of z) (sym same) ∙ texts_of_records groups)
 
 -- ---- nothing after a close
 
@@ -242,6 +287,8 @@ refusal_quiet refusal = (refl, refl)
 -- a verdict brings nothing behind a close
 none_behind : (v : Verdict) (front back : List Event) → events_by v ≡ front ++ events.Closed ∷ back → back ≡ []
 none_behind (Ok (Text t)) front back h = absurd (let e : false ≡ true = ap has_closed h ∙ closed_inside front back in cc)
+none_behind (Ok (Batch texts)) front back h =
+    absurd (let e : false ≡ true = sym (has_closed-texts texts) ∙ (ap has_closed h ∙ closed_inside front back) in cc)
 none_behind (Ok Closed) [] back h = let e : events.Closed ∷ [] ≡ events.Closed ∷ back = h in cc
 none_behind (Ok Closed) (x ∷ front) back h =
     let e : events.Closed ∷ [] ≡ x ∷ (front ++ events.Closed ∷ back) = h in

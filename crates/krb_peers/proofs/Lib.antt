@@ -17,3 +17,4 @@ pub mod SendingLemmas
 pub mod WireLemmas
 pub mod ReceiveLemmas
 pub mod WholeLemmas
+pub mod BatchLogLemmas

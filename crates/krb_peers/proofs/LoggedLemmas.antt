@@ -1,5 +1,5 @@
 -- What a verdict leaves of a log that has the frames taken before.
-use Rattle.std.proofs.Common.{◌≡◌, ◌≢◌, ℕ, ◌+◌, ◌==◌, ◌||◌, ◌⊎◌, cond, Bool, true, false, List, [], ◌∷◌, ◌++◌, length, Ok, Err, inl, inr, refl, sym, ap, ap₂, subst, ◌∙◌, arith, append-nil}
+use Rattle.std.proofs.Common.{◌≡◌, ◌≢◌, ℕ, ◌+◌, ◌==◌, ◌||◌, ◌⊎◌, cond, Bool, true, false, List, [], ◌∷◌, ◌++◌, length, map, Ok, Err, inl, inr, refl, sym, ap, ap₂, subst, ◌∙◌, arith, append-nil}
 use Rattle.std.specs.List.{list_any}
 use Rattle.std.proofs.lemmas.List.Folds.{list_any-append}
 use Rattle.std.proofs.lemmas.Grind.{flat_map-append}
@@ -129,13 +129,23 @@ has_closed-append (Text t ∷ xs) ys = has_closed-append xs ys
 has_closed-append (Closed ∷ xs) ys = refl
 has_closed-append (Refused r ∷ xs) ys = has_closed-append xs ys
 
+-- texts have no close among them
+pub has_closed-texts : (texts : List (List ℕ)) → has_closed (map Text texts) ≡ false
+has_closed-texts [] = refl
+has_closed-texts (t ∷ texts) = has_closed-texts texts
+
+pub texts_in-texts : (texts : List (List ℕ)) → texts_in (map Text texts) ≡ texts
+texts_in-texts [] = refl
+texts_in-texts (t ∷ texts) = ap (λ l. t ∷ l) (texts_in-texts texts)
+
 -- a close among the events of a verdict was accepted
 pub closed_one : (v : Verdict) → has_closed (events_by v) ≡ list_any is_close (accepted_by v)
 closed_one (Ok (deliveries.Text t)) = refl
+closed_one (Ok (deliveries.Batch texts)) = has_closed-texts texts
 closed_one (Ok deliveries.Closed) = refl
 closed_one (Err refusal) = refl
 
-closed_events : (vs : List Verdict) → has_closed (verdict.events_from vs) ≡ list_any is_close (records_of vs)
+pub closed_events : (vs : List Verdict) → has_closed (verdict.events_from vs) ≡ list_any is_close (records_of vs)
 closed_events [] = refl
 closed_events (v ∷ vs) =
     has_closed-append (events_by v) (verdict.events_from vs)

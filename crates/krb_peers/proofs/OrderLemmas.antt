@@ -4,7 +4,7 @@ use Rattle.std.specs.List.{Contains, list_any}
 use Rattle.std.proofs.lemmas.List.Folds.{list_any-append}
 use Rattle.std.proofs.lemmas.Bool.Decides.{nat_tests}
 use Rattle.krb_peers.specs.declared.record.Record.{Record}
-use Rattle.krb_peers.specs.declared.record.Record.TheVariants.{Text, Close}
+use Rattle.krb_peers.specs.declared.record.Record.TheVariants.{Text, Batch, Close}
 use Rattle.krb_peers.specs.declared.order.OrderRefusal.TheVariants.{AfterClose, BadOrder}
 use Rattle.krb_base.specs.Limits.{last_number}
 use Rattle.krb_peers.specs.Demand.{Demand}
@@ -18,12 +18,16 @@ contains_from_any : (records : List Record) → list_any is_close records ≡ tr
 contains_from_any [] any = absurd (let e : false ≡ true = any in cc)
 contains_from_any (Text text ∷ records) any =
     let rest = contains_from_any records any in (suc rest.0, omega (arith, rest.1), rest.2)
+contains_from_any (Batch texts ∷ records) any =
+    let rest = contains_from_any records any in (suc rest.0, omega (arith, rest.1), rest.2)
 contains_from_any (Close ∷ records) any = (0, omega arith, refl)
 
 pub any_from_contains : (records : List Record) → Contains records Close → list_any is_close records ≡ true
 any_from_contains [] (k, below, is) = absurd (omega (arith, below))
 any_from_contains (Text text ∷ records) (zero, below, is) = absurd (let e : Text text ≡ Close = is in cc)
 any_from_contains (Text text ∷ records) (suc k, below, is) = any_from_contains records (k, omega (arith, below), is)
+any_from_contains (Batch texts ∷ records) (zero, below, is) = absurd (let e : Batch texts ≡ Close = is in cc)
+any_from_contains (Batch texts ∷ records) (suc k, below, is) = any_from_contains records (k, omega (arith, below), is)
 any_from_contains (Close ∷ records) contains = refl
 
 pub any_from_none : (records : List Record) → (Contains records Close → ⊥) → list_any is_close records ≡ false

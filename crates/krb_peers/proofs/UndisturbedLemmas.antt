@@ -7,26 +7,27 @@ use Rattle.std.proofs.lemmas.List.{take_more, take_all, map-append, length-map, 
 use Rattle.std.proofs.lemmas.List.Elements.{All-head, All-tail}
 use Rattle.std.proofs.lemmas.List.Folds.{list_all-append}
 use Rattle.std.proofs.lemmas.Option.{slice_get-get_or, slice_get_within}
-use Rattle.krb_base.specs.Limits.{text_limit}
+use Rattle.std.specs.List.{flat_map}
 use Rattle.krb_seal.specs.Opens.{OpenerState, Opens}
 use Rattle.krb_seal.proofs.SealedFrames.{at_its_number}
 use Rattle.krb_peers.specs.declared.record.Record.{Record}
 use Rattle.krb_peers.specs.declared.record.Record.TheVariants as records
 use Rattle.krb_peers.specs.declared.delivery.Delivery.{Delivery}
-use Rattle.krb_peers.specs.declared.delivery.Delivery.TheVariants.{Text, Closed}
+use Rattle.krb_peers.specs.declared.delivery.Delivery.TheVariants.{Text, Batch, Closed}
 use Rattle.krb_peers.specs.declared.plan.Emit.{Emit}
 use Rattle.krb_peers.specs.declared.plan.Emit.TheVariants.{Frame}
 use Rattle.krb_peers.specs.Demand.{Demand}
-use Rattle.krb_peers.specs.Record.{FitsLimits, bytes_of, is_close}
+use Rattle.krb_peers.specs.Record.{FitsLimits, bytes_of, texts_of, is_close}
 use Rattle.krb_peers.specs.Plan.{is_good, is_good_emission, emission, emissions, wire, frame_at}
-use Rattle.krb_peers.specs.Sender.{Source, HaveShortTexts, sealed_count, sealed_texts, records_for, AreFrames, moment_at}
+use Rattle.krb_peers.specs.Sender.{Source, IsWithinLimits, text_groups, texts_of_groups, sealed_count, sealed_groups, sealed_texts, record_for, records_for, AreFrames, moment_at}
 use Rattle.krb_peers.specs.Sender as sender
 use Rattle.krb_peers.specs.Order.{demand_after}
 use Rattle.krb_peers.specs.Verdicts.{Verdict, record_of, records_of, delivered, IsVerdict}
 use Rattle.krb_peers.specs.Run.{Run, IsRun}
 use Rattle.krb_peers.specs.Undisturbed.{in_order, IsInOrder, Undisturbed, TakesAll}
 use Rattle.krb_peers.proofs.ListLemmas.{slice_get-take, slice_get-front, slice_get-end, lt_or_same, all_pass}
-use Rattle.krb_peers.proofs.HeadlineLemmas.{image}
+use Rattle.krb_peers.proofs.HeadlineLemmas.{image, delivered_texts, texts_of_records, not_close}
+use Rattle.krb_peers.proofs.SendingLemmas.{groups_fit, groups_of_source}
 use Rattle.krb_peers.proofs.VerdictLemmas.{unique_verdict}
 
 -- ---- the wire of frames in order
@@ -75,6 +76,7 @@ whole_by frames (Some plan) n order count =
 
 abbrev delivery_of : Record → Delivery
 delivery_of (records.Text text) = Text text
+delivery_of (records.Batch texts) = Batch texts
 delivery_of records.Close = Closed
 
 abbrev answer_of : Record → Verdict
@@ -82,11 +84,13 @@ answer_of r = Ok (delivery_of r)
 
 same_record : (r : Record) → record_of (delivery_of r) ≡ r
 same_record (records.Text text) = refl
+same_record (records.Batch texts) = refl
 same_record records.Close = refl
 
 records_of-answers : (rs : List Record) → records_of (map answer_of rs) ≡ rs
 records_of-answers [] = refl
 records_of-answers (records.Text text ∷ rs) = ap (λ z. records.Text text ∷ z) (records_of-answers rs)
+records_of-answers (records.Batch texts ∷ rs) = ap (λ z. records.Batch texts ∷ z) (records_of-answers rs)
 records_of-answers (records.Close ∷ rs) = ap (λ z. records.Close ∷ z) (records_of-answers rs)
 
 answers_ok : (rs : List Record) → All IsOk (map answer_of rs)
@@ -94,31 +98,35 @@ answers_ok [] k d h = absurd (omega arith)
 answers_ok (r ∷ rs) zero d h = refl
 answers_ok (r ∷ rs) (suc k) d h = answers_ok rs k d (omega arith)
 
-delivered-answers : (texts : List (List ℕ)) → delivered (map answer_of (records_for texts)) ≡ texts
-delivered-answers [] = refl
-delivered-answers (text ∷ texts) = ap (λ z. text ∷ z) (delivered-answers texts)
+delivered-answers : (groups : List (List (List ℕ))) → delivered (map answer_of (records_for groups)) ≡ texts_of_groups groups
+delivered-answers groups =
+    delivered_texts (map answer_of (records_for groups))
+    ∙ (ap (λ rs. flat_map texts_of rs) (records_of-answers (records_for groups)) ∙ texts_of_records groups)
 
 -- before the last record stands no close
-none_closed : (texts : List (List ℕ)) (i : ℕ) → i < length (records_for texts) → list_any is_close (take i (records_for texts)) ≡ false
+none_closed : (groups : List (List (List ℕ))) (i : ℕ) → i < length (records_for groups) → list_any is_close (take i (records_for groups)) ≡ false
 none_closed [] zero h = refl
 none_closed [] (suc i) h = absurd (omega arith)
-none_closed (text ∷ texts) zero h = refl
-none_closed (text ∷ texts) (suc i) h = none_closed texts i (omega arith)
+none_closed (g ∷ groups) zero h = refl
+none_closed (g ∷ groups) (suc i) h = rw not_close (none_closed groups i (omega arith))
 
-fits_at : (n : ℕ) (texts : List (List ℕ)) (i : ℕ) (r : Record) → All (λ text. length text ≤ text_limit) texts → slice_get (records_for (take n texts)) i ≡ Some r → FitsLimits r
-fits_at zero texts zero r short at = subst FitsLimits (let e : records.Close ≡ r = (let f = at in cc) in e) tt
-fits_at zero texts (suc i) r short at = absurd (let f = at in cc)
-fits_at (suc n) [] zero r short at = subst FitsLimits (let e : records.Close ≡ r = (let f = at in cc) in e) tt
-fits_at (suc n) [] (suc i) r short at = absurd (let f = at in cc)
-fits_at (suc n) (text ∷ texts) zero r short at =
-    subst FitsLimits (let e : records.Text text ≡ r = (let f = at in cc) in e) (All-head (λ text. length text ≤ text_limit) text texts short)
-fits_at (suc n) (text ∷ texts) (suc i) r short at = fits_at n texts i r (All-tail (λ text. length text ≤ text_limit) text texts short) at
+fits_at : (n : ℕ) (groups : List (List (List ℕ))) (i : ℕ) (r : Record) → All (λ group. FitsLimits (record_for group)) groups → slice_get (records_for (take n groups)) i ≡ Some r → FitsLimits r
+fits_at zero groups zero r fit at = subst FitsLimits (let e : records.Close ≡ r = (let f = at in cc) in e) tt
+fits_at zero groups (suc i) r fit at = absurd (let f = at in cc)
+fits_at (suc n) [] zero r fit at = subst FitsLimits (let e : records.Close ≡ r = (let f = at in cc) in e) tt
+fits_at (suc n) [] (suc i) r fit at = absurd (let f = at in cc)
+fits_at (suc n) (g ∷ groups) zero r fit at =
+    subst FitsLimits (let e : record_for g ≡ r = (let f = at in cc) in e) (All-head (λ group. FitsLimits (record_for group)) g groups fit)
+fits_at (suc n) (g ∷ groups) (suc i) r fit at = fits_at n groups i r (All-tail (λ group. FitsLimits (record_for group)) g groups fit) at
 
 -- ---- each frame is accepted
 
-module _ (run : Run) (calm : Undisturbed run.ends) (fits : HaveShortTexts run.ends.source) (is_run : IsRun run) where
+module _ (run : Run) (calm : Undisturbed run.ends) (fits : IsWithinLimits run.ends.source) (is_run : IsRun run) where
   abbrev source : Source
   source = run.ends.source
+
+  fitting : All (λ group. FitsLimits (record_for group)) (text_groups source)
+  fitting = groups_fit source.batch source.texts (text_groups source) (groups_of_source source) fits.batch fits.texts
 
   abbrev opener : OpenerState
   opener = run.ends.receiver.opener
@@ -150,9 +158,9 @@ module _ (run : Run) (calm : Undisturbed run.ends) (fits : HaveShortTexts run.en
       let all = sender.records source in
       let lt : i < length all = slice_get_within all i r at in
       let count : length (take i all) ≡ i = length-take-le i all (omega (arith, lt)) in
-      let quiet : (start.closed || list_any is_close (take i all)) ≡ false = rw calm.paired.closed (none_closed (sealed_texts source) i lt) in
+      let quiet : (start.closed || list_any is_close (take i all)) ≡ false = rw calm.paired.closed (none_closed (sealed_groups source) i lt) in
       let opened : Opens opener (start.expected + length (take i all)) (moment_at nows i) frame (Ok (bytes_of r)) = rw count (opens_there i r frame lt is) in
-      (quiet, (bytes_of r, opened, rw (same_record r) (fits_at (sealed_count source.sealer.next (length source.texts)) source.texts i r fits at, refl)))
+      (quiet, (bytes_of r, opened, rw (same_record r) (fits_at (sealed_count source.sealer.next (length (text_groups source))) (text_groups source) i r fitting at, refl)))
 
   -- what is taken at a place is the frame of the record there
   record IsNext (i : ℕ) (frame : List ℕ) : Type 0 where
@@ -216,4 +224,4 @@ module _ (run : Run) (calm : Undisturbed run.ends) (fits : HaveShortTexts run.en
   all_texts all =
       let rs = sender.records source in
       let count : length took ≡ length rs = ap length all.whole ∙ whole_by all.frames source.plan (length rs) calm.plan all.sealed.one_each in
-      ap delivered answers_are ∙ (ap (λ z. delivered (map answer_of z)) (take_all (length took) rs (omega (arith, count))) ∙ delivered-answers (sealed_texts source))
+      ap delivered answers_are ∙ (ap (λ z. delivered (map answer_of z)) (take_all (length took) rs (omega (arith, count))) ∙ delivered-answers (sealed_groups source))

@@ -5,6 +5,10 @@ use Rattle.std.proofs.lemmas.Bool.{eqb-true, leb-true, le-leb}
 use Rattle.std.proofs.lemmas.List.{take-append-le, take_all}
 use Rattle.std.proofs.lemmas.Option.{slice_get_within}
 use Rattle.krb_base.specs.Limits.{text_limit}
+use Rattle.krb_batch.specs.Batch.{SpellsBatch, spelling}
+use Rattle.krb_batch.specs.Reading.{batch_in}
+use Rattle.krb_batch.proofs.ReadingLemmas.{found_is_spelt, spelt_is_found}
+use Rattle.std.specs.Prelude.{option_map}
 use Rattle.krb_seal.specs.declared.refusal.Refusal.{Refusal}
 use Rattle.krb_seal.specs.declared.refusal.Refusal.TheVariants as refusals
 use Rattle.krb_aes.specs.Words.{AreBytes}
@@ -14,7 +18,7 @@ use Rattle.krb_seal.proofs.Openings.{one_outcome}
 use Rattle.krb_seal.proofs.Outcomes.{Unique, outcomes_unique}
 use Rattle.krb_peers.specs.declared.record.Record.TheVariants as records
 use Rattle.krb_peers.specs.declared.delivery.Delivery.{Delivery}
-use Rattle.krb_peers.specs.declared.delivery.Delivery.TheVariants.{Text, Closed}
+use Rattle.krb_peers.specs.declared.delivery.Delivery.TheVariants.{Text, Batch, Closed}
 use Rattle.krb_peers.specs.Demand.{Demand}
 use Rattle.krb_peers.specs.Record.{SpellsRecord, is_close}
 use Rattle.krb_peers.specs.Sender.{moment_at}
@@ -29,37 +33,47 @@ pub delivery_spelled : (d : Delivery) (user : List ℕ) → SpellsRecord (record
 delivery_spelled (Text text) user h =
     let short : leb (length text) text_limit ≡ true = le-leb (length text) text_limit h.0 in
     rw (h.1, short) refl
+delivery_spelled (Batch texts) user h =
+    let found : batch_in (spelling texts) ≡ Some texts = spelt_is_found texts (spelling texts) (h.0, refl) in
+    rw h.1 (ap (λ o. option_map Batch o) found)
 delivery_spelled Closed user h = rw h.1 refl
 
 empty : (rest : List ℕ) → length rest ≡ 0 → rest ≡ []
 empty [] h = refl
 empty (x ∷ rest) h = absurd (omega arith)
 
-found_by : (is_text is_close : Bool) (tag : ℕ) (rest : List ℕ) (d : Delivery)
+found_by : (is_text is_close : Bool) (batch : Option (List (List ℕ))) (tag : ℕ) (rest : List ℕ) (d : Delivery)
     → (is_text ≡ true → (tag ≡ 0x44) × (length rest ≤ text_limit)) → (is_close ≡ true → (tag ≡ 0x43) × (rest ≡ []))
-    → cond is_text (Some (Text rest)) (cond is_close (Some Closed) None) ≡ Some d → SpellsRecord (record_of d) (tag ∷ rest)
-found_by true is_close tag rest d t c h =
+    → ((texts : List (List ℕ)) → batch ≡ Some texts → SpellsBatch texts (tag ∷ rest))
+    → cond is_text (Some (Text rest)) (cond is_close (Some Closed) (option_map Batch batch)) ≡ Some d → SpellsRecord (record_of d) (tag ∷ rest)
+found_by true is_close batch tag rest d t c b h =
     let same : Text rest ≡ d = cc in
     let w = t refl in
     let P : Delivery → Type 0 = λ x. SpellsRecord (record_of x) (tag ∷ rest) in
     subst P same (w.1, ap (λ x. x ∷ rest) w.0)
-found_by false true tag rest d t c h =
+found_by false true batch tag rest d t c b h =
     let same : Closed ≡ d = cc in
     let w = c refl in
     let P : Delivery → Type 0 = λ x. SpellsRecord (record_of x) (tag ∷ rest) in
     subst P same (tt, ap (λ x. x ∷ rest) w.0 ∙ ap (λ x. 0x43 ∷ x) w.1)
-found_by false false tag rest d t c h = absurd (let e = h in cc)
+found_by false false None tag rest d t c b h = absurd (let e = h in cc)
+found_by false false (Some texts) tag rest d t c b h =
+    let same : Batch texts ≡ d = cc in
+    let P : Delivery → Type 0 = λ x. SpellsRecord (record_of x) (tag ∷ rest) in
+    subst P same (b texts refl)
 
 delivery_found : (user : List ℕ) (d : Delivery) → delivery_in user ≡ Some d → SpellsRecord (record_of d) user
 delivery_found [] d h = absurd (let e = h in cc)
 delivery_found (tag ∷ rest) d h =
-    found_by (eqb tag 0x44 && leb (length rest) text_limit) (eqb tag 0x43 && eqb (length rest) 0) tag rest d
+    found_by (eqb tag 0x44 && leb (length rest) text_limit) (eqb tag 0x43 && eqb (length rest) 0) (batch_in (tag ∷ rest)) tag rest d
     (λ t. let w = both_true (eqb tag 0x44) (leb (length rest) text_limit) t in (eqb-true tag 0x44 w.0, leb-true (length rest) text_limit w.1))
     (λ c. let w = both_true (eqb tag 0x43) (eqb (length rest) 0) c in (eqb-true tag 0x43 w.0, empty rest (eqb-true (length rest) 0 w.1)))
+    (λ texts found. found_is_spelt texts (tag ∷ rest) found)
     h
 
 no_delivery : (user : List ℕ) → delivery_in user ≡ None → IsNoRecord user
 no_delivery user h (records.Text text) spelled = let e = delivery_spelled (Text text) user spelled in absurd (let f = h in cc)
+no_delivery user h (records.Batch texts) spelled = let e = delivery_spelled (Batch texts) user spelled in absurd (let f = h in cc)
 no_delivery user h records.Close spelled = let e = delivery_spelled Closed user spelled in absurd (let f = h in cc)
 
 -- ---- one verdict

@@ -14,7 +14,7 @@ use Rattle.krb_peers.specs.Record.{SpellsRecord, texts_of}
 use Rattle.krb_peers.specs.Demand.{Demand}
 use Rattle.krb_peers.specs.Order.{Offer, Answer, answers_to, first_demand, demand_after}
 use Rattle.krb_peers.specs.Accepted.{Accepted, accepted_of, AreNumbered, EndsWithItsClose}
-use Rattle.krb_peers.specs.Sender.{Source, HaveShortTexts, AreFrames, moment_at, records}
+use Rattle.krb_peers.specs.Sender.{Source, IsWithinLimits, AreFrames, moment_at, records}
 use Rattle.krb_peers.specs.ReceiverState.{ReceiverState}
 use Rattle.krb_peers.specs.Verdicts.{Verdict, AllBytes, AreVerdicts, AreJudged, IsVerdict, verdict, verdicts, records_of, events_from}
 use Rattle.krb_peers.specs.Log.{events_of, entries_for}
@@ -136,7 +136,7 @@ VerdictsOfRefusalsDeliverNothing = (start : Demand) (answers : List Verdict) →
 
 -- it holds of each run of such a lane
 abbrev pub OfUndisturbed : (Run → Type 0) → Type 0
-OfUndisturbed Claim = (run : Run) → Undisturbed run.ends → HaveShortTexts run.ends.source → IsRun run → Claim run
+OfUndisturbed Claim = (run : Run) → Undisturbed run.ends → IsWithinLimits run.ends.source → IsRun run → Claim run
 
 abbrev pub NoneIsRefused : Type 0
 NoneIsRefused = OfUndisturbed (λ run. All IsOk run.verdicts)

@@ -53,6 +53,10 @@ new_log lanes = record { lanes = lanes; entries = []; ended = replicate lane_lim
 abbrev pub appended : LogState → ℕ → Event → LogState
 appended log lane event = record log { entries = log.entries ++ record { lane = lane; event = event } ∷ [] }
 
+-- several entries more, each an event of one lane
+abbrev pub appended_all : LogState → ℕ → List Event → LogState
+appended_all log lane events = record log { entries = log.entries ++ entries_for lane events }
+
 -- the lane has ended
 abbrev pub ended_at : LogState → ℕ → LogState
 ended_at log lane = record log { ended = slice_set log.ended lane true }

@@ -1,29 +1,34 @@
 -- The records of the relay: what the user data of a message is. Their format is this project's own.
 use Rattle.std.specs.Prelude.{◌≡◌, ℕ, Bool, true, false, ◌≤◌, List, [], ◌∷◌, length, codes}
+use Rattle.krb_batch.specs.Batch.{IsBatch, spelling}
 use Rattle.krb_peers.specs.declared.record.Record.{Record}
-use Rattle.krb_peers.specs.declared.record.Record.TheVariants.{Text, Close}
+use Rattle.krb_peers.specs.declared.record.Record.TheVariants.{Text, Batch, Close}
 use Rattle.krb_peers.specs.declared.record.RecordError.{RecordError}
 use Rattle.krb_peers.specs.declared.record.RecordError.TheVariants.{BadRecord, Memory}
 use Rattle.krb_base.specs.Limits.{text_limit}
 
--- the bytes of a record: 44 and the text, or the single byte 43 (hexadecimal)
+-- the bytes of a record: 44 and the text, those of the batch, or the single byte 43 (hexadecimal)
 abbrev pub bytes_of : Record → List ℕ
 bytes_of (Text text) = 0x44 ∷ text
+bytes_of (Batch texts) = spelling texts
 bytes_of Close = 0x43 ∷ []
 
 -- the texts that a record carries, in order
 abbrev pub texts_of : Record → List (List ℕ)
 texts_of (Text text) = text ∷ []
+texts_of (Batch texts) = texts
 texts_of Close = []
 
 -- whether a record is the close
 abbrev pub is_close : Record → Bool
 is_close (Text text) = false
+is_close (Batch texts) = false
 is_close Close = true
 
--- a text is not too long
+-- a text is not too long, and a batch not too large
 abbrev pub FitsLimits : Record → Type 0
 FitsLimits (Text text) = length text ≤ text_limit
+FitsLimits (Batch texts) = IsBatch texts
 FitsLimits Close = Unit {0}
 
 -- the bytes are those of this record

@@ -1,44 +1,80 @@
 -- What a sender seals.
-use Rattle.std.specs.Prelude.{◌≡◌, ℕ, ◌+◌, ◌-◌, min, List, [], ◌∷◌, ◌++◌, length, map, take, slice_get, slice_index, Option, Some, All, ◌≤◌}
+use Rattle.std.specs.Prelude.{◌≡◌, ℕ, ◌+◌, ◌-◌, min, List, [], ◌∷◌, ◌++◌, length, map, take, drop, slice_get, slice_index, slice_index_or, nat_lt, if◌then◌else◌, Option, Some, All, ◌≤◌}
+use Rattle.std.specs.List.{flat_map}
 use Rattle.rand_chacha.specs.ChaCha.{ChaCha}
-use Rattle.krb_base.specs.Limits.{text_limit, last_number}
+use Rattle.krb_base.specs.Limits.{text_limit, last_number, batch_limit}
+use Rattle.krb_batch.specs.Groups.{groups}
 use Rattle.krb_seal.specs.Sealer.{SealerState}
 use Rattle.krb_seal.specs.Seals.{Seals}
 use Rattle.krb_peers.specs.declared.record.Record.{Record}
-use Rattle.krb_peers.specs.declared.record.Record.TheVariants.{Text, Close}
+use Rattle.krb_peers.specs.declared.record.Record.TheVariants.{Text, Batch, Close}
 use Rattle.krb_peers.specs.declared.plan.Emit.{Emit}
 use Rattle.krb_peers.specs.Record.{bytes_of}
 use Rattle.krb_peers.specs.Draws.{confounder_at}
 
--- a sealer, the texts for it, their moments, a generator, and the plan of the wire, if there is one
+-- a sealer, the texts for it, how many of them go together at most, the moments, a generator, and the
+-- plan of the wire, if there is one
 pub record Source : Type 0 where
   pub sealer : SealerState
   pub texts : List (List ℕ)
+  pub batch : ℕ
   pub ats : List ℕ
   pub draws : ChaCha
   pub plan : Option (List Emit)
 
--- no text is too long
-abbrev pub HaveShortTexts : Source → Type 0
-HaveShortTexts source = All (λ text. length text ≤ text_limit) source.texts
+-- no text is too long, and not too many go together
+pub record IsWithinLimits (source : Source) : Type 0 where
+  pub texts : All (λ text. length text ≤ text_limit) source.texts
+  pub batch : source.batch ≤ batch_limit
 
 -- the moment of a place: the last one serves all later places
 abbrev pub moment_at : List ℕ → ℕ → ℕ
 moment_at moments place = slice_index moments (min place (length moments - 1))
 
--- so many texts of n are sealed, from this number on: the last number is kept for the close
+-- the groups of its texts
+abbrev pub text_groups : Source → List (List (List ℕ))
+text_groups source = groups source.batch source.texts
+
+-- the texts of groups, in order
+abbrev pub texts_of_groups : List (List (List ℕ)) → List (List ℕ)
+texts_of_groups groups = flat_map (λ group. group) groups
+
+-- so many groups of n are sealed, from this number on: the last number is kept for the close
 abbrev pub sealed_count : ℕ → ℕ → ℕ
 sealed_count next n = min n (last_number - next)
 
-abbrev pub sealed_texts : Source → List (List ℕ)
-sealed_texts source = take (sealed_count source.sealer.next (length source.texts)) source.texts
+abbrev pub sealed_groups : Source → List (List (List ℕ))
+sealed_groups source = take (sealed_count source.sealer.next (length (text_groups source))) (text_groups source)
 
--- the records: those texts, then the close
-abbrev pub records_for : List (List ℕ) → List Record
-records_for texts = map Text texts ++ Close ∷ []
+abbrev pub sealed_texts : Source → List (List ℕ)
+sealed_texts source = texts_of_groups (sealed_groups source)
+
+-- the group that comes when so many texts are passed, where any text is left
+abbrev pub group_behind : ℕ → Source → List (List ℕ)
+group_behind passed source = slice_index_or (groups source.batch (drop passed source.texts)) 0 []
+
+-- the texts of the first k groups are so many
+abbrev pub texts_before : ℕ → Source → ℕ
+texts_before k source = length (texts_of_groups (take k (text_groups source)))
+
+-- a group of one text is a text, and a larger one a batch
+abbrev pub record_for : List (List ℕ) → Record
+record_for [] = Batch []
+record_for (text ∷ []) = Text text
+record_for (text ∷ other ∷ texts) = Batch (text ∷ other ∷ texts)
+
+-- the record that comes at a number: that of the group, or the close where none is left or the number
+-- is the last
+abbrev pub record_at : ℕ → List (List ℕ) → Record
+record_at number [] = Close
+record_at number (text ∷ texts) = if nat_lt number last_number then record_for (text ∷ texts) else Close
+
+-- the records: those of the groups that are sealed, then the close
+abbrev pub records_for : List (List (List ℕ)) → List Record
+records_for groups = map record_for groups ++ Close ∷ []
 
 abbrev pub records : Source → List Record
-records source = records_for (sealed_texts source)
+records source = records_for (sealed_groups source)
 
 -- the frame is that of record k: sealed at the k-th number from the sealer's next one on, at its moment, under confounder k
 abbrev pub IsFrame : Source → ℕ → Record → List ℕ → Type 0

@@ -1,19 +1,19 @@
 -- A sender as the code holds it.
-use Rattle.std.specs.Prelude.{◌≡◌, ◌≤◌, ◌<◌, ℕ, ◌+◌, ◌-◌, ◌*◌, ◌==◌, if◌then◌else◌, List, length, take, option_map, All}
-use Rattle.krb_base.specs.Limits.{text_limit, last_number}
+use Rattle.std.specs.Prelude.{◌≡◌, ◌≤◌, ◌<◌, ℕ, ◌+◌, ◌-◌, ◌*◌, ◌==◌, if◌then◌else◌, List, length, take, option_map}
+use Rattle.krb_base.specs.Limits.{last_number}
 use Rattle.krb_seal.specs.Sealer.{SealerState}
 use Rattle.krb_peers.specs.declared.sending.Sending.{Sending}
 use Rattle.krb_peers.specs.declared.sending.Sent.{Sent}
 use Rattle.krb_peers.specs.declared.sending.Ending.TheVariants.{Done, LastNumber}
 use Rattle.krb_peers.specs.Draws.{after_words}
-use Rattle.krb_peers.specs.Plan.{contents}
-use Rattle.krb_peers.specs.Sender.{Source, sealed_count, records, AreFrames}
+use Rattle.krb_peers.specs.Sender.{Source, IsWithinLimits, sealed_texts, records, AreFrames}
 
 -- what it is, where `state` says what its sealer is
 abbrev pub source_of : {S : Type 0} → (S → SealerState) → Sending S → Source
 source_of state sending = record {
   sealer = state sending.sealer;
-  texts = contents sending.texts.items;
+  texts = sending.texts.items;
+  batch = sending.batch;
   ats = sending.ats.items;
   draws = sending.draws;
   plan = option_map (λ plan. plan.items) sending.plan;
@@ -21,7 +21,7 @@ source_of state sending = record {
 
 -- how many texts are sealed
 abbrev pub sealed_of : Source → ℕ
-sealed_of source = sealed_count source.sealer.next (length source.texts)
+sealed_of source = length (sealed_texts source)
 
 -- how much that is
 abbrev pub sent_of : Source → Sent
@@ -42,9 +42,10 @@ behind k source = record source {
   draws = after_words (4 * k) source.draws;
 }
 
--- the limits of a sender: no text is too long, there is a moment, and a number is left for the close
+-- the limits of a sender: no text is too long, not too many go together, there is a moment, and a number
+-- is left for the close
 pub record IsSender (source : Source) : Type 0 where
-  pub texts : All (λ text. length text ≤ text_limit) source.texts
+  pub limits : IsWithinLimits source
   pub ats : 0 < length source.ats
   pub next : source.sealer.next ≤ last_number
 

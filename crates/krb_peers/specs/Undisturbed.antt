@@ -5,7 +5,7 @@ use Rattle.krb_peers.specs.declared.plan.Emit.{Emit}
 use Rattle.krb_peers.specs.declared.plan.Emit.TheVariants.{Frame}
 use Rattle.krb_peers.specs.Ends.{Ends}
 use Rattle.krb_peers.specs.Plan.{wire}
-use Rattle.krb_peers.specs.Sender.{Source, HaveShortTexts, moment_at, records, AreFrames}
+use Rattle.krb_peers.specs.Sender.{Source, IsWithinLimits, moment_at, records, AreFrames}
 use Rattle.krb_peers.specs.Premises.{IsPaired}
 
 -- each of so many frames once: 0, 1, ..
@@ -33,4 +33,4 @@ pub record TakesAll (source : Source) (took : List (List ℕ)) : Type 0 where
   pub frames : List (List ℕ)
   pub sealed : AreFrames source (records source) frames
   pub whole : took ≡ wire frames source.plan
-  pub fits : HaveShortTexts source
+  pub fits : IsWithinLimits source

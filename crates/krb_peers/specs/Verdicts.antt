@@ -1,9 +1,10 @@
 -- What a receiver answers to the frames that it takes.
-use Rattle.std.specs.Prelude.{◌≡◌, ℕ, ◌+◌, ◌==◌, nat_le, ◌&&◌, ◌⊎◌, Bool, true, false, List, [], ◌∷◌, length, map, take, slice_get, Option, Some, None, Result, Ok, Err, if◌then◌else◌}
+use Rattle.std.specs.Prelude.{◌≡◌, ℕ, ◌+◌, ◌==◌, nat_le, ◌&&◌, ◌⊎◌, Bool, true, false, List, [], ◌∷◌, length, map, take, slice_get, Option, Some, None, option_map, Result, Ok, Err, if◌then◌else◌}
 use Rattle.std.specs.Result.{MatchResult}
 use Rattle.std.specs.List.{flat_map}
 use Rattle.krb_aes.specs.Words.{AreBytes}
 use Rattle.krb_base.specs.Limits.{text_limit}
+use Rattle.krb_batch.specs.Reading.{batch_in}
 use Rattle.krb_seal.specs.declared.refusal.Refusal.{Refusal}
 use Rattle.krb_seal.specs.declared.refusal.Refusal.TheVariants as refusals
 use Rattle.krb_seal.specs.Opens.{Outcome, OpenerState, Opens}
@@ -11,7 +12,7 @@ use Rattle.krb_seal.specs.Opening.{opens}
 use Rattle.krb_peers.specs.declared.record.Record.{Record}
 use Rattle.krb_peers.specs.declared.record.Record.TheVariants as records
 use Rattle.krb_peers.specs.declared.delivery.Delivery.{Delivery}
-use Rattle.krb_peers.specs.declared.delivery.Delivery.TheVariants.{Text, Closed}
+use Rattle.krb_peers.specs.declared.delivery.Delivery.TheVariants.{Text, Batch, Closed}
 use Rattle.krb_peers.specs.declared.log.Event.{Event}
 use Rattle.krb_peers.specs.declared.log.Event.TheVariants as events
 use Rattle.krb_peers.specs.Demand.{Demand}
@@ -30,15 +31,17 @@ Verdict = Result Delivery Refusal
 -- the record that a delivery is of
 abbrev pub record_of : Delivery → Record
 record_of (Text text) = records.Text text
+record_of (Batch texts) = records.Batch texts
 record_of Closed = records.Close
 
--- the records that a verdict accepts, and the entries that it brings to a log
+-- the records that a verdict accepts, and the events that it brings to a log: one for each text of a batch
 abbrev pub accepted_by : Verdict → List Record
 accepted_by (Ok delivery) = record_of delivery ∷ []
 accepted_by (Err refusal) = []
 
 abbrev pub events_by : Verdict → List Event
 events_by (Ok (Text text)) = events.Text text ∷ []
+events_by (Ok (Batch texts)) = map events.Text texts
 events_by (Ok Closed) = events.Closed ∷ []
 events_by (Err refusal) = events.Refused refusal ∷ []
 
@@ -101,7 +104,7 @@ abbrev pub delivery_in : List ℕ → Option Delivery
 delivery_in [] = None
 delivery_in (tag ∷ rest) =
     if (tag == 0x44) && nat_le (length rest) text_limit then Some (Text rest)
-    else (if (tag == 0x43) && (length rest == 0) then Some Closed else None)
+    else (if (tag == 0x43) && (length rest == 0) then Some Closed else option_map Batch (batch_in (tag ∷ rest)))
 
 abbrev pub judged : Option Delivery → Verdict
 judged (Some delivery) = Ok delivery

@@ -1,7 +1,7 @@
 -- What a sender puts on its wire.
 use Rattle.std.specs.Prelude.{◌≡◌, ℕ, true, false, List}
 use Rattle.krb_peers.specs.Plan.{is_planned, wire}
-use Rattle.krb_peers.specs.Sender.{Source, HaveShortTexts, records, AreFrames}
+use Rattle.krb_peers.specs.Sender.{Source, IsWithinLimits, records, AreFrames}
 use Rattle.krb_peers.specs.Verdicts.{AllBytes}
 
 -- what the plan makes of the frames of all records, and these are bytes
@@ -11,7 +11,7 @@ pub record IsWire (source : Source) (emitted : List (List ℕ)) : Type 0 where
   pub planned : is_planned frames source.plan ≡ true
   pub wire_is : emitted ≡ wire frames source.plan
   pub bytes : AllBytes emitted
-  pub fits : HaveShortTexts source
+  pub fits : IsWithinLimits source
 
 -- the plan is bad for those frames
 pub record IsBad (source : Source) : Type 0 where

@@ -1,16 +1,18 @@
 //! The two ends of a lane: what a sender seals, and what a receiver says of what it takes.
 //!
-//! The user data of a message is a [`Record`], a text or the close. A [`Sending`] seals its texts
-//! as records of rising numbers, and a plan ([`emit`]) may disturb the frames on purpose. A
-//! [`Receiver`] demands the numbers one after another ([`Order`]), and accepts nothing behind a
-//! close. A [`Log`] keeps what became of the frames of each lane. [`headline_laws`] says what is
-//! delivered and refused, whatever the plan; [`relay_laws`] says it of the log of any relay, stepped
-//! or on threads, that has the verdicts of all lanes in rounds.
+//! The user data of a message is a [`Record`]: a text, a batch of texts or the close. A [`Sending`]
+//! seals its texts as records of rising numbers, some together where its `batch` says so, and a
+//! plan ([`emit`]) may disturb the frames on purpose. A [`Receiver`] demands the numbers one after
+//! another ([`Order`]), and accepts nothing behind a close. A [`Log`] keeps what became of the
+//! frames of each lane. [`headline_laws`] says what is delivered and refused, whatever the plan;
+//! [`relay_laws`] says it of the log of any relay, stepped or on threads, that has the verdicts of
+//! all lanes in rounds.
 //!
 //! ```rust crates/example_relay/src/main.rt
 //! Ok(Sending {
 //!     sealer: Aes256Sealer::new(&mut [host; 32], session(alloc, host)?),
-//!     texts: vec![in alloc; Vec::from_slice(alloc, text)?]?,
+//!     texts: vec![in alloc; Bytes::new(Vec::from_slice(alloc, text)?)]?,
+//!     batch: 1,
 //!     ats: vec![in alloc; at]?,
 //!     draws: ChaCha20Rng::from_seed([host; 32]),
 //!     plan,
@@ -35,7 +37,8 @@ mod start;
 pub use delivery::Delivery;
 pub use emission::{emit, known_bytes};
 pub use headline::{headline_laws, relay_laws, undisturbed_laws};
-pub use krb_base::{LAST_NUMBER, TEXT_LIMIT, USER_DATA_LIMIT};
+pub use krb_base::{BATCH_LIMIT, LAST_NUMBER, TEXT_LIMIT, USER_DATA_LIMIT};
+pub use krb_batch::Texts;
 pub use laws::{accepted_laws, logged_laws, record_laws, rounds_laws, verdict_laws};
 pub use log::{Entry, Event, Log, Status};
 pub use order::{Order, OrderRefusal};

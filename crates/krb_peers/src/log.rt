@@ -1,16 +1,16 @@
 //! The log of a relay: what became of each frame, lane by lane, in one order.
 
-ghost use Rattle.std.specs.Prelude.{◌≡◌, ◌<◌, ◌≤◌, [], length, replicate, slice_get, OnOk, OnErr, false, option_map};
+ghost use Rattle.std.specs.Prelude.{◌≡◌, ◌<◌, ◌≤◌, ◌+◌, ◌++◌, [], length, map, replicate, slice_get, OnOk, OnErr, false, option_map, vec_len, vec_capacity};
+ghost use Rattle.std.specs.List.{range_with_len};
 ghost use Rattle.krb_base.specs.Limits.{lane_limit};
-ghost use Rattle.krb_peers.specs.Log.{texts_of, status_of, appended, ended_at, MayFollow};
+ghost use Rattle.krb_peers.specs.Log.{texts_of, is_closed, status_of, entries_for, appended, appended_all, ended_at, MayFollow};
 
 use krb_base::{Bytes, LANE_LIMIT};
+use krb_batch::Texts;
 use krb_seal::Refusal;
 use std::alloc::{AllocError, Global};
 use std::array;
 use std::marker::Model;
-
-/// The most lanes of a log.
 
 /// What became of a frame.
 #[derive(Debug, Drop)]
@@ -112,6 +112,26 @@ impl Log {
         Ok(())
     }
 
+    /// Appends an event of `lane` for each text of a batch, in order.
+    ///
+    /// The lane's number is below that of the lanes, and no close of it stands. Room for all comes
+    /// first, so want of memory, which is the only error, changes nothing.
+    pub fn push_batch(&mut self, lane: u32, texts: Texts) -> Result<(), AllocError>
+        requires lane { lane < self.old.lanes }
+        requires open { is_closed lane self.old.entries ≡ false }
+        ensures ok { OnOk result (self.new ≡ appended_all self.old lane (map Event.Text texts)) }
+        ensures err { OnErr result (self.new ≡ self.old) }
+    {
+        let count = texts.as_slice().len();
+        let place = self.entries.len();
+        self.entries.reserve(count)?;
+        let places = &mut self.texts[lane as usize];
+        places.reserve(count)?;
+        add_places(places, place, count);
+        add_texts(&mut self.entries, lane, texts.into_vec());
+        Ok(())
+    }
+
     /// Notes that `lane` has ended. No entry is added.
     pub fn end(&mut self, lane: u32)
         requires { lane < self.old.lanes }
@@ -167,6 +187,31 @@ impl Log {
         } else {
             Status::Live
         }
+    }
+}
+
+/// Adds so many places, from this one on. There is room.
+fn add_places(places: &mut Vec<usize>, first: usize, count: usize)
+    requires room { vec_len places.old + count ≤ vec_capacity places.old }
+    requires small { first + count ≤ usize.MAX }
+    ensures { places.new.items ≡ places.old.items ++ range_with_len first count }
+{
+    for i in 0..count {
+        places.push_reserved(first + i);
+    }
+}
+
+/// Adds an entry for each text. There is room.
+fn add_texts(entries: &mut Vec<Entry>, lane: u32, texts: Vec<Bytes>)
+    requires { vec_len entries.old + length texts.items ≤ vec_capacity entries.old }
+    ensures { entries.new.items
+        ≡ entries.old.items ++ entries_for lane (map Event.Text texts.items) }
+{
+    for text in texts {
+        entries.push_reserved(Entry {
+            lane,
+            event: Event::Text(text),
+        });
     }
 }
 

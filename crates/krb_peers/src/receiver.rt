@@ -86,8 +86,8 @@ impl Receiver {
     /// Takes a frame at the moment `now`: what it carries, or the refusal of the first check that
     /// it fails.
     ///
-    /// `Memory` comes where a growth was refused, and for no frame behind a close or over the limit.
-    /// Each refusal leaves the receiver as it was.
+    /// `Memory` comes where a growth was refused, and for no frame behind a close or over the
+    /// limit. Each refusal leaves the receiver as it was.
     pub fn take(&mut self, alloc: Global, frame: &[u8], now: Moment) -> Result<Delivery, Refusal>
         ensures verdict { IsJudgement self.old now frame.now result }
         ensures memory { result ≡ Err Refusal.Memory → TakesMemory self.old frame.now }
@@ -104,7 +104,7 @@ impl Receiver {
     }
 
     /// Takes a frame as [`take`](Receiver::take) does, and notes what became of it in the log as an
-    /// event of `lane`.
+    /// event of `lane`, or one for each text of a batch.
     ///
     /// Every growth comes before the first change, so want of memory, which is the only error,
     /// changes nothing.
@@ -171,6 +171,7 @@ impl Receiver {
         };
         Ok(match record {
             Record::Text(text) => Delivery::Text(text),
+            Record::Batch(texts) => Delivery::Batch(texts),
             Record::Close => Delivery::Closed,
         })
     }
@@ -194,6 +195,7 @@ fn note(log: &mut Log, lane: u32, verdict: Result<Delivery, Refusal>) -> Result<
 {
     match verdict {
         Ok(Delivery::Text(text)) => log.push(lane, Event::Text(text)),
+        Ok(Delivery::Batch(texts)) => log.push_batch(lane, texts),
         Ok(Delivery::Closed) => log.push(lane, Event::Closed),
         Err(refusal) => log.push(lane, Event::Refused(refusal)),
     }

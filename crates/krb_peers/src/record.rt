@@ -1,10 +1,13 @@
 //! Records, and the bytes that stand for them.
 
-ghost use Rattle.std.specs.Prelude.{◌≡◌, ◌≢◌, ◌↔◌, ◌≤◌, length, IfOk, MatchResult, Some};
+ghost use Rattle.std.specs.Prelude.{◌≡◌, ◌≢◌, ◌↔◌, ◌≤◌, ℕ, List, length, IfOk, MatchResult, Some};
 ghost use Rattle.krb_base.specs.Limits.{text_limit};
+ghost use Rattle.krb_batch.specs.Batch.{SpellsBatch};
 ghost use Rattle.krb_peers.specs.Record.{FitsLimits, SpellsRecord, bytes_of, code_of, words_of};
+ghost use Rattle.krb_peers.specs.Sender.{record_for};
 
 use krb_base::{Bytes, TEXT_LIMIT};
+use krb_batch::{BatchError, Texts, batch_bytes, read_batch};
 use std::alloc::{AllocError, Global};
 use std::error::Error;
 use std::fmt;
@@ -20,6 +23,9 @@ const CLOSE_TAG: u8 = 0x43;
 pub enum Record {
     /// A text of at most [`TEXT_LIMIT`] bytes.
     Text(Bytes),
+    /// A batch of 2 to 1,000 texts, which take at most 1,000,000 bytes: four and its length for
+    /// each.
+    Batch(Texts),
     /// The end of what the sender says.
     Close,
 }
@@ -70,19 +76,32 @@ impl From<AllocError> for RecordError {
 
 /// The bytes of `record`, which are its user data.
 ///
-/// A text has at most [`TEXT_LIMIT`] bytes. The only error is want of memory.
+/// A text has at most [`TEXT_LIMIT`] bytes, and a batch is within the limits of [`Record::Batch`].
+/// The only error is want of memory.
 pub fn record_bytes(alloc: Global, record: &Record) -> Result<Vec<u8>, AllocError>
     requires { FitsLimits «record».now }
     ensures { IfOk result (λ bytes. SpellsRecord «record».now bytes.items) }
 {
     match record {
         Record::Text(text) => text_record(alloc, text.as_slice()),
+        Record::Batch(texts) => batch_bytes(alloc, texts.as_slice()),
         Record::Close => close_record(alloc),
     }
 }
 
+/// The bytes of the record of some texts that go together.
+pub(crate) fn group_record(alloc: Global, group: &[Bytes]) -> Result<Vec<u8>, AllocError>
+    requires { FitsLimits (record_for group.now) }
+    ensures { IfOk result (λ bytes. bytes.items ≡ bytes_of (record_for group.now)) }
+{
+    match group {
+        [text] => text_record(alloc, text.as_slice()),
+        _ => batch_bytes(alloc, group),
+    }
+}
+
 /// The bytes of a text, as a record.
-pub(crate) fn text_record(alloc: Global, text: &[u8]) -> Result<Vec<u8>, AllocError>
+fn text_record(alloc: Global, text: &[u8]) -> Result<Vec<u8>, AllocError>
     requires { length text.now ≤ text_limit }
     ensures { IfOk result (λ bytes. bytes.items ≡ bytes_of (Record.Text text.now)) }
 {
@@ -101,7 +120,7 @@ pub(crate) fn close_record(alloc: Global) -> Result<Vec<u8>, AllocError>
 
 /// The record that `bytes` stand for.
 ///
-/// `BadRecord` comes exactly where they stand for none. Only a text takes memory.
+/// `BadRecord` comes exactly where they stand for none. The close takes no memory.
 pub fn read_record(alloc: Global, bytes: &[u8]) -> Result<Record, RecordError>
     ensures ok { IfOk result (λ r. SpellsRecord r bytes.now) }
 
@@ -121,7 +140,23 @@ pub fn read_record(alloc: Global, bytes: &[u8]) -> Result<Record, RecordError>
             Ok(Record::Text(Bytes::new(text)))
         }
         CLOSE_TAG if rest.is_empty() => Ok(Record::Close),
-        _ => Err(RecordError::BadRecord),
+        _ => batch_record(alloc, bytes),
+    }
+}
+
+/// The batch that `bytes` stand for, as a record.
+fn batch_record(alloc: Global, bytes: &[u8]) -> Result<Record, RecordError>
+    ensures ok { IfOk result (λ r. (texts : List (List ℕ))
+        × (r ≡ Record.Batch texts) × SpellsBatch texts bytes.now) }
+    ensures bad { (result ≡ Err RecordError.BadRecord)
+        ↔ ((texts : List (List ℕ)) → ¬ SpellsBatch texts bytes.now) }
+    ensures memory { result ≡ Err RecordError.Memory
+        → (texts : List (List ℕ)) × SpellsBatch texts bytes.now }
+{
+    match read_batch(alloc, bytes) {
+        Ok(texts) => Ok(Record::Batch(texts)),
+        Err(BatchError::NoBatch) => Err(RecordError::BadRecord),
+        Err(BatchError::Memory) => Err(RecordError::Memory),
     }
 }
 
@@ -134,7 +169,21 @@ mod tests {
     fn is_text(record: &Record, text: &[u8]) -> bool {
         match record {
             Record::Text(bytes) => bytes.as_slice() == text,
-            Record::Close => false,
+            Record::Batch(_) | Record::Close => false,
+        }
+    }
+
+    fn is_batch(record: &Record, expected: &[&[u8]]) -> bool {
+        match record {
+            Record::Batch(texts) => {
+                let texts = texts.as_slice();
+                texts.len() == expected.len()
+                    && texts
+                        .iter()
+                        .zip(expected)
+                        .all(|(text, bytes)| text.as_slice() == *bytes)
+            }
+            Record::Text(_) | Record::Close => false,
         }
     }
 
@@ -171,6 +220,34 @@ mod tests {
         let bytes = record_bytes(rt.alloc(), &close)?;
         assert_eq!(rt; bytes.as_slice(), [0x43].as_slice());
         Ok(())
+    }
+
+    #[test]
+    fn batch_of_two_texts(rt: HostRuntime) -> Result<(), Fail> {
+        let bytes = b"\x42\0\0\0\x01\x61\0\0\0\x01\x62";
+        let record = read_record(rt.alloc(), bytes)?;
+        assert!(rt; is_batch(&record, &[b"a", b"b"]));
+        let again = record_bytes(rt.alloc(), &record)?;
+        assert_eq!(rt; again.as_slice(), bytes.as_slice());
+        let empty = read_record(rt.alloc(), &[0x42, 0, 0, 0, 0, 0, 0, 0, 0])?;
+        assert!(rt; is_batch(&empty, &[b"", b""]));
+        Ok(())
+    }
+
+    #[test]
+    fn no_batch(rt: HostRuntime) {
+        for bytes in [
+            b"\x42".as_slice(),
+            b"\x42\0\0\0\x01\x61",
+            b"\x42\0\0\0\x01\x61\0\0\0\x02",
+            b"\x42\0\0\0\x01\x61\0\0\0\x01\x62\0",
+        ] {
+            let answer = read_record(rt.alloc(), bytes);
+            assert!(rt;
+                matches!(answer, Err(RecordError::BadRecord)),
+                "at {bytes:?}"
+            );
+        }
     }
 
     #[test]

@@ -1,21 +1,23 @@
 //! A sender: its sealer, what it seals, and the plan of its wire.
 
-ghost use Rattle.std.specs.Prelude.{◌≡◌, ◌↔◌, ◌≤◌, ◌+◌, ◌∷◌, ◌++◌, [], ℕ, List, length, true, slice_get, Some, IfOk, IfErr, OnOk, OnErr, IsErr, ◌⊎◌, ◌<◌};
+ghost use Rattle.std.specs.Prelude.{◌≡◌, ◌≢◌, ◌↔◌, ◌≤◌, ◌+◌, ◌∷◌, ◌++◌, [], ℕ, List, length, drop, true, slice_get, Some, IfOk, IfErr, OnOk, OnErr, IsErr, ◌⊎◌, ◌<◌};
 ghost use Rattle.krb_peers.specs.declared.record.Record.{Record};
 ghost use Rattle.krb_base.specs.Limits.{user_data_limit};
 ghost use Rattle.krb_seal.specs.Sealer.{SealsNext};
-ghost use Rattle.krb_peers.specs.Record.{bytes_of};
+ghost use Rattle.krb_peers.specs.Record.{bytes_of, FitsLimits};
 ghost use Rattle.krb_peers.specs.Draws.{after_words, confounder_at};
 ghost use Rattle.krb_peers.specs.Plan.{contents};
-ghost use Rattle.krb_peers.specs.Sender.{Source, AreFrames, records, moment_at};
+ghost use Rattle.krb_peers.specs.Sender.{Source, AreFrames, records, moment_at, sealed_groups, sealed_texts};
+ghost use Rattle.krb_peers.specs.Sender.{group_behind, texts_before, record_for, record_at};
 ghost use Rattle.krb_peers.specs.Verdicts.{AllBytes};
 ghost use Rattle.krb_peers.specs.Sending.{source_of, sealed_of, sent_of, before, behind, IsSender, HasSealed};
 
 use crate::confounder::draw_confounder;
 use crate::emission::known_bytes;
 use crate::plan::Emit;
-use crate::record::{close_record, text_record};
-use krb_base::LAST_NUMBER;
+use crate::record::{close_record, group_record};
+use krb_base::{Bytes, LAST_NUMBER};
+use krb_batch::group_end;
 use krb_der::Moment;
 use krb_seal::{SealError, Sealer};
 use rand_chacha::ChaCha20Rng;
@@ -23,14 +25,18 @@ use std::alloc::{AllocError, Global};
 
 /// A sealer and what it is to seal.
 ///
-/// Its limits: a text has at most 1,000,000 bytes, there is at least one moment, and the sealer's next
-/// number is at most [`LAST_NUMBER`]. With fewer moments than records, the last one serves the
-/// others. Its drop wipes the sealer where it lies, a boxed one in its box.
+/// Its limits: a text has at most 1,000,000 bytes, at most 1,000 texts go together, there is at
+/// least one moment, and the sealer's next number is at most [`LAST_NUMBER`]. With fewer moments
+/// than records, the last one serves the others. Its drop wipes the sealer where it lies, a boxed
+/// one in its box.
 pub struct Sending<S: Sealer = Box<dyn Sealer + Send>> {
     /// What seals.
     pub sealer: S,
     /// The texts, in order.
-    pub texts: Vec<Vec<u8>>,
+    pub texts: Vec<Bytes>,
+    /// How many texts go together in one record at most, 1 to 1,000: with 1, each goes alone. No
+    /// more go together than take 1,000,000 bytes, four and its length for each.
+    pub batch: usize,
     /// The moments of the records, in order.
     pub ats: Vec<Moment>,
     /// Where the confounders come from: four words each.
@@ -44,6 +50,7 @@ impl<S: Sealer> Drop for Sending<S> {
         let Sending {
             mut sealer,
             texts: _,
+            batch: _,
             ats: _,
             draws: _,
             plan: _,
@@ -72,21 +79,39 @@ pub enum Ending {
     LastNumber,
 }
 
+/// What of a sender's texts is sealed.
+#[derive(Drop)]
+struct Sealed {
+    /// So many groups,
+    groups: usize,
+    /// and the texts of these.
+    texts: usize,
+}
+
 impl<S: Sealer> Sending<S> {
-    /// How many texts are sealed from the sealer's next number on: the last number is kept for the
-    /// close.
-    fn sealed(&self) -> usize
-        ensures { result ≡ sealed_of (source_of S.state self.now) }
+    /// What is sealed from the sealer's next number on: the last number is kept for the close.
+    fn sealed(&self) -> Sealed
+        ensures groups { result.groups ≡ length (sealed_groups (source_of S.state self.now)) }
+        ensures texts { result.texts ≡ length (sealed_texts (source_of S.state self.now)) }
     {
-        let left = LAST_NUMBER.saturating_sub(self.sealer.next());
-        self.texts.len().min(left as usize)
+        let left = LAST_NUMBER.saturating_sub(self.sealer.next()) as usize;
+        let mut groups = 0;
+        let mut passed = 0;
+        while groups < left && passed < self.texts.len() {
+            passed += group_end(self.texts_behind(passed), self.batch);
+            groups += 1;
+        }
+        Sealed {
+            groups,
+            texts: passed,
+        }
     }
 
-    /// How many records are sealed: those texts, and the close.
+    /// How many records are sealed: those of the texts, and the close.
     pub fn records(&self) -> usize
         ensures { result ≡ length (records (source_of S.state self.now)) }
     {
-        self.sealed() + 1
+        self.sealed().groups + 1
     }
 
     /// How many texts of how many are sealed.
@@ -96,7 +121,7 @@ impl<S: Sealer> Sending<S> {
         ensures count { result.n ≡ length (source_of S.state self.now).texts }
         ensures done { (result.ending ≡ Ending.Done) ↔ (result.k ≡ result.n) }
     {
-        let k = self.sealed();
+        let k = self.sealed().texts;
         let n = self.texts.len();
         let ending = if k == n {
             Ending::Done
@@ -109,12 +134,19 @@ impl<S: Sealer> Sending<S> {
     /// Seals record `k` at the sealer's next number, under the next four words of `draws`.
     ///
     /// Record 0 is the one at the number `k` before the next: the records are those of a sender who
-    /// has sealed `k` of them. The only errors are `Wiped`, where the sealer was wiped, and
-    /// `Memory`. Each leaves the sealer as it was, but the generator may have moved.
-    pub fn seal_record(&mut self, alloc: Global, k: usize) -> Result<Vec<u8>, SealError>
+    /// has sealed `k` of them. Those have passed so many texts as `passed` says, 0 before the
+    /// first, and the record's own are added. The only errors are `Wiped`, where the sealer was
+    /// wiped, and `Memory`. Each leaves the sealer as it was, but the generator may have moved.
+    pub fn seal_record(
+        &mut self,
+        alloc: Global,
+        k: usize,
+        passed: &mut usize,
+    ) -> Result<Vec<u8>, SealError>
         requires sender { IsSender (source_of S.state self.old) }
         requires begun { k ≤ (S.state self.old.sealer).next }
         requires there { k < length (records (before k (source_of S.state self.old))) }
+        requires passed { passed.old ≡ texts_before k (source_of S.state self.old) }
 
         ensures sealed { IfOk result (λ frame. (r : Record)
             → slice_get (records (before k (source_of S.state self.old))) k ≡ Some r
@@ -128,19 +160,31 @@ impl<S: Sealer> Sending<S> {
             → HasSealed source k frames (source_of S.state self.old)
             → HasSealed source (k + 1) (frames ++ frame.items ∷ []) (source_of S.state self.new)) }
 
+        // The texts of this record are passed behind it.
+        ensures passed { OnOk result
+            (passed.new ≡ texts_before (k + 1) (source_of S.state self.old)) }
+        ensures stays { OnErr result (passed.new ≡ passed.old) }
+
         ensures wiped { (S.state self.old.sealer).wiped ≡ true → IsErr result }
         ensures errors { IfErr result (λ e.
             ((e ≡ SealError.Wiped) × ((S.state self.old.sealer).wiped ≡ true))
             ⊎ (e ≡ SealError.Memory)) }
         ensures unchanged { OnErr result (S.state self.new.sealer ≡ S.state self.old.sealer) }
         ensures texts { self.new.texts ≡ self.old.texts }
+        ensures batch { self.new.batch ≡ self.old.batch }
         ensures ats { self.new.ats ≡ self.old.ats }
         ensures plan { self.new.plan ≡ self.old.plan }
     {
-        let bytes = self.record_at(alloc, k)?;
+        let group = self.group_behind(*passed);
+        let count = group.len();
+        let bytes = self.record_at(alloc, group)?;
         let at = self.ats[k.min(self.ats.len() - 1)];
         let confounder = draw_confounder(&mut self.draws);
-        self.sealer.seal(alloc, &bytes, at, confounder)
+        let sealed = self.sealer.seal(alloc, &bytes, at, confounder);
+        if sealed.is_ok() {
+            *passed += count;
+        }
+        sealed
     }
 
     /// Seals all records, the close last.
@@ -158,28 +202,46 @@ impl<S: Sealer> Sending<S> {
     {
         let count = self.records();
         let mut frames = Vec::with_capacity(alloc, count)?;
+        let mut passed = 0;
         for k in 0..count {
-            let frame = self.seal_record(alloc, k)?;
+            let frame = self.seal_record(alloc, k, &mut passed)?;
             known_bytes(frame.as_slice());
             frames.push(frame).map_err(AllocError::from)?;
         }
         Ok(frames)
     }
 
-    /// The bytes of record `k`, which has the sealer's next number.
-    fn record_at(&self, alloc: Global, k: usize) -> Result<Vec<u8>, AllocError>
-        requires sender { IsSender (source_of S.state self.now) }
-        requires begun { k ≤ (S.state self.now.sealer).next }
-        ensures bytes { IfOk result (λ bytes. (r : Record)
-            → slice_get (records (before k (source_of S.state self.now))) k ≡ Some r
-            → bytes.items ≡ bytes_of r) }
+    /// The texts that go together next, where so many are passed: none where none is left.
+    fn group_behind(&self, passed: usize) -> &[Bytes]
+        requires { passed ≤ length self.now.texts.items }
+        ensures { result.now ≡ group_behind passed (source_of S.state self.now) }
+    {
+        let rest = self.texts_behind(passed);
+        if rest.is_empty() {
+            return rest;
+        }
+        rest.split_at(group_end(rest, self.batch)).0
+    }
+
+    /// The texts behind the first `passed` ones.
+    fn texts_behind(&self, passed: usize) -> &[Bytes]
+        requires { passed ≤ length self.now.texts.items }
+        ensures { result.now ≡ drop passed self.now.texts.items }
+    {
+        self.texts.split_at(passed).1
+    }
+
+    /// The bytes of the record that comes at the sealer's next number, where this group is next:
+    /// the close where no text is left or the number is the last.
+    fn record_at(&self, alloc: Global, group: &[Bytes]) -> Result<Vec<u8>, AllocError>
+        requires { group.now ≢ [] → FitsLimits (record_for group.now) }
+        ensures bytes { IfOk result (λ bytes.
+            bytes.items ≡ bytes_of (record_at (S.state self.now.sealer).next group.now)) }
         ensures short { IfOk result (λ bytes. length bytes.items ≤ user_data_limit) }
     {
-        match self.texts.get(k) {
-            Some(text) if self.sealer.next() < LAST_NUMBER => {
-                text_record(alloc, text.as_slice())
-            }
-            _ => close_record(alloc),
+        if group.is_empty() || self.sealer.next() >= LAST_NUMBER {
+            return close_record(alloc);
         }
+        group_record(alloc, group)
     }
 }

@@ -4,7 +4,7 @@ ghost use Rattle.std.specs.Prelude.{◌≡◌, ◌+◌, ◌<◌, ◌≤◌, ◌+
 ghost use Rattle.krb_aes.specs.Words.{AreBytes};
 ghost use Rattle.krb_base.specs.Prefix.{IsPrefix};
 ghost use Rattle.krb_peers.specs.Plan.{contents};
-ghost use Rattle.krb_peers.specs.Sender.{Source, AreFrames, records};
+ghost use Rattle.krb_peers.specs.Sender.{Source, AreFrames, records, texts_before};
 ghost use Rattle.krb_peers.specs.Sending.{source_of, before, IsSender, HasSealed};
 ghost use Rattle.krb_relay.specs.Sent.{IsAll, IsCut, IsOfSealing, IsTrueOf, Sends, Served, with_plan};
 
@@ -87,8 +87,9 @@ fn seal_and_send<R: Wait, G: Gate, S: Sealer>(
     ensures cut { IfErr result (IsCut (source_of S.state sending.old) tx.new.frames) }
     ensures lane { tx.new.lane ≡ tx.old.lane }
 {
+    let mut passed = 0;
     for k in 0..sending.records() {
-        let frame = seal_one(alloc, gate, lane, sending, k)?;
+        let frame = seal_one(alloc, gate, lane, sending, k, &mut passed)?;
         if tx.send(rt, frame).is_err() {
             return Err(Cause::Lost);
         }
@@ -173,8 +174,9 @@ fn seal_each<G: Gate, S: Sealer>(
     let Ok(mut frames) = Vec::with_capacity(alloc, count) else {
         return Err(Cause::Memory);
     };
+    let mut passed = 0;
     for k in 0..count {
-        let frame = seal_one(alloc, gate, lane, sending, k)?;
+        let frame = seal_one(alloc, gate, lane, sending, k, &mut passed)?;
         if frames.push(frame).is_err() {
             return Err(Cause::Memory);
         }
@@ -182,26 +184,31 @@ fn seal_each<G: Gate, S: Sealer>(
     Ok(frames)
 }
 
-/// The frame of record `k`, sealed within the gate.
+/// The frame of record `k`, sealed within the gate. The records before it passed so many texts as
+/// `passed` says, and its own are added.
 fn seal_one<G: Gate, S: Sealer>(
     alloc: Global,
     gate: &G,
     lane: u32,
     sending: &mut Sending<S>,
     k: usize,
+    passed: &mut usize,
 ) -> Result<Vec<u8>, Cause>
     requires sender { IsSender (source_of S.state sending.old) }
     requires begun { k ≤ (S.state sending.old.sealer).next }
     requires there { k < length (records (before k (source_of S.state sending.old))) }
+    requires passed { passed.old ≡ texts_before k (source_of S.state sending.old) }
     ensures frames { IfOk result (λ frame. (source : Source) (frames : List (List ℕ))
         → HasSealed source k frames (source_of S.state sending.old)
         → HasSealed source (k + 1) (frames ++ frame.items ∷ []) (source_of S.state sending.new)) }
+    ensures passed { OnOk result
+        (passed.new ≡ texts_before (k + 1) (source_of S.state sending.old)) }
     ensures bytes { IfOk result (λ frame. AreBytes frame.items) }
     ensures live { OnOk result ((S.state sending.old.sealer).wiped ≡ false) }
     ensures cause { IfErr result (IsOfSealing (S.state sending.old.sealer).wiped) }
 {
     gate.enter(lane);
-    let sealed = sending.seal_record(alloc, k);
+    let sealed = sending.seal_record(alloc, k, passed);
     gate.leave(lane);
     match sealed {
         Ok(frame) => {

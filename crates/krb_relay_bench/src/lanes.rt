@@ -6,7 +6,7 @@ ghost use Rattle.krb_base.specs.Limits.{text_limit};
 ghost use Rattle.krb_peers.specs.Sending.{source_of, IsSender};
 ghost use Rattle.krb_seal.specs.Session.{HasShortAddresses, IsShortAddress};
 
-use krb_base::{Bytes, LAST_NUMBER, TEXT_LIMIT};
+use krb_base::{BATCH_LIMIT, Bytes, LAST_NUMBER, TEXT_LIMIT};
 use krb_der::{HostAddress, Moment};
 use krb_peers::{Receiver, Receiving, Sending};
 use krb_seal::{Aes256Sealer, Expect, Mode, Opener, Sealer, Session};
@@ -14,12 +14,14 @@ use rand_chacha::ChaCha20Rng;
 use rand_core::SeedableRng;
 use std::alloc::{AllocError, Global};
 
-/// How much is relayed: the senders, the texts of each and their bytes, and the room of a lane.
+/// How much is relayed: the senders, the texts of each and their bytes, how many of them go
+/// together at most, and the room of a lane.
 #[derive(Clone, Copy)]
 pub(crate) struct Size {
     pub(crate) senders: usize,
     pub(crate) texts: usize,
     pub(crate) bytes: usize,
+    pub(crate) batch: usize,
     pub(crate) capacity: usize,
 }
 
@@ -66,11 +68,12 @@ fn sending(alloc: Global, host: u8, size: Size) -> Result<Sending<Aes256Sealer>,
     let mut texts = Vec::with_capacity(alloc, size.texts)?;
     for place in 0..size.texts {
         let letter = b'a' + (place % 26) as u8;
-        texts.push(vec![in alloc; letter; size.bytes]?)?;
+        texts.push(Bytes::new(vec![in alloc; letter; size.bytes]?))?;
     }
     Ok(Sending {
         sealer: Aes256Sealer::new(&mut [host; 32], session),
         texts,
+        batch: size.batch,
         ats: moments(alloc)?,
         draws: ChaCha20Rng::from_seed([host; 32]),
         plan: None,
@@ -106,10 +109,10 @@ pub(crate) fn lanes_of(alloc: Global, size: Size) -> Result<Lanes, AllocError> {
     Ok(lanes)
 }
 
-fn are_short(texts: &[Vec<u8>]) -> bool
-    ensures { result ≡ list_all (λ text. nat_le (length text.items) text_limit) texts.now }
+fn are_short(texts: &[Bytes]) -> bool
+    ensures { result ≡ list_all (λ text. nat_le (length text) text_limit) texts.now }
 {
-    texts.iter().all(|text| text.len() <= TEXT_LIMIT)
+    texts.iter().all(|text| text.as_slice().len() <= TEXT_LIMIT)
 }
 
 /// Whether a sender keeps its limits.
@@ -117,6 +120,7 @@ fn is_sender<S: Sealer>(sending: &Sending<S>) -> bool
     ensures { IsTrue result → IsSender (source_of S.state sending.now) }
 {
     are_short(sending.texts.as_slice())
+        && sending.batch <= BATCH_LIMIT
         && !sending.ats.is_empty()
         && sending.sealer.next() <= LAST_NUMBER
 }

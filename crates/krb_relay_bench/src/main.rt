@@ -2,11 +2,13 @@
 //!
 //! `krb_relay_bench ROUNDS SENDERS TEXTS BYTES CAPACITY` relays TEXTS texts of BYTES bytes from
 //! each of SENDERS senders (KRB-PRIV under encryption type 18) by `Stepped` and by `relay`, in
-//! turn, and prints how many messages a second each relays, the best of that many rounds, and what
-//! part of the stepped relay's time `relay` takes. `krb_relay_bench soak N` relays one job of two
-//! senders with five texts of 64 bytes each by `relay` and then N more like it, and prints how many
-//! a second, and of how many the log isn't that of the first. It ends with 1 where a relay didn't
-//! end well or a log differs. With no argument it does nothing.
+//! turn, and prints how many texts a second each relays, the best of that many rounds, and what
+//! part of the stepped relay's time `relay` takes. Each text goes alone; with further arguments
+//! `BATCH ..` it does so once for each of them, and at most BATCH texts go together.
+//! `krb_relay_bench soak N` relays one job of two senders with five texts of 64 bytes each by
+//! `relay` and then N more like it, and prints how many a second, and of how many the log isn't
+//! that of the first. It ends with 1 where a relay didn't end well or a log differs. With no
+//! argument it does nothing.
 #![tactic(auto)]
 
 mod lanes;
@@ -23,7 +25,7 @@ use std::{env, io};
 
 /// What is said of other arguments.
 const USAGE: &str =
-    "krb_relay_bench ROUNDS SENDERS TEXTS BYTES CAPACITY, or krb_relay_bench soak N";
+    "krb_relay_bench ROUNDS SENDERS TEXTS BYTES CAPACITY [BATCH ..], or krb_relay_bench soak N";
 
 /// The best times of both relays, in microseconds, and whether each ended well.
 #[derive(Clone, Copy)]
@@ -68,13 +70,35 @@ fn compare(
     size: Size,
 ) -> io::Result<bool> {
     let best = best_of(rt, rounds, size)?;
-    let messages = (size.senders as u128).saturating_mul((size.texts as u128).saturating_add(1));
-    let (stepped, threads) = (rate(messages, best.stepped), rate(messages, best.threads));
+    let texts = (size.senders as u128).saturating_mul(size.texts as u128);
+    let (stepped, threads) = (rate(texts, best.stepped), rate(texts, best.threads));
     let percent = best.threads.saturating_mul(100) / best.stepped.max(1);
+    let batch = size.batch;
     println!(rt;
-        "stepped {stepped}, threads {threads} messages a second: {percent} % of the time"
+        "batch {batch}: stepped {stepped}, threads {threads} texts a second: {percent} % of the time"
     )?;
     Ok(best.whole)
+}
+
+/// Times both relays once for each of these batches, or where there is none, with each text alone.
+fn compare_all(
+    rt: &(impl Threads + Wait + Sync + Clock + Print + Alloc<A = Global>),
+    rounds: u32,
+    size: Size,
+    batches: &[u32],
+) -> io::Result<bool> {
+    if batches.is_empty() {
+        return compare(rt, rounds, size);
+    }
+    let mut whole = true;
+    for batch in batches {
+        let size = Size {
+            batch: *batch as usize,
+            ..size
+        };
+        whole = compare(rt, rounds, size)? && whole;
+    }
+    Ok(whole)
 }
 
 /// Relays a small job and then so many more like it, and compares each log with the first.
@@ -86,6 +110,7 @@ fn soak(
         senders: 2,
         texts: 5,
         bytes: 64,
+        batch: 1,
         capacity: 2,
     };
     let (_, Some(first)) = run_threads(rt, size)? else {
@@ -123,14 +148,15 @@ fn main(rt: HostRuntime) -> io::Result<ExitCode> {
     match (words.len(), numbers.as_slice()) {
         (0 | 1, _) => Ok(ExitCode::SUCCESS),
         (_, [jobs]) => Ok(exit_code(soak(&rt, *jobs)?)),
-        (_, [rounds, senders, texts, bytes, capacity]) => {
+        (_, [rounds, senders, texts, bytes, capacity, batches @ ..]) => {
             let size = Size {
                 senders: *senders as usize,
                 texts: *texts as usize,
                 bytes: *bytes as usize,
+                batch: 1,
                 capacity: *capacity as usize,
             };
-            Ok(exit_code(compare(&rt, *rounds, size)?))
+            Ok(exit_code(compare_all(&rt, *rounds, size, batches)?))
         }
         _ => {
             println!(&rt; "{USAGE}")?;

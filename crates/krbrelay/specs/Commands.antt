@@ -6,7 +6,7 @@ use Rattle.krb_peers.specs.Ends.{Ends}
 use Rattle.krb_peers.specs.Wire.{IsBad}
 use Rattle.krb_job.specs.declared.bad_input.BadInput.{BadInput}
 use Rattle.krb_job.specs.Job.{Job}
-use Rattle.krb_job.specs.Sender.{Sender}
+use Rattle.krb_job.specs.SenderKeys.{Sender}
 use Rattle.krb_commands.specs.Fault.{bad_plan}
 use Rattle.krb_commands.specs.Sealed.{PrintsSealed, PrintsSealedPrefix}
 use Rattle.krb_commands.specs.Opened.{PrintsFirst, PrintsOpened, PrintsOpenedPrefix}

@@ -7,7 +7,7 @@ use Rattle.krb_job.specs.declared.job.Command.{Command}
 use Rattle.krb_job.specs.declared.bad_input.BadInput.{BadInput}
 use Rattle.krb_job.specs.declared.bad_input.BadInput.TheVariants as bad
 use Rattle.krb_job.specs.Job.{Job, job_of}
-use Rattle.krb_job.specs.Sender.{Sender}
+use Rattle.krb_job.specs.SenderKeys.{Sender}
 
 abbrev pub Told : Type 0
 Told = Result Job BadInput

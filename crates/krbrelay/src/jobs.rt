@@ -5,7 +5,7 @@ ghost use Rattle.std.specs.Io.KnownBytes.{Keeps};
 ghost use Rattle.krb_peers.specs.Ends.{lanes_of};
 ghost use Rattle.krb_job.specs.declared.bad_input.BadInput.{BadInput};
 ghost use Rattle.krb_job.specs.Job.{most_senders, job_view};
-ghost use Rattle.krb_job.specs.Sender.{seals};
+ghost use Rattle.krb_job.specs.SenderKeys.{seals};
 ghost use Rattle.krb_job.specs.SenderView.{sender_view};
 ghost use Rattle.krb_commands.specs.Ends.{AreReady, sealer_of, lane_told};
 ghost use Rattle.krb_commands.specs.Fault.{bad_plan, IsOfRelaying, IsOfSealing, IsOfTelling};
@@ -110,7 +110,7 @@ fn seal_with<S: Sealer, W: Write>(
         (W.contents writer.old) (W.contents writer.new)) }
     ensures faults { IfErr result IsOfSealing }
 {
-    let sending = sending_of(alloc, sender, sealer)?;
+    let sending = sending_of(sender, sealer);
     seal_job(alloc, sending, writer)
 }
 

@@ -21,7 +21,7 @@ use std::thread::Threads;
 /// The keys of a sender and their values, as TOML. A key with no value is left out.
 ///
 /// Its one text is `hi`, from 10.0.0.1 to 10.0.0.255, at 2023-11-14T22:13:20Z and 5 microseconds.
-const SENDER: [(&str, &str); 16] = [
+const SENDER: [(&str, &str); 17] = [
     ("etype", "17"),
     ("key", "'000102030405060708090a0b0c0d0e0f'"),
     ("mode", "'safe'"),
@@ -39,6 +39,7 @@ const SENDER: [(&str, &str); 16] = [
     ("at", "[1700000000000005]"),
     ("now", "[1700000000000005]"),
     ("texts", "['6869']"),
+    ("batch", ""),
     ("plan", ""),
     ("frames", ""),
 ];
@@ -137,11 +138,11 @@ fn seal<W: Write>(
     match key_of(&sender) {
         SessionKey::Aes128(mut key) => {
             let sealer = Aes128Sealer::new(&mut key, session);
-            seal_job(alloc, sending_of(alloc, sender, sealer)?, writer)
+            seal_job(alloc, sending_of(sender, sealer), writer)
         }
         SessionKey::Aes256(mut key) => {
             let sealer = Aes256Sealer::new(&mut key, session);
-            seal_job(alloc, sending_of(alloc, sender, sealer)?, writer)
+            seal_job(alloc, sending_of(sender, sealer), writer)
         }
     }
 }
@@ -161,12 +162,12 @@ fn relay_one<W: Write, G: Gate + Sync>(
     match key_of(&sender) {
         SessionKey::Aes128(mut key) => {
             let sealer = Aes128Sealer::new(&mut key, session);
-            let sendings = vec![in alloc; sending_of(alloc, sender, sealer)?]?;
+            let sendings = vec![in alloc; sending_of(sender, sealer)]?;
             relay_job(rt, alloc, sendings, receivings, capacity, writer, gate)
         }
         SessionKey::Aes256(mut key) => {
             let sealer = Aes256Sealer::new(&mut key, session);
-            let sendings = vec![in alloc; sending_of(alloc, sender, sealer)?]?;
+            let sendings = vec![in alloc; sending_of(sender, sealer)]?;
             relay_job(rt, alloc, sendings, receivings, capacity, writer, gate)
         }
     }

@@ -20,13 +20,14 @@ pub fn receiver(
         ("seed", ""),
         ("at", ""),
         ("texts", ""),
+        ("batch", ""),
         ("frames", list.as_str()),
     ];
     sender_with(alloc, changes, &others)
 }
 
 /// Whether `open` answers so to these frames, with these changes of the job.
-fn opens(
+pub fn opens(
     rt: &(impl Threads + Wait + Sync + Abort + Alloc<A = Global>),
     changes: &[(&str, &str)],
     frames: &[&str],

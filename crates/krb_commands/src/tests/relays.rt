@@ -10,7 +10,7 @@ use std::test::Fail;
 use std::thread::Threads;
 
 /// Whether `relay` answers so to a job of one sender, with these changes.
-fn relays(
+pub fn relays(
     rt: &(impl Threads + Wait + Sync + Abort + Alloc<A = Global>),
     changes: &[(&str, &str)],
     status: u8,

@@ -13,7 +13,7 @@ use std::test::Fail;
 use std::thread::Threads;
 
 /// Whether `seal` prints these lines of the job with these changes.
-fn seals(
+pub fn seals(
     rt: &(impl Threads + Wait + Sync + Abort + Alloc<A = Global>),
     changes: &[(&str, &str)],
     lines: &[&str],

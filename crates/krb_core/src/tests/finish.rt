@@ -60,15 +60,18 @@ fn begin<S: Sealer>(
     Stepped::new(alloc, sendings, receivings, capacity)
 }
 
-/// Sender 0 says `a` and `b` from number 7 on, and sender 1 nothing.
-fn two_lanes(
+/// Sender 0 says these texts from number 7 on, so many together at most, and sender 1 nothing.
+fn lanes_of(
     rt: &impl Abort,
     alloc: Global,
     capacity: usize,
+    texts: &[&[u8]],
+    batch: usize,
     plan: Option<Vec<Emit>>,
 ) -> Result<Stepped, Fail> {
     let narrow: Box<dyn Sealer + Send> = Box::new(alloc, sealer(alloc, Mode::Safe, 7)?)?;
-    let mut first = sending(alloc, narrow, &[b"a", b"b"], &[MICROS])?;
+    let mut first = sending(alloc, narrow, texts, &[MICROS])?;
+    first.batch = batch;
     first.plan = plan;
     let wide: Box<dyn Sealer + Send> = Box::new(alloc, wide_sealer(alloc, 1)?)?;
     let second = sending(alloc, wide, &[], &[MICROS])?;
@@ -77,6 +80,16 @@ fn two_lanes(
     let wide = receiving(alloc, wide_receiver(alloc, 1)?)?;
     let receivings = vec![in alloc; narrow, wide]?;
     Ok(begin(rt, alloc, sendings, receivings, capacity)?)
+}
+
+/// Sender 0 says `a` and `b` from number 7 on, and sender 1 nothing.
+fn two_lanes(
+    rt: &impl Abort,
+    alloc: Global,
+    capacity: usize,
+    plan: Option<Vec<Emit>>,
+) -> Result<Stepped, Fail> {
+    lanes_of(rt, alloc, capacity, &[b"a", b"b"], 1, plan)
 }
 
 fn is_entry(entry: &Entry, lane: u32, expected: &str) -> bool {
@@ -113,6 +126,15 @@ fn two_lanes_in_rounds(rt: HostRuntime) -> Result<(), Fail> {
         relay.finish()?;
         assert!(rt; is_log(&rt, relay.log(), &expected, CLOSED));
     }
+    Ok(())
+}
+
+#[test]
+fn batch_is_logged_text_by_text(rt: HostRuntime) -> Result<(), Fail> {
+    let mut relay = lanes_of(&rt, rt.alloc(), 1, &[b"a", b"b", b"c"], 2, None)?;
+    relay.finish()?;
+    let expected = [(0, "a"), (0, "b"), (1, "closed"), (0, "c"), (0, "closed")];
+    assert!(rt; is_log(&rt, relay.log(), &expected, CLOSED) && relay.done());
     Ok(())
 }
 

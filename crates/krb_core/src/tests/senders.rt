@@ -1,8 +1,9 @@
 use super::frames::{PRIV_CLOSE, PRIV_TEXT, SAFE_CLOSE, SAFE_TEXT};
 use super::steps::assert_sender;
 use super::{MICROS, answers, moment, receiver, sealed, sealer, sending, session};
-use crate::{Ending, Sending};
+use crate::{Emit, Ending, Sending, emit};
 use krb_seal::{Aes128Sealer, Mode, SealError, Sealer};
+use std::alloc::Global;
 use std::test::Fail;
 
 #[test]
@@ -37,7 +38,9 @@ fn first_record_alone(rt: HostRuntime) -> Result<(), Fail> {
     let mut sending = sending(rt.alloc(), sealer, &[], &[MICROS])?;
     assert_sender(&rt, &sending);
     assert_eq!(rt; sending.records(), 1);
-    let frame = sending.seal_record(rt.alloc(), 0)?;
+    let mut passed = 0;
+    let frame = sending.seal_record(rt.alloc(), 0, &mut passed)?;
+    assert_eq!(rt; passed, 0);
     let mut receiver = receiver(rt.alloc(), Mode::Safe, 7)?;
     let frames = vec![in rt.alloc(); frame]?;
     assert!(rt; answers(rt.alloc(), &mut receiver, frames.as_slice(), &["closed"])?);
@@ -65,6 +68,66 @@ fn last_number_is_kept_for_the_close(rt: HostRuntime) -> Result<(), Fail> {
         let mut receiver = receiver(rt.alloc(), Mode::Safe, first)?;
         assert!(rt; answers(rt.alloc(), &mut receiver, frames.as_slice(), words)?);
     }
+    Ok(())
+}
+
+/// A sender of the texts `a`, `b` and `c` from a number on, two of them together at most.
+fn by_twos(alloc: Global, first: u32) -> Result<Sending<Aes128Sealer>, Fail> {
+    let sealer = sealer(alloc, Mode::Safe, first)?;
+    let mut sending = sending(alloc, sealer, &[b"a", b"b", b"c"], &[MICROS])?;
+    sending.batch = 2;
+    Ok(sending)
+}
+
+#[test]
+fn two_texts_go_together(rt: HostRuntime) -> Result<(), Fail> {
+    let mut sending = by_twos(rt.alloc(), 7)?;
+    assert_eq!(rt; sending.records(), 3);
+    let sent = sending.sent();
+    assert_eq!(rt; (sent.k, sent.n, sent.ending), (3, 3, Ending::Done));
+    let frames = sealed(&rt, rt.alloc(), &mut sending)?;
+    assert_eq!(rt; sending.sealer.next(), 10);
+    assert_eq!(rt; frames.len(), 3);
+    assert_eq!(rt; frames[0].len(), 104);
+    // Up to the data, which is the batch: 42, and each text behind its length.
+    let front = [
+        0x74, 0x66, 0x30, 0x64, 0xa0, 0x03, 0x02, 0x01, 0x05, 0xa1, 0x03, 0x02, 0x01, 0x14, 0xa2,
+        0x3f, 0x30, 0x3d, 0xa0, 0x0d, 0x04, 0x0b, 0x42, 0x00, 0x00, 0x00, 0x01, 0x61, 0x00, 0x00,
+        0x00, 0x01, 0x62,
+    ];
+    assert!(rt; frames[0].as_slice().starts_with(&front));
+    let mut receiver = receiver(rt.alloc(), Mode::Safe, 7)?;
+    let words = ["ab", "c", "closed"];
+    assert!(rt; answers(rt.alloc(), &mut receiver, frames.as_slice(), &words)?);
+    Ok(())
+}
+
+#[test]
+fn batch_comes_once(rt: HostRuntime) -> Result<(), Fail> {
+    let frames = sealed(&rt, rt.alloc(), &mut by_twos(rt.alloc(), 7)?)?;
+    let plan = [
+        Emit::Frame(0),
+        Emit::Frame(0),
+        Emit::Frame(1),
+        Emit::Frame(2),
+    ];
+    let wire = emit(rt.alloc(), frames.as_slice(), &plan)?;
+    let mut receiver = receiver(rt.alloc(), Mode::Safe, 7)?;
+    let words = ["ab", "BADORDER", "c", "closed"];
+    assert!(rt; answers(rt.alloc(), &mut receiver, wire.as_slice(), &words)?);
+    Ok(())
+}
+
+#[test]
+fn batch_before_the_last_number(rt: HostRuntime) -> Result<(), Fail> {
+    let mut sending = by_twos(rt.alloc(), 4_294_967_294)?;
+    assert_eq!(rt; sending.records(), 2);
+    let sent = sending.sent();
+    assert_eq!(rt; (sent.k, sent.n, sent.ending), (2, 3, Ending::LastNumber));
+    let frames = sealed(&rt, rt.alloc(), &mut sending)?;
+    let mut receiver = receiver(rt.alloc(), Mode::Safe, 4_294_967_294)?;
+    let words = ["ab", "closed"];
+    assert!(rt; answers(rt.alloc(), &mut receiver, frames.as_slice(), &words)?);
     Ok(())
 }
 

@@ -3,7 +3,7 @@ ghost use Rattle.krb_peers.specs.Sending.{source_of, IsSender};
 
 use super::{MICROS, are_short, moment, receiver, sealer, sending};
 use crate::{Did, Event, Log, Receiving, Sending, StartError, Stepped, Turn};
-use krb_base::LAST_NUMBER;
+use krb_base::{BATCH_LIMIT, LAST_NUMBER};
 use krb_seal::{Mode, Sealer};
 use std::alloc::{AllocError, Global};
 use std::process::Abort;
@@ -13,7 +13,7 @@ use std::test::Fail;
 pub fn assert_sender<S: Sealer>(rt: &impl Abort, sending: &Sending<S>)
     ensures { IsSender (source_of S.state sending.now) }
 {
-    assert!(rt; are_short(sending.texts.as_slice()));
+    assert!(rt; are_short(sending.texts.as_slice()) && sending.batch <= BATCH_LIMIT);
     assert!(rt; !sending.ats.is_empty());
     assert!(rt; sending.sealer.next() <= LAST_NUMBER);
 }

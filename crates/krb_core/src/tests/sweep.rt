@@ -6,12 +6,13 @@
 ghost use Rattle.std.specs.Prelude.{◌≡◌, ◌<◌, length};
 ghost use Rattle.krb_core.specs.Stepped.{lane_of};
 
-use super::frames::{PRIV_CLOSE, PRIV_TEXT, SAFE_CLOSE, SAFE_TEXT};
+use super::frames::{PRIV_BATCH, PRIV_CLOSE, PRIV_TEXT, SAFE_BATCH, SAFE_CLOSE, SAFE_TEXT};
 use super::steps::{is_whole, relay_of_one};
 use super::{MICROS, is_answer, moment, receiver};
-use crate::{Did, Receiver, Stepped, Turn};
+use crate::{Did, Log, Receiver, Stepped, Texts, Turn};
+use krb_base::Bytes;
 use krb_seal::{Mode, Refusal};
-use std::alloc::Global;
+use std::alloc::{AllocError, Global};
 use std::process::Abort;
 use std::test::Fail;
 
@@ -60,6 +61,42 @@ fn frame_is_taken_or_memory_wanted(rt: HostRuntime) -> Result<(), Fail> {
         }
         assert_eq!(rt; (receiver.expected(), receiver.closed()), (9, true));
     }
+    Ok(())
+}
+
+#[test]
+fn batch_is_taken_or_memory_wanted(rt: HostRuntime) -> Result<(), Fail> {
+    for (name, mode, frame) in [
+        ("KRB-SAFE", Mode::Safe, SAFE_BATCH.as_slice()),
+        ("KRB-PRIV", Mode::Priv, &PRIV_BATCH),
+    ] {
+        let mut receiver = receiver(rt.alloc(), mode, 7)?;
+        if takes(&rt, rt.alloc(), &mut receiver, frame, 7, "ab")? {
+            println!(rt; "refused: take of {name}, ab at 7")?;
+        }
+        assert_eq!(rt; (receiver.expected(), receiver.closed()), (8, false));
+    }
+    Ok(())
+}
+
+/// The texts `a` and `b`.
+fn two_texts(alloc: Global) -> Result<Texts, AllocError> {
+    let first = Bytes::new(Vec::from_slice(alloc, b"a")?);
+    let second = Bytes::new(Vec::from_slice(alloc, b"b")?);
+    Ok(Texts::new(vec![in alloc; first, second]?))
+}
+
+#[test]
+fn batch_is_logged_or_memory_wanted(rt: HostRuntime) -> Result<(), Fail> {
+    let mut log = Log::new(rt.alloc(), 1);
+    if log.push_batch(0, two_texts(rt.alloc())?).is_err() {
+        assert_eq!(rt; (log.entries().len(), log.texts(0)), (0, 0));
+        println!(rt; "refused: push_batch")?;
+        log.push_batch(0, two_texts(rt.alloc())?)?;
+    }
+    assert_eq!(rt; (log.entries().len(), log.texts(0)), (2, 2));
+    assert_eq!(rt; log.text(0, 0), Some(b"a".as_slice()));
+    assert_eq!(rt; log.text(0, 1), Some(b"b".as_slice()));
     Ok(())
 }
 

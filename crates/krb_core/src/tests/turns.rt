@@ -64,7 +64,8 @@ fn sender(alloc: Global, lane: u32) -> Result<Sending<Aes128Sealer>, Fail> {
     let sealer = sealer(alloc, mode_of(lane), 7)?;
     let mut sending = sending(alloc, sealer, &[], &[MICROS])?;
     for letter in LETTERS {
-        sending.texts.push(Vec::from_slice(alloc, &[letter])?)?;
+        let text = Vec::from_slice(alloc, &[letter])?;
+        sending.texts.push(Bytes::new(text))?;
     }
     sending.plan = plan(alloc, lane, 41)?;
     Ok(sending)

@@ -61,6 +61,7 @@ fn places(rt: HostRuntime) {
         (Place::At, "at"),
         (Place::Now, "now"),
         (Place::Texts, "texts"),
+        (Place::Batch, "batch"),
         (Place::Plan, "plan"),
         (Place::Frames, "frames"),
         (Place::UnknownKey, "unknown key"),

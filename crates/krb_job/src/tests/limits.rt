@@ -2,6 +2,7 @@
 
 use super::sender;
 use crate::{Command, Job, SenderJob, read_job};
+use krb_base::BATCH_LIMIT;
 use krb_der::Moment;
 use std::test::Fail;
 
@@ -29,6 +30,11 @@ fn key_of_16(sender: &SenderJob) -> Option<[u8; 16]> {
     }
 }
 
+/// How many full frames so many texts make, and how many texts a frame lacks to the limit.
+fn full_frames(sender: &SenderJob, texts: usize) -> (usize, usize) {
+    (texts / sender.batch, BATCH_LIMIT - sender.batch)
+}
+
 #[test]
 fn limits_are_kept(rt: HostRuntime) -> Result<(), Fail> {
     let text = sender(rt.alloc(), Command::Seal, &[], "")?;
@@ -36,6 +42,7 @@ fn limits_are_kept(rt: HostRuntime) -> Result<(), Fail> {
     assert_eq!(rt; first_now(&job).micros(), 0);
     let sender = &job.senders[0];
     assert_eq!(rt; first_at(sender).ok_or("a moment")?.micros(), 1_000_000);
+    assert_eq!(rt; full_frames(sender, 7), (7, 999));
     assert_eq!(rt; key_of_16(sender).ok_or("a key")?[15], 15);
     Ok(())
 }

@@ -6,7 +6,7 @@ use std::alloc::{AllocError, Global};
 use std::test::Fail;
 
 /// The keys in the order of their checks, each with a line that is good for `seal`, and a bad one.
-const LINES: [(Place, &str, &str); 17] = [
+const LINES: [(Place, &str, &str); 18] = [
     (Place::Etype, "etype = 17\n", "etype = 0\n"),
     (
         Place::Key,
@@ -33,6 +33,7 @@ const LINES: [(Place, &str, &str); 17] = [
     (Place::At, "at = [0]\n", "at = 0\n"),
     (Place::Now, "now = [0]\n", "now = 0\n"),
     (Place::Texts, "texts = []\n", "texts = 0\n"),
+    (Place::Batch, "batch = 2\n", "batch = 0\n"),
     (Place::Plan, "plan = []\n", "plan = 0\n"),
     (Place::Frames, "", "frames = []\n"),
     (Place::UnknownKey, "", "other = 0\n"),

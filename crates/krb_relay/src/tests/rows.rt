@@ -26,6 +26,25 @@ fn two_senders(rt: HostRuntime) -> Result<(), Fail> {
     Ok(())
 }
 
+/// Three texts of which two go together: the log has each text alone, and all three are sent.
+#[test]
+fn texts_that_go_together(rt: HostRuntime) -> Result<(), Fail> {
+    for capacity in [1, 64] {
+        let mut lanes = Lanes::new(rt.alloc());
+        lanes.add(rt.alloc(), true, Mode::Priv, 7, &[b"a", b"b", b"c"])?;
+        lanes.batch(2);
+        let Ok(report) = run(&rt, rt.alloc(), lanes, capacity, &NoGate) else {
+            return Err(Fail::from("a fault"));
+        };
+        let expected = [(0, "a"), (0, "b"), (0, "c"), (0, "closed")];
+        assert!(rt; is_log(&report.log, &expected));
+        assert_eq!(rt; report.sent.len(), 1);
+        assert_eq!(rt; (report.sent[0].k, report.sent[0].n), (3, 3));
+        assert_eq!(rt; report.sent[0].ending, Ending::Done);
+    }
+    Ok(())
+}
+
 /// The frames that a plan names, in order.
 fn frames(alloc: Global, numbers: &[usize]) -> Result<Vec<Emit>, Fail> {
     let mut plan = Vec::new(alloc);

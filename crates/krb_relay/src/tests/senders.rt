@@ -9,7 +9,7 @@ ghost use Rattle.krb_seal.specs.Session.{HasShortAddresses, IsShortAddress};
 use crate::{Fault, Gate, Report, relay};
 use krb_base::{Bytes, LAST_NUMBER, TEXT_LIMIT};
 use krb_der::{HostAddress, Moment};
-use krb_peers::{Emit, Receiver, Receiving, Sending};
+use krb_peers::{BATCH_LIMIT, Emit, Receiver, Receiving, Sending};
 use krb_seal::{Aes128Sealer, Aes256Sealer, Expect, Mode, Opener, SealError, Sealer, Session};
 use rand_chacha::ChaCha20Rng;
 use rand_core::SeedableRng;
@@ -130,15 +130,17 @@ impl Sealer for OddSealer {
     }
 }
 
-/// A sender with these texts and no plan, whose confounders come from the seed of zeros.
+/// A sender with these texts, each alone in its record, and no plan. Its confounders come from the
+/// seed of zeros.
 fn sending<S: Sealer>(alloc: Global, sealer: S, texts: &[&[u8]]) -> Result<Sending<S>, Fail> {
     let mut all = Vec::new(alloc);
     for text in texts {
-        all.push(Vec::from_slice(alloc, text)?)?;
+        all.push(Bytes::new(Vec::from_slice(alloc, text)?))?;
     }
     Ok(Sending {
         sealer,
         texts: all,
+        batch: 1,
         ats: vec![in alloc; moment()?]?,
         draws: ChaCha20Rng::from_seed([0; 32]),
         plan: None,
@@ -242,12 +244,19 @@ impl Lanes {
             last.plan = Some(plan);
         }
     }
+
+    /// Lets so many texts of the last sender go together.
+    pub(super) fn batch(&mut self, batch: usize) {
+        if let Some(last) = self.sendings.last_mut() {
+            last.batch = batch;
+        }
+    }
 }
 
-fn are_short(texts: &[Vec<u8>]) -> bool
-    ensures { result ≡ list_all (λ text. nat_le (length text.items) text_limit) texts.now }
+fn are_short(texts: &[Bytes]) -> bool
+    ensures { result ≡ list_all (λ text. nat_le (length text) text_limit) texts.now }
 {
-    texts.iter().all(|text| text.len() <= TEXT_LIMIT)
+    texts.iter().all(|text| text.as_slice().len() <= TEXT_LIMIT)
 }
 
 /// Asserts the limits of a sender.
@@ -255,6 +264,7 @@ fn assert_sender<S: Sealer>(rt: &impl Abort, sending: &Sending<S>)
     ensures { IsSender (source_of S.state sending.now) }
 {
     assert!(rt; are_short(sending.texts.as_slice()));
+    assert!(rt; sending.batch <= BATCH_LIMIT);
     assert!(rt; !sending.ats.is_empty());
     assert!(rt; sending.sealer.next() <= LAST_NUMBER);
 }

@@ -1,5 +1,6 @@
 //! Readers and writers over memory that fail at one of their calls: each command, from its word on,
-//! tells a read fault and writes nothing, or tells a write fault and has written a part of its text.
+//! tells a read fault and writes nothing, or tells a write fault and has written a part of its
+//! text.
 
 ghost use Rattle.std.specs.Prelude.{Some};
 

@@ -5,7 +5,7 @@ use Rattle.krb_core.proofs.tests.sealed.Goals as goal
 
 pub seal_all-requires : goal.seal_all-requires
 seal_all-requires g c = record {
-  texts = short_texts c.args.sending.now.texts.items (search rules);
+  limits = record { texts = short_texts c.args.sending.now.texts.items (search rules); batch = search rules };
   ats = search rules;
   next = search rules;
 }

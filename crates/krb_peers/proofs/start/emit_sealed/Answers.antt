@@ -15,4 +15,4 @@ returns-in-Ok-emit-clause-ok g c =
     wire_planned c.args.sending.plan c.in-Some.plan source refl frames (contents c.in-Ok-emit.wire.items) some sealed
     (rw (c.as_slice.ensures.value, c.as_slice-2.ensures.value) at c.in-Ok-emit.ensures.good)
     (rw (c.as_slice.ensures.value, c.as_slice-2.ensures.value) at c.in-Ok-emit.ensures.ok)
-    c.in-Ok-emit.ensures.bytes c.requires.texts
+    c.in-Ok-emit.ensures.bytes c.requires.limits

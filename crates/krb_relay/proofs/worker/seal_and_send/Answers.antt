@@ -1,12 +1,18 @@
 -- Frame after frame, each sent before the next is sealed.
-use Rattle.std.proofs.Common.{◌≡◌, ◌++◌, ◌∷◌, [], true, false, ap, sym, ◌∙◌, rules}
+use Rattle.std.proofs.Common.{◌≡◌, ◌+◌, ◌++◌, ◌∷◌, [], true, false, ap, sym, ◌∙◌, rules}
+use Rattle.krb_peers.specs.Sender.{texts_before}
 use Rattle.krb_peers.proofs.ListLemmas.{AllBytes-push}
 use Rattle.krb_relay.proofs.worker.seal_and_send.Goals as goal
+
+pub seal_one-requires-clause-passed : goal.seal_one-requires-clause-passed
+seal_one-requires-clause-passed g c =
+    c.loop-k.invariant.passed ∙ ap (λ s. texts_before c.loop-k.k s) (sym c.loop-k.invariant.sealed.state)
 
 pub loop-k-preserved : goal.loop-k-preserved
 loop-k-preserved g c =
     let sent : c.send.new.self.frames ≡ c.loop-k.tx.frames ++ c.in_ok-frame.frame.items ∷ [] = search rules in
     record {
+      passed = c.in_ok-frame.ensures.passed ∙ ap (λ s. texts_before (c.loop-k.k + 1) s) c.loop-k.invariant.sealed.state;
       sealed = rw sent (c.in_ok-frame.ensures.frames _ _ c.loop-k.invariant.sealed);
       bytes = rw sent (AllBytes-push _ _ c.loop-k.invariant.bytes c.in_ok-frame.ensures.bytes);
       none_if_wiped = λ wiped.

@@ -5,7 +5,10 @@ use Rattle.krb_relay_bench.proofs.lanes.is_sender.Goals as goal
 
 pub returns-then-not-is_empty : goal.returns-then-not-is_empty
 returns-then-not-is_empty g c = λ fits. record {
-  texts = short_texts c.args.sending.now.texts.items (search rules);
+  limits = record {
+    texts = short_texts c.args.sending.now.texts.items (search rules);
+    batch = search rules;
+  };
   ats = search rules;
   next = search rules;
 }

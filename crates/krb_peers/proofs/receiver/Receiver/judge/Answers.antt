@@ -8,7 +8,7 @@ use Rattle.krb_peers.specs.ReceiverState.{ReceiverState}
 use Rattle.krb_peers.proofs.NumberLemmas.{opens_in_range}
 use Rattle.krb_peers.proofs.ReceiverLemmas.{opened_is, refused_is, carried_is}
 use Rattle.krb_peers.proofs.receiver.Receiver.judge.Goals as goal
-use Rattle.krb_peers.proofs.receiver.Receiver.judge.Goals.{in-Text, in-Close}
+use Rattle.krb_peers.proofs.receiver.Receiver.judge.Goals.{in-Text, in-Batch, in-Close}
 
 pub returns-in_err-user_data-clause-verdict : goal.returns-in_err-user_data-clause-verdict
 returns-in_err-user_data-clause-verdict c =
@@ -29,6 +29,8 @@ returns-clause-verdict c =
     elim c.match-record.branch [
       | in-Text w ↦ rw (w.result-is, ← c.self.view_is)
           (carried_is receiver c.expected-number.result c.args.now c.args.frame.now user.items c.in-Ok.record _ live c.expected-number.ensures.number opened spelled w.in-Text.is)
+      | in-Batch w ↦ rw (w.result-is, ← c.self.view_is)
+          (carried_is receiver c.expected-number.result c.args.now c.args.frame.now user.items c.in-Ok.record _ live c.expected-number.ensures.number opened spelled w.in-Batch.is)
       | in-Close w ↦ rw (w.result-is, ← c.self.view_is)
           (carried_is receiver c.expected-number.result c.args.now c.args.frame.now user.items c.in-Ok.record _ live c.expected-number.ensures.number opened spelled w.in-Close.is)
     ]

@@ -1,15 +1,21 @@
 -- Frame after frame, and none under a wiped sealer.
-use Rattle.std.proofs.Common.{◌≡◌, ◌++◌, ◌∷◌, [], true, IsErr, ap, ◌∙◌, arith, rules}
+use Rattle.std.proofs.Common.{◌≡◌, ◌+◌, ◌++◌, ◌∷◌, [], true, IsErr, ap, sym, ◌∙◌, arith, rules}
 use Rattle.std.proofs.lemmas.List.{map-append}
+use Rattle.krb_peers.specs.Sender.{texts_before}
 use Rattle.krb_peers.specs.Sending.{source_of}
 use Rattle.krb_peers.proofs.ListLemmas.{AllBytes-push}
 use Rattle.krb_peers.proofs.SendingLemmas.{length-records}
 use Rattle.krb_peers.proofs.sending.Sending.seal_all.Goals as goal
 
+pub seal_record-requires-clause-passed : goal.seal_record-requires-clause-passed
+seal_record-requires-clause-passed g c =
+    c.loop-k.invariant.passed ∙ ap (λ s. texts_before c.loop-k.k s) (sym c.loop-k.invariant.sealed.state)
+
 pub loop-k-preserved : goal.loop-k-preserved
 loop-k-preserved g c =
     let pushed : c.push.new.self.items ≡ c.loop-k.frames.items ++ c.in_ok-frame.frame ∷ [] = search rules in
     record {
+      passed = c.in_ok-frame.ensures.passed ∙ ap (λ s. texts_before (c.loop-k.k + 1) s) c.loop-k.invariant.sealed.state;
       sealed = rw (pushed, map-append) (c.in_ok-frame.ensures.frames _ _ c.loop-k.invariant.sealed);
       bytes = rw (pushed, map-append) (AllBytes-push _ _ c.loop-k.invariant.bytes (rw c.as_slice.ensures.value at c.known_bytes.ensures));
       none_if_wiped = λ wiped.

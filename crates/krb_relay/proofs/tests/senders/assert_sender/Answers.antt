@@ -5,7 +5,10 @@ use Rattle.krb_relay.proofs.tests.senders.assert_sender.Goals as goal
 
 pub returns : goal.returns
 returns g c = record {
-  texts = short_texts c.args.sending.now.texts.items (search rules);
+  limits = record {
+    texts = short_texts c.args.sending.now.texts.items (search rules);
+    batch = search rules;
+  };
   ats = search rules;
   next = search rules;
 }

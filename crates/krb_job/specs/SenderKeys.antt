@@ -1,11 +1,11 @@
 -- One sender of a job: its keys in the order in which they are checked, unknown keys last.
 use Rattle.std.specs.Prelude.{ℕ, ℤ, pos, Bool, true, false, List, [], ◌∷◌, map, Option, None, Result, Ok, Err}
 use Rattle.toml.specs.Data.{Members}
-use Rattle.krb_base.specs.Limits.{last_number, skew_limit}
+use Rattle.krb_base.specs.Limits.{last_number, skew_limit, batch_limit}
 use Rattle.krb_der.specs.declared.address.HostAddress.{HostAddress}
 use Rattle.krb_seal.specs.declared.session.Mode.{Mode as ModeOf}
 use Rattle.krb_job.specs.declared.place.Place.{Place}
-use Rattle.krb_job.specs.declared.place.Place.TheVariants.{Etype, Key, Mode, First, From, To, WriteTo, RequireTo, ExpectTime, Skew, Seed, At, Now, Texts, Plan, Frames, UnknownKey}
+use Rattle.krb_job.specs.declared.place.Place.TheVariants.{Etype, Key, Mode, First, From, To, WriteTo, RequireTo, ExpectTime, Skew, Seed, At, Now, Texts, Batch, Plan, Frames, UnknownKey}
 use Rattle.krb_job.specs.declared.job.Command.{Command}
 use Rattle.krb_job.specs.declared.job.Command.TheVariants.{Seal, Open, Relay}
 use Rattle.krb_peers.specs.declared.plan.Emit.{Emit}
@@ -38,6 +38,7 @@ pub record Traffic : Type 0 where
   pub ats : List ℕ
   pub nows : List ℕ
   pub texts : List (List ℕ)
+  pub batch : ℕ
   pub plan : Option (List Emit)
   pub frames : List (List ℕ)
 
@@ -57,6 +58,7 @@ pub record Sender : Type 0 where
   pub ats : List ℕ
   pub nows : List ℕ
   pub texts : List (List ℕ)
+  pub batch : ℕ
   pub plan : Option (List Emit)
   pub frames : List (List ℕ)
 
@@ -95,13 +97,14 @@ traffic_of command ms = do
   ats ← only_if (seals command) [] At (needed At moments_of ms) ms
   nows ← needed Now moments_of ms
   texts ← only_if (seals command) [] Texts (needed Texts texts_of ms) ms
+  batch ← only_if (seals command) 1 Batch (optional 1 Batch (number_of 1 batch_limit) ms) ms
   plan ← only_if (seals command) None Plan (optional None Plan (some plan_of) ms) ms
   frames ← only_if (opens command) [] Frames (needed Frames frames_of ms) ms
-  Ok (record { seed = seed; ats = ats; nows = nows; texts = texts; plan = plan; frames = frames })
+  Ok (record { seed = seed; ats = ats; nows = nows; texts = texts; batch = batch; plan = plan; frames = frames })
 
 -- the keys that a sender may have
 abbrev pub sender_keys : List (List ℕ)
-sender_keys = map name_of (Etype ∷ Key ∷ Mode ∷ First ∷ From ∷ To ∷ WriteTo ∷ RequireTo ∷ ExpectTime ∷ Skew ∷ Seed ∷ At ∷ Now ∷ Texts ∷ Plan ∷ Frames ∷ [])
+sender_keys = map name_of (Etype ∷ Key ∷ Mode ∷ First ∷ From ∷ To ∷ WriteTo ∷ RequireTo ∷ ExpectTime ∷ Skew ∷ Seed ∷ At ∷ Now ∷ Texts ∷ Batch ∷ Plan ∷ Frames ∷ [])
 
 abbrev pub together : Protection → Parties → Traffic → Sender
 together p e t = record {
@@ -119,6 +122,7 @@ together p e t = record {
   ats = t.ats;
   nows = t.nows;
   texts = t.texts;
+  batch = t.batch;
   plan = t.plan;
   frames = t.frames;
 }
