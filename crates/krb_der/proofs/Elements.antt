@@ -118,7 +118,7 @@ pub record Tagged (tag : ℕ) (bytes : List ℕ) (x : List ℕ × List ℕ) : Ty
   pub content_fits : IsBytes x.0
   pub rest_fits : IsBytes x.1
 
-IsBytes-back : (a b : List ℕ) → IsBytes (a ++ b) → IsBytes b
+pub IsBytes-back : (a b : List ℕ) → IsBytes (a ++ b) → IsBytes b
 IsBytes-back [] b h = h
 IsBytes-back (x ∷ a) b h = IsBytes-back a b (IsBytes-rest x (a ++ b) h)
 

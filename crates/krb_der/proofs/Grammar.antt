@@ -22,7 +22,7 @@ use Rattle.krb_der.specs.Private.{encrypted_data, private_fields, private, IsPri
 use Rattle.krb_der.specs.Message.{message, IsMessage, SpellsWithin, Spells, SpellsPart, UniqueSpelling, Decodes}
 use Rattle.krb_base.specs.Limits.{frame_limit}
 use Rattle.krb_time.specs.Steps.{◌>>=◌}
-use Rattle.krb_der.specs.Reading.{alone, signed, int_of, as_int32, as_below, int32_of, below_of, int32_element_of, below_element_of, octets_of, typed_of, address_of, time_element_of, body_of, safe_of, encrypted_of, private_of, message_of, part_of, starts_with, tagged_at, Gives}
+use Rattle.krb_der.specs.Reading.{alone, signed, int_of, as_int32, as_below, int32_of, below_of, int32_element_of, below_element_of, octets_of, typed_of, address_of, time_element_of, behind_of, body_of, safe_of, encrypted_of, private_of, message_of, part_of, starts_with, tagged_at, Gives}
 use Rattle.krb_der.proofs.Numbers.{IsBytes}
 use Rattle.krb_time.proofs.Times.{time-found, time-again}
 use Rattle.krb_time.proofs.OptionSteps.{bind_some, provided, some_is}
@@ -85,7 +85,7 @@ integer_reads = in_tag 0x02 IsInt32 int_octets int32_of int32_reads
 natural_reads : (bound : ℕ) → bound ≤ 2 ^ 32 → Reads (λ n. n < bound) natural (below_element_of bound)
 natural_reads bound le = in_tag 0x02 (λ n. n < bound) (λ n. int_octets (pos n)) (below_of bound) (below_reads bound le)
 
-all_bytes : Reads (λ _. Unit {0}) (λ bytes. bytes) Some
+pub all_bytes : Reads (λ _. Unit {0}) (λ bytes. bytes) Some
 all_bytes = record { found = λ c v fits e. (tt, some_is c v e); again = λ v h lt. refl }
 
 octets_reads : Reads (λ _. Unit {0}) octets octets_of
@@ -155,7 +155,7 @@ micro_reads = record { found = micro-found; again = λ n h lt. below_micros.agai
 -- ---- the body
 
 pub body_reads : Reads IsBody body body_of
-unfolding body_of body
+unfolding body_of behind_of body
 body_reads =
     let K1 : List ℕ → Body → Type 0 = λ u v. Unit {0} × (v.user_data ≡ u) in
     let K2 : List ℕ → Option ℕ → Body → Type 0 = λ u t v. K1 u v × (v.time ≡ t) in

@@ -3,6 +3,7 @@ pub mod Elements
 pub mod Readers
 pub mod Times
 pub mod Grammar
+pub mod Places
 pub mod Lengths
 pub mod Writers
 pub mod Drafts

@@ -1,7 +1,7 @@
 -- Aids of the code, and no definitions of the standard: the value that bytes spell, read from left
 -- to right, if they spell one. Private functions alone cite this file; a law ties it to the
 -- grammar, and the contracts of `decode` and `decode_part` are in the words of Message.antt.
-use Rattle.std.specs.Prelude.{◌≡◌, ℕ, ◌+◌, ◌*◌, ◌^◌, Bool, true, false, ℤ, pos, negsuc, List, [], ◌∷◌, length, get_or, take, drop, Option, Some, None, Result, Ok, Err, nat_lt, nat_eq, if◌then◌else◌}
+use Rattle.std.specs.Prelude.{◌≡◌, ℕ, ◌+◌, ◌*◌, ◌^◌, Bool, true, false, ℤ, pos, negsuc, List, [], ◌∷◌, ◌++◌, length, get_or, take, drop, Option, Some, None, Result, Ok, Err, nat_lt, nat_eq, if◌then◌else◌}
 use Rattle.krb_time.specs.Moment.{last_usec}
 use Rattle.krb_time.specs.Reading.{time_of}
 use Rattle.krb_time.specs.Steps.{◌>>=◌}
@@ -9,6 +9,7 @@ use Rattle.krb_der.specs.declared.error.DerError.{DerError}
 use Rattle.krb_der.specs.declared.error.DerError.TheVariants as errors
 use Rattle.krb_der.specs.declared.address.HostAddress.{HostAddress}
 use Rattle.krb_der.specs.declared.body.Body.{Body}
+use Rattle.krb_der.specs.declared.body.Details.{Details}
 use Rattle.krb_der.specs.declared.safe.SafeMsg.{SafeMsg}
 use Rattle.krb_der.specs.declared.private.PrivMsg.{PrivMsg}
 use Rattle.krb_der.specs.declared.message.Message.{Message}
@@ -31,6 +32,10 @@ Gives view (Err e) read = Fails e read
 abbrev pub Takes : {X Y : Type 0} → (X → Y) → Result X DerError → List ℕ → Option (Y × List ℕ) → Type 0
 Takes view (Ok x) rest read = read ≡ Some (view x, rest)
 Takes view (Err e) rest read = Fails e read
+
+-- these bytes are the last of others
+abbrev pub EndsWith : List ℕ → List ℕ → Type 0
+EndsWith last bytes = (front : List ℕ) × (bytes ≡ front ++ last)
 
 -- nothing is left
 abbrev pub ended : {A : Type 0} → A → List ℕ → Option A
@@ -137,18 +142,26 @@ address_of content = do
 abbrev pub time_element_of : List ℕ → Option ℕ
 time_element_of bytes = alone generalized_time_tag time_of bytes
 
-unfoldable pub body_of : List ℕ → Option Body
-body_of bytes = do
-  fields ← alone sequence_tag Some bytes
-  d ← tagged_at (context 0) fields
-  user_data ← octets_of d.0
-  time ← optional_at (context 1) time_element_of d.1
+abbrev pub body_with : List ℕ → Details → Body
+body_with user_data d = record { user_data = user_data; time = d.time; usec = d.usec; seq = d.seq; s_addr = d.s_addr; r_addr = d.r_addr }
+
+-- the fields behind the data
+unfoldable pub behind_of : List ℕ → List ℕ → Option Body
+behind_of user_data bytes = do
+  time ← optional_at (context 1) time_element_of bytes
   usec ← optional_at (context 2) (below_element_of (last_usec + 1)) time.1
   seq ← optional_at (context 3) (below_element_of (2 ^ 32)) usec.1
   s ← tagged_at (context 4) seq.1
   s_addr ← address_of s.0
   r_addr ← optional_at (context 5) address_of s.1
   ended (record { user_data = user_data; time = time.0; usec = usec.0; seq = seq.0; s_addr = s_addr; r_addr = r_addr.0 }) r_addr.1
+
+unfoldable pub body_of : List ℕ → Option Body
+body_of bytes = do
+  fields ← alone sequence_tag Some bytes
+  d ← tagged_at (context 0) fields
+  user_data ← octets_of d.0
+  behind_of user_data d.1
 
 unfoldable pub safe_of : List ℕ → Option SafeMsg
 safe_of bytes = do

@@ -1,6 +1,4 @@
-ghost use Rattle.std.specs.Prelude.{◌≡◌, ◌↔◌, ◌<◌, ◌≤◌, ◌+◌, ◌*◌, ◌++◌, length, Err, Some, IfOk, OnOk, OnErr, IfSome, IsTrue, MatchResult};
-ghost use Rattle.krb_der.specs.declared.body.Body.{Body as BodyValue};
-ghost use Rattle.krb_der.specs.declared.error.DerError.TheVariants.{Memory};
+ghost use Rattle.std.specs.Prelude.{◌≡◌, ◌↔◌, ◌<◌, ◌≤◌, ◌+◌, ◌*◌, ◌++◌, ℕ, List, length, Some, IfOk, IfErr, OnOk, IfSome, IsTrue};
 ghost use Rattle.krb_base.specs.Limits.{frame_limit};
 ghost use Rattle.krb_der.specs.Element.{joined, optional};
 ghost use Rattle.krb_time.specs.Moment.{secs_of, usec_of};
@@ -8,9 +6,8 @@ ghost use Rattle.krb_time.specs.Time.{IsSecond};
 ghost use Rattle.krb_time.specs.Reading.{time_of};
 ghost use Rattle.krb_der.specs.KerberosTime;
 ghost use Rattle.krb_der.specs.Address.{host_address, IsAddress};
-ghost use Rattle.krb_der.specs.Body.{InRange, IsBody, body, body_fields, part};
-ghost use Rattle.krb_der.specs.Message.{Decodes, Encodes, SpellsPart};
-ghost use Rattle.krb_der.specs.Reading.{Gives, Takes, time_element_of, optional_at, address_of, body_of, part_of};
+ghost use Rattle.krb_der.specs.Body.{InRange, IsBody, body, body_fields};
+ghost use Rattle.krb_der.specs.Reading.{EndsWith, Fails, Gives, Takes, time_element_of, optional_at, address_of, behind_of, body_of, body_with};
 ghost use Rattle.krb_der.specs.Writing.{IsShort, IsShortBody, before_data, fields_behind_data};
 
 use crate::address::{HostAddress, known_address, read_address};
@@ -18,7 +15,7 @@ use crate::error::DerError;
 use crate::integer::{
     UINT32_LIMIT, known_uint32, natural_field_size, read_optional_natural, write_natural_field,
 };
-use crate::reader::{Reader, only_element, read_octets};
+use crate::reader::{Reader, only_element};
 use crate::tag;
 use crate::typed::{typed_size, write_typed_field};
 use crate::writer::{Writer, octets_field_size, size_around};
@@ -105,26 +102,72 @@ fn read_optional_address(
     Ok(Some(address))
 }
 
-/// The body that the bytes spell.
-#[tactic(auto, unfolding(crate::specs::Reading::body_of))]
-pub fn read_body(alloc: Global, bytes: &[u8]) -> Result<Body, DerError>
-    ensures { Gives (λ x. x) result (body_of bytes.now) }
+/// What a body carries behind its data.
+#[derive(Drop)]
+pub struct Details {
+    time: Option<u64>,
+    usec: Option<u32>,
+    seq: Option<u32>,
+    s_addr: HostAddress,
+    r_addr: Option<HostAddress>,
+}
+
+impl Details {
+    /// The body with these data.
+    pub fn with(self, user_data: Bytes) -> Body
+        ensures { result ≡ body_with user_data self }
+    {
+        Body {
+            user_data,
+            time: self.time,
+            usec: self.usec,
+            seq: self.seq,
+            s_addr: self.s_addr,
+            r_addr: self.r_addr,
+        }
+    }
+}
+
+/// The data of the body that the bytes spell, and the fields behind them, which are the last of
+/// the bytes.
+#[tactic(auto, unfolding(crate::specs::Reading::body_of, crate::specs::Reading::octets_of))]
+pub fn split_data(bytes: &[u8]) -> Result<(&[u8], &[u8]), DerError>
+    ensures fields { IfOk result (λ x. body_of bytes.now ≡ behind_of x.0.now x.1.now) }
+    ensures refused { IfErr result (λ e. Fails e (body_of bytes.now)) }
+    ensures place { IfOk result (λ x. EndsWith (x.0.now ++ x.1.now) bytes.now) }
 {
     let mut fields = Reader::inside(tag::SEQUENCE, bytes)?;
-    let user_data = read_octets(alloc, fields.element(tag::FIELD_0)?)?;
+    let data = only_element(tag::OCTET_STRING, fields.element(tag::FIELD_0)?)?;
+    Ok((data, fields.rest()))
+}
+
+/// The fields behind the data.
+#[tactic(auto, unfolding(crate::specs::Reading::behind_of))]
+pub fn read_details(alloc: Global, bytes: &[u8]) -> Result<Details, DerError>
+    ensures { (user_data : List ℕ) → Gives (body_with user_data) result (behind_of user_data bytes.now) }
+{
+    let mut fields = Reader::new(bytes);
     let time = read_optional_time(&mut fields, tag::FIELD_1)?;
     let usec = read_optional_natural(&mut fields, tag::FIELD_2, MICROSECONDS_END)?;
     let seq = read_optional_natural(&mut fields, tag::FIELD_3, UINT32_LIMIT)?;
     let s_addr = read_address(alloc, fields.element(tag::FIELD_4)?)?;
     let r_addr = read_optional_address(alloc, &mut fields, tag::FIELD_5)?;
-    fields.finish(Body {
-        user_data,
+    fields.finish(Details {
         time,
         usec,
         seq,
         s_addr,
         r_addr,
     })
+}
+
+/// The body that the bytes spell.
+pub fn read_body(alloc: Global, bytes: &[u8]) -> Result<Body, DerError>
+    ensures { Gives (λ x. x) result (body_of bytes.now) }
+{
+    let (data, behind) = split_data(bytes)?;
+    let user_data = Bytes::new(Vec::from_slice(alloc, data)?);
+    Ok(read_details(alloc, behind)?.with(user_data))
 }
 
 /// Whether the bytes are no more than a message may have.
@@ -357,94 +400,4 @@ impl<'a> BodyRef<'a> {
         out.put(self.user_data)?;
         self.write_behind_data(out)
     }
-}
-
-impl<'a> BodyRef<'a> {
-    /// How many bytes its spelling as an encrypted part has.
-    fn part_size(&self) -> usize
-        requires short { IsShortBody self.now }
-        requires time { IfSome self.now.time IsSecond }
-        ensures { result ≡ length (part self.now) }
-    {
-        size_around(self.size())
-    }
-
-    /// The same, where it is within the limit.
-    pub(crate) fn limited_part_size(&self) -> Result<usize, DerError>
-        requires { InRange self.now }
-        ensures value { IfOk result (λ size. size ≡ length (part self.now)) }
-        ensures limit { IfOk result (λ size. size ≤ frame_limit) }
-        ensures short { OnOk result (IsShortBody self.now) }
-        ensures body { OnOk result (IsBody self.now) }
-        ensures too_long { OnErr result (frame_limit < length (part self.now)) }
-        ensures err { OnErr result (result ≡ Err DerError.TooLong) }
-    {
-        self.known();
-        if !self.is_short() {
-            return Err(DerError::TooLong);
-        }
-        let size = self.part_size();
-        if size > FRAME_LIMIT {
-            return Err(DerError::TooLong);
-        }
-        Ok(size)
-    }
-
-    /// Adds its spelling as an encrypted part.
-    #[tactic(auto, unfolding(crate::specs::Element::tagged))]
-    pub(crate) fn write_part(&self, out: &mut Writer) -> Result<(), AllocError>
-        requires short { IsShortBody self.now }
-        requires time { IfSome self.now.time IsSecond }
-        ensures { OnOk result (out.new ≡ out.old ++ part self.now) }
-    {
-        out.begin(tag::ENC_KRB_PRIV_PART, self.size())?;
-        self.write(out)
-    }
-
-    /// Its spelling as an encrypted part, in a `Vec` with room for so many bytes.
-    fn part_spelling(&self, alloc: Global, room: usize) -> Result<Vec<u8>, AllocError>
-        requires short { IsShortBody self.now }
-        requires time { IfSome self.now.time IsSecond }
-        ensures { IfOk result (λ v. v.items ≡ part self.now) }
-    {
-        let mut out = Writer::with_capacity(alloc, room)?;
-        self.write_part(&mut out)?;
-        Ok(out.into_vec())
-    }
-}
-
-/// The spelling of the body as the encrypted part of KRB-PRIV (RFC 4120 section 5.7.1).
-///
-/// [`DerError::TooLong`] is answered exactly where it has over 1,005,000 bytes, before any memory
-/// is taken.
-pub fn encode_part(alloc: Global, b: &Body) -> Result<Vec<u8>, DerError>
-    requires { InRange b.now }
-    ensures { Encodes SpellsPart part b.now result }
-{
-    let b = b.borrowed();
-    let size = b.limited_part_size()?;
-    Ok(b.part_spelling(alloc, size)?)
-}
-
-#[tactic(auto, unfolding(crate::specs::Reading::part_of))]
-fn read_part(alloc: Global, bytes: &[u8]) -> Result<Body, DerError>
-    ensures { Gives (λ x. x) result (part_of bytes.now) }
-{
-    read_body(alloc, only_element(tag::ENC_KRB_PRIV_PART, bytes)?)
-}
-
-/// The body that the bytes spell as the encrypted part of KRB-PRIV.
-///
-/// [`DerError::TooLong`] is answered exactly where there are over 1,005,000 bytes, and
-/// [`DerError::Malformed`] exactly where there are no more and they spell nothing. A body that is
-/// read is in range.
-pub fn decode_part(alloc: Global, bytes: &[u8]) -> Result<Body, DerError>
-    ensures answer { Decodes SpellsPart result bytes.now }
-    ensures only { (b : BodyValue) → SpellsPart b bytes.now
-        → MatchResult result (λ v. v ≡ b) (λ e. e ≡ Memory) }
-{
-    if bytes.len() > FRAME_LIMIT {
-        return Err(DerError::TooLong);
-    }
-    read_part(alloc, bytes)
 }

@@ -21,6 +21,7 @@ mod integer;
 mod laws;
 mod length;
 mod message;
+mod part;
 mod private;
 mod reader;
 mod safe;
@@ -29,7 +30,7 @@ mod typed;
 mod writer;
 
 pub use address::HostAddress;
-pub use body::{Body, BodyRef, decode_part, encode_part};
+pub use body::{Body, BodyRef};
 pub use error::DerError;
 pub use krb_base::Bytes;
 pub use krb_time::{
@@ -38,6 +39,7 @@ pub use krb_time::{
 };
 pub use laws::{earlier_spellings, size_laws, unique_spelling};
 pub use message::{Message, decode};
+pub use part::{decode_part, decode_part_from, encode_part};
 pub use private::{Draft, PrivMsg, draft_priv, encode_priv};
 pub use safe::{Covered, SafeMsg, SafeRef, encode_safe, safe_input, safe_input_around};
 

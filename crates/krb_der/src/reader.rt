@@ -57,6 +57,13 @@ impl<'a> Reader<'a> {
         Ok(content)
     }
 
+    /// What is left.
+    pub fn rest(&self) -> &'a [u8]
+        ensures { result.now ≡ self.now }
+    {
+        self.rest
+    }
+
     /// The value, where nothing is left.
     pub fn finish<T: Drop>(&self, value: T) -> Result<T, DerError>
         ensures { Gives (λ x. x) result (ended value self.now) }

@@ -111,14 +111,13 @@ was_deciphered key cipher text tag Then result e (inl h) = inl h
 was_deciphered key cipher text tag Then result e (inr h) = inr (text, tag, e, h)
 
 -- the code of a text was the right one, and its part was opened
-pub text_opened : (o : OpenerState) (number now : ℕ) (text tag code inside : List ℕ) (equal : Bool) (result : Result (Vec ℕ) Refusal)
-    → (IsTrue equal ↔ (tag ≡ code)) → equal ≡ true → code ≡ tag_of o.key text → inside ≡ drop 16 text
-    → OrMemory (Read SpellsPart inside (OpensPart o.expect number now)) result → OrMemory (OpensText o number now text tag) result
-text_opened o number now text tag code inside equal result h holds is part (inl p) = inl p
-text_opened o number now text tag code inside equal result h holds is part (inr p) =
+pub text_opened : (o : OpenerState) (number now : ℕ) (text tag code : List ℕ) (equal : Bool) (result : Result (Vec ℕ) Refusal)
+    → (IsTrue equal ↔ (tag ≡ code)) → equal ≡ true → code ≡ tag_of o.key text
+    → OrMemory (Read SpellsPart (drop 16 text) (OpensPart o.expect number now)) result → OrMemory (OpensText o number now text tag) result
+text_opened o number now text tag code equal result h holds is (inl p) = inl p
+text_opened o number now text tag code equal result h holds is (inr p) =
     let same : bytes_eq tag (tag_of o.key text) ≡ true = sym (ap (bytes_eq tag) is) ∙ eq_is equal tag code h ∙ holds in
-    inr (outcome_given (text_checks o.key text tag) (Read SpellsPart (drop 16 text) (OpensPart o.expect number now)) (seen result) (met_code tag (tag_of o.key text) BadIntegrity same)
-    (subst (λ (z : List ℕ). Read SpellsPart z (OpensPart o.expect number now) (seen result)) part p))
+    inr (outcome_given (text_checks o.key text tag) (Read SpellsPart (drop 16 text) (OpensPart o.expect number now)) (seen result) (met_code tag (tag_of o.key text) BadIntegrity same) p)
 
 -- a message was read, and opened
 pub frame_opened : (o : OpenerState) (number now at : ℕ) (bytes : List ℕ) (m : Message) (result : Result (Vec ℕ) Refusal) → at ≡ now → Spells m bytes

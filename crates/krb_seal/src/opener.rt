@@ -1,6 +1,6 @@
 //! What opens the frames of a session.
 
-ghost use Rattle.std.specs.Prelude.{◌≡◌, ◌≤◌, pos, length, replicate, Err};
+ghost use Rattle.std.specs.Prelude.{◌≡◌, ◌≤◌, pos, drop, length, replicate, Err};
 ghost use Rattle.krb_aes.specs.Keys.{AreZero};
 ghost use Rattle.krb_base.specs.Limits.{frame_limit};
 ghost use Rattle.krb_der.specs.declared.message.Message.TheVariants as messages;
@@ -18,7 +18,7 @@ use crate::limit::within_limit;
 use crate::refusal::Refusal;
 use crate::session::Expect;
 use krb_aes::CipherKey;
-use krb_der::{Body, DerError, Message, Moment, PrivMsg, SafeMsg, decode, decode_part};
+use krb_der::{Body, DerError, Message, Moment, PrivMsg, SafeMsg, decode, decode_part_from};
 use std::alloc::Global;
 use std::marker::Model;
 use std::mem;
@@ -160,17 +160,20 @@ impl Opener {
         Ok(user_data.into_vec())
     }
 
-    /// What an encrypted part gives.
+    /// What the encrypted part behind the confounder of a text gives. The data take the text's own
+    /// block.
     fn open_part(
         &self,
         alloc: Global,
-        part: &[u8],
+        text: Vec<u8>,
         number: u64,
         now: u64,
     ) -> Result<Vec<u8>, Refusal>
-        ensures { OrMemory (Read SpellsPart part.now (OpensPart self.now.expect number now)) result }
+        requires { 16 ≤ length text.items }
+        ensures { OrMemory (Read SpellsPart (drop 16 text.items)
+            (OpensPart self.now.expect number now)) result }
     {
-        let body = match decode_part(alloc, part) {
+        let body = match decode_part_from(alloc, text, CONFOUNDER_SIZE) {
             Ok(body) => body,
             Err(DerError::Memory) => return Err(Refusal::Memory),
             Err(DerError::TooLong | DerError::Malformed) => return Err(Refusal::Malformed),
@@ -196,6 +199,6 @@ impl Opener {
         if !self.keys.is_tag(&tag, &text) {
             return Err(Refusal::BadIntegrity);
         }
-        self.open_part(alloc, &text[CONFOUNDER_SIZE..], number, now)
+        self.open_part(alloc, text, number, now)
     }
 }

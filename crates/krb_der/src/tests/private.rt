@@ -2,7 +2,7 @@ use super::{
     PART, PRIV, PRIV_WITH_KVNO, SAFE, carries, decode_priv, decode_safe, is_written, priv_spelling,
     repeated, set_text, size,
 };
-use crate::{Body, DerError, HostAddress, decode_part, encode_part};
+use crate::{Body, DerError, HostAddress, decode_part, decode_part_from, encode_part};
 use std::alloc::Global;
 
 /// Whether the bytes spell a message of protocol version 5, kind 21 and encryption type 17 with
@@ -55,9 +55,22 @@ fn is_sender(alloc: Global, address: &HostAddress, bytes: &[u8]) -> Result<bool,
     Ok(address.same(&m.body.s_addr))
 }
 
-/// Whether the part is read with text, time, number and sender of `SAFE`, and no receiver.
-fn is_part_read(alloc: Global, part: &[u8]) -> Result<bool, DerError> {
-    let body = decode_part(alloc, part)?;
+/// What `decode_part_from` gives for the part behind these bytes.
+fn part_behind(alloc: Global, before: &[u8], part: &[u8]) -> Result<Body, DerError> {
+    let mut bytes = Vec::from_slice(alloc, before)?;
+    bytes.extend_from_slice(part)?;
+    decode_part_from(alloc, bytes, before.len())
+}
+
+/// How many bytes its text has.
+fn size_behind(alloc: Global, before: &[u8], part: &[u8]) -> Result<usize, DerError> {
+    let body = part_behind(alloc, before, part)?;
+    Ok(body.user_data.as_slice().len())
+}
+
+/// Whether this is the body of `SAFE`: its text, time, number and sender, and no receiver.
+fn is_part_read(alloc: Global, read: Result<Body, DerError>) -> Result<bool, DerError> {
+    let body = read?;
     let time = (Some(1_700_000_000), Some(5));
     Ok(
         carries(&body, &[0x44, 0x68, 0x69], time, Some(7))
@@ -69,7 +82,16 @@ fn is_part_read(alloc: Global, part: &[u8]) -> Result<bool, DerError> {
 #[test]
 fn part_is_the_body_of_the_message(rt: HostRuntime) {
     assert!(rt; is_written(part_of(rt.alloc(), &SAFE), &PART));
-    assert!(rt; is_part_read(rt.alloc(), &PART) == Ok(true));
+    assert!(rt; is_part_read(rt.alloc(), decode_part(rt.alloc(), &PART)) == Ok(true));
+}
+
+#[test]
+fn part_is_read_behind_other_bytes(rt: HostRuntime) {
+    let read = part_behind(rt.alloc(), &[0x5C; 16], &PART);
+    assert!(rt; is_part_read(rt.alloc(), read) == Ok(true));
+    let read = part_behind(rt.alloc(), &[], &PART);
+    assert!(rt; is_part_read(rt.alloc(), read) == Ok(true));
+    assert!(rt; size_behind(rt.alloc(), &[0x5C; 16], &PRIV) == Err(DerError::Malformed));
 }
 
 /// What `encode_priv` answers for a cipher of so many bytes: how many the message has, or the

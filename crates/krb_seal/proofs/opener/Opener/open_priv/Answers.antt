@@ -1,6 +1,5 @@
-use Rattle.std.proofs.Common.{◌≡◌, ◌↔◌, inr, drop, ap, subst, refl, ◌∙◌}
+use Rattle.std.proofs.Common.{◌≡◌, ◌↔◌, inr, subst, refl}
 use Rattle.std.specs.Prelude.{IsTrue}
-use Rattle.std.proofs.lemmas.List.{take_rest}
 use Rattle.krb_seal.specs.Keys.{tag_of}
 use Rattle.krb_seal.specs.Opens.{OpenerState, Decrypt, IsEncryption, OpensText, priv_header}
 use Rattle.krb_seal.specs.Unseals.{first_unmet, refusal_of}
@@ -24,4 +23,4 @@ returns c =
     let fits = subst (λ (z : OpenerState). IsTrue c.is_tag.result ↔ (tag ≡ tag_of z.key text)) c.self.view_is (rw c.deref.ensures.value at c.is_tag.ensures) in
     all_passed (priv_header o.etype o.expect c.args.m) (Decrypt o.key c.args.m.cipher opens) c.check_priv_header.result _ c.open_part.result (inr h) c.in_ok-check_priv_header.was
     (was_deciphered o.key c.args.m.cipher text tag opens c.open_part.result enc
-    (text_opened o c.args.number c.args.now text tag (tag_of o.key text) _ c.is_tag.result c.open_part.result fits c.if-not-is_tag.false refl (take_rest c.deref-2.result.now 16 ∙ ap (drop 16) c.deref-2.ensures.value) c.open_part.ensures))
+    (text_opened o c.args.number c.args.now text tag (tag_of o.key text) c.is_tag.result c.open_part.result fits c.if-not-is_tag.false refl c.open_part.ensures))

@@ -1,6 +1,6 @@
 use Rattle.std.proofs.Common.{arith}
 use Rattle.krb_der.proofs.Grammar.{part_decodes, part_decided}
-use Rattle.krb_der.proofs.body.decode_part.Goals as goal
+use Rattle.krb_der.proofs.part.decode_part.Goals as goal
 
 pub returns : goal.returns
 returns c =

@@ -1,0 +1,12 @@
+use Rattle.std.proofs.Common.{◌≡◌, ◌++◌, ◌∙◌, List, ℕ, Some, sym, ap, subst, drop, length, take, arith}
+use Rattle.std.proofs.lemmas.List.{take_rest}
+use Rattle.krb_der.specs.Reading.{EndsWith, part_of, body_with}
+use Rattle.krb_der.proofs.Places.{data-place, ends-dropped}
+use Rattle.krb_der.proofs.part.take_part.Goals as goal
+
+pub returns : goal.returns
+returns c =
+    let spelt = take_rest c.deref.result.now c.args.start ∙ ap (drop c.args.start) c.deref.ensures.value in
+    let place = ends-dropped c.args.start (c.in_ok-data.data.now ++ c.in_ok-data.behind.now) c.args.bytes.items (subst (EndsWith (c.in_ok-data.data.now ++ c.in_ok-data.behind.now)) spelt c.in_ok-data.ensures.place) in
+    let moved = c.new.ensures ∙ c.cut_out.ensures ∙ data-place c.args.bytes.items c.in_ok-data.data.now c.in_ok-data.behind.now c.len.result (c.len.ensures ∙ c.args.bytes.ok.0) place in
+    ap part_of (sym spelt) ∙ c.in_ok-data.ensures.fields ∙ c.in_ok-details.ensures c.in_ok-data.data.now ∙ ap Some (sym (c.with.ensures ∙ ap (λ (z : List ℕ). body_with z c.in_ok-details.details) moved))

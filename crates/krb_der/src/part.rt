@@ -1,0 +1,169 @@
+//! The encrypted part of KRB-PRIV (RFC 4120 section 5.7.1).
+
+ghost use Rattle.std.specs.Prelude.{◌≡◌, ◌<◌, ◌≤◌, ◌++◌, ◌-◌, ℕ, length, get_or, take, drop, Err, IfOk, IfErr, IfSome, OnOk, OnErr, MatchResult};
+ghost use Rattle.krb_base.specs.Limits.{frame_limit};
+ghost use Rattle.krb_time.specs.Time.{IsSecond};
+ghost use Rattle.krb_der.specs.declared.body.Body.{Body as BodyValue};
+ghost use Rattle.krb_der.specs.declared.error.DerError.TheVariants.{Memory};
+ghost use Rattle.krb_der.specs.Body.{InRange, IsBody, part};
+ghost use Rattle.krb_der.specs.Message.{Decodes, Encodes, SpellsPart};
+ghost use Rattle.krb_der.specs.Reading.{EndsWith, Fails, Gives, behind_of, part_of};
+ghost use Rattle.krb_der.specs.Writing.{IsShortBody};
+
+use crate::body::{Body, BodyRef, read_details, split_data};
+use crate::error::DerError;
+use crate::reader::only_element;
+use crate::tag;
+use crate::writer::{Writer, size_around};
+use krb_base::{Bytes, FRAME_LIMIT};
+use std::alloc::{AllocError, Global};
+use std::collections::VecDeque;
+
+impl<'a> BodyRef<'a> {
+    /// How many bytes its spelling as an encrypted part has.
+    fn part_size(&self) -> usize
+        requires short { IsShortBody self.now }
+        requires time { IfSome self.now.time IsSecond }
+        ensures { result ≡ length (part self.now) }
+    {
+        size_around(self.size())
+    }
+
+    /// The same, where it is within the limit.
+    pub(crate) fn limited_part_size(&self) -> Result<usize, DerError>
+        requires { InRange self.now }
+        ensures value { IfOk result (λ size. size ≡ length (part self.now)) }
+        ensures limit { IfOk result (λ size. size ≤ frame_limit) }
+        ensures short { OnOk result (IsShortBody self.now) }
+        ensures body { OnOk result (IsBody self.now) }
+        ensures too_long { OnErr result (frame_limit < length (part self.now)) }
+        ensures err { OnErr result (result ≡ Err DerError.TooLong) }
+    {
+        self.known();
+        if !self.is_short() {
+            return Err(DerError::TooLong);
+        }
+        let size = self.part_size();
+        if size > FRAME_LIMIT {
+            return Err(DerError::TooLong);
+        }
+        Ok(size)
+    }
+
+    /// Adds its spelling as an encrypted part.
+    #[tactic(auto, unfolding(crate::specs::Element::tagged))]
+    pub(crate) fn write_part(&self, out: &mut Writer) -> Result<(), AllocError>
+        requires short { IsShortBody self.now }
+        requires time { IfSome self.now.time IsSecond }
+        ensures { OnOk result (out.new ≡ out.old ++ part self.now) }
+    {
+        out.begin(tag::ENC_KRB_PRIV_PART, self.size())?;
+        self.write(out)
+    }
+
+    /// Its spelling as an encrypted part, in a `Vec` with room for so many bytes.
+    fn part_spelling(&self, alloc: Global, room: usize) -> Result<Vec<u8>, AllocError>
+        requires short { IsShortBody self.now }
+        requires time { IfSome self.now.time IsSecond }
+        ensures { IfOk result (λ v. v.items ≡ part self.now) }
+    {
+        let mut out = Writer::with_capacity(alloc, room)?;
+        self.write_part(&mut out)?;
+        Ok(out.into_vec())
+    }
+}
+
+/// The spelling of the body as the encrypted part of KRB-PRIV (RFC 4120 section 5.7.1).
+///
+/// [`DerError::TooLong`] is answered exactly where it has over 1,005,000 bytes, before any memory
+/// is taken.
+pub fn encode_part(alloc: Global, b: &Body) -> Result<Vec<u8>, DerError>
+    requires { InRange b.now }
+    ensures { Encodes SpellsPart part b.now result }
+{
+    let b = b.borrowed();
+    let size = b.limited_part_size()?;
+    Ok(b.part_spelling(alloc, size)?)
+}
+
+/// The data of the body that the bytes spell as an encrypted part, and the fields behind them,
+/// which are the last of the bytes.
+#[tactic(auto, unfolding(crate::specs::Reading::part_of))]
+fn split_part(bytes: &[u8]) -> Result<(&[u8], &[u8]), DerError>
+    ensures fields { IfOk result (λ x. part_of bytes.now ≡ behind_of x.0.now x.1.now) }
+    ensures refused { IfErr result (λ e. Fails e (part_of bytes.now)) }
+    ensures place { IfOk result (λ x. EndsWith (x.0.now ++ x.1.now) bytes.now) }
+{
+    split_data(only_element(tag::ENC_KRB_PRIV_PART, bytes)?)
+}
+
+fn read_part(alloc: Global, bytes: &[u8]) -> Result<Body, DerError>
+    ensures { Gives (λ x. x) result (part_of bytes.now) }
+{
+    let (data, behind) = split_part(bytes)?;
+    let user_data = Bytes::new(Vec::from_slice(alloc, data)?);
+    Ok(read_details(alloc, behind)?.with(user_data))
+}
+
+/// The body that the bytes spell as the encrypted part of KRB-PRIV.
+///
+/// [`DerError::TooLong`] is answered exactly where there are over 1,005,000 bytes, and
+/// [`DerError::Malformed`] exactly where there are no more and they spell nothing. A body that is
+/// read is in range.
+pub fn decode_part(alloc: Global, bytes: &[u8]) -> Result<Body, DerError>
+    ensures answer { Decodes SpellsPart result bytes.now }
+    ensures only { (b : BodyValue) → SpellsPart b bytes.now
+        → MatchResult result (λ v. v ≡ b) (λ e. e ≡ Memory) }
+{
+    if bytes.len() > FRAME_LIMIT {
+        return Err(DerError::TooLong);
+    }
+    read_part(alloc, bytes)
+}
+
+/// The bytes from `start` up to `end`, in their own block: a deque drops what stands before them
+/// and moves them to the front at once.
+fn cut_out(bytes: Vec<u8>, start: usize, end: usize) -> Vec<u8>
+    requires order { start ≤ end }
+    requires within { end ≤ length bytes.items }
+    ensures { result.items ≡ take (end - start) (drop start bytes.items) }
+{
+    let mut bytes = VecDeque::from(bytes);
+    bytes.truncate(end);
+    bytes.drain(..start);
+    Vec::from(bytes)
+}
+
+/// The same as `read_part` of the bytes from `start` on; its data keep the block of the bytes.
+fn take_part(alloc: Global, bytes: Vec<u8>, start: usize) -> Result<Body, DerError>
+    requires { start ≤ length bytes.items }
+    ensures { Gives (λ x. x) result (part_of (drop start bytes.items)) }
+{
+    let (data, behind) = split_part(&bytes[start..])?;
+    let details = read_details(alloc, behind)?;
+    let end = bytes.len() - behind.len();
+    let data = end - data.len();
+    Ok(details.with(Bytes::new(cut_out(bytes, data, end))))
+}
+
+// A law: the elements of a slice of bytes are bytes, as their type says. It does nothing when it
+// runs.
+fn known_bytes(bytes: &[u8])
+    ensures { (i : ℕ) → get_or bytes.now i 0 < 256 }
+{}
+
+/// The body that the bytes from `start` on spell as the encrypted part of KRB-PRIV, as
+/// [`decode_part`] gives it. Its data stay in the block of the bytes: they are moved to its front,
+/// and no memory is taken for them.
+pub fn decode_part_from(alloc: Global, bytes: Vec<u8>, start: usize) -> Result<Body, DerError>
+    requires { start ≤ length bytes.items }
+    ensures answer { Decodes SpellsPart result (drop start bytes.items) }
+    ensures only { (b : BodyValue) → SpellsPart b (drop start bytes.items)
+        → MatchResult result (λ v. v ≡ b) (λ e. e ≡ Memory) }
+{
+    known_bytes(&bytes);
+    if bytes.len() - start > FRAME_LIMIT {
+        return Err(DerError::TooLong);
+    }
+    take_part(alloc, bytes, start)
+}
