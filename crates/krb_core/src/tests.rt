@@ -138,11 +138,12 @@ fn is_answer(answer: &Result<Delivery, Refusal>, expected: &str) -> bool {
 
 /// Whether the texts are these letters, one each.
 fn are_letters(texts: &[Bytes], letters: &str) -> bool {
+    for (text, letter) in texts.iter().zip(letters.as_bytes()) {
+        if text.as_slice() != [*letter].as_slice() {
+            return false;
+        }
+    }
     texts.len() == letters.len()
-        && texts
-            .iter()
-            .zip(letters.as_bytes())
-            .all(|(text, letter)| text.as_slice() == [*letter].as_slice())
 }
 
 /// Whether a receiver answers so to these frames, one after another, all at one moment.

@@ -18,17 +18,19 @@ fn texts_are_sealed_together(rt: HostRuntime) -> Result<(), Fail> {
     Ok(())
 }
 
-#[test]
-fn batch_is_opened_text_by_text(rt: HostRuntime) -> Result<(), Fail> {
-    let frames = [BATCH, BATCH, TEXT_BEHIND, CLOSE_BEHIND];
-    let text = "lane 0 text 61
+const FRAMES: [&str; 4] = [BATCH, BATCH, TEXT_BEHIND, CLOSE_BEHIND];
+
+const OPENED: &str = "lane 0 text 61
 lane 0 text 62
 lane 0 refused 42 BADORDER
 lane 0 text 63
 lane 0 closed
 lane 0 CLOSED
 ";
-    assert!(rt; opens(&rt, &[], &frames, 0, text)?);
+
+#[test]
+fn batch_is_opened_text_by_text(rt: HostRuntime) -> Result<(), Fail> {
+    assert!(rt; opens(&rt, &[], &FRAMES, 0, OPENED)?);
     Ok(())
 }
 
@@ -47,6 +49,20 @@ lane 0 closed
 lane 0 sent 3 of 3 DONE CLOSED
 ";
 
+/// The same texts, with the batch twice on the wire.
+const REPEATED_BATCH: [(&str, &str); 3] = [
+    ("texts", "['61', '62', '63']"),
+    ("batch", "2"),
+    ("plan", "['0', '0', '1', '2']"),
+];
+
+/// The same texts, from the number before the last on.
+const NEAR_THE_LAST: [(&str, &str); 3] = [
+    ("texts", "['61', '62', '63']"),
+    ("batch", "2"),
+    ("first", "4294967294"),
+];
+
 const BEFORE_LAST: &str = "lane 0 text 61
 lane 0 text 62
 lane 0 closed
@@ -55,12 +71,19 @@ lane 0 sent 2 of 3 LAST_NUMBER CLOSED
 
 #[test]
 fn batches_are_relayed(rt: HostRuntime) -> Result<(), Fail> {
-    let [texts, batch] = BY_TWOS;
     assert!(rt; relays(&rt, &BY_TWOS, 0, DELIVERED)?);
-    let plan = ("plan", "['0', '0', '1', '2']");
-    assert!(rt; relays(&rt, &[texts, batch, plan], 0, REPEATED)?);
-    let first = ("first", "4294967294");
-    assert!(rt; relays(&rt, &[texts, batch, first], 0, BEFORE_LAST)?);
+    Ok(())
+}
+
+#[test]
+fn repeated_batch_is_refused_once(rt: HostRuntime) -> Result<(), Fail> {
+    assert!(rt; relays(&rt, &REPEATED_BATCH, 0, REPEATED)?);
+    Ok(())
+}
+
+#[test]
+fn batch_before_the_last_number_is_relayed(rt: HostRuntime) -> Result<(), Fail> {
+    assert!(rt; relays(&rt, &NEAR_THE_LAST, 0, BEFORE_LAST)?);
     Ok(())
 }
 

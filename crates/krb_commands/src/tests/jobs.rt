@@ -158,21 +158,40 @@ fn relay_one<W: Write, G: Gate + Sync>(
     assert!(rt; 0 < capacity && capacity <= 64);
     let alloc = rt.alloc();
     let session = session_of(alloc, &sender)?;
-    let receivings = vec![in alloc; receiving_of(alloc, &sender)?]?;
     match key_of(&sender) {
         SessionKey::Aes128(mut key) => {
             let sealer = Aes128Sealer::new(&mut key, session);
-            let sendings = vec![in alloc; sending_of(sender, sealer)]?;
-            relay_job(rt, alloc, sendings, receivings, capacity, writer, gate)
+            relay_alone(rt, alloc, sender, sealer, capacity, writer, gate)
         }
         SessionKey::Aes256(mut key) => {
             let sealer = Aes256Sealer::new(&mut key, session);
-            let sendings = vec![in alloc; sending_of(sender, sealer)]?;
-            relay_job(rt, alloc, sendings, receivings, capacity, writer, gate)
+            relay_alone(rt, alloc, sender, sealer, capacity, writer, gate)
         }
     }
 }
 
+/// Relays the texts of one sender with its sealer.
+fn relay_alone<T: Threads + Wait + Sync, S: Sealer + Send, W: Write, G: Gate + Sync>(
+    rt: &T,
+    alloc: Global,
+    sender: SenderJob,
+    sealer: S,
+    capacity: usize,
+    writer: &mut W,
+    gate: &G,
+) -> Result<u8, Fault>
+    requires seed { IsSome sender.seed }
+    requires next { (S.state sealer).next ≤ last_number }
+    requires live { (S.state sealer).wiped ≡ false }
+    requires room { (0 < capacity) × (capacity ≤ 64) }
+{
+    let mut sendings = Vec::new(alloc);
+    let mut receivings = Vec::new(alloc);
+    push_lane(alloc, &mut sendings, &mut receivings, sender, sealer)?;
+    relay_job(rt, alloc, sendings, receivings, capacity, writer, gate)
+}
+
+/// The first of two senders has encryption type 17.
 fn relay_two<W: Write, G: Gate + Sync>(
     rt: &(impl Threads + Wait + Sync + Abort + Alloc<A = Global>),
     first: SenderJob,
@@ -184,11 +203,11 @@ fn relay_two<W: Write, G: Gate + Sync>(
     assert!(rt; first.seed.is_some() && second.seed.is_some());
     assert!(rt; 0 < capacity && capacity <= 64);
     let alloc = rt.alloc();
-    let session = session_of(alloc, &first)?;
-    let sealer: Box<dyn Sealer + Send> = match key_of(&first) {
-        SessionKey::Aes128(mut key) => Box::new(alloc, Aes128Sealer::new(&mut key, session))?,
-        SessionKey::Aes256(mut key) => Box::new(alloc, Aes256Sealer::new(&mut key, session))?,
+    let SessionKey::Aes128(mut key) = key_of(&first) else {
+        return Err(Fault::Stopped);
     };
+    let session = session_of(alloc, &first)?;
+    let sealer: Box<dyn Sealer + Send> = Box::new(alloc, Aes128Sealer::new(&mut key, session))?;
     let session = session_of(alloc, &second)?;
     let other: Box<dyn Sealer + Send> = match key_of(&second) {
         SessionKey::Aes128(mut key) => Box::new(alloc, Aes128Sealer::new(&mut key, session))?,

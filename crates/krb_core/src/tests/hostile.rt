@@ -6,7 +6,7 @@ use super::frames::{PRIV_CLOSE, PRIV_TEXT, SAFE_TEXT};
 use super::{MICROS, answers, moment, receiver};
 use crate::Receiver;
 use krb_base::Bytes;
-use krb_der::{Message, PrivMsg, decode, encode_priv};
+use krb_der::{Message, decode, encode_priv};
 use krb_seal::Mode;
 use std::alloc::Global;
 use std::test::Fail;
@@ -92,30 +92,21 @@ fn each_flipped_bit_of_priv_is_refused(rt: HostRuntime) -> Result<(), Fail> {
     Ok(())
 }
 
+/// The first so many of the bytes.
+fn front(alloc: Global, bytes: &[u8], size: usize) -> Result<Bytes, Fail> {
+    let front = bytes.get(..size).ok_or("too few bytes")?;
+    Ok(Bytes::new(Vec::from_slice(alloc, front)?))
+}
+
 /// The message of `PRIV_TEXT`, spelt with this key version and this many bytes of its cipher.
 fn respelt(alloc: Global, kvno: Option<u32>, size: usize) -> Result<Vec<u8>, Fail> {
-    match decode(alloc, &PRIV_TEXT)? {
-        Message::Priv(message) => {
-            let cut = message
-                .cipher
-                .as_slice()
-                .get(..size)
-                .ok_or("no such cipher")?;
-            let cipher = Bytes::new(Vec::from_slice(alloc, cut)?);
-            let spelling = encode_priv(
-                alloc,
-                &PrivMsg {
-                    pvno: message.pvno,
-                    msg_type: message.msg_type,
-                    etype: message.etype,
-                    kvno,
-                    cipher,
-                },
-            )?;
-            Ok(spelling)
-        }
-        Message::Safe(_) => Ok(Vec::new(alloc)),
-    }
+    let mut message = match decode(alloc, &PRIV_TEXT)? {
+        Message::Priv(message) => message,
+        Message::Safe(_) => return Ok(Vec::new(alloc)),
+    };
+    message.kvno = kvno;
+    message.cipher = front(alloc, message.cipher.as_slice(), size)?;
+    Ok(encode_priv(alloc, &message)?)
 }
 
 #[test]

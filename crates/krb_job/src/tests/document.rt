@@ -2,6 +2,7 @@
 
 use super::{COMMANDS, error_of, sender};
 use crate::{BadInput, Command, JobError, Place, read_job};
+use std::alloc::{AllocError, Global};
 use std::test::Fail;
 
 #[test]
@@ -23,6 +24,14 @@ fn no_documents(rt: HostRuntime) -> Result<(), Fail> {
     Ok(())
 }
 
+/// Why a document that begins so is no job.
+fn error_at_top(alloc: Global, line: &str) -> Result<Option<JobError>, AllocError> {
+    let mut text = String::from_str(alloc, line)?;
+    let sender = sender(alloc, Command::Open, &[], "")?;
+    text.push_str(sender.as_str())?;
+    Ok(error_of(alloc, text.as_str(), Command::Open))
+}
+
 #[test]
 fn capacities(rt: HostRuntime) -> Result<(), Fail> {
     let bad = Some(JobError::Bad(BadInput::Capacity));
@@ -40,13 +49,7 @@ fn capacities(rt: HostRuntime) -> Result<(), Fail> {
         ("capacity = [1]\n", bad),
     ];
     for (line, error) in table {
-        let sender = sender(rt.alloc(), Command::Open, &[], "")?;
-        let text = format!(in rt.alloc(); "{line}{sender}")?;
-        assert_eq!(rt;
-            error_of(rt.alloc(), text.as_str(), Command::Open),
-            error,
-            "at {line}"
-        );
+        assert_eq!(rt; error_at_top(rt.alloc(), line)?, error, "at {line}");
     }
     Ok(())
 }

@@ -1,9 +1,10 @@
 //! Whole jobs, field by field.
 
 use super::sender;
-use crate::{Command, Place, read_job};
+use crate::{Command, Job, Place, read_job};
 use krb_peers::Emit;
 use krb_seal::Mode;
+use std::alloc::Global;
 use std::test::Fail;
 
 #[test]
@@ -60,23 +61,34 @@ fn traffic_of_seal(rt: HostRuntime) -> Result<(), Fail> {
     Ok(())
 }
 
-#[test]
-fn job_of_open(rt: HostRuntime) -> Result<(), Fail> {
+/// A job of `open` at the ends of its ranges.
+fn opened(alloc: Global) -> Result<Job, Fail> {
     let line = "mode = \"priv\"\nfirst = 4294967295\nexpect_time = false\n";
     let keys = [Place::Mode, Place::First];
-    let sender = sender(rt.alloc(), Command::Open, keys.as_slice(), line)?;
-    let text = format!(in rt.alloc(); "capacity = 64\n{sender}")?;
-    let job = read_job(rt.alloc(), text.as_bytes(), Command::Open)?;
+    let sender = sender(alloc, Command::Open, keys.as_slice(), line)?;
+    let text = format!(in alloc; "capacity = 64\n{sender}")?;
+    Ok(read_job(alloc, text.as_bytes(), Command::Open)?)
+}
+
+#[test]
+fn job_of_open(rt: HostRuntime) -> Result<(), Fail> {
+    let job = opened(rt.alloc())?;
     assert_eq!(rt; job.capacity, 64);
     let sender = &job.senders[0];
     assert_eq!(rt; sender.mode, Mode::Priv);
     assert_eq!(rt; sender.first, 4_294_967_295);
     assert!(rt; !sender.write_to && !sender.require_to && !sender.expect_time);
+    Ok(())
+}
+
+#[test]
+fn traffic_of_open(rt: HostRuntime) -> Result<(), Fail> {
+    let job = opened(rt.alloc())?;
+    let sender = &job.senders[0];
     assert!(rt; sender.seed.is_none() && sender.plan.is_none());
-    assert_eq!(rt; sender.ats.len(), 0);
+    assert!(rt; sender.ats.is_empty() && sender.texts.is_empty());
     assert_eq!(rt; sender.nows.len(), 2);
     assert_eq!(rt; sender.nows[1].micros(), 253_402_300_799_999_999);
-    assert_eq!(rt; sender.texts.len(), 0);
     assert_eq!(rt; sender.frames.len(), 1);
     Ok(())
 }
