@@ -113,61 +113,49 @@ impl From<JobError> for Fault {
 #[cfg(test)]
 mod tests {
     use super::*;
-    use std::alloc::Global;
-
-    const PLAN: BadInput = BadInput::InSender {
-        sender: 1,
-        place: Place::Plan,
-    };
-
-    const FAULTS: [(Fault, &str, u8); 9] = [
-        (Fault::TooLong, "krbrelay: bad input: input", 2),
-        (
-            Fault::BadInput(BadInput::Capacity),
-            "krbrelay: bad input: capacity",
-            2,
-        ),
-        (
-            Fault::BadInput(BadInput::Sender),
-            "krbrelay: bad input: sender",
-            2,
-        ),
-        (
-            Fault::BadInput(BadInput::UnknownKey),
-            "krbrelay: bad input: unknown key",
-            2,
-        ),
-        (
-            Fault::BadInput(PLAN),
-            "krbrelay: bad input: sender 1: plan",
-            2,
-        ),
-        (Fault::Stopped, "krbrelay: out of memory", 4),
-        (Fault::Thread, "krbrelay: thread fault", 4),
-        (Fault::Read, "krbrelay: read fault", 4),
-        (Fault::Write, "krbrelay: write fault", 4),
-    ];
-
-    /// Whether the fault has this line and this status.
-    fn tells(alloc: Global, fault: Fault, line: &str, status: u8) -> bool {
-        match format!(in alloc; "{fault}") {
-            Ok(text) => text.as_str() == line && fault.status() == status,
-            Err(_) => false,
-        }
-    }
+    use std::test::Fail;
 
     #[test]
-    fn each_fault_has_its_line_and_status(rt: HostRuntime) {
-        for (fault, line, status) in FAULTS {
-            assert!(rt; tells(rt.alloc(), fault, line, status), "{line}");
-        }
-    }
-
-    #[test]
-    fn fault_of_a_job_has_its_line_and_status(rt: HostRuntime) {
+    fn each_fault_has_its_line_and_status(rt: HostRuntime) -> Result<(), Fail> {
+        let plan = BadInput::InSender {
+            sender: 1,
+            place: Place::Plan,
+        };
         let toml = Fault::from(JobError::Bad(BadInput::Toml));
-        assert!(rt; tells(rt.alloc(), toml, "krbrelay: bad input: toml", 2));
-        let memory = Fault::from(JobError::Memory);
-        assert!(rt; tells(rt.alloc(), memory, "krbrelay: out of memory", 4));
+        let faults = [
+            (Fault::TooLong, "krbrelay: bad input: input", 2),
+            (toml, "krbrelay: bad input: toml", 2),
+            (
+                Fault::BadInput(BadInput::Capacity),
+                "krbrelay: bad input: capacity",
+                2,
+            ),
+            (
+                Fault::BadInput(BadInput::Sender),
+                "krbrelay: bad input: sender",
+                2,
+            ),
+            (
+                Fault::BadInput(BadInput::UnknownKey),
+                "krbrelay: bad input: unknown key",
+                2,
+            ),
+            (
+                Fault::BadInput(plan),
+                "krbrelay: bad input: sender 1: plan",
+                2,
+            ),
+            (Fault::from(JobError::Memory), "krbrelay: out of memory", 4),
+            (Fault::Stopped, "krbrelay: out of memory", 4),
+            (Fault::Thread, "krbrelay: thread fault", 4),
+            (Fault::Read, "krbrelay: read fault", 4),
+            (Fault::Write, "krbrelay: write fault", 4),
+        ];
+        for (fault, line, status) in faults {
+            let text = format!(in rt.alloc(); "{fault}")?;
+            assert_eq!(rt; text.as_str(), line);
+            assert_eq!(rt; fault.status(), status);
+        }
+        Ok(())
     }
 }

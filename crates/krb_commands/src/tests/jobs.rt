@@ -191,7 +191,6 @@ fn relay_alone<T: Threads + Wait + Sync, S: Sealer + Send, W: Write, G: Gate + S
     relay_job(rt, alloc, sendings, receivings, capacity, writer, gate)
 }
 
-/// The first of two senders has encryption type 17.
 fn relay_two<W: Write, G: Gate + Sync>(
     rt: &(impl Threads + Wait + Sync + Abort + Alloc<A = Global>),
     first: SenderJob,
@@ -203,11 +202,11 @@ fn relay_two<W: Write, G: Gate + Sync>(
     assert!(rt; first.seed.is_some() && second.seed.is_some());
     assert!(rt; 0 < capacity && capacity <= 64);
     let alloc = rt.alloc();
-    let SessionKey::Aes128(mut key) = key_of(&first) else {
-        return Err(Fault::Stopped);
-    };
     let session = session_of(alloc, &first)?;
-    let sealer: Box<dyn Sealer + Send> = Box::new(alloc, Aes128Sealer::new(&mut key, session))?;
+    let sealer: Box<dyn Sealer + Send> = match key_of(&first) {
+        SessionKey::Aes128(mut key) => Box::new(alloc, Aes128Sealer::new(&mut key, session))?,
+        SessionKey::Aes256(mut key) => Box::new(alloc, Aes256Sealer::new(&mut key, session))?,
+    };
     let session = session_of(alloc, &second)?;
     let other: Box<dyn Sealer + Send> = match key_of(&second) {
         SessionKey::Aes128(mut key) => Box::new(alloc, Aes128Sealer::new(&mut key, session))?,
