@@ -15,14 +15,12 @@ use std::process::ExitCode;
 use std::time::Instant;
 use std::{env, io};
 
-/// How many messages of so many bytes go through in one run: so many that all but the shortest
-/// runs take 1 to 2 million bytes, since what disturbs a run spares the short ones.
+/// How many messages of so many bytes go through in one run.
 fn times(size: usize) -> u32 {
     match size {
         0..=1_000 => 4_000,
         1_001..=10_000 => 1_000,
-        10_001..=100_000 => 25,
-        _ => 2,
+        _ => 25,
     }
 }
 
