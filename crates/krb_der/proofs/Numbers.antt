@@ -1,9 +1,9 @@
 -- Whole numbers as bytes, the most significant first.
-use Rattle.std.proofs.Common.{◌≡◌, ℕ, zero, suc, ◌+◌, ◌-◌, ◌*◌, ◌/◌, ◌%◌, ◌^◌, ◌<◌, ◌≤◌, List, [], ◌∷◌, length, get_or, take, drop, refl, ap, subst, ◌∙◌, arith, inl, inr, nat_lt, if◌then◌else◌, lit<, lit≤}
-use Rattle.std.proofs.Math.Nat.{pow-le-pow_right, pow-succ', mod-lt, mod-eq_of_lt, mul-add-mod_self_right, mul-le-mul_right, div-lt_iff_lt-mul, one-le-pow}
+use Rattle.std.proofs.Common.{◌≡◌, ℕ, zero, suc, ◌+◌, ◌-◌, ◌*◌, ◌/◌, ◌%◌, ◌^◌, ◌<◌, ◌≤◌, List, [], ◌∷◌, length, get_or, take, drop, refl, ap, subst, ◌∙◌, arith, inl, inr, nat_lt, if◌then◌else◌, lit<, lit≤, sym}
+use Rattle.std.proofs.Math.Nat.{pow-le-pow_right, pow-succ', mod-lt, mod-eq_of_lt, mul-add-mod_self_right, mul-le-mul_right, mul-add, div-lt_iff_lt-mul, one-le-pow}
 use Rattle.std.proofs.lemmas.Nat.{div-mul-add, div-add-mod'}
 use Rattle.std.proofs.lemmas.Bool.{cases_lt, lt-ltb, le-ltb}
-use Rattle.std.proofs.lemmas.List.{drop-map, length-map, get_or-drop, get_or-take, get_or_past, length-take}
+use Rattle.std.proofs.lemmas.List.{drop-map, length-map, get_or-drop, get_or-take, get_or_past, length-take, length-take-le}
 use Rattle.krb_der.specs.Length.{big_endian}
 use Rattle.krb_der.specs.Reading.{be_value}
 use Rattle.krb_der.specs.Integer.{width, complement}
@@ -42,6 +42,23 @@ be_value-below (b ∷ bs) h =
     let high : b * 256 ^ length bs ≤ 255 * 256 ^ length bs = mul-le-mul_right (256 ^ length bs) (omega (arith, h 0)) in
     rw (pow-succ' 256 (length bs)) (omega arith)
 
+-- an octet more at the end
+pub be_value-next : (bs : List ℕ) (i : ℕ) → i < length bs → be_value (take (suc i) bs) ≡ be_value (take i bs) * 256 + get_or bs i 0
+be_value-next [] i lt = absurd (omega arith)
+be_value-next (b ∷ bs) zero lt = omega arith
+be_value-next (b ∷ bs) (suc i) lt =
+    let long : length (take (suc i) bs) ≡ suc i = length-take-le (suc i) bs (omega arith) in
+    let short : length (take i bs) ≡ i = length-take-le i bs (omega arith) in
+    rw (long, short, pow-succ' 256 i, be_value-next bs i (omega arith)) (omega arith)
+
+-- no more than four of five octets make a number of four
+pub be_value-four : (bs : List ℕ) (i : ℕ) → IsBytes bs → length bs ≤ 5 → i < length bs → be_value (take i bs) < 256 ^ 4
+be_value-four bs i h five lt =
+    let below = be_value-below (take i bs) (IsBytes-take i bs h) in
+    let short : length (take i bs) ≡ i = length-take-le i bs (omega arith) in
+    let most : 256 ^ i ≤ 256 ^ 4 = pow-le-pow_right (lit< tt) {i = i} {j = 4} (omega arith) in
+    omega (arith, subst (λ (n : ℕ). be_value (take i bs) < 256 ^ n) short below, most)
+
 pub be_value-again : (k n : ℕ) → n < 256 ^ k → be_value (big_endian k n) ≡ n
 be_value-again zero n lt = omega arith
 be_value-again (suc k) n lt =
@@ -75,6 +92,16 @@ complement-twice (b ∷ bs) h =
 pub IsBytes-complement : (bs : List ℕ) → IsBytes (complement bs)
 IsBytes-complement [] i = lit< tt
 IsBytes-complement (b ∷ bs) i = IsBytes-cons (255 - b) (complement bs) (omega arith) (IsBytes-complement bs) i
+
+-- the complements of octets are what is left to the most that they can be
+pub be_value-complement : (bs : List ℕ) → IsBytes bs → be_value (complement bs) + be_value bs + 1 ≡ 256 ^ length bs
+be_value-complement [] h = refl
+be_value-complement (b ∷ bs) h =
+    let p : ℕ = 256 ^ length bs in
+    let rest = be_value-complement bs (IsBytes-rest b bs h) in
+    let whole : (255 - b) + b ≡ 255 = omega (arith, h 0) in
+    let both : p * 255 ≡ p * (255 - b) + p * b = ap (λ (z : ℕ). p * z) (sym whole) ∙ mul-add p (255 - b) b in
+    rw (length-complement bs, pow-succ' 256 (length bs)) (omega (arith, rest, both))
 
 -- ---- widths
 

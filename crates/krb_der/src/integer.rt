@@ -39,14 +39,8 @@ fn number_of_complement(octets: &[u8]) -> u64
     requires { length octets.now ≤ 5 }
     ensures { result ≡ be_value (complement octets.now) }
 {
-    match octets {
-        [] => 0,
-        [a] => be_number(&[255 - *a]),
-        [a, b] => be_number(&[255 - *a, 255 - *b]),
-        [a, b, c] => be_number(&[255 - *a, 255 - *b, 255 - *c]),
-        [a, b, c, d] => be_number(&[255 - *a, 255 - *b, 255 - *c, 255 - *d]),
-        [a, b, c, d, e, ..] => be_number(&[255 - *a, 255 - *b, 255 - *c, 255 - *d, 255 - *e]),
-    }
+    let end = 0x100u64.pow(octets.len() as u32);
+    end - 1 - be_number(octets)
 }
 
 /// Whether the number is negative, and n where it is n or -(n + 1).

@@ -12,25 +12,11 @@ pub fn be_number(octets: &[u8]) -> u64
     requires { length octets.now ≤ 5 }
     ensures { result ≡ be_value octets.now }
 {
-    match octets {
-        [] => 0,
-        [a] => u64::from(*a),
-        [a, b] => u64::from(*a) * 0x100 + u64::from(*b),
-        [a, b, c] => u64::from(*a) * 0x1_0000 + u64::from(*b) * 0x100 + u64::from(*c),
-        [a, b, c, d] => {
-            u64::from(*a) * 0x100_0000
-                + u64::from(*b) * 0x1_0000
-                + u64::from(*c) * 0x100
-                + u64::from(*d)
-        }
-        [a, b, c, d, e, ..] => {
-            u64::from(*a) * 0x1_0000_0000
-                + u64::from(*b) * 0x100_0000
-                + u64::from(*c) * 0x1_0000
-                + u64::from(*d) * 0x100
-                + u64::from(*e)
-        }
+    let mut number = 0;
+    for octet in octets {
+        number = number * 0x100 + u64::from(*octet);
     }
+    number
 }
 
 /// A length of `count` octets that no shorter form has, and what follows it.
