@@ -57,7 +57,8 @@ module _ {F : Type 0} where
   pub after_impossible : (lane : Lane F) (e : Event F) → is_possible lane e ≡ false → after_event lane e ≡ lane
   after_impossible lane e off = ap (λ (b : Bool). cond b (moved lane e) lane) off
 
-  -- what holds of the lane and of what the event moves, if it is possible, holds of what the event leaves
+  -- what holds of the lane and of what the event moves, if it is possible, holds of what the event
+  -- leaves
   by_possible : (P : Lane F → Type 0) (lane : Lane F) (e : Event F) (b : Bool) → is_possible lane e ≡ b → P lane → (is_possible lane e ≡ true → P (moved lane e)) → P (cond b (moved lane e) lane)
   by_possible P lane e true is was may = may is
   by_possible P lane e false is was may = was

@@ -34,7 +34,8 @@ module _ {F : Type 0} where
   frames (Frame f ∷ items) = f ∷ frames items
   frames (End ∷ items) = frames items
 
-  -- a Send is possible where the queue is below the capacity and End was not sent, a Take where something is queued
+  -- a Send is possible where the queue is below the capacity and End was not sent, a Take where
+  -- something is queued
   abbrev pub is_possible : Lane F → Event F → Bool
   is_possible lane (Send item) = nat_lt (length lane.queue) lane.capacity && not (has_end lane.sent)
   is_possible lane Take = nat_lt 0 (length lane.queue)
@@ -68,7 +69,8 @@ module _ {F : Type 0} where
   IsEndLast (Frame f ∷ items) = IsEndLast items
   IsEndLast (End ∷ items) = items ≡ []
 
-  -- the state of a lane: what was sent is what was got and then what is queued, which is within the capacity
+  -- the state of a lane: what was sent is what was got and then what is queued, which is within the
+  -- capacity
   pub record IsState (lane : Lane F) : Type 0 where
     pub linked : lane.sent ≡ lane.got ++ lane.queue
     pub within : length lane.queue ≤ lane.capacity

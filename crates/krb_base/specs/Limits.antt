@@ -1,4 +1,5 @@
--- The limits of this project's profile. No other definition holds these numbers. The first five count bytes.
+-- The limits of this project's profile. No other definition holds these numbers. The first five
+-- count bytes.
 use Rattle.std.specs.Prelude.{ℕ, ◌+◌}
 
 -- a text

@@ -1,4 +1,5 @@
--- Reading a batch, as a function: the law `batch_laws` says that it gives the one batch that bytes are of.
+-- Reading a batch, as a function: the law `batch_laws` says that it gives the one batch that bytes
+-- are of.
 use Rattle.std.specs.Prelude.{ℕ, zero, suc, Bool, nat_le, ◌&&◌, List, [], ◌∷◌, length, take, drop, Option, Some, None, if◌then◌else◌}
 use Rattle.std.specs.Int.{w32, from_be_bytes}
 use Rattle.std.specs.Str.{bytes_eq}

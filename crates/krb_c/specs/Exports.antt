@@ -23,7 +23,8 @@ abbrev pub IsNext : Option SealerState → ℕ → Type 0
 IsNext None n = ⊥
 IsNext (Some s) n = s.next ≡ n
 
--- What a handle of an opener holds: nothing, or an opener, of which nothing is left once it was wiped.
+-- What a handle of an opener holds: nothing, or an opener, of which nothing is left once it was
+-- wiped.
 abbrev pub HeldOpener : Type 0
 HeldOpener = Option (Option OpenerState)
 

@@ -12,7 +12,8 @@ use Rattle.krb_commands.specs.Show.{AreReadings, Shows, ShowsPrefix, ShowsLine, 
 use Rattle.krb_commands.proofs.OutputLemmas.{AppendsPrefix-after, AppendsPrefix-none}
 use Rattle.krb_commands.proofs.Readings.{reading_of, readings_of}
 
--- the lines up to `rest` are printed, and `all` says whether each of them spelt a message: whatever the readings of the rest are, they complete those of the input
+-- the lines up to `rest` are printed, and `all` says whether each of them spelt a message: whatever
+-- the readings of the rest are, they complete those of the input
 pub record Printed (old new : Option (List ℕ)) (input rest : List ℕ) (all : Bool) : Type 0 where
   pub done : List ℕ
   pub written : Appends old new done

@@ -79,8 +79,8 @@ source_told sender = source_in sender (sealer_of sender)
 abbrev pub lane_told : Sender → Option Ends
 lane_told sender = ends_in sender (sealer_of sender)
 
--- The ends of lanes that may begin: each sender keeps its limits and none was wiped, each receiver has
--- a moment, and there are as many of both.
+-- The ends of lanes that may begin: each sender keeps its limits and none was wiped, each receiver
+-- has a moment, and there are as many of both.
 pub record AreReady {S : Type 0} (state : S → SealerState) (sendings : List (Sending S)) (receivings : List Receiving) : Type 0 where
   pub same : length sendings ≡ length receivings
   pub senders : All (λ sending. IsSender (source_of state sending)) sendings

@@ -67,7 +67,8 @@ is_closed_state status.Live = false
 abbrev pub state_by : Bool → Status
 state_by closed = if closed then status.Closed else status.Truncated
 
--- how each lane ended, from a lane on: how much its sender sealed, and whether its close was accepted
+-- how each lane ended, from a lane on: how much its sender sealed, and whether its close was
+-- accepted
 abbrev pub end_line : ℕ → Sent → Status → List ℕ
 end_line lane sent state =
     codes "lane " ++ decimal lane ++ codes " " ++ sent_text sent ++ codes " " ++ state_name state ++ codes "\n"

@@ -18,26 +18,29 @@ abbrev pub relayed_status : List Ends → LogState → ℕ
 relayed_status lanes log = status_by (are_closed 0 (sents_of lanes) log)
 
 -- The log has the verdicts on all that the wires carry, in rounds, every lane has ended, and the
--- headline holds of each. That log and how much each sender sealed are printed, and this is the status.
+-- headline holds of each. That log and how much each sender sealed are printed, and this is the
+-- status.
 abbrev pub PrintsRelayed : List Ends → Option (List ℕ) → Option (List ℕ) → ℕ → Type 0
 PrintsRelayed lanes old new status =
     (log : LogState) × IsWhole lanes log (sents_of lanes) × Appends old new (relayed_text lanes log) × (status ≡ relayed_status lanes log)
 
--- What becomes of the frames that were taken until the run stopped is printed, and the headline holds of each lane.
+-- What becomes of the frames that were taken until the run stopped is printed, and the headline
+-- holds of each lane.
 abbrev pub PrintsStopped : List Ends → Option (List ℕ) → Option (List ℕ) → Type 0
 PrintsStopped lanes old new =
     (log : LogState) × IsRelayed lanes (unended log) × Appends old new (entry_lines log.entries)
 
--- A prefix of what is printed of all, or of the lines of the first entries alone, or nothing. The first
--- entries are what becomes of the frames that were taken of each lane, and the headline holds of each.
+-- A prefix of what is printed of all, or of the lines of the first entries alone, or nothing. The
+-- first entries are what becomes of the frames that were taken of each lane, and the headline holds
+-- of each.
 abbrev pub PrintsRelayedPrefix : List Ends → Option (List ℕ) → Option (List ℕ) → Type 0
 PrintsRelayedPrefix lanes old new =
     Keeps old new
     ⊎ (((log : LogState) × IsWhole lanes log (sents_of lanes) × AppendsPrefix old new (relayed_text lanes log))
     ⊎ ((log : LogState) × IsRelayed lanes (unended log) × AppendsPrefix old new (entry_lines log.entries)))
 
--- The plan of this lane names what the frames of its sender don't have, and all lanes before it have a
--- wire.
+-- The plan of this lane names what the frames of its sender don't have, and all lanes before it
+-- have a wire.
 pub record HasBadPlanFirst (lanes : List Ends) (lane : ℕ) : Type 0 where
   pub ends : Ends
   pub there : slice_get lanes lane ≡ Some ends

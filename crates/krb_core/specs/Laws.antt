@@ -17,7 +17,8 @@ OfTurned Claim =
 abbrev pub TurnsKeepHeadline : Type 0
 TurnsKeepHeadline = OfTurned (λ lanes capacity turns relay turned. HaveHeadline lanes relay)
 
--- each lane is what the events of its turns leave of an empty one, and what was sent begins what its sender emits
+-- each lane is what the events of its turns leave of an empty one, and what was sent begins what
+-- its sender emits
 abbrev pub TurnsKeepLanes : Type 0
 TurnsKeepLanes = OfTurned (λ lanes capacity turns relay turned.
     OfEachLane lanes relay (λ ends lane track. IsLane ends capacity (turned_events lane turned.begun turns) track))

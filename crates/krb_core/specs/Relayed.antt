@@ -81,7 +81,8 @@ entries_in takings = flat_map (λ taking. entries_by taking.lane taking.verdict)
 
 -- ---- what is so of each lane
 
--- the lane is what these events leave of an empty one, and what was sent begins what its sender emits and then End
+-- the lane is what these events leave of an empty one, and what was sent begins what its sender
+-- emits and then End
 pub record IsLane (ends : Ends) (capacity : ℕ) (events : List (machine.Event (List ℕ))) (track : TrackState) : Type 0 where
   pub emits : IsWire ends.source track.wire
   pub sent : IsPrefix track.lane.sent (items_of track.wire)

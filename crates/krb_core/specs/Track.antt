@@ -55,7 +55,8 @@ log_behind log lane track (End ∷ queue) = ended_at log lane
 abbrev pub log_after : LogState → ℕ → TrackState → LogState
 log_after log lane track = log_behind log lane track track.lane.queue
 
--- where a frame is at the front, a take leaves it behind all that were taken before, and other lanes' entries stay
+-- where a frame is at the front, a take leaves it behind all that were taken before, and other
+-- lanes' entries stay
 abbrev pub LogsFront : ℕ → TrackState → LogState → TrackState → LogState → Type 0
 LogsFront lane track log track-now log-now =
     (frame : List ℕ) (queue : List (Item (List ℕ))) → track.lane.queue ≡ Frame frame ∷ queue

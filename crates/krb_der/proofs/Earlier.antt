@@ -1,5 +1,5 @@
--- What the earlier grammar spells, today's spells the same: within the earlier limit no content is so
--- long that its length would take a third octet.
+-- What the earlier grammar spells, today's spells the same: within the earlier limit no content is
+-- so long that its length would take a third octet.
 use Rattle.std.proofs.Common.{◌≡◌, ℕ, ◌<◌, ◌≤◌, ℤ, pos, List, [], ◌∷◌, ◌++◌, length, Option, Some, None, refl, subst, ap, ◌∙◌, arith}
 use Rattle.std.proofs.lemmas.Bool.{lt-ltb}
 use Rattle.std.proofs.lemmas.List.{length-append}

@@ -1,4 +1,5 @@
--- Addresses, as `2:c0000201`: the type of an address (RFC 4120 section 7.5.3), a colon, and its bytes.
+-- Addresses, as `2:c0000201`: the type of an address (RFC 4120 section 7.5.3), a colon, and its
+-- bytes.
 use Rattle.std.specs.Prelude.{ℕ, List, Option, Some, None}
 use Rattle.krb_base.specs.Limits.{address_limit}
 use Rattle.toml.specs.Data.{Data, string}

@@ -164,7 +164,8 @@ twice text =
     ∙ ap₂ (λ (x y : ℕ). x * 256 ^ n + y) (text_value text)
     (value-cong (λ i. around_text text (n + i)) (around_text text) n (λ i _. again text i) ∙ text_value text)
 
--- places of a byte: e is the number of bits below it in the text that is written twice and a byte longer
+-- places of a byte: e is the number of bits below it in the text that is written twice and a byte
+-- longer
 places : (len big j s : ℕ) → big < 8 * len → j < len → s ≡ 8 * len - big + 8 * j
     → 8 + (big + 8 * (len - 1 - j)) ≡ 8 * (2 * len - 1 - s / 8) + (8 - s % 8)
 places len big j s a b c = omega arith

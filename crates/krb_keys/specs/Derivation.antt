@@ -8,7 +8,8 @@ use Rattle.krb_keys.specs.Nfold.{nfold}
 abbrev pub constant : ℕ → ℕ → List ℕ
 constant usage tail = to_be_bytes w32 usage ++ tail ∷ []
 
--- DK: the blocks K1 = E(Key, n-fold(Constant)) and K2 = E(Key, K1), joined and cut to the key's length
+-- DK: the blocks K1 = E(Key, n-fold(Constant)) and K2 = E(Key, K1), joined and cut to the key's
+-- length
 unfoldable pub dk : List ℕ → ℕ → ℕ → List ℕ
 dk key usage tail =
     let first = aes key (nfold 16 (constant usage tail)) in

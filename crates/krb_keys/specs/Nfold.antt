@@ -1,5 +1,6 @@
--- n-fold (RFC 3961, section 5.1), on whole numbers. A text of bytes is also a number: its bytes are the
--- digits in base 256, the highest first. The lengths of texts are in bytes, those of numbers in bits.
+-- n-fold (RFC 3961, section 5.1), on whole numbers. A text of bytes is also a number: its bytes are
+-- the digits in base 256, the highest first. The lengths of texts are in bytes, those of numbers in
+-- bits.
 use Rattle.std.specs.Prelude.{ℕ, zero, suc, ◌+◌, ◌-◌, ◌*◌, ◌/◌, ◌%◌, ◌^◌, ◌==◌, List, [], ◌∷◌, length, map, unwrap_or, if◌then◌else◌}
 use Rattle.std.specs.Int.{◌∣◌, bytes_high_first}
 use Rattle.std.specs.List.{find, range_with_len}
@@ -21,7 +22,8 @@ IsLcm a b l = (a ∣ l) × (b ∣ l) × ((c : ℕ) → a ∣ c → b ∣ c → l
 unfoldable pub rotated : ℕ → ℕ → ℕ → ℕ
 rotated k r x = x / 2 ^ (r % k) + x % 2 ^ (r % k) * 2 ^ (k - r % k)
 
--- the first m repetitions of a number of k bits, each rotated by 13 bits more than the one before, joined
+-- the first m repetitions of a number of k bits, each rotated by 13 bits more than the one before,
+-- joined
 unfoldable pub repeated : ℕ → ℕ → ℕ → ℕ
 repeated k x zero = 0
 repeated k x (suc m) = repeated k x m * 2 ^ k + rotated k (13 * m) x
@@ -31,13 +33,13 @@ unfoldable pub sum_of_pieces : ℕ → ℕ → ℕ → ℕ
 sum_of_pieces n zero x = 0
 sum_of_pieces n (suc m) x = x % 2 ^ n + sum_of_pieces n m (x / 2 ^ n)
 
--- a sum of numbers of n bits, its carries added at the low end: the sum modulo 2 ^ n - 1, where a positive
--- multiple is written as all ones
+-- a sum of numbers of n bits, its carries added at the low end: the sum modulo 2 ^ n - 1, where a
+-- positive multiple is written as all ones
 unfoldable pub end_around : ℕ → ℕ → ℕ
 end_around n sum = if sum == 0 then 0 else (sum - 1) % (2 ^ n - 1) + 1
 
--- n-fold of a text to n bytes: the text is repeated to the least common multiple of both lengths, and the
--- pieces of n bytes are added
+-- n-fold of a text to n bytes: the text is repeated to the least common multiple of both lengths,
+-- and the pieces of n bytes are added
 unfoldable pub nfold : ℕ → List ℕ → List ℕ
 nfold n text =
     let len = length text in

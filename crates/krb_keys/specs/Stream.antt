@@ -1,4 +1,5 @@
--- What the code of n-fold computes byte by byte: the repetitions of a text as a stream, and a sum of two.
+-- What the code of n-fold computes byte by byte: the repetitions of a text as a stream, and a sum
+-- of two.
 use Rattle.std.specs.Prelude.{ℕ, zero, suc, ◌+◌, ◌-◌, ◌*◌, ◌/◌, ◌%◌, ◌^◌, nat_lt, List, length, slice_index, if◌then◌else◌}
 
 -- byte j of a text rotated right by r bits

@@ -11,8 +11,8 @@ use Rattle.krb_peers.specs.Claims.{has_ended, Headline, DeliversPrefix}
 use Rattle.krb_peers.proofs.HeadlineLemmas.{records_prefix, delivered_prefix, delivered_whole, quiet_after, refuses, refusal_nothing}
 use Rattle.krb_peers.proofs.UndisturbedLemmas.{all_texts}
 
--- it follows where the log has of the lane what the verdicts of a run bring, and where the lane ends
--- only behind all that its wire carries
+-- it follows where the log has of the lane what the verdicts of a run bring, and where the lane
+-- ends only behind all that its wire carries
 pub headline_of : (run : Run) (lane : ℕ) (log : LogState) → IsRun run → events_of lane log.entries ≡ events_from run.verdicts
     → (has_ended lane log ≡ true → TakesAll run.ends.source run.took) → Headline log lane run
 headline_of run lane log is entries takes_all =

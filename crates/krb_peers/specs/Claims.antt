@@ -1,5 +1,5 @@
--- What is claimed of a lane. Each claim stands here once, of a list of events: `headline_laws` says it
--- of those that verdicts bring, and `Headline` of those that a log has of the lane.
+-- What is claimed of a lane. Each claim stands here once, of a list of events: `headline_laws` says
+-- it of those that verdicts bring, and `Headline` of those that a log has of the lane.
 use Rattle.std.specs.Prelude.{◌≡◌, ◌↔◌, ℕ, Bool, true, false, List, [], ◌∷◌, ◌++◌, take, slice_get, slice_index_or, Some, Err}
 use Rattle.krb_base.specs.Prefix.{IsPrefix}
 use Rattle.krb_seal.specs.declared.refusal.Refusal.{Refusal}

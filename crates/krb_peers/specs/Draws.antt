@@ -1,4 +1,5 @@
--- What a ChaCha20 generator gives from where it stands, and the confounders made of it. Their choice is this project's own.
+-- What a ChaCha20 generator gives from where it stands, and the confounders made of it. Their
+-- choice is this project's own.
 use Rattle.std.specs.Prelude.{ℕ, zero, suc, ◌+◌, ◌*◌, ◌%◌, ◌^◌, List, ◌++◌}
 use Rattle.std.specs.Int.{w32, to_le_bytes}
 use Rattle.rand_chacha.specs.ChaCha.{ChaCha, word_at}

@@ -168,7 +168,8 @@ LoggedIsShut = (start : ReceiverState) (nows : List ℕ) (lane : ℕ) (took : Li
 
 -- ---- rounds
 
--- the entries of the groups of all lanes, each once, by their places and then by their lanes, are one list
+-- the entries of the groups of all lanes, each once, by their places and then by their lanes, are
+-- one list
 abbrev pub OneListOfRounds : Type 0
 OneListOfRounds = (lists : List (List (List Event))) (entries : List Entry) → AreRounds lists entries ↔ (entries ≡ rounds lists)
 
@@ -176,7 +177,8 @@ OneListOfRounds = (lists : List (List (List Event))) (entries : List Entry) → 
 abbrev pub RoundsKeepLanes : Type 0
 RoundsKeepLanes = (lists : List (List (List Event))) (lane : ℕ) → events_of lane (rounds lists) ≡ joined (list_of lists lane)
 
--- one group more comes last, where no lane behind has more groups than its lane had: of the rounds up to it
+-- one group more comes last, where no lane behind has more groups than its lane had: of the rounds
+-- up to it
 abbrev pub RoundGoesOn : Type 0
 RoundGoesOn = (front : List (List (List Event))) (groups : List (List Event)) (group : List Event) (back : List (List (List Event)))
     → NoneLonger (length groups) back
@@ -191,8 +193,8 @@ RoundsGoOn = (front : List (List (List Event))) (groups : List (List Event)) (gr
 
 -- ---- any relay
 
--- it follows where the log has the verdicts on fronts of the lanes' wires, in rounds, and a lane ends
--- only behind all that its wire carries
+-- it follows where the log has the verdicts on fronts of the lanes' wires, in rounds, and a lane
+-- ends only behind all that its wire carries
 abbrev pub OfFronts : (List Ends → List Run → LogState → Type 0) → Type 0
 OfFronts Claim =
     (lanes : List Ends) (runs : List Run) (log : LogState)

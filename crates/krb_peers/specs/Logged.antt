@@ -26,15 +26,15 @@ abbrev pub IsShut : LogState → ℕ → ReceiverState → Type 0
 IsShut log lane receiver = is_closed lane log.entries ≡ true → receiver.demand.closed ≡ true
 
 -- These are the verdicts on the frames that a receiver took from its start on, each by the records
--- accepted before it and at the moment of its place, and the log has of the lane what they bring, in
--- order. The receiver demands what they leave.
+-- accepted before it and at the moment of its place, and the log has of the lane what they bring,
+-- in order. The receiver demands what they leave.
 pub record HasLogged (start : ReceiverState) (nows : List ℕ) (lane : ℕ) (took : List (List ℕ)) (log : LogState) (receiver : ReceiverState) (verdicts : List Verdict) : Type 0 where
   pub judged : AreJudged start nows took verdicts
   pub entries : events_of lane log.entries ≡ events_from verdicts
   pub receiver_is : receiver ≡ record start { demand = demand_after start.demand (records_of verdicts) }
 
--- Whatever was taken before, the frame comes behind: its verdict is one more, and the log has it. What
--- the log has of any other lane stays.
+-- Whatever was taken before, the frame comes behind: its verdict is one more, and the log has it.
+-- What the log has of any other lane stays.
 pub record LogsNext (receiver : ReceiverState) (log : LogState) (lane now : ℕ) (frame : List ℕ) (receiver-now : ReceiverState) (log-now : LogState) : Type 0 where
   pub goes_on :
       (start : ReceiverState) (nows : List ℕ) (took : List (List ℕ)) (verdicts : List Verdict)

@@ -40,7 +40,8 @@ emission frames (Raw bytes) = bytes
 abbrev pub emissions : List (List ℕ) → List Emit → List (List ℕ)
 emissions frames plan = map (emission frames) plan
 
--- the wire: the frames where no plan is given, else one frame for each emission; a bad plan has none
+-- the wire: the frames where no plan is given, else one frame for each emission; a bad plan has
+-- none
 abbrev pub wire : List (List ℕ) → Option (List Emit) → List (List ℕ)
 wire frames None = frames
 wire frames (Some plan) = if is_good frames plan then emissions frames plan else []

@@ -8,7 +8,8 @@ use Rattle.krb_peers.specs.Run.{Run}
 use Rattle.krb_peers.specs.Sender.{records}
 use Rattle.krb_peers.specs.Verdicts.{record_of, records_of}
 
--- the lane is paired: both ends have one key, and the number demanded first is the sealer's next one
+-- the lane is paired: both ends have one key, and the number demanded first is the sealer's next
+-- one
 pub record IsPaired (ends : Ends) : Type 0 where
   pub etype : ends.receiver.opener.etype ≡ ends.source.sealer.etype
   pub key : ends.receiver.opener.key ≡ ends.source.sealer.key
@@ -29,9 +30,9 @@ abbrev pub altered_at : Option (List Emit) → ℕ → Bool
 altered_at None place = false
 altered_at (Some plan) place = is_altered_one (slice_get plan place)
 
--- The altered-frames premise. Where a changed or a raw frame was accepted in this run, it carried the
--- record of its number. Nothing is assumed of the sender's own frames, however they are repeated,
--- dropped or reordered.
+-- The altered-frames premise. Where a changed or a raw frame was accepted in this run, it carried
+-- the record of its number. Nothing is assumed of the sender's own frames, however they are
+-- repeated, dropped or reordered.
 abbrev pub AlteredAreHonest : Run → Type 0
 AlteredAreHonest run =
     (place : ℕ) (d : Delivery) → altered_at run.ends.source.plan place ≡ true → slice_get run.verdicts place ≡ Some (Ok d)

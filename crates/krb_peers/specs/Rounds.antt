@@ -1,5 +1,5 @@
--- The order in which lanes are served in rounds: of each lane its first group of events, then of each
--- its second, and so on. A group is what one verdict brings.
+-- The order in which lanes are served in rounds: of each lane its first group of events, then of
+-- each its second, and so on. A group is what one verdict brings.
 use Rattle.std.specs.Prelude.{◌≡◌, ℕ, zero, suc, ◌+◌, ◌<◌, ◌≤◌, ◌⊎◌, max, List, [], ◌∷◌, ◌++◌, length, Option, Some, None, slice_get, slice_index_or, All}
 use Rattle.std.specs.List.{Contains, flat_map}
 use Rattle.krb_peers.specs.declared.log.Event.{Event}
@@ -65,7 +65,8 @@ abbrev pub Rises : List Spot → Type 0
 Rises [] = Unit {0}
 Rises (spot ∷ spots) = All (IsBefore spot) spots × Rises spots
 
--- the entries are those of the groups of all lanes, each once, by their places and then by their lanes
+-- the entries are those of the groups of all lanes, each once, by their places and then by their
+-- lanes
 pub record AreRounds (lists : List (List (List Event))) (entries : List Entry) : Type 0 where
   pub spots : List Spot
   pub there : All (IsSpot lists) spots

@@ -12,8 +12,8 @@ use Rattle.krb_peers.specs.declared.plan.Emit.{Emit}
 use Rattle.krb_peers.specs.Record.{bytes_of}
 use Rattle.krb_peers.specs.Draws.{confounder_at}
 
--- a sealer, the texts for it, how many of them go together at most, the moments, a generator, and the
--- plan of the wire, if there is one
+-- a sealer, the texts for it, how many of them go together at most, the moments, a generator, and
+-- the plan of the wire, if there is one
 pub record Source : Type 0 where
   pub sealer : SealerState
   pub texts : List (List ℕ)
@@ -63,8 +63,8 @@ record_for [] = Batch []
 record_for (text ∷ []) = Text text
 record_for (text ∷ other ∷ texts) = Batch (text ∷ other ∷ texts)
 
--- the record that comes at a number: that of the group, or the close where none is left or the number
--- is the last
+-- the record that comes at a number: that of the group, or the close where none is left or the
+-- number is the last
 abbrev pub record_at : ℕ → List (List ℕ) → Record
 record_at number [] = Close
 record_at number (text ∷ texts) = if nat_lt number last_number then record_for (text ∷ texts) else Close
@@ -76,7 +76,8 @@ records_for groups = map record_for groups ++ Close ∷ []
 abbrev pub records : Source → List Record
 records source = records_for (sealed_groups source)
 
--- the frame is that of record k: sealed at the k-th number from the sealer's next one on, at its moment, under confounder k
+-- the frame is that of record k: sealed at the k-th number from the sealer's next one on, at its
+-- moment, under confounder k
 abbrev pub IsFrame : Source → ℕ → Record → List ℕ → Type 0
 IsFrame source k carried frame =
     let s = source.sealer in

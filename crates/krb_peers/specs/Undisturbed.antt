@@ -1,4 +1,5 @@
--- A lane that nothing disturbs: what its sender sealed is what its receiver expects, and the wire carries it as it is.
+-- A lane that nothing disturbs: what its sender sealed is what its receiver expects, and the wire
+-- carries it as it is.
 use Rattle.std.specs.Prelude.{◌≡◌, ℕ, zero, suc, ◌<◌, List, [], ◌∷◌, ◌++◌, length, Option, Some, None}
 use Rattle.krb_seal.specs.Laws.{Agree}
 use Rattle.krb_peers.specs.declared.plan.Emit.{Emit}

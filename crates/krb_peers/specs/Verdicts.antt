@@ -34,7 +34,8 @@ record_of (Text text) = records.Text text
 record_of (Batch texts) = records.Batch texts
 record_of Closed = records.Close
 
--- the records that a verdict accepts, and the events that it brings to a log: one for each text of a batch
+-- the records that a verdict accepts, and the events that it brings to a log: one for each text of
+-- a batch
 abbrev pub accepted_by : Verdict → List Record
 accepted_by (Ok delivery) = record_of delivery ∷ []
 accepted_by (Err refusal) = []

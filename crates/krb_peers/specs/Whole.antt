@@ -12,7 +12,8 @@ use Rattle.krb_peers.specs.Ends.{Ends, sents_of}
 use Rattle.krb_peers.specs.Wire.{IsWire}
 use Rattle.krb_peers.specs.Rounds.{rounds}
 
--- what becomes of the frames that were taken: of the first of each lane, by lane number, then of the second of each, and so on
+-- what becomes of the frames that were taken: of the first of each lane, by lane number, then of
+-- the second of each, and so on
 abbrev pub rounds_of : List Run → List Entry
 rounds_of runs = rounds (map (λ run. groups_of run.verdicts) runs)
 
@@ -22,8 +23,8 @@ rounds_of runs = rounds (map (λ run. groups_of run.verdicts) runs)
 abbrev pub EndsWhole : LogState → ℕ → Run → Type 0
 EndsWhole log lane run = has_ended lane log ≡ true → TakesAll run.ends.source run.took
 
--- Of each lane a front of its wire was taken, however short: the log has the verdicts on these frames,
--- in rounds, and the headline holds of each lane.
+-- Of each lane a front of its wire was taken, however short: the log has the verdicts on these
+-- frames, in rounds, and the headline holds of each lane.
 pub record IsRelayed (lanes : List Ends) (log : LogState) : Type 0 where
   pub runs : List Run
   pub are : AreRuns lanes runs

@@ -88,8 +88,8 @@ module _ {S : Type 0} (gives : S → Side → Handed → Type 0) where
     pub prefix : IsPrefix worker.got.frames worker.handed.all.frames
     pub whole : worker.got.ended ≡ true → worker.got.frames ≡ worker.handed.all.frames
 
-  -- workers for the first of the parts, last part first, behind these ends; what they handed back, and
-  -- the log that their lanes leave
+  -- workers for the first of the parts, last part first, behind these ends; what they handed back,
+  -- and the log that their lanes leave
   pub record Gathers (parts : List S) (starts : List Receiving) (ends now : List Side) (log : LogState) (own : Option OwnFault) (fault : Option WorkerFault) : Type 0 where
     pub inner : List (Started S)
     pub unstarted : List S

@@ -8,13 +8,13 @@ use Rattle.krb_relay.specs.declared.cause.Cause.{Cause}
 use Rattle.krb_relay.specs.declared.cause.Cause.TheVariants.{BadPlan, Wiped}
 use Rattle.krb_relay.specs.Sent.{IsTrueOf}
 
--- The same log, with no lane noted as ended. After a fault a lane's End may stand behind a front of its
--- wire: a worker that stops sends it too.
+-- The same log, with no lane noted as ended. After a fault a lane's End may stand behind a front of
+-- its wire: a worker that stops sends it too.
 abbrev pub unended : LogState → LogState
 unended log = record log { ended = [] }
 
--- the cause is true of this lane, of which nothing came, and all that the wires of the lanes below carry
--- was taken, under sealers that weren't wiped
+-- the cause is true of this lane, of which nothing came, and all that the wires of the lanes below
+-- carry was taken, under sealers that weren't wiped
 pub record IsLeast (runs : List Run) (lane : ℕ) (cause : Cause) : Type 0 where
   pub run : Run
   pub named : slice_get runs lane ≡ Some run
