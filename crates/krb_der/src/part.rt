@@ -142,8 +142,8 @@ fn take_part(alloc: Global, bytes: Vec<u8>, start: usize) -> Result<Body, DerErr
     let (data, behind) = split_part(&bytes[start..])?;
     let details = read_details(alloc, behind)?;
     let end = bytes.len() - behind.len();
-    let data = end - data.len();
-    Ok(details.with(Bytes::new(cut_out(bytes, data, end))))
+    let front = end - data.len();
+    Ok(details.with(Bytes::new(cut_out(bytes, front, end))))
 }
 
 // A law: the elements of a slice of bytes are bytes, as their type says. It does nothing when it
