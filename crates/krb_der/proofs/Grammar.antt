@@ -27,7 +27,7 @@ use Rattle.krb_der.proofs.Numbers.{IsBytes}
 use Rattle.krb_time.proofs.Times.{time-found, time-again}
 use Rattle.krb_time.proofs.OptionSteps.{bind_some, provided, some_is}
 use Rattle.krb_der.proofs.Elements.{int-found, int-again, chosen, tagged-again}
-use Rattle.krb_der.proofs.Readers.{Reads, no_field, field, optional_field, all_fields, in_tag, under_tag, length-tagged}
+use Rattle.krb_der.proofs.Readers.{Reads, no_field, field, taken_field, optional_field, all_fields, in_tag, under_tag, length-tagged}
 use Rattle.std.proofs.lemmas.Option.{some_pair_parts, none-some}
 use Rattle.krb_der.specs.declared.error.DerError.{DerError}
 use Rattle.krb_der.specs.declared.error.DerError.TheVariants as errors
@@ -112,8 +112,8 @@ typed_reads =
     let K1 : ℤ → ℤ × List ℕ → Type 0 = λ k v. Unit {0} × (v.0 ≡ k) in
     let K2 : ℤ → List ℕ → ℤ × List ℕ → Type 0 = λ k b v. K1 k v × (v.1 ≡ b) in
     let f3 = λ (k : ℤ) (b : List ℕ). no_field 0xA1 (K2 k b) (k, b) ((tt, refl), refl) (λ v h. rw (← h.0.1, ← h.1) refl) in
-    let f2 = λ (k : ℤ). field 0xA1 0xA0 Any octets octets_of (λ v. v.1) (K1 k) Any (λ _. []) _ octets_reads (f3 k) (omega arith) in
-    let f1 = field 0xA0 0 IsInt32 integer int32_element_of (λ v. v.0) Any _ _ _ integer_reads f2 (omega arith) in
+    let f2 = λ (k : ℤ). taken_field 0xA1 0xA0 Any octets octets_of (λ v. v.1) (K1 k) Any (λ _. []) _ octets_reads (f3 k) (omega arith) in
+    let f1 = taken_field 0xA0 0 IsInt32 integer int32_element_of (λ v. v.0) Any _ _ _ integer_reads f2 (omega arith) in
     under_tag 0x30 IsTyped (λ t. joined (TypedFields t)) _ (all_fields 0 _ IsTyped TypedFields _ f1 (λ v h. h.0) (λ v h. (h, (tt, tt))))
 
 address-found : (c : List ℕ) (a : HostAddress) → IsBytes c → address_of c ≡ Some a → IsAddress a × (c ≡ host_address a)
@@ -192,10 +192,10 @@ safe_body_reads =
     let f5 = λ (p t : ℤ) (b : Body) (c : ℤ × List ℕ). no_field 0xA3 (K4 p t b c)
     (record { pvno = p; msg_type = t; body = b; cksum_type = c.0; checksum = c.1 }) ((((tt, refl), refl), refl), refl)
     (λ v h. rw (← h.0.0.0.1, ← h.0.0.1, ← h.0.1, ← h.1) refl) in
-    let f4 = λ (p t : ℤ) (b : Body). field 0xA3 0xA2 IsTyped typed typed_of (λ v. (v.cksum_type, v.checksum)) (K3 p t b) Any (λ _. []) _ typed_reads (f5 p t b) (omega arith) in
+    let f4 = λ (p t : ℤ) (b : Body). taken_field 0xA3 0xA2 IsTyped typed typed_of (λ v. (v.cksum_type, v.checksum)) (K3 p t b) Any (λ _. []) _ typed_reads (f5 p t b) (omega arith) in
     let f3 = λ (p t : ℤ). field 0xA2 0xA1 IsBody body body_of (λ v. v.body) (K2 p t) _ _ _ body_reads (f4 p t) (omega arith) in
-    let f2 = λ (p : ℤ). field 0xA1 0xA0 IsInt32 integer int32_element_of (λ v. v.msg_type) (K1 p) _ _ _ integer_reads (f3 p) (omega arith) in
-    let f1 = field 0xA0 0 IsInt32 integer int32_element_of (λ v. v.pvno) Any _ _ _ integer_reads f2 (omega arith) in
+    let f2 = λ (p : ℤ). taken_field 0xA1 0xA0 IsInt32 integer int32_element_of (λ v. v.msg_type) (K1 p) _ _ _ integer_reads (f3 p) (omega arith) in
+    let f1 = taken_field 0xA0 0 IsInt32 integer int32_element_of (λ v. v.pvno) Any _ _ _ integer_reads f2 (omega arith) in
     under_tag 0x30 IsSafe (λ m. joined (safe_fields m)) _ (all_fields 0 _ IsSafe safe_fields _ f1
     (λ v h. record { pvno = h.0; msg_type = h.1.0; body = h.1.1.0; cksum_type = h.1.1.1.0 })
     (λ v h. (h.pvno, (h.msg_type, (h.body, (h.cksum_type, tt))))))
@@ -221,9 +221,9 @@ encrypted_reads =
     let K2 : ℤ → Option ℕ → ℤ × Option ℕ × List ℕ → Type 0 = λ t k v. K1 t v × (v.1 ≡ k) in
     let K3 : ℤ → Option ℕ → List ℕ → ℤ × Option ℕ × List ℕ → Type 0 = λ t k c v. K2 t k v × (v.2 ≡ c) in
     let f4 = λ (t : ℤ) (k : Option ℕ) (c : List ℕ). no_field 0xA2 (K3 t k c) (t, k, c) (((tt, refl), refl), refl) (λ v h. rw (← h.0.0.1, ← h.0.1, ← h.1) refl) in
-    let f3 = λ (t : ℤ) (k : Option ℕ). field 0xA2 0xA1 Any octets octets_of (λ v. v.2) (K2 t k) Any (λ _. []) _ octets_reads (f4 t k) (omega arith) in
+    let f3 = λ (t : ℤ) (k : Option ℕ). taken_field 0xA2 0xA1 Any octets octets_of (λ v. v.2) (K2 t k) Any (λ _. []) _ octets_reads (f4 t k) (omega arith) in
     let f2 = λ (t : ℤ). optional_field 0xA1 0xA0 IsU32 natural (below_element_of (2 ^ 32)) (λ v. v.1) (K1 t) _ _ _ u32_reads (f3 t) (omega arith) in
-    let f1 = field 0xA0 0 IsInt32 integer int32_element_of (λ v. v.0) Any _ _ _ integer_reads f2 (omega arith) in
+    let f1 = taken_field 0xA0 0 IsInt32 integer int32_element_of (λ v. v.0) Any _ _ _ integer_reads f2 (omega arith) in
     under_tag 0x30 IsEncrypted (λ e. joined (EncryptedFields e)) _ (all_fields 0 _ IsEncrypted EncryptedFields _ f1 (λ v h. (h.0, h.1.0)) (λ v h. (h.0, (h.1, (tt, tt)))))
 
 priv_body_reads : Reads IsPrivate (λ m. sequence (private_fields m)) private_of
@@ -236,8 +236,8 @@ priv_body_reads =
     (record { pvno = p; msg_type = t; etype = e.0; kvno = e.1; cipher = e.2 }) (((tt, refl), refl), refl)
     (λ v h. rw (← h.0.0.1, ← h.0.1, ← h.1) refl) in
     let f3 = λ (p t : ℤ). field 0xA3 0xA1 IsEncrypted encrypted encrypted_of (λ v. (v.etype, v.kvno, v.cipher)) (K2 p t) Any (λ _. []) _ encrypted_reads (f4 p t) (omega arith) in
-    let f2 = λ (p : ℤ). field 0xA1 0xA0 IsInt32 integer int32_element_of (λ v. v.msg_type) (K1 p) _ _ _ integer_reads (f3 p) (omega arith) in
-    let f1 = field 0xA0 0 IsInt32 integer int32_element_of (λ v. v.pvno) Any _ _ _ integer_reads f2 (omega arith) in
+    let f2 = λ (p : ℤ). taken_field 0xA1 0xA0 IsInt32 integer int32_element_of (λ v. v.msg_type) (K1 p) _ _ _ integer_reads (f3 p) (omega arith) in
+    let f1 = taken_field 0xA0 0 IsInt32 integer int32_element_of (λ v. v.pvno) Any _ _ _ integer_reads f2 (omega arith) in
     under_tag 0x30 IsPrivate (λ m. joined (private_fields m)) _ (all_fields 0 _ IsPrivate private_fields _ f1
     (λ v h. record { pvno = h.0; msg_type = h.1.0; etype = h.1.1.0.0; kvno = h.1.1.0.1 })
     (λ v h. (h.pvno, (h.msg_type, ((h.etype, h.kvno), tt)))))

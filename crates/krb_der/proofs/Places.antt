@@ -1,8 +1,8 @@
 -- Where the data of a body stand in its spelling.
-use Rattle.std.proofs.Common.{◌≡◌, rules, ℕ, ◌+◌, ◌-◌, List, [], ◌∷◌, ◌++◌, length, take, drop, Option, Some, Result, Ok, Err, refl, sym, ap, subst, ◌∙◌, arith, append_assoc}
+use Rattle.std.proofs.Common.{◌≡◌, ℕ, ◌+◌, ◌-◌, List, [], ◌∷◌, ◌++◌, length, take, drop, Some, Result, Ok, Err, refl, sym, ap, subst, ◌∙◌, arith, append_assoc}
 use Rattle.std.specs.Prelude.{IfOk}
 use Rattle.std.proofs.lemmas.List.{take_at, drop_at, take-append-drop, length-append, append-nil}
-use Rattle.krb_der.specs.Tag.{context, sequence_tag, octet_string_tag}
+use Rattle.krb_der.specs.Tag.{context, octet_string_tag}
 use Rattle.krb_der.specs.Length.{length_octets}
 use Rattle.krb_der.specs.Element.{header, tagged}
 use Rattle.krb_der.specs.Reading.{EndsWith, alone, tagged_at}

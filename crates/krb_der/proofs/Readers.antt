@@ -7,7 +7,7 @@ use Rattle.krb_der.specs.Length.{big_endian, length_octets}
 use Rattle.krb_der.specs.Element.{header, tagged, joined, optional}
 use Rattle.krb_der.specs.Writing.{element_size}
 use Rattle.krb_time.specs.Steps.{◌>>=◌}
-use Rattle.krb_der.specs.Reading.{ended, tagged_at, alone, with_field, starts_with, optional_at}
+use Rattle.krb_der.specs.Reading.{ended, tagged_at, alone, with_field, field_at, starts_with, optional_at}
 use Rattle.krb_der.proofs.Numbers.{IsBytes, if_case}
 use Rattle.krb_time.proofs.OptionSteps.{bind_some, some_is}
 use Rattle.krb_der.proofs.Elements.{tagged-again, tagged-found, eqb-same}
@@ -85,6 +85,33 @@ field tag low PA spell of get K P others k one rest lt = record {
       rw (tagged-again tag (spell (get v)) (joined (others v)) inner, one.again (get v) h.0 inner) ((rest (get v)).again v (known, refl) h.1 outer);
   begins = λ v. lt;
 }
+
+abbrev Beside : {A : Type 0} → List ℕ → A → Option (A × List ℕ)
+Beside rest x = Some (x, rest)
+
+field-value : {A B : Type 0} (o : Option A) (rest : List ℕ) (k : A → List ℕ → Option B) → ((o >>= Beside rest) >>= λ y. k y.0 y.1) ≡ (o >>= λ x. k x rest)
+field-value None rest k = refl
+field-value (Some x) rest k = refl
+
+field-content : {A B : Type 0} (t : Option (List ℕ × List ℕ)) (of : List ℕ → Option A) (k : A → List ℕ → Option B)
+    → ((t >>= λ t. of t.0 >>= Beside t.1) >>= λ y. k y.0 y.1) ≡ (t >>= λ t. of t.0 >>= λ x. k x t.1)
+field-content None of k = refl
+field-content (Some t) of k = field-value (of t.0) t.1 k
+
+taken : {A B : Type 0} (tag : ℕ) (of : List ℕ → Option A) (k : A → List ℕ → Option B) (c : List ℕ) → (field_at tag of c >>= λ x. k x.0 x.1) ≡ with_field tag of k c
+unfolding field_at
+taken tag of k c = field-content (tagged_at tag c) of k
+
+-- the same, where the field is taken by a call of its own
+pub taken_field : {A V : Type 0} (tag low : ℕ) (PA : A → Type 0) (spell : A → List ℕ) (of : List ℕ → Option A) (get : V → A) (K P : V → Type 0) (others : V → List (List ℕ)) (k : A → List ℕ → Option V)
+    → Reads PA spell of → ((a : A) → ReadsFields tag (λ v. K v × (get v ≡ a)) P others (k a)) → low < tag
+    → ReadsFields low K (λ v. PA (get v) × P v) (λ v. tagged tag (spell (get v)) ∷ others v) (λ c. field_at tag of c >>= λ x. k x.0 x.1)
+taken_field tag low PA spell of get K P others k one rest lt =
+    let all = field tag low PA spell of get K P others k one rest lt in record {
+      found = λ c v fits e. all.found c v fits (sym (taken tag of k c) ∙ e);
+      again = λ v known h short. taken tag of k (joined (tagged tag (spell (get v)) ∷ others v)) ∙ all.again v known h short;
+      begins = all.begins;
+    }
 
 optional-none : {A : Type 0} (tag : ℕ) (of : List ℕ → Option A) (bytes : List ℕ) → starts_with tag bytes ≡ false → optional_at tag of bytes ≡ Some (None, bytes)
 unfolding optional_at

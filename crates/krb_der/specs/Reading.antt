@@ -78,6 +78,10 @@ with_field tag of others bytes = do
   x ← of t.0
   others x t.1
 
+-- a field, and what is left
+unfoldable pub field_at : {A : Type 0} → ℕ → (List ℕ → Option A) → List ℕ → Option (A × List ℕ)
+field_at tag of bytes = with_field tag of (λ x rest. Some (x, rest)) bytes
+
 abbrev pub starts_with : ℕ → List ℕ → Bool
 starts_with tag [] = false
 starts_with tag (t ∷ rest) = nat_eq t tag
@@ -128,11 +132,9 @@ octets_of content = alone octet_string_tag Some content
 unfoldable pub typed_of : List ℕ → Option (ℤ × List ℕ)
 typed_of content = do
   fields ← alone sequence_tag Some content
-  k ← tagged_at (context 0) fields
-  kind ← int32_element_of k.0
-  b ← tagged_at (context 1) k.1
-  bytes ← octets_of b.0
-  ended (kind, bytes) b.1
+  kind ← field_at (context 0) int32_element_of fields
+  bytes ← field_at (context 1) octets_of kind.1
+  ended (kind.0, bytes.0) bytes.1
 
 unfoldable pub address_of : List ℕ → Option HostAddress
 address_of content = do
@@ -166,36 +168,29 @@ body_of bytes = do
 unfoldable pub safe_of : List ℕ → Option SafeMsg
 safe_of bytes = do
   fields ← alone sequence_tag Some bytes
-  p ← tagged_at (context 0) fields
-  pvno ← int32_element_of p.0
-  t ← tagged_at (context 1) p.1
-  msg_type ← int32_element_of t.0
-  b ← tagged_at (context 2) t.1
+  pvno ← field_at (context 0) int32_element_of fields
+  msg_type ← field_at (context 1) int32_element_of pvno.1
+  b ← tagged_at (context 2) msg_type.1
   body ← body_of b.0
-  c ← tagged_at (context 3) b.1
-  checksum ← typed_of c.0
-  ended (record { pvno = pvno; msg_type = msg_type; body = body; cksum_type = checksum.0; checksum = checksum.1 }) c.1
+  checksum ← field_at (context 3) typed_of b.1
+  ended (record { pvno = pvno.0; msg_type = msg_type.0; body = body; cksum_type = checksum.0.0; checksum = checksum.0.1 }) checksum.1
 
 unfoldable pub encrypted_of : List ℕ → Option (ℤ × Option ℕ × List ℕ)
 encrypted_of bytes = do
   fields ← alone sequence_tag Some bytes
-  e ← tagged_at (context 0) fields
-  etype ← int32_element_of e.0
-  kvno ← optional_at (context 1) (below_element_of (2 ^ 32)) e.1
-  c ← tagged_at (context 2) kvno.1
-  cipher ← octets_of c.0
-  ended (etype, kvno.0, cipher) c.1
+  etype ← field_at (context 0) int32_element_of fields
+  kvno ← optional_at (context 1) (below_element_of (2 ^ 32)) etype.1
+  cipher ← field_at (context 2) octets_of kvno.1
+  ended (etype.0, kvno.0, cipher.0) cipher.1
 
 unfoldable pub private_of : List ℕ → Option PrivMsg
 private_of bytes = do
   fields ← alone sequence_tag Some bytes
-  p ← tagged_at (context 0) fields
-  pvno ← int32_element_of p.0
-  t ← tagged_at (context 1) p.1
-  msg_type ← int32_element_of t.0
-  e ← tagged_at (context 3) t.1
+  pvno ← field_at (context 0) int32_element_of fields
+  msg_type ← field_at (context 1) int32_element_of pvno.1
+  e ← tagged_at (context 3) msg_type.1
   encrypted ← encrypted_of e.0
-  ended (record { pvno = pvno; msg_type = msg_type; etype = encrypted.0; kvno = encrypted.1; cipher = encrypted.2 }) e.1
+  ended (record { pvno = pvno.0; msg_type = msg_type.0; etype = encrypted.0; kvno = encrypted.1; cipher = encrypted.2 }) e.1
 
 unfoldable pub message_of : List ℕ → Option Message
 message_of bytes = if starts_with (application 20) bytes then (alone (application 20) Some bytes >>= safe_of) >>= (λ m. Some (Safe m)) else ((alone (application 21) Some bytes >>= private_of) >>= (λ m. Some (Priv m)))

@@ -3,7 +3,7 @@
 ghost use Rattle.std.specs.Prelude.{◌≡◌, ◌<◌, ◌≤◌, ◌^◌, ◌++◌, ◌+◌, length, IfSome, OnOk, pos};
 ghost use Rattle.krb_der.specs.Element.{optional, tagged};
 ghost use Rattle.krb_der.specs.Integer.{complement, width, integer, natural, IsInt32, IsUInt32};
-ghost use Rattle.krb_der.specs.Reading.{Gives, Takes, be_value, int_of, int32_of, below_of, int32_element_of, below_element_of, optional_at, signed, five_octets};
+ghost use Rattle.krb_der.specs.Reading.{Gives, Takes, be_value, int_of, int32_of, below_of, int32_element_of, below_element_of, optional_at, field_at, signed, five_octets};
 ghost use Rattle.krb_der.specs.Writing.{element_size};
 
 use crate::error::DerError;
@@ -82,12 +82,20 @@ fn int32_value(content: &[u8]) -> Result<i32, DerError>
 }
 
 /// The Int32 whose element the bytes are (RFC 4120 section 5.2.4).
-pub fn read_int32(bytes: &[u8]) -> Result<i32, DerError>
+fn read_int32(bytes: &[u8]) -> Result<i32, DerError>
     ensures { Gives (λ x. x) result (int32_element_of bytes.now) }
 {
     let mut reader = Reader::new(bytes);
     let value = int32_value(reader.element(tag::INTEGER)?)?;
     reader.finish(value)
+}
+
+/// The Int32 that stands in a field.
+#[tactic(auto, unfolding(crate::specs::Reading::field_at))]
+pub fn read_int32_field(fields: &mut Reader<'_>, tag: u8) -> Result<i32, DerError>
+    ensures { Takes (λ x. x) result fields.new (field_at tag int32_element_of fields.old) }
+{
+    read_int32(fields.element(tag)?)
 }
 
 #[tactic(auto, unfolding(crate::specs::Reading::below_of))]

@@ -10,7 +10,7 @@ ghost use Rattle.krb_der.specs.Message.{Decodes, Encodes, SpellsPart};
 ghost use Rattle.krb_der.specs.Reading.{EndsWith, Fails, Gives, behind_of, part_of};
 ghost use Rattle.krb_der.specs.Writing.{IsShortBody};
 
-use crate::body::{Body, BodyRef, read_details, split_data};
+use crate::body::{Body, BodyRef, read_body, read_details, split_data};
 use crate::error::DerError;
 use crate::reader::only_element;
 use crate::tag;
@@ -97,12 +97,11 @@ fn split_part(bytes: &[u8]) -> Result<(&[u8], &[u8]), DerError>
     split_data(only_element(tag::ENC_KRB_PRIV_PART, bytes)?)
 }
 
+#[tactic(auto, unfolding(crate::specs::Reading::part_of))]
 fn read_part(alloc: Global, bytes: &[u8]) -> Result<Body, DerError>
     ensures { Gives (λ x. x) result (part_of bytes.now) }
 {
-    let (data, behind) = split_part(bytes)?;
-    let user_data = Bytes::new(Vec::from_slice(alloc, data)?);
-    Ok(read_details(alloc, behind)?.with(user_data))
+    read_body(alloc, only_element(tag::ENC_KRB_PRIV_PART, bytes)?)
 }
 
 /// The body that the bytes spell as the encrypted part of KRB-PRIV.

@@ -11,10 +11,10 @@ ghost use Rattle.krb_der.specs.Reading.{Gives, encrypted_of, private_of};
 use crate::body::BodyRef;
 use crate::error::DerError;
 use crate::integer::{
-    UINT32_LIMIT, int32_field_size, known_int32, known_uint32, natural_field_size, read_int32,
-    read_optional_natural, write_int32_field, write_natural_field,
+    UINT32_LIMIT, int32_field_size, known_int32, known_uint32, natural_field_size,
+    read_int32_field, read_optional_natural, write_int32_field, write_natural_field,
 };
-use crate::reader::{Reader, read_octets};
+use crate::reader::{Reader, read_octets_field};
 use crate::tag;
 use crate::writer::{Writer, size_around};
 use krb_base::{Bytes, FRAME_LIMIT};
@@ -40,9 +40,9 @@ fn read_encrypted(alloc: Global, bytes: &[u8]) -> Result<(i32, Option<u32>, Byte
     ensures { Gives (λ x. (x.0, x.1, x.2)) result (encrypted_of bytes.now) }
 {
     let mut fields = Reader::inside(tag::SEQUENCE, bytes)?;
-    let etype = read_int32(fields.element(tag::FIELD_0)?)?;
+    let etype = read_int32_field(&mut fields, tag::FIELD_0)?;
     let kvno = read_optional_natural(&mut fields, tag::FIELD_1, UINT32_LIMIT)?;
-    let cipher = read_octets(alloc, fields.element(tag::FIELD_2)?)?;
+    let cipher = read_octets_field(alloc, &mut fields, tag::FIELD_2)?;
     fields.finish((etype, kvno, cipher))
 }
 
@@ -52,8 +52,8 @@ pub fn read_private(alloc: Global, bytes: &[u8]) -> Result<PrivMsg, DerError>
     ensures { Gives (λ x. x) result (private_of bytes.now) }
 {
     let mut fields = Reader::inside(tag::SEQUENCE, bytes)?;
-    let pvno = read_int32(fields.element(tag::FIELD_0)?)?;
-    let msg_type = read_int32(fields.element(tag::FIELD_1)?)?;
+    let pvno = read_int32_field(&mut fields, tag::FIELD_0)?;
+    let msg_type = read_int32_field(&mut fields, tag::FIELD_1)?;
     let (etype, kvno, cipher) = read_encrypted(alloc, fields.element(tag::FIELD_3)?)?;
     fields.finish(PrivMsg {
         pvno,
@@ -208,7 +208,7 @@ pub fn encode_priv(alloc: Global, m: &PrivMsg) -> Result<Vec<u8>, DerError>
 
 /// A KRB-PRIV whose cipher isn't one yet: from `start` on stands the text that is to be enciphered
 /// there, and there is room for what an encryption puts behind it.
-#[derive(Debug, Drop)]
+#[derive(Drop)]
 pub struct Draft {
     /// The message so far.
     pub bytes: Vec<u8>,

@@ -1,5 +1,5 @@
 ghost use Rattle.std.specs.Prelude.{◌≡◌, Some};
-ghost use Rattle.krb_der.specs.Reading.{Gives, Takes, ended, tagged_at, alone, octets_of, starts_with};
+ghost use Rattle.krb_der.specs.Reading.{Gives, Takes, ended, tagged_at, field_at, alone, octets_of, starts_with};
 
 use crate::error::DerError;
 use crate::length::read_length;
@@ -110,9 +110,17 @@ pub fn only_element(tag: u8, bytes: &[u8]) -> Result<&[u8], DerError>
 
 /// The bytes of the OCTET STRING that the bytes are (X.690 section 8.7).
 #[tactic(auto, unfolding(crate::specs::Reading::octets_of))]
-pub fn read_octets(alloc: Global, bytes: &[u8]) -> Result<Bytes, DerError>
+fn read_octets(alloc: Global, bytes: &[u8]) -> Result<Bytes, DerError>
     ensures { Gives (λ x. x) result (octets_of bytes.now) }
 {
     let content = only_element(tag::OCTET_STRING, bytes)?;
     Ok(Bytes::new(Vec::from_slice(alloc, content)?))
+}
+
+/// The bytes of the OCTET STRING that stands in a field.
+#[tactic(auto, unfolding(crate::specs::Reading::field_at))]
+pub fn read_octets_field(alloc: Global, fields: &mut Reader<'_>, tag: u8) -> Result<Bytes, DerError>
+    ensures { Takes (λ x. x) result fields.new (field_at tag octets_of fields.old) }
+{
+    read_octets(alloc, fields.element(tag)?)
 }

@@ -12,10 +12,10 @@ ghost use Rattle.krb_der.specs.Writing.{IsShort, IsShortBody, safe_before_data, 
 
 use crate::body::{Body, BodyRef, is_short, read_body};
 use crate::error::DerError;
-use crate::integer::{int32_field_size, known_int32, read_int32, write_int32_field};
+use crate::integer::{int32_field_size, known_int32, read_int32_field, write_int32_field};
 use crate::reader::Reader;
 use crate::tag;
-use crate::typed::{read_typed, typed_size, write_typed_field};
+use crate::typed::{read_typed_field, typed_size, write_typed_field};
 use crate::writer::{Writer, size_around};
 use krb_base::{Bytes, FRAME_LIMIT};
 use std::alloc::{AllocError, Global};
@@ -45,10 +45,10 @@ pub fn read_safe(alloc: Global, bytes: &[u8]) -> Result<SafeMsg, DerError>
     ensures { Gives (λ x. x) result (safe_of bytes.now) }
 {
     let mut fields = Reader::inside(tag::SEQUENCE, bytes)?;
-    let pvno = read_int32(fields.element(tag::FIELD_0)?)?;
-    let msg_type = read_int32(fields.element(tag::FIELD_1)?)?;
+    let pvno = read_int32_field(&mut fields, tag::FIELD_0)?;
+    let msg_type = read_int32_field(&mut fields, tag::FIELD_1)?;
     let body = read_body(alloc, fields.element(tag::FIELD_2)?)?;
-    let (cksum_type, checksum) = read_typed(alloc, fields.element(tag::FIELD_3)?)?;
+    let (cksum_type, checksum) = read_typed_field(alloc, &mut fields, tag::FIELD_3)?;
     fields.finish(SafeMsg {
         pvno,
         msg_type,
@@ -252,20 +252,29 @@ impl<'a> SafeRef<'a> {
         Ok(size)
     }
 
+    /// Adds what stands before the data in its spelling with no checksum.
+    fn write_before_data(&self, out: &mut Writer) -> Result<(), AllocError>
+        requires short { IsShortBody self.now.body }
+        requires time { IfSome self.now.body.time IsSecond }
+        ensures { OnOk result (out.new ≡ out.old ++ safe_before_data self.now) }
+    {
+        let fields = self.fields_size(&0, &[]);
+        out.begin(tag::KRB_SAFE, size_around(fields))?;
+        out.begin(tag::SEQUENCE, fields)?;
+        write_int32_field(out, tag::FIELD_0, &self.pvno)?;
+        write_int32_field(out, tag::FIELD_1, &self.msg_type)?;
+        out.begin(tag::FIELD_2, self.body.size())?;
+        self.body.write_before_data(out)
+    }
+
     /// What stands before the data in its spelling with no checksum.
     fn before_data(&self, alloc: Global) -> Result<Vec<u8>, AllocError>
         requires short { IsShortBody self.now.body }
         requires time { IfSome self.now.body.time IsSecond }
         ensures { IfOk result (λ v. v.items ≡ safe_before_data self.now) }
     {
-        let fields = self.fields_size(&0, &[]);
         let mut out = Writer::with_capacity(alloc, HEADERS_SIZE)?;
-        out.begin(tag::KRB_SAFE, size_around(fields))?;
-        out.begin(tag::SEQUENCE, fields)?;
-        write_int32_field(&mut out, tag::FIELD_0, &self.pvno)?;
-        write_int32_field(&mut out, tag::FIELD_1, &self.msg_type)?;
-        out.begin(tag::FIELD_2, self.body.size())?;
-        self.body.write_before_data(&mut out)?;
+        self.write_before_data(&mut out)?;
         Ok(out.into_vec())
     }
 

@@ -5,11 +5,11 @@ ghost use Rattle.std.specs.Prelude.{◌≡◌, ◌<◌, ◌≤◌, ◌+◌, ◌+
 ghost use Rattle.krb_der.specs.Element.{joined, tagged};
 ghost use Rattle.krb_der.specs.Typed.{typed_fields, typed_octets};
 ghost use Rattle.krb_der.specs.Writing.{IsShort};
-ghost use Rattle.krb_der.specs.Reading.{Gives, typed_of};
+ghost use Rattle.krb_der.specs.Reading.{Gives, Takes, field_at, typed_of};
 
 use crate::error::DerError;
-use crate::integer::{int32_field_size, read_int32, write_int32_field};
-use crate::reader::{Reader, read_octets};
+use crate::integer::{int32_field_size, read_int32_field, write_int32_field};
+use crate::reader::{Reader, read_octets_field};
 use crate::tag;
 use crate::writer::{Writer, octets_field_size, size_around};
 use krb_base::Bytes;
@@ -21,9 +21,21 @@ pub fn read_typed(alloc: Global, bytes: &[u8]) -> Result<(i32, Bytes), DerError>
     ensures { Gives (λ x. (x.0, x.1)) result (typed_of bytes.now) }
 {
     let mut fields = Reader::inside(tag::SEQUENCE, bytes)?;
-    let kind = read_int32(fields.element(tag::FIELD_0)?)?;
-    let bytes = read_octets(alloc, fields.element(tag::FIELD_1)?)?;
+    let kind = read_int32_field(&mut fields, tag::FIELD_0)?;
+    let bytes = read_octets_field(alloc, &mut fields, tag::FIELD_1)?;
     fields.finish((kind, bytes))
+}
+
+/// The type and the bytes that stand in a field.
+#[tactic(auto, unfolding(crate::specs::Reading::field_at))]
+pub fn read_typed_field(
+    alloc: Global,
+    fields: &mut Reader<'_>,
+    tag: u8,
+) -> Result<(i32, Bytes), DerError>
+    ensures { Takes (λ x. (x.0, x.1)) result fields.new (field_at tag typed_of fields.old) }
+{
+    read_typed(alloc, fields.element(tag)?)
 }
 
 fn fields_size(kind: &i32, bytes: &[u8]) -> usize

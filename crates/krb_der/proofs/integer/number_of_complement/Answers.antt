@@ -1,4 +1,4 @@
-use Rattle.std.proofs.Common.{◌^◌, ◌≤◌, ◌∙◌, arith, length, lit<}
+use Rattle.std.proofs.Common.{◌^◌, ◌≤◌, arith, length, lit<}
 use Rattle.std.proofs.Math.Nat.{pow-le-pow_right}
 use Rattle.krb_der.proofs.Numbers.{be_value-complement}
 use Rattle.krb_der.proofs.integer.number_of_complement.Goals as goal

@@ -1,4 +1,4 @@
-use Rattle.std.proofs.Common.{◌++◌, Ok, Err, arith}
+use Rattle.std.proofs.Common.{◌++◌, arith}
 use Rattle.krb_der.specs.Tag.{application}
 use Rattle.krb_der.specs.Reading.{EndsWith}
 use Rattle.krb_der.proofs.Places.{ends-alone, if-ok}

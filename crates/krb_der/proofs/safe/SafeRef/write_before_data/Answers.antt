@@ -3,7 +3,7 @@ use Rattle.krb_der.specs.Tag.{sequence_tag}
 use Rattle.krb_der.specs.Element.{joined}
 use Rattle.krb_der.specs.Safe.{safe_fields, with_checksum}
 use Rattle.krb_der.proofs.Readers.{size-tagged}
-use Rattle.krb_der.proofs.safe.SafeRef.before_data.Goals as goal
+use Rattle.krb_der.proofs.safe.SafeRef.write_before_data.Goals as goal
 
 pub returns : goal.returns
 returns c = grind (arith, append_assoc, size-tagged sequence_tag (joined (safe_fields (with_checksum c.args.self.now (pos 0) []))))
