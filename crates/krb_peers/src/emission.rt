@@ -85,6 +85,7 @@ fn emit_one(alloc: Global, frames: &[Vec<u8>], one: &Emit) -> Result<Vec<u8>, Al
 #[cfg(test)]
 mod tests {
     use super::*;
+    use crate::asserts::{assert_displayed, assert_same};
     use krb_base::Bytes;
     use std::test::Fail;
 
@@ -104,16 +105,24 @@ mod tests {
                 .all(|(frame, bytes)| frame.as_slice() == *bytes)
     }
 
+    /// Whether the plan makes these frames of the frames.
+    fn emits(
+        alloc: Global,
+        frames: &[Vec<u8>],
+        plan: &[Emit],
+        expected: &[&[u8]],
+    ) -> Result<bool, Fail> {
+        let wire = emit(alloc, frames, plan)?;
+        Ok(is_wire(wire.as_slice(), expected))
+    }
+
     #[test]
     fn frames_repeated_dropped_and_reordered(rt: HostRuntime) -> Result<(), Fail> {
         let frames = two_frames(rt.alloc())?;
         let plan = [Emit::Frame(1), Emit::Frame(0), Emit::Frame(0)];
-        let wire = emit(rt.alloc(), frames.as_slice(), &plan)?;
-        assert!(rt; is_wire(wire.as_slice(), &[b"c", b"ab", b"ab"]));
-        let wire = emit(rt.alloc(), frames.as_slice(), &[Emit::Frame(1)])?;
-        assert!(rt; is_wire(wire.as_slice(), &[b"c"]));
-        let wire = emit(rt.alloc(), frames.as_slice(), &[])?;
-        assert_eq!(rt; wire.len(), 0);
+        assert!(rt; emits(rt.alloc(), &frames, &plan, &[b"c", b"ab", b"ab"])?);
+        assert!(rt; emits(rt.alloc(), &frames, &[Emit::Frame(1)], &[b"c"])?);
+        assert!(rt; emits(rt.alloc(), &frames, &[], &[])?);
         Ok(())
     }
 
@@ -135,8 +144,7 @@ mod tests {
                 mask: 0x20,
             },
         ];
-        let wire = emit(rt.alloc(), frames.as_slice(), &plan)?;
-        assert!(rt; is_wire(wire.as_slice(), &[b"ad", b"raw", b"aB"]));
+        assert!(rt; emits(rt.alloc(), &frames, &plan, &[b"ad", b"raw", b"aB"])?);
         assert!(rt; is_wire(frames.as_slice(), &[b"ab", b"c"]));
         Ok(())
     }
@@ -168,8 +176,8 @@ mod tests {
             (EmitError::Memory, 2, "out of memory"),
         ];
         for (error, code, words) in table {
-            assert_eq!(rt; error.code(), code);
-            assert_eq!(rt; format!(in rt.alloc(); "{error}")?.as_str(), words);
+            assert_same(&rt, error.code(), code);
+            assert_displayed(&rt, error, words)?;
         }
         Ok(())
     }

@@ -20,6 +20,8 @@
 //! ```
 #![tactic(auto)]
 
+#[cfg(test)]
+mod asserts;
 mod confounder;
 mod delivery;
 mod emission;

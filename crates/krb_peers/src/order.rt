@@ -145,6 +145,7 @@ impl Order {
 #[cfg(test)]
 mod tests {
     use super::*;
+    use crate::asserts::{assert_displayed, assert_same};
     use krb_base::Bytes;
     use std::test::Fail;
 
@@ -164,11 +165,14 @@ mod tests {
             (9, &Record::Close, Ok(()), 10),
             (10, &text, Err(OrderRefusal::AfterClose), 10),
         ];
-        assert!(rt; order.expected() == 7 && !order.closed());
+        assert_same(&rt, (order.expected(), order.closed()), (7, false));
         for (number, record, answer, then) in offers {
-            assert_eq!(rt; order.accept(number, record), answer, "at {number}");
-            assert_eq!(rt; order.expected(), then, "after {number}");
-            assert_eq!(rt; order.closed(), then == 10, "after {number}");
+            assert_same(
+                &rt,
+                (number, order.accept(number, record)),
+                (number, answer),
+            );
+            assert_same(&rt, (order.expected(), order.closed()), (then, then == 10));
         }
     }
 
@@ -176,11 +180,15 @@ mod tests {
     fn last_number(rt: HostRuntime) {
         let text = text(&rt);
         let mut order = Order::new(4_294_967_295);
-        assert_eq!(rt; order.accept(4_294_967_295, &text), Ok(()));
-        let beyond = order.accept(4_294_967_296, &text);
-        assert_eq!(rt; beyond, Err(OrderRefusal::BadOrder));
-        assert_eq!(rt; order.accept(0, &text), Err(OrderRefusal::BadOrder));
-        assert!(rt; order.expected() == 4_294_967_296 && !order.closed());
+        assert_same(&rt, order.accept(4_294_967_295, &text), Ok(()));
+        let refused = Err(OrderRefusal::BadOrder);
+        assert_same(&rt, order.accept(4_294_967_296, &text), refused);
+        assert_same(&rt, order.accept(0, &text), refused);
+        assert_same(
+            &rt,
+            (order.expected(), order.closed()),
+            (4_294_967_296, false),
+        );
     }
 
     #[test]
@@ -194,8 +202,8 @@ mod tests {
             ),
         ];
         for (refusal, code, words) in table {
-            assert_eq!(rt; refusal.code(), code);
-            assert_eq!(rt; format!(in rt.alloc(); "{refusal}")?.as_str(), words);
+            assert_same(&rt, refusal.code(), code);
+            assert_displayed(&rt, refusal, words)?;
         }
         Ok(())
     }

@@ -163,6 +163,7 @@ fn batch_record(alloc: Global, bytes: &[u8]) -> Result<Record, RecordError>
 #[cfg(test)]
 mod tests {
     use super::*;
+    use crate::asserts::{assert_displayed, assert_same};
     use krb_base::USER_DATA_LIMIT;
     use std::test::Fail;
 
@@ -187,50 +188,55 @@ mod tests {
         }
     }
 
+    /// Whether the bytes are those of the record of a text.
+    fn are_of_text(alloc: Global, bytes: &[u8], text: &[u8]) -> Result<bool, Fail> {
+        let record = read_record(alloc, bytes)?;
+        Ok(is_text(&record, text) && record_bytes(alloc, &record)?.as_slice() == bytes)
+    }
+
+    /// Whether they are those of the record of a batch.
+    fn are_of_batch(alloc: Global, bytes: &[u8], texts: &[&[u8]]) -> Result<bool, Fail> {
+        let record = read_record(alloc, bytes)?;
+        Ok(is_batch(&record, texts) && record_bytes(alloc, &record)?.as_slice() == bytes)
+    }
+
+    /// Whether they are those of the close.
+    fn are_of_close(alloc: Global, bytes: &[u8]) -> Result<bool, Fail> {
+        let record = read_record(alloc, bytes)?;
+        Ok(matches!(record, Record::Close) && record_bytes(alloc, &record)?.as_slice() == bytes)
+    }
+
+    /// Whether they are no record's.
+    fn are_of_none(alloc: Global, bytes: &[u8]) -> bool {
+        matches!(read_record(alloc, bytes), Err(RecordError::BadRecord))
+    }
+
     #[test]
     fn no_record(rt: HostRuntime) {
         for bytes in [[].as_slice(), &[0x43, 0x00], &[0x58], &[0x45, 0x61]] {
-            let answer = read_record(rt.alloc(), bytes);
-            assert!(rt;
-                matches!(answer, Err(RecordError::BadRecord)),
-                "at {bytes:?}"
-            );
+            assert!(rt; are_of_none(rt.alloc(), bytes), "at {bytes:?}");
         }
     }
 
     #[test]
     fn empty_text(rt: HostRuntime) -> Result<(), Fail> {
-        let record = read_record(rt.alloc(), &[0x44])?;
-        assert!(rt; is_text(&record, &[]));
-        assert_eq!(rt;
-            record_bytes(rt.alloc(), &record)?.as_slice(),
-            [0x44].as_slice()
-        );
+        assert!(rt; are_of_text(rt.alloc(), &[0x44], &[])?);
         Ok(())
     }
 
     #[test]
     fn text_and_close(rt: HostRuntime) -> Result<(), Fail> {
-        let record = read_record(rt.alloc(), b"\x44hi")?;
-        assert!(rt; is_text(&record, b"hi"));
-        let bytes = record_bytes(rt.alloc(), &record)?;
-        assert_eq!(rt; bytes.as_slice(), [0x44, 0x68, 0x69].as_slice());
-        let close = read_record(rt.alloc(), &[0x43])?;
-        assert!(rt; matches!(close, Record::Close));
-        let bytes = record_bytes(rt.alloc(), &close)?;
-        assert_eq!(rt; bytes.as_slice(), [0x43].as_slice());
+        assert!(rt; are_of_text(rt.alloc(), &[0x44, 0x68, 0x69], b"hi")?);
+        assert!(rt; are_of_close(rt.alloc(), &[0x43])?);
         Ok(())
     }
 
     #[test]
     fn batch_of_two_texts(rt: HostRuntime) -> Result<(), Fail> {
         let bytes = b"\x42\0\0\0\x01\x61\0\0\0\x01\x62";
-        let record = read_record(rt.alloc(), bytes)?;
-        assert!(rt; is_batch(&record, &[b"a", b"b"]));
-        let again = record_bytes(rt.alloc(), &record)?;
-        assert_eq!(rt; again.as_slice(), bytes.as_slice());
-        let empty = read_record(rt.alloc(), &[0x42, 0, 0, 0, 0, 0, 0, 0, 0])?;
-        assert!(rt; is_batch(&empty, &[b"", b""]));
+        assert!(rt; are_of_batch(rt.alloc(), bytes, &[b"a", b"b"])?);
+        let empty = [0x42, 0, 0, 0, 0, 0, 0, 0, 0];
+        assert!(rt; are_of_batch(rt.alloc(), &empty, &[b"", b""])?);
         Ok(())
     }
 
@@ -242,25 +248,18 @@ mod tests {
             b"\x42\0\0\0\x01\x61\0\0\0\x02",
             b"\x42\0\0\0\x01\x61\0\0\0\x01\x62\0",
         ] {
-            let answer = read_record(rt.alloc(), bytes);
-            assert!(rt;
-                matches!(answer, Err(RecordError::BadRecord)),
-                "at {bytes:?}"
-            );
+            assert!(rt; are_of_none(rt.alloc(), bytes), "at {bytes:?}");
         }
     }
 
     #[test]
     fn longest_text(rt: HostRuntime) -> Result<(), Fail> {
         let mut bytes = vec![in rt.alloc(); 0x61; 1_000_001]?;
-        assert_eq!(rt; bytes.len(), USER_DATA_LIMIT);
+        assert_same(&rt, bytes.len(), USER_DATA_LIMIT);
         bytes[0] = 0x44;
-        let record = read_record(rt.alloc(), bytes.as_slice())?;
-        assert!(rt; is_text(&record, &bytes[1..]));
-        assert!(rt; record_bytes(rt.alloc(), &record)?.as_slice() == bytes.as_slice());
+        assert!(rt; are_of_text(rt.alloc(), bytes.as_slice(), &bytes[1..])?);
         bytes.push(0x61)?;
-        let answer = read_record(rt.alloc(), bytes.as_slice());
-        assert!(rt; matches!(answer, Err(RecordError::BadRecord)));
+        assert!(rt; are_of_none(rt.alloc(), bytes.as_slice()));
         Ok(())
     }
 
@@ -271,8 +270,8 @@ mod tests {
             (RecordError::Memory, 2, "out of memory"),
         ];
         for (error, code, words) in table {
-            assert_eq!(rt; error.code(), code);
-            assert_eq!(rt; format!(in rt.alloc(); "{error}")?.as_str(), words);
+            assert_same(&rt, error.code(), code);
+            assert_displayed(&rt, error, words)?;
         }
         Ok(())
     }

@@ -97,6 +97,7 @@ pub fn emit_sealed<S: Sealer>(
 #[cfg(test)]
 mod tests {
     use super::*;
+    use crate::asserts::{assert_displayed, assert_same};
     use std::test::Fail;
 
     #[test]
@@ -112,8 +113,8 @@ mod tests {
             ),
         ];
         for (error, code, words) in table {
-            assert_eq!(rt; error.code(), code);
-            assert_eq!(rt; format!(in rt.alloc(); "{error}")?.as_str(), words);
+            assert_same(&rt, error.code(), code);
+            assert_displayed(&rt, error, words)?;
         }
         Ok(())
     }

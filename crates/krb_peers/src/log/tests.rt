@@ -1,16 +1,12 @@
-ghost use Rattle.std.specs.Prelude.{◌≡◌, IfOk};
+ghost use Rattle.std.specs.Prelude.{◌≡◌, ◌<◌, false, OnOk};
+ghost use Rattle.krb_peers.specs.Log.{is_closed, appended};
 
 use super::{Entry, Event, Log, Status};
+use crate::asserts::assert_same;
 use krb_base::Bytes;
 use krb_batch::Texts;
 use krb_seal::Refusal;
 use std::test::Fail;
-
-fn text(rt: &HostRuntime, bytes: &[u8]) -> Result<Event, Fail>
-    ensures { IfOk result (λ event. event ≡ Event.Text bytes.now) }
-{
-    Ok(Event::Text(Bytes::new(Vec::from_slice(rt.alloc(), bytes)?)))
-}
 
 fn texts(rt: &HostRuntime, parts: &[&[u8]]) -> Result<Texts, Fail> {
     let mut texts = Vec::new(rt.alloc());
@@ -20,40 +16,70 @@ fn texts(rt: &HostRuntime, parts: &[&[u8]]) -> Result<Texts, Fail> {
     Ok(Texts::new(texts))
 }
 
-fn is_text(entry: &Entry, lane: u32, bytes: &[u8]) -> bool {
-    match &entry.event {
-        Event::Text(text) => entry.lane == lane && text.as_slice() == bytes,
-        Event::Closed | Event::Refused(_) => false,
+fn push_text(rt: &HostRuntime, log: &mut Log, lane: u32, bytes: &[u8]) -> Result<(), Fail>
+    requires lane { lane < log.old.lanes }
+    requires open { is_closed lane log.old.entries ≡ false }
+    ensures { OnOk result (log.new ≡ appended log.old lane (Event.Text bytes.now)) }
+{
+    let text = Bytes::new(Vec::from_slice(rt.alloc(), bytes)?);
+    Ok(log.push(lane, Event::Text(text))?)
+}
+
+/// Whether the entry is that of a lane's text, or where none is given of a frame out of order.
+fn is_entry(entry: &Entry, lane: u32, bytes: Option<&[u8]>) -> bool {
+    let same = match (&entry.event, bytes) {
+        (Event::Text(text), Some(bytes)) => text.as_slice() == bytes,
+        (Event::Refused(refusal), None) => *refusal == Refusal::BadOrder,
+        _ => false,
+    };
+    same && entry.lane == lane
+}
+
+fn are_entries(entries: &[Entry], expected: &[(u32, Option<&[u8]>)]) -> bool {
+    entries.len() == expected.len()
+        && entries
+            .iter()
+            .zip(expected)
+            .all(|(entry, (lane, bytes))| is_entry(entry, *lane, *bytes))
+}
+
+/// Whether the text of a lane at place `i` is this.
+fn is_text_at(log: &Log, lane: u32, i: usize, bytes: &[u8]) -> bool
+    requires { lane < log.now.lanes }
+{
+    match log.text(lane, i) {
+        Some(text) => text == bytes,
+        None => false,
     }
 }
 
 #[test]
 fn new_log_is_live(rt: HostRuntime) {
     let log = Log::new(rt.alloc(), 8);
-    assert_eq!(rt; log.entries().len(), 0);
+    assert!(rt; log.entries().is_empty());
     for lane in 0..8 {
-        assert_eq!(rt; log.texts(lane), 0);
-        assert!(rt; log.text(lane, 0).is_none());
-        assert_eq!(rt; log.status(lane), Status::Live);
+        assert!(rt; log.texts(lane) == 0 && log.text(lane, 0).is_none());
+        assert_same(&rt, log.status(lane), Status::Live);
     }
 }
 
 #[test]
 fn texts_of_two_lanes(rt: HostRuntime) -> Result<(), Fail> {
     let mut log = Log::new(rt.alloc(), 2);
-    log.push(0, text(&rt, b"a")?)?;
-    log.push(1, text(&rt, b"")?)?;
+    push_text(&rt, &mut log, 0, b"a")?;
+    push_text(&rt, &mut log, 1, b"")?;
     log.push(0, Event::Refused(Refusal::BadOrder))?;
-    log.push(0, text(&rt, b"bc")?)?;
-    assert_eq!(rt; log.entries().len(), 4);
-    assert!(rt; is_text(&log.entries()[0], 0, b"a"));
-    assert!(rt; is_text(&log.entries()[1], 1, b""));
-    assert!(rt; matches!(log.entries()[2].event, Event::Refused(Refusal::BadOrder)));
-    assert!(rt; is_text(&log.entries()[3], 0, b"bc"));
-    assert!(rt; log.texts(0) == 2 && log.texts(1) == 1);
-    assert_eq!(rt; log.text(0, 0).ok_or("no text")?, b"a".as_slice());
-    assert_eq!(rt; log.text(0, 1).ok_or("no text")?, b"bc".as_slice());
-    assert_eq!(rt; log.text(1, 0).ok_or("no text")?, b"".as_slice());
+    push_text(&rt, &mut log, 0, b"bc")?;
+    let expected = [
+        (0, Some(b"a".as_slice())),
+        (1, Some(b"")),
+        (0, None),
+        (0, Some(b"bc")),
+    ];
+    assert!(rt; are_entries(log.entries(), &expected));
+    assert_same(&rt, (log.texts(0), log.texts(1)), (2, 1));
+    assert!(rt; is_text_at(&log, 0, 0, b"a") && is_text_at(&log, 0, 1, b"bc"));
+    assert!(rt; is_text_at(&log, 1, 0, b""));
     assert!(rt; log.text(0, 2).is_none() && log.text(1, 1).is_none());
     Ok(())
 }
@@ -62,16 +88,20 @@ fn texts_of_two_lanes(rt: HostRuntime) -> Result<(), Fail> {
 fn batch_is_a_text_for_each(rt: HostRuntime) -> Result<(), Fail> {
     let mut log = Log::new(rt.alloc(), 2);
     log.push(0, Event::Refused(Refusal::BadOrder))?;
-    log.push(1, text(&rt, b"x")?)?;
+    push_text(&rt, &mut log, 1, b"x")?;
     log.push_batch(0, texts(&rt, &[b"a", b"", b"cd"])?)?;
-    assert_eq!(rt; log.entries().len(), 5);
-    for (at, bytes) in [(2, b"a".as_slice()), (3, b""), (4, b"cd")] {
-        assert!(rt; is_text(&log.entries()[at], 0, bytes));
-    }
-    assert!(rt; log.texts(0) == 3 && log.texts(1) == 1);
-    assert_eq!(rt; log.text(0, 0).ok_or("no text")?, b"a".as_slice());
-    assert_eq!(rt; log.text(0, 2).ok_or("no text")?, b"cd".as_slice());
-    assert_eq!(rt; log.status(0), Status::Live);
+    let x = (1, Some(b"x".as_slice()));
+    let expected = [
+        (0, None),
+        x,
+        (0, Some(b"a")),
+        (0, Some(b"")),
+        (0, Some(b"cd")),
+    ];
+    assert!(rt; are_entries(log.entries(), &expected));
+    assert_same(&rt, (log.texts(0), log.texts(1)), (3, 1));
+    assert!(rt; is_text_at(&log, 0, 0, b"a") && is_text_at(&log, 0, 2, b"cd"));
+    assert_same(&rt, log.status(0), Status::Live);
     Ok(())
 }
 
@@ -82,10 +112,9 @@ fn close_precedes_end(rt: HostRuntime) -> Result<(), Fail> {
     log.push(1, Event::Refused(Refusal::AfterClose))?;
     log.end(1);
     log.end(2);
-    assert_eq!(rt; log.status(0), Status::Live);
-    assert_eq!(rt; log.status(1), Status::Closed);
-    assert_eq!(rt; log.status(2), Status::Truncated);
-    assert_eq!(rt; log.entries().len(), 2);
-    assert_eq!(rt; log.texts(1), 0);
+    assert_same(&rt, log.status(0), Status::Live);
+    assert_same(&rt, log.status(1), Status::Closed);
+    assert_same(&rt, log.status(2), Status::Truncated);
+    assert_same(&rt, (log.entries().len(), log.texts(1)), (2, 0));
     Ok(())
 }
