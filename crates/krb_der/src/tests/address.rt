@@ -2,12 +2,21 @@ use super::{SAFE, decode_safe};
 use crate::{DerError, HostAddress};
 use std::alloc::Global;
 
+/// The sender's address of `SAFE`.
+fn sender(alloc: Global) -> Result<HostAddress, DerError> {
+    Ok(decode_safe(alloc, &SAFE)?.body.s_addr)
+}
+
+/// Whether an address and its clone are this one.
+fn are_same(made: &HostAddress, sender: &HostAddress) -> Result<(bool, bool), DerError> {
+    let copy = made.clone()?;
+    Ok((made.same(sender), copy.same(sender)))
+}
+
 /// Whether an address made of these parts, and its clone, are the sender's of `SAFE`.
 fn are_senders(alloc: Global, kind: i32, bytes: &[u8]) -> Result<(bool, bool), DerError> {
-    let m = decode_safe(alloc, &SAFE)?;
     let made = HostAddress::new(alloc, kind, bytes)?;
-    let copy = made.clone()?;
-    Ok((made.same(&m.body.s_addr), copy.same(&m.body.s_addr)))
+    are_same(&made, &sender(alloc)?)
 }
 
 #[test]

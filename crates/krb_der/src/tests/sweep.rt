@@ -5,6 +5,8 @@
 use super::{SAFE, is_written, priv_spelling, safe_spelling};
 use crate::{DerError, Message, decode};
 use std::alloc::Global;
+use std::io::Print;
+use std::process::Abort;
 use std::test::Fail;
 
 /// No text and no time, from 10.0.0.1 to 10.0.0.255, with a checksum of two bytes.
@@ -31,6 +33,22 @@ fn is_spelt(alloc: Global, message: &Message, bytes: &[u8]) -> Result<bool, DerE
     Ok(is_written(Ok(spelling), bytes))
 }
 
+/// What is read of the bytes, with memory at the second call.
+fn read(
+    rt: &(impl Abort + Print + Alloc<A = Global>),
+    name: &str,
+    bytes: &[u8],
+) -> Result<Message, Fail> {
+    match decode(rt.alloc(), bytes) {
+        Ok(message) => Ok(message),
+        Err(error) => {
+            assert!(rt; error == DerError::Memory, "{name}");
+            println!(rt; "refused: decode of {name}")?;
+            Ok(decode(rt.alloc(), bytes)?)
+        }
+    }
+}
+
 #[test]
 fn message_is_read_or_memory_wanted(rt: HostRuntime) -> Result<(), Fail> {
     for (name, bytes) in [
@@ -38,15 +56,7 @@ fn message_is_read_or_memory_wanted(rt: HostRuntime) -> Result<(), Fail> {
         ("KRB-SAFE with a checksum", &SAFE_WITH_CHECKSUM),
         ("KRB-PRIV with a cipher", &PRIV_WITH_CIPHER),
     ] {
-        let mut read = decode(rt.alloc(), bytes);
-        if let Err(error) = read {
-            assert_eq!(rt; error, DerError::Memory, "{name}");
-            println!(rt; "refused: decode of {name}")?;
-            read = decode(rt.alloc(), bytes);
-        }
-        let Ok(message) = read else {
-            return Err(Fail::from("not read with memory"));
-        };
+        let message = read(&rt, name, bytes)?;
         assert!(rt; is_spelt(rt.alloc(), &message, bytes)?, "{name}");
     }
     Ok(())
