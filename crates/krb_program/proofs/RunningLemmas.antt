@@ -1,0 +1,106 @@
+-- A flush behind a command.
+use Rattle.std.proofs.Common.{◌≡◌, ◌<◌, length, inl, inr, List, ℕ, [], Option, Some, None, Result, Ok, Err, IfSome, IfOk, OnErr, refl, sym, subst, append-nil}
+use Rattle.std.specs.Io.KnownBytes.{Appends, Keeps}
+use Rattle.std.proofs.KnownBytes.{Keeps-trans}
+use Rattle.krb_job.specs.declared.bad_input.BadInput.{BadInput}
+use Rattle.krb_commands.specs.declared.fault.Fault.{Fault}
+use Rattle.krb_commands.specs.declared.fault.Fault.TheVariants as fault
+use Rattle.krb_commands.specs.Input.{input_limit}
+use Rattle.krb_commands.specs.Output.{AppendsPrefix}
+use Rattle.krb_commands.specs.Show.{Shows, ShowsPrefix}
+use Rattle.krb_commands.specs.Vectors.{vectors_text}
+use Rattle.krb_program.specs.declared.command.Cmd.{Cmd}
+use Rattle.krb_program.specs.declared.command.Cmd.TheVariants.{Show, Vectors, Seal, Open, Relay}
+use Rattle.krb_program.specs.Told.{Told}
+use Rattle.krb_program.specs.Commands.{Seals, SealsPrefix, Opens, OpensFirst, OpensPrefix, Relays, RelaysPrefix, StopsRelay}
+use Rattle.krb_program.specs.Running.{Does, DoesFirst, DoesPrefix, IsBadInput, IsRun}
+
+-- what is said of bytes that are known stays true while they are kept
+stable : (P : Option (List ℕ) → Option (List ℕ) → Type 0) → ((a b : Option (List ℕ)) → P None a → P None b) → ((xs : List ℕ) → P (Some xs) None → ⊥)
+    → (old mid new : Option (List ℕ)) → Keeps mid new → P old mid → P old new
+stable P free none None mid new k p = free mid new p
+stable P free none (Some xs) None new k p = absurd (none xs p)
+stable P free none (Some xs) (Some ys) None k p = absurd k
+stable P free none (Some xs) (Some ys) (Some zs) k p = subst (λ l. P (Some xs) (Some l)) (sym k) p
+
+does_kept : (command : Cmd) (input old mid new : Option (List ℕ)) (status : ℕ) → Keeps mid new → Does command input old mid status → Does command input old new status
+does_kept Show None old mid new status k d = tt
+does_kept Show (Some bytes) old mid new status k d = stable (λ a b. Shows bytes a b status) (λ a b p. p) (λ xs p. p.2) old mid new k d
+does_kept Vectors input old mid new status k d = stable (λ a b. Appends a b vectors_text × (status ≡ 0)) (λ a b p. p) (λ xs p. p.0) old mid new k d
+does_kept Seal input old mid new status k d = λ told is. stable (λ a b. Seals told a b × (status ≡ 0)) (λ a b p. p) (λ xs p. p.0.2.2.2) old mid new k (d told is)
+does_kept Open input old mid new status k d = λ told is. stable (λ a b. Opens told a b status) (λ a b p. p) (λ xs p. p.2.2) old mid new k (d told is)
+does_kept Relay input old mid new status k d = λ told is. stable (λ a b. Relays told a b status) (λ a b p. p) (λ xs p. p.2.2.2) old mid new k (d told is)
+
+no_seals : (told : Told) (xs : List ℕ) → SealsPrefix told (Some xs) None → ⊥
+no_seals told xs (inl p) = p
+no_seals told xs (inr (s, t, inl p)) = p
+no_seals told xs (inr (s, t, inr (source, e, inl p))) = p
+no_seals told xs (inr (s, t, inr (source, e, inr (emitted, w, p)))) = p.1
+
+no_opens : (told : Told) (xs : List ℕ) → OpensPrefix told (Some xs) None → ⊥
+no_opens told xs (inl p) = p
+no_opens told xs (inr (s, t, inl (v, are, p))) = p.1
+no_opens told xs (inr (s, t, inr (n, v, are, p))) = p.1
+
+no_relays : (told : Told) (xs : List ℕ) → RelaysPrefix told (Some xs) None → ⊥
+no_relays told xs (inl p) = p
+no_relays told xs (inr (job, e, inl p)) = p
+no_relays told xs (inr (job, e, inr (lanes, are, inl p))) = p
+no_relays told xs (inr (job, e, inr (lanes, are, inr (inl (log, w, p))))) = p.1
+no_relays told xs (inr (job, e, inr (lanes, are, inr (inr (log, w, p))))) = p.1
+
+prefix_kept : (command : Cmd) (input old mid new : Option (List ℕ)) → Keeps mid new → DoesPrefix command input old mid → DoesPrefix command input old new
+prefix_kept Show None old mid new k d = tt
+prefix_kept Show (Some bytes) old mid new k d = stable (λ a b. ShowsPrefix bytes a b) (λ a b p. p) (λ xs p. p.2.1) old mid new k d
+prefix_kept Vectors input old mid new k d = stable (λ a b. AppendsPrefix a b vectors_text) (λ a b p. p) (λ xs p. p.1) old mid new k d
+prefix_kept Seal input old mid new k d = λ told is. stable (λ a b. SealsPrefix told a b) (λ a b p. p) (no_seals told) old mid new k (d told is)
+prefix_kept Open input old mid new k d = λ told is. stable (λ a b. OpensPrefix told a b) (λ a b p. p) (no_opens told) old mid new k (d told is)
+prefix_kept Relay input old mid new k d = λ told is. stable (λ a b. RelaysPrefix told a b) (λ a b p. p) (no_relays told) old mid new k (d told is)
+
+first_kept : (command : Cmd) (input old mid new : Option (List ℕ)) → Keeps mid new → DoesFirst command input old mid → DoesFirst command input old new
+first_kept Show input old mid new k d = d
+first_kept Vectors input old mid new k d = d
+first_kept Seal input old mid new k d = d
+first_kept Open input old mid new k d = λ told is. stable (λ a b. OpensFirst told a b) (λ a b p. p) (λ xs p. p.2.3) old mid new k (d told is)
+first_kept Relay input old mid new k d = λ told is. stable (λ a b. StopsRelay told a b) (λ a b p. p) (λ xs p. p.2.2.2) old mid new k (d told is)
+
+-- ---- the whole output is a prefix of itself
+
+whole : (a b : Option (List ℕ)) (text : List ℕ) → Appends a b text → AppendsPrefix a b text
+whole a b text p = (text, p, ([], sym (append-nil text)))
+
+does_prefix : (command : Cmd) (input old new : Option (List ℕ)) (status : ℕ) → Does command input old new status → DoesPrefix command input old new
+does_prefix Show None old new status d = tt
+does_prefix Show (Some bytes) old new status d = (d.0, d.1, whole old new _ d.2)
+does_prefix Vectors input old new status d = whole old new _ d.0
+does_prefix Seal input old new status d = λ told is. let p = (d told is).0 in inr (p.0, p.1, inr (p.2.0, p.2.1, inr (p.2.2.0, p.2.2.1, whole old new _ p.2.2.2)))
+does_prefix Open input old new status d = λ told is. let p = d told is in inr (p.0, p.1, inl (p.2.0, p.2.1, whole old new _ p.2.2))
+does_prefix Relay input old new status d = λ told is. let p = d told is in inr (p.0, p.1, inr (p.2.0, p.2.1, inr (inl (p.2.2.0, p.2.2.1, whole old new _ p.2.2.2))))
+
+-- ---- whatever a command answered
+
+pub any_prefix : (command : Cmd) (input old mid new : Option (List ℕ)) (r : Result ℕ Fault) → Keeps mid new
+    → IfOk r (λ status. Does command input old mid status) → OnErr r (DoesPrefix command input old mid) → DoesPrefix command input old new
+any_prefix command input old mid new (Ok status) k d p = prefix_kept command input old mid new k (does_prefix command input old mid status d)
+any_prefix command input old mid new (Err fault) k d p = prefix_kept command input old mid new k p
+
+-- a run, before the flush and after
+pub run_kept : (command : Cmd) (input old mid new : Option (List ℕ)) (r : Result ℕ Fault) → Keeps mid new
+    → IfOk r (λ status. Does command input old mid status)
+    → OnErr r (DoesPrefix command input old mid)
+    → (r ≡ Err fault.Stopped → DoesFirst command input old mid)
+    → (r ≡ Err fault.Thread → DoesFirst command input old mid)
+    → ((bad : BadInput) → r ≡ Err (fault.BadInput bad) → IsBadInput command input bad)
+    → ((bad : BadInput) → r ≡ Err (fault.BadInput bad) → Keeps old mid)
+    → (r ≡ Err fault.TooLong → IfSome input (λ bytes. input_limit < length bytes))
+    → (r ≡ Err fault.TooLong → Keeps old mid)
+    → (r ≡ Err fault.Read → Keeps old mid)
+    → IsRun command input old new r
+run_kept command input old mid new (Ok status) k done prefix first thread bad bad_keeps long long_keeps read_keeps = does_kept command input old mid new status k done
+run_kept command input old mid new (Err fault.TooLong) k done prefix first thread bad bad_keeps long long_keeps read_keeps = (long refl, Keeps-trans old mid new (long_keeps refl) k)
+run_kept command input old mid new (Err (fault.BadInput b)) k done prefix first thread bad bad_keeps long long_keeps read_keeps = (bad b refl, Keeps-trans old mid new (bad_keeps b refl) k)
+run_kept command input old mid new (Err fault.Memory) k done prefix first thread bad bad_keeps long long_keeps read_keeps = prefix_kept command input old mid new k prefix
+run_kept command input old mid new (Err fault.Stopped) k done prefix first thread bad bad_keeps long long_keeps read_keeps = first_kept command input old mid new k (first refl)
+run_kept command input old mid new (Err fault.Thread) k done prefix first thread bad bad_keeps long long_keeps read_keeps = first_kept command input old mid new k (thread refl)
+run_kept command input old mid new (Err fault.Read) k done prefix first thread bad bad_keeps long long_keeps read_keeps = Keeps-trans old mid new (read_keeps refl) k
+run_kept command input old mid new (Err fault.Write) k done prefix first thread bad bad_keeps long long_keeps read_keeps = prefix_kept command input old mid new k prefix

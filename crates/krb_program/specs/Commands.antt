@@ -1,0 +1,97 @@
+-- What the commands that read a job do, by what they are told.
+use Rattle.std.specs.Prelude.{◌≡◌, ◌⊎◌, List, ℕ, map, Option, Some, Ok, Err}
+use Rattle.std.specs.Io.KnownBytes.{Keeps}
+use Rattle.krb_peers.specs.Sender.{Source}
+use Rattle.krb_peers.specs.Ends.{Ends}
+use Rattle.krb_peers.specs.Wire.{IsBad}
+use Rattle.krb_job.specs.declared.bad_input.BadInput.{BadInput}
+use Rattle.krb_job.specs.Job.{Job}
+use Rattle.krb_job.specs.SenderKeys.{Sender}
+use Rattle.krb_commands.specs.Fault.{bad_plan}
+use Rattle.krb_commands.specs.Sealed.{PrintsSealed, PrintsSealedPrefix}
+use Rattle.krb_commands.specs.Opened.{PrintsFirst, PrintsOpened, PrintsOpenedPrefix}
+use Rattle.krb_commands.specs.Relayed.{HasBadPlanFirst, PrintsRelayed, PrintsRelayedPrefix, PrintsStopped}
+use Rattle.krb_commands.specs.Ends.{source_told, receiver_of, lane_told}
+use Rattle.krb_program.specs.Told.{Told, TellsOne}
+
+-- what a sender seals is printed
+abbrev pub SealsSender : Sender → Option (List ℕ) → Option (List ℕ) → Type 0
+SealsSender sender old new = (source : Source) × (source_told sender ≡ Some source) × PrintsSealed source old new
+
+-- a prefix of that, or nothing
+abbrev pub SealsSenderPrefix : Sender → Option (List ℕ) → Option (List ℕ) → Type 0
+SealsSenderPrefix sender old new =
+    Keeps old new
+    ⊎ ((source : Source) × (source_told sender ≡ Some source) × PrintsSealedPrefix source old new)
+
+-- its plan is bad for its frames
+abbrev pub IsBadSender : Sender → Type 0
+IsBadSender sender = (source : Source) × (source_told sender ≡ Some source) × IsBad source
+
+-- what the one sender of the job seals is printed
+abbrev pub Seals : Told → Option (List ℕ) → Option (List ℕ) → Type 0
+Seals told old new = (sender : Sender) × TellsOne told sender × SealsSender sender old new
+
+abbrev pub SealsPrefix : Told → Option (List ℕ) → Option (List ℕ) → Type 0
+SealsPrefix told old new = Keeps old new ⊎ ((sender : Sender) × TellsOne told sender × SealsSenderPrefix sender old new)
+
+-- a check that isn't passed, or a plan that names what the frames don't have
+abbrev pub IsBadToSeal : Told → BadInput → Type 0
+IsBadToSeal told bad =
+    (told ≡ Err bad)
+    ⊎ ((bad ≡ bad_plan 0) × ((sender : Sender) × TellsOne told sender × IsBadSender sender))
+
+-- what becomes of the frames of the job's one sender is printed, and this is the status
+abbrev pub Opens : Told → Option (List ℕ) → Option (List ℕ) → ℕ → Type 0
+Opens told old new status =
+    (sender : Sender) × TellsOne told sender
+    × PrintsOpened (receiver_of sender) sender.nows sender.frames old new status
+
+-- a prefix of that, or nothing
+abbrev pub OpensPrefix : Told → Option (List ℕ) → Option (List ℕ) → Type 0
+OpensPrefix told old new =
+    Keeps old new
+    ⊎ ((sender : Sender) × TellsOne told sender
+    × PrintsOpenedPrefix (receiver_of sender) sender.nows sender.frames old new)
+
+-- what becomes of the first frames is printed
+abbrev pub OpensFirst : Told → Option (List ℕ) → Option (List ℕ) → Type 0
+OpensFirst told old new =
+    (sender : Sender) × TellsOne told sender × PrintsFirst (receiver_of sender) sender.nows sender.frames old new
+
+-- these are the lanes of the job's senders
+abbrev pub AreLanes : Job → List Ends → Type 0
+AreLanes job lanes = map Some lanes ≡ map lane_told job.senders
+
+-- what the job's senders send is relayed, what became of it is printed, and this is the status
+abbrev pub RelaysJob : Job → Option (List ℕ) → Option (List ℕ) → ℕ → Type 0
+RelaysJob job old new status = (lanes : List Ends) × AreLanes job lanes × PrintsRelayed lanes old new status
+
+-- a prefix of that, or nothing
+abbrev pub RelaysJobPrefix : Job → Option (List ℕ) → Option (List ℕ) → Type 0
+RelaysJobPrefix job old new =
+    Keeps old new
+    ⊎ ((lanes : List Ends) × AreLanes job lanes × PrintsRelayedPrefix lanes old new)
+
+-- what becomes of the frames that were taken until the run stopped is printed
+abbrev pub StopsJob : Job → Option (List ℕ) → Option (List ℕ) → Type 0
+StopsJob job old new = (lanes : List Ends) × AreLanes job lanes × PrintsStopped lanes old new
+
+-- the plan of a lane is bad, and of none before it
+abbrev pub HasBadPlan : Job → BadInput → Type 0
+HasBadPlan job bad =
+    (lanes : List Ends) × (lane : ℕ) × AreLanes job lanes × (bad ≡ bad_plan lane)
+    × HasBadPlanFirst lanes lane
+
+abbrev pub Relays : Told → Option (List ℕ) → Option (List ℕ) → ℕ → Type 0
+Relays told old new status = (job : Job) × (told ≡ Ok job) × RelaysJob job old new status
+
+abbrev pub RelaysPrefix : Told → Option (List ℕ) → Option (List ℕ) → Type 0
+RelaysPrefix told old new = Keeps old new ⊎ ((job : Job) × (told ≡ Ok job) × RelaysJobPrefix job old new)
+
+abbrev pub StopsRelay : Told → Option (List ℕ) → Option (List ℕ) → Type 0
+StopsRelay told old new = (job : Job) × (told ≡ Ok job) × StopsJob job old new
+
+-- a check that isn't passed, or a bad plan
+abbrev pub IsBadToRelay : Told → BadInput → Type 0
+IsBadToRelay told bad = (told ≡ Err bad) ⊎ ((job : Job) × (told ≡ Ok job) × HasBadPlan job bad)

@@ -1,0 +1,282 @@
+//! The commands that read a job. Each sealer is boxed here, by its encryption type.
+
+ghost use Rattle.std.specs.Prelude.{◌≡◌, ◌<◌, ◌≤◌, ◌+◌, ◌∷◌, ◌++◌, [], true, ℕ, List, length, map, All, Some, IsSome, IfOk, IfErr, IfSome, OnOk, OnErr};
+ghost use Rattle.std.specs.Io.KnownBytes.{Keeps};
+ghost use Rattle.krb_peers.specs.Ends.{lanes_of};
+ghost use Rattle.krb_job.specs.declared.bad_input.BadInput.{BadInput};
+ghost use Rattle.krb_job.specs.Job.{most_senders, job_view};
+ghost use Rattle.krb_job.specs.SenderKeys.{seals};
+ghost use Rattle.krb_job.specs.SenderView.{sender_view};
+ghost use Rattle.krb_commands.specs.Ends.{AreReady, sealer_of, lane_told};
+ghost use Rattle.krb_commands.specs.Fault.{bad_plan, IsOfRelaying, IsOfSealing, IsOfTelling};
+ghost use Rattle.krb_base.specs.Limits.{last_number};
+ghost use Rattle.krb_program.specs.Told.{Told, IsTold, TellsOne};
+ghost use Rattle.krb_program.specs.Commands.{Seals, SealsPrefix, SealsSender, SealsSenderPrefix, IsBadSender, IsBadToSeal};
+ghost use Rattle.krb_program.specs.Commands.{Opens, OpensFirst, OpensPrefix};
+ghost use Rattle.krb_program.specs.Commands.{Relays, RelaysPrefix, RelaysJob, RelaysJobPrefix, StopsJob, StopsRelay, HasBadPlan, IsBadToRelay};
+
+use krb_commands::{
+    Fault, LIMIT, SessionKey, key_of, open_job, push_lane, read_all, receiving_of, relay_job,
+    seal_job, sending_of, session_of,
+};
+use krb_job::{Command, Job, Secret, SenderJob, read_job};
+use krb_peers::{Receivers, Receiving, Sending};
+use krb_relay::NoGate;
+use krb_seal::{Aes128Sealer, Aes256Sealer, Sealer};
+use std::alloc::Global;
+use std::io::{Read, Write};
+use std::sync::Wait;
+use std::thread::Threads;
+
+/// Seals the texts of the job's one sender.
+pub fn seal<R: Read, W: Write>(alloc: Global, reader: &mut R, writer: &mut W) -> Result<u8, Fault>
+    ensures printed { (told : Told) → IsTold Command.Seal (R.remaining reader.old) told
+        → OnOk result (Seals told (W.contents writer.old) (W.contents writer.new)) }
+    ensures status { IfOk result (λ status. status ≡ 0) }
+
+    ensures bad_input { (told : Told) → IsTold Command.Seal (R.remaining reader.old) told
+        → (bad : BadInput) → result ≡ Err (Fault.BadInput bad) → IsBadToSeal told bad }
+    ensures bad_input_prints_nothing { (bad : BadInput) → result ≡ Err (Fault.BadInput bad)
+        → Keeps (W.contents writer.old) (W.contents writer.new) }
+    ensures within { OnOk result (IfSome (R.remaining reader.old) (λ input. length input ≤ LIMIT)) }
+    ensures too_long { result ≡ Err Fault.TooLong
+        → IfSome (R.remaining reader.old) (λ input. LIMIT < length input) }
+    ensures too_long_prints_nothing { result ≡ Err Fault.TooLong
+        → Keeps (W.contents writer.old) (W.contents writer.new) }
+    ensures read_fault_prints_nothing { result ≡ Err Fault.Read
+        → Keeps (W.contents writer.old) (W.contents writer.new) }
+    ensures never_stopped { ¬ (result ≡ Err Fault.Stopped) }
+    ensures no_thread { ¬ (result ≡ Err Fault.Thread) }
+    ensures prefix { (told : Told) → IsTold Command.Seal (R.remaining reader.old) told
+        → OnErr result (SealsPrefix told (W.contents writer.old) (W.contents writer.new)) }
+{
+    let sender = one_sender(alloc, reader, Command::Seal)?;
+    seal_sender(alloc, sender, writer)
+}
+
+/// Seals the texts of a sender that has a seed.
+fn seal_sender<W: Write>(alloc: Global, sender: SenderJob, writer: &mut W) -> Result<u8, Fault>
+    requires { IsSome sender.seed }
+    ensures printed { OnOk result (SealsSender (sender_view sender)
+        (W.contents writer.old) (W.contents writer.new)) }
+    ensures status { IfOk result (λ status. status ≡ 0) }
+
+    ensures bad_plan { (bad : BadInput) → result ≡ Err (Fault.BadInput bad)
+        → (bad ≡ bad_plan 0) × IsBadSender (sender_view sender) }
+    ensures bad_plan_prints_nothing { (bad : BadInput) → result ≡ Err (Fault.BadInput bad)
+        → Keeps (W.contents writer.old) (W.contents writer.new) }
+    ensures prefix { OnErr result (SealsSenderPrefix (sender_view sender)
+        (W.contents writer.old) (W.contents writer.new)) }
+    ensures faults { IfErr result IsOfSealing }
+{
+    let session = session_of(alloc, &sender)?;
+    match key_of(&sender) {
+        SessionKey::Aes128(mut key) => {
+            let sealer: Box<dyn Sealer + Send> = Box::new(
+                alloc,
+                Aes128Sealer::new(&mut key, session),
+            )?;
+            seal_with(alloc, sender, sealer, writer)
+        }
+        SessionKey::Aes256(mut key) => {
+            let sealer: Box<dyn Sealer + Send> = Box::new(
+                alloc,
+                Aes256Sealer::new(&mut key, session),
+            )?;
+            seal_with(alloc, sender, sealer, writer)
+        }
+    }
+}
+
+/// Seals the texts of a sender with its sealer.
+fn seal_with<S: Sealer, W: Write>(
+    alloc: Global,
+    sender: SenderJob,
+    sealer: S,
+    writer: &mut W,
+) -> Result<u8, Fault>
+    requires seed { IsSome sender.seed }
+    requires made { S.state sealer ≡ sealer_of (sender_view sender) }
+    requires next { (S.state sealer).next ≤ last_number }
+    ensures printed { OnOk result (SealsSender (sender_view sender)
+        (W.contents writer.old) (W.contents writer.new)) }
+    ensures status { IfOk result (λ status. status ≡ 0) }
+
+    ensures bad_plan { (bad : BadInput) → result ≡ Err (Fault.BadInput bad)
+        → (bad ≡ bad_plan 0) × IsBadSender (sender_view sender) }
+    ensures bad_plan_prints_nothing { (bad : BadInput) → result ≡ Err (Fault.BadInput bad)
+        → Keeps (W.contents writer.old) (W.contents writer.new) }
+    ensures prefix { OnErr result (SealsSenderPrefix (sender_view sender)
+        (W.contents writer.old) (W.contents writer.new)) }
+    ensures faults { IfErr result IsOfSealing }
+{
+    let sending = sending_of(sender, sealer);
+    seal_job(alloc, sending, writer)
+}
+
+/// Opens the frames of the job's one sender.
+pub fn open<R: Read, W: Write>(alloc: Global, reader: &mut R, writer: &mut W) -> Result<u8, Fault>
+    ensures printed { (told : Told) → IsTold Command.Open (R.remaining reader.old) told
+        → IfOk result (Opens told (W.contents writer.old) (W.contents writer.new)) }
+
+    ensures bad_input { (told : Told) → IsTold Command.Open (R.remaining reader.old) told
+        → (bad : BadInput) → result ≡ Err (Fault.BadInput bad) → told ≡ Err bad }
+    ensures bad_input_prints_nothing { (bad : BadInput) → result ≡ Err (Fault.BadInput bad)
+        → Keeps (W.contents writer.old) (W.contents writer.new) }
+    ensures within { OnOk result (IfSome (R.remaining reader.old) (λ input. length input ≤ LIMIT)) }
+    ensures too_long { result ≡ Err Fault.TooLong
+        → IfSome (R.remaining reader.old) (λ input. LIMIT < length input) }
+    ensures too_long_prints_nothing { result ≡ Err Fault.TooLong
+        → Keeps (W.contents writer.old) (W.contents writer.new) }
+    ensures read_fault_prints_nothing { result ≡ Err Fault.Read
+        → Keeps (W.contents writer.old) (W.contents writer.new) }
+    ensures stopped { (told : Told) → IsTold Command.Open (R.remaining reader.old) told
+        → result ≡ Err Fault.Stopped
+        → OpensFirst told (W.contents writer.old) (W.contents writer.new) }
+    ensures no_thread { ¬ (result ≡ Err Fault.Thread) }
+    ensures prefix { (told : Told) → IsTold Command.Open (R.remaining reader.old) told
+        → OnErr result (OpensPrefix told (W.contents writer.old) (W.contents writer.new)) }
+{
+    let sender = one_sender(alloc, reader, Command::Open)?;
+    let receiving = receiving_of(alloc, &sender)?;
+    open_job(alloc, receiving, sender.frames.as_slice(), writer)
+}
+
+/// Relays the texts of all senders of the job, each sealed in a thread of its own.
+pub fn relay<T: Threads + Wait + Sync, R: Read, W: Write>(
+    rt: &T,
+    alloc: Global,
+    reader: &mut R,
+    writer: &mut W,
+) -> Result<u8, Fault>
+    ensures printed { (told : Told) → IsTold Command.Relay (R.remaining reader.old) told
+        → IfOk result (Relays told (W.contents writer.old) (W.contents writer.new)) }
+
+    ensures bad_input { (told : Told) → IsTold Command.Relay (R.remaining reader.old) told
+        → (bad : BadInput) → result ≡ Err (Fault.BadInput bad) → IsBadToRelay told bad }
+    ensures bad_input_prints_nothing { (bad : BadInput) → result ≡ Err (Fault.BadInput bad)
+        → Keeps (W.contents writer.old) (W.contents writer.new) }
+    ensures within { OnOk result (IfSome (R.remaining reader.old) (λ input. length input ≤ LIMIT)) }
+    ensures too_long { result ≡ Err Fault.TooLong
+        → IfSome (R.remaining reader.old) (λ input. LIMIT < length input) }
+    ensures too_long_prints_nothing { result ≡ Err Fault.TooLong
+        → Keeps (W.contents writer.old) (W.contents writer.new) }
+    ensures read_fault_prints_nothing { result ≡ Err Fault.Read
+        → Keeps (W.contents writer.old) (W.contents writer.new) }
+    ensures stopped { (told : Told) → IsTold Command.Relay (R.remaining reader.old) told
+        → result ≡ Err Fault.Stopped
+        → StopsRelay told (W.contents writer.old) (W.contents writer.new) }
+    ensures thread { (told : Told) → IsTold Command.Relay (R.remaining reader.old) told
+        → result ≡ Err Fault.Thread
+        → StopsRelay told (W.contents writer.old) (W.contents writer.new) }
+    ensures prefix { (told : Told) → IsTold Command.Relay (R.remaining reader.old) told
+        → OnErr result (RelaysPrefix told (W.contents writer.old) (W.contents writer.new)) }
+{
+    let job = told_job(alloc, reader, Command::Relay)?;
+    relay_senders(rt, alloc, job, writer)
+}
+
+/// Relays the texts of the senders of a job, each of which has a seed.
+fn relay_senders<T: Threads + Wait + Sync, W: Write>(
+    rt: &T,
+    alloc: Global,
+    job: Job,
+    writer: &mut W,
+) -> Result<u8, Fault>
+    requires { All (λ sender. IsSome sender.seed) job.senders.items }
+    ensures printed { IfOk result (λ status.
+        RelaysJob (job_view job) (W.contents writer.old) (W.contents writer.new) status) }
+
+    ensures bad_plan { (bad : BadInput) → result ≡ Err (Fault.BadInput bad)
+        → HasBadPlan (job_view job) bad }
+    ensures bad_plan_prints_nothing { (bad : BadInput) → result ≡ Err (Fault.BadInput bad)
+        → Keeps (W.contents writer.old) (W.contents writer.new) }
+    ensures stopped { result ≡ Err Fault.Stopped
+        → StopsJob (job_view job) (W.contents writer.old) (W.contents writer.new) }
+    ensures thread { result ≡ Err Fault.Thread
+        → StopsJob (job_view job) (W.contents writer.old) (W.contents writer.new) }
+    ensures prefix { OnErr result
+        (RelaysJobPrefix (job_view job) (W.contents writer.old) (W.contents writer.new)) }
+    ensures faults { IfErr result IsOfRelaying }
+{
+    let Job { capacity, senders } = job;
+    let mut sendings = Vec::with_capacity(alloc, senders.len())?;
+    let mut receivers = Receivers::with_capacity(alloc, senders.len())?;
+    for sender in senders {
+        let session = session_of(alloc, &sender)?;
+        let sealer: Box<dyn Sealer + Send> = match key_of(&sender) {
+            SessionKey::Aes128(mut key) => Box::new(alloc, Aes128Sealer::new(&mut key, session))?,
+            SessionKey::Aes256(mut key) => Box::new(alloc, Aes256Sealer::new(&mut key, session))?,
+        };
+        push_told(alloc, &mut sendings, &mut receivers.items, sender, sealer)?;
+    }
+    let receivings = receivers.into_vec(alloc);
+    relay_job(rt, alloc, sendings, receivings, capacity, writer, &NoGate)
+}
+
+/// Adds a sender's lane to those of the senders before it.
+fn push_told<S: Sealer>(
+    alloc: Global,
+    sendings: &mut Vec<Sending<S>>,
+    receivings: &mut Vec<Receiving>,
+    sender: SenderJob,
+    sealer: S,
+) -> Result<(), Fault>
+    requires seed { IsSome sender.seed }
+    requires made { S.state sealer ≡ sealer_of (sender_view sender) }
+    requires next { (S.state sealer).next ≤ last_number }
+    requires ready { AreReady S.state sendings.old.items receivings.old.items }
+    ensures lane { OnOk result
+        (map Some (lanes_of S.state sendings.new.items receivings.new.items)
+        ≡ map Some (lanes_of S.state sendings.old.items receivings.old.items)
+        ++ lane_told (sender_view sender) ∷ []) }
+    ensures ready { OnOk result
+        (AreReady S.state sendings.new.items receivings.new.items) }
+    ensures count { OnOk result
+        (length sendings.new.items ≡ length sendings.old.items + 1) }
+    ensures faults { IfErr result (λ fault. fault ≡ Fault.Memory) }
+{
+    push_lane(alloc, sendings, receivings, sender, sealer)
+}
+
+/// The job that the whole input states for a command.
+fn told_job<R: Read>(alloc: Global, reader: &mut R, command: Command) -> Result<Job, Fault>
+    ensures told { (told : Told) → IsTold command (R.remaining reader.old) told
+        → IfOk result (λ job. told ≡ Ok (job_view job)) }
+    ensures one { most_senders command ≡ 1
+        → IfOk result (λ job. length job.senders.items ≡ 1) }
+    ensures seeds { seals command ≡ true
+        → IfOk result (λ job. All (λ sender. IsSome sender.seed) job.senders.items) }
+
+    ensures bad_input { (told : Told) → IsTold command (R.remaining reader.old) told
+        → (bad : BadInput) → result ≡ Err (Fault.BadInput bad) → told ≡ Err bad }
+    ensures within { OnOk result (IfSome (R.remaining reader.old) (λ input. length input ≤ LIMIT)) }
+    ensures too_long { result ≡ Err Fault.TooLong
+        → IfSome (R.remaining reader.old) (λ input. LIMIT < length input) }
+    ensures faults { IfErr result IsOfTelling }
+{
+    let bytes = read_all(alloc, reader)?;
+    let input = Secret::new(bytes);
+    Ok(read_job(alloc, input.as_slice(), command)?)
+}
+
+/// The one sender of a job for such a command.
+fn one_sender<R: Read>(alloc: Global, reader: &mut R, command: Command) -> Result<SenderJob, Fault>
+    requires { most_senders command ≡ 1 }
+    ensures told { (told : Told) → IsTold command (R.remaining reader.old) told
+        → IfOk result (λ sender. TellsOne told (sender_view sender)) }
+    ensures seed { seals command ≡ true → IfOk result (λ sender. IsSome sender.seed) }
+
+    ensures bad_input { (told : Told) → IsTold command (R.remaining reader.old) told
+        → (bad : BadInput) → result ≡ Err (Fault.BadInput bad) → told ≡ Err bad }
+    ensures within { OnOk result (IfSome (R.remaining reader.old) (λ input. length input ≤ LIMIT)) }
+    ensures too_long { result ≡ Err Fault.TooLong
+        → IfSome (R.remaining reader.old) (λ input. LIMIT < length input) }
+    ensures faults { IfErr result IsOfTelling }
+{
+    let Job {
+        capacity: _,
+        mut senders,
+    } = told_job(alloc, reader, command)?;
+    Ok(senders.pop().unwrap())
+}

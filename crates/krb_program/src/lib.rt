@@ -1,0 +1,26 @@
+//! What the program `krbrelay` does, from the words of its command line to its exit code.
+//!
+//! [`obey`] runs the command that the words name, over a reader and a writer; [`run`] runs a
+//! [`Cmd`] that [`command_of`] has read from them. [`finish`], [`usage`] and [`bad_words`] tell
+//! what went otherwise on standard error, and give the exit code.
+//!
+//! ```text
+//! match obey(&rt, rt.alloc(), words.as_slice(), &mut rt.reader(), &mut writer) {
+//!     Ok(outcome) => finish(&rt, outcome),
+//!     Err(error) => usage(&rt, &error),
+//! }
+//! ```
+#![tactic(auto)]
+
+mod command;
+mod ending;
+mod help;
+mod jobs;
+mod running;
+
+pub use command::{Cmd, command_of};
+pub use ending::{bad_words, finish, usage};
+pub use running::{obey, run};
+
+#[cfg(test)]
+mod tests;

@@ -1,0 +1,105 @@
+//! A command over a reader and a writer.
+
+ghost use Rattle.std.specs.Prelude.{◌≡◌, ◌≢◌, [], ◌<◌, ◌≤◌, length, map, option_map, Some, IfOk, OnOk, OnErr, IfSome};
+ghost use Rattle.std.specs.Io.Buffered.{writer_buffer, writer_contents};
+ghost use Rattle.std.specs.Io.KnownBytes.{Keeps};
+ghost use Rattle.clap.specs.Words.{subcommand_of, FailsBy, fault_of};
+ghost use Rattle.krb_job.specs.declared.bad_input.BadInput.{BadInput};
+ghost use Rattle.krb_commands.specs.Input.{input_limit};
+ghost use Rattle.krb_program.specs.Command.{krbrelay_app, word_of};
+ghost use Rattle.krb_program.specs.Running.{Does, DoesFirst, DoesPrefix, IsBadInput, IsRun};
+
+use crate::command::{Cmd, command_of};
+use crate::jobs;
+use clap::Error;
+use krb_commands::{Fault, show, vectors};
+use std::alloc::Global;
+use std::convert::AsStr;
+use std::io::{BufWriter, Read, Write};
+use std::sync::Wait;
+use std::thread::Threads;
+
+/// Runs the command that the words of a command line name, and answers how it went.
+///
+/// An error is `clap`'s, and nothing is read or written then.
+pub fn obey<'a, T: Threads + Wait + Sync, S: AsStr, R: Read, W: Write + Drop>(
+    rt: &T,
+    alloc: Global,
+    words: &'a [S],
+    reader: &mut R,
+    writer: &mut BufWriter<W>,
+) -> Result<Result<u8, Fault>, Error>
+    ensures ran { IfOk result (λ outcome. (command : Cmd)
+        × (option_map (λ p. p.0) (subcommand_of krbrelay_app (map S.text words.entry.now))
+        ≡ Some (word_of command))
+        × IsRun command (R.remaining reader.old) (writer_contents W.contents writer.old)
+        (writer_contents W.contents writer.new) outcome) }
+    ensures flushed { IfOk result (λ outcome. ¬ (outcome ≡ Err Fault.Write)
+        → writer_buffer writer.new ≡ []) }
+    ensures faults { FailsBy (fault_of krbrelay_app (map S.text words.entry.now)) result }
+{
+    let command = command_of(alloc, words)?;
+    Ok(run(rt, alloc, command, reader, writer))
+}
+
+/// Runs a command, and answers the exit status.
+///
+/// All that is written has left the buffer then, unless the fault is the writer's.
+pub fn run<T: Threads + Wait + Sync, R: Read, W: Write + Drop>(
+    rt: &T,
+    alloc: Global,
+    command: Cmd,
+    reader: &mut R,
+    writer: &mut BufWriter<W>,
+) -> Result<u8, Fault>
+    ensures run { IsRun command (R.remaining reader.old) (writer_contents W.contents writer.old)
+        (writer_contents W.contents writer.new) result }
+    ensures within { command ≢ Cmd.Vectors
+        → OnOk result (IfSome (R.remaining reader.old) (λ input. length input ≤ input_limit)) }
+    ensures flushed { ¬ (result ≡ Err Fault.Write) → writer_buffer writer.new ≡ [] }
+{
+    let outcome = command_over(rt, alloc, command, reader, writer);
+    if writer.flush().is_err() {
+        return Err(Fault::Write);
+    }
+    outcome
+}
+
+/// Runs a command, and lets its last lines stand in the writer's buffer.
+fn command_over<T: Threads + Wait + Sync, R: Read, W: Write>(
+    rt: &T,
+    alloc: Global,
+    command: Cmd,
+    reader: &mut R,
+    writer: &mut W,
+) -> Result<u8, Fault>
+    ensures done { IfOk result (λ status. Does command (R.remaining reader.old)
+        (W.contents writer.old) (W.contents writer.new) status) }
+    ensures within { command ≢ Cmd.Vectors
+        → OnOk result (IfSome (R.remaining reader.old) (λ input. length input ≤ input_limit)) }
+
+    ensures prefix { OnErr result (DoesPrefix command (R.remaining reader.old)
+        (W.contents writer.old) (W.contents writer.new)) }
+    ensures stopped { result ≡ Err Fault.Stopped → DoesFirst command (R.remaining reader.old)
+        (W.contents writer.old) (W.contents writer.new) }
+    ensures thread { result ≡ Err Fault.Thread → DoesFirst command (R.remaining reader.old)
+        (W.contents writer.old) (W.contents writer.new) }
+    ensures bad_input { (bad : BadInput) → result ≡ Err (Fault.BadInput bad)
+        → IsBadInput command (R.remaining reader.old) bad }
+    ensures bad_input_prints_nothing { (bad : BadInput) → result ≡ Err (Fault.BadInput bad)
+        → Keeps (W.contents writer.old) (W.contents writer.new) }
+    ensures too_long { result ≡ Err Fault.TooLong
+        → IfSome (R.remaining reader.old) (λ input. input_limit < length input) }
+    ensures too_long_prints_nothing { result ≡ Err Fault.TooLong
+        → Keeps (W.contents writer.old) (W.contents writer.new) }
+    ensures read_fault_prints_nothing { result ≡ Err Fault.Read
+        → Keeps (W.contents writer.old) (W.contents writer.new) }
+{
+    match command {
+        Cmd::Show => show(alloc, reader, writer),
+        Cmd::Vectors => vectors(alloc, writer),
+        Cmd::Seal => jobs::seal(alloc, reader, writer),
+        Cmd::Open => jobs::open(alloc, reader, writer),
+        Cmd::Relay => jobs::relay(rt, alloc, reader, writer),
+    }
+}
