@@ -1,5 +1,5 @@
 use super::frames::{PRIV_17, SAFE_17};
-use super::{MICROS, answer, opener};
+use super::{MICROS, answer, assert_same, assert_same_at, opener};
 use crate::{Mode, Opener};
 use std::alloc::{AllocError, Global};
 use std::test::Fail;
@@ -42,8 +42,8 @@ fn each_bit_of_safe_is_under_a_check(rt: HostRuntime) -> Result<(), Fail> {
     let opener = opener(rt.alloc(), Mode::Safe)?;
     let codes = [901, 39, 40, 50, 38, 37, 42, 41];
     let counts = flips(rt.alloc(), &opener, &SAFE_17, codes)?;
-    assert_eq!(rt; counts, [537, 8, 8, 8, 40, 24, 7, 136]);
-    assert_eq!(rt; answer(rt.alloc(), &opener, &SAFE_17, 7, MICROS), 0);
+    assert_same(&rt, counts, [537, 8, 8, 8, 40, 24, 7, 136]);
+    assert_same(&rt, answer(rt.alloc(), &opener, &SAFE_17, 7, MICROS), 0);
     Ok(())
 }
 
@@ -51,8 +51,8 @@ fn each_bit_of_safe_is_under_a_check(rt: HostRuntime) -> Result<(), Fail> {
 fn each_bit_of_priv_is_under_a_check(rt: HostRuntime) -> Result<(), Fail> {
     let opener = opener(rt.alloc(), Mode::Priv)?;
     let counts = flips(rt.alloc(), &opener, &PRIV_17, [901, 39, 40, 14, 31])?;
-    assert_eq!(rt; counts, [192, 8, 8, 8, 680]);
-    assert_eq!(rt; answer(rt.alloc(), &opener, &PRIV_17, 7, MICROS), 0);
+    assert_same(&rt, counts, [192, 8, 8, 8, 680]);
+    assert_same(&rt, answer(rt.alloc(), &opener, &PRIV_17, 7, MICROS), 0);
     Ok(())
 }
 
@@ -62,7 +62,7 @@ fn no_prefix_is_a_frame(rt: HostRuntime) -> Result<(), Fail> {
         let opener = opener(rt.alloc(), mode)?;
         for size in 0..frame.len() {
             let code = answer(rt.alloc(), &opener, &frame[..size], 7, MICROS);
-            assert_eq!(rt; code, 901, "at {size}");
+            assert_same_at(&rt, code, 901, size);
         }
     }
     Ok(())
@@ -72,7 +72,11 @@ fn no_prefix_is_a_frame(rt: HostRuntime) -> Result<(), Fail> {
 fn too_long_comes_before_malformed(rt: HostRuntime) -> Result<(), Fail> {
     let opener = opener(rt.alloc(), Mode::Safe)?;
     let zeros = vec![in rt.alloc(); 0u8; 1_005_001]?;
-    assert_eq!(rt; answer(rt.alloc(), &opener, &zeros, 7, MICROS), 61);
-    assert_eq!(rt; answer(rt.alloc(), &opener, &zeros[1..], 7, MICROS), 901);
+    assert_same(&rt, answer(rt.alloc(), &opener, &zeros, 7, MICROS), 61);
+    assert_same(
+        &rt,
+        answer(rt.alloc(), &opener, &zeros[1..], 7, MICROS),
+        901,
+    );
     Ok(())
 }

@@ -3,18 +3,30 @@ use super::frames::{
     SAFE_INPUT, SAFE_LONG_CHECKSUM, SAFE_NO_NUMBER, SAFE_NO_TIME, SAFE_NO_USEC, SAFE_TIMELESS,
     SAFE_TO_RECEIVER,
 };
-use super::{KEY_256, MICROS, answer, expect_of, opener};
+use super::{KEY_128, KEY_256, MICROS, answer, assert_same, assert_same_at, expect_of, opener};
 use crate::{Mode, Opener};
-use std::alloc::Global;
+use std::alloc::{AllocError, Global};
 use std::test::Fail;
 
 /// A frame with one byte changed.
-fn changed(alloc: Global, frame: &[u8], at: usize, byte: u8) -> Result<Vec<u8>, Fail> {
+fn changed(alloc: Global, frame: &[u8], at: usize, byte: u8) -> Result<Vec<u8>, AllocError> {
     let mut copy = Vec::from_slice(alloc, frame)?;
     if let Some(place) = copy.get_mut(at) {
         *place = byte;
     }
     Ok(copy)
+}
+
+/// The answer to a frame of number 7 with one byte changed.
+fn answer_to_changed(
+    alloc: Global,
+    opener: &Opener,
+    frame: &[u8],
+    at: usize,
+    byte: u8,
+) -> Result<u32, AllocError> {
+    let frame = changed(alloc, frame, at, byte)?;
+    Ok(answer(alloc, opener, &frame, 7, MICROS))
 }
 
 #[test]
@@ -27,15 +39,12 @@ fn window_of_the_skew_is_closed(rt: HostRuntime) -> Result<(), Fail> {
         (1_700_000_300_000_006, 37),
         (1_699_999_700_000_004, 37),
     ] {
-        assert_eq!(rt;
-            answer(rt.alloc(), &safe, &SAFE_17, 7, now),
-            code,
-            "at {now}"
-        );
-        assert_eq!(rt;
+        assert_same_at(&rt, answer(rt.alloc(), &safe, &SAFE_17, 7, now), code, now);
+        assert_same_at(
+            &rt,
             answer(rt.alloc(), &private, &PRIV_17, 7, now),
             code,
-            "at {now}"
+            now,
         );
     }
     Ok(())
@@ -58,10 +67,11 @@ fn checks_of_safe_come_in_their_order(rt: HostRuntime) -> Result<(), Fail> {
         (SAFE_TO_RECEIVER.as_slice(), 7, MICROS, 0),
         (PRIV_EMPTY.as_slice(), 7, MICROS, 40),
     ] {
-        assert_eq!(rt;
+        assert_same_at(
+            &rt,
             answer(rt.alloc(), &opener, frame, number, now),
             code,
-            "for {code}"
+            code,
         );
     }
     Ok(())
@@ -70,16 +80,8 @@ fn checks_of_safe_come_in_their_order(rt: HostRuntime) -> Result<(), Fail> {
 #[test]
 fn checks_of_priv_come_in_their_order(rt: HostRuntime) -> Result<(), Fail> {
     let opener = opener(rt.alloc(), Mode::Priv)?;
-    let other_etype = changed(rt.alloc(), &PRIV_EMPTY, 22, 0x12)?;
-    let other_version = changed(rt.alloc(), &PRIV_EMPTY, 8, 0x04)?;
-    let other_type = changed(rt.alloc(), &PRIV_EMPTY, 13, 0x14)?;
-    let last_flipped = changed(rt.alloc(), &PRIV_17, 111, 0xc2)?;
     for (frame, number, code) in [
         (PRIV_EMPTY.as_slice(), 7, 31),
-        (other_etype.as_slice(), 7, 14),
-        (other_version.as_slice(), 7, 39),
-        (other_type.as_slice(), 7, 40),
-        (last_flipped.as_slice(), 7, 31),
         (PRIV_NO_PART.as_slice(), 7, 901),
         (PRIV_CUT_PART.as_slice(), 7, 901),
         (PRIV_WIDE_LENGTH.as_slice(), 7, 901),
@@ -88,11 +90,27 @@ fn checks_of_priv_come_in_their_order(rt: HostRuntime) -> Result<(), Fail> {
         (PRIV_17.as_slice(), 8, 42),
         (PRIV_17.as_slice(), 7, 0),
     ] {
-        assert_eq!(rt;
+        assert_same_at(
+            &rt,
             answer(rt.alloc(), &opener, frame, number, MICROS),
             code,
-            "for {code}"
+            code,
         );
+    }
+    Ok(())
+}
+
+#[test]
+fn changed_bytes_of_priv_are_refused(rt: HostRuntime) -> Result<(), Fail> {
+    let opener = opener(rt.alloc(), Mode::Priv)?;
+    for (frame, at, byte, code) in [
+        (PRIV_EMPTY.as_slice(), 22, 0x12, 14),
+        (PRIV_EMPTY.as_slice(), 8, 0x04, 39),
+        (PRIV_EMPTY.as_slice(), 13, 0x14, 40),
+        (PRIV_17.as_slice(), 111, 0xc2, 31),
+    ] {
+        let answer = answer_to_changed(rt.alloc(), &opener, frame, at, byte)?;
+        assert_same_at(&rt, answer, code, code);
     }
     Ok(())
 }
@@ -100,10 +118,13 @@ fn checks_of_priv_come_in_their_order(rt: HostRuntime) -> Result<(), Fail> {
 #[test]
 fn version_comes_first_in_safe_too(rt: HostRuntime) -> Result<(), Fail> {
     let opener = opener(rt.alloc(), Mode::Safe)?;
-    let other_version = changed(rt.alloc(), &PRIV_EMPTY, 8, 0x04)?;
-    let other_type = changed(rt.alloc(), &SAFE_17, 13, 0x15)?;
-    assert_eq!(rt; answer(rt.alloc(), &opener, &other_version, 7, MICROS), 39);
-    assert_eq!(rt; answer(rt.alloc(), &opener, &other_type, 7, MICROS), 40);
+    for (frame, at, byte, code) in [
+        (PRIV_EMPTY.as_slice(), 8, 0x04, 39),
+        (SAFE_17.as_slice(), 13, 0x15, 40),
+    ] {
+        let answer = answer_to_changed(rt.alloc(), &opener, frame, at, byte)?;
+        assert_same_at(&rt, answer, code, code);
+    }
     Ok(())
 }
 
@@ -111,23 +132,29 @@ fn version_comes_first_in_safe_too(rt: HostRuntime) -> Result<(), Fail> {
 fn addresses_are_compared_before_the_rest(rt: HostRuntime) -> Result<(), Fail> {
     let typed = changed(rt.alloc(), &SAFE_INPUT, 79, 0x0f)?;
     let later = 1_700_000_301_000_005;
-    let mut key = super::KEY_128;
+    let mut key = KEY_128;
     let another = Opener::new_128(&mut key, expect_of(rt.alloc(), Mode::Safe, 2)?);
-    assert_eq!(rt; key, [0; 16]);
-    assert_eq!(rt; answer(rt.alloc(), &another, &typed, 8, later), 38);
+    assert_same(&rt, key, [0; 16]);
+    assert_same(&rt, answer(rt.alloc(), &another, &typed, 8, later), 38);
+    Ok(())
+}
 
-    let mut expect = expect_of(rt.alloc(), Mode::Safe, 1)?;
+/// An opener that asks for its own address in the message.
+fn strict_opener(alloc: Global) -> Result<Opener, AllocError> {
+    let mut expect = expect_of(alloc, Mode::Safe, 1)?;
     expect.require_r = true;
-    let strict = Opener::new_128(&mut { super::KEY_128 }, expect);
-    assert_eq!(rt; answer(rt.alloc(), &strict, &SAFE_17, 7, MICROS), 38);
-    assert_eq!(rt;
-        answer(rt.alloc(), &strict, &SAFE_TO_RECEIVER, 7, MICROS),
-        0
-    );
+    Ok(Opener::new_128(&mut { KEY_128 }, expect))
+}
 
+#[test]
+fn receiver_is_compared(rt: HostRuntime) -> Result<(), Fail> {
+    let strict = strict_opener(rt.alloc())?;
+    assert_same(&rt, answer(rt.alloc(), &strict, &SAFE_17, 7, MICROS), 38);
+    let accepted = answer(rt.alloc(), &strict, &SAFE_TO_RECEIVER, 7, MICROS);
+    assert_same(&rt, accepted, 0);
     // The receiver's address in the message isn't this receiver's.
-    let elsewhere = changed(rt.alloc(), &SAFE_TO_RECEIVER, 87, 0xfe)?;
-    assert_eq!(rt; answer(rt.alloc(), &strict, &elsewhere, 7, MICROS), 38);
+    let elsewhere = answer_to_changed(rt.alloc(), &strict, &SAFE_TO_RECEIVER, 87, 0xfe)?;
+    assert_same(&rt, elsewhere, 38);
     Ok(())
 }
 
@@ -135,21 +162,26 @@ fn addresses_are_compared_before_the_rest(rt: HostRuntime) -> Result<(), Fail> {
 fn opener_of_the_other_type_reads_its_frames(rt: HostRuntime) -> Result<(), Fail> {
     let mut key = KEY_256;
     let safe = Opener::new_256(&mut key, expect_of(rt.alloc(), Mode::Safe, 1)?);
-    assert_eq!(rt; key, [0; 32]);
+    assert_same(&rt, key, [0; 32]);
     let private = Opener::new_256(&mut { KEY_256 }, expect_of(rt.alloc(), Mode::Priv, 1)?);
-    assert_eq!(rt; answer(rt.alloc(), &safe, &SAFE_18, 7, MICROS), 0);
-    assert_eq!(rt; answer(rt.alloc(), &safe, &SAFE_17, 7, MICROS), 50);
-    assert_eq!(rt; answer(rt.alloc(), &private, &PRIV_18, 7, MICROS), 0);
-    assert_eq!(rt; answer(rt.alloc(), &private, &PRIV_17, 7, MICROS), 14);
+    assert_same(&rt, answer(rt.alloc(), &safe, &SAFE_18, 7, MICROS), 0);
+    assert_same(&rt, answer(rt.alloc(), &safe, &SAFE_17, 7, MICROS), 50);
+    assert_same(&rt, answer(rt.alloc(), &private, &PRIV_18, 7, MICROS), 0);
+    assert_same(&rt, answer(rt.alloc(), &private, &PRIV_17, 7, MICROS), 14);
     Ok(())
+}
+
+/// An opener that expects no time.
+fn timeless_opener(alloc: Global) -> Result<Opener, AllocError> {
+    let mut expect = expect_of(alloc, Mode::Safe, 1)?;
+    expect.expect_time = false;
+    Ok(Opener::new_128(&mut { KEY_128 }, expect))
 }
 
 #[test]
 fn half_a_time_is_none(rt: HostRuntime) -> Result<(), Fail> {
     let timed = opener(rt.alloc(), Mode::Safe)?;
-    let mut expect = expect_of(rt.alloc(), Mode::Safe, 1)?;
-    expect.expect_time = false;
-    let timeless = Opener::new_128(&mut { super::KEY_128 }, expect);
+    let timeless = timeless_opener(rt.alloc())?;
     for (frame, with_time, without) in [
         (SAFE_NO_USEC.as_slice(), 37, 37),
         (SAFE_NO_TIME.as_slice(), 37, 37),
@@ -157,8 +189,12 @@ fn half_a_time_is_none(rt: HostRuntime) -> Result<(), Fail> {
         (SAFE_NO_NUMBER.as_slice(), 42, 42),
         (SAFE_LONG_CHECKSUM.as_slice(), 41, 41),
     ] {
-        assert_eq!(rt; answer(rt.alloc(), &timed, frame, 7, MICROS), with_time);
-        assert_eq!(rt; answer(rt.alloc(), &timeless, frame, 7, MICROS), without);
+        assert_same(&rt, answer(rt.alloc(), &timed, frame, 7, MICROS), with_time);
+        assert_same(
+            &rt,
+            answer(rt.alloc(), &timeless, frame, 7, MICROS),
+            without,
+        );
     }
     Ok(())
 }
@@ -170,9 +206,9 @@ fn wiped_opener_is_nobodys(rt: HostRuntime) -> Result<(), Fail> {
         (Mode::Priv, PRIV_17.as_slice(), 31),
     ] {
         let mut opener = opener(rt.alloc(), mode)?;
-        assert_eq!(rt; answer(rt.alloc(), &opener, frame, 7, MICROS), 0);
+        assert_same(&rt, answer(rt.alloc(), &opener, frame, 7, MICROS), 0);
         opener.wipe();
-        assert_eq!(rt; answer(rt.alloc(), &opener, frame, 7, MICROS), code);
+        assert_same(&rt, answer(rt.alloc(), &opener, frame, 7, MICROS), code);
     }
     Ok(())
 }

@@ -1,5 +1,13 @@
+use super::assert_same;
 use crate::{Refusal, SealError};
+use std::alloc::Global;
+use std::fmt::Display;
 use std::test::Fail;
+
+/// The words that are shown for a value.
+fn words_of(alloc: Global, value: &impl Display) -> Result<String, Fail> {
+    Ok(format!(in alloc; "{value}")?)
+}
 
 #[test]
 fn refusals_have_numbers_and_names(rt: HostRuntime) -> Result<(), Fail> {
@@ -20,8 +28,8 @@ fn refusals_have_numbers_and_names(rt: HostRuntime) -> Result<(), Fail> {
         (Refusal::Memory, 904, "MEMORY"),
     ];
     for (refusal, code, name) in table {
-        assert_eq!(rt; (refusal.code(), refusal.name()), (code, name));
-        assert_eq!(rt; format!(in rt.alloc(); "{refusal}")?.as_str(), name);
+        assert_same(&rt, (refusal.code(), refusal.name()), (code, name));
+        assert_same(&rt, words_of(rt.alloc(), &refusal)?.as_str(), name);
     }
     Ok(())
 }
@@ -39,8 +47,8 @@ fn errors_have_numbers_and_words(rt: HostRuntime) -> Result<(), Fail> {
         (SealError::Memory, 4, "out of memory"),
     ];
     for (error, code, words) in table {
-        assert_eq!(rt; error.code(), code);
-        assert_eq!(rt; format!(in rt.alloc(); "{error}")?.as_str(), words);
+        assert_same(&rt, error.code(), code);
+        assert_same(&rt, words_of(rt.alloc(), &error)?.as_str(), words);
     }
     Ok(())
 }

@@ -1,5 +1,5 @@
 use super::frames::{PRIV_17, PRIV_17_OTHER, PRIV_18, SAFE_17, SAFE_18, SAFE_LAST};
-use super::{KEY_128, KEY_256, MICROS, answer, opener, session};
+use super::{KEY_128, KEY_256, MICROS, answer, assert_same, opener, session};
 use crate::{Aes128Sealer, Aes256Sealer, Mode, SealError, Sealer};
 use krb_der::Moment;
 use std::alloc::Global;
@@ -31,7 +31,7 @@ fn frames_are_those_of_another_sealer(rt: HostRuntime) -> Result<(), Fail> {
         (true, Mode::Priv, 0, &PRIV_18),
     ] {
         let frame = first_frame(rt.alloc(), wide, mode, [byte; 16])?;
-        assert_eq!(rt; frame.as_slice(), expected);
+        assert_same(&rt, frame.as_slice(), expected);
     }
     Ok(())
 }
@@ -40,8 +40,8 @@ fn frames_are_those_of_another_sealer(rt: HostRuntime) -> Result<(), Fail> {
 fn both_confounders_open_at_their_number_alone(rt: HostRuntime) -> Result<(), Fail> {
     let opener = opener(rt.alloc(), Mode::Priv)?;
     for frame in [PRIV_17.as_slice(), &PRIV_17_OTHER] {
-        assert_eq!(rt; answer(rt.alloc(), &opener, frame, 7, MICROS), 0);
-        assert_eq!(rt; answer(rt.alloc(), &opener, frame, 8, MICROS), 42);
+        assert_same(&rt, answer(rt.alloc(), &opener, frame, 7, MICROS), 0);
+        assert_same(&rt, answer(rt.alloc(), &opener, frame, 8, MICROS), 42);
     }
     Ok(())
 }
@@ -54,9 +54,9 @@ fn constructors_take_the_key(rt: HostRuntime) -> Result<(), Fail> {
         Aes128Sealer::new(&mut narrow, session(rt.alloc(), Mode::Safe, 7)?),
         Aes256Sealer::new(&mut wide, session(rt.alloc(), Mode::Priv, 9)?),
     );
-    assert_eq!(rt; (narrow, wide), ([0; 16], [0; 32]));
-    assert_eq!(rt; (sealers.0.etype(), sealers.0.next()), (17, 7));
-    assert_eq!(rt; (sealers.1.etype(), sealers.1.next()), (18, 9));
+    assert_same(&rt, (narrow, wide), ([0; 16], [0; 32]));
+    assert_same(&rt, (sealers.0.etype(), sealers.0.next()), (17, 7));
+    assert_same(&rt, (sealers.1.etype(), sealers.1.next()), (18, 9));
     Ok(())
 }
 
@@ -79,18 +79,19 @@ fn errors_come_in_their_order(rt: HostRuntime) -> Result<(), Fail> {
         session(rt.alloc(), Mode::Priv, 4_294_967_295)?,
     );
     let too_long = (Some(SealError::TooLong), 4_294_967_295);
-    assert_eq!(rt; sealed(rt.alloc(), &mut sealer, 1_000_002), too_long);
-    assert_eq!(rt;
+    assert_same(&rt, sealed(rt.alloc(), &mut sealer, 1_000_002), too_long);
+    assert_same(
+        &rt,
         sealed(rt.alloc(), &mut sealer, 1_000_001),
-        (None, 4_294_967_296)
+        (None, 4_294_967_296),
     );
     let too_long = (Some(SealError::TooLong), 4_294_967_296);
-    assert_eq!(rt; sealed(rt.alloc(), &mut sealer, 1_000_002), too_long);
+    assert_same(&rt, sealed(rt.alloc(), &mut sealer, 1_000_002), too_long);
     let exhausted = (Some(SealError::Exhausted), 4_294_967_296);
-    assert_eq!(rt; sealed(rt.alloc(), &mut sealer, 1), exhausted);
+    assert_same(&rt, sealed(rt.alloc(), &mut sealer, 1), exhausted);
     sealer.wipe();
     let wiped = (Some(SealError::Wiped), 4_294_967_296);
-    assert_eq!(rt; sealed(rt.alloc(), &mut sealer, 1_000_002), wiped);
+    assert_same(&rt, sealed(rt.alloc(), &mut sealer, 1_000_002), wiped);
     Ok(())
 }
 
@@ -101,8 +102,8 @@ fn boxed_sealer_seals_the_last_number(rt: HostRuntime) -> Result<(), Fail> {
     let mut sealer: Box<dyn Sealer + Send> = Box::new(rt.alloc(), inner)?;
     let at = Moment::from_micros(MICROS).ok_or("no moment")?;
     let frame = sealer.seal(rt.alloc(), b"C", at, [0; 16])?;
-    assert_eq!(rt; frame.as_slice(), SAFE_LAST.as_slice());
-    assert_eq!(rt; (sealer.etype(), sealer.next()), (17, 4_294_967_296));
+    assert_same(&rt, frame.as_slice(), SAFE_LAST.as_slice());
+    assert_same(&rt, (sealer.etype(), sealer.next()), (17, 4_294_967_296));
     sealer.wipe();
     let again = sealer.seal(rt.alloc(), b"C", at, [0; 16]);
     assert!(rt; matches!(again, Err(SealError::Wiped)));

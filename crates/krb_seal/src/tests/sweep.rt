@@ -3,7 +3,7 @@
 //! refuses the growths, and counts the lines that tell of a refusal.
 
 use super::frames::{PRIV_17, PRIV_18, SAFE_17, SAFE_18};
-use super::{KEY_128, KEY_256, MICROS, answer, expect_of, session};
+use super::{KEY_128, KEY_256, MICROS, answer, assert_same, expect_of, session};
 use crate::{Aes128Sealer, Aes256Sealer, Mode, Opener, SealError, Sealer};
 use krb_der::Moment;
 use std::alloc::Global;
@@ -32,14 +32,14 @@ fn seals(
     let mut sealed = sealer.seal(alloc, b"Dhi", at, [0; 16]);
     let refused = matches!(sealed, Err(SealError::Memory));
     if refused {
-        assert_eq!(rt; (sealer.etype(), sealer.next()), (etype, 7));
+        assert_same(rt, (sealer.etype(), sealer.next()), (etype, 7));
         sealed = sealer.seal(alloc, b"Dhi", at, [0; 16]);
     }
     let Ok(sealed) = sealed else {
         return Err(Fail::from("not sealed with memory"));
     };
-    assert_eq!(rt; sealed.as_slice(), frame);
-    assert_eq!(rt; (sealer.etype(), sealer.next()), (etype, 8));
+    assert_same(rt, sealed.as_slice(), frame);
+    assert_same(rt, (sealer.etype(), sealer.next()), (etype, 8));
     Ok(refused)
 }
 
@@ -78,7 +78,7 @@ fn opens(
     } else {
         first
     };
-    assert_eq!(rt; last, code);
+    assert_same(rt, last, code);
     refused
 }
 
