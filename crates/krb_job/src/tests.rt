@@ -17,8 +17,24 @@ mod whole;
 
 use crate::{BadInput, Command, JobError, Place, read_job};
 use std::alloc::{AllocError, Global};
+use std::fmt::{Debug, Display};
 use std::process::Abort;
 use std::test::Fail;
+
+/// Asserts that two values are the same, and prints both where they aren't.
+fn assert_same<T: PartialEq + Debug + Drop>(rt: &impl Abort, left: T, right: T) {
+    assert_eq!(rt; left, right);
+}
+
+/// The same of one case of several, and prints which it is.
+fn assert_same_at<T: PartialEq + Debug + Drop, C: Display + Drop>(
+    rt: &impl Abort,
+    left: T,
+    right: T,
+    case: C,
+) {
+    assert_eq!(rt; left, right, "at {case}");
+}
 
 const COMMANDS: [Command; 3] = [Command::Seal, Command::Open, Command::Relay];
 
@@ -98,7 +114,7 @@ fn assert_bad(
     for (place, line) in lines {
         let text = sender(alloc, command, &[*place], line)?;
         let error = error_of(alloc, text.as_str(), command);
-        assert_eq!(rt; error, bad_key(0, *place), "at {line}");
+        assert_same_at(rt, error, bad_key(0, *place), line);
     }
     Ok(())
 }
@@ -112,7 +128,7 @@ fn assert_good(
 ) -> Result<(), Fail> {
     for (place, line) in lines {
         let text = sender(alloc, command, &[*place], line)?;
-        assert_eq!(rt; error_of(alloc, text.as_str(), command), None, "at {line}");
+        assert_same_at(rt, error_of(alloc, text.as_str(), command), None, line);
     }
     Ok(())
 }

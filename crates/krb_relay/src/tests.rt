@@ -10,7 +10,14 @@ mod sweep;
 use crate::{Cause, Fault};
 use krb_peers::Log;
 use std::alloc::Global;
+use std::fmt::Debug;
+use std::process::Abort;
 use std::test::Fail;
+
+/// Asserts that two values are the same, and prints both where they aren't.
+fn assert_same<T: PartialEq + Debug + Drop>(rt: &impl Abort, left: T, right: T) {
+    assert_eq!(rt; left, right);
+}
 
 const CAUSES: [(Cause, u32, &str, &str); 5] = [
     (Cause::Memory, 1, "out of memory", "lane 3: out of memory"),
@@ -43,8 +50,8 @@ const CAUSES: [(Cause, u32, &str, &str); 5] = [
 #[test]
 fn causes_have_numbers_and_words(rt: HostRuntime) -> Result<(), Fail> {
     for (cause, code, words, _) in CAUSES {
-        assert_eq!(rt; cause.code(), code);
-        assert_eq!(rt; format!(in rt.alloc(); "{cause}")?.as_str(), words);
+        assert_same(&rt, cause.code(), code);
+        assert_same(&rt, format!(in rt.alloc(); "{cause}")?.as_str(), words);
     }
     Ok(())
 }
@@ -67,7 +74,7 @@ fn code_of(alloc: Global, cause: Cause, words: &str) -> Result<Option<u32>, Fail
 #[test]
 fn faults_have_numbers_and_words(rt: HostRuntime) -> Result<(), Fail> {
     for (cause, code, _, words) in CAUSES {
-        assert_eq!(rt; code_of(rt.alloc(), cause, words)?, Some(code));
+        assert_same(&rt, code_of(rt.alloc(), cause, words)?, Some(code));
     }
     Ok(())
 }

@@ -1,6 +1,6 @@
 //! The key `batch`.
 
-use super::{assert_bad, assert_good, sender};
+use super::{assert_bad, assert_good, assert_same_at, sender};
 use crate::{Command, Place, read_job};
 use std::test::Fail;
 
@@ -43,7 +43,7 @@ fn batch_of_a_sender(rt: HostRuntime) -> Result<(), Fail> {
     for (command, line, batch) in table {
         let text = sender(rt.alloc(), command, &[], line)?;
         let job = read_job(rt.alloc(), text.as_bytes(), command)?;
-        assert_eq!(rt; job.senders[0].batch, batch, "at {line}");
+        assert_same_at(&rt, job.senders[0].batch, batch, line);
     }
     Ok(())
 }

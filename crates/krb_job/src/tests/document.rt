@@ -1,6 +1,6 @@
 //! What stands at the top of a document.
 
-use super::{COMMANDS, error_of, sender};
+use super::{COMMANDS, assert_same, assert_same_at, error_of, sender};
 use crate::{BadInput, Command, JobError, Place, read_job};
 use std::alloc::{AllocError, Global};
 use std::test::Fail;
@@ -17,10 +17,10 @@ fn no_documents(rt: HostRuntime) -> Result<(), Fail> {
     ];
     for text in texts {
         let error = error_of(rt.alloc(), text, Command::Seal);
-        assert_eq!(rt; error, Some(JobError::Bad(BadInput::Toml)), "at {text}");
+        assert_same_at(&rt, error, Some(JobError::Bad(BadInput::Toml)), text);
     }
     let error = read_job(rt.alloc(), &[0xff], Command::Seal).err();
-    assert_eq!(rt; error, Some(JobError::Bad(BadInput::Toml)));
+    assert_same(&rt, error, Some(JobError::Bad(BadInput::Toml)));
     Ok(())
 }
 
@@ -49,7 +49,7 @@ fn capacities(rt: HostRuntime) -> Result<(), Fail> {
         ("capacity = [1]\n", bad),
     ];
     for (line, error) in table {
-        assert_eq!(rt; error_at_top(rt.alloc(), line)?, error, "at {line}");
+        assert_same_at(&rt, error_at_top(rt.alloc(), line)?, error, line);
     }
     Ok(())
 }
@@ -77,7 +77,7 @@ fn tops(rt: HostRuntime) -> Result<(), Fail> {
     for (text, bad) in table {
         for command in COMMANDS {
             let error = error_of(rt.alloc(), text, command);
-            assert_eq!(rt; error, Some(JobError::Bad(bad)), "at {text}");
+            assert_same_at(&rt, error, Some(JobError::Bad(bad)), text);
         }
     }
     Ok(())

@@ -1,5 +1,6 @@
 //! The numbers and words of errors.
 
+use super::assert_same;
 use crate::{BadInput, JobError, Place};
 use std::test::Fail;
 
@@ -19,8 +20,8 @@ fn errors(rt: HostRuntime) -> Result<(), Fail> {
         (JobError::Memory, 2, "out of memory"),
     ];
     for (error, code, words) in table {
-        assert_eq!(rt; error.code(), code);
-        assert_eq!(rt; format!(in rt.alloc(); "{error}")?.as_str(), words);
+        assert_same(&rt, error.code(), code);
+        assert_same(&rt, format!(in rt.alloc(); "{error}")?.as_str(), words);
     }
     Ok(())
 }
@@ -39,7 +40,7 @@ fn bad_inputs(rt: HostRuntime) -> Result<(), Fail> {
         (in_sender, "sender 0: unknown key"),
     ];
     for (bad, words) in table {
-        assert_eq!(rt; format!(in rt.alloc(); "{bad}")?.as_str(), words);
+        assert_same(&rt, format!(in rt.alloc(); "{bad}")?.as_str(), words);
     }
     Ok(())
 }
@@ -67,6 +68,6 @@ fn places(rt: HostRuntime) {
         (Place::UnknownKey, "unknown key"),
     ];
     for (place, name) in table {
-        assert_eq!(rt; place.name(), name);
+        assert_same(&rt, place.name(), name);
     }
 }

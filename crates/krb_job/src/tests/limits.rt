@@ -1,6 +1,6 @@
 //! What a caller of a job need not test.
 
-use super::sender;
+use super::{assert_same, sender};
 use crate::{Command, Job, SenderJob, read_job};
 use krb_base::BATCH_LIMIT;
 use krb_der::Moment;
@@ -39,10 +39,10 @@ fn full_frames(sender: &SenderJob, texts: usize) -> (usize, usize) {
 fn limits_are_kept(rt: HostRuntime) -> Result<(), Fail> {
     let text = sender(rt.alloc(), Command::Seal, &[], "")?;
     let job = read_job(rt.alloc(), text.as_bytes(), Command::Seal)?;
-    assert_eq!(rt; first_now(&job).micros(), 0);
+    assert_same(&rt, first_now(&job).micros(), 0);
     let sender = &job.senders[0];
-    assert_eq!(rt; first_at(sender).ok_or("a moment")?.micros(), 1_000_000);
-    assert_eq!(rt; full_frames(sender, 7), (7, 999));
-    assert_eq!(rt; key_of_16(sender).ok_or("a key")?[15], 15);
+    assert_same(&rt, first_at(sender).ok_or("a moment")?.micros(), 1_000_000);
+    assert_same(&rt, full_frames(sender, 7), (7, 999));
+    assert_same(&rt, key_of_16(sender).ok_or("a key")?[15], 15);
     Ok(())
 }

@@ -1,6 +1,6 @@
 //! The order in which the keys of a sender are checked.
 
-use super::{assert_bad, bad_key, error_of};
+use super::{assert_bad, assert_same, bad_key, error_of};
 use crate::{Command, Place};
 use std::alloc::{AllocError, Global};
 use std::test::Fail;
@@ -53,10 +53,14 @@ fn keys_in_order(rt: HostRuntime) -> Result<(), Fail> {
     for (i, (place, _, _)) in LINES.iter().enumerate() {
         let text = bad_from(rt.alloc(), i)?;
         let error = error_of(rt.alloc(), text.as_str(), Command::Seal);
-        assert_eq!(rt; error, bad_key(0, *place));
+        assert_same(&rt, error, bad_key(0, *place));
     }
     let text = bad_from(rt.alloc(), LINES.len())?;
-    assert_eq!(rt; error_of(rt.alloc(), text.as_str(), Command::Seal), None);
+    assert_same(
+        &rt,
+        error_of(rt.alloc(), text.as_str(), Command::Seal),
+        None,
+    );
     Ok(())
 }
 

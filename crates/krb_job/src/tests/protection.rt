@@ -1,6 +1,6 @@
 //! The keys `etype`, `key`, `mode` and `first`.
 
-use super::{COMMANDS, assert_bad, assert_good, error_of, sender, zeros};
+use super::{COMMANDS, assert_bad, assert_good, assert_same_at, error_of, sender, zeros};
 use crate::Place;
 use std::test::Fail;
 
@@ -68,7 +68,7 @@ fn long_keys(rt: HostRuntime) -> Result<(), Fail> {
             let text = sender(rt.alloc(), command, keys.as_slice(), lines.as_str())?;
             let error = error_of(rt.alloc(), text.as_str(), command);
             let bad = super::bad_key(0, Place::Key);
-            assert_eq!(rt; error, if good { None } else { bad }, "at {size} bytes");
+            assert_same_at(&rt, error, if good { None } else { bad }, size);
         }
     }
     Ok(())

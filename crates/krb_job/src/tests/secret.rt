@@ -1,3 +1,4 @@
+use super::assert_same;
 use crate::Secret;
 use std::test::Fail;
 
@@ -7,10 +8,11 @@ fn secret_grows_and_is_given_back(rt: HostRuntime) -> Result<(), Fail> {
     for digit in b"123456789" {
         secret.append(rt.alloc(), &[*digit])?;
     }
-    assert_eq!(rt; secret.as_slice(), b"0123456789".as_slice());
-    assert_eq!(rt;
+    assert_same(&rt, secret.as_slice(), b"0123456789".as_slice());
+    assert_same(
+        &rt,
         secret.into_vec(rt.alloc()).as_slice(),
-        b"0123456789".as_slice()
+        b"0123456789".as_slice(),
     );
     Ok(())
 }
@@ -19,6 +21,6 @@ fn secret_grows_and_is_given_back(rt: HostRuntime) -> Result<(), Fail> {
 fn secret_shows_no_byte(rt: HostRuntime) -> Result<(), Fail> {
     let secret = Secret::new(Vec::from_slice(rt.alloc(), &[17, 18])?);
     let shown = format!(in rt.alloc(); "{secret:?}")?;
-    assert_eq!(rt; shown.as_str(), "Secret");
+    assert_same(&rt, shown.as_str(), "Secret");
     Ok(())
 }

@@ -1,6 +1,6 @@
 //! Several senders.
 
-use super::{bad_key, error_of, sender};
+use super::{assert_same, assert_same_at, bad_key, error_of, sender};
 use crate::{BadInput, Command, JobError, Place};
 use std::alloc::{AllocError, Global};
 use std::test::Fail;
@@ -33,7 +33,7 @@ fn counts(rt: HostRuntime) -> Result<(), Fail> {
         let text = senders(rt.alloc(), command, &keys[..count])?;
         let error = error_of(rt.alloc(), text.as_str(), command);
         let bad = Some(JobError::Bad(BadInput::Sender));
-        assert_eq!(rt; error, if good { None } else { bad }, "at {count}");
+        assert_same_at(&rt, error, if good { None } else { bad }, count);
     }
     Ok(())
 }
@@ -45,7 +45,7 @@ fn repeated_keys(rt: HostRuntime) -> Result<(), Fail> {
     for (keys, place) in table {
         let text = senders(rt.alloc(), Command::Relay, keys.as_slice())?;
         let error = error_of(rt.alloc(), text.as_str(), Command::Relay);
-        assert_eq!(rt; error, bad_key(place, Place::Key));
+        assert_same(&rt, error, bad_key(place, Place::Key));
     }
     Ok(())
 }
@@ -63,7 +63,7 @@ fn in_both_cases(alloc: Global) -> Result<String, AllocError> {
 fn key_is_repeated_in_digits_of_another_case(rt: HostRuntime) -> Result<(), Fail> {
     let text = in_both_cases(rt.alloc())?;
     let error = error_of(rt.alloc(), text.as_str(), Command::Relay);
-    assert_eq!(rt; error, bad_key(1, Place::Key));
+    assert_same(&rt, error, bad_key(1, Place::Key));
     Ok(())
 }
 
@@ -79,7 +79,7 @@ fn senders_in_order(rt: HostRuntime) -> Result<(), Fail> {
         let first = sender(rt.alloc(), Command::Relay, &[], line)?;
         let text = format!(in rt.alloc(); "{first}[[sender]]\nother = 1\n")?;
         let error = error_of(rt.alloc(), text.as_str(), Command::Relay);
-        assert_eq!(rt; error, bad_key(bad, place), "at {line}");
+        assert_same_at(&rt, error, bad_key(bad, place), line);
     }
     Ok(())
 }

@@ -1,5 +1,6 @@
 //! Relays that stop: what is named, what the log has, and that each sealer is dropped once.
 
+use super::assert_same;
 use super::log_lines::is_log;
 use super::senders::{Lanes, Odd, PLAIN, run};
 use crate::{Cause, NoGate};
@@ -48,10 +49,10 @@ fn assert_stops<R: Threads + Wait + Abort + Sync>(
         let Err(fault) = run(rt, alloc, lanes, capacity, &NoGate) else {
             return Err(Fail::from("no fault"));
         };
-        assert_eq!(rt; fault.cause, cause);
-        assert_eq!(rt; fault.lane, lane);
+        assert_same(rt, fault.cause, cause);
+        assert_same(rt, fault.lane, lane);
         assert!(rt; is_log(&fault.log, expected));
-        assert_eq!(rt; drops.load(Ordering::SeqCst), 2);
+        assert_same(rt, drops.load(Ordering::SeqCst), 2);
     }
     Ok(())
 }
@@ -106,9 +107,9 @@ fn a_worker_that_stops_is_drained(rt: HostRuntime) -> Result<(), Fail> {
     let Err(fault) = run(&rt, rt.alloc(), lanes, 1, &NoGate) else {
         return Err(Fail::from("no fault"));
     };
-    assert_eq!(rt; (fault.cause, fault.lane), (Cause::Memory, 0));
+    assert_same(&rt, (fault.cause, fault.lane), (Cause::Memory, 0));
     assert!(rt; is_log(&fault.log, &[(0, "x"), (1, "closed"), (0, "x")]));
-    assert_eq!(rt; drops.load(Ordering::SeqCst), 2);
+    assert_same(&rt, drops.load(Ordering::SeqCst), 2);
     Ok(())
 }
 
@@ -125,7 +126,7 @@ fn sealers_of_a_whole_relay_are_dropped(rt: HostRuntime) -> Result<(), Fail> {
             return Err(Fail::from("a fault"));
         };
         assert!(rt; is_log(&report.log, &expected));
-        assert_eq!(rt; drops.load(Ordering::SeqCst), 2);
+        assert_same(&rt, drops.load(Ordering::SeqCst), 2);
     }
     Ok(())
 }
@@ -156,11 +157,11 @@ fn wiped_sealer_of_the_last_lane_is_named(rt: HostRuntime) -> Result<(), Fail> {
     let Err(fault) = run(&rt, rt.alloc(), lanes, 64, &NoGate) else {
         return Err(Fail::from("no fault"));
     };
-    assert_eq!(rt; (fault.cause, fault.lane), (Cause::Wiped, 7));
+    assert_same(&rt, (fault.cause, fault.lane), (Cause::Wiped, 7));
     let mut expected = Vec::new(rt.alloc());
     push_round(&mut expected, "a")?;
     push_round(&mut expected, "closed")?;
     assert!(rt; is_log(&fault.log, expected.as_slice()));
-    assert_eq!(rt; drops.load(Ordering::SeqCst), 8);
+    assert_same(&rt, drops.load(Ordering::SeqCst), 8);
     Ok(())
 }

@@ -1,5 +1,6 @@
 //! That workers overlap, and that frames are handed over within the capacity, as gates see it.
 
+use super::assert_same;
 use super::log_lines::is_log;
 use super::senders::{Lanes, run};
 use crate::Gate;
@@ -106,7 +107,7 @@ fn workers_overlap(rt: HostRuntime) -> Result<(), Fail> {
         };
         let expected = [(0, "a"), (1, "closed"), (0, "b"), (0, "closed")];
         assert!(rt; is_log(&report.log, &expected));
-        assert_eq!(rt; gate.met.load(Ordering::SeqCst), 2);
+        assert_same(&rt, gate.met.load(Ordering::SeqCst), 2);
     }
     Ok(())
 }
@@ -119,7 +120,7 @@ fn one_thread_does_not_overlap(rt: HostRuntime) {
         gate.enter(lane);
         gate.leave(lane);
     }
-    assert_eq!(rt; gate.met.load(Ordering::SeqCst), 1);
+    assert_same(&rt, gate.met.load(Ordering::SeqCst), 1);
 }
 
 #[test]
@@ -127,8 +128,8 @@ fn frames_are_handed_over_within_the_capacity(rt: HostRuntime) -> Result<(), Fai
     let gate = Fourth::new();
     let lanes = two_lanes(rt.alloc(), &TEN)?;
     assert!(rt; run(&rt, rt.alloc(), lanes, 1, &gate).is_ok());
-    assert_eq!(rt; gate.came[0].load(Ordering::SeqCst), 11);
-    assert_eq!(rt; gate.seen.load(Ordering::SeqCst), 0);
+    assert_same(&rt, gate.came[0].load(Ordering::SeqCst), 11);
+    assert_same(&rt, gate.seen.load(Ordering::SeqCst), 0);
     Ok(())
 }
 
@@ -138,6 +139,6 @@ fn a_wide_lane_is_seen(rt: HostRuntime) -> Result<(), Fail> {
     let gate = Fourth::new();
     let lanes = two_lanes(rt.alloc(), &TEN)?;
     assert!(rt; run(&rt, rt.alloc(), lanes, 64, &gate).is_ok());
-    assert_eq!(rt; gate.seen.load(Ordering::SeqCst), 1);
+    assert_same(&rt, gate.seen.load(Ordering::SeqCst), 1);
     Ok(())
 }

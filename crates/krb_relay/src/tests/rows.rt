@@ -1,5 +1,6 @@
 //! The worked examples of whole relays, at several capacities.
 
+use super::assert_same;
 use super::log_lines::is_log;
 use super::senders::{Lanes, run};
 use crate::NoGate;
@@ -19,9 +20,9 @@ fn two_senders(rt: HostRuntime) -> Result<(), Fail> {
         };
         let expected = [(0, "a"), (1, "closed"), (0, "b"), (0, "closed")];
         assert!(rt; is_log(&report.log, &expected));
-        assert_eq!(rt; report.sent.len(), 2);
-        assert_eq!(rt; (report.sent[0].k, report.sent[0].n), (2, 2));
-        assert_eq!(rt; (report.sent[1].k, report.sent[1].n), (0, 0));
+        assert!(rt; report.sent.len() == 2);
+        assert_same(&rt, (report.sent[0].k, report.sent[0].n), (2, 2));
+        assert_same(&rt, (report.sent[1].k, report.sent[1].n), (0, 0));
     }
     Ok(())
 }
@@ -38,9 +39,9 @@ fn texts_that_go_together(rt: HostRuntime) -> Result<(), Fail> {
         };
         let expected = [(0, "a"), (0, "b"), (0, "c"), (0, "closed")];
         assert!(rt; is_log(&report.log, &expected));
-        assert_eq!(rt; report.sent.len(), 1);
-        assert_eq!(rt; (report.sent[0].k, report.sent[0].n), (3, 3));
-        assert_eq!(rt; report.sent[0].ending, Ending::Done);
+        assert!(rt; report.sent.len() == 1);
+        assert_same(&rt, (report.sent[0].k, report.sent[0].n), (3, 3));
+        assert_same(&rt, report.sent[0].ending, Ending::Done);
     }
     Ok(())
 }
@@ -83,7 +84,7 @@ fn plans_of_both_types_and_modes(rt: HostRuntime) -> Result<(), Fail> {
             };
             assert!(rt; is_log(&report.log, expected));
             assert!(rt; 0 < report.log.lanes());
-            assert_eq!(rt; report.log.status(0), status);
+            assert_same(&rt, report.log.status(0), status);
         }
     }
     Ok(())
@@ -107,9 +108,9 @@ fn last_number_is_kept_for_the_close(rt: HostRuntime) -> Result<(), Fail> {
                 return Err(Fail::from("a fault"));
             };
             assert!(rt; is_log(&report.log, expected));
-            assert_eq!(rt; report.sent.len(), 1);
-            assert_eq!(rt; (report.sent[0].k, report.sent[0].n), (k, 2));
-            assert_eq!(rt; report.sent[0].ending, Ending::LastNumber);
+            assert!(rt; report.sent.len() == 1);
+            assert_same(&rt, (report.sent[0].k, report.sent[0].n), (k, 2));
+            assert_same(&rt, report.sent[0].ending, Ending::LastNumber);
         }
     }
     Ok(())
@@ -144,7 +145,7 @@ fn eight_senders_in_rounds(rt: HostRuntime) -> Result<(), Fail> {
         let Ok(report) = run(&rt, rt.alloc(), lanes, capacity, &NoGate) else {
             return Err(Fail::from("a fault"));
         };
-        assert_eq!(rt; expected.len(), 36);
+        assert!(rt; expected.len() == 36);
         assert!(rt; is_log(&report.log, expected.as_slice()));
     }
     Ok(())

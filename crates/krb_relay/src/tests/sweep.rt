@@ -2,6 +2,7 @@
 //! for want of memory or of a thread, and then its log has of each lane a front of the known
 //! entries. `tools/sweep` refuses the growths, and counts the lines that tell of a refusal.
 
+use super::assert_same;
 use super::log_lines::{is_event, is_log};
 use super::senders::{Lanes, run};
 use crate::{Cause, NoGate, Report};
@@ -33,12 +34,12 @@ fn has_front(log: &Log, lane: u32, words: &[&str]) -> bool {
 fn assert_whole(rt: &impl Abort, report: &Report) {
     let whole = [(0, "a"), (1, "closed"), (0, "b"), (0, "closed")];
     assert!(rt; is_log(&report.log, &whole));
-    assert_eq!(rt; report.log.lanes(), 2);
-    assert_eq!(rt; report.log.status(0), Status::Closed);
-    assert_eq!(rt; report.log.status(1), Status::Closed);
-    assert_eq!(rt; report.sent.len(), 2);
-    assert_eq!(rt; (report.sent[0].k, report.sent[0].n), (2, 2));
-    assert_eq!(rt; (report.sent[1].k, report.sent[1].n), (0, 0));
+    assert!(rt; report.log.lanes() == 2);
+    assert_same(rt, report.log.status(0), Status::Closed);
+    assert_same(rt, report.log.status(1), Status::Closed);
+    assert!(rt; report.sent.len() == 2);
+    assert_same(rt, (report.sent[0].k, report.sent[0].n), (2, 2));
+    assert_same(rt, (report.sent[1].k, report.sent[1].n), (0, 0));
 }
 
 #[test]
