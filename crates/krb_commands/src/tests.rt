@@ -13,3 +13,21 @@ mod seals;
 mod shows;
 mod sweep;
 mod vectors;
+
+use std::fmt::{Debug, Display};
+use std::process::Abort;
+
+/// Asserts that two values are the same, and prints both where they aren't.
+fn assert_same<T: PartialEq + Debug + Drop>(rt: &impl Abort, left: T, right: T) {
+    assert_eq!(rt; left, right);
+}
+
+/// The same of one call among several, and prints which it is.
+fn assert_same_at<T: PartialEq + Debug + Drop, C: Display + Drop>(
+    rt: &impl Abort,
+    left: T,
+    right: T,
+    call: C,
+) {
+    assert_eq!(rt; left, right, "call {call}");
+}

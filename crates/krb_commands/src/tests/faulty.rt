@@ -1,6 +1,7 @@
 //! Readers and writers over memory that fail at one of their calls, and that the commands tell so.
 ghost use Rattle.std.specs.Prelude.{Some};
 
+use super::{assert_same, assert_same_at};
 use crate::fault::Fault;
 use crate::input::read_all;
 use crate::messages::show;
@@ -111,12 +112,12 @@ fn each_read_fails_in_turn(rt: HostRuntime) {
     // 169 bytes, three a call, and one call that finds the end
     for call in 1..59 {
         let (result, output) = with_read_fault(&rt, call);
-        assert_eq!(rt; result, Err(Fault::Read), "call {call}");
+        assert_same_at(&rt, result, Err(Fault::Read), call);
         assert!(rt; output.is_empty(), "call {call}");
     }
     let (result, output) = with_read_fault(&rt, 59);
-    assert_eq!(rt; result, Ok(0));
-    assert_eq!(rt; output.as_slice(), SAFE_TEXT.as_bytes());
+    assert_same(&rt, result, Ok(0));
+    assert_same(&rt, output.as_slice(), SAFE_TEXT.as_bytes());
 }
 
 #[test]
@@ -125,16 +126,16 @@ fn each_write_fails_or_takes_nothing_in_turn(rt: HostRuntime) {
         // 86 bytes, two a call
         for call in 1..44 {
             let (result, output) = with_write_fault(&rt, call, failure);
-            assert_eq!(rt; result, Err(Fault::Write), "call {call}");
-            assert_eq!(rt; output.len(), 2 * (call - 1));
+            assert_same_at(&rt, result, Err(Fault::Write), call);
+            assert_same(&rt, output.len(), 2 * (call - 1));
             assert!(rt;
                 SAFE_TEXT.as_bytes().starts_with(output.as_slice()),
                 "call {call}"
             );
         }
         let (result, output) = with_write_fault(&rt, 44, failure);
-        assert_eq!(rt; result, Ok(0));
-        assert_eq!(rt; output.as_slice(), SAFE_TEXT.as_bytes());
+        assert_same(&rt, result, Ok(0));
+        assert_same(&rt, output.as_slice(), SAFE_TEXT.as_bytes());
     }
 }
 
@@ -168,7 +169,7 @@ fn assert_write_faults(
     for failure in [Failure::Error, Failure::Nothing] {
         for call in 1..last {
             let (result, output) = run_with_write_fault(rt, command, job, call, failure);
-            assert_eq!(rt; result, Err(Fault::Write), "call {call}");
+            assert_same_at(rt, result, Err(Fault::Write), call);
             assert!(rt; output.len() < text.len(), "call {call}");
             assert!(rt;
                 text.as_bytes().starts_with(output.as_slice()),
@@ -176,8 +177,8 @@ fn assert_write_faults(
             );
         }
         let (result, output) = run_with_write_fault(rt, command, job, last, failure);
-        assert_eq!(rt; result, Ok(0));
-        assert_eq!(rt; output.as_slice(), text.as_bytes());
+        assert_same(rt, result, Ok(0));
+        assert_same(rt, output.as_slice(), text.as_bytes());
     }
 }
 
@@ -226,9 +227,9 @@ fn read_with_fault(alloc: Global, fails_at: usize) -> Option<Fault> {
 fn each_read_of_an_input_fails_in_turn(rt: HostRuntime) {
     for call in 1..59 {
         let fault = read_with_fault(rt.alloc(), call);
-        assert_eq!(rt; fault, Some(Fault::Read), "call {call}");
+        assert_same_at(&rt, fault, Some(Fault::Read), call);
     }
-    assert_eq!(rt; read_with_fault(rt.alloc(), 59), None);
+    assert_same(&rt, read_with_fault(rt.alloc(), 59), None);
 }
 
 /// What `vectors` answers and writes where the writer fails.
@@ -253,15 +254,15 @@ fn each_write_of_vectors_fails_in_turn(rt: HostRuntime) {
         // 376 bytes, two a call
         for call in 1..189 {
             let (result, output) = vectors_with_fault(&rt, call, failure);
-            assert_eq!(rt; result, Err(Fault::Write), "call {call}");
-            assert_eq!(rt; output.len(), 2 * (call - 1));
+            assert_same_at(&rt, result, Err(Fault::Write), call);
+            assert_same(&rt, output.len(), 2 * (call - 1));
             assert!(rt;
                 PUBLISHED.as_bytes().starts_with(output.as_slice()),
                 "call {call}"
             );
         }
         let (result, output) = vectors_with_fault(&rt, 189, failure);
-        assert_eq!(rt; result, Ok(0));
-        assert_eq!(rt; output.as_slice(), PUBLISHED.as_bytes());
+        assert_same(&rt, result, Ok(0));
+        assert_same(&rt, output.as_slice(), PUBLISHED.as_bytes());
     }
 }

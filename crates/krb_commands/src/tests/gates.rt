@@ -1,5 +1,6 @@
 //! That the command relays with workers that seal at once.
 
+use super::assert_same;
 use super::jobs::run_under;
 use super::relays::{SILENT, TWO_LANES, two_senders};
 use krb_job::Command;
@@ -54,8 +55,8 @@ fn workers_overlap(rt: HostRuntime) -> Result<(), Fail> {
     let job = two_senders(&rt, 1, &SILENT)?;
     let mut output = Vec::new(rt.alloc());
     let result = run_under(&rt, Command::Relay, job.as_str(), 1, &mut output, &gate);
-    assert_eq!(rt; result, Ok(0));
-    assert_eq!(rt; output.as_slice(), TWO_LANES.as_bytes());
-    assert_eq!(rt; gate.met.load(Ordering::SeqCst), 2);
+    assert_same(&rt, result, Ok(0));
+    assert_same(&rt, output.as_slice(), TWO_LANES.as_bytes());
+    assert_same(&rt, gate.met.load(Ordering::SeqCst), 2);
     Ok(())
 }

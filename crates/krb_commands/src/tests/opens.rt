@@ -1,5 +1,6 @@
 //! What `open` prints of frames of an independent sealer, and of what `seal` prints.
 
+use super::assert_same;
 use super::frames::{SAFE_CLOSE, SAFE_TEXT};
 use super::jobs::{answers, listed, run, sender_with};
 use krb_job::Command;
@@ -107,10 +108,10 @@ fn come_back(
     let job = sender_with(rt.alloc(), changes, &[("texts", list.as_str())])?;
     let mut output = Vec::new(rt.alloc());
     let sealed = run(rt, Command::Seal, job.as_str(), &mut output);
-    assert_eq!(rt; sealed, Ok(0));
+    assert_same(rt, sealed, Ok(0));
     let printed = str::from_utf8(output.as_slice()).ok().ok_or("no text")?;
     let frames = frames_of(rt.alloc(), printed)?;
-    assert_eq!(rt; frames.len(), texts.len() + 1);
+    assert_same(rt, frames.len(), texts.len() + 1);
     let expected = all_of(rt.alloc(), texts)?;
     opens(rt, changes, frames.as_slice(), 0, expected.as_str())
 }

@@ -1,5 +1,6 @@
 //! What `seal` prints. The frames are those of an independent sealer.
 
+use super::assert_same;
 use super::frames::{
     LAST_CLOSE, LONG_TEXT, PRIV_CLOSE, PRIV_TEXT, SAFE_CLOSE, SAFE_TEXT, TEXT_BEFORE_LAST,
     TOLD_TEXT,
@@ -63,12 +64,17 @@ fn lengths_of_a_long_text_take_three_octets(rt: HostRuntime) -> Result<(), Fail>
     let texts = format!(in rt.alloc(); "['{text}']")?;
     let job = sender(rt.alloc(), &[("texts", texts.as_str())])?;
     let mut printed = Vec::new(rt.alloc());
-    assert_eq!(rt;
+    assert_same(
+        &rt,
         run(&rt, Command::Seal, job.as_str(), &mut printed).ok(),
-        Some(0)
+        Some(0),
     );
     let printed = str::from_utf8(printed.as_slice()).ok().ok_or("no text")?;
-    assert_eq!(rt; first_line_from(printed, LONG_TEXT), Some(2 * 1_000_112));
+    assert_same(
+        &rt,
+        first_line_from(printed, LONG_TEXT),
+        Some(2 * 1_000_112),
+    );
     Ok(())
 }
 

@@ -1,5 +1,6 @@
 //! What `show` prints for messages, and for lines that hold none.
 
+use super::assert_same;
 use crate::fault::Fault;
 use crate::input::{LIMIT, read_all};
 use crate::messages::show;
@@ -165,7 +166,7 @@ fn input_of_the_limit_is_read(rt: HostRuntime) -> Result<(), Fail> {
     let input = zeros(&rt, LIMIT)?;
     assert!(rt; shows(&rt, input.as_slice(), 2, "refused 61 FIELD_TOOLONG\n"));
     let whole = read_all(rt.alloc(), &mut input.as_slice())?;
-    assert_eq!(rt; whole.len(), LIMIT);
+    assert_same(&rt, whole.len(), LIMIT);
     Ok(())
 }
 
@@ -174,9 +175,9 @@ fn input_over_the_limit_is_refused(rt: HostRuntime) -> Result<(), Fail> {
     let input = zeros(&rt, LIMIT + 1)?;
     let mut output = Vec::new(rt.alloc());
     let result = show(rt.alloc(), &mut input.as_slice(), &mut output);
-    assert_eq!(rt; result, Err(Fault::TooLong));
+    assert_same(&rt, result, Err(Fault::TooLong));
     assert!(rt; output.is_empty());
     let fault = read_all(rt.alloc(), &mut input.as_slice()).err();
-    assert_eq!(rt; fault, Some(Fault::TooLong));
+    assert_same(&rt, fault, Some(Fault::TooLong));
     Ok(())
 }

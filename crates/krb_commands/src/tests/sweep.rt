@@ -2,6 +2,7 @@
 //! `relay` also of a thread), and then a front of the known lines, of `relay` of each lane's.
 //! `tools/sweep` refuses the growths, and counts the lines that tell of a refusal.
 
+use super::assert_same;
 use super::frames::{SAFE_CLOSE, SAFE_TEXT as SAFE_FRAME};
 use super::jobs::{run, sender};
 use super::opens::receiver;
@@ -23,13 +24,13 @@ const ROOM: usize = 2_000;
 fn ends_well(rt: &impl Abort, outcome: Result<u8, Fault>, output: &[u8], text: &str) -> bool {
     if let Err(fault) = outcome {
         assert!(rt; matches!(fault, Fault::Memory | Fault::Stopped));
-        assert_eq!(rt; fault.status(), 4);
+        assert_same(rt, fault.status(), 4);
         assert!(rt; text.as_bytes().starts_with(output));
         assert!(rt; output.is_empty() || output.ends_with(b"\n"));
         return true;
     }
-    assert_eq!(rt; outcome, Ok(0));
-    assert_eq!(rt; output, text.as_bytes());
+    assert_same(rt, outcome, Ok(0));
+    assert_same(rt, output, text.as_bytes());
     false
 }
 
@@ -86,14 +87,14 @@ fn two_lanes_are_relayed_or_memory_wanted(rt: HostRuntime) -> Result<(), Fail> {
     let printed = str::from_utf8(output.as_slice()).ok().ok_or("no text")?;
     if let Err(fault) = result {
         assert!(rt; matches!(fault, Fault::Memory | Fault::Stopped | Fault::Thread));
-        assert_eq!(rt; fault.status(), 4);
+        assert_same(&rt, fault.status(), 4);
         assert!(rt; has_front(printed, TWO_LANES, "lane 0 "));
         assert!(rt; has_front(printed, TWO_LANES, "lane 1 "));
         assert!(rt; printed.is_empty() || printed.ends_with("\n"));
         println!(rt; "refused: relay_job, {fault}")?;
     } else {
-        assert_eq!(rt; result, Ok(0));
-        assert_eq!(rt; printed, TWO_LANES);
+        assert_same(&rt, result, Ok(0));
+        assert_same(&rt, printed, TWO_LANES);
     }
     Ok(())
 }

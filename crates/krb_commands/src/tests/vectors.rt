@@ -1,5 +1,6 @@
 //! The published values, as FIPS 197, RFC 3962, RFC 3961 and RFC 2202 print them.
 
+use super::assert_same;
 use crate::fault::Fault;
 use crate::published::vectors;
 
@@ -17,8 +18,8 @@ hmac2 effcdf6ae5eb2fa2d27416d5f184df9c259a7c79
 #[test]
 fn published_values_are_printed(rt: HostRuntime) {
     let mut output = Vec::new(rt.alloc());
-    assert_eq!(rt; vectors(rt.alloc(), &mut output), Ok(0));
-    assert_eq!(rt; output.as_slice(), PUBLISHED.as_bytes());
+    assert_same(&rt, vectors(rt.alloc(), &mut output), Ok(0));
+    assert_same(&rt, output.as_slice(), PUBLISHED.as_bytes());
 }
 
 #[test]
@@ -26,6 +27,6 @@ fn full_writer_gives_write_fault(rt: HostRuntime) {
     // a writer with room for the first line takes that and no more
     let mut room = [0; 40];
     let mut writer = room.as_mut_slice();
-    assert_eq!(rt; vectors(rt.alloc(), &mut writer), Err(Fault::Write));
+    assert_same(&rt, vectors(rt.alloc(), &mut writer), Err(Fault::Write));
     assert!(rt; PUBLISHED.as_bytes().starts_with(&room));
 }
