@@ -28,6 +28,7 @@ use krb_seal::{Aes128Sealer, Expect, Mode, Opener, Refusal, SealError, Sealer, S
 use rand_chacha::ChaCha20Rng;
 use rand_core::SeedableRng;
 use std::alloc::{AllocError, Global};
+use std::fmt::Debug;
 use std::process::Abort;
 use std::test::Fail;
 
@@ -37,6 +38,11 @@ const MICROS: u64 = 1_700_000_000_000_005;
 const KEY: [u8; 16] = [
     0x00, 0x01, 0x02, 0x03, 0x04, 0x05, 0x06, 0x07, 0x08, 0x09, 0x0a, 0x0b, 0x0c, 0x0d, 0x0e, 0x0f,
 ];
+
+/// Asserts that two values are the same, and prints both where they aren't.
+fn assert_same<T: PartialEq + Debug + Drop>(rt: &impl Abort, left: T, right: T) {
+    assert_eq!(rt; left, right);
+}
 
 /// The address 10.0.0.`host`.
 fn address(alloc: Global, host: u8) -> Result<HostAddress, AllocError>
@@ -146,6 +152,17 @@ fn are_letters(texts: &[Bytes], letters: &str) -> bool {
     texts.len() == letters.len()
 }
 
+/// Whether a receiver answers so to a frame.
+fn answers_so(
+    alloc: Global,
+    receiver: &mut Receiver,
+    frame: &[u8],
+    word: &str,
+) -> Result<bool, Fail> {
+    let answer = receiver.take(alloc, frame, moment(MICROS)?);
+    Ok(is_answer(&answer, word))
+}
+
 /// Whether a receiver answers so to these frames, one after another, all at one moment.
 fn answers(
     alloc: Global,
@@ -153,11 +170,9 @@ fn answers(
     frames: &[Vec<u8>],
     expected: &[&str],
 ) -> Result<bool, Fail> {
-    let now = moment(MICROS)?;
     let mut right = frames.len() == expected.len();
     for (frame, word) in frames.iter().zip(expected) {
-        let answer = receiver.take(alloc, frame.as_slice(), now);
-        right &= is_answer(&answer, word);
+        right &= answers_so(alloc, receiver, frame.as_slice(), word)?;
     }
     Ok(right)
 }

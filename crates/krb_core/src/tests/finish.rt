@@ -1,8 +1,8 @@
 //! Two lanes that run to their end.
 
-use super::steps::assert_sender;
+use super::steps::begin;
 use super::{MICROS, address, moment, receiver, sealer, sending};
-use crate::{Emit, Entry, Event, Log, Receiver, Receiving, Sending, StartError, Status, Stepped};
+use crate::{Emit, Entry, Event, Log, Receiver, Receiving, Sending, Status, Stepped};
 use krb_seal::{Aes256Sealer, Expect, Mode, Opener, Sealer, Session};
 use std::alloc::{AllocError, Global};
 use std::process::Abort;
@@ -41,23 +41,19 @@ fn receiving(alloc: Global, receiver: Receiver) -> Result<Receiving, Fail> {
     Ok(Receiving { receiver, nows })
 }
 
-/// A relay of these senders.
-fn begin<S: Sealer>(
-    rt: &impl Abort,
-    alloc: Global,
-    sendings: Vec<Sending<S>>,
-    receivings: Vec<Receiving>,
-    capacity: usize,
-) -> Result<Stepped, StartError> {
-    assert!(rt; sendings.len() == receivings.len());
-    assert!(rt; !sendings.is_empty() && sendings.len() <= 8);
-    for sending in &sendings {
-        assert_sender(rt, sending);
-    }
-    for receiving in &receivings {
-        assert!(rt; !receiving.nows.is_empty());
-    }
-    Stepped::new(alloc, sendings, receivings, capacity)
+/// Sender 0 of these texts, from number 7 on, and sender 1 of none.
+fn senders(alloc: Global, texts: &[&[u8]]) -> Result<Vec<Sending>, Fail> {
+    let narrow: Box<dyn Sealer + Send> = Box::new(alloc, sealer(alloc, Mode::Safe, 7)?)?;
+    let first = sending(alloc, narrow, texts, &[MICROS])?;
+    let wide: Box<dyn Sealer + Send> = Box::new(alloc, wide_sealer(alloc, 1)?)?;
+    let second = sending(alloc, wide, &[], &[MICROS])?;
+    Ok(vec![in alloc; first, second]?)
+}
+
+fn receivers(alloc: Global) -> Result<Vec<Receiving>, Fail> {
+    let first = receiving(alloc, receiver(alloc, Mode::Safe, 7)?)?;
+    let second = receiving(alloc, wide_receiver(alloc, 1)?)?;
+    Ok(vec![in alloc; first, second]?)
 }
 
 /// Sender 0 says these texts from number 7 on, so many together at most, and sender 1 nothing.
@@ -69,17 +65,12 @@ fn lanes_of(
     batch: usize,
     plan: Option<Vec<Emit>>,
 ) -> Result<Stepped, Fail> {
-    let narrow: Box<dyn Sealer + Send> = Box::new(alloc, sealer(alloc, Mode::Safe, 7)?)?;
-    let mut first = sending(alloc, narrow, texts, &[MICROS])?;
-    first.batch = batch;
-    first.plan = plan;
-    let wide: Box<dyn Sealer + Send> = Box::new(alloc, wide_sealer(alloc, 1)?)?;
-    let second = sending(alloc, wide, &[], &[MICROS])?;
-    let sendings = vec![in alloc; first, second]?;
-    let narrow = receiving(alloc, receiver(alloc, Mode::Safe, 7)?)?;
-    let wide = receiving(alloc, wide_receiver(alloc, 1)?)?;
-    let receivings = vec![in alloc; narrow, wide]?;
-    Ok(begin(rt, alloc, sendings, receivings, capacity)?)
+    let mut sendings = senders(alloc, texts)?;
+    if let Some(first) = sendings.first_mut() {
+        first.batch = batch;
+        first.plan = plan;
+    }
+    Ok(begin(rt, alloc, sendings, receivers(alloc)?, capacity)?)
 }
 
 /// Sender 0 says `a` and `b` from number 7 on, and sender 1 nothing.

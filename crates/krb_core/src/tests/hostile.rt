@@ -3,7 +3,7 @@
 //! one still demands the number 7, and delivers the unchanged frame.
 
 use super::frames::{PRIV_CLOSE, PRIV_TEXT, SAFE_TEXT};
-use super::{MICROS, answers, moment, receiver};
+use super::{MICROS, answers_so, assert_same, moment, receiver};
 use crate::Receiver;
 use krb_base::Bytes;
 use krb_der::{Message, decode, encode_priv};
@@ -23,8 +23,7 @@ fn refused(alloc: Global, receiver: &mut Receiver, frame: &[u8]) -> Result<u32, 
 
 /// Whether a receiver takes a frame as the text `hi`, and then demands the number 8.
 fn delivers(alloc: Global, receiver: &mut Receiver, frame: &[u8]) -> Result<bool, Fail> {
-    let frames = vec![in alloc; Vec::from_slice(alloc, frame)?]?;
-    Ok(answers(alloc, receiver, frames.as_slice(), &["hi"])? && receiver.expected() == 8)
+    Ok(answers_so(alloc, receiver, frame, "hi")? && receiver.expected() == 8)
 }
 
 #[test]
@@ -33,7 +32,7 @@ fn no_proper_prefix_is_a_frame(rt: HostRuntime) -> Result<(), Fail> {
         let mut receiver = receiver(rt.alloc(), mode, 7)?;
         for size in 0..frame.len() {
             let code = refused(rt.alloc(), &mut receiver, &frame[..size])?;
-            assert_eq!(rt; code, 901, "at {size}");
+            assert_same(&rt, (size, code), (size, 901));
         }
         assert!(rt; delivers(rt.alloc(), &mut receiver, frame)?);
     }
@@ -78,7 +77,7 @@ fn each_flipped_bit_of_safe_is_refused(rt: HostRuntime) -> Result<(), Fail> {
     let mut receiver = receiver(rt.alloc(), Mode::Safe, 7)?;
     let codes = [901, 39, 40, 50, 38, 37, 42, 41];
     let counts = flips(rt.alloc(), &mut receiver, &SAFE_TEXT, codes)?;
-    assert_eq!(rt; counts, [537, 8, 8, 8, 40, 24, 7, 136]);
+    assert_same(&rt, counts, [537, 8, 8, 8, 40, 24, 7, 136]);
     assert!(rt; delivers(rt.alloc(), &mut receiver, &SAFE_TEXT)?);
     Ok(())
 }
@@ -87,7 +86,7 @@ fn each_flipped_bit_of_safe_is_refused(rt: HostRuntime) -> Result<(), Fail> {
 fn each_flipped_bit_of_priv_is_refused(rt: HostRuntime) -> Result<(), Fail> {
     let mut receiver = receiver(rt.alloc(), Mode::Priv, 7)?;
     let counts = flips(rt.alloc(), &mut receiver, &PRIV_TEXT, [901, 39, 40, 14, 31])?;
-    assert_eq!(rt; counts, [192, 8, 8, 8, 680]);
+    assert_same(&rt, counts, [192, 8, 8, 8, 680]);
     assert!(rt; delivers(rt.alloc(), &mut receiver, &PRIV_TEXT)?);
     Ok(())
 }
@@ -109,16 +108,21 @@ fn respelt(alloc: Global, kvno: Option<u32>, size: usize) -> Result<Vec<u8>, Fai
     Ok(encode_priv(alloc, &message)?)
 }
 
+/// The code by which a receiver refuses `PRIV_TEXT` with this many bytes of its cipher.
+fn refused_cut(alloc: Global, receiver: &mut Receiver, size: usize) -> Result<u32, Fail> {
+    let frame = respelt(alloc, None, size)?;
+    refused(alloc, receiver, &frame)
+}
+
 #[test]
 fn no_cut_cipher_is_opened(rt: HostRuntime) -> Result<(), Fail> {
     let mut receiver = receiver(rt.alloc(), Mode::Priv, 7)?;
     for size in 0..85usize {
-        let frame = respelt(rt.alloc(), None, size)?;
-        let code = refused(rt.alloc(), &mut receiver, &frame)?;
-        assert_eq!(rt; code, 31, "at {size}");
+        let code = refused_cut(rt.alloc(), &mut receiver, size)?;
+        assert_same(&rt, (size, code), (size, 31));
     }
     let whole = respelt(rt.alloc(), None, 85)?;
-    assert_eq!(rt; whole.as_slice(), PRIV_TEXT.as_slice());
+    assert_same(&rt, whole.as_slice(), PRIV_TEXT.as_slice());
     assert!(rt; delivers(rt.alloc(), &mut receiver, &whole)?);
     Ok(())
 }
@@ -134,7 +138,7 @@ fn lengths_that_lie_are_malformed(rt: HostRuntime) -> Result<(), Fail> {
             b"\x74\x00",
             b"\x75\x00",
         ] {
-            assert_eq!(rt; refused(rt.alloc(), &mut receiver, lie)?, 901);
+            assert_same(&rt, refused(rt.alloc(), &mut receiver, lie)?, 901);
         }
         assert!(rt; delivers(rt.alloc(), &mut receiver, frame)?);
     }
@@ -144,18 +148,23 @@ fn lengths_that_lie_are_malformed(rt: HostRuntime) -> Result<(), Fail> {
 #[test]
 fn key_version_is_no_part_of_what_is_judged(rt: HostRuntime) -> Result<(), Fail> {
     let frame = respelt(rt.alloc(), Some(3), 85)?;
-    assert_eq!(rt; frame.len(), 117);
+    assert_same(&rt, frame.len(), 117);
     assert!(rt;
         frame.starts_with(
             b"\x75\x73\x30\x71\xa0\x03\x02\x01\x05\xa1\x03\x02\x01\x15\xa3\x65\
               \x30\x63\xa0\x03\x02\x01\x11\xa1\x03\x02\x01\x03\xa2\x57\x04\x55"
         )
     );
-    let text = Vec::from_slice(rt.alloc(), &PRIV_TEXT)?;
-    let close = Vec::from_slice(rt.alloc(), &PRIV_CLOSE)?;
-    let frames = vec![in rt.alloc(); frame, text, close]?;
     let mut receiver = receiver(rt.alloc(), Mode::Priv, 7)?;
-    let words = ["hi", "BADORDER", "closed"];
-    assert!(rt; answers(rt.alloc(), &mut receiver, frames.as_slice(), &words)?);
+    for (frame, word) in [
+        (frame.as_slice(), "hi"),
+        (&PRIV_TEXT, "BADORDER"),
+        (&PRIV_CLOSE, "closed"),
+    ] {
+        assert!(rt;
+            answers_so(rt.alloc(), &mut receiver, frame, word)?,
+            "{word}"
+        );
+    }
     Ok(())
 }

@@ -1,5 +1,5 @@
 use super::steps::assert_sender;
-use super::{MICROS, answers, is_answer, moment, receiver, sealed, sealer, sending};
+use super::{MICROS, answers, answers_so, assert_same, moment, receiver, sealed, sealer, sending};
 use crate::{Emit, Log, Receiving, emit, emit_sealed};
 use krb_base::Bytes;
 use krb_seal::{Mode, Sealer};
@@ -68,20 +68,34 @@ fn frames_after_the_close(rt: HostRuntime) -> Result<(), Fail> {
     Ok(())
 }
 
+/// Whether the first frame with a bit of a byte turned is refused so: without the unchanged frame
+/// nothing is delivered behind it, and with it all is.
+fn changed_is_refused(
+    rt: &impl Abort,
+    alloc: Global,
+    mode: Mode,
+    at: usize,
+    word: &str,
+) -> Result<(bool, bool), Fail> {
+    let flip = Emit::Flip { k: 0, at, mask: 1 };
+    let mut plan = [flip, Emit::Frame(1), Emit::Frame(1)];
+    let words = [word, "BADORDER"];
+    let alone = lane_answers(rt, alloc, mode, &[b"hi"], &plan[..2], &words)?;
+    plan[1] = Emit::Frame(0);
+    let words = [word, "hi", "closed"];
+    let followed = lane_answers(rt, alloc, mode, &[b"hi"], &plan, &words)?;
+    Ok((alone, followed))
+}
+
 #[test]
 fn changed_frames(rt: HostRuntime) -> Result<(), Fail> {
-    let flip = |at: usize| Emit::Flip { k: 0, at, mask: 1 };
     for (mode, at, word) in [
         (Mode::Safe, 95, "MODIFIED"),
         (Mode::Priv, 111, "BAD_INTEGRITY"),
         (Mode::Priv, 0, "MALFORMED"),
     ] {
-        let plan = [flip(at), Emit::Frame(1)];
-        let words = [word, "BADORDER"];
-        assert!(rt; lane_answers(&rt, rt.alloc(), mode, &[b"hi"], &plan, &words)?);
-        let plan = [flip(at), Emit::Frame(0), Emit::Frame(1)];
-        let words = [word, "hi", "closed"];
-        assert!(rt; lane_answers(&rt, rt.alloc(), mode, &[b"hi"], &plan, &words)?);
+        let refused = changed_is_refused(&rt, rt.alloc(), mode, at, word)?;
+        assert_same(&rt, (word, refused), (word, (true, true)));
     }
     Ok(())
 }
@@ -91,7 +105,7 @@ fn made_up_frame(rt: HostRuntime) -> Result<(), Fail> {
     // The first frame with the checksum's type 0 and no checksum.
     let mut raw = Vec::from_slice(rt.alloc(), &super::frames::SAFE_TEXT[..71])?;
     raw.extend_from_slice(b"\xa3\x0b\x30\x09\xa0\x03\x02\x01\x00\xa1\x02\x04\x00")?;
-    assert_eq!(rt; raw.len(), 84);
+    assert!(rt; raw.len() == 84);
     raw[1] = 0x52;
     raw[3] = 0x50;
     let plan = [Emit::Raw(Bytes::new(raw)), Emit::Frame(0)];
@@ -100,9 +114,14 @@ fn made_up_frame(rt: HostRuntime) -> Result<(), Fail> {
     Ok(())
 }
 
+/// The first frame, of these user data.
+fn frame_of(alloc: Global, user_data: &[u8]) -> Result<Vec<u8>, Fail> {
+    let mut sealer = sealer(alloc, Mode::Priv, 7)?;
+    Ok(sealer.seal(alloc, user_data, moment(MICROS)?, [0; 16])?)
+}
+
 #[test]
 fn no_record_moves_no_number(rt: HostRuntime) -> Result<(), Fail> {
-    let (at, confounder) = (moment(MICROS)?, [0; 16]);
     let mut receiver = receiver(rt.alloc(), Mode::Priv, 7)?;
     for (user_data, word, expected) in [
         (b"X".as_slice(), "BAD_RECORD", 7),
@@ -110,11 +129,14 @@ fn no_record_moves_no_number(rt: HostRuntime) -> Result<(), Fail> {
         (b"CC", "BAD_RECORD", 7),
         (b"Dhi", "hi", 8),
     ] {
-        let mut sealer = sealer(rt.alloc(), Mode::Priv, 7)?;
-        let frame = sealer.seal(rt.alloc(), user_data, at, confounder)?;
-        let answer = receiver.take(rt.alloc(), frame.as_slice(), at);
-        assert!(rt; is_answer(&answer, word), "at {user_data:?}");
-        assert!(rt; receiver.expected() == expected && !receiver.closed());
+        let frame = frame_of(rt.alloc(), user_data)?;
+        let right = answers_so(rt.alloc(), &mut receiver, frame.as_slice(), word)?;
+        assert_same(&rt, (user_data, right), (user_data, true));
+        assert_same(
+            &rt,
+            (receiver.expected(), receiver.closed()),
+            (expected, false),
+        );
     }
     Ok(())
 }
@@ -129,7 +151,7 @@ fn frame_taken_into_a_log(rt: HostRuntime) -> Result<(), Fail> {
     )?;
     assert_sender(&rt, &sender);
     let wire = emit_sealed(rt.alloc(), 0, sender)?;
-    assert_eq!(rt; wire.len(), 2);
+    assert!(rt; wire.len() == 2);
     let mut nows = Vec::new(rt.alloc());
     nows.push(moment(MICROS + 1)?)?;
     nows.push(moment(MICROS + 2)?)?;
@@ -137,13 +159,13 @@ fn frame_taken_into_a_log(rt: HostRuntime) -> Result<(), Fail> {
         receiver: receiver(rt.alloc(), Mode::Priv, 7)?,
         nows,
     };
-    assert_eq!(rt; receiving.moment_at(0).micros(), MICROS + 1);
-    assert_eq!(rt; receiving.moment_at(5).micros(), MICROS + 2);
+    assert_same(&rt, receiving.moment_at(0).micros(), MICROS + 1);
+    assert_same(&rt, receiving.moment_at(5).micros(), MICROS + 2);
     let mut log = Log::new(rt.alloc(), 1);
     let now = receiving.moment_at(0);
     let receiver = &mut receiving.receiver;
     receiver.take_into(&mut log, rt.alloc(), 0, wire[0].as_slice(), now)?;
-    assert_eq!(rt; receiver.expected(), 8);
-    assert_eq!(rt; log.text(0, 0), Some(b"hi".as_slice()));
+    assert_same(&rt, receiver.expected(), 8);
+    assert_same(&rt, log.text(0, 0), Some(b"hi".as_slice()));
     Ok(())
 }

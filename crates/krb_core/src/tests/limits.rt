@@ -1,8 +1,8 @@
 //! Relays at their upper limits: eight lanes of 64 places, and a plan of 2,000 emissions for each.
 
 use super::steps::{begin, receiving};
-use super::{MICROS, sealer, sending};
-use crate::{Emit, Sending, StartError, Status, Stepped};
+use super::{MICROS, assert_same, sealer, sending};
+use crate::{Emit, Receiving, Sending, StartError, Status, Stepped};
 use krb_seal::{Aes128Sealer, Mode, Sealer};
 use std::alloc::Global;
 use std::process::Abort;
@@ -33,6 +33,15 @@ fn senders(alloc: Global, wiped: Option<u32>) -> Result<Vec<Sending<Aes128Sealer
     Ok(sendings)
 }
 
+/// Their receivers.
+fn receivings(alloc: Global) -> Result<Vec<Receiving>, Fail> {
+    let mut receivings = Vec::new(alloc);
+    for _ in 0..8 {
+        receivings.push(receiving(alloc, Mode::Safe)?)?;
+    }
+    Ok(receivings)
+}
+
 /// A relay of them.
 fn eight_lanes(
     rt: &impl Abort,
@@ -40,11 +49,7 @@ fn eight_lanes(
     wiped: Option<u32>,
 ) -> Result<Result<Stepped, StartError>, Fail> {
     let sendings = senders(alloc, wiped)?;
-    let mut receivings = Vec::new(alloc);
-    for _ in 0..8 {
-        receivings.push(receiving(alloc, Mode::Safe)?)?;
-    }
-    Ok(begin(rt, alloc, sendings, receivings, 64))
+    Ok(begin(rt, alloc, sendings, receivings(alloc)?, 64))
 }
 
 #[test]
@@ -53,10 +58,10 @@ fn eight_lanes_of_2_000_emissions(rt: HostRuntime) -> Result<(), Fail> {
     relay.finish()?;
     let log = relay.log();
     assert!(rt; relay.done() && log.lanes() == 8);
-    assert_eq!(rt; log.entries().len(), 16_000);
+    assert_same(&rt, log.entries().len(), 16_000);
     for lane in 0..8 {
-        assert_eq!(rt; log.status(lane), Status::Closed);
-        assert_eq!(rt; log.texts(lane), 1);
+        assert_same(&rt, log.status(lane), Status::Closed);
+        assert_same(&rt, log.texts(lane), 1);
     }
     Ok(())
 }

@@ -3,7 +3,7 @@
 
 use super::odd_sealer::OddSealer;
 use super::steps::{begin, receiving};
-use super::{MICROS, sending};
+use super::{MICROS, assert_same, sending};
 use crate::{Emit, Sending, StartError};
 use krb_seal::{Mode, Sealer};
 use std::alloc::Global;
@@ -78,7 +78,7 @@ fn first_refusal_is_answered(rt: HostRuntime) -> Result<(), Fail> {
     ] {
         let (answer, drops) = answer_to(&rt, rt.alloc(), wrong)?;
         assert!(rt; answer == expected);
-        assert_eq!(rt; drops, 2);
+        assert_same(&rt, drops, 2);
     }
     Ok(())
 }

@@ -1,6 +1,6 @@
 use super::frames::{PRIV_CLOSE, PRIV_TEXT, SAFE_CLOSE, SAFE_TEXT};
 use super::steps::assert_sender;
-use super::{MICROS, answers, moment, receiver, sealed, sealer, sending, session};
+use super::{MICROS, answers, assert_same, moment, receiver, sealed, sealer, sending, session};
 use crate::{Emit, Ending, Sending, emit};
 use krb_seal::{Aes128Sealer, Mode, SealError, Sealer};
 use std::alloc::Global;
@@ -15,10 +15,10 @@ fn records_are_sealed_as_by_another_sealer(rt: HostRuntime) -> Result<(), Fail> 
         let sealer = sealer(rt.alloc(), mode, 7)?;
         let mut sending = sending(rt.alloc(), sealer, &[b"hi"], &[MICROS])?;
         let frames = sealed(&rt, rt.alloc(), &mut sending)?;
-        assert_eq!(rt; frames.len(), 2);
-        assert_eq!(rt; frames[0].as_slice(), text);
-        assert_eq!(rt; frames[1].as_slice(), close);
-        assert_eq!(rt; sending.sealer.next(), 9);
+        assert!(rt; frames.len() == 2);
+        assert_same(&rt, frames[0].as_slice(), text);
+        assert_same(&rt, frames[1].as_slice(), close);
+        assert_same(&rt, sending.sealer.next(), 9);
         let mut receiver = receiver(rt.alloc(), mode, 7)?;
         let answered = answers(
             rt.alloc(),
@@ -37,10 +37,10 @@ fn first_record_alone(rt: HostRuntime) -> Result<(), Fail> {
     let sealer = Aes128Sealer::new(&mut { super::KEY }, session);
     let mut sending = sending(rt.alloc(), sealer, &[], &[MICROS])?;
     assert_sender(&rt, &sending);
-    assert_eq!(rt; sending.records(), 1);
+    assert!(rt; sending.records() == 1);
     let mut passed = 0;
     let frame = sending.seal_record(rt.alloc(), 0, &mut passed)?;
-    assert_eq!(rt; passed, 0);
+    assert_same(&rt, passed, 0);
     let mut receiver = receiver(rt.alloc(), Mode::Safe, 7)?;
     let frames = vec![in rt.alloc(); frame]?;
     assert!(rt; answers(rt.alloc(), &mut receiver, frames.as_slice(), &["closed"])?);
@@ -57,11 +57,11 @@ fn last_number_is_kept_for_the_close(rt: HostRuntime) -> Result<(), Fail> {
         let sealer = sealer(rt.alloc(), Mode::Safe, first)?;
         let mut sending = sending(rt.alloc(), sealer, &[b"a", b"b"], &[MICROS])?;
         let sent = sending.sent();
-        assert_eq!(rt; (sent.k, sent.n), (k, 2));
-        assert_eq!(rt; sent.ending == Ending::Done, k == 2);
-        assert_eq!(rt; sending.records(), k + 1);
+        assert_same(&rt, (sent.k, sent.n), (k, 2));
+        assert_same(&rt, sent.ending == Ending::Done, k == 2);
+        assert_same(&rt, sending.records(), k + 1);
         let frames = sealed(&rt, rt.alloc(), &mut sending)?;
-        assert_eq!(rt; sending.sealer.next(), 4_294_967_296);
+        assert_same(&rt, sending.sealer.next(), 4_294_967_296);
         let close = frames.last().ok_or("no frame")?.as_slice();
         let number = b"\xa3\x07\x02\x05\x00\xff\xff\xff\xff";
         assert!(rt; close.windows(9).any(|part| part == number.as_slice()));
@@ -82,13 +82,13 @@ fn by_twos(alloc: Global, first: u32) -> Result<Sending<Aes128Sealer>, Fail> {
 #[test]
 fn two_texts_go_together(rt: HostRuntime) -> Result<(), Fail> {
     let mut sending = by_twos(rt.alloc(), 7)?;
-    assert_eq!(rt; sending.records(), 3);
+    assert_same(&rt, sending.records(), 3);
     let sent = sending.sent();
-    assert_eq!(rt; (sent.k, sent.n, sent.ending), (3, 3, Ending::Done));
+    assert_same(&rt, (sent.k, sent.n, sent.ending), (3, 3, Ending::Done));
     let frames = sealed(&rt, rt.alloc(), &mut sending)?;
-    assert_eq!(rt; sending.sealer.next(), 10);
-    assert_eq!(rt; frames.len(), 3);
-    assert_eq!(rt; frames[0].len(), 104);
+    assert_same(&rt, sending.sealer.next(), 10);
+    assert!(rt; frames.len() == 3);
+    assert_same(&rt, frames[0].len(), 104);
     // Up to the data, which is the batch: 42, and each text behind its length.
     let front = [
         0x74, 0x66, 0x30, 0x64, 0xa0, 0x03, 0x02, 0x01, 0x05, 0xa1, 0x03, 0x02, 0x01, 0x14, 0xa2,
@@ -121,9 +121,13 @@ fn batch_comes_once(rt: HostRuntime) -> Result<(), Fail> {
 #[test]
 fn batch_before_the_last_number(rt: HostRuntime) -> Result<(), Fail> {
     let mut sending = by_twos(rt.alloc(), 4_294_967_294)?;
-    assert_eq!(rt; sending.records(), 2);
+    assert_same(&rt, sending.records(), 2);
     let sent = sending.sent();
-    assert_eq!(rt; (sent.k, sent.n, sent.ending), (2, 3, Ending::LastNumber));
+    assert_same(
+        &rt,
+        (sent.k, sent.n, sent.ending),
+        (2, 3, Ending::LastNumber),
+    );
     let frames = sealed(&rt, rt.alloc(), &mut sending)?;
     let mut receiver = receiver(rt.alloc(), Mode::Safe, 4_294_967_294)?;
     let words = ["ab", "closed"];
@@ -157,7 +161,7 @@ fn wiped_sealer(rt: HostRuntime) -> Result<(), Fail> {
     let mut sending = sending(rt.alloc(), sealer, &[b"a"], &[MICROS])?;
     let answer = sealed(&rt, rt.alloc(), &mut sending);
     assert!(rt; matches!(answer, Err(SealError::Wiped)));
-    assert_eq!(rt; sending.sealer.next(), 7);
+    assert_same(&rt, sending.sealer.next(), 7);
     Ok(())
 }
 
@@ -166,7 +170,7 @@ fn boxed_sealer(rt: HostRuntime) -> Result<(), Fail> {
     let sealer: Box<dyn Sealer + Send> = Box::new(rt.alloc(), sealer(rt.alloc(), Mode::Safe, 7)?)?;
     let mut sending: Sending = sending(rt.alloc(), sealer, &[b"hi"], &[MICROS])?;
     let frames = sealed(&rt, rt.alloc(), &mut sending)?;
-    assert_eq!(rt; frames.len(), 2);
-    assert_eq!(rt; frames[0].as_slice(), SAFE_TEXT.as_slice());
+    assert!(rt; frames.len() == 2);
+    assert_same(&rt, frames[0].as_slice(), SAFE_TEXT.as_slice());
     Ok(())
 }

@@ -1,7 +1,7 @@
 ghost use Rattle.std.specs.Prelude.{◌≡◌, ◌<◌, All, length, IfOk};
 ghost use Rattle.krb_peers.specs.Sending.{source_of, IsSender};
 
-use super::{MICROS, are_short, moment, receiver, sealer, sending};
+use super::{MICROS, are_short, assert_same, moment, receiver, sealer, sending};
 use crate::{Did, Event, Log, Receiving, Sending, StartError, Stepped, Turn};
 use krb_base::{BATCH_LIMIT, LAST_NUMBER};
 use krb_seal::{Mode, Sealer};
@@ -103,12 +103,12 @@ fn turn_by_turn(rt: HostRuntime) -> Result<(), Fail> {
         (take, Did::Waits, true),
     ] {
         let turn = if sends { SEND } else { TAKE };
-        assert_eq!(rt; relay.step(turn)?, did);
-        assert_eq!(rt; relay.done(), done);
+        assert_same(&rt, relay.step(turn)?, did);
+        assert_same(&rt, relay.done(), done);
     }
     assert!(rt; is_whole(relay.log()));
     let sent = relay.sent(0);
-    assert_eq!(rt; (sent.k, sent.n), (1, 1));
+    assert_same(&rt, (sent.k, sent.n), (1, 1));
     Ok(())
 }
 
@@ -118,7 +118,7 @@ fn turns_in_a_row(rt: HostRuntime) -> Result<(), Fail> {
     relay.run(&[SEND, SEND, TAKE, TAKE, SEND, TAKE, SEND, TAKE])?;
     assert!(rt; is_whole(relay.log()) && relay.done());
     let sent = relay.sent(0);
-    assert_eq!(rt; (sent.k, sent.n), (1, 1));
+    assert_same(&rt, (sent.k, sent.n), (1, 1));
     Ok(())
 }
 

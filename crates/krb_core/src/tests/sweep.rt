@@ -8,7 +8,7 @@ ghost use Rattle.krb_core.specs.Stepped.{lane_of};
 
 use super::frames::{PRIV_BATCH, PRIV_CLOSE, PRIV_TEXT, SAFE_BATCH, SAFE_CLOSE, SAFE_TEXT};
 use super::steps::{is_whole, relay_of_one};
-use super::{MICROS, is_answer, moment, receiver};
+use super::{MICROS, assert_same, is_answer, moment, receiver};
 use crate::{Did, Log, Receiver, Stepped, Texts, Turn};
 use krb_base::Bytes;
 use krb_seal::{Mode, Refusal};
@@ -30,7 +30,11 @@ fn takes(
     let mut answer = receiver.take(alloc, frame, now);
     let refused = matches!(answer, Err(Refusal::Memory));
     if refused {
-        assert_eq!(rt; (receiver.expected(), receiver.closed()), (number, false));
+        assert_same(
+            rt,
+            (receiver.expected(), receiver.closed()),
+            (number, false),
+        );
         answer = receiver.take(alloc, frame, now);
     }
     assert!(rt; is_answer(&answer, word));
@@ -59,7 +63,7 @@ fn frame_is_taken_or_memory_wanted(rt: HostRuntime) -> Result<(), Fail> {
                 println!(rt; "refused: take of {name}, {word} at {number}")?;
             }
         }
-        assert_eq!(rt; (receiver.expected(), receiver.closed()), (9, true));
+        assert_same(&rt, (receiver.expected(), receiver.closed()), (9, true));
     }
     Ok(())
 }
@@ -74,7 +78,7 @@ fn batch_is_taken_or_memory_wanted(rt: HostRuntime) -> Result<(), Fail> {
         if takes(&rt, rt.alloc(), &mut receiver, frame, 7, "ab")? {
             println!(rt; "refused: take of {name}, ab at 7")?;
         }
-        assert_eq!(rt; (receiver.expected(), receiver.closed()), (8, false));
+        assert_same(&rt, (receiver.expected(), receiver.closed()), (8, false));
     }
     Ok(())
 }
@@ -90,13 +94,13 @@ fn two_texts(alloc: Global) -> Result<Texts, AllocError> {
 fn batch_is_logged_or_memory_wanted(rt: HostRuntime) -> Result<(), Fail> {
     let mut log = Log::new(rt.alloc(), 1);
     if log.push_batch(0, two_texts(rt.alloc())?).is_err() {
-        assert_eq!(rt; (log.entries().len(), log.texts(0)), (0, 0));
+        assert_same(&rt, (log.entries().len(), log.texts(0)), (0, 0));
         println!(rt; "refused: push_batch")?;
         log.push_batch(0, two_texts(rt.alloc())?)?;
     }
-    assert_eq!(rt; (log.entries().len(), log.texts(0)), (2, 2));
-    assert_eq!(rt; log.text(0, 0), Some(b"a".as_slice()));
-    assert_eq!(rt; log.text(0, 1), Some(b"b".as_slice()));
+    assert_same(&rt, (log.entries().len(), log.texts(0)), (2, 2));
+    assert_same(&rt, log.text(0, 0), Some(b"a".as_slice()));
+    assert_same(&rt, log.text(0, 1), Some(b"b".as_slice()));
     Ok(())
 }
 
@@ -115,11 +119,11 @@ fn turns(rt: &impl Abort, relay: &mut Stepped, turn: Turn, did: Did, after: (usi
     let mut answer = relay.step(turn);
     let refused = answer.is_err();
     if refused {
-        assert_eq!(rt; seen(relay), before);
+        assert_same(rt, seen(relay), before);
         answer = relay.step(turn);
     }
     assert!(rt; matches!(answer, Ok(done) if done == did));
-    assert_eq!(rt; seen(relay), after);
+    assert_same(rt, seen(relay), after);
     refused
 }
 

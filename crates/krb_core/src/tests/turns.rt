@@ -4,7 +4,7 @@ ghost use Rattle.std.specs.Prelude.{◌≡◌, ◌<◌, length, IfOk};
 ghost use Rattle.krb_core.specs.Stepped.{lane_of};
 
 use super::steps::{begin, receiving};
-use super::{MICROS, sealer, sending};
+use super::{MICROS, assert_same, sealer, sending};
 use crate::{Emit, Entry, Event, Log, Sending, Status, Stepped, Turn};
 use krb_base::Bytes;
 use krb_seal::{Aes128Sealer, Mode};
@@ -145,7 +145,7 @@ fn many_turns_of_eight_lanes(rt: HostRuntime) -> Result<(), Fail> {
         drive(&mut relay, seed)?;
         assert!(rt; relay.done());
         let log = relay.log();
-        assert_eq!(rt; log.lanes(), 8);
+        assert!(rt; log.lanes() == 8);
         for (lane, texts, status) in [
             (0, 40, closed),
             (1, 40, closed),
@@ -160,7 +160,7 @@ fn many_turns_of_eight_lanes(rt: HostRuntime) -> Result<(), Fail> {
                 are_letters(&rt, log, lane, texts),
                 "the texts of lane {lane}"
             );
-            assert_eq!(rt; log.status(lane), status);
+            assert_same(&rt, log.status(lane), status);
         }
         for (lane, name, count) in [
             (1, "BADORDER", 40), // the second of each text's frames,
@@ -169,10 +169,10 @@ fn many_turns_of_eight_lanes(rt: HostRuntime) -> Result<(), Fail> {
             (3, "BAD_INTEGRITY", 9), // each fifth frame, changed
             (4, "MALFORMED", 41),
         ] {
-            assert_eq!(rt; refused(log, lane, name), count);
+            assert_same(&rt, refused(log, lane, name), count);
         }
         // 20 + 7 * 40 texts, 7 closes, and those 111 refusals.
-        assert_eq!(rt; log.entries().len(), 300 + 7 + 111);
+        assert_same(&rt, log.entries().len(), 300 + 7 + 111);
     }
     Ok(())
 }

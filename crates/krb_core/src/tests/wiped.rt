@@ -1,4 +1,4 @@
-use super::{MICROS, moment, receiver, sealed, sealer, sending};
+use super::{MICROS, assert_same, moment, receiver, sealed, sealer, sending};
 use krb_seal::{Mode, Refusal};
 use std::test::Fail;
 
@@ -12,9 +12,9 @@ fn wiped_receiver_takes_nothing(rt: HostRuntime) -> Result<(), Fail> {
         receiver.wipe();
         let frame = frames.first().ok_or("no frame")?;
         let taken = receiver.take(rt.alloc(), frame.as_slice(), moment(MICROS)?);
-        assert_eq!(rt; taken.err(), Some(Refusal::AfterClose));
+        assert_same(&rt, taken.err(), Some(Refusal::AfterClose));
         assert!(rt; receiver.closed());
-        assert_eq!(rt; receiver.expected(), 7);
+        assert_same(&rt, receiver.expected(), 7);
     }
     Ok(())
 }
