@@ -5,7 +5,7 @@ use Rattle.std.proofs.lemmas.Nat.{and_mask}
 use Rattle.std.proofs.lemmas.Simd.{map-map}
 use lib.Bits.{xor_assoc, xor_comm, xor_shr, xor_mod, xor_lt}
 use lib.Lanes.{Each1, zip2, pick_l}
-use Rattle.krb_aes.specs.Field.{times, product, remainder, power, inverse, all_below}
+use Rattle.krb_aes.specs.Field.{times, product, remainder, all_below}
 use Rattle.krb_aes.specs.Cipher.{sum4, cell, from_cells, add_round_key}
 use Rattle.krb_aes.specs.InverseCipher.{inv_affine, inv_sbox, inv_mixed}
 use Rattle.krb_aes.specs.Words.{AreBytes}
@@ -14,6 +14,7 @@ use Rattle.krb_aes.specs.Rounds.{rows_shifted, round_key}
 use Rattle.krb_aes.specs.declared.inverse_sbox.TheConstants.{UNDONE_HIGH, UNDONE_LOW, TIMES_14_FIRST, TIMES_14_SECOND, TIMES_11_FIRST, TIMES_11_SECOND, TIMES_13_FIRST, TIMES_13_SECOND, TIMES_9_FIRST, TIMES_9_SECOND, INV_SBOX_FIRST, INV_SBOX_SECOND}
 use Rattle.krb_aes.proofs.Mixing.{all_below_at, small}
 use Rattle.krb_aes.proofs.FieldFacts.{times-xor}
+use Rattle.krb_aes.proofs.Inverses.{inverse_in_table, inv_sbox_by_table, inv_sbox_is}
 use Rattle.krb_aes.proofs.Xor.{xor_swap, sum4-xor}
 use Rattle.krb_aes.proofs.Inverse.{cells_16}
 use Rattle.krb_aes.proofs.Lanes.{map_same}
@@ -28,9 +29,14 @@ is_opened_at h b s =
     && eqb (at_places TIMES_13_FIRST TIMES_13_SECOND h) (inv_linear_nibbles (times 13 s)) && eqb (at_places TIMES_9_FIRST TIMES_9_SECOND h) (inv_linear_nibbles (times 9 s))
     && eqb (at_places INV_SBOX_FIRST INV_SBOX_SECOND h) s
 
-opened_all : all_below (λ b. is_opened_at (inv_affine_nibbles b) b (inv_sbox b)) 256 ≡ true
-unfolding is_opened_at at_places first_place second_place inv_affine_nibbles inv_linear_nibbles times product remainder power inverse inv_affine inv_sbox
+opened_all : all_below (λ b. is_opened_at (inv_affine_nibbles b) b (inv_sbox_by_table b)) 256 ≡ true
+unfolding is_opened_at at_places first_place second_place inv_affine_nibbles inv_linear_nibbles times product remainder inv_affine inv_sbox_by_table inverse_in_table
 opened_all = refl
+
+opened_at : (b : ℕ) → b < 256 → is_opened_at (inv_affine_nibbles b) b (inv_sbox b) ≡ true
+opened_at b h =
+    ap (is_opened_at (inv_affine_nibbles b) b) (inv_sbox_is b h)
+    ∙ all_below_at (λ b. is_opened_at (inv_affine_nibbles b) b (inv_sbox_by_table b)) 256 b opened_all h
 
 record Opened (b : ℕ) : Type 0 where
   pub by_14 : at_places TIMES_14_FIRST TIMES_14_SECOND (inv_affine_nibbles b) ≡ inv_linear_nibbles (times 14 (inv_sbox b))
@@ -50,7 +56,7 @@ five a b c d e h =
 opened : (b : ℕ) → b < 256 → Opened b
 unfolding is_opened_at
 opened b h =
-    let t = five _ _ _ _ _ (all_below_at (λ b. is_opened_at (inv_affine_nibbles b) b (inv_sbox b)) 256 b opened_all h) in
+    let t = five _ _ _ _ _ (opened_at b h) in
     record { by_14 = eqb-true _ _ t.0; by_11 = eqb-true _ _ t.1; by_13 = eqb-true _ _ t.2; by_9 = eqb-true _ _ t.3; plain = eqb-true _ _ t.4 }
 
 back_lanes : (t u : List ℕ) (f : ℕ → ℕ) → ((b : ℕ) → b < 256 → at_places t u (inv_affine_nibbles b) ≡ f b) → (s x r : List ℕ) → AreBytes s → x ≡ map inv_affine_nibbles s

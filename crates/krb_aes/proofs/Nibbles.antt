@@ -5,13 +5,14 @@ use Rattle.std.proofs.lemmas.Nat.{and_mask}
 use Rattle.std.proofs.lemmas.Simd.{map-map}
 use lib.Bits.{xor_assoc, xor_comm, xor_self, xor_zero_r, xor_shr, xor_mod, xor_lt}
 use lib.Lanes.{Each1}
-use Rattle.krb_aes.specs.Field.{times, product, remainder, power, inverse, affine, sbox, all_below}
+use Rattle.krb_aes.specs.Field.{times, product, remainder, affine, sbox, all_below}
 use Rattle.krb_aes.specs.Cipher.{mixed}
 use Rattle.krb_aes.specs.Words.{AreBytes}
 use Rattle.krb_aes.specs.Nibbles.{entry, first_place, second_place, nibbles_of_high, nibbles_of_low, nibbles_of, bare_nibbles, bare_doubled}
 use Rattle.krb_aes.specs.declared.sbox.TheConstants.{SBOX_FIRST, SBOX_SECOND, DOUBLED_FIRST, DOUBLED_SECOND, BARE_FIRST, BARE_SECOND}
 use Rattle.krb_aes.proofs.Mixing.{all_below_at, small}
 use Rattle.krb_aes.proofs.FieldFacts.{times-xor}
+use Rattle.krb_aes.proofs.Inverses.{inverse_in_table, sbox_by_table, sbox_is}
 use Rattle.krb_aes.proofs.Xor.{xor_swap}
 use Rattle.krb_aes.proofs.Lanes.{map_same}
 
@@ -25,16 +26,19 @@ is_substituted_at b s =
     eqb (at_places SBOX_FIRST SBOX_SECOND (nibbles_of b)) (bare_nibbles s) && eqb (at_places DOUBLED_FIRST DOUBLED_SECOND (nibbles_of b)) (bare_doubled s)
     && eqb (at_places BARE_FIRST BARE_SECOND (nibbles_of b)) (bit_xor s 0x63)
 
-substituted_all : all_below (λ b. is_substituted_at b (sbox b)) 256 ≡ true
-unfolding is_substituted_at at_places first_place second_place nibbles_of bare_nibbles bare_doubled times product remainder power inverse affine sbox
+substituted_all : all_below (λ b. is_substituted_at b (sbox_by_table b)) 256 ≡ true
+unfolding is_substituted_at at_places first_place second_place nibbles_of bare_nibbles bare_doubled times product remainder affine sbox_by_table inverse_in_table
 substituted_all = refl
+
+substituted : (b : ℕ) → b < 256 → is_substituted_at b (sbox b) ≡ true
+substituted b h = ap (is_substituted_at b) (sbox_is b h) ∙ all_below_at (λ b. is_substituted_at b (sbox_by_table b)) 256 b substituted_all h
 
 parts_at : (b : ℕ) → b < 256 → (at_places SBOX_FIRST SBOX_SECOND (nibbles_of b) ≡ bare_nibbles (sbox b)) × (at_places DOUBLED_FIRST DOUBLED_SECOND (nibbles_of b) ≡ bare_doubled (sbox b))
     × (at_places BARE_FIRST BARE_SECOND (nibbles_of b) ≡ bit_xor (sbox b) 0x63)
 unfolding is_substituted_at
 parts_at b h =
     let t = and_parts (eqb (at_places SBOX_FIRST SBOX_SECOND (nibbles_of b)) (bare_nibbles (sbox b)) && eqb (at_places DOUBLED_FIRST DOUBLED_SECOND (nibbles_of b)) (bare_doubled (sbox b))) _
-    (all_below_at (λ b. is_substituted_at b (sbox b)) 256 b substituted_all h) in
+    (substituted b h) in
     let u = and_parts (eqb (at_places SBOX_FIRST SBOX_SECOND (nibbles_of b)) (bare_nibbles (sbox b))) _ t.0 in
     (eqb-true _ _ u.0, eqb-true _ _ u.1, eqb-true _ _ t.1)
 
