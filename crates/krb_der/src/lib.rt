@@ -4,7 +4,7 @@
 //! Each value has one spelling, and each spelling one value: [`decode`] reads exactly what the
 //! grammar spells, and [`encode_safe`], [`encode_priv`] and [`encode_part`] write it.
 //!
-//! ```rust crates/krb_der/src/tests.rt
+//! ```rust crates/krb_seal_tests/src/codec.rt
 //! fn decode_safe(alloc: Global, bytes: &[u8]) -> Result<SafeMsg, DerError> {
 //!     match decode(alloc, bytes)? {
 //!         Message::Safe(m) => Ok(m),
@@ -42,6 +42,3 @@ pub use message::{Message, decode};
 pub use part::{decode_part, decode_part_from, encode_part};
 pub use private::{Draft, PrivMsg, draft_priv, encode_priv};
 pub use safe::{Covered, SafeMsg, SafeRef, encode_safe, safe_input, safe_input_around};
-
-#[cfg(test)]
-mod tests;

@@ -42,6 +42,3 @@ pub use refusal::Refusal;
 pub use seal_error::SealError;
 pub use sealer::Sealer;
 pub use session::{Expect, Mode, Session};
-
-#[cfg(test)]
-mod tests;

@@ -1,7 +1,8 @@
 use super::frames::{PRIV_17, PRIV_17_OTHER, PRIV_18, SAFE_17, SAFE_18, SAFE_LAST};
-use super::{KEY_128, KEY_256, MICROS, answer, assert_same, opener, session};
-use crate::{Aes128Sealer, Aes256Sealer, Mode, SealError, Sealer};
+use super::{KEY_128, KEY_256, MICROS, answer, opener, session};
+use crate::asserts::assert_same;
 use krb_der::Moment;
+use krb_seal::{Aes128Sealer, Aes256Sealer, Mode, SealError, Sealer};
 use std::alloc::Global;
 use std::test::Fail;
 

@@ -2,7 +2,7 @@ use super::{
     PART, PRIV, PRIV_WITH_KVNO, SAFE, carries, decode_priv, decode_safe, is_written, priv_spelling,
     repeated, set_text, size,
 };
-use crate::{Body, DerError, HostAddress, decode_part, decode_part_from, encode_part};
+use krb_der::{Body, DerError, HostAddress, decode_part, decode_part_from, encode_part};
 use std::alloc::Global;
 
 /// Whether the bytes spell a message of protocol version 5, kind 21 and encryption type 17 with

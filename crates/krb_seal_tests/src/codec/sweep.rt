@@ -3,7 +3,7 @@
 //! counts the lines that tell of a refusal.
 
 use super::{SAFE, is_written, priv_spelling, safe_spelling};
-use crate::{DerError, Message, decode};
+use krb_der::{DerError, Message, decode};
 use std::alloc::Global;
 use std::io::Print;
 use std::process::Abort;

@@ -1,5 +1,5 @@
 use super::{PART, SAFE, decode_priv, decode_safe, is_written};
-use crate::{
+use krb_der::{
     Body, BodyRef, Bytes, Covered, DerError, Draft, Moment, PrivMsg, SafeMsg, SafeRef, draft_priv,
     safe_input_around,
 };

@@ -1,5 +1,5 @@
 use super::{PRIV, SAFE, decode_priv, decode_safe, is_at, priv_spelling, safe_spelling};
-use crate::{DerError, SafeMsg};
+use krb_der::{DerError, SafeMsg};
 use std::alloc::Global;
 
 fn spelling_with_pvno(alloc: Global, pvno: i32) -> Result<Vec<u8>, DerError> {

@@ -1,5 +1,5 @@
 use super::{SAFE, decode_safe};
-use crate::{DerError, HostAddress};
+use krb_der::{DerError, HostAddress};
 use std::alloc::Global;
 
 /// The sender's address of `SAFE`.

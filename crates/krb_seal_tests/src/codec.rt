@@ -9,7 +9,7 @@ mod refusals;
 mod safe;
 mod sweep;
 
-use crate::{Body, Bytes, DerError, Message, PrivMsg, SafeMsg, decode, encode_priv, encode_safe};
+use krb_der::{Body, Bytes, DerError, Message, PrivMsg, SafeMsg, decode, encode_priv, encode_safe};
 use std::alloc::{AllocError, Global};
 
 /// Text 44 68 69 at 2023-11-14T22:13:20Z and 5 microseconds, number 7, from 10.0.0.1, with an empty

@@ -5,17 +5,15 @@ mod flipped;
 mod frames;
 mod opening;
 mod refusals;
-mod sealing;
+mod sealers;
 mod sweep;
 
 ghost use Rattle.std.specs.Prelude.{IfOk};
 ghost use Rattle.krb_seal.specs.Session.{HasShortAddresses, IsShortAddress};
 
-use crate::{Expect, Mode, Opener, Session};
 use krb_der::{Bytes, HostAddress, Moment};
+use krb_seal::{Expect, Mode, Opener, Session};
 use std::alloc::{AllocError, Global};
-use std::fmt::{Debug, Display};
-use std::process::Abort;
 
 /// 2023-11-14T22:13:20Z and 5 microseconds.
 const MICROS: u64 = 1_700_000_000_000_005;
@@ -25,21 +23,6 @@ const KEY_128: [u8; 16] = [
 ];
 
 const KEY_256: [u8; 32] = [0x11; 32];
-
-/// Asserts that two values are the same, and prints both where they aren't.
-fn assert_same<T: PartialEq + Debug + Drop>(rt: &impl Abort, left: T, right: T) {
-    assert_eq!(rt; left, right);
-}
-
-/// The same of one case among several, and prints which it is.
-fn assert_same_at<T: PartialEq + Debug + Drop, C: Display + Drop>(
-    rt: &impl Abort,
-    left: T,
-    right: T,
-    case: C,
-) {
-    assert_eq!(rt; left, right, "in case {case}");
-}
 
 /// The address 10.0.0.`host`.
 fn address(alloc: Global, host: u8) -> Result<HostAddress, AllocError>

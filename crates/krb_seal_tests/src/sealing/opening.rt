@@ -3,8 +3,9 @@ use super::frames::{
     SAFE_INPUT, SAFE_LONG_CHECKSUM, SAFE_NO_NUMBER, SAFE_NO_TIME, SAFE_NO_USEC, SAFE_TIMELESS,
     SAFE_TO_RECEIVER,
 };
-use super::{KEY_128, KEY_256, MICROS, answer, assert_same, assert_same_at, expect_of, opener};
-use crate::{Mode, Opener};
+use super::{KEY_128, KEY_256, MICROS, answer, expect_of, opener};
+use crate::asserts::{assert_same, assert_same_at};
+use krb_seal::{Mode, Opener};
 use std::alloc::{AllocError, Global};
 use std::test::Fail;
 

@@ -1,6 +1,7 @@
 use super::frames::{PRIV_17, SAFE_17};
-use super::{MICROS, answer, assert_same, assert_same_at, opener};
-use crate::{Mode, Opener};
+use super::{MICROS, answer, opener};
+use crate::asserts::{assert_same, assert_same_at};
+use krb_seal::{Mode, Opener};
 use std::alloc::{AllocError, Global};
 use std::test::Fail;
 

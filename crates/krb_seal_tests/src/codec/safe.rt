@@ -2,7 +2,7 @@ use super::{
     PART, SAFE, SAFE_TO_RECEIVER, carries, decode_safe, is_at, is_written, repeated, safe_again,
     safe_spelling, set_text, size,
 };
-use crate::{DerError, HostAddress, SafeMsg, decode, safe_input};
+use krb_der::{DerError, HostAddress, SafeMsg, decode, safe_input};
 use std::alloc::Global;
 
 /// Whether the address has this type and these bytes.

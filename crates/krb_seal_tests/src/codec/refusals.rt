@@ -1,5 +1,5 @@
 use super::{PART, PRIV, PRIV_WITH_KVNO, SAFE, SAFE_TO_RECEIVER, repeated};
-use crate::{DerError, decode, decode_part};
+use krb_der::{DerError, decode, decode_part};
 use std::alloc::{AllocError, Global};
 
 /// What `decode` answers, as the number of its error, or 0.

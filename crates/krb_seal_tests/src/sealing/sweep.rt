@@ -3,9 +3,10 @@
 //! refuses the growths, and counts the lines that tell of a refusal.
 
 use super::frames::{PRIV_17, PRIV_18, SAFE_17, SAFE_18};
-use super::{KEY_128, KEY_256, MICROS, answer, assert_same, expect_of, session};
-use crate::{Aes128Sealer, Aes256Sealer, Mode, Opener, SealError, Sealer};
+use super::{KEY_128, KEY_256, MICROS, answer, expect_of, session};
+use crate::asserts::assert_same;
 use krb_der::Moment;
+use krb_seal::{Aes128Sealer, Aes256Sealer, Mode, Opener, SealError, Sealer};
 use std::alloc::Global;
 use std::process::Abort;
 use std::test::Fail;

@@ -1,5 +1,5 @@
-use super::assert_same;
-use crate::{Refusal, SealError};
+use crate::asserts::assert_same;
+use krb_seal::{Refusal, SealError};
 use std::alloc::Global;
 use std::fmt::Display;
 use std::test::Fail;
