@@ -29,25 +29,3 @@ fn draw_word(draws: &mut ChaCha20Rng) -> [u8; 4]
 {
     draws.next_word().to_le_bytes()
 }
-
-#[cfg(test)]
-mod tests {
-    use super::*;
-    use crate::asserts::assert_same;
-    use rand_core::SeedableRng;
-
-    /// The keystream of ChaCha20 under a key of zeros, from block 0 on: RFC 8439 appendix A.1, test
-    /// vectors 1 and 2.
-    #[test]
-    fn words_one_after_another(rt: HostRuntime) {
-        let mut draws = ChaCha20Rng::from_seed([0; 32]);
-        let first = *b"\x76\xb8\xe0\xad\xa0\xf1\x3d\x90\x40\x5d\x6a\xe5\x53\x86\xbd\x28";
-        let second = *b"\xbd\xd2\x19\xb8\xa0\x8d\xed\x1a\xa8\x36\xef\xcc\x8b\x77\x0d\xc7";
-        assert_same(&rt, draw_confounder(&mut draws), first);
-        assert_same(&rt, draw_confounder(&mut draws), second);
-        draw_confounder(&mut draws);
-        draw_confounder(&mut draws);
-        let next_block = *b"\x9f\x07\xe7\xbe\x55\x51\x38\x7a\x98\xba\x97\x7c\x73\x2d\x08\x0d";
-        assert_same(&rt, draw_confounder(&mut draws), next_block);
-    }
-}

@@ -20,8 +20,6 @@
 //! ```
 #![tactic(auto)]
 
-#[cfg(test)]
-mod asserts;
 mod confounder;
 mod delivery;
 mod emission;

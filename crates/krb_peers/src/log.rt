@@ -214,6 +214,3 @@ fn add_texts(entries: &mut Vec<Entry>, lane: u32, texts: Vec<Bytes>)
         });
     }
 }
-
-#[cfg(test)]
-mod tests;

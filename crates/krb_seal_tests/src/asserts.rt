@@ -1,7 +1,9 @@
 //! What the tests of several modules assert.
 
+use std::alloc::Global;
 use std::fmt::{Debug, Display};
 use std::process::Abort;
+use std::test::Fail;
 
 /// Asserts that two values are the same, and prints both where they aren't.
 pub fn assert_same<T: PartialEq + Debug + Drop>(rt: &impl Abort, left: T, right: T) {
@@ -16,4 +18,15 @@ pub fn assert_same_at<T: PartialEq + Debug + Drop, C: Display + Drop>(
     case: C,
 ) {
     assert_eq!(rt; left, right, "in case {case}");
+}
+
+/// Asserts that a value is displayed in these words.
+pub fn assert_displayed<T: Display + Drop>(
+    rt: &(impl Abort + Alloc<A = Global>),
+    value: T,
+    words: &str,
+) -> Result<(), Fail> {
+    let text = format!(in rt.alloc(); "{value}")?;
+    assert_same(rt, text.as_str(), words);
+    Ok(())
 }

@@ -16,9 +16,9 @@ use krb_seal::{Expect, Mode, Opener, Session};
 use std::alloc::{AllocError, Global};
 
 /// 2023-11-14T22:13:20Z and 5 microseconds.
-const MICROS: u64 = 1_700_000_000_000_005;
+pub const MICROS: u64 = 1_700_000_000_000_005;
 
-const KEY_128: [u8; 16] = [
+pub const KEY_128: [u8; 16] = [
     0x00, 0x01, 0x02, 0x03, 0x04, 0x05, 0x06, 0x07, 0x08, 0x09, 0x0a, 0x0b, 0x0c, 0x0d, 0x0e, 0x0f,
 ];
 
@@ -35,7 +35,7 @@ fn address(alloc: Global, host: u8) -> Result<HostAddress, AllocError>
 }
 
 /// The session of 10.0.0.1 from a number on.
-fn session(alloc: Global, mode: Mode, first: u32) -> Result<Session, AllocError>
+pub fn session(alloc: Global, mode: Mode, first: u32) -> Result<Session, AllocError>
     ensures { IfOk result HasShortAddresses }
 {
     Ok(Session {

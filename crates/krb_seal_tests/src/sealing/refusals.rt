@@ -1,13 +1,6 @@
-use crate::asserts::assert_same;
+use crate::asserts::{assert_displayed, assert_same};
 use krb_seal::{Refusal, SealError};
-use std::alloc::Global;
-use std::fmt::Display;
 use std::test::Fail;
-
-/// The words that are shown for a value.
-fn words_of(alloc: Global, value: &impl Display) -> Result<String, Fail> {
-    Ok(format!(in alloc; "{value}")?)
-}
 
 #[test]
 fn refusals_have_numbers_and_names(rt: HostRuntime) -> Result<(), Fail> {
@@ -29,7 +22,7 @@ fn refusals_have_numbers_and_names(rt: HostRuntime) -> Result<(), Fail> {
     ];
     for (refusal, code, name) in table {
         assert_same(&rt, (refusal.code(), refusal.name()), (code, name));
-        assert_same(&rt, words_of(rt.alloc(), &refusal)?.as_str(), name);
+        assert_displayed(&rt, refusal, name)?;
     }
     Ok(())
 }
@@ -48,7 +41,7 @@ fn errors_have_numbers_and_words(rt: HostRuntime) -> Result<(), Fail> {
     ];
     for (error, code, words) in table {
         assert_same(&rt, error.code(), code);
-        assert_same(&rt, words_of(rt.alloc(), &error)?.as_str(), words);
+        assert_displayed(&rt, error, words)?;
     }
     Ok(())
 }

@@ -1,27 +1,27 @@
 ghost use Rattle.std.specs.Prelude.{◌≡◌, ◌<◌, false, OnOk};
 ghost use Rattle.krb_peers.specs.Log.{is_closed, appended};
 
-use super::{Entry, Event, Log, Status};
 use crate::asserts::assert_same;
 use krb_base::Bytes;
-use krb_batch::Texts;
+use krb_peers::{Entry, Event, Log, Status, Texts};
 use krb_seal::Refusal;
+use std::alloc::Global;
 use std::test::Fail;
 
-fn texts(rt: &HostRuntime, parts: &[&[u8]]) -> Result<Texts, Fail> {
-    let mut texts = Vec::new(rt.alloc());
+fn texts(alloc: Global, parts: &[&[u8]]) -> Result<Texts, Fail> {
+    let mut texts = Vec::new(alloc);
     for bytes in parts {
-        texts.push(Bytes::new(Vec::from_slice(rt.alloc(), bytes)?))?;
+        texts.push(Bytes::new(Vec::from_slice(alloc, bytes)?))?;
     }
     Ok(Texts::new(texts))
 }
 
-fn push_text(rt: &HostRuntime, log: &mut Log, lane: u32, bytes: &[u8]) -> Result<(), Fail>
+fn push_text(alloc: Global, log: &mut Log, lane: u32, bytes: &[u8]) -> Result<(), Fail>
     requires lane { lane < log.old.lanes }
     requires open { is_closed lane log.old.entries ≡ false }
     ensures { OnOk result (log.new ≡ appended log.old lane (Event.Text bytes.now)) }
 {
-    let text = Bytes::new(Vec::from_slice(rt.alloc(), bytes)?);
+    let text = Bytes::new(Vec::from_slice(alloc, bytes)?);
     Ok(log.push(lane, Event::Text(text))?)
 }
 
@@ -66,10 +66,10 @@ fn new_log_is_live(rt: HostRuntime) {
 #[test]
 fn texts_of_two_lanes(rt: HostRuntime) -> Result<(), Fail> {
     let mut log = Log::new(rt.alloc(), 2);
-    push_text(&rt, &mut log, 0, b"a")?;
-    push_text(&rt, &mut log, 1, b"")?;
+    push_text(rt.alloc(), &mut log, 0, b"a")?;
+    push_text(rt.alloc(), &mut log, 1, b"")?;
     log.push(0, Event::Refused(Refusal::BadOrder))?;
-    push_text(&rt, &mut log, 0, b"bc")?;
+    push_text(rt.alloc(), &mut log, 0, b"bc")?;
     let expected = [
         (0, Some(b"a".as_slice())),
         (1, Some(b"")),
@@ -88,8 +88,8 @@ fn texts_of_two_lanes(rt: HostRuntime) -> Result<(), Fail> {
 fn batch_is_a_text_for_each(rt: HostRuntime) -> Result<(), Fail> {
     let mut log = Log::new(rt.alloc(), 2);
     log.push(0, Event::Refused(Refusal::BadOrder))?;
-    push_text(&rt, &mut log, 1, b"x")?;
-    log.push_batch(0, texts(&rt, &[b"a", b"", b"cd"])?)?;
+    push_text(rt.alloc(), &mut log, 1, b"x")?;
+    log.push_batch(0, texts(rt.alloc(), &[b"a", b"", b"cd"])?)?;
     let x = (1, Some(b"x".as_slice()));
     let expected = [
         (0, None),

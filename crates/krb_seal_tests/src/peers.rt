@@ -1,0 +1,8 @@
+//! Plans, records, the order and the log of the two ends of a lane.
+
+mod confounders;
+mod emission;
+mod log;
+mod order;
+mod record;
+mod start;

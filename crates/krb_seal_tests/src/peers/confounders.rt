@@ -1,0 +1,94 @@
+ghost use Rattle.std.specs.Prelude.{◌≡◌, nat_le, length};
+ghost use Rattle.std.specs.List.{list_all};
+ghost use Rattle.krb_base.specs.Limits.{text_limit};
+
+use crate::asserts::assert_same;
+use crate::sealing::{KEY_128, MICROS, session};
+use krb_base::{BATCH_LIMIT, Bytes, LAST_NUMBER, TEXT_LIMIT};
+use krb_der::Moment;
+use krb_peers::Sending;
+use krb_seal::{Aes128Sealer, Mode, Sealer};
+use rand_chacha::ChaCha20Rng;
+use rand_core::SeedableRng;
+use std::alloc::Global;
+use std::process::Abort;
+use std::test::Fail;
+
+fn moment() -> Result<Moment, Fail> {
+    Ok(Moment::from_micros(MICROS).ok_or("past the year 9999")?)
+}
+
+/// A sealer of KRB-PRIV from a number on.
+fn sealer(alloc: Global, first: u32) -> Result<Aes128Sealer, Fail> {
+    let session = session(alloc, Mode::Priv, first)?;
+    Ok(Aes128Sealer::new(&mut { KEY_128 }, session))
+}
+
+/// Four times the text `hi`.
+fn texts(alloc: Global) -> Result<Vec<Bytes>, Fail> {
+    let mut texts = Vec::new(alloc);
+    for _ in 0..4 {
+        texts.push(Bytes::new(Vec::from_slice(alloc, b"hi")?))?;
+    }
+    Ok(texts)
+}
+
+/// A sender of these texts from the number 7 on, with the seed of zeros.
+fn sending(alloc: Global) -> Result<Sending<Aes128Sealer>, Fail> {
+    Ok(Sending {
+        sealer: sealer(alloc, 7)?,
+        texts: texts(alloc)?,
+        batch: 1,
+        ats: vec![in alloc; moment()?]?,
+        draws: ChaCha20Rng::from_seed([0; 32]),
+        plan: None,
+    })
+}
+
+fn are_short(texts: &[Bytes]) -> bool
+    ensures { result ≡ list_all (λ text. nat_le (length text) text_limit) texts.now }
+{
+    texts.iter().all(|text| text.as_slice().len() <= TEXT_LIMIT)
+}
+
+/// All frames of the sender.
+fn frames(rt: &(impl Abort + Alloc<A = Global>)) -> Result<Vec<Vec<u8>>, Fail> {
+    let mut sending = sending(rt.alloc())?;
+    assert!(rt; are_short(sending.texts.as_slice()) && sending.batch <= BATCH_LIMIT);
+    assert!(rt; !sending.ats.is_empty());
+    assert!(rt; sending.sealer.next() <= LAST_NUMBER);
+    Ok(sending.seal_all(rt.alloc())?)
+}
+
+/// Whether the frame is the one of this record at a number, under a confounder.
+fn is_sealed(
+    alloc: Global,
+    frame: &[u8],
+    number: u32,
+    record: &[u8],
+    confounder: [u8; 16],
+) -> Result<bool, Fail> {
+    let sealed = sealer(alloc, number)?.seal(alloc, record, moment()?, confounder)?;
+    Ok(sealed.as_slice() == frame)
+}
+
+/// The confounders of a sender's frames are the keystream of ChaCha20 under a key of zeros, from
+/// block 0 on: RFC 8439 appendix A.1, test vectors 1 and 2.
+#[test]
+fn words_one_after_another(rt: HostRuntime) -> Result<(), Fail> {
+    let frames = frames(&rt)?;
+    assert_same(&rt, frames.len(), 5);
+    let first = *b"\x76\xb8\xe0\xad\xa0\xf1\x3d\x90\x40\x5d\x6a\xe5\x53\x86\xbd\x28";
+    let second = *b"\xbd\xd2\x19\xb8\xa0\x8d\xed\x1a\xa8\x36\xef\xcc\x8b\x77\x0d\xc7";
+    // The next two end the block, and the close is sealed under the next one.
+    let next_block = *b"\x9f\x07\xe7\xbe\x55\x51\x38\x7a\x98\xba\x97\x7c\x73\x2d\x08\x0d";
+    for (frame, number, record, confounder) in [
+        (frames.first(), 7, b"Dhi".as_slice(), first),
+        (frames.get(1), 8, b"Dhi", second),
+        (frames.last(), 11, b"C", next_block),
+    ] {
+        let frame = frame.ok_or("no frame")?;
+        assert!(rt; is_sealed(rt.alloc(), frame, number, record, confounder)?);
+    }
+    Ok(())
+}

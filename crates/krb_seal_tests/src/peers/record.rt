@@ -1,0 +1,114 @@
+use crate::asserts::{assert_displayed, assert_same};
+use krb_base::USER_DATA_LIMIT;
+use krb_peers::{Record, RecordError, read_record, record_bytes};
+use std::alloc::Global;
+use std::test::Fail;
+
+fn is_text(record: &Record, text: &[u8]) -> bool {
+    match record {
+        Record::Text(bytes) => bytes.as_slice() == text,
+        Record::Batch(_) | Record::Close => false,
+    }
+}
+
+fn is_batch(record: &Record, expected: &[&[u8]]) -> bool {
+    match record {
+        Record::Batch(texts) => {
+            let texts = texts.as_slice();
+            texts.len() == expected.len()
+                && texts
+                    .iter()
+                    .zip(expected)
+                    .all(|(text, bytes)| text.as_slice() == *bytes)
+        }
+        Record::Text(_) | Record::Close => false,
+    }
+}
+
+/// Whether the bytes are those of the record of a text.
+fn are_of_text(alloc: Global, bytes: &[u8], text: &[u8]) -> Result<bool, Fail> {
+    let record = read_record(alloc, bytes)?;
+    Ok(is_text(&record, text) && record_bytes(alloc, &record)?.as_slice() == bytes)
+}
+
+/// Whether they are those of the record of a batch.
+fn are_of_batch(alloc: Global, bytes: &[u8], texts: &[&[u8]]) -> Result<bool, Fail> {
+    let record = read_record(alloc, bytes)?;
+    Ok(is_batch(&record, texts) && record_bytes(alloc, &record)?.as_slice() == bytes)
+}
+
+/// Whether they are those of the close.
+fn are_of_close(alloc: Global, bytes: &[u8]) -> Result<bool, Fail> {
+    let record = read_record(alloc, bytes)?;
+    Ok(matches!(record, Record::Close) && record_bytes(alloc, &record)?.as_slice() == bytes)
+}
+
+/// Whether they are no record's.
+fn are_of_none(alloc: Global, bytes: &[u8]) -> bool {
+    matches!(read_record(alloc, bytes), Err(RecordError::BadRecord))
+}
+
+#[test]
+fn no_record(rt: HostRuntime) {
+    for bytes in [[].as_slice(), &[0x43, 0x00], &[0x58], &[0x45, 0x61]] {
+        assert!(rt; are_of_none(rt.alloc(), bytes), "at {bytes:?}");
+    }
+}
+
+#[test]
+fn empty_text(rt: HostRuntime) -> Result<(), Fail> {
+    assert!(rt; are_of_text(rt.alloc(), &[0x44], &[])?);
+    Ok(())
+}
+
+#[test]
+fn text_and_close(rt: HostRuntime) -> Result<(), Fail> {
+    assert!(rt; are_of_text(rt.alloc(), &[0x44, 0x68, 0x69], b"hi")?);
+    assert!(rt; are_of_close(rt.alloc(), &[0x43])?);
+    Ok(())
+}
+
+#[test]
+fn batch_of_two_texts(rt: HostRuntime) -> Result<(), Fail> {
+    let bytes = b"\x42\0\0\0\x01\x61\0\0\0\x01\x62";
+    assert!(rt; are_of_batch(rt.alloc(), bytes, &[b"a", b"b"])?);
+    let empty = [0x42, 0, 0, 0, 0, 0, 0, 0, 0];
+    assert!(rt; are_of_batch(rt.alloc(), &empty, &[b"", b""])?);
+    Ok(())
+}
+
+#[test]
+fn no_batch(rt: HostRuntime) {
+    for bytes in [
+        b"\x42".as_slice(),
+        b"\x42\0\0\0\x01\x61",
+        b"\x42\0\0\0\x01\x61\0\0\0\x02",
+        b"\x42\0\0\0\x01\x61\0\0\0\x01\x62\0",
+    ] {
+        assert!(rt; are_of_none(rt.alloc(), bytes), "at {bytes:?}");
+    }
+}
+
+#[test]
+fn longest_text(rt: HostRuntime) -> Result<(), Fail> {
+    let mut bytes = vec![in rt.alloc(); 0x61; 1_000_001]?;
+    assert_same(&rt, bytes.len(), USER_DATA_LIMIT);
+    bytes[0] = 0x44;
+    assert!(rt; are_of_text(rt.alloc(), bytes.as_slice(), &bytes[1..])?);
+    bytes.push(0x61)?;
+    assert!(rt; are_of_none(rt.alloc(), bytes.as_slice()));
+    Ok(())
+}
+
+#[test]
+fn errors_have_numbers_and_words(rt: HostRuntime) -> Result<(), Fail> {
+    let table = [
+        (RecordError::BadRecord, 1, "the bytes are no record"),
+        (RecordError::Memory, 2, "out of memory"),
+    ];
+    for (error, code, words) in table {
+        assert_same(&rt, error.code(), code);
+        assert_displayed(&rt, error, words)?;
+    }
+    Ok(())
+}
