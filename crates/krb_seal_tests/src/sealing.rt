@@ -12,7 +12,7 @@ ghost use Rattle.std.specs.Prelude.{IfOk};
 ghost use Rattle.krb_seal.specs.Session.{HasShortAddresses, IsShortAddress};
 
 use krb_der::{Bytes, HostAddress, Moment};
-use krb_seal::{Expect, Mode, Opener, Session};
+use krb_seal::{Expect, Mode, Opener, SealError, Sealer, Session};
 use std::alloc::{AllocError, Global};
 
 /// 2023-11-14T22:13:20Z and 5 microseconds.
@@ -61,6 +61,17 @@ fn expect_of(alloc: Global, mode: Mode, sender: u8) -> Result<Expect, AllocError
 /// An opener of encryption type 17 for 10.0.0.1.
 fn opener(alloc: Global, mode: Mode) -> Result<Opener, AllocError> {
     Ok(Opener::new_128(&mut { KEY_128 }, expect_of(alloc, mode, 1)?))
+}
+
+/// What a sealer answers for data, at the moment of `MICROS` and under a confounder.
+pub fn sealed(
+    alloc: Global,
+    sealer: &mut impl Sealer,
+    data: &[u8],
+    confounder: [u8; 16],
+) -> Result<Vec<u8>, SealError> {
+    let at = Moment::from_micros(MICROS).ok_or(SealError::Memory)?;
+    sealer.seal(alloc, data, at, confounder)
 }
 
 /// The code of the refusal, or 0 for the user data 44 68 69, and 1 for any other.

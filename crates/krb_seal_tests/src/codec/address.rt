@@ -1,4 +1,5 @@
 use super::{SAFE, decode_safe};
+use crate::asserts::assert_same;
 use krb_der::{DerError, HostAddress};
 use std::alloc::Global;
 
@@ -21,7 +22,19 @@ fn are_senders(alloc: Global, kind: i32, bytes: &[u8]) -> Result<(bool, bool), D
 
 #[test]
 fn address_is_made_of_its_parts_and_cloned(rt: HostRuntime) {
-    assert!(rt; are_senders(rt.alloc(), 2, &[10, 0, 0, 1]) == Ok((true, true)));
-    assert!(rt; are_senders(rt.alloc(), 3, &[10, 0, 0, 1]) == Ok((false, false)));
-    assert!(rt; are_senders(rt.alloc(), 2, &[10, 0, 0]) == Ok((false, false)));
+    assert_same(
+        &rt,
+        are_senders(rt.alloc(), 2, &[10, 0, 0, 1]),
+        Ok((true, true)),
+    );
+    assert_same(
+        &rt,
+        are_senders(rt.alloc(), 3, &[10, 0, 0, 1]),
+        Ok((false, false)),
+    );
+    assert_same(
+        &rt,
+        are_senders(rt.alloc(), 2, &[10, 0, 0]),
+        Ok((false, false)),
+    );
 }

@@ -1,4 +1,5 @@
 use super::{PART, SAFE, decode_priv, decode_safe, is_written};
+use crate::asserts::assert_same;
 use krb_der::{
     Body, BodyRef, Bytes, Covered, DerError, Draft, Moment, PrivMsg, SafeMsg, SafeRef, draft_priv,
     safe_input_around,
@@ -34,16 +35,24 @@ fn cipher_size(alloc: Global, bytes: &[u8]) -> Result<usize, DerError> {
     Ok(decode_priv(alloc, bytes)?.cipher.as_slice().len())
 }
 
+/// How many bytes the cipher has of the message that the draft is with the rest of its cipher.
+fn size_with_rest(alloc: Global, draft: Draft) -> Result<usize, DerError> {
+    let mut bytes = draft.bytes;
+    bytes.extend_from_slice(&[9; 12])?;
+    cipher_size(alloc, bytes.as_slice())
+}
+
 #[test]
 fn part_is_drafted_where_its_cipher_is_to_be(rt: HostRuntime) -> Result<(), Fail> {
     let draft = draft_of_safe(&rt)?;
     let text = draft.bytes.get(draft.start..).unwrap_or(&[]);
     assert!(rt; text.starts_with(&[7; 16]) && text.ends_with(&PART));
-    assert!(rt; draft.bytes.capacity().saturating_sub(draft.bytes.len()) == 12);
-    // The rest of the cipher makes it a message.
-    let mut bytes = draft.bytes;
-    bytes.extend_from_slice(&[9; 12])?;
-    assert!(rt; cipher_size(rt.alloc(), &bytes) == Ok(85));
+    assert_same(
+        &rt,
+        draft.bytes.capacity().saturating_sub(draft.bytes.len()),
+        12,
+    );
+    assert_same(&rt, size_with_rest(rt.alloc(), draft), Ok(85));
     Ok(())
 }
 
@@ -57,8 +66,8 @@ fn around_data_of_safe(rt: &(impl Abort + Alloc<A = Global>)) -> Result<Covered,
 fn bytes_under_a_checksum_stand_around_the_data(rt: HostRuntime) -> Result<(), Fail> {
     let around = around_data_of_safe(&rt)?;
     // The data are the three bytes from place 22 on.
-    assert!(rt; around.before.as_slice() == &SAFE[..22]);
-    assert!(rt; around.behind.as_slice() == &SAFE[25..]);
+    assert_same(&rt, around.before.as_slice(), &SAFE[..22]);
+    assert_same(&rt, around.behind.as_slice(), &SAFE[25..]);
     Ok(())
 }
 
@@ -83,8 +92,12 @@ fn checksum_of(alloc: Global, bytes: &[u8], checksum: &[u8]) -> Result<(i32, boo
 #[test]
 fn message_has_the_checksum_that_it_is_given(rt: HostRuntime) -> Result<(), Fail> {
     let bytes = with_checksum(&rt, 15, &[0xa5; 12])?;
-    assert!(rt; bytes.len() == 96);
-    assert!(rt; checksum_of(rt.alloc(), &bytes, &[0xa5; 12]) == Ok((15, true)));
+    assert_same(&rt, bytes.len(), 96);
+    assert_same(
+        &rt,
+        checksum_of(rt.alloc(), &bytes, &[0xa5; 12]),
+        Ok((15, true)),
+    );
     assert!(rt; is_written(with_checksum(&rt, 0, &[]), &SAFE));
     Ok(())
 }
@@ -96,9 +109,9 @@ fn written_from_lent(
     at: Moment,
 ) -> Result<Vec<u8>, DerError> {
     let body = BodyRef::new(b"\x44hi", at, 7, &m.body.s_addr, &None);
-    assert!(rt; body.user_data() == b"\x44hi".as_slice());
+    assert_same(rt, body.user_data(), b"\x44hi".as_slice());
     let lent = SafeRef::unsigned(5, 20, body, 15);
-    assert!(rt; lent.user_data() == b"\x44hi".as_slice());
+    assert_same(rt, lent.user_data(), b"\x44hi".as_slice());
     lent.encode_with_checksum(rt.alloc(), 0, &[])
 }
 

@@ -1,4 +1,5 @@
 use super::{PRIV, SAFE, decode_priv, decode_safe, is_at, priv_spelling, safe_spelling};
+use crate::asserts::{assert_same, assert_same_at};
 use krb_der::{DerError, SafeMsg};
 use std::alloc::Global;
 
@@ -53,7 +54,7 @@ fn is_uint32(alloc: Global, n: u32, element: &[u8]) -> Result<bool, DerError> {
 }
 
 #[test]
-fn integers_have_the_fewest_octets(rt: HostRuntime) {
+fn int32s_have_the_fewest_octets(rt: HostRuntime) {
     let int32s: [(i32, &[u8]); 9] = [
         (0, &[0x02, 0x01, 0x00]),
         (127, &[0x02, 0x01, 0x7f]),
@@ -66,15 +67,19 @@ fn integers_have_the_fewest_octets(rt: HostRuntime) {
         (i32::MIN, &[0x02, 0x04, 0x80, 0x00, 0x00, 0x00]),
     ];
     for (z, element) in int32s {
-        assert!(rt; is_int32(rt.alloc(), z, element) == Ok(true), "{z}");
+        assert_same_at(&rt, is_int32(rt.alloc(), z, element), Ok(true), z);
     }
+}
+
+#[test]
+fn uint32s_have_the_fewest_octets(rt: HostRuntime) {
     let uint32s: [(u32, &[u8]); 3] = [
         (0, &[0x02, 0x01, 0x00]),
         (65_535, &[0x02, 0x03, 0x00, 0xff, 0xff]),
         (u32::MAX, &[0x02, 0x05, 0x00, 0xff, 0xff, 0xff, 0xff]),
     ];
     for (n, element) in uint32s {
-        assert!(rt; is_uint32(rt.alloc(), n, element) == Ok(true), "{n}");
+        assert_same_at(&rt, is_uint32(rt.alloc(), n, element), Ok(true), n);
     }
 }
 
@@ -93,8 +98,20 @@ fn is_in_range(alloc: Global, time: u64, usec: Option<u32>) -> Result<bool, DerE
 
 #[test]
 fn microseconds_end_below_a_second(rt: HostRuntime) {
-    assert!(rt; is_usec(rt.alloc(), 999_999) == Ok(true));
-    assert!(rt; is_in_range(rt.alloc(), 1_700_000_000, Some(999_999)) == Ok(true));
-    assert!(rt; is_in_range(rt.alloc(), 1_700_000_000, Some(1_000_000)) == Ok(false));
-    assert!(rt; is_in_range(rt.alloc(), 253_402_300_800, None) == Ok(false));
+    assert_same(&rt, is_usec(rt.alloc(), 999_999), Ok(true));
+    assert_same(
+        &rt,
+        is_in_range(rt.alloc(), 1_700_000_000, Some(999_999)),
+        Ok(true),
+    );
+    assert_same(
+        &rt,
+        is_in_range(rt.alloc(), 1_700_000_000, Some(1_000_000)),
+        Ok(false),
+    );
+    assert_same(
+        &rt,
+        is_in_range(rt.alloc(), 253_402_300_800, None),
+        Ok(false),
+    );
 }

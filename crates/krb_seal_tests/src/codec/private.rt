@@ -2,6 +2,7 @@ use super::{
     PART, PRIV, PRIV_WITH_KVNO, SAFE, carries, decode_priv, decode_safe, is_written, priv_spelling,
     repeated, set_text, size,
 };
+use crate::asserts::assert_same;
 use krb_der::{Body, DerError, HostAddress, decode_part, decode_part_from, encode_part};
 use std::alloc::Global;
 
@@ -24,13 +25,13 @@ fn priv_again(alloc: Global, bytes: &[u8]) -> Result<Vec<u8>, DerError> {
 
 #[test]
 fn message_is_read_and_written_back(rt: HostRuntime) {
-    assert!(rt; is_read(rt.alloc(), &PRIV, None) == Ok(true));
+    assert_same(&rt, is_read(rt.alloc(), &PRIV, None), Ok(true));
     assert!(rt; is_written(priv_again(rt.alloc(), &PRIV), &PRIV));
 }
 
 #[test]
 fn key_version_is_read_and_written_back(rt: HostRuntime) {
-    assert!(rt; is_read(rt.alloc(), &PRIV_WITH_KVNO, Some(3)) == Ok(true));
+    assert_same(&rt, is_read(rt.alloc(), &PRIV_WITH_KVNO, Some(3)), Ok(true));
     let again = priv_again(rt.alloc(), &PRIV_WITH_KVNO);
     assert!(rt; is_written(again, &PRIV_WITH_KVNO));
 }
@@ -82,16 +83,24 @@ fn is_part_read(alloc: Global, read: Result<Body, DerError>) -> Result<bool, Der
 #[test]
 fn part_is_the_body_of_the_message(rt: HostRuntime) {
     assert!(rt; is_written(part_of(rt.alloc(), &SAFE), &PART));
-    assert!(rt; is_part_read(rt.alloc(), decode_part(rt.alloc(), &PART)) == Ok(true));
+    assert_same(
+        &rt,
+        is_part_read(rt.alloc(), decode_part(rt.alloc(), &PART)),
+        Ok(true),
+    );
 }
 
 #[test]
 fn part_is_read_behind_other_bytes(rt: HostRuntime) {
     let read = part_behind(rt.alloc(), &[0x5C; 16], &PART);
-    assert!(rt; is_part_read(rt.alloc(), read) == Ok(true));
+    assert_same(&rt, is_part_read(rt.alloc(), read), Ok(true));
     let read = part_behind(rt.alloc(), &[], &PART);
-    assert!(rt; is_part_read(rt.alloc(), read) == Ok(true));
-    assert!(rt; size_behind(rt.alloc(), &[0x5C; 16], &PRIV) == Err(DerError::Malformed));
+    assert_same(&rt, is_part_read(rt.alloc(), read), Ok(true));
+    assert_same(
+        &rt,
+        size_behind(rt.alloc(), &[0x5C; 16], &PRIV),
+        Err(DerError::Malformed),
+    );
 }
 
 /// What `encode_priv` answers for a cipher of so many bytes: how many the message has, or the
@@ -111,8 +120,24 @@ fn size_of_part_with_text(alloc: Global, count: usize) -> Result<usize, DerError
 
 #[test]
 fn what_is_over_the_limit_is_not_written(rt: HostRuntime) {
-    assert!(rt; size_with_cipher(rt.alloc(), 1_005_000 - 45) == Ok(1_005_000));
-    assert!(rt; size_with_cipher(rt.alloc(), 1_005_000 - 44) == Err(DerError::TooLong));
-    assert!(rt; size_of_part_with_text(rt.alloc(), 1_005_000 - 66) == Ok(1_005_000));
-    assert!(rt; size_of_part_with_text(rt.alloc(), 1_005_000 - 65) == Err(DerError::TooLong));
+    assert_same(
+        &rt,
+        size_with_cipher(rt.alloc(), 1_005_000 - 45),
+        Ok(1_005_000),
+    );
+    assert_same(
+        &rt,
+        size_with_cipher(rt.alloc(), 1_005_000 - 44),
+        Err(DerError::TooLong),
+    );
+    assert_same(
+        &rt,
+        size_of_part_with_text(rt.alloc(), 1_005_000 - 66),
+        Ok(1_005_000),
+    );
+    assert_same(
+        &rt,
+        size_of_part_with_text(rt.alloc(), 1_005_000 - 65),
+        Err(DerError::TooLong),
+    );
 }

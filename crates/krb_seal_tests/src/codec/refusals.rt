@@ -1,4 +1,5 @@
 use super::{PART, PRIV, PRIV_WITH_KVNO, SAFE, SAFE_TO_RECEIVER, repeated};
+use crate::asserts::{assert_same, assert_same_at};
 use krb_der::{DerError, decode, decode_part};
 use std::alloc::{AllocError, Global};
 
@@ -50,9 +51,9 @@ fn answer_to_replaced(
 
 #[test]
 fn errors_have_their_numbers(rt: HostRuntime) {
-    assert!(rt; DerError::TooLong.code() == 1);
-    assert!(rt; DerError::Malformed.code() == 2);
-    assert!(rt; DerError::Memory.code() == 3);
+    assert_same(&rt, DerError::TooLong.code(), 1);
+    assert_same(&rt, DerError::Malformed.code(), 2);
+    assert_same(&rt, DerError::Memory.code(), 3);
 }
 
 #[test]
@@ -69,19 +70,27 @@ fn what_spells_nothing_is_malformed(rt: HostRuntime) {
         &[0x75, 0x00],
     ];
     for (at, bytes) in inputs.iter().enumerate() {
-        assert!(rt; answer(rt.alloc(), bytes) == 2, "at {at}");
+        assert_same_at(&rt, answer(rt.alloc(), bytes), 2, at);
     }
 }
 
 #[test]
 fn bytes_after_the_message_are_malformed(rt: HostRuntime) {
-    assert!(rt; answer_to_replaced(rt.alloc(), &SAFE, 84, 84, &[0x00]) == Ok((85, 2)));
+    assert_same(
+        &rt,
+        answer_to_replaced(rt.alloc(), &SAFE, 84, 84, &[0x00]),
+        Ok((85, 2)),
+    );
 }
 
 #[test]
 fn negative_sequence_number_is_malformed(rt: HostRuntime) {
     let negative = [0xa3, 0x03, 0x02, 0x01, 0xff];
-    assert!(rt; answer_to_replaced(rt.alloc(), &SAFE, 49, 54, &negative) == Ok((84, 2)));
+    assert_same(
+        &rt,
+        answer_to_replaced(rt.alloc(), &SAFE, 49, 54, &negative),
+        Ok((84, 2)),
+    );
 }
 
 #[test]
@@ -92,9 +101,11 @@ fn lengths_that_are_not_the_shortest_are_malformed(rt: HostRuntime) {
         (&[0x74, 0x83, 0x00, 0x00, 0x52], 87),
     ];
     for (begin, size) in lengths {
-        assert!(rt;
-            answer_to_replaced(rt.alloc(), &SAFE, 0, 2, begin) == Ok((size, 2)),
-            "{size}"
+        assert_same_at(
+            &rt,
+            answer_to_replaced(rt.alloc(), &SAFE, 0, 2, begin),
+            Ok((size, 2)),
+            size,
         );
     }
     // The cipher of KRB-PRIV as 04 81 00, all lengths around it one more.
@@ -102,7 +113,7 @@ fn lengths_that_are_not_the_shortest_are_malformed(rt: HostRuntime) {
         0x75, 0x1a, 0x30, 0x18, 0xa0, 0x03, 0x02, 0x01, 0x05, 0xa1, 0x03, 0x02, 0x01, 0x15, 0xa3,
         0x0c, 0x30, 0x0a, 0xa0, 0x03, 0x02, 0x01, 0x11, 0xa2, 0x03, 0x04, 0x81, 0x00,
     ];
-    assert!(rt; answer(rt.alloc(), &inside) == 2);
+    assert_same(&rt, answer(rt.alloc(), &inside), 2);
 }
 
 /// What `decode_part` answers to `PART` with another beginning.
@@ -113,8 +124,16 @@ fn answer_to_begin(alloc: Global, end: usize, by: &[u8]) -> Result<u32, AllocErr
 
 #[test]
 fn lengths_of_a_part_that_are_not_the_shortest_are_malformed(rt: HostRuntime) {
-    assert!(rt; answer_to_begin(rt.alloc(), 2, &[0x7c, 0x81, 0x37]) == Ok(2));
-    assert!(rt; answer_to_begin(rt.alloc(), 4, &[0x7c, 0x38, 0x30, 0x81, 0x35]) == Ok(2));
+    assert_same(
+        &rt,
+        answer_to_begin(rt.alloc(), 2, &[0x7c, 0x81, 0x37]),
+        Ok(2),
+    );
+    assert_same(
+        &rt,
+        answer_to_begin(rt.alloc(), 4, &[0x7c, 0x38, 0x30, 0x81, 0x35]),
+        Ok(2),
+    );
 }
 
 #[test]
@@ -125,7 +144,7 @@ fn field_that_krb_priv_lacks_is_malformed(rt: HostRuntime) {
         0x03, 0x02, 0x01, 0x05, 0xa3, 0x0b, 0x30, 0x09, 0xa0, 0x03, 0x02, 0x01, 0x11, 0xa2, 0x02,
         0x04, 0x00,
     ];
-    assert!(rt; answer(rt.alloc(), &bytes) == 2);
+    assert_same(&rt, answer(rt.alloc(), &bytes), 2);
 }
 
 /// What `decode` and `decode_part` answer to so many zeros.
@@ -139,8 +158,8 @@ fn answers_to_zeros(alloc: Global, count: usize) -> Result<(u32, u32), AllocErro
 
 #[test]
 fn more_than_the_limit_is_too_long(rt: HostRuntime) {
-    assert!(rt; answers_to_zeros(rt.alloc(), 1_005_001) == Ok((1, 1)));
-    assert!(rt; answers_to_zeros(rt.alloc(), 1_005_000) == Ok((2, 2)));
+    assert_same(&rt, answers_to_zeros(rt.alloc(), 1_005_001), Ok((1, 1)));
+    assert_same(&rt, answers_to_zeros(rt.alloc(), 1_005_000), Ok((2, 2)));
 }
 
 /// How many of the proper prefixes are malformed.
@@ -171,10 +190,10 @@ fn answers_to_flips(alloc: Global, message: &[u8]) -> Result<(u32, u32), AllocEr
 
 #[test]
 fn every_proper_prefix_is_malformed(rt: HostRuntime) {
-    assert!(rt; malformed_prefixes(rt.alloc(), &SAFE) == 84);
-    assert!(rt; malformed_prefixes(rt.alloc(), &SAFE_TO_RECEIVER) == 78);
-    assert!(rt; malformed_prefixes(rt.alloc(), &PRIV) == 27);
-    assert!(rt; malformed_prefixes(rt.alloc(), &PRIV_WITH_KVNO) == 32);
+    assert_same(&rt, malformed_prefixes(rt.alloc(), &SAFE), 84);
+    assert_same(&rt, malformed_prefixes(rt.alloc(), &SAFE_TO_RECEIVER), 78);
+    assert_same(&rt, malformed_prefixes(rt.alloc(), &PRIV), 27);
+    assert_same(&rt, malformed_prefixes(rt.alloc(), &PRIV_WITH_KVNO), 32);
 }
 
 #[test]
@@ -187,9 +206,11 @@ fn bit_flips_are_read_as_an_independent_reader_does(rt: HostRuntime) {
     ];
     for (message, expected) in answers {
         let size = message.len();
-        assert!(rt;
-            answers_to_flips(rt.alloc(), message) == Ok(expected),
-            "{size} bytes"
+        assert_same_at(
+            &rt,
+            answers_to_flips(rt.alloc(), message),
+            Ok(expected),
+            size,
         );
     }
 }

@@ -2,6 +2,7 @@ use super::{
     PART, SAFE, SAFE_TO_RECEIVER, carries, decode_safe, is_at, is_written, repeated, safe_again,
     safe_spelling, set_text, size,
 };
+use crate::asserts::assert_same;
 use krb_der::{DerError, HostAddress, SafeMsg, decode, safe_input};
 use std::alloc::Global;
 
@@ -27,7 +28,7 @@ fn is_read_as_said(alloc: Global) -> Result<bool, DerError> {
 
 #[test]
 fn message_is_read_and_written_back(rt: HostRuntime) {
-    assert!(rt; is_read_as_said(rt.alloc()) == Ok(true));
+    assert_same(&rt, is_read_as_said(rt.alloc()), Ok(true));
     assert!(rt; is_written(safe_again(rt.alloc(), &SAFE), &SAFE));
 }
 
@@ -55,7 +56,7 @@ fn is_read_with_receiver(alloc: Global) -> Result<bool, DerError> {
 
 #[test]
 fn message_to_a_receiver_without_time_is_read_and_written_back(rt: HostRuntime) {
-    assert!(rt; is_read_with_receiver(rt.alloc()) == Ok(true));
+    assert_same(&rt, is_read_with_receiver(rt.alloc()), Ok(true));
     let again = safe_again(rt.alloc(), &SAFE_TO_RECEIVER);
     assert!(rt; is_written(again, &SAFE_TO_RECEIVER));
 }
@@ -86,7 +87,7 @@ fn spelling_under_checksum(alloc: Global) -> Result<Vec<u8>, DerError> {
 #[test]
 fn bytes_under_any_checksum_are_those_under_none(rt: HostRuntime) {
     assert!(rt; is_written(input_under_checksum(rt.alloc()), &SAFE));
-    assert!(rt; size(spelling_under_checksum(rt.alloc())) == Ok(96));
+    assert_same(&rt, size(spelling_under_checksum(rt.alloc())), Ok(96));
     assert!(rt; !is_written(spelling_under_checksum(rt.alloc()), &SAFE));
 }
 
@@ -124,8 +125,8 @@ fn text_of_60000_bytes_is_carried(rt: HostRuntime) {
         0x02, 0x01, 0x14, 0xa2, 0x82, 0xea, 0x9b, 0x30, 0x82, 0xea, 0x97, 0xa0, 0x82, 0xea, 0x65,
         0x04, 0x82, 0xea, 0x61, 0x61,
     ];
-    assert!(rt; size_with_text(rt.alloc(), 0x61, 60_001) == Ok(60_094));
-    assert!(rt; is_carried(rt.alloc(), 0x61, 60_001, &begin) == Ok(true));
+    assert_same(&rt, size_with_text(rt.alloc(), 0x61, 60_001), Ok(60_094));
+    assert_same(&rt, is_carried(rt.alloc(), 0x61, 60_001, &begin), Ok(true));
 }
 
 #[test]
@@ -136,16 +137,32 @@ fn text_of_1000000_bytes_is_carried(rt: HostRuntime) {
         0xa1, 0x03, 0x02, 0x01, 0x14, 0xa2, 0x83, 0x0f, 0x42, 0x7e, 0x30, 0x83, 0x0f, 0x42, 0x79,
         0xa0, 0x83, 0x0f, 0x42, 0x46, 0x04, 0x83, 0x0f, 0x42, 0x41, 0x61,
     ];
-    assert!(rt; size_with_text(rt.alloc(), 0x61, 1_000_001) == Ok(1_000_100));
-    assert!(rt; is_carried(rt.alloc(), 0x61, 1_000_001, &begin) == Ok(true));
+    assert_same(
+        &rt,
+        size_with_text(rt.alloc(), 0x61, 1_000_001),
+        Ok(1_000_100),
+    );
+    assert_same(
+        &rt,
+        is_carried(rt.alloc(), 0x61, 1_000_001, &begin),
+        Ok(true),
+    );
 }
 
 #[test]
 fn lengths_take_a_third_octet_from_65536_on(rt: HostRuntime) {
     let last_of_two = [0x04, 0x82, 0xff, 0xff];
     let first_of_three = [0x04, 0x83, 0x01, 0x00, 0x00];
-    assert!(rt; stands_at(rt.alloc(), 65_535, 35, &last_of_two) == Ok(true));
-    assert!(rt; stands_at(rt.alloc(), 65_536, 35, &first_of_three) == Ok(true));
+    assert_same(
+        &rt,
+        stands_at(rt.alloc(), 65_535, 35, &last_of_two),
+        Ok(true),
+    );
+    assert_same(
+        &rt,
+        stands_at(rt.alloc(), 65_536, 35, &first_of_three),
+        Ok(true),
+    );
 }
 
 /// Whether these bytes stand at a place of the message with a text of so many bytes.
@@ -161,12 +178,28 @@ fn size_with_text(alloc: Global, byte: u8, count: usize) -> Result<usize, DerErr
 
 #[test]
 fn message_over_the_limit_is_not_written(rt: HostRuntime) {
-    assert!(rt; size_with_text(rt.alloc(), 0, 1_005_000 - 99) == Ok(1_005_000));
-    assert!(rt; size_with_text(rt.alloc(), 0, 1_005_000 - 98) == Err(DerError::TooLong));
-    assert!(rt; size_with_text(rt.alloc(), 0, 1_010_000) == Err(DerError::TooLong));
+    assert_same(
+        &rt,
+        size_with_text(rt.alloc(), 0, 1_005_000 - 99),
+        Ok(1_005_000),
+    );
+    assert_same(
+        &rt,
+        size_with_text(rt.alloc(), 0, 1_005_000 - 98),
+        Err(DerError::TooLong),
+    );
+    assert_same(
+        &rt,
+        size_with_text(rt.alloc(), 0, 1_010_000),
+        Err(DerError::TooLong),
+    );
 }
 
 #[test]
 fn part_is_no_message(rt: HostRuntime) {
-    assert!(rt; decode(rt.alloc(), &PART).err() == Some(DerError::Malformed));
+    assert_same(
+        &rt,
+        decode(rt.alloc(), &PART).err(),
+        Some(DerError::Malformed),
+    );
 }

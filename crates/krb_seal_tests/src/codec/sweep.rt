@@ -3,6 +3,7 @@
 //! counts the lines that tell of a refusal.
 
 use super::{SAFE, is_written, priv_spelling, safe_spelling};
+use crate::asserts::assert_same_at;
 use krb_der::{DerError, Message, decode};
 use std::alloc::Global;
 use std::io::Print;
@@ -42,11 +43,22 @@ fn read(
     match decode(rt.alloc(), bytes) {
         Ok(message) => Ok(message),
         Err(error) => {
-            assert!(rt; error == DerError::Memory, "{name}");
+            assert_same_at(rt, error, DerError::Memory, name);
             println!(rt; "refused: decode of {name}")?;
             Ok(decode(rt.alloc(), bytes)?)
         }
     }
+}
+
+/// Asserts that the message which is read of the bytes, with memory at the second call, is spelt so.
+fn assert_read(
+    rt: &(impl Abort + Print + Alloc<A = Global>),
+    name: &str,
+    bytes: &[u8],
+) -> Result<(), Fail> {
+    let message = read(rt, name, bytes)?;
+    assert_same_at(rt, is_spelt(rt.alloc(), &message, bytes)?, true, name);
+    Ok(())
 }
 
 #[test]
@@ -56,8 +68,7 @@ fn message_is_read_or_memory_wanted(rt: HostRuntime) -> Result<(), Fail> {
         ("KRB-SAFE with a checksum", &SAFE_WITH_CHECKSUM),
         ("KRB-PRIV with a cipher", &PRIV_WITH_CIPHER),
     ] {
-        let message = read(&rt, name, bytes)?;
-        assert!(rt; is_spelt(rt.alloc(), &message, bytes)?, "{name}");
+        assert_read(&rt, name, bytes)?;
     }
     Ok(())
 }

@@ -3,7 +3,7 @@ ghost use Rattle.std.specs.List.{list_all};
 ghost use Rattle.krb_base.specs.Limits.{text_limit};
 
 use crate::asserts::assert_same;
-use crate::sealing::{KEY_128, MICROS, session};
+use crate::sealing::{KEY_128, MICROS, sealed, session};
 use krb_base::{BATCH_LIMIT, Bytes, LAST_NUMBER, TEXT_LIMIT};
 use krb_der::Moment;
 use krb_peers::Sending;
@@ -13,10 +13,6 @@ use rand_core::SeedableRng;
 use std::alloc::Global;
 use std::process::Abort;
 use std::test::Fail;
-
-fn moment() -> Result<Moment, Fail> {
-    Ok(Moment::from_micros(MICROS).ok_or("past the year 9999")?)
-}
 
 /// A sealer of KRB-PRIV from a number on.
 fn sealer(alloc: Global, first: u32) -> Result<Aes128Sealer, Fail> {
@@ -35,11 +31,12 @@ fn texts(alloc: Global) -> Result<Vec<Bytes>, Fail> {
 
 /// A sender of these texts from the number 7 on, with the seed of zeros.
 fn sending(alloc: Global) -> Result<Sending<Aes128Sealer>, Fail> {
+    let at = Moment::from_micros(MICROS).ok_or("past the year 9999")?;
     Ok(Sending {
         sealer: sealer(alloc, 7)?,
         texts: texts(alloc)?,
         batch: 1,
-        ats: vec![in alloc; moment()?]?,
+        ats: vec![in alloc; at]?,
         draws: ChaCha20Rng::from_seed([0; 32]),
         plan: None,
     })
@@ -60,16 +57,18 @@ fn frames(rt: &(impl Abort + Alloc<A = Global>)) -> Result<Vec<Vec<u8>>, Fail> {
     Ok(sending.seal_all(rt.alloc())?)
 }
 
-/// Whether the frame is the one of this record at a number, under a confounder.
-fn is_sealed(
-    alloc: Global,
+/// Asserts that the frame is the one of this record at a number, under a confounder.
+fn assert_sealed(
+    rt: &(impl Abort + Alloc<A = Global>),
     frame: &[u8],
     number: u32,
     record: &[u8],
     confounder: [u8; 16],
-) -> Result<bool, Fail> {
-    let sealed = sealer(alloc, number)?.seal(alloc, record, moment()?, confounder)?;
-    Ok(sealed.as_slice() == frame)
+) -> Result<(), Fail> {
+    let mut sealer = sealer(rt.alloc(), number)?;
+    let expected = sealed(rt.alloc(), &mut sealer, record, confounder)?;
+    assert_same(rt, frame, expected.as_slice());
+    Ok(())
 }
 
 /// The confounders of a sender's frames are the keystream of ChaCha20 under a key of zeros, from
@@ -77,18 +76,12 @@ fn is_sealed(
 #[test]
 fn words_one_after_another(rt: HostRuntime) -> Result<(), Fail> {
     let frames = frames(&rt)?;
-    assert_same(&rt, frames.len(), 5);
+    assert!(rt; frames.len() == 5);
     let first = *b"\x76\xb8\xe0\xad\xa0\xf1\x3d\x90\x40\x5d\x6a\xe5\x53\x86\xbd\x28";
     let second = *b"\xbd\xd2\x19\xb8\xa0\x8d\xed\x1a\xa8\x36\xef\xcc\x8b\x77\x0d\xc7";
     // The next two end the block, and the close is sealed under the next one.
     let next_block = *b"\x9f\x07\xe7\xbe\x55\x51\x38\x7a\x98\xba\x97\x7c\x73\x2d\x08\x0d";
-    for (frame, number, record, confounder) in [
-        (frames.first(), 7, b"Dhi".as_slice(), first),
-        (frames.get(1), 8, b"Dhi", second),
-        (frames.last(), 11, b"C", next_block),
-    ] {
-        let frame = frame.ok_or("no frame")?;
-        assert!(rt; is_sealed(rt.alloc(), frame, number, record, confounder)?);
-    }
-    Ok(())
+    assert_sealed(&rt, &frames[0], 7, b"Dhi", first)?;
+    assert_sealed(&rt, &frames[1], 8, b"Dhi", second)?;
+    assert_sealed(&rt, &frames[4], 11, b"C", next_block)
 }

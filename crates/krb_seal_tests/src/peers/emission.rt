@@ -26,7 +26,7 @@ fn emits(
     frames: &[Vec<u8>],
     plan: &[Emit],
     expected: &[&[u8]],
-) -> Result<bool, Fail> {
+) -> Result<bool, EmitError> {
     let wire = emit(alloc, frames, plan)?;
     Ok(is_wire(wire.as_slice(), expected))
 }
@@ -35,9 +35,17 @@ fn emits(
 fn frames_repeated_dropped_and_reordered(rt: HostRuntime) -> Result<(), Fail> {
     let frames = two_frames(rt.alloc())?;
     let plan = [Emit::Frame(1), Emit::Frame(0), Emit::Frame(0)];
-    assert!(rt; emits(rt.alloc(), &frames, &plan, &[b"c", b"ab", b"ab"])?);
-    assert!(rt; emits(rt.alloc(), &frames, &[Emit::Frame(1)], &[b"c"])?);
-    assert!(rt; emits(rt.alloc(), &frames, &[], &[])?);
+    assert_same(
+        &rt,
+        emits(rt.alloc(), &frames, &plan, &[b"c", b"ab", b"ab"]),
+        Ok(true),
+    );
+    assert_same(
+        &rt,
+        emits(rt.alloc(), &frames, &[Emit::Frame(1)], &[b"c"]),
+        Ok(true),
+    );
+    assert_same(&rt, emits(rt.alloc(), &frames, &[], &[]), Ok(true));
     Ok(())
 }
 
@@ -59,7 +67,11 @@ fn frame_flipped_and_raw(rt: HostRuntime) -> Result<(), Fail> {
             mask: 0x20,
         },
     ];
-    assert!(rt; emits(rt.alloc(), &frames, &plan, &[b"ad", b"raw", b"aB"])?);
+    assert_same(
+        &rt,
+        emits(rt.alloc(), &frames, &plan, &[b"ad", b"raw", b"aB"]),
+        Ok(true),
+    );
     assert!(rt; is_wire(frames.as_slice(), &[b"ab", b"c"]));
     Ok(())
 }

@@ -1,4 +1,4 @@
-ghost use Rattle.std.specs.Prelude.{◌≡◌, ◌<◌, false, OnOk};
+ghost use Rattle.std.specs.Prelude.{◌≡◌, ◌<◌, false, IfOk, OnOk};
 ghost use Rattle.krb_peers.specs.Log.{is_closed, appended};
 
 use crate::asserts::assert_same;
@@ -43,14 +43,16 @@ fn are_entries(entries: &[Entry], expected: &[(u32, Option<&[u8]>)]) -> bool {
             .all(|(entry, (lane, bytes))| is_entry(entry, *lane, *bytes))
 }
 
-/// Whether the text of a lane at place `i` is this.
-fn is_text_at(log: &Log, lane: u32, i: usize, bytes: &[u8]) -> bool
+/// Whether the texts of a lane are these: so many, each at its place, and none behind them.
+fn are_texts(log: &Log, lane: u32, expected: &[&[u8]]) -> bool
     requires { lane < log.now.lanes }
 {
-    match log.text(lane, i) {
-        Some(text) => text == bytes,
-        None => false,
+    for (i, bytes) in expected.iter().enumerate() {
+        if log.text(lane, i) != Some(*bytes) {
+            return false;
+        }
     }
+    log.texts(lane) == expected.len() && log.text(lane, expected.len()).is_none()
 }
 
 #[test]
@@ -63,13 +65,21 @@ fn new_log_is_live(rt: HostRuntime) {
     }
 }
 
+/// Two texts of lane 0 with a refusal between them, and one of lane 1.
+fn of_two_lanes(alloc: Global) -> Result<Log, Fail>
+    ensures { IfOk result (λ log. log.lanes ≡ 2) }
+{
+    let mut log = Log::new(alloc, 2);
+    push_text(alloc, &mut log, 0, b"a")?;
+    push_text(alloc, &mut log, 1, b"")?;
+    log.push(0, Event::Refused(Refusal::BadOrder))?;
+    push_text(alloc, &mut log, 0, b"bc")?;
+    Ok(log)
+}
+
 #[test]
 fn texts_of_two_lanes(rt: HostRuntime) -> Result<(), Fail> {
-    let mut log = Log::new(rt.alloc(), 2);
-    push_text(rt.alloc(), &mut log, 0, b"a")?;
-    push_text(rt.alloc(), &mut log, 1, b"")?;
-    log.push(0, Event::Refused(Refusal::BadOrder))?;
-    push_text(rt.alloc(), &mut log, 0, b"bc")?;
+    let log = of_two_lanes(rt.alloc())?;
     let expected = [
         (0, Some(b"a".as_slice())),
         (1, Some(b"")),
@@ -77,19 +87,25 @@ fn texts_of_two_lanes(rt: HostRuntime) -> Result<(), Fail> {
         (0, Some(b"bc")),
     ];
     assert!(rt; are_entries(log.entries(), &expected));
-    assert_same(&rt, (log.texts(0), log.texts(1)), (2, 1));
-    assert!(rt; is_text_at(&log, 0, 0, b"a") && is_text_at(&log, 0, 1, b"bc"));
-    assert!(rt; is_text_at(&log, 1, 0, b""));
-    assert!(rt; log.text(0, 2).is_none() && log.text(1, 1).is_none());
+    assert!(rt; are_texts(&log, 0, &[b"a", b"bc"]));
+    assert!(rt; are_texts(&log, 1, &[b""]));
     Ok(())
+}
+
+/// A refusal and a batch of lane 0, and a text of lane 1 between them.
+fn of_a_batch(alloc: Global) -> Result<Log, Fail>
+    ensures { IfOk result (λ log. log.lanes ≡ 2) }
+{
+    let mut log = Log::new(alloc, 2);
+    log.push(0, Event::Refused(Refusal::BadOrder))?;
+    push_text(alloc, &mut log, 1, b"x")?;
+    log.push_batch(0, texts(alloc, &[b"a", b"", b"cd"])?)?;
+    Ok(log)
 }
 
 #[test]
 fn batch_is_a_text_for_each(rt: HostRuntime) -> Result<(), Fail> {
-    let mut log = Log::new(rt.alloc(), 2);
-    log.push(0, Event::Refused(Refusal::BadOrder))?;
-    push_text(rt.alloc(), &mut log, 1, b"x")?;
-    log.push_batch(0, texts(rt.alloc(), &[b"a", b"", b"cd"])?)?;
+    let log = of_a_batch(rt.alloc())?;
     let x = (1, Some(b"x".as_slice()));
     let expected = [
         (0, None),
@@ -99,8 +115,8 @@ fn batch_is_a_text_for_each(rt: HostRuntime) -> Result<(), Fail> {
         (0, Some(b"cd")),
     ];
     assert!(rt; are_entries(log.entries(), &expected));
-    assert_same(&rt, (log.texts(0), log.texts(1)), (3, 1));
-    assert!(rt; is_text_at(&log, 0, 0, b"a") && is_text_at(&log, 0, 2, b"cd"));
+    assert!(rt; are_texts(&log, 0, &[b"a", b"", b"cd"]));
+    assert!(rt; are_texts(&log, 1, &[b"x"]));
     assert_same(&rt, log.status(0), Status::Live);
     Ok(())
 }

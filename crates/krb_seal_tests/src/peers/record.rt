@@ -26,19 +26,19 @@ fn is_batch(record: &Record, expected: &[&[u8]]) -> bool {
 }
 
 /// Whether the bytes are those of the record of a text.
-fn are_of_text(alloc: Global, bytes: &[u8], text: &[u8]) -> Result<bool, Fail> {
+fn are_of_text(alloc: Global, bytes: &[u8], text: &[u8]) -> Result<bool, RecordError> {
     let record = read_record(alloc, bytes)?;
     Ok(is_text(&record, text) && record_bytes(alloc, &record)?.as_slice() == bytes)
 }
 
 /// Whether they are those of the record of a batch.
-fn are_of_batch(alloc: Global, bytes: &[u8], texts: &[&[u8]]) -> Result<bool, Fail> {
+fn are_of_batch(alloc: Global, bytes: &[u8], texts: &[&[u8]]) -> Result<bool, RecordError> {
     let record = read_record(alloc, bytes)?;
     Ok(is_batch(&record, texts) && record_bytes(alloc, &record)?.as_slice() == bytes)
 }
 
 /// Whether they are those of the close.
-fn are_of_close(alloc: Global, bytes: &[u8]) -> Result<bool, Fail> {
+fn are_of_close(alloc: Global, bytes: &[u8]) -> Result<bool, RecordError> {
     let record = read_record(alloc, bytes)?;
     Ok(matches!(record, Record::Close) && record_bytes(alloc, &record)?.as_slice() == bytes)
 }
@@ -56,25 +56,30 @@ fn no_record(rt: HostRuntime) {
 }
 
 #[test]
-fn empty_text(rt: HostRuntime) -> Result<(), Fail> {
-    assert!(rt; are_of_text(rt.alloc(), &[0x44], &[])?);
-    Ok(())
+fn empty_text(rt: HostRuntime) {
+    assert_same(&rt, are_of_text(rt.alloc(), &[0x44], &[]), Ok(true));
 }
 
 #[test]
-fn text_and_close(rt: HostRuntime) -> Result<(), Fail> {
-    assert!(rt; are_of_text(rt.alloc(), &[0x44, 0x68, 0x69], b"hi")?);
-    assert!(rt; are_of_close(rt.alloc(), &[0x43])?);
-    Ok(())
+fn text_and_close(rt: HostRuntime) {
+    assert_same(
+        &rt,
+        are_of_text(rt.alloc(), &[0x44, 0x68, 0x69], b"hi"),
+        Ok(true),
+    );
+    assert_same(&rt, are_of_close(rt.alloc(), &[0x43]), Ok(true));
 }
 
 #[test]
-fn batch_of_two_texts(rt: HostRuntime) -> Result<(), Fail> {
+fn batch_of_two_texts(rt: HostRuntime) {
     let bytes = b"\x42\0\0\0\x01\x61\0\0\0\x01\x62";
-    assert!(rt; are_of_batch(rt.alloc(), bytes, &[b"a", b"b"])?);
+    assert_same(
+        &rt,
+        are_of_batch(rt.alloc(), bytes, &[b"a", b"b"]),
+        Ok(true),
+    );
     let empty = [0x42, 0, 0, 0, 0, 0, 0, 0, 0];
-    assert!(rt; are_of_batch(rt.alloc(), &empty, &[b"", b""])?);
-    Ok(())
+    assert_same(&rt, are_of_batch(rt.alloc(), &empty, &[b"", b""]), Ok(true));
 }
 
 #[test]
@@ -94,7 +99,11 @@ fn longest_text(rt: HostRuntime) -> Result<(), Fail> {
     let mut bytes = vec![in rt.alloc(); 0x61; 1_000_001]?;
     assert_same(&rt, bytes.len(), USER_DATA_LIMIT);
     bytes[0] = 0x44;
-    assert!(rt; are_of_text(rt.alloc(), bytes.as_slice(), &bytes[1..])?);
+    assert_same(
+        &rt,
+        are_of_text(rt.alloc(), bytes.as_slice(), &bytes[1..]),
+        Ok(true),
+    );
     bytes.push(0x61)?;
     assert!(rt; are_of_none(rt.alloc(), bytes.as_slice()));
     Ok(())

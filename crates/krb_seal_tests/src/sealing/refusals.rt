@@ -1,6 +1,19 @@
 use crate::asserts::{assert_displayed, assert_same};
 use krb_seal::{Refusal, SealError};
+use std::alloc::Global;
+use std::process::Abort;
 use std::test::Fail;
+
+/// Asserts that a refusal has this number and this name, and is displayed so.
+fn assert_refusal(
+    rt: &(impl Abort + Alloc<A = Global>),
+    refusal: Refusal,
+    code: u32,
+    name: &str,
+) -> Result<(), Fail> {
+    assert_same(rt, (refusal.code(), refusal.name()), (code, name));
+    assert_displayed(rt, refusal, name)
+}
 
 #[test]
 fn refusals_have_numbers_and_names(rt: HostRuntime) -> Result<(), Fail> {
@@ -21,8 +34,7 @@ fn refusals_have_numbers_and_names(rt: HostRuntime) -> Result<(), Fail> {
         (Refusal::Memory, 904, "MEMORY"),
     ];
     for (refusal, code, name) in table {
-        assert_same(&rt, (refusal.code(), refusal.name()), (code, name));
-        assert_displayed(&rt, refusal, name)?;
+        assert_refusal(&rt, refusal, code, name)?;
     }
     Ok(())
 }

@@ -1,9 +1,8 @@
 use super::frames::{PRIV_17, PRIV_17_OTHER, PRIV_18, SAFE_17, SAFE_18, SAFE_LAST};
-use super::{KEY_128, KEY_256, MICROS, answer, opener, session};
+use super::{KEY_128, KEY_256, MICROS, answer, opener, sealed, session};
 use crate::asserts::assert_same;
-use krb_der::Moment;
 use krb_seal::{Aes128Sealer, Aes256Sealer, Mode, SealError, Sealer};
-use std::alloc::Global;
+use std::alloc::{AllocError, Global};
 use std::test::Fail;
 
 /// What a new sealer of either encryption type seals first.
@@ -13,13 +12,13 @@ fn first_frame(
     mode: Mode,
     confounder: [u8; 16],
 ) -> Result<Vec<u8>, SealError> {
-    let at = Moment::from_micros(MICROS).ok_or(SealError::Memory)?;
+    let session = session(alloc, mode, 7)?;
     if wide {
-        let mut sealer = Aes256Sealer::new(&mut { KEY_256 }, session(alloc, mode, 7)?);
-        return sealer.seal(alloc, b"Dhi", at, confounder);
+        let mut sealer = Aes256Sealer::new(&mut { KEY_256 }, session);
+        return sealed(alloc, &mut sealer, b"Dhi", confounder);
     }
-    let mut sealer = Aes128Sealer::new(&mut { KEY_128 }, session(alloc, mode, 7)?);
-    sealer.seal(alloc, b"Dhi", at, confounder)
+    let mut sealer = Aes128Sealer::new(&mut { KEY_128 }, session);
+    sealed(alloc, &mut sealer, b"Dhi", confounder)
 }
 
 #[test]
@@ -62,14 +61,11 @@ fn constructors_take_the_key(rt: HostRuntime) -> Result<(), Fail> {
 }
 
 /// The error of sealing so many bytes, and the next number then.
-fn sealed(alloc: Global, sealer: &mut impl Sealer, bytes: usize) -> (Option<SealError>, u64) {
+fn answered(alloc: Global, sealer: &mut impl Sealer, bytes: usize) -> (Option<SealError>, u64) {
     let Ok(data) = Vec::from_elem(alloc, 0x61, bytes) else {
         return (Some(SealError::Memory), 0);
     };
-    let Some(at) = Moment::from_micros(MICROS) else {
-        return (Some(SealError::Memory), 0);
-    };
-    let error = sealer.seal(alloc, &data, at, [0; 16]).err();
+    let error = sealed(alloc, sealer, &data, [0; 16]).err();
     (error, sealer.next())
 }
 
@@ -80,33 +76,36 @@ fn errors_come_in_their_order(rt: HostRuntime) -> Result<(), Fail> {
         session(rt.alloc(), Mode::Priv, 4_294_967_295)?,
     );
     let too_long = (Some(SealError::TooLong), 4_294_967_295);
-    assert_same(&rt, sealed(rt.alloc(), &mut sealer, 1_000_002), too_long);
+    assert_same(&rt, answered(rt.alloc(), &mut sealer, 1_000_002), too_long);
     assert_same(
         &rt,
-        sealed(rt.alloc(), &mut sealer, 1_000_001),
+        answered(rt.alloc(), &mut sealer, 1_000_001),
         (None, 4_294_967_296),
     );
     let too_long = (Some(SealError::TooLong), 4_294_967_296);
-    assert_same(&rt, sealed(rt.alloc(), &mut sealer, 1_000_002), too_long);
+    assert_same(&rt, answered(rt.alloc(), &mut sealer, 1_000_002), too_long);
     let exhausted = (Some(SealError::Exhausted), 4_294_967_296);
-    assert_same(&rt, sealed(rt.alloc(), &mut sealer, 1), exhausted);
+    assert_same(&rt, answered(rt.alloc(), &mut sealer, 1), exhausted);
     sealer.wipe();
     let wiped = (Some(SealError::Wiped), 4_294_967_296);
-    assert_same(&rt, sealed(rt.alloc(), &mut sealer, 1_000_002), wiped);
+    assert_same(&rt, answered(rt.alloc(), &mut sealer, 1_000_002), wiped);
     Ok(())
+}
+
+/// A sealer of the last number behind a pointer.
+fn boxed_sealer(alloc: Global) -> Result<Box<dyn Sealer + Send>, AllocError> {
+    let session = session(alloc, Mode::Safe, 4_294_967_295)?;
+    Ok(Box::new(alloc, Aes128Sealer::new(&mut { KEY_128 }, session))?)
 }
 
 #[test]
 fn boxed_sealer_seals_the_last_number(rt: HostRuntime) -> Result<(), Fail> {
-    let session = session(rt.alloc(), Mode::Safe, 4_294_967_295)?;
-    let inner = Aes128Sealer::new(&mut { KEY_128 }, session);
-    let mut sealer: Box<dyn Sealer + Send> = Box::new(rt.alloc(), inner)?;
-    let at = Moment::from_micros(MICROS).ok_or("no moment")?;
-    let frame = sealer.seal(rt.alloc(), b"C", at, [0; 16])?;
+    let mut sealer = boxed_sealer(rt.alloc())?;
+    let frame = sealed(rt.alloc(), &mut sealer, b"C", [0; 16])?;
     assert_same(&rt, frame.as_slice(), SAFE_LAST.as_slice());
     assert_same(&rt, (sealer.etype(), sealer.next()), (17, 4_294_967_296));
     sealer.wipe();
-    let again = sealer.seal(rt.alloc(), b"C", at, [0; 16]);
-    assert!(rt; matches!(again, Err(SealError::Wiped)));
+    let again = sealed(rt.alloc(), &mut sealer, b"C", [0; 16]);
+    assert_same(&rt, again.err(), Some(SealError::Wiped));
     Ok(())
 }

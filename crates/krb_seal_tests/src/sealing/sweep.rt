@@ -3,11 +3,10 @@
 //! refuses the growths, and counts the lines that tell of a refusal.
 
 use super::frames::{PRIV_17, PRIV_18, SAFE_17, SAFE_18};
-use super::{KEY_128, KEY_256, MICROS, answer, expect_of, session};
+use super::{KEY_128, KEY_256, MICROS, answer, expect_of, sealed, session};
 use crate::asserts::assert_same;
-use krb_der::Moment;
 use krb_seal::{Aes128Sealer, Aes256Sealer, Mode, Opener, SealError, Sealer};
-use std::alloc::Global;
+use std::alloc::{AllocError, Global};
 use std::process::Abort;
 use std::test::Fail;
 
@@ -28,15 +27,14 @@ fn seals(
     sealer: &mut impl Sealer,
     frame: &[u8],
 ) -> Result<bool, Fail> {
-    let at = Moment::from_micros(MICROS).ok_or("past the year 9999")?;
     let etype = sealer.etype();
-    let mut sealed = sealer.seal(alloc, b"Dhi", at, [0; 16]);
-    let refused = matches!(sealed, Err(SealError::Memory));
+    let mut first = sealed(alloc, sealer, b"Dhi", [0; 16]);
+    let refused = matches!(first, Err(SealError::Memory));
     if refused {
         assert_same(rt, (sealer.etype(), sealer.next()), (etype, 7));
-        sealed = sealer.seal(alloc, b"Dhi", at, [0; 16]);
+        first = sealed(alloc, sealer, b"Dhi", [0; 16]);
     }
-    let Ok(sealed) = sealed else {
+    let Ok(sealed) = first else {
         return Err(Fail::from("not sealed with memory"));
     };
     assert_same(rt, sealed.as_slice(), frame);
@@ -44,18 +42,27 @@ fn seals(
     Ok(refused)
 }
 
+/// The same of a new sealer of either encryption type.
+fn new_sealer_seals(
+    rt: &impl Abort,
+    alloc: Global,
+    wide: bool,
+    mode: Mode,
+    frame: &[u8],
+) -> Result<bool, Fail> {
+    let session = session(alloc, mode, 7)?;
+    if wide {
+        let mut sealer = Aes256Sealer::new(&mut { KEY_256 }, session);
+        return seals(rt, alloc, &mut sealer, frame);
+    }
+    let mut sealer = Aes128Sealer::new(&mut { KEY_128 }, session);
+    seals(rt, alloc, &mut sealer, frame)
+}
+
 #[test]
 fn frame_is_sealed_or_memory_wanted(rt: HostRuntime) -> Result<(), Fail> {
     for (name, wide, mode, frame) in KINDS {
-        let session = session(rt.alloc(), mode, 7)?;
-        let refused = if wide {
-            let mut sealer = Aes256Sealer::new(&mut { KEY_256 }, session);
-            seals(&rt, rt.alloc(), &mut sealer, frame)?
-        } else {
-            let mut sealer = Aes128Sealer::new(&mut { KEY_128 }, session);
-            seals(&rt, rt.alloc(), &mut sealer, frame)?
-        };
-        if refused {
+        if new_sealer_seals(&rt, rt.alloc(), wide, mode, frame)? {
             println!(rt; "refused: seal of {name}")?;
         }
     }
@@ -83,15 +90,19 @@ fn opens(
     refused
 }
 
+/// An opener of either encryption type.
+fn opener_of(alloc: Global, wide: bool, mode: Mode) -> Result<Opener, AllocError> {
+    let expect = expect_of(alloc, mode, 1)?;
+    if wide {
+        return Ok(Opener::new_256(&mut { KEY_256 }, expect));
+    }
+    Ok(Opener::new_128(&mut { KEY_128 }, expect))
+}
+
 #[test]
 fn frame_is_opened_or_memory_wanted(rt: HostRuntime) -> Result<(), Fail> {
     for (name, wide, mode, frame) in KINDS {
-        let expect = expect_of(rt.alloc(), mode, 1)?;
-        let opener = if wide {
-            Opener::new_256(&mut { KEY_256 }, expect)
-        } else {
-            Opener::new_128(&mut { KEY_128 }, expect)
-        };
+        let opener = opener_of(rt.alloc(), wide, mode)?;
         if opens(&rt, rt.alloc(), &opener, frame, 7, 0) {
             println!(rt; "refused: unseal of {name}")?;
         }
