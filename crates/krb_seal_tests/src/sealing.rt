@@ -63,6 +63,11 @@ fn opener(alloc: Global, mode: Mode) -> Result<Opener, AllocError> {
     Ok(Opener::new_128(&mut { KEY_128 }, expect_of(alloc, mode, 1)?))
 }
 
+/// The same of encryption type 18.
+fn wide_opener(alloc: Global, mode: Mode) -> Result<Opener, AllocError> {
+    Ok(Opener::new_256(&mut { KEY_256 }, expect_of(alloc, mode, 1)?))
+}
+
 /// What a sealer answers for data, at the moment of `MICROS` and under a confounder.
 pub fn sealed(
     alloc: Global,

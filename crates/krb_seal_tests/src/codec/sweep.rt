@@ -2,7 +2,7 @@
 //! and then the same call with memory gives the message. `tools/sweep` refuses the growths, and
 //! counts the lines that tell of a refusal.
 
-use super::{SAFE, is_written, priv_spelling, safe_spelling};
+use super::{SAFE, priv_spelling, safe_spelling};
 use crate::asserts::assert_same_at;
 use krb_der::{DerError, Message, decode};
 use std::alloc::Global;
@@ -25,13 +25,12 @@ const PRIV_WITH_CIPHER: [u8; 29] = [
     0x30, 0x0b, 0xa0, 0x03, 0x02, 0x01, 0x11, 0xa2, 0x04, 0x04, 0x02, 0xaa, 0xbb,
 ];
 
-/// Whether these bytes are how the message is spelt.
-fn is_spelt(alloc: Global, message: &Message, bytes: &[u8]) -> Result<bool, DerError> {
-    let spelling = match message {
-        Message::Safe(message) => safe_spelling(alloc, message)?,
-        Message::Priv(message) => priv_spelling(alloc, message)?,
-    };
-    Ok(is_written(Ok(spelling), bytes))
+/// How the message is spelt.
+fn spelling(alloc: Global, message: &Message) -> Result<Vec<u8>, DerError> {
+    match message {
+        Message::Safe(message) => safe_spelling(alloc, message),
+        Message::Priv(message) => priv_spelling(alloc, message),
+    }
 }
 
 /// What is read of the bytes, with memory at the second call.
@@ -56,8 +55,8 @@ fn assert_read(
     name: &str,
     bytes: &[u8],
 ) -> Result<(), Fail> {
-    let message = read(rt, name, bytes)?;
-    assert_same_at(rt, is_spelt(rt.alloc(), &message, bytes)?, true, name);
+    let spelling = spelling(rt.alloc(), &read(rt, name, bytes)?);
+    assert_same_at(rt, spelling?.as_slice(), bytes, name);
     Ok(())
 }
 

@@ -3,7 +3,7 @@ use super::frames::{
     SAFE_INPUT, SAFE_LONG_CHECKSUM, SAFE_NO_NUMBER, SAFE_NO_TIME, SAFE_NO_USEC, SAFE_TIMELESS,
     SAFE_TO_RECEIVER,
 };
-use super::{KEY_128, KEY_256, MICROS, answer, expect_of, opener};
+use super::{KEY_128, KEY_256, MICROS, answer, expect_of, opener, wide_opener};
 use crate::asserts::{assert_same, assert_same_at};
 use krb_seal::{Mode, Opener};
 use std::alloc::{AllocError, Global};
@@ -164,7 +164,7 @@ fn opener_of_the_other_type_reads_its_frames(rt: HostRuntime) -> Result<(), Fail
     let mut key = KEY_256;
     let safe = Opener::new_256(&mut key, expect_of(rt.alloc(), Mode::Safe, 1)?);
     assert_same(&rt, key, [0; 32]);
-    let private = Opener::new_256(&mut { KEY_256 }, expect_of(rt.alloc(), Mode::Priv, 1)?);
+    let private = wide_opener(rt.alloc(), Mode::Priv)?;
     assert_same(&rt, answer(rt.alloc(), &safe, &SAFE_18, 7, MICROS), 0);
     assert_same(&rt, answer(rt.alloc(), &safe, &SAFE_17, 7, MICROS), 50);
     assert_same(&rt, answer(rt.alloc(), &private, &PRIV_18, 7, MICROS), 0);

@@ -3,10 +3,11 @@
 //! refuses the growths, and counts the lines that tell of a refusal.
 
 use super::frames::{PRIV_17, PRIV_18, SAFE_17, SAFE_18};
-use super::{KEY_128, KEY_256, MICROS, answer, expect_of, sealed, session};
+use super::{KEY_128, KEY_256, MICROS, answer, opener, sealed, session, wide_opener};
 use crate::asserts::assert_same;
 use krb_seal::{Aes128Sealer, Aes256Sealer, Mode, Opener, SealError, Sealer};
-use std::alloc::{AllocError, Global};
+use std::alloc::Global;
+use std::io::Print;
 use std::process::Abort;
 use std::test::Fail;
 
@@ -90,25 +91,41 @@ fn opens(
     refused
 }
 
-/// An opener of either encryption type.
-fn opener_of(alloc: Global, wide: bool, mode: Mode) -> Result<Opener, AllocError> {
-    let expect = expect_of(alloc, mode, 1)?;
-    if wide {
-        return Ok(Opener::new_256(&mut { KEY_256 }, expect));
+/// Whether a new opener of either encryption type wanted memory for the data of a frame, and for
+/// the refusal at another number.
+fn new_opener_opens(
+    rt: &impl Abort,
+    alloc: Global,
+    wide: bool,
+    mode: Mode,
+    frame: &[u8],
+) -> Result<(bool, bool), Fail> {
+    let opener = if wide {
+        wide_opener(alloc, mode)
+    } else {
+        opener(alloc, mode)
+    };
+    let opener = opener?;
+    let opened = opens(rt, alloc, &opener, frame, 7, 0);
+    Ok((opened, opens(rt, alloc, &opener, frame, 8, 42)))
+}
+
+/// Tells which of the two wanted memory.
+fn tell(rt: &impl Print, name: &str, (data, refusal): (bool, bool)) -> Result<(), Fail> {
+    if data {
+        println!(rt; "refused: unseal of {name}")?;
     }
-    Ok(Opener::new_128(&mut { KEY_128 }, expect))
+    if refusal {
+        println!(rt; "refused: unseal of {name} at another number")?;
+    }
+    Ok(())
 }
 
 #[test]
 fn frame_is_opened_or_memory_wanted(rt: HostRuntime) -> Result<(), Fail> {
     for (name, wide, mode, frame) in KINDS {
-        let opener = opener_of(rt.alloc(), wide, mode)?;
-        if opens(&rt, rt.alloc(), &opener, frame, 7, 0) {
-            println!(rt; "refused: unseal of {name}")?;
-        }
-        if opens(&rt, rt.alloc(), &opener, frame, 8, 42) {
-            println!(rt; "refused: unseal of {name} at another number")?;
-        }
+        let wanted = new_opener_opens(&rt, rt.alloc(), wide, mode, frame)?;
+        tell(&rt, name, wanted)?;
     }
     Ok(())
 }
