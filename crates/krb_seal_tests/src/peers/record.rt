@@ -25,22 +25,29 @@ fn is_batch(record: &Record, expected: &[&[u8]]) -> bool {
     }
 }
 
+/// The record of the bytes, and whether these are its bytes.
+fn record_of(alloc: Global, bytes: &[u8]) -> Result<(Record, bool), RecordError> {
+    let record = read_record(alloc, bytes)?;
+    let again = record_bytes(alloc, &record)?;
+    Ok((record, again.as_slice() == bytes))
+}
+
 /// Whether the bytes are those of the record of a text.
 fn are_of_text(alloc: Global, bytes: &[u8], text: &[u8]) -> Result<bool, RecordError> {
-    let record = read_record(alloc, bytes)?;
-    Ok(is_text(&record, text) && record_bytes(alloc, &record)?.as_slice() == bytes)
+    let (record, same) = record_of(alloc, bytes)?;
+    Ok(same && is_text(&record, text))
 }
 
 /// Whether they are those of the record of a batch.
 fn are_of_batch(alloc: Global, bytes: &[u8], texts: &[&[u8]]) -> Result<bool, RecordError> {
-    let record = read_record(alloc, bytes)?;
-    Ok(is_batch(&record, texts) && record_bytes(alloc, &record)?.as_slice() == bytes)
+    let (record, same) = record_of(alloc, bytes)?;
+    Ok(same && is_batch(&record, texts))
 }
 
 /// Whether they are those of the close.
 fn are_of_close(alloc: Global, bytes: &[u8]) -> Result<bool, RecordError> {
-    let record = read_record(alloc, bytes)?;
-    Ok(matches!(record, Record::Close) && record_bytes(alloc, &record)?.as_slice() == bytes)
+    let (record, same) = record_of(alloc, bytes)?;
+    Ok(same && matches!(record, Record::Close))
 }
 
 /// Whether they are no record's.
