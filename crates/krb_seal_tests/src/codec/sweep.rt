@@ -42,14 +42,14 @@ fn read(
     match decode(rt.alloc(), bytes) {
         Ok(message) => Ok(message),
         Err(error) => {
-            assert_same_at(rt, error, DerError::Memory, name);
+            assert!(rt; error == DerError::Memory, "{name}");
             println!(rt; "refused: decode of {name}")?;
             Ok(decode(rt.alloc(), bytes)?)
         }
     }
 }
 
-/// Asserts that the message which is read of the bytes, with memory at the second call, is spelt so.
+/// Asserts that the bytes are how the message which is read of them is spelt.
 fn assert_read(
     rt: &(impl Abort + Print + Alloc<A = Global>),
     name: &str,
