@@ -7,6 +7,7 @@ use super::{KEY_128, KEY_256, MICROS, answer, expect_of, opener, wide_opener};
 use crate::asserts::{assert_same, assert_same_at};
 use krb_seal::{Mode, Opener};
 use std::alloc::{AllocError, Global};
+use std::process::Abort;
 use std::test::Fail;
 
 /// A frame with one byte changed.
@@ -28,6 +29,30 @@ fn answer_to_changed(
 ) -> Result<u32, AllocError> {
     let frame = changed(alloc, frame, at, byte)?;
     Ok(answer(alloc, opener, &frame, 7, MICROS))
+}
+
+/// Asserts how an opener answers each of some frames, at a number and a moment.
+fn assert_answers(
+    rt: &(impl Abort + Alloc<A = Global>),
+    opener: &Opener,
+    cases: &[(&[u8], u64, u64, u32)],
+) {
+    for (case, (frame, number, now, code)) in cases.iter().enumerate() {
+        let answer = answer(rt.alloc(), opener, frame, *number, *now);
+        assert_same_at(rt, answer, *code, case);
+    }
+}
+
+/// The same of frames of number 7 with one byte changed: the place, and the byte there.
+fn assert_answers_to_changed(
+    rt: &(impl Abort + Alloc<A = Global>),
+    opener: &Opener,
+    cases: &[(&[u8], usize, u8, u32)],
+) {
+    for (case, (frame, at, byte, code)) in cases.iter().enumerate() {
+        let answer = answer_to_changed(rt.alloc(), opener, frame, *at, *byte);
+        assert_same_at(rt, answer, Ok(*code), case);
+    }
 }
 
 #[test]
@@ -57,75 +82,68 @@ fn checks_of_safe_come_in_their_order(rt: HostRuntime) -> Result<(), Fail> {
     // The checksum has the right type and no bytes.
     let typed = changed(rt.alloc(), &SAFE_INPUT, 79, 0x0f)?;
     let later = 1_700_000_301_000_005;
-    for (frame, number, now, code) in [
-        (SAFE_INPUT.as_slice(), 7, MICROS, 50),
-        (typed.as_slice(), 7, MICROS, 41),
-        (typed.as_slice(), 8, MICROS, 42),
-        (typed.as_slice(), 8, later, 37),
-        (SAFE_18.as_slice(), 7, MICROS, 50),
-        (SAFE_17.as_slice(), 7, MICROS, 0),
-        (SAFE_17.as_slice(), 4_294_967_296, MICROS, 42),
-        (SAFE_TO_RECEIVER.as_slice(), 7, MICROS, 0),
-        (PRIV_EMPTY.as_slice(), 7, MICROS, 40),
-    ] {
-        assert_same_at(
-            &rt,
-            answer(rt.alloc(), &opener, frame, number, now),
-            code,
-            code,
-        );
-    }
+    assert_answers(
+        &rt,
+        &opener,
+        &[
+            (&SAFE_INPUT, 7, MICROS, 50),
+            (typed.as_slice(), 7, MICROS, 41),
+            (typed.as_slice(), 8, MICROS, 42),
+            (typed.as_slice(), 8, later, 37),
+            (&SAFE_18, 7, MICROS, 50),
+            (&SAFE_17, 7, MICROS, 0),
+            (&SAFE_17, 4_294_967_296, MICROS, 42),
+            (&SAFE_TO_RECEIVER, 7, MICROS, 0),
+            (&PRIV_EMPTY, 7, MICROS, 40),
+        ],
+    );
     Ok(())
 }
 
 #[test]
 fn checks_of_priv_come_in_their_order(rt: HostRuntime) -> Result<(), Fail> {
     let opener = opener(rt.alloc(), Mode::Priv)?;
-    for (frame, number, code) in [
-        (PRIV_EMPTY.as_slice(), 7, 31),
-        (PRIV_NO_PART.as_slice(), 7, 901),
-        (PRIV_CUT_PART.as_slice(), 7, 901),
-        (PRIV_WIDE_LENGTH.as_slice(), 7, 901),
-        (PRIV_18.as_slice(), 7, 14),
-        (SAFE_17.as_slice(), 7, 40),
-        (PRIV_17.as_slice(), 8, 42),
-        (PRIV_17.as_slice(), 7, 0),
-    ] {
-        assert_same_at(
-            &rt,
-            answer(rt.alloc(), &opener, frame, number, MICROS),
-            code,
-            code,
-        );
-    }
+    assert_answers(
+        &rt,
+        &opener,
+        &[
+            (&PRIV_EMPTY, 7, MICROS, 31),
+            (&PRIV_NO_PART, 7, MICROS, 901),
+            (&PRIV_CUT_PART, 7, MICROS, 901),
+            (&PRIV_WIDE_LENGTH, 7, MICROS, 901),
+            (&PRIV_18, 7, MICROS, 14),
+            (&SAFE_17, 7, MICROS, 40),
+            (&PRIV_17, 8, MICROS, 42),
+            (&PRIV_17, 7, MICROS, 0),
+        ],
+    );
     Ok(())
 }
 
 #[test]
 fn changed_bytes_of_priv_are_refused(rt: HostRuntime) -> Result<(), Fail> {
     let opener = opener(rt.alloc(), Mode::Priv)?;
-    for (frame, at, byte, code) in [
-        (PRIV_EMPTY.as_slice(), 22, 0x12, 14),
-        (PRIV_EMPTY.as_slice(), 8, 0x04, 39),
-        (PRIV_EMPTY.as_slice(), 13, 0x14, 40),
-        (PRIV_17.as_slice(), 111, 0xc2, 31),
-    ] {
-        let answer = answer_to_changed(rt.alloc(), &opener, frame, at, byte);
-        assert_same_at(&rt, answer, Ok(code), code);
-    }
+    assert_answers_to_changed(
+        &rt,
+        &opener,
+        &[
+            (&PRIV_EMPTY, 22, 0x12, 14),
+            (&PRIV_EMPTY, 8, 0x04, 39),
+            (&PRIV_EMPTY, 13, 0x14, 40),
+            (&PRIV_17, 111, 0xc2, 31),
+        ],
+    );
     Ok(())
 }
 
 #[test]
 fn version_comes_first_in_safe_too(rt: HostRuntime) -> Result<(), Fail> {
     let opener = opener(rt.alloc(), Mode::Safe)?;
-    for (frame, at, byte, code) in [
-        (PRIV_EMPTY.as_slice(), 8, 0x04, 39),
-        (SAFE_17.as_slice(), 13, 0x15, 40),
-    ] {
-        let answer = answer_to_changed(rt.alloc(), &opener, frame, at, byte);
-        assert_same_at(&rt, answer, Ok(code), code);
-    }
+    assert_answers_to_changed(
+        &rt,
+        &opener,
+        &[(&PRIV_EMPTY, 8, 0x04, 39), (&SAFE_17, 13, 0x15, 40)],
+    );
     Ok(())
 }
 
