@@ -3,7 +3,6 @@
 use std::alloc::Global;
 use std::fmt::{Debug, Display};
 use std::process::Abort;
-use std::test::Fail;
 
 /// Asserts that two values are the same, and prints both where they aren't.
 pub fn assert_same<T: PartialEq + Debug + Drop>(rt: &impl Abort, left: T, right: T) {
@@ -25,8 +24,7 @@ pub fn assert_displayed<T: Display + Drop>(
     rt: &(impl Abort + Alloc<A = Global>),
     value: T,
     words: &str,
-) -> Result<(), Fail> {
-    let text = format!(in rt.alloc(); "{value}")?;
+) {
+    let text = format!(in rt.alloc(); "{value}").expect(rt, "memory");
     assert_same(rt, text.as_str(), words);
-    Ok(())
 }

@@ -6,7 +6,6 @@ use krb_der::{
 };
 use std::alloc::Global;
 use std::process::Abort;
-use std::test::Fail;
 
 /// Encryption type 17 with no cipher.
 fn without_cipher(alloc: Global) -> PrivMsg {
@@ -43,8 +42,8 @@ fn size_with_rest(alloc: Global, draft: Draft) -> Result<usize, DerError> {
 }
 
 #[test]
-fn part_is_drafted_where_its_cipher_is_to_be(rt: HostRuntime) -> Result<(), Fail> {
-    let draft = draft_of_safe(&rt)?;
+fn part_is_drafted_where_its_cipher_is_to_be(rt: HostRuntime) {
+    let draft = draft_of_safe(&rt).expect(&rt, "a draft");
     let text = draft.bytes.get(draft.start..).unwrap_or(&[]);
     assert!(rt; text.starts_with(&[7; 16]) && text.ends_with(&PART));
     assert_same(
@@ -53,7 +52,6 @@ fn part_is_drafted_where_its_cipher_is_to_be(rt: HostRuntime) -> Result<(), Fail
         12,
     );
     assert_same(&rt, size_with_rest(rt.alloc(), draft), Ok(85));
-    Ok(())
 }
 
 fn around_data_of_safe(rt: &(impl Abort + Alloc<A = Global>)) -> Result<Covered, DerError> {
@@ -63,12 +61,11 @@ fn around_data_of_safe(rt: &(impl Abort + Alloc<A = Global>)) -> Result<Covered,
 }
 
 #[test]
-fn bytes_under_a_checksum_stand_around_the_data(rt: HostRuntime) -> Result<(), Fail> {
-    let around = around_data_of_safe(&rt)?;
+fn bytes_under_a_checksum_stand_around_the_data(rt: HostRuntime) {
+    let around = around_data_of_safe(&rt).expect(&rt, "the bytes around the data");
     // The data are the three bytes from place 22 on.
     assert_same(&rt, around.before.as_slice(), &SAFE[..22]);
     assert_same(&rt, around.behind.as_slice(), &SAFE[25..]);
-    Ok(())
 }
 
 /// `SAFE` with a checksum of this type and these bytes.
@@ -90,8 +87,8 @@ fn checksum_of(alloc: Global, bytes: &[u8], checksum: &[u8]) -> Result<(i32, boo
 }
 
 #[test]
-fn message_has_the_checksum_that_it_is_given(rt: HostRuntime) -> Result<(), Fail> {
-    let bytes = with_checksum(&rt, 15, &[0xa5; 12])?;
+fn message_has_the_checksum_that_it_is_given(rt: HostRuntime) {
+    let bytes = with_checksum(&rt, 15, &[0xa5; 12]).expect(&rt, "a message");
     assert_same(&rt, bytes.len(), 96);
     assert_same(
         &rt,
@@ -99,7 +96,6 @@ fn message_has_the_checksum_that_it_is_given(rt: HostRuntime) -> Result<(), Fail
         Ok((15, true)),
     );
     assert!(rt; is_written(with_checksum(&rt, 0, &[]), &SAFE));
-    Ok(())
 }
 
 /// `SAFE` written from its text, its time, its number and the address that is lent.
@@ -116,9 +112,8 @@ fn written_from_lent(
 }
 
 #[test]
-fn message_is_written_from_what_is_lent(rt: HostRuntime) -> Result<(), Fail> {
-    let at = Moment::from_micros(1_700_000_000_000_005).ok_or("no moment")?;
-    let m = decode_safe(rt.alloc(), &SAFE)?;
+fn message_is_written_from_what_is_lent(rt: HostRuntime) {
+    let at = Moment::from_micros(1_700_000_000_000_005).expect(&rt, "a moment");
+    let m = decode_safe(rt.alloc(), &SAFE).expect(&rt, "a message");
     assert!(rt; is_written(written_from_lent(&rt, &m, at), &SAFE));
-    Ok(())
 }

@@ -1,11 +1,10 @@
 use crate::asserts::{assert_displayed, assert_same};
 use krb_base::Bytes;
 use krb_peers::{Emit, EmitError, emit};
-use std::alloc::Global;
-use std::test::Fail;
+use std::alloc::{AllocError, Global};
 
 /// The frames `ab` and `c`.
-fn two_frames(alloc: Global) -> Result<Vec<Vec<u8>>, Fail> {
+fn two_frames(alloc: Global) -> Result<Vec<Vec<u8>>, AllocError> {
     let mut frames = Vec::new(alloc);
     frames.push(Vec::from_slice(alloc, b"ab")?)?;
     frames.push(Vec::from_slice(alloc, b"c")?)?;
@@ -32,8 +31,8 @@ fn emits(
 }
 
 #[test]
-fn frames_repeated_dropped_and_reordered(rt: HostRuntime) -> Result<(), Fail> {
-    let frames = two_frames(rt.alloc())?;
+fn frames_repeated_dropped_and_reordered(rt: HostRuntime) {
+    let frames = two_frames(rt.alloc()).expect(&rt, "memory");
     let plan = [Emit::Frame(1), Emit::Frame(0), Emit::Frame(0)];
     assert_same(
         &rt,
@@ -46,13 +45,12 @@ fn frames_repeated_dropped_and_reordered(rt: HostRuntime) -> Result<(), Fail> {
         Ok(true),
     );
     assert_same(&rt, emits(rt.alloc(), &frames, &[], &[]), Ok(true));
-    Ok(())
 }
 
 #[test]
-fn frame_flipped_and_raw(rt: HostRuntime) -> Result<(), Fail> {
-    let frames = two_frames(rt.alloc())?;
-    let raw = Bytes::new(Vec::from_slice(rt.alloc(), b"raw")?);
+fn frame_flipped_and_raw(rt: HostRuntime) {
+    let frames = two_frames(rt.alloc()).expect(&rt, "memory");
+    let raw = Bytes::new(Vec::from_slice(rt.alloc(), b"raw").expect(&rt, "memory"));
     // b is 62, d is 64 and B is 42, all hexadecimal.
     let plan = [
         Emit::Flip {
@@ -73,12 +71,11 @@ fn frame_flipped_and_raw(rt: HostRuntime) -> Result<(), Fail> {
         Ok(true),
     );
     assert!(rt; is_wire(frames.as_slice(), &[b"ab", b"c"]));
-    Ok(())
 }
 
 #[test]
-fn bad_plans(rt: HostRuntime) -> Result<(), Fail> {
-    let frames = two_frames(rt.alloc())?;
+fn bad_plans(rt: HostRuntime) {
+    let frames = two_frames(rt.alloc()).expect(&rt, "memory");
     let flip = |k: usize, at: usize, mask: u8| Emit::Flip { k, at, mask };
     let bad = [
         Emit::Frame(2),
@@ -92,11 +89,10 @@ fn bad_plans(rt: HostRuntime) -> Result<(), Fail> {
         let answer = emit(rt.alloc(), frames.as_slice(), &plan);
         assert!(rt; matches!(answer, Err(EmitError::BadPlan)));
     }
-    Ok(())
 }
 
 #[test]
-fn errors_have_numbers_and_words(rt: HostRuntime) -> Result<(), Fail> {
+fn errors_have_numbers_and_words(rt: HostRuntime) {
     let bad = "the plan names what the frames don't have";
     let table = [
         (EmitError::BadPlan, 1, bad),
@@ -104,7 +100,6 @@ fn errors_have_numbers_and_words(rt: HostRuntime) -> Result<(), Fail> {
     ];
     for (error, code, words) in table {
         assert_same(&rt, error.code(), code);
-        assert_displayed(&rt, error, words)?;
+        assert_displayed(&rt, error, words);
     }
-    Ok(())
 }

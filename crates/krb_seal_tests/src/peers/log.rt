@@ -5,10 +5,9 @@ use crate::asserts::assert_same;
 use krb_base::Bytes;
 use krb_peers::{Entry, Event, Log, Status, Texts};
 use krb_seal::Refusal;
-use std::alloc::Global;
-use std::test::Fail;
+use std::alloc::{AllocError, Global};
 
-fn texts(alloc: Global, parts: &[&[u8]]) -> Result<Texts, Fail> {
+fn texts(alloc: Global, parts: &[&[u8]]) -> Result<Texts, AllocError> {
     let mut texts = Vec::new(alloc);
     for bytes in parts {
         texts.push(Bytes::new(Vec::from_slice(alloc, bytes)?))?;
@@ -16,7 +15,7 @@ fn texts(alloc: Global, parts: &[&[u8]]) -> Result<Texts, Fail> {
     Ok(Texts::new(texts))
 }
 
-fn push_text(alloc: Global, log: &mut Log, lane: u32, bytes: &[u8]) -> Result<(), Fail>
+fn push_text(alloc: Global, log: &mut Log, lane: u32, bytes: &[u8]) -> Result<(), AllocError>
     requires lane { lane < log.old.lanes }
     requires open { is_closed lane log.old.entries ≡ false }
     ensures { OnOk result (log.new ≡ appended log.old lane (Event.Text bytes.now)) }
@@ -66,7 +65,7 @@ fn new_log_is_live(rt: HostRuntime) {
 }
 
 /// Two texts of lane 0 with a refusal between them, and one of lane 1.
-fn of_two_lanes(alloc: Global) -> Result<Log, Fail>
+fn of_two_lanes(alloc: Global) -> Result<Log, AllocError>
     ensures { IfOk result (λ log. log.lanes ≡ 2) }
 {
     let mut log = Log::new(alloc, 2);
@@ -78,8 +77,8 @@ fn of_two_lanes(alloc: Global) -> Result<Log, Fail>
 }
 
 #[test]
-fn texts_of_two_lanes(rt: HostRuntime) -> Result<(), Fail> {
-    let log = of_two_lanes(rt.alloc())?;
+fn texts_of_two_lanes(rt: HostRuntime) {
+    let log = of_two_lanes(rt.alloc()).expect(&rt, "memory");
     let expected = [
         (0, Some(b"a".as_slice())),
         (1, Some(b"")),
@@ -89,11 +88,10 @@ fn texts_of_two_lanes(rt: HostRuntime) -> Result<(), Fail> {
     assert!(rt; are_entries(log.entries(), &expected));
     assert!(rt; are_texts(&log, 0, &[b"a", b"bc"]));
     assert!(rt; are_texts(&log, 1, &[b""]));
-    Ok(())
 }
 
 /// A refusal and a batch of lane 0, and a text of lane 1 between them.
-fn of_a_batch(alloc: Global) -> Result<Log, Fail>
+fn of_a_batch(alloc: Global) -> Result<Log, AllocError>
     ensures { IfOk result (λ log. log.lanes ≡ 2) }
 {
     let mut log = Log::new(alloc, 2);
@@ -104,8 +102,8 @@ fn of_a_batch(alloc: Global) -> Result<Log, Fail>
 }
 
 #[test]
-fn batch_is_a_text_for_each(rt: HostRuntime) -> Result<(), Fail> {
-    let log = of_a_batch(rt.alloc())?;
+fn batch_is_a_text_for_each(rt: HostRuntime) {
+    let log = of_a_batch(rt.alloc()).expect(&rt, "memory");
     let x = (1, Some(b"x".as_slice()));
     let expected = [
         (0, None),
@@ -118,19 +116,18 @@ fn batch_is_a_text_for_each(rt: HostRuntime) -> Result<(), Fail> {
     assert!(rt; are_texts(&log, 0, &[b"a", b"", b"cd"]));
     assert!(rt; are_texts(&log, 1, &[b"x"]));
     assert_same(&rt, log.status(0), Status::Live);
-    Ok(())
 }
 
 #[test]
-fn close_precedes_end(rt: HostRuntime) -> Result<(), Fail> {
+fn close_precedes_end(rt: HostRuntime) {
     let mut log = Log::new(rt.alloc(), 3);
-    log.push(1, Event::Closed)?;
-    log.push(1, Event::Refused(Refusal::AfterClose))?;
+    log.push(1, Event::Closed).expect(&rt, "memory");
+    log.push(1, Event::Refused(Refusal::AfterClose))
+        .expect(&rt, "memory");
     log.end(1);
     log.end(2);
     assert_same(&rt, log.status(0), Status::Live);
     assert_same(&rt, log.status(1), Status::Closed);
     assert_same(&rt, log.status(2), Status::Truncated);
     assert_same(&rt, (log.entries().len(), log.texts(1)), (2, 0));
-    Ok(())
 }

@@ -2,7 +2,6 @@ use crate::asserts::{assert_displayed, assert_same};
 use krb_base::Bytes;
 use krb_peers::{Order, OrderRefusal, Record};
 use std::alloc::Global;
-use std::test::Fail;
 
 fn text(alloc: Global) -> Record {
     Record::Text(Bytes::new(Vec::new(alloc)))
@@ -47,7 +46,7 @@ fn last_number(rt: HostRuntime) {
 }
 
 #[test]
-fn refusals_have_numbers_and_words(rt: HostRuntime) -> Result<(), Fail> {
+fn refusals_have_numbers_and_words(rt: HostRuntime) {
     let table = [
         (OrderRefusal::AfterClose, 903, "a close was accepted before"),
         (
@@ -58,7 +57,6 @@ fn refusals_have_numbers_and_words(rt: HostRuntime) -> Result<(), Fail> {
     ];
     for (refusal, code, words) in table {
         assert_same(&rt, refusal.code(), code);
-        assert_displayed(&rt, refusal, words)?;
+        assert_displayed(&rt, refusal, words);
     }
-    Ok(())
 }

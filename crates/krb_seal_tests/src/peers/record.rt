@@ -2,7 +2,6 @@ use crate::asserts::{assert_displayed, assert_same};
 use krb_base::USER_DATA_LIMIT;
 use krb_peers::{Record, RecordError, read_record, record_bytes};
 use std::alloc::Global;
-use std::test::Fail;
 
 fn is_text(record: &Record, text: &[u8]) -> bool {
     match record {
@@ -102,8 +101,8 @@ fn no_batch(rt: HostRuntime) {
 }
 
 #[test]
-fn longest_text(rt: HostRuntime) -> Result<(), Fail> {
-    let mut bytes = vec![in rt.alloc(); 0x61; 1_000_001]?;
+fn longest_text(rt: HostRuntime) {
+    let mut bytes = vec![in rt.alloc(); 0x61; 1_000_001].expect(&rt, "memory");
     assert_same(&rt, bytes.len(), USER_DATA_LIMIT);
     bytes[0] = 0x44;
     assert_same(
@@ -111,20 +110,18 @@ fn longest_text(rt: HostRuntime) -> Result<(), Fail> {
         are_of_text(rt.alloc(), bytes.as_slice(), &bytes[1..]),
         Ok(true),
     );
-    bytes.push(0x61)?;
+    bytes.push(0x61).expect(&rt, "memory");
     assert!(rt; are_of_none(rt.alloc(), bytes.as_slice()));
-    Ok(())
 }
 
 #[test]
-fn errors_have_numbers_and_words(rt: HostRuntime) -> Result<(), Fail> {
+fn errors_have_numbers_and_words(rt: HostRuntime) {
     let table = [
         (RecordError::BadRecord, 1, "the bytes are no record"),
         (RecordError::Memory, 2, "out of memory"),
     ];
     for (error, code, words) in table {
         assert_same(&rt, error.code(), code);
-        assert_displayed(&rt, error, words)?;
+        assert_displayed(&rt, error, words);
     }
-    Ok(())
 }

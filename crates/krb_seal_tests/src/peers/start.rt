@@ -1,9 +1,8 @@
 use crate::asserts::{assert_displayed, assert_same};
 use krb_peers::StartError;
-use std::test::Fail;
 
 #[test]
-fn errors_have_numbers_and_words(rt: HostRuntime) -> Result<(), Fail> {
+fn errors_have_numbers_and_words(rt: HostRuntime) {
     let bad_plan = "the plan of lane 3 names what its frames don't have";
     let table = [
         (StartError::Memory, 1, "out of memory"),
@@ -16,7 +15,6 @@ fn errors_have_numbers_and_words(rt: HostRuntime) -> Result<(), Fail> {
     ];
     for (error, code, words) in table {
         assert_same(&rt, error.code(), code);
-        assert_displayed(&rt, error, words)?;
+        assert_displayed(&rt, error, words);
     }
-    Ok(())
 }

@@ -3,7 +3,6 @@ use super::{MICROS, answer, opener};
 use crate::asserts::{assert_same, assert_same_at};
 use krb_seal::{Mode, Opener};
 use std::alloc::{AllocError, Global};
-use std::test::Fail;
 
 /// How often each code of a table answers the frames with one bit flipped.
 fn flips<const N: usize>(
@@ -39,45 +38,41 @@ fn count<const N: usize>(counts: &mut [u32; N], codes: [u32; N], code: u32) {
 }
 
 #[test]
-fn each_bit_of_safe_is_under_a_check(rt: HostRuntime) -> Result<(), Fail> {
-    let opener = opener(rt.alloc(), Mode::Safe)?;
+fn each_bit_of_safe_is_under_a_check(rt: HostRuntime) {
+    let opener = opener(rt.alloc(), Mode::Safe).expect(&rt, "memory");
     let codes = [901, 39, 40, 50, 38, 37, 42, 41];
-    let counts = flips(rt.alloc(), &opener, &SAFE_17, codes)?;
+    let counts = flips(rt.alloc(), &opener, &SAFE_17, codes).expect(&rt, "memory");
     assert_same(&rt, counts, [537, 8, 8, 8, 40, 24, 7, 136]);
     assert_same(&rt, answer(rt.alloc(), &opener, &SAFE_17, 7, MICROS), 0);
-    Ok(())
 }
 
 #[test]
-fn each_bit_of_priv_is_under_a_check(rt: HostRuntime) -> Result<(), Fail> {
-    let opener = opener(rt.alloc(), Mode::Priv)?;
-    let counts = flips(rt.alloc(), &opener, &PRIV_17, [901, 39, 40, 14, 31])?;
+fn each_bit_of_priv_is_under_a_check(rt: HostRuntime) {
+    let opener = opener(rt.alloc(), Mode::Priv).expect(&rt, "memory");
+    let counts = flips(rt.alloc(), &opener, &PRIV_17, [901, 39, 40, 14, 31]).expect(&rt, "memory");
     assert_same(&rt, counts, [192, 8, 8, 8, 680]);
     assert_same(&rt, answer(rt.alloc(), &opener, &PRIV_17, 7, MICROS), 0);
-    Ok(())
 }
 
 #[test]
-fn no_prefix_is_a_frame(rt: HostRuntime) -> Result<(), Fail> {
+fn no_prefix_is_a_frame(rt: HostRuntime) {
     for (mode, frame) in [(Mode::Safe, SAFE_17.as_slice()), (Mode::Priv, &PRIV_17)] {
-        let opener = opener(rt.alloc(), mode)?;
+        let opener = opener(rt.alloc(), mode).expect(&rt, "memory");
         for size in 0..frame.len() {
             let code = answer(rt.alloc(), &opener, &frame[..size], 7, MICROS);
             assert_same_at(&rt, code, 901, size);
         }
     }
-    Ok(())
 }
 
 #[test]
-fn too_long_comes_before_malformed(rt: HostRuntime) -> Result<(), Fail> {
-    let opener = opener(rt.alloc(), Mode::Safe)?;
-    let zeros = vec![in rt.alloc(); 0u8; 1_005_001]?;
+fn too_long_comes_before_malformed(rt: HostRuntime) {
+    let opener = opener(rt.alloc(), Mode::Safe).expect(&rt, "memory");
+    let zeros = vec![in rt.alloc(); 0u8; 1_005_001].expect(&rt, "memory");
     assert_same(&rt, answer(rt.alloc(), &opener, &zeros, 7, MICROS), 61);
     assert_same(
         &rt,
         answer(rt.alloc(), &opener, &zeros[1..], 7, MICROS),
         901,
     );
-    Ok(())
 }

@@ -8,7 +8,6 @@ use crate::asserts::{assert_same, assert_same_at};
 use krb_seal::{Mode, Opener};
 use std::alloc::{AllocError, Global};
 use std::process::Abort;
-use std::test::Fail;
 
 /// A frame with one byte changed.
 fn changed(alloc: Global, frame: &[u8], at: usize, byte: u8) -> Result<Vec<u8>, AllocError> {
@@ -56,9 +55,9 @@ fn assert_answers_to_changed(
 }
 
 #[test]
-fn window_of_the_skew_is_closed(rt: HostRuntime) -> Result<(), Fail> {
-    let safe = opener(rt.alloc(), Mode::Safe)?;
-    let private = opener(rt.alloc(), Mode::Priv)?;
+fn window_of_the_skew_is_closed(rt: HostRuntime) {
+    let safe = opener(rt.alloc(), Mode::Safe).expect(&rt, "memory");
+    let private = opener(rt.alloc(), Mode::Priv).expect(&rt, "memory");
     for (now, code) in [
         (1_700_000_300_000_005, 0),
         (1_699_999_700_000_005, 0),
@@ -73,14 +72,13 @@ fn window_of_the_skew_is_closed(rt: HostRuntime) -> Result<(), Fail> {
             now,
         );
     }
-    Ok(())
 }
 
 #[test]
-fn checks_of_safe_come_in_their_order(rt: HostRuntime) -> Result<(), Fail> {
-    let opener = opener(rt.alloc(), Mode::Safe)?;
+fn checks_of_safe_come_in_their_order(rt: HostRuntime) {
+    let opener = opener(rt.alloc(), Mode::Safe).expect(&rt, "memory");
     // The checksum has the right type and no bytes.
-    let typed = changed(rt.alloc(), &SAFE_INPUT, 79, 0x0f)?;
+    let typed = changed(rt.alloc(), &SAFE_INPUT, 79, 0x0f).expect(&rt, "memory");
     let later = 1_700_000_301_000_005;
     assert_answers(
         &rt,
@@ -97,12 +95,11 @@ fn checks_of_safe_come_in_their_order(rt: HostRuntime) -> Result<(), Fail> {
             (&PRIV_EMPTY, 7, MICROS, 40),
         ],
     );
-    Ok(())
 }
 
 #[test]
-fn checks_of_priv_come_in_their_order(rt: HostRuntime) -> Result<(), Fail> {
-    let opener = opener(rt.alloc(), Mode::Priv)?;
+fn checks_of_priv_come_in_their_order(rt: HostRuntime) {
+    let opener = opener(rt.alloc(), Mode::Priv).expect(&rt, "memory");
     assert_answers(
         &rt,
         &opener,
@@ -117,12 +114,11 @@ fn checks_of_priv_come_in_their_order(rt: HostRuntime) -> Result<(), Fail> {
             (&PRIV_17, 7, MICROS, 0),
         ],
     );
-    Ok(())
 }
 
 #[test]
-fn changed_bytes_of_priv_are_refused(rt: HostRuntime) -> Result<(), Fail> {
-    let opener = opener(rt.alloc(), Mode::Priv)?;
+fn changed_bytes_of_priv_are_refused(rt: HostRuntime) {
+    let opener = opener(rt.alloc(), Mode::Priv).expect(&rt, "memory");
     assert_answers_to_changed(
         &rt,
         &opener,
@@ -133,29 +129,29 @@ fn changed_bytes_of_priv_are_refused(rt: HostRuntime) -> Result<(), Fail> {
             (&PRIV_17, 111, 0xc2, 31),
         ],
     );
-    Ok(())
 }
 
 #[test]
-fn version_comes_first_in_safe_too(rt: HostRuntime) -> Result<(), Fail> {
-    let opener = opener(rt.alloc(), Mode::Safe)?;
+fn version_comes_first_in_safe_too(rt: HostRuntime) {
+    let opener = opener(rt.alloc(), Mode::Safe).expect(&rt, "memory");
     assert_answers_to_changed(
         &rt,
         &opener,
         &[(&PRIV_EMPTY, 8, 0x04, 39), (&SAFE_17, 13, 0x15, 40)],
     );
-    Ok(())
 }
 
 #[test]
-fn addresses_are_compared_before_the_rest(rt: HostRuntime) -> Result<(), Fail> {
-    let typed = changed(rt.alloc(), &SAFE_INPUT, 79, 0x0f)?;
+fn addresses_are_compared_before_the_rest(rt: HostRuntime) {
+    let typed = changed(rt.alloc(), &SAFE_INPUT, 79, 0x0f).expect(&rt, "memory");
     let later = 1_700_000_301_000_005;
     let mut key = KEY_128;
-    let another = Opener::new_128(&mut key, expect_of(rt.alloc(), Mode::Safe, 2)?);
+    let another = Opener::new_128(
+        &mut key,
+        expect_of(rt.alloc(), Mode::Safe, 2).expect(&rt, "memory"),
+    );
     assert_same(&rt, key, [0; 16]);
     assert_same(&rt, answer(rt.alloc(), &another, &typed, 8, later), 38);
-    Ok(())
 }
 
 /// An opener that asks for its own address in the message.
@@ -166,28 +162,29 @@ fn strict_opener(alloc: Global) -> Result<Opener, AllocError> {
 }
 
 #[test]
-fn receiver_is_compared(rt: HostRuntime) -> Result<(), Fail> {
-    let strict = strict_opener(rt.alloc())?;
+fn receiver_is_compared(rt: HostRuntime) {
+    let strict = strict_opener(rt.alloc()).expect(&rt, "memory");
     assert_same(&rt, answer(rt.alloc(), &strict, &SAFE_17, 7, MICROS), 38);
     let accepted = answer(rt.alloc(), &strict, &SAFE_TO_RECEIVER, 7, MICROS);
     assert_same(&rt, accepted, 0);
     // The receiver's address in the message isn't this receiver's.
     let elsewhere = answer_to_changed(rt.alloc(), &strict, &SAFE_TO_RECEIVER, 87, 0xfe);
     assert_same(&rt, elsewhere, Ok(38));
-    Ok(())
 }
 
 #[test]
-fn opener_of_the_other_type_reads_its_frames(rt: HostRuntime) -> Result<(), Fail> {
+fn opener_of_the_other_type_reads_its_frames(rt: HostRuntime) {
     let mut key = KEY_256;
-    let safe = Opener::new_256(&mut key, expect_of(rt.alloc(), Mode::Safe, 1)?);
+    let safe = Opener::new_256(
+        &mut key,
+        expect_of(rt.alloc(), Mode::Safe, 1).expect(&rt, "memory"),
+    );
     assert_same(&rt, key, [0; 32]);
-    let private = wide_opener(rt.alloc(), Mode::Priv)?;
+    let private = wide_opener(rt.alloc(), Mode::Priv).expect(&rt, "memory");
     assert_same(&rt, answer(rt.alloc(), &safe, &SAFE_18, 7, MICROS), 0);
     assert_same(&rt, answer(rt.alloc(), &safe, &SAFE_17, 7, MICROS), 50);
     assert_same(&rt, answer(rt.alloc(), &private, &PRIV_18, 7, MICROS), 0);
     assert_same(&rt, answer(rt.alloc(), &private, &PRIV_17, 7, MICROS), 14);
-    Ok(())
 }
 
 /// An opener that expects no time.
@@ -198,9 +195,9 @@ fn timeless_opener(alloc: Global) -> Result<Opener, AllocError> {
 }
 
 #[test]
-fn half_a_time_is_none(rt: HostRuntime) -> Result<(), Fail> {
-    let timed = opener(rt.alloc(), Mode::Safe)?;
-    let timeless = timeless_opener(rt.alloc())?;
+fn half_a_time_is_none(rt: HostRuntime) {
+    let timed = opener(rt.alloc(), Mode::Safe).expect(&rt, "memory");
+    let timeless = timeless_opener(rt.alloc()).expect(&rt, "memory");
     for (frame, with_time, without) in [
         (SAFE_NO_USEC.as_slice(), 37, 37),
         (SAFE_NO_TIME.as_slice(), 37, 37),
@@ -215,19 +212,17 @@ fn half_a_time_is_none(rt: HostRuntime) -> Result<(), Fail> {
             without,
         );
     }
-    Ok(())
 }
 
 #[test]
-fn wiped_opener_is_nobodys(rt: HostRuntime) -> Result<(), Fail> {
+fn wiped_opener_is_nobodys(rt: HostRuntime) {
     for (mode, frame, code) in [
         (Mode::Safe, SAFE_17.as_slice(), 41),
         (Mode::Priv, PRIV_17.as_slice(), 31),
     ] {
-        let mut opener = opener(rt.alloc(), mode)?;
+        let mut opener = opener(rt.alloc(), mode).expect(&rt, "memory");
         assert_same(&rt, answer(rt.alloc(), &opener, frame, 7, MICROS), 0);
         opener.wipe();
         assert_same(&rt, answer(rt.alloc(), &opener, frame, 7, MICROS), code);
     }
-    Ok(())
 }

@@ -2,21 +2,15 @@ use crate::asserts::{assert_displayed, assert_same};
 use krb_seal::{Refusal, SealError};
 use std::alloc::Global;
 use std::process::Abort;
-use std::test::Fail;
 
 /// Asserts that a refusal has this number and this name, and is displayed so.
-fn assert_refusal(
-    rt: &(impl Abort + Alloc<A = Global>),
-    refusal: Refusal,
-    code: u32,
-    name: &str,
-) -> Result<(), Fail> {
+fn assert_refusal(rt: &(impl Abort + Alloc<A = Global>), refusal: Refusal, code: u32, name: &str) {
     assert_same(rt, (refusal.code(), refusal.name()), (code, name));
-    assert_displayed(rt, refusal, name)
+    assert_displayed(rt, refusal, name);
 }
 
 #[test]
-fn refusals_have_numbers_and_names(rt: HostRuntime) -> Result<(), Fail> {
+fn refusals_have_numbers_and_names(rt: HostRuntime) {
     let table = [
         (Refusal::FieldTooLong, 61, "FIELD_TOOLONG"),
         (Refusal::Malformed, 901, "MALFORMED"),
@@ -34,13 +28,12 @@ fn refusals_have_numbers_and_names(rt: HostRuntime) -> Result<(), Fail> {
         (Refusal::Memory, 904, "MEMORY"),
     ];
     for (refusal, code, name) in table {
-        assert_refusal(&rt, refusal, code, name)?;
+        assert_refusal(&rt, refusal, code, name);
     }
-    Ok(())
 }
 
 #[test]
-fn errors_have_numbers_and_words(rt: HostRuntime) -> Result<(), Fail> {
+fn errors_have_numbers_and_words(rt: HostRuntime) {
     let table = [
         (SealError::Wiped, 1, "the sealer was wiped"),
         (
@@ -53,7 +46,6 @@ fn errors_have_numbers_and_words(rt: HostRuntime) -> Result<(), Fail> {
     ];
     for (error, code, words) in table {
         assert_same(&rt, error.code(), code);
-        assert_displayed(&rt, error, words)?;
+        assert_displayed(&rt, error, words);
     }
-    Ok(())
 }

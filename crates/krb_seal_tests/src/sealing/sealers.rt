@@ -3,7 +3,6 @@ use super::{KEY_128, KEY_256, MICROS, answer, opener, sealed, session};
 use crate::asserts::assert_same;
 use krb_seal::{Aes128Sealer, Aes256Sealer, Mode, SealError, Sealer};
 use std::alloc::{AllocError, Global};
-use std::test::Fail;
 
 /// What a new sealer of either encryption type seals first.
 fn first_frame(
@@ -22,7 +21,7 @@ fn first_frame(
 }
 
 #[test]
-fn frames_are_those_of_another_sealer(rt: HostRuntime) -> Result<(), Fail> {
+fn frames_are_those_of_another_sealer(rt: HostRuntime) {
     for (wide, mode, byte, expected) in [
         (false, Mode::Safe, 0, SAFE_17.as_slice()),
         (true, Mode::Safe, 0, &SAFE_18),
@@ -30,34 +29,37 @@ fn frames_are_those_of_another_sealer(rt: HostRuntime) -> Result<(), Fail> {
         (false, Mode::Priv, 1, &PRIV_17_OTHER),
         (true, Mode::Priv, 0, &PRIV_18),
     ] {
-        let frame = first_frame(rt.alloc(), wide, mode, [byte; 16])?;
+        let frame = first_frame(rt.alloc(), wide, mode, [byte; 16]).expect(&rt, "a frame");
         assert_same(&rt, frame.as_slice(), expected);
     }
-    Ok(())
 }
 
 #[test]
-fn both_confounders_open_at_their_number_alone(rt: HostRuntime) -> Result<(), Fail> {
-    let opener = opener(rt.alloc(), Mode::Priv)?;
+fn both_confounders_open_at_their_number_alone(rt: HostRuntime) {
+    let opener = opener(rt.alloc(), Mode::Priv).expect(&rt, "memory");
     for frame in [PRIV_17.as_slice(), &PRIV_17_OTHER] {
         assert_same(&rt, answer(rt.alloc(), &opener, frame, 7, MICROS), 0);
         assert_same(&rt, answer(rt.alloc(), &opener, frame, 8, MICROS), 42);
     }
-    Ok(())
 }
 
 #[test]
-fn constructors_take_the_key(rt: HostRuntime) -> Result<(), Fail> {
+fn constructors_take_the_key(rt: HostRuntime) {
     let mut narrow = KEY_128;
     let mut wide = KEY_256;
     let sealers = (
-        Aes128Sealer::new(&mut narrow, session(rt.alloc(), Mode::Safe, 7)?),
-        Aes256Sealer::new(&mut wide, session(rt.alloc(), Mode::Priv, 9)?),
+        Aes128Sealer::new(
+            &mut narrow,
+            session(rt.alloc(), Mode::Safe, 7).expect(&rt, "memory"),
+        ),
+        Aes256Sealer::new(
+            &mut wide,
+            session(rt.alloc(), Mode::Priv, 9).expect(&rt, "memory"),
+        ),
     );
     assert_same(&rt, (narrow, wide), ([0; 16], [0; 32]));
     assert_same(&rt, (sealers.0.etype(), sealers.0.next()), (17, 7));
     assert_same(&rt, (sealers.1.etype(), sealers.1.next()), (18, 9));
-    Ok(())
 }
 
 /// The error of sealing so many bytes, and the next number then.
@@ -70,10 +72,10 @@ fn answered(alloc: Global, sealer: &mut impl Sealer, bytes: usize) -> (Option<Se
 }
 
 #[test]
-fn errors_come_in_their_order(rt: HostRuntime) -> Result<(), Fail> {
+fn errors_come_in_their_order(rt: HostRuntime) {
     let mut sealer = Aes128Sealer::new(
         &mut { KEY_128 },
-        session(rt.alloc(), Mode::Priv, 4_294_967_295)?,
+        session(rt.alloc(), Mode::Priv, 4_294_967_295).expect(&rt, "memory"),
     );
     let too_long = (Some(SealError::TooLong), 4_294_967_295);
     assert_same(&rt, answered(rt.alloc(), &mut sealer, 1_000_002), too_long);
@@ -89,7 +91,6 @@ fn errors_come_in_their_order(rt: HostRuntime) -> Result<(), Fail> {
     sealer.wipe();
     let wiped = (Some(SealError::Wiped), 4_294_967_296);
     assert_same(&rt, answered(rt.alloc(), &mut sealer, 1_000_002), wiped);
-    Ok(())
 }
 
 /// A sealer of the last number behind a pointer.
@@ -99,13 +100,12 @@ fn boxed_sealer(alloc: Global) -> Result<Box<dyn Sealer + Send>, AllocError> {
 }
 
 #[test]
-fn boxed_sealer_seals_the_last_number(rt: HostRuntime) -> Result<(), Fail> {
-    let mut sealer = boxed_sealer(rt.alloc())?;
-    let frame = sealed(rt.alloc(), &mut sealer, b"C", [0; 16])?;
+fn boxed_sealer_seals_the_last_number(rt: HostRuntime) {
+    let mut sealer = boxed_sealer(rt.alloc()).expect(&rt, "memory");
+    let frame = sealed(rt.alloc(), &mut sealer, b"C", [0; 16]).expect(&rt, "a frame");
     assert_same(&rt, frame.as_slice(), SAFE_LAST.as_slice());
     assert_same(&rt, (sealer.etype(), sealer.next()), (17, 4_294_967_296));
     sealer.wipe();
     let again = sealed(rt.alloc(), &mut sealer, b"C", [0; 16]);
     assert_same(&rt, again.err(), Some(SealError::Wiped));
-    Ok(())
 }
