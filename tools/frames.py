@@ -1,8 +1,9 @@
 #!/usr/bin/env python3
 """An independent sealer of KRB-SAFE and KRB-PRIV messages, in plain Python over the package
-`cryptography` and the standard library. It prints the frames that the tests of krb_seal, krb_core,
-krb_commands, krbrelay and krb_c and the program example_seal expect, or of a session key the
-strings for tools/residue: the key, its digits as a job file has them, and the derived keys.
+`cryptography` and the standard library. It prints the frames that the tests of krb_seal, krb_core
+(in krb_relay_tests), krb_commands, krbrelay and krb_c and the program example_seal expect, or of a
+session key the strings for tools/residue: the key, its digits as a job file has them, and the
+derived keys.
 
     tools/frames.py [--keys KEYHEX]
 
@@ -191,7 +192,7 @@ def print_frames():
         return body(b"Dhi", MICROS, 7, SENDER, left_out=tags)
 
     # The first 48 bytes that ChaCha20 gives for a key of zeros (RFC 8439 appendix A.1): what
-    # krb_core's tests draw for the first three records.
+    # krb_relay_tests draws for the first three records.
     drawn = bytes.fromhex("76b8e0ada0f13d90405d6ae55386bd28bdd219b8a08ded1aa836efcc8b770dc7"
                           "da41597c5157488d7724e03fb8d84a37")
     second = body(b"C", MICROS, 8, SENDER)

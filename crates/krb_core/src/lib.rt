@@ -5,7 +5,7 @@
 //! headline of each lane, by what the log has of it. Senders, receivers, plans and the log are
 //! those of [`krb_peers`], and have their paths here too.
 //!
-//! ```rust crates/krb_core/src/tests/steps.rt
+//! ```rust crates/krb_relay_tests/src/stepped/steps.rt
 //! relay.run(&[SEND, SEND, TAKE, TAKE, SEND, TAKE, SEND, TAKE])?;
 //! assert!(rt; is_whole(relay.log()) && relay.done());
 //! let sent = relay.sent(0);
@@ -28,6 +28,3 @@ pub use krb_peers::{
 pub use relayed::stepped_laws;
 pub use stepped::Stepped;
 pub use turn::{Did, Turn};
-
-#[cfg(test)]
-mod tests;

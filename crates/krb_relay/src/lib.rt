@@ -29,6 +29,3 @@ pub use cause::Cause;
 pub use fault::Fault;
 pub use gate::{Gate, NoGate};
 pub use running::{Report, relay};
-
-#[cfg(test)]
-mod tests;

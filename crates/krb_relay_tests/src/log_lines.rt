@@ -1,0 +1,19 @@
+//! Logs as the worked examples print them.
+
+use krb_peers::{Event, Log};
+
+/// Whether an event is the text of this word, a close, or the refusal of this name.
+pub(crate) fn is_event(event: &Event, word: &str) -> bool {
+    match event {
+        Event::Text(text) => text.as_slice() == word.as_bytes(),
+        Event::Closed => word == "closed",
+        Event::Refused(refusal) => refusal.name() == word,
+    }
+}
+
+/// Whether a log has these entries: the lane, and the text, `closed` or the refusal's name.
+pub(crate) fn is_log(log: &Log, expected: &[(u32, &str)]) -> bool {
+    log.entries().len() == expected.len()
+        && log.entries().iter().zip(expected).all(|(entry, (lane, word))| entry.lane == *lane
+            && is_event(&entry.event, word))
+}

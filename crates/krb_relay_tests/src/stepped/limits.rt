@@ -1,0 +1,80 @@
+//! Relays at their upper limits: eight lanes of 64 places, and a plan of 2,000 emissions for each.
+
+use super::sealer;
+use super::steps::{begin, receiving};
+use crate::asserts::assert_same;
+use crate::peers::sending;
+use crate::session::MICROS;
+use krb_core::{Emit, Receiving, Sending, StartError, Status, Stepped};
+use krb_seal::{Aes128Sealer, Mode, Sealer};
+use std::alloc::Global;
+use std::process::Abort;
+use std::test::Fail;
+
+/// The text's frame 1,999 times, and then the close.
+fn plan(alloc: Global) -> Result<Vec<Emit>, Fail> {
+    let mut plan = Vec::with_capacity(alloc, 2_000)?;
+    for _ in 0..1_999 {
+        plan.push(Emit::Frame(0))?;
+    }
+    plan.push(Emit::Frame(1))?;
+    Ok(plan)
+}
+
+/// Eight senders of one text each, with this plan. The sealer of the lane `wiped` was wiped.
+fn senders(alloc: Global, wiped: Option<u32>) -> Result<Vec<Sending<Aes128Sealer>>, Fail> {
+    let mut sendings = Vec::new(alloc);
+    for lane in 0..8 {
+        let mut sealer = sealer(alloc, Mode::Safe, 7)?;
+        if wiped == Some(lane) {
+            sealer.wipe();
+        }
+        let mut sending = sending(alloc, sealer, &[b"hi"], &[MICROS])?;
+        sending.plan = Some(plan(alloc)?);
+        sendings.push(sending)?;
+    }
+    Ok(sendings)
+}
+
+/// Their receivers.
+fn receivings(alloc: Global) -> Result<Vec<Receiving>, Fail> {
+    let mut receivings = Vec::new(alloc);
+    for _ in 0..8 {
+        receivings.push(receiving(alloc, Mode::Safe)?)?;
+    }
+    Ok(receivings)
+}
+
+/// A relay of them.
+fn eight_lanes(
+    rt: &impl Abort,
+    alloc: Global,
+    wiped: Option<u32>,
+) -> Result<Result<Stepped, StartError>, Fail> {
+    let sendings = senders(alloc, wiped)?;
+    Ok(begin(rt, alloc, sendings, receivings(alloc)?, 64))
+}
+
+#[test]
+fn eight_lanes_of_2_000_emissions(rt: HostRuntime) -> Result<(), Fail> {
+    let mut relay = eight_lanes(&rt, rt.alloc(), None)??;
+    relay.finish()?;
+    let log = relay.log();
+    assert!(rt; relay.done() && log.lanes() == 8);
+    assert_same(&rt, log.entries().len(), 16_000);
+    for lane in 0..8 {
+        assert_same(&rt, log.status(lane), Status::Closed);
+        assert_same(&rt, log.texts(lane), 1);
+    }
+    Ok(())
+}
+
+/// No want of memory is told where there is memory.
+#[test]
+fn wiped_sealer_of_eight_is_named(rt: HostRuntime) -> Result<(), Fail> {
+    for lane in [0, 7] {
+        let relay = eight_lanes(&rt, rt.alloc(), Some(lane))?;
+        assert!(rt; relay.err() == Some(StartError::Wiped { lane }));
+    }
+    Ok(())
+}

@@ -1,0 +1,106 @@
+//! Relays that are stepped to their end, turn by turn.
+
+ghost use Rattle.std.specs.Prelude.{◌≡◌, length, IfOk};
+
+use super::{receiver, sealer};
+use crate::asserts::{assert_receivers, assert_same, assert_senders};
+use crate::peers::{self, sending};
+use crate::session::MICROS;
+use krb_core::{Did, Event, Log, Receiving, Sending, StartError, Stepped, Turn};
+use krb_seal::{Mode, Sealer};
+use std::alloc::Global;
+use std::process::Abort;
+use std::test::Fail;
+
+/// A relay of one to eight lanes.
+pub(super) fn begin<S: Sealer>(
+    rt: &impl Abort,
+    alloc: Global,
+    sendings: Vec<Sending<S>>,
+    receivings: Vec<Receiving>,
+    capacity: usize,
+) -> Result<Stepped, StartError>
+    ensures { IfOk result (λ stepped. length stepped.tracks ≡ length sendings.items) }
+{
+    assert!(rt; 1 <= sendings.len() && sendings.len() <= 8);
+    assert!(rt; sendings.len() == receivings.len());
+    assert_senders(rt, sendings.as_slice());
+    assert_receivers(rt, receivings.as_slice());
+    Stepped::new(alloc, sendings, receivings, capacity)
+}
+
+/// A receiver of 10.0.0.1 that demands the number 7, and takes all frames at one moment.
+pub(super) fn receiving(alloc: Global, mode: Mode) -> Result<Receiving, Fail> {
+    peers::receiving(alloc, receiver(alloc, mode, 7)?)
+}
+
+/// A relay of one sender that says `hi`, at capacity 1.
+pub(super) fn relay_of_one(rt: &impl Abort, alloc: Global) -> Result<Stepped, Fail>
+    ensures { IfOk result (λ stepped. length stepped.tracks ≡ 1) }
+{
+    let sending = sending(alloc, sealer(alloc, Mode::Safe, 7)?, &[b"hi"], &[MICROS])?;
+    let sendings = vec![in alloc; sending]?;
+    let receivings = vec![in alloc; receiving(alloc, Mode::Safe)?]?;
+    Ok(begin(rt, alloc, sendings, receivings, 1)?)
+}
+
+const SEND: Turn = Turn::Send(0);
+
+const TAKE: Turn = Turn::Take(0);
+
+/// Whether the log has the text `hi` and then the close.
+pub(super) fn is_whole(log: &Log) -> bool {
+    match log.entries() {
+        [first, second] => {
+            matches!(&first.event, Event::Text(text) if text.as_slice() == b"hi".as_slice())
+                && matches!(&second.event, Event::Closed)
+        }
+        _ => false,
+    }
+}
+
+#[test]
+fn turn_by_turn(rt: HostRuntime) -> Result<(), Fail> {
+    let mut relay = relay_of_one(&rt, rt.alloc())?;
+    let (send, take) = (true, false);
+    for (sends, did, done) in [
+        (send, Did::Moved, false),
+        (send, Did::Waits, false),
+        (take, Did::Moved, false),
+        (take, Did::Waits, false),
+        (send, Did::Moved, false),
+        (take, Did::Moved, false),
+        (send, Did::Moved, false),
+        (take, Did::Moved, true),
+        (send, Did::Waits, true),
+        (take, Did::Waits, true),
+    ] {
+        let turn = if sends { SEND } else { TAKE };
+        assert_same(&rt, relay.step(turn)?, did);
+        assert_same(&rt, relay.done(), done);
+    }
+    assert!(rt; is_whole(relay.log()));
+    let sent = relay.sent(0);
+    assert_same(&rt, (sent.k, sent.n), (1, 1));
+    Ok(())
+}
+
+#[test]
+fn turns_in_a_row(rt: HostRuntime) -> Result<(), Fail> {
+    let mut relay = relay_of_one(&rt, rt.alloc())?;
+    relay.run(&[SEND, SEND, TAKE, TAKE, SEND, TAKE, SEND, TAKE])?;
+    assert!(rt; is_whole(relay.log()) && relay.done());
+    let sent = relay.sent(0);
+    assert_same(&rt, (sent.k, sent.n), (1, 1));
+    Ok(())
+}
+
+#[test]
+fn turns_of_a_part(rt: HostRuntime) -> Result<(), Fail> {
+    let mut relay = relay_of_one(&rt, rt.alloc())?;
+    relay.run(&[SEND, TAKE, SEND, TAKE])?;
+    assert!(rt; is_whole(relay.log()) && !relay.done());
+    relay.run(&[TAKE, SEND, TAKE, TAKE])?;
+    assert!(rt; is_whole(relay.log()) && relay.done());
+    Ok(())
+}

@@ -1,0 +1,155 @@
+//! A receiver's answers and a relay's turns, where each growth in turn may be refused: each answer
+//! is the known one, or want of memory with nothing changed, and then the same call with memory
+//! gives the known one. `tools/sweep` refuses the growths, and counts the lines that tell of a
+//! refusal.
+
+ghost use Rattle.std.specs.Prelude.{◌≡◌, ◌<◌, length};
+ghost use Rattle.krb_core.specs.Stepped.{lane_of};
+
+use super::frames::{PRIV_BATCH, PRIV_CLOSE, PRIV_TEXT, SAFE_BATCH, SAFE_CLOSE, SAFE_TEXT};
+use super::steps::{is_whole, relay_of_one};
+use super::{is_answer, receiver};
+use crate::asserts::assert_same;
+use crate::session::{MICROS, moment};
+use krb_base::Bytes;
+use krb_core::{Did, Log, Receiver, Stepped, Texts, Turn};
+use krb_seal::{Mode, Refusal};
+use std::alloc::{AllocError, Global};
+use std::process::Abort;
+use std::test::Fail;
+
+/// Asserts that a receiver which demands `number` answers a frame so, or wants memory, stands as
+/// before and then answers so. Answers whether it wanted memory.
+fn takes(
+    rt: &impl Abort,
+    alloc: Global,
+    receiver: &mut Receiver,
+    frame: &[u8],
+    number: u64,
+    word: &str,
+) -> Result<bool, Fail> {
+    let now = moment(MICROS)?;
+    let mut answer = receiver.take(alloc, frame, now);
+    let refused = matches!(answer, Err(Refusal::Memory));
+    if refused {
+        assert_same(
+            rt,
+            (receiver.expected(), receiver.closed()),
+            (number, false),
+        );
+        answer = receiver.take(alloc, frame, now);
+    }
+    assert!(rt; is_answer(&answer, word));
+    Ok(refused)
+}
+
+#[test]
+fn frame_is_taken_or_memory_wanted(rt: HostRuntime) -> Result<(), Fail> {
+    for (name, mode, text, close) in [
+        (
+            "KRB-SAFE",
+            Mode::Safe,
+            SAFE_TEXT.as_slice(),
+            SAFE_CLOSE.as_slice(),
+        ),
+        ("KRB-PRIV", Mode::Priv, &PRIV_TEXT, &PRIV_CLOSE),
+    ] {
+        let mut receiver = receiver(rt.alloc(), mode, 7)?;
+        for (frame, number, word) in [
+            (close, 7, "BADORDER"),
+            (text, 7, "hi"),
+            (text, 8, "BADORDER"),
+            (close, 8, "closed"),
+        ] {
+            if takes(&rt, rt.alloc(), &mut receiver, frame, number, word)? {
+                println!(rt; "refused: take of {name}, {word} at {number}")?;
+            }
+        }
+        assert_same(&rt, (receiver.expected(), receiver.closed()), (9, true));
+    }
+    Ok(())
+}
+
+#[test]
+fn batch_is_taken_or_memory_wanted(rt: HostRuntime) -> Result<(), Fail> {
+    for (name, mode, frame) in [
+        ("KRB-SAFE", Mode::Safe, SAFE_BATCH.as_slice()),
+        ("KRB-PRIV", Mode::Priv, &PRIV_BATCH),
+    ] {
+        let mut receiver = receiver(rt.alloc(), mode, 7)?;
+        if takes(&rt, rt.alloc(), &mut receiver, frame, 7, "ab")? {
+            println!(rt; "refused: take of {name}, ab at 7")?;
+        }
+        assert_same(&rt, (receiver.expected(), receiver.closed()), (8, false));
+    }
+    Ok(())
+}
+
+/// The texts `a` and `b`.
+fn two_texts(alloc: Global) -> Result<Texts, AllocError> {
+    let first = Bytes::new(Vec::from_slice(alloc, b"a")?);
+    let second = Bytes::new(Vec::from_slice(alloc, b"b")?);
+    Ok(Texts::new(vec![in alloc; first, second]?))
+}
+
+#[test]
+fn batch_is_logged_or_memory_wanted(rt: HostRuntime) -> Result<(), Fail> {
+    let mut log = Log::new(rt.alloc(), 1);
+    if log.push_batch(0, two_texts(rt.alloc())?).is_err() {
+        assert_same(&rt, (log.entries().len(), log.texts(0)), (0, 0));
+        println!(rt; "refused: push_batch")?;
+        log.push_batch(0, two_texts(rt.alloc())?)?;
+    }
+    assert_same(&rt, (log.entries().len(), log.texts(0)), (2, 2));
+    assert_same(&rt, log.text(0, 0), Some(b"a".as_slice()));
+    assert_same(&rt, log.text(0, 1), Some(b"b".as_slice()));
+    Ok(())
+}
+
+/// What is seen of a relay of one lane: how many entries its log has, and whether it is done.
+fn seen(relay: &Stepped) -> (usize, bool) {
+    (relay.log().entries().len(), relay.done())
+}
+
+/// Asserts that a turn does so and is then seen so, or wants memory, changes nothing and then does
+/// so. Answers whether it wanted memory.
+fn turns(rt: &impl Abort, relay: &mut Stepped, turn: Turn, did: Did, after: (usize, bool)) -> bool
+    requires lane { lane_of turn < length relay.old.tracks }
+    ensures lanes { length relay.new.tracks ≡ length relay.old.tracks }
+{
+    let before = seen(relay);
+    let mut answer = relay.step(turn);
+    let refused = answer.is_err();
+    if refused {
+        assert_same(rt, seen(relay), before);
+        answer = relay.step(turn);
+    }
+    assert!(rt; matches!(answer, Ok(done) if done == did));
+    assert_same(rt, seen(relay), after);
+    refused
+}
+
+#[test]
+fn each_turn_is_done_or_memory_wanted(rt: HostRuntime) -> Result<(), Fail> {
+    let mut relay = relay_of_one(&rt, rt.alloc())?;
+    let (send, take) = (true, false);
+    for (place, sends, did, after) in [
+        (1, send, Did::Moved, (0, false)),
+        (2, send, Did::Waits, (0, false)),
+        (3, take, Did::Moved, (1, false)),
+        (4, take, Did::Waits, (1, false)),
+        (5, send, Did::Moved, (1, false)),
+        (6, take, Did::Moved, (2, false)),
+        (7, send, Did::Moved, (2, false)), // the end
+        (8, take, Did::Moved, (2, true)),
+        (9, send, Did::Waits, (2, true)),
+        (10, take, Did::Waits, (2, true)),
+    ] {
+        let turn = if sends { Turn::Send(0) } else { Turn::Take(0) };
+        if turns(&rt, &mut relay, turn, did, after) {
+            println!(rt; "refused: step, turn {place}")?;
+        }
+    }
+    assert!(rt; is_whole(relay.log()));
+    Ok(())
+}

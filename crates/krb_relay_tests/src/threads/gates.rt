@@ -1,0 +1,134 @@
+//! That workers overlap, and that frames are handed over within the capacity, as gates see it.
+
+use super::lanes::{run, two_lanes};
+use crate::asserts::assert_same;
+use crate::log_lines::is_log;
+use krb_relay::Gate;
+use std::sync::atomic::{AtomicU64, Ordering};
+use std::test::Fail;
+
+/// How often a gate looks for another worker.
+const TURNS: u64 = 1_000_000_000;
+
+/// Whether a number comes to stand there while a gate looks.
+fn comes_to(word: &AtomicU64, least: u64) -> bool {
+    for _ in 0..TURNS {
+        if word.load(Ordering::SeqCst) >= least {
+            return true;
+        }
+    }
+    false
+}
+
+/// The first `enter` of each of two lanes looks for the other's.
+#[derive(Drop)]
+struct Meeting {
+    came: [AtomicU64; 2],
+    met: AtomicU64,
+}
+
+impl Meeting {
+    fn new() -> Meeting {
+        Meeting {
+            came: [AtomicU64::new(0), AtomicU64::new(0)],
+            met: AtomicU64::new(0),
+        }
+    }
+}
+
+impl Gate for Meeting {
+    fn enter(&self, lane: u32) {
+        let [first, second] = &self.came;
+        let (mine, other) = if lane == 0 {
+            (first, second)
+        } else {
+            (second, first)
+        };
+        if mine.fetch_add(1, Ordering::SeqCst) == 0 && comes_to(other, 1) {
+            self.met.fetch_add(1, Ordering::SeqCst);
+        }
+    }
+
+    fn leave(&self, lane: u32) {
+        let _ = lane;
+    }
+}
+
+/// The first `enter` of lane 1 looks for a fourth of lane 0.
+#[derive(Drop)]
+struct Fourth {
+    came: [AtomicU64; 2],
+    seen: AtomicU64,
+}
+
+impl Fourth {
+    fn new() -> Fourth {
+        Fourth {
+            came: [AtomicU64::new(0), AtomicU64::new(0)],
+            seen: AtomicU64::new(0),
+        }
+    }
+}
+
+impl Gate for Fourth {
+    fn enter(&self, lane: u32) {
+        let [first, second] = &self.came;
+        if lane == 0 {
+            first.fetch_add(1, Ordering::SeqCst);
+        } else if second.fetch_add(1, Ordering::SeqCst) == 0 && comes_to(first, 4) {
+            self.seen.fetch_add(1, Ordering::SeqCst);
+        }
+    }
+
+    fn leave(&self, lane: u32) {
+        let _ = lane;
+    }
+}
+
+const TEN: [&[u8]; 10] = [b"a", b"b", b"c", b"d", b"e", b"f", b"g", b"h", b"i", b"j"];
+
+#[test]
+fn workers_overlap(rt: HostRuntime) -> Result<(), Fail> {
+    for capacity in [1, 64] {
+        let gate = Meeting::new();
+        let lanes = two_lanes(rt.alloc(), &[b"a", b"b"])?;
+        let Ok(report) = run(&rt, rt.alloc(), lanes, capacity, &gate) else {
+            return Err(Fail::from("a fault"));
+        };
+        let expected = [(0, "a"), (1, "closed"), (0, "b"), (0, "closed")];
+        assert!(rt; is_log(&report.log, &expected));
+        assert_same(&rt, gate.met.load(Ordering::SeqCst), 2);
+    }
+    Ok(())
+}
+
+/// One thread that seals for one lane after the other never has both at the gate.
+#[test]
+fn one_thread_does_not_overlap(rt: HostRuntime) {
+    let gate = Meeting::new();
+    for lane in [0, 1] {
+        gate.enter(lane);
+        gate.leave(lane);
+    }
+    assert_same(&rt, gate.met.load(Ordering::SeqCst), 1);
+}
+
+#[test]
+fn frames_are_handed_over_within_the_capacity(rt: HostRuntime) -> Result<(), Fail> {
+    let gate = Fourth::new();
+    let lanes = two_lanes(rt.alloc(), &TEN)?;
+    assert!(rt; run(&rt, rt.alloc(), lanes, 1, &gate).is_ok());
+    assert_same(&rt, gate.came[0].load(Ordering::SeqCst), 11);
+    assert_same(&rt, gate.seen.load(Ordering::SeqCst), 0);
+    Ok(())
+}
+
+/// A lane with more room lets the sender go on, as a queue without a bound would.
+#[test]
+fn a_wide_lane_is_seen(rt: HostRuntime) -> Result<(), Fail> {
+    let gate = Fourth::new();
+    let lanes = two_lanes(rt.alloc(), &TEN)?;
+    assert!(rt; run(&rt, rt.alloc(), lanes, 64, &gate).is_ok());
+    assert_same(&rt, gate.seen.load(Ordering::SeqCst), 1);
+    Ok(())
+}

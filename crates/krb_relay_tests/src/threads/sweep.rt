@@ -1,0 +1,58 @@
+//! A relay of two senders, where each growth in turn may be refused: it reports as known, or stops
+//! for want of memory or of a thread, and then its log has of each lane a front of the known
+//! entries. `tools/sweep` refuses the growths, and counts the lines that tell of a refusal.
+
+use super::lanes::{run, two_lanes};
+use crate::asserts::assert_same;
+use crate::log_lines::{is_event, is_log};
+use krb_peers::{Log, Status};
+use krb_relay::{Cause, NoGate, Report};
+use std::process::Abort;
+use std::test::Fail;
+
+/// What becomes of the frames of each lane.
+const FIRST: [&str; 3] = ["a", "b", "closed"];
+
+const SECOND: [&str; 1] = ["closed"];
+
+/// Whether a log has of a lane nothing but the first few of these entries, in order.
+fn has_front(log: &Log, lane: u32, words: &[&str]) -> bool {
+    let mut rest = words;
+    for entry in log.entries() {
+        if entry.lane == lane {
+            match rest {
+                [word, others @ ..] if is_event(&entry.event, word) => rest = others,
+                _ => return false,
+            }
+        }
+    }
+    true
+}
+
+/// Asserts that the relay did all that it was to do.
+fn assert_whole(rt: &impl Abort, report: &Report) {
+    let whole = [(0, "a"), (1, "closed"), (0, "b"), (0, "closed")];
+    assert!(rt; is_log(&report.log, &whole));
+    assert!(rt; report.log.lanes() == 2);
+    assert_same(rt, report.log.status(0), Status::Closed);
+    assert_same(rt, report.log.status(1), Status::Closed);
+    assert!(rt; report.sent.len() == 2);
+    assert_same(rt, (report.sent[0].k, report.sent[0].n), (2, 2));
+    assert_same(rt, (report.sent[1].k, report.sent[1].n), (0, 0));
+}
+
+#[test]
+fn relay_reports_or_stops(rt: HostRuntime) -> Result<(), Fail> {
+    let lanes = two_lanes(rt.alloc(), &[b"a", b"b"])?;
+    match run(&rt, rt.alloc(), lanes, 1, &NoGate) {
+        Ok(report) => assert_whole(&rt, &report),
+        Err(fault) => {
+            assert!(rt; matches!(fault.cause, Cause::Memory | Cause::Spawn));
+            assert!(rt; fault.lane < 2);
+            assert!(rt; has_front(&fault.log, 0, &FIRST));
+            assert!(rt; has_front(&fault.log, 1, &SECOND));
+            println!(rt; "refused: relay, {}", fault.cause)?;
+        }
+    }
+    Ok(())
+}
