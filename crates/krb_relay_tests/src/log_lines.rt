@@ -1,6 +1,7 @@
 //! Logs as the worked examples print them.
 
 use krb_peers::{Event, Log};
+use std::process::Abort;
 
 /// Whether an event is the text of this word, a close, or the refusal of this name.
 pub(crate) fn is_event(event: &Event, word: &str) -> bool {
@@ -16,4 +17,9 @@ pub(crate) fn is_log(log: &Log, expected: &[(u32, &str)]) -> bool {
     log.entries().len() == expected.len()
         && log.entries().iter().zip(expected).all(|(entry, (lane, word))| entry.lane == *lane
             && is_event(&entry.event, word))
+}
+
+/// Asserts that a log has these entries.
+pub(crate) fn assert_log(rt: &impl Abort, log: &Log, expected: &[(u32, &str)]) {
+    assert!(rt; is_log(log, expected));
 }

@@ -10,6 +10,48 @@ use std::alloc::{AllocError, Global};
 use std::sync::Arc;
 use std::sync::atomic::{AtomicU64, Ordering};
 
+/// What is odd of a sealer.
+#[derive(Clone, Copy)]
+pub(crate) struct Odd {
+    /// The call that answers `Memory`, from 1 on (0: none does).
+    pub(crate) fails_at: u64,
+    /// Whether it was wiped before.
+    pub(crate) wiped: bool,
+}
+
+/// Nothing is.
+pub(crate) const PLAIN: Odd = Odd {
+    fails_at: 0,
+    wiped: false,
+};
+
+/// What is wrong with two senders: the call of the first sealer that answers `Memory` (0: none),
+/// and of the second sender whether its sealer was wiped and its plan is bad.
+#[derive(Clone, Copy)]
+pub(crate) struct Wrong {
+    pub(crate) fails_at: u64,
+    pub(crate) wiped: bool,
+    pub(crate) bad_plan: bool,
+}
+
+impl Wrong {
+    /// What is odd of the first sealer.
+    pub(crate) fn first(self) -> Odd {
+        Odd {
+            fails_at: self.fails_at,
+            wiped: false,
+        }
+    }
+
+    /// And of the second one.
+    pub(crate) fn second(self) -> Odd {
+        Odd {
+            fails_at: 0,
+            wiped: self.wiped,
+        }
+    }
+}
+
 /// A sealer of type 17 that answers `Memory` at one of its calls, and counts its drop where it was
 /// wiped before.
 pub(crate) struct OddSealer {
@@ -22,22 +64,25 @@ pub(crate) struct OddSealer {
 }
 
 impl OddSealer {
-    /// A sealer of KRB-SAFE messages from 7 on, at 10.0.0.`host`. The call `fails_at`, from 1 on,
-    /// answers `Memory` (0: none does).
+    /// A sealer of KRB-SAFE messages from 7 on, at 10.0.0.`host`.
     pub(crate) fn new(
         alloc: Global,
         host: u8,
-        fails_at: u64,
+        odd: Odd,
         drops: &Arc<AtomicU64>,
     ) -> Result<OddSealer, AllocError> {
         let session = session(alloc, Mode::Safe, host, 7)?;
-        Ok(OddSealer {
+        let mut sealer = OddSealer {
             inner: Aes128Sealer::new(&mut { KEY }, session),
             wiped: false,
             calls: 0,
-            fails_at,
+            fails_at: odd.fails_at,
             drops: Arc::try_clone(drops)?,
-        })
+        };
+        if odd.wiped {
+            sealer.wipe();
+        }
+        Ok(sealer)
     }
 }
 

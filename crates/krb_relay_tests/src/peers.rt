@@ -1,6 +1,6 @@
 //! The two ends of a lane: a sender of any sealer, and a receiver.
 
-use crate::session::{MICROS, moment};
+use crate::session::moment;
 use krb_base::Bytes;
 use krb_der::Moment;
 use krb_peers::{Receiver, Receiving, Sending};
@@ -43,10 +43,14 @@ pub(crate) fn sending<S: Sealer>(
     })
 }
 
-/// A receiver that takes all frames at `MICROS`.
-pub(crate) fn receiving(alloc: Global, receiver: Receiver) -> Result<Receiving, Fail> {
+/// A receiver that takes its frames at these moments.
+pub(crate) fn receiving(
+    alloc: Global,
+    receiver: Receiver,
+    micros: &[u64],
+) -> Result<Receiving, Fail> {
     Ok(Receiving {
         receiver,
-        nows: moments_of(alloc, &[MICROS])?,
+        nows: moments_of(alloc, micros)?,
     })
 }

@@ -16,6 +16,7 @@ mod undisturbed;
 mod wiped;
 
 use crate::asserts::assert_sender;
+use crate::peers::sending;
 use crate::session::{KEY, MICROS, expect, moment, session};
 use krb_base::Bytes;
 use krb_core::{Delivery, Receiver, Sending};
@@ -44,6 +45,18 @@ fn sealed<S: Sealer>(
 fn receiver(alloc: Global, mode: Mode, first: u32) -> Result<Receiver, AllocError> {
     let expect = expect(alloc, mode, 1)?;
     Ok(Receiver::new(Opener::new_128(&mut { KEY }, expect), first))
+}
+
+/// All frames of a sender of these texts from number 7 on, at these moments.
+fn frames_of(
+    rt: &impl Abort,
+    alloc: Global,
+    mode: Mode,
+    texts: &[&[u8]],
+    micros: &[u64],
+) -> Result<Vec<Vec<u8>>, Fail> {
+    let mut sending = sending(alloc, sealer(alloc, mode, 7)?, texts, micros)?;
+    Ok(sealed(rt, alloc, &mut sending)?)
 }
 
 /// What became of a frame: the text, the letters of a batch's texts, or one word.
@@ -89,4 +102,16 @@ fn answers(
         right &= answers_so(alloc, receiver, frame.as_slice(), word)?;
     }
     Ok(right)
+}
+
+/// Whether a new receiver that demands the number `first` answers so to these frames.
+fn receives(
+    alloc: Global,
+    mode: Mode,
+    first: u32,
+    frames: &[Vec<u8>],
+    expected: &[&str],
+) -> Result<bool, Fail> {
+    let mut receiver = receiver(alloc, mode, first)?;
+    answers(alloc, &mut receiver, frames, expected)
 }

@@ -2,6 +2,7 @@
 
 use super::sealer;
 use super::steps::{begin, receiving};
+use crate::asserts::assert_same;
 use crate::log_lines::is_log;
 use crate::peers::{self, sending};
 use crate::session::{MICROS, expect, session};
@@ -25,35 +26,51 @@ fn wide_receiver(alloc: Global, first: u32) -> Result<Receiver, AllocError> {
     Ok(Receiver::new(Opener::new_256(&mut { WIDE_KEY }, expect), first))
 }
 
-/// Sender 0 of these texts, from number 7 on, and sender 1 of none.
-fn senders(alloc: Global, texts: &[&[u8]]) -> Result<Vec<Sending>, Fail> {
-    let narrow: Box<dyn Sealer + Send> = Box::new(alloc, sealer(alloc, Mode::Safe, 7)?)?;
-    let first = sending(alloc, narrow, texts, &[MICROS])?;
-    let wide: Box<dyn Sealer + Send> = Box::new(alloc, wide_sealer(alloc, 1)?)?;
-    let second = sending(alloc, wide, &[], &[MICROS])?;
-    Ok(vec![in alloc; first, second]?)
+/// Sender 0 of these texts from number 7 on, so many together at most.
+fn first_sender(
+    alloc: Global,
+    texts: &[&[u8]],
+    batch: usize,
+    plan: Option<Vec<Emit>>,
+) -> Result<Sending, Fail> {
+    let sealer: Box<dyn Sealer + Send> = Box::new(alloc, sealer(alloc, Mode::Safe, 7)?)?;
+    let mut sending = sending(alloc, sealer, texts, &[MICROS])?;
+    sending.batch = batch;
+    sending.plan = plan;
+    Ok(sending)
+}
+
+/// Sender 1 of no texts.
+fn second_sender(alloc: Global) -> Result<Sending, Fail> {
+    let sealer: Box<dyn Sealer + Send> = Box::new(alloc, wide_sealer(alloc, 1)?)?;
+    sending(alloc, sealer, &[], &[MICROS])
 }
 
 fn receivers(alloc: Global) -> Result<Vec<Receiving>, Fail> {
     let first = receiving(alloc, Mode::Safe)?;
-    let second = peers::receiving(alloc, wide_receiver(alloc, 1)?)?;
+    let second = peers::receiving(alloc, wide_receiver(alloc, 1)?, &[MICROS])?;
     Ok(vec![in alloc; first, second]?)
 }
 
-/// Sender 0 says these texts from number 7 on, so many together at most, and sender 1 nothing.
-fn lanes_of(
-    rt: &impl Abort,
+/// Both senders, the first of these texts.
+fn senders(
     alloc: Global,
-    capacity: usize,
     texts: &[&[u8]],
     batch: usize,
     plan: Option<Vec<Emit>>,
+) -> Result<Vec<Sending>, Fail> {
+    let first = first_sender(alloc, texts, batch, plan)?;
+    let second = second_sender(alloc)?;
+    Ok(vec![in alloc; first, second]?)
+}
+
+/// A relay of these senders.
+fn relay_of(
+    rt: &impl Abort,
+    alloc: Global,
+    capacity: usize,
+    sendings: Vec<Sending>,
 ) -> Result<Stepped, Fail> {
-    let mut sendings = senders(alloc, texts)?;
-    if let Some(first) = sendings.first_mut() {
-        first.batch = batch;
-        first.plan = plan;
-    }
     Ok(begin(rt, alloc, sendings, receivers(alloc)?, capacity)?)
 }
 
@@ -64,7 +81,8 @@ fn two_lanes(
     capacity: usize,
     plan: Option<Vec<Emit>>,
 ) -> Result<Stepped, Fail> {
-    lanes_of(rt, alloc, capacity, &[b"a", b"b"], 1, plan)
+    let sendings = senders(alloc, &[b"a", b"b"], 1, plan)?;
+    relay_of(rt, alloc, capacity, sendings)
 }
 
 /// Whether the log has these entries, and two lanes with these statuses.
@@ -78,28 +96,47 @@ fn is_log_of_two(
     is_log(log, expected) && [log.status(0), log.status(1)] == statuses
 }
 
+/// Asserts that a relay which runs to its end has these entries and statuses then, and whether it
+/// is done.
+fn assert_finishes(
+    rt: &impl Abort,
+    relay: &mut Stepped,
+    expected: &[(u32, &str)],
+    statuses: [Status; 2],
+    done: bool,
+) -> Result<(), AllocError> {
+    relay.finish()?;
+    assert!(rt; is_log_of_two(rt, relay.log(), expected, statuses));
+    assert_same(rt, relay.done(), done);
+    Ok(())
+}
+
 const CLOSED: [Status; 2] = [Status::Closed, Status::Closed];
+
+/// Asserts the entries of the two lanes, which stay as they are where the relay runs on.
+fn assert_rounds(rt: &impl Abort, alloc: Global, capacity: usize) -> Result<(), Fail> {
+    let expected = [(0, "a"), (1, "closed"), (0, "b"), (0, "closed")];
+    let mut relay = two_lanes(rt, alloc, capacity, None)?;
+    assert_finishes(rt, &mut relay, &expected, CLOSED, true)?;
+    assert_same(rt, relay.lanes(), 2);
+    assert_finishes(rt, &mut relay, &expected, CLOSED, true)?;
+    Ok(())
+}
 
 #[test]
 fn two_lanes_in_rounds(rt: HostRuntime) -> Result<(), Fail> {
-    let expected = [(0, "a"), (1, "closed"), (0, "b"), (0, "closed")];
     for capacity in [1, 64] {
-        let mut relay = two_lanes(&rt, rt.alloc(), capacity, None)?;
-        relay.finish()?;
-        assert!(rt; relay.done() && relay.lanes() == 2);
-        assert!(rt; is_log_of_two(&rt, relay.log(), &expected, CLOSED));
-        relay.finish()?;
-        assert!(rt; is_log_of_two(&rt, relay.log(), &expected, CLOSED));
+        assert_rounds(&rt, rt.alloc(), capacity)?;
     }
     Ok(())
 }
 
 #[test]
 fn batch_is_logged_text_by_text(rt: HostRuntime) -> Result<(), Fail> {
-    let mut relay = lanes_of(&rt, rt.alloc(), 1, &[b"a", b"b", b"c"], 2, None)?;
-    relay.finish()?;
+    let sendings = senders(rt.alloc(), &[b"a", b"b", b"c"], 2, None)?;
+    let mut relay = relay_of(&rt, rt.alloc(), 1, sendings)?;
     let expected = [(0, "a"), (0, "b"), (1, "closed"), (0, "c"), (0, "closed")];
-    assert!(rt; is_log_of_two(&rt, relay.log(), &expected, CLOSED) && relay.done());
+    assert_finishes(&rt, &mut relay, &expected, CLOSED, true)?;
     Ok(())
 }
 
@@ -107,18 +144,16 @@ fn batch_is_logged_text_by_text(rt: HostRuntime) -> Result<(), Fail> {
 fn lane_without_its_close_is_truncated(rt: HostRuntime) -> Result<(), Fail> {
     let plan = vec![in rt.alloc(); Emit::Frame(1), Emit::Frame(0), Emit::Frame(0)]?;
     let mut relay = two_lanes(&rt, rt.alloc(), 1, Some(plan))?;
-    relay.finish()?;
     let expected = [(0, "BADORDER"), (1, "closed"), (0, "a"), (0, "BADORDER")];
     let statuses = [Status::Truncated, Status::Closed];
-    assert!(rt; is_log_of_two(&rt, relay.log(), &expected, statuses) && relay.done());
+    assert_finishes(&rt, &mut relay, &expected, statuses, true)?;
     Ok(())
 }
 
 #[test]
 fn without_room_nothing_moves(rt: HostRuntime) -> Result<(), Fail> {
     let mut relay = two_lanes(&rt, rt.alloc(), 0, None)?;
-    relay.finish()?;
     let statuses = [Status::Live, Status::Live];
-    assert!(rt; is_log_of_two(&rt, relay.log(), &[], statuses) && !relay.done());
+    assert_finishes(&rt, &mut relay, &[], statuses, false)?;
     Ok(())
 }

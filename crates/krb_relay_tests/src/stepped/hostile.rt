@@ -11,6 +11,7 @@ use krb_core::Receiver;
 use krb_der::{Message, decode, encode_priv};
 use krb_seal::Mode;
 use std::alloc::Global;
+use std::process::Abort;
 use std::test::Fail;
 
 /// The code by which a receiver refuses a frame, and still demands the number 7; else 0.
@@ -28,14 +29,25 @@ fn delivers(alloc: Global, receiver: &mut Receiver, frame: &[u8]) -> Result<bool
     Ok(answers_so(alloc, receiver, frame, "hi")? && receiver.expected() == 8)
 }
 
+/// Asserts that a receiver refuses all proper prefixes of a frame.
+fn assert_prefixes_refused(
+    rt: &impl Abort,
+    alloc: Global,
+    receiver: &mut Receiver,
+    frame: &[u8],
+) -> Result<(), Fail> {
+    for size in 0..frame.len() {
+        let code = refused(alloc, receiver, &frame[..size])?;
+        assert_same(rt, (size, code), (size, 901));
+    }
+    Ok(())
+}
+
 #[test]
 fn no_proper_prefix_is_a_frame(rt: HostRuntime) -> Result<(), Fail> {
     for (mode, frame) in [(Mode::Safe, SAFE_TEXT.as_slice()), (Mode::Priv, &PRIV_TEXT)] {
         let mut receiver = receiver(rt.alloc(), mode, 7)?;
-        for size in 0..frame.len() {
-            let code = refused(rt.alloc(), &mut receiver, &frame[..size])?;
-            assert_same(&rt, (size, code), (size, 901));
-        }
+        assert_prefixes_refused(&rt, rt.alloc(), &mut receiver, frame)?;
         assert!(rt; delivers(rt.alloc(), &mut receiver, frame)?);
     }
     Ok(())
@@ -116,6 +128,14 @@ fn refused_cut(alloc: Global, receiver: &mut Receiver, size: usize) -> Result<u3
     refused(alloc, receiver, &frame)
 }
 
+/// Asserts that all its bytes of the cipher make the message, which a receiver then takes.
+fn assert_whole(rt: &impl Abort, alloc: Global, receiver: &mut Receiver) -> Result<(), Fail> {
+    let whole = respelt(alloc, None, 85)?;
+    assert_same(rt, whole.as_slice(), PRIV_TEXT.as_slice());
+    assert!(rt; delivers(alloc, receiver, &whole)?);
+    Ok(())
+}
+
 #[test]
 fn no_cut_cipher_is_opened(rt: HostRuntime) -> Result<(), Fail> {
     let mut receiver = receiver(rt.alloc(), Mode::Priv, 7)?;
@@ -123,9 +143,24 @@ fn no_cut_cipher_is_opened(rt: HostRuntime) -> Result<(), Fail> {
         let code = refused_cut(rt.alloc(), &mut receiver, size)?;
         assert_same(&rt, (size, code), (size, 31));
     }
-    let whole = respelt(rt.alloc(), None, 85)?;
-    assert_same(&rt, whole.as_slice(), PRIV_TEXT.as_slice());
-    assert!(rt; delivers(rt.alloc(), &mut receiver, &whole)?);
+    assert_whole(&rt, rt.alloc(), &mut receiver)
+}
+
+/// Asserts that a receiver refuses messages of lengths that lie.
+fn assert_lies_refused(
+    rt: &impl Abort,
+    alloc: Global,
+    receiver: &mut Receiver,
+) -> Result<(), Fail> {
+    for lie in [
+        b"\x74\x82\xff\xff".as_slice(),
+        b"\x74\x84\xff\xff\xff\xff",
+        b"\x74\xff",
+        b"\x74\x00",
+        b"\x75\x00",
+    ] {
+        assert_same(rt, refused(alloc, receiver, lie)?, 901);
+    }
     Ok(())
 }
 
@@ -133,16 +168,21 @@ fn no_cut_cipher_is_opened(rt: HostRuntime) -> Result<(), Fail> {
 fn lengths_that_lie_are_malformed(rt: HostRuntime) -> Result<(), Fail> {
     for (mode, frame) in [(Mode::Safe, SAFE_TEXT.as_slice()), (Mode::Priv, &PRIV_TEXT)] {
         let mut receiver = receiver(rt.alloc(), mode, 7)?;
-        for lie in [
-            b"\x74\x82\xff\xff".as_slice(),
-            b"\x74\x84\xff\xff\xff\xff",
-            b"\x74\xff",
-            b"\x74\x00",
-            b"\x75\x00",
-        ] {
-            assert_same(&rt, refused(rt.alloc(), &mut receiver, lie)?, 901);
-        }
+        assert_lies_refused(&rt, rt.alloc(), &mut receiver)?;
         assert!(rt; delivers(rt.alloc(), &mut receiver, frame)?);
+    }
+    Ok(())
+}
+
+/// Asserts that a frame is taken as the first, in place of `PRIV_TEXT`.
+fn assert_first(rt: &impl Abort, alloc: Global, first: &[u8]) -> Result<(), Fail> {
+    let mut receiver = receiver(alloc, Mode::Priv, 7)?;
+    for (frame, word) in [
+        (first, "hi"),
+        (&PRIV_TEXT, "BADORDER"),
+        (&PRIV_CLOSE, "closed"),
+    ] {
+        assert!(rt; answers_so(alloc, &mut receiver, frame, word)?, "{word}");
     }
     Ok(())
 }
@@ -157,16 +197,5 @@ fn key_version_is_no_part_of_what_is_judged(rt: HostRuntime) -> Result<(), Fail>
               \x30\x63\xa0\x03\x02\x01\x11\xa1\x03\x02\x01\x03\xa2\x57\x04\x55"
         )
     );
-    let mut receiver = receiver(rt.alloc(), Mode::Priv, 7)?;
-    for (frame, word) in [
-        (frame.as_slice(), "hi"),
-        (&PRIV_TEXT, "BADORDER"),
-        (&PRIV_CLOSE, "closed"),
-    ] {
-        assert!(rt;
-            answers_so(rt.alloc(), &mut receiver, frame, word)?,
-            "{word}"
-        );
-    }
-    Ok(())
+    assert_first(&rt, rt.alloc(), &frame)
 }

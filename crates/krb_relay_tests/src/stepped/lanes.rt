@@ -1,11 +1,11 @@
 //! What a receiver answers to frames that a plan disturbs, and what it gives a log.
 
-use super::{answers, answers_so, receiver, sealed, sealer};
+use super::{answers_so, frames_of, receiver, receives, sealer};
 use crate::asserts::{assert_same, assert_sender};
-use crate::peers::sending;
+use crate::peers::{receiving, sending};
 use crate::session::{MICROS, moment};
 use krb_base::Bytes;
-use krb_core::{Emit, Log, Receiving, emit, emit_sealed};
+use krb_core::{Emit, Log, Receiver, emit, emit_sealed};
 use krb_seal::{Mode, Sealer};
 use std::alloc::Global;
 use std::process::Abort;
@@ -20,11 +20,9 @@ fn lane_answers(
     plan: &[Emit],
     expected: &[&str],
 ) -> Result<bool, Fail> {
-    let mut sending = sending(alloc, sealer(alloc, mode, 7)?, texts, &[MICROS])?;
-    let frames = sealed(rt, alloc, &mut sending)?;
+    let frames = frames_of(rt, alloc, mode, texts, &[MICROS])?;
     let wire = emit(alloc, frames.as_slice(), plan)?;
-    let mut receiver = receiver(alloc, mode, 7)?;
-    answers(alloc, &mut receiver, wire.as_slice(), expected)
+    receives(alloc, mode, 7, wire.as_slice(), expected)
 }
 
 const TWO: [&[u8]; 2] = [b"a", b"b"];
@@ -124,6 +122,17 @@ fn frame_of(alloc: Global, user_data: &[u8]) -> Result<Vec<u8>, Fail> {
     Ok(sealer.seal(alloc, user_data, moment(MICROS)?, [0; 16])?)
 }
 
+/// Whether a receiver answers so to that frame.
+fn answers_to(
+    alloc: Global,
+    receiver: &mut Receiver,
+    user_data: &[u8],
+    word: &str,
+) -> Result<bool, Fail> {
+    let frame = frame_of(alloc, user_data)?;
+    answers_so(alloc, receiver, frame.as_slice(), word)
+}
+
 #[test]
 fn no_record_moves_no_number(rt: HostRuntime) -> Result<(), Fail> {
     let mut receiver = receiver(rt.alloc(), Mode::Priv, 7)?;
@@ -133,8 +142,7 @@ fn no_record_moves_no_number(rt: HostRuntime) -> Result<(), Fail> {
         (b"CC", "BAD_RECORD", 7),
         (b"Dhi", "hi", 8),
     ] {
-        let frame = frame_of(rt.alloc(), user_data)?;
-        let right = answers_so(rt.alloc(), &mut receiver, frame.as_slice(), word)?;
+        let right = answers_to(rt.alloc(), &mut receiver, user_data, word)?;
         assert_same(&rt, (user_data, right), (user_data, true));
         assert_same(
             &rt,
@@ -145,31 +153,32 @@ fn no_record_moves_no_number(rt: HostRuntime) -> Result<(), Fail> {
     Ok(())
 }
 
+/// The frames of the text `hi` and the close.
+fn wire_of_one(rt: &impl Abort, alloc: Global) -> Result<Vec<Vec<u8>>, Fail> {
+    let sender = sending(alloc, sealer(alloc, Mode::Priv, 7)?, &[b"hi"], &[MICROS])?;
+    assert_sender(rt, &sender);
+    Ok(emit_sealed(alloc, 0, sender)?)
+}
+
 #[test]
 fn frame_taken_into_a_log(rt: HostRuntime) -> Result<(), Fail> {
-    let sender = sending(
-        rt.alloc(),
-        sealer(rt.alloc(), Mode::Priv, 7)?,
-        &[b"hi"],
-        &[MICROS],
-    )?;
-    assert_sender(&rt, &sender);
-    let wire = emit_sealed(rt.alloc(), 0, sender)?;
+    let now = moment(MICROS + 1)?;
+    let wire = wire_of_one(&rt, rt.alloc())?;
     assert!(rt; wire.len() == 2);
-    let mut nows = Vec::new(rt.alloc());
-    nows.push(moment(MICROS + 1)?)?;
-    nows.push(moment(MICROS + 2)?)?;
-    let mut receiving = Receiving {
-        receiver: receiver(rt.alloc(), Mode::Priv, 7)?,
-        nows,
-    };
-    assert_same(&rt, receiving.moment_at(0).micros(), MICROS + 1);
-    assert_same(&rt, receiving.moment_at(5).micros(), MICROS + 2);
+    let mut receiver = receiver(rt.alloc(), Mode::Priv, 7)?;
     let mut log = Log::new(rt.alloc(), 1);
-    let now = receiving.moment_at(0);
-    let receiver = &mut receiving.receiver;
     receiver.take_into(&mut log, rt.alloc(), 0, wire[0].as_slice(), now)?;
     assert_same(&rt, receiver.expected(), 8);
     assert_same(&rt, log.text(0, 0), Some(b"hi".as_slice()));
+    Ok(())
+}
+
+#[test]
+fn last_moment_serves_the_later_frames(rt: HostRuntime) -> Result<(), Fail> {
+    let receiver = receiver(rt.alloc(), Mode::Priv, 7)?;
+    let receiving = receiving(rt.alloc(), receiver, &[MICROS + 1, MICROS + 2])?;
+    assert!(rt; !receiving.nows.is_empty());
+    assert_same(&rt, receiving.moment_at(0).micros(), MICROS + 1);
+    assert_same(&rt, receiving.moment_at(5).micros(), MICROS + 2);
     Ok(())
 }

@@ -1,11 +1,11 @@
 //! Relays at their upper limits: eight lanes of 64 places, and a plan of 2,000 emissions for each.
 
 use super::sealer;
-use super::steps::{begin, receiving};
+use super::steps::{begin, receivings};
 use crate::asserts::assert_same;
 use crate::peers::sending;
 use crate::session::MICROS;
-use krb_core::{Emit, Receiving, Sending, StartError, Status, Stepped};
+use krb_core::{Emit, Log, Sending, StartError, Status, Stepped};
 use krb_seal::{Aes128Sealer, Mode, Sealer};
 use std::alloc::Global;
 use std::process::Abort;
@@ -36,15 +36,6 @@ fn senders(alloc: Global, wiped: Option<u32>) -> Result<Vec<Sending<Aes128Sealer
     Ok(sendings)
 }
 
-/// Their receivers.
-fn receivings(alloc: Global) -> Result<Vec<Receiving>, Fail> {
-    let mut receivings = Vec::new(alloc);
-    for _ in 0..8 {
-        receivings.push(receiving(alloc, Mode::Safe)?)?;
-    }
-    Ok(receivings)
-}
-
 /// A relay of them.
 fn eight_lanes(
     rt: &impl Abort,
@@ -52,20 +43,25 @@ fn eight_lanes(
     wiped: Option<u32>,
 ) -> Result<Result<Stepped, StartError>, Fail> {
     let sendings = senders(alloc, wiped)?;
-    Ok(begin(rt, alloc, sendings, receivings(alloc)?, 64))
+    Ok(begin(rt, alloc, sendings, receivings(alloc, 8)?, 64))
+}
+
+/// Asserts that a log has all that becomes of their frames.
+fn assert_whole(rt: &impl Abort, log: &Log) {
+    assert!(rt; log.lanes() == 8);
+    assert_same(rt, log.entries().len(), 16_000);
+    for lane in 0..8 {
+        assert_same(rt, log.status(lane), Status::Closed);
+        assert_same(rt, log.texts(lane), 1);
+    }
 }
 
 #[test]
 fn eight_lanes_of_2_000_emissions(rt: HostRuntime) -> Result<(), Fail> {
     let mut relay = eight_lanes(&rt, rt.alloc(), None)??;
     relay.finish()?;
-    let log = relay.log();
-    assert!(rt; relay.done() && log.lanes() == 8);
-    assert_same(&rt, log.entries().len(), 16_000);
-    for lane in 0..8 {
-        assert_same(&rt, log.status(lane), Status::Closed);
-        assert_same(&rt, log.texts(lane), 1);
-    }
+    assert!(rt; relay.done());
+    assert_whole(&rt, relay.log());
     Ok(())
 }
 

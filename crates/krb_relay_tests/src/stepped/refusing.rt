@@ -1,26 +1,27 @@
 //! Relays that don't begin since a sealer or a plan refuses: what is answered, and that each sealer
 //! is dropped once.
 
-use super::steps::{begin, receiving};
+use super::steps::{begin, receivings};
 use crate::asserts::assert_same;
-use crate::odd_sealer::OddSealer;
+use crate::odd_sealer::{Odd, OddSealer, Wrong};
 use crate::peers::sending;
 use crate::session::MICROS;
 use krb_core::{Emit, Sending, StartError};
-use krb_seal::{Mode, Sealer};
 use std::alloc::Global;
 use std::process::Abort;
 use std::sync::Arc;
 use std::sync::atomic::{AtomicU64, Ordering};
 use std::test::Fail;
 
-/// What is wrong with two senders: the call of the first sealer that answers `Memory` (0: none),
-/// and of the second sender whether its sealer was wiped and its plan is bad.
-#[derive(Clone, Copy)]
-struct Wrong {
-    fails_at: u64,
-    wiped: bool,
-    bad_plan: bool,
+/// A sender of these texts, whose sealer is odd.
+fn sender(
+    alloc: Global,
+    odd: Odd,
+    drops: &Arc<AtomicU64>,
+    texts: &[&[u8]],
+) -> Result<Sending<OddSealer>, Fail> {
+    let sealer = OddSealer::new(alloc, 1, odd, drops)?;
+    sending(alloc, sealer, texts, &[MICROS])
 }
 
 /// A sender of the texts `a` and `b`, and one of none.
@@ -29,13 +30,8 @@ fn two_senders(
     wrong: Wrong,
     drops: &Arc<AtomicU64>,
 ) -> Result<Vec<Sending<OddSealer>>, Fail> {
-    let first = OddSealer::new(alloc, 1, wrong.fails_at, drops)?;
-    let mut second = OddSealer::new(alloc, 1, 0, drops)?;
-    if wrong.wiped {
-        second.wipe();
-    }
-    let first = sending(alloc, first, &[b"a", b"b"], &[MICROS])?;
-    let mut second = sending(alloc, second, &[], &[MICROS])?;
+    let first = sender(alloc, wrong.first(), drops, &[b"a", b"b"])?;
+    let mut second = sender(alloc, wrong.second(), drops, &[])?;
     if wrong.bad_plan {
         second.plan = Some(vec![in alloc; Emit::Frame(5)]?);
     }
@@ -50,10 +46,7 @@ fn answer_to(
 ) -> Result<(Option<StartError>, u64), Fail> {
     let drops = Arc::new(alloc, AtomicU64::new(0))?;
     let sendings = two_senders(alloc, wrong, &drops)?;
-    let mut receivings = Vec::new(alloc);
-    for _ in 0..2 {
-        receivings.push(receiving(alloc, Mode::Safe)?)?;
-    }
+    let receivings = receivings(alloc, 2)?;
     let answer = begin(rt, alloc, sendings, receivings, 1).err();
     Ok((answer, drops.load(Ordering::SeqCst)))
 }

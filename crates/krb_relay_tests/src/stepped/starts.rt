@@ -1,7 +1,7 @@
 //! Relays that don't begin: the least lane is named whose plan is bad or whose sealer was wiped.
 
 use super::sealer;
-use super::steps::{begin, receiving};
+use super::steps::{begin, receivings};
 use crate::peers::sending;
 use crate::session::MICROS;
 use krb_core::{Emit, Sending, StartError};
@@ -29,14 +29,19 @@ fn sender(alloc: Global, wrong: Wrong) -> Result<Sending<Aes128Sealer>, Fail> {
     Ok(sender)
 }
 
-/// What `Stepped::new` answers to these senders, where it isn't Ok.
-fn fault_of(rt: &impl Abort, alloc: Global, wrongs: &[Wrong]) -> Result<Option<StartError>, Fail> {
-    let mut sendings = Vec::new(alloc);
-    let mut receivings = Vec::new(alloc);
+/// Senders of which these are wrong.
+fn senders(alloc: Global, wrongs: &[Wrong]) -> Result<Vec<Sending<Aes128Sealer>>, Fail> {
+    let mut senders = Vec::new(alloc);
     for wrong in wrongs {
-        sendings.push(sender(alloc, *wrong)?)?;
-        receivings.push(receiving(alloc, Mode::Safe)?)?;
+        senders.push(sender(alloc, *wrong)?)?;
     }
+    Ok(senders)
+}
+
+/// What `Stepped::new` answers to them, where it isn't Ok.
+fn fault_of(rt: &impl Abort, alloc: Global, wrongs: &[Wrong]) -> Result<Option<StartError>, Fail> {
+    let sendings = senders(alloc, wrongs)?;
+    let receivings = receivings(alloc, wrongs.len())?;
     Ok(begin(rt, alloc, sendings, receivings, 1).err())
 }
 

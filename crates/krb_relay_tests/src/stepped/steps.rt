@@ -1,6 +1,7 @@
 //! Relays that are stepped to their end, turn by turn.
 
-ghost use Rattle.std.specs.Prelude.{◌≡◌, length, IfOk};
+ghost use Rattle.std.specs.Prelude.{◌≡◌, ◌<◌, length, IfOk};
+ghost use Rattle.krb_core.specs.Stepped.{lane_of};
 
 use super::{receiver, sealer};
 use crate::asserts::{assert_receivers, assert_same, assert_senders};
@@ -8,7 +9,7 @@ use crate::peers::{self, sending};
 use crate::session::MICROS;
 use krb_core::{Did, Event, Log, Receiving, Sending, StartError, Stepped, Turn};
 use krb_seal::{Mode, Sealer};
-use std::alloc::Global;
+use std::alloc::{AllocError, Global};
 use std::process::Abort;
 use std::test::Fail;
 
@@ -31,7 +32,16 @@ pub(super) fn begin<S: Sealer>(
 
 /// A receiver of 10.0.0.1 that demands the number 7, and takes all frames at one moment.
 pub(super) fn receiving(alloc: Global, mode: Mode) -> Result<Receiving, Fail> {
-    peers::receiving(alloc, receiver(alloc, mode, 7)?)
+    peers::receiving(alloc, receiver(alloc, mode, 7)?, &[MICROS])
+}
+
+/// So many of them, of KRB-SAFE messages.
+pub(super) fn receivings(alloc: Global, count: usize) -> Result<Vec<Receiving>, Fail> {
+    let mut receivings = Vec::new(alloc);
+    for _ in 0..count {
+        receivings.push(receiving(alloc, Mode::Safe)?)?;
+    }
+    Ok(receivings)
 }
 
 /// A relay of one sender that says `hi`, at capacity 1.
@@ -59,6 +69,22 @@ pub(super) fn is_whole(log: &Log) -> bool {
     }
 }
 
+/// Asserts what a turn does, and whether the relay is done then.
+fn assert_turn(
+    rt: &impl Abort,
+    relay: &mut Stepped,
+    turn: Turn,
+    did: Did,
+    done: bool,
+) -> Result<(), AllocError>
+    requires lane { lane_of turn < length relay.old.tracks }
+    ensures lanes { length relay.new.tracks ≡ length relay.old.tracks }
+{
+    assert_same(rt, relay.step(turn)?, did);
+    assert_same(rt, relay.done(), done);
+    Ok(())
+}
+
 #[test]
 fn turn_by_turn(rt: HostRuntime) -> Result<(), Fail> {
     let mut relay = relay_of_one(&rt, rt.alloc())?;
@@ -76,8 +102,7 @@ fn turn_by_turn(rt: HostRuntime) -> Result<(), Fail> {
         (take, Did::Waits, true),
     ] {
         let turn = if sends { SEND } else { TAKE };
-        assert_same(&rt, relay.step(turn)?, did);
-        assert_same(&rt, relay.done(), done);
+        assert_turn(&rt, &mut relay, turn, did, done)?;
     }
     assert!(rt; is_whole(relay.log()));
     let sent = relay.sent(0);

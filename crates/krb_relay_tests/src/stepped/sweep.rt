@@ -3,7 +3,7 @@
 //! gives the known one. `tools/sweep` refuses the growths, and counts the lines that tell of a
 //! refusal.
 
-ghost use Rattle.std.specs.Prelude.{◌≡◌, ◌<◌, length};
+ghost use Rattle.std.specs.Prelude.{◌≡◌, ◌<◌, length, IfOk};
 ghost use Rattle.krb_core.specs.Stepped.{lane_of};
 
 use super::frames::{PRIV_BATCH, PRIV_CLOSE, PRIV_TEXT, SAFE_BATCH, SAFE_CLOSE, SAFE_TEXT};
@@ -15,6 +15,7 @@ use krb_base::Bytes;
 use krb_core::{Did, Log, Receiver, Stepped, Texts, Turn};
 use krb_seal::{Mode, Refusal};
 use std::alloc::{AllocError, Global};
+use std::io::Print;
 use std::process::Abort;
 use std::test::Fail;
 
@@ -43,6 +44,42 @@ fn takes(
     Ok(refused)
 }
 
+/// Asserts the same, and tells where it wanted memory.
+fn assert_takes(
+    rt: &(impl Abort + Print + Alloc<A = Global>),
+    receiver: &mut Receiver,
+    name: &str,
+    frame: &[u8],
+    number: u64,
+    word: &str,
+) -> Result<(), Fail> {
+    if takes(rt, rt.alloc(), receiver, frame, number, word)? {
+        println!(rt; "refused: take of {name}, {word} at {number}")?;
+    }
+    Ok(())
+}
+
+/// Asserts the same of a text and the close, each out of its place and then in it.
+fn assert_takes_both(
+    rt: &(impl Abort + Print + Alloc<A = Global>),
+    name: &str,
+    mode: Mode,
+    text: &[u8],
+    close: &[u8],
+) -> Result<(), Fail> {
+    let mut receiver = receiver(rt.alloc(), mode, 7)?;
+    for (frame, number, word) in [
+        (close, 7, "BADORDER"),
+        (text, 7, "hi"),
+        (text, 8, "BADORDER"),
+        (close, 8, "closed"),
+    ] {
+        assert_takes(rt, &mut receiver, name, frame, number, word)?;
+    }
+    assert_same(rt, (receiver.expected(), receiver.closed()), (9, true));
+    Ok(())
+}
+
 #[test]
 fn frame_is_taken_or_memory_wanted(rt: HostRuntime) -> Result<(), Fail> {
     for (name, mode, text, close) in [
@@ -54,18 +91,7 @@ fn frame_is_taken_or_memory_wanted(rt: HostRuntime) -> Result<(), Fail> {
         ),
         ("KRB-PRIV", Mode::Priv, &PRIV_TEXT, &PRIV_CLOSE),
     ] {
-        let mut receiver = receiver(rt.alloc(), mode, 7)?;
-        for (frame, number, word) in [
-            (close, 7, "BADORDER"),
-            (text, 7, "hi"),
-            (text, 8, "BADORDER"),
-            (close, 8, "closed"),
-        ] {
-            if takes(&rt, rt.alloc(), &mut receiver, frame, number, word)? {
-                println!(rt; "refused: take of {name}, {word} at {number}")?;
-            }
-        }
-        assert_same(&rt, (receiver.expected(), receiver.closed()), (9, true));
+        assert_takes_both(&rt, name, mode, text, close)?;
     }
     Ok(())
 }
@@ -77,9 +103,7 @@ fn batch_is_taken_or_memory_wanted(rt: HostRuntime) -> Result<(), Fail> {
         ("KRB-PRIV", Mode::Priv, &PRIV_BATCH),
     ] {
         let mut receiver = receiver(rt.alloc(), mode, 7)?;
-        if takes(&rt, rt.alloc(), &mut receiver, frame, 7, "ab")? {
-            println!(rt; "refused: take of {name}, ab at 7")?;
-        }
+        assert_takes(&rt, &mut receiver, name, frame, 7, "ab")?;
         assert_same(&rt, (receiver.expected(), receiver.closed()), (8, false));
     }
     Ok(())
@@ -92,13 +116,24 @@ fn two_texts(alloc: Global) -> Result<Texts, AllocError> {
     Ok(Texts::new(vec![in alloc; first, second]?))
 }
 
+/// A log of one lane that has them, and whether it wanted memory for them first.
+fn logged(rt: &impl Abort, alloc: Global) -> Result<(Log, bool), Fail>
+    ensures { IfOk result (λ logged. logged.0.lanes ≡ 1) }
+{
+    let mut log = Log::new(alloc, 1);
+    let refused = log.push_batch(0, two_texts(alloc)?).is_err();
+    if refused {
+        assert_same(rt, (log.entries().len(), log.texts(0)), (0, 0));
+        log.push_batch(0, two_texts(alloc)?)?;
+    }
+    Ok((log, refused))
+}
+
 #[test]
 fn batch_is_logged_or_memory_wanted(rt: HostRuntime) -> Result<(), Fail> {
-    let mut log = Log::new(rt.alloc(), 1);
-    if log.push_batch(0, two_texts(rt.alloc())?).is_err() {
-        assert_same(&rt, (log.entries().len(), log.texts(0)), (0, 0));
+    let (log, refused) = logged(&rt, rt.alloc())?;
+    if refused {
         println!(rt; "refused: push_batch")?;
-        log.push_batch(0, two_texts(rt.alloc())?)?;
     }
     assert_same(&rt, (log.entries().len(), log.texts(0)), (2, 2));
     assert_same(&rt, log.text(0, 0), Some(b"a".as_slice()));
@@ -129,6 +164,24 @@ fn turns(rt: &impl Abort, relay: &mut Stepped, turn: Turn, did: Did, after: (usi
     refused
 }
 
+/// Asserts the same, and tells where it wanted memory.
+fn assert_turns(
+    rt: &(impl Abort + Print),
+    relay: &mut Stepped,
+    place: u32,
+    turn: Turn,
+    did: Did,
+    after: (usize, bool),
+) -> Result<(), Fail>
+    requires lane { lane_of turn < length relay.old.tracks }
+    ensures lanes { length relay.new.tracks ≡ length relay.old.tracks }
+{
+    if turns(rt, relay, turn, did, after) {
+        println!(rt; "refused: step, turn {place}")?;
+    }
+    Ok(())
+}
+
 #[test]
 fn each_turn_is_done_or_memory_wanted(rt: HostRuntime) -> Result<(), Fail> {
     let mut relay = relay_of_one(&rt, rt.alloc())?;
@@ -146,9 +199,7 @@ fn each_turn_is_done_or_memory_wanted(rt: HostRuntime) -> Result<(), Fail> {
         (10, take, Did::Waits, (2, true)),
     ] {
         let turn = if sends { Turn::Send(0) } else { Turn::Take(0) };
-        if turns(&rt, &mut relay, turn, did, after) {
-            println!(rt; "refused: step, turn {place}")?;
-        }
+        assert_turns(&rt, &mut relay, place, turn, did, after)?;
     }
     assert!(rt; is_whole(relay.log()));
     Ok(())

@@ -9,7 +9,7 @@ use crate::asserts::assert_same;
 use crate::peers::sending;
 use crate::session::MICROS;
 use krb_base::Bytes;
-use krb_core::{Emit, Entry, Event, Log, Sending, Status, Stepped, Turn};
+use krb_core::{Emit, Entry, Event, Log, Receiving, Sending, Status, Stepped, Turn};
 use krb_seal::{Aes128Sealer, Mode};
 use std::alloc::{AllocError, Global};
 use std::process::Abort;
@@ -74,18 +74,29 @@ fn sender(alloc: Global, lane: u32) -> Result<Sending<Aes128Sealer>, Fail> {
     Ok(sending)
 }
 
+fn senders(alloc: Global) -> Result<Vec<Sending<Aes128Sealer>>, Fail> {
+    let mut sendings = Vec::new(alloc);
+    for lane in 0..8 {
+        sendings.push(sender(alloc, lane)?)?;
+    }
+    Ok(sendings)
+}
+
+fn receivers(alloc: Global) -> Result<Vec<Receiving>, Fail> {
+    let mut receivings = Vec::new(alloc);
+    for lane in 0..8 {
+        receivings.push(receiving(alloc, mode_of(lane))?)?;
+    }
+    Ok(receivings)
+}
+
 /// A relay of eight lanes.
 fn eight_lanes(rt: &impl Abort, alloc: Global, capacity: usize) -> Result<Stepped, Fail>
     ensures { IfOk result (λ stepped. length stepped.tracks ≡ 8) }
 {
-    let mut sendings = Vec::new(alloc);
-    let mut receivings = Vec::new(alloc);
-    for lane in 0..8 {
-        sendings.push(sender(alloc, lane)?)?;
-        receivings.push(receiving(alloc, mode_of(lane))?)?;
-    }
+    let sendings = senders(alloc)?;
     assert!(rt; sendings.len() == 8);
-    Ok(begin(rt, alloc, sendings, receivings, capacity)?)
+    Ok(begin(rt, alloc, sendings, receivers(alloc)?, capacity)?)
 }
 
 /// Draws the next turn of eight lanes.
@@ -140,40 +151,50 @@ fn refused(log: &Log, lane: u32, name: &str) -> usize {
         .count()
 }
 
+/// Asserts the texts and the status of each lane.
+fn assert_delivered(rt: &impl Abort, log: &Log) {
+    assert!(rt; log.lanes() == 8);
+    let closed = Status::Closed;
+    for (lane, texts, status) in [
+        (0, 40, closed),
+        (1, 40, closed),
+        (2, 20, Status::Truncated), // frame 20 is dropped: no later one has the number
+        (3, 40, closed),
+        (4, 40, closed),
+        (5, 40, closed),
+        (6, 40, closed),
+        (7, 40, closed),
+    ] {
+        assert!(rt;
+            are_letters(rt, log, lane, texts),
+            "the texts of lane {lane}"
+        );
+        assert_same(rt, log.status(lane), status);
+    }
+}
+
+/// Asserts how many frames of a lane were refused, by which name.
+fn assert_refused(rt: &impl Abort, log: &Log) {
+    for (lane, name, count) in [
+        (1, "BADORDER", 40), // the second of each text's frames,
+        (1, "AFTER_CLOSE", 1), // and of the close's
+        (2, "BADORDER", 20), // 19 texts and the close
+        (3, "BAD_INTEGRITY", 9), // each fifth frame, changed
+        (4, "MALFORMED", 41),
+    ] {
+        assert_same(rt, refused(log, lane, name), count);
+    }
+}
+
 #[test]
 fn many_turns_of_eight_lanes(rt: HostRuntime) -> Result<(), Fail> {
-    let closed = Status::Closed;
     for (capacity, seed) in [(1, 1), (2, 2), (64, 3)] {
         let mut relay = eight_lanes(&rt, rt.alloc(), capacity)?;
         drive(&mut relay, seed)?;
         assert!(rt; relay.done());
         let log = relay.log();
-        assert!(rt; log.lanes() == 8);
-        for (lane, texts, status) in [
-            (0, 40, closed),
-            (1, 40, closed),
-            (2, 20, Status::Truncated), // frame 20 is dropped: no later one has the number
-            (3, 40, closed),
-            (4, 40, closed),
-            (5, 40, closed),
-            (6, 40, closed),
-            (7, 40, closed),
-        ] {
-            assert!(rt;
-                are_letters(&rt, log, lane, texts),
-                "the texts of lane {lane}"
-            );
-            assert_same(&rt, log.status(lane), status);
-        }
-        for (lane, name, count) in [
-            (1, "BADORDER", 40), // the second of each text's frames,
-            (1, "AFTER_CLOSE", 1), // and of the close's
-            (2, "BADORDER", 20), // 19 texts and the close
-            (3, "BAD_INTEGRITY", 9), // each fifth frame, changed
-            (4, "MALFORMED", 41),
-        ] {
-            assert_same(&rt, refused(log, lane, name), count);
-        }
+        assert_delivered(&rt, log);
+        assert_refused(&rt, log);
         // 20 + 7 * 40 texts, 7 closes, and those 111 refusals.
         assert_same(&rt, log.entries().len(), 300 + 7 + 111);
     }

@@ -1,7 +1,6 @@
 //! Lanes that nothing disturbs, within the skew and outside it.
 
-use super::{answers, receiver, sealed, sealer};
-use crate::peers::sending;
+use super::{frames_of, receives};
 use crate::session::MICROS;
 use krb_core::{Emit, emit};
 use krb_seal::Mode;
@@ -20,14 +19,11 @@ fn both_answer(
     at: u64,
     expected: &[&str],
 ) -> Result<bool, Fail> {
-    let mut sending = sending(alloc, sealer(alloc, mode, 7)?, &[b"a", b"b"], &[at])?;
-    let frames = sealed(rt, alloc, &mut sending)?;
+    let frames = frames_of(rt, alloc, mode, &[b"a", b"b"], &[at])?;
     let wire = emit(alloc, frames.as_slice(), &IN_ORDER)?;
-    let mut first = receiver(alloc, mode, 7)?;
-    let mut second = receiver(alloc, mode, 7)?;
     Ok(
-        answers(alloc, &mut first, frames.as_slice(), expected)?
-            && answers(alloc, &mut second, wire.as_slice(), expected)?,
+        receives(alloc, mode, 7, frames.as_slice(), expected)?
+            && receives(alloc, mode, 7, wire.as_slice(), expected)?,
     )
 }
 

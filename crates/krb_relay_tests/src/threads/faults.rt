@@ -1,57 +1,58 @@
 //! Relays that stop: what is named, what the log has, and that each sealer is dropped once.
 
-use super::lanes::{Lanes, Odd, PLAIN, run};
+use super::lanes::{Lanes, reported, run};
 use crate::asserts::assert_same;
-use crate::log_lines::is_log;
+use crate::log_lines::assert_log;
+use crate::odd_sealer::{Odd, PLAIN, Wrong};
 use krb_peers::Emit;
 use krb_relay::{Cause, NoGate};
-use std::alloc::{AllocError, Global};
+use std::alloc::Global;
 use std::process::Abort;
 use std::sync::atomic::{AtomicU64, Ordering};
 use std::sync::{Arc, Wait};
 use std::test::Fail;
 use std::thread::Threads;
 
-/// What is wrong with the worked example of two senders: the call of the first sealer that answers
-/// `Memory` (0: none), and of the second sender whether its sealer was wiped and its plan is bad.
-#[derive(Clone, Copy, Drop)]
-struct Wrong {
-    fails_at: u64,
-    wiped: bool,
-    bad_plan: bool,
-}
-
-/// Asserts which fault comes, and the log.
+/// Asserts which fault the relay of these lanes comes to and of which lane, and the log.
 fn assert_stops<R: Threads + Wait + Abort + Sync>(
     rt: &R,
     alloc: Global,
-    wrong: &Wrong,
-    cause: Cause,
-    lane: u32,
+    lanes: Lanes,
+    capacity: usize,
+    stop: (Cause, u32),
+    expected: &[(u32, &str)],
+) -> Result<(), Fail> {
+    let Err(fault) = run(rt, alloc, lanes, capacity, &NoGate) else {
+        return Err(Fail::from("no fault"));
+    };
+    assert_same(rt, (fault.cause, fault.lane), stop);
+    assert_log(rt, &fault.log, expected);
+    Ok(())
+}
+
+/// The worked example of two senders, of which this is wrong.
+fn two_odd_lanes(alloc: Global, wrong: Wrong, drops: &Arc<AtomicU64>) -> Result<Lanes, Fail> {
+    let mut lanes = Lanes::new(alloc);
+    lanes.add_odd(alloc, wrong.first(), drops, &[b"a", b"b"])?;
+    lanes.add_odd(alloc, wrong.second(), drops, &[])?;
+    if wrong.bad_plan {
+        lanes.plan(vec![in alloc; Emit::Frame(5)]?);
+    }
+    Ok(lanes)
+}
+
+/// Asserts at two capacities which fault comes, the log, and that each sealer is dropped once.
+fn assert_wrong_stops<R: Threads + Wait + Abort + Sync>(
+    rt: &R,
+    alloc: Global,
+    wrong: Wrong,
+    stop: (Cause, u32),
     expected: &[(u32, &str)],
 ) -> Result<(), Fail> {
     for capacity in [1, 64] {
         let drops = Arc::new(alloc, AtomicU64::new(0))?;
-        let first = Odd {
-            fails_at: wrong.fails_at,
-            wiped: false,
-        };
-        let second = Odd {
-            fails_at: 0,
-            wiped: wrong.wiped,
-        };
-        let mut lanes = Lanes::new(alloc);
-        lanes.add_odd(alloc, first, &drops, &[b"a", b"b"])?;
-        lanes.add_odd(alloc, second, &drops, &[])?;
-        if wrong.bad_plan {
-            lanes.plan(vec![in alloc; Emit::Frame(5)]?);
-        }
-        let Err(fault) = run(rt, alloc, lanes, capacity, &NoGate) else {
-            return Err(Fail::from("no fault"));
-        };
-        assert_same(rt, fault.cause, cause);
-        assert_same(rt, fault.lane, lane);
-        assert!(rt; is_log(&fault.log, expected));
+        let lanes = two_odd_lanes(alloc, wrong, &drops)?;
+        assert_stops(rt, alloc, lanes, capacity, stop, expected)?;
         assert_same(rt, drops.load(Ordering::SeqCst), 2);
     }
     Ok(())
@@ -66,10 +67,11 @@ fn sealers_that_refuse(rt: HostRuntime) -> Result<(), Fail> {
         wiped: false,
         bad_plan: false,
     };
+    let memory = (Cause::Memory, 0);
     let close = [(1, "closed")];
-    assert_stops(&rt, rt.alloc(), &at(1), Cause::Memory, 0, &close)?;
+    assert_wrong_stops(&rt, rt.alloc(), at(1), memory, &close)?;
     let two = [(0, "a"), (1, "closed"), (0, "b")];
-    assert_stops(&rt, rt.alloc(), &at(3), Cause::Memory, 0, &two)
+    assert_wrong_stops(&rt, rt.alloc(), at(3), memory, &two)
 }
 
 #[test]
@@ -79,36 +81,41 @@ fn least_lane_is_named(rt: HostRuntime) -> Result<(), Fail> {
         wiped,
         bad_plan,
     };
-    let (wiped, planned) = (wrong(0, true, false), wrong(0, false, true));
-    assert_stops(&rt, rt.alloc(), &wiped, Cause::Wiped, 1, &FIRST_LANE)?;
-    assert_stops(&rt, rt.alloc(), &planned, Cause::BadPlan, 1, &FIRST_LANE)?;
-    let both = wrong(0, true, true);
-    assert_stops(&rt, rt.alloc(), &both, Cause::Wiped, 1, &FIRST_LANE)?;
-    let refused = wrong(1, true, false);
-    assert_stops(&rt, rt.alloc(), &refused, Cause::Memory, 0, &[])
+    for (wrong, stop, expected) in [
+        (
+            wrong(0, true, false),
+            (Cause::Wiped, 1),
+            FIRST_LANE.as_slice(),
+        ),
+        (wrong(0, false, true), (Cause::BadPlan, 1), &FIRST_LANE),
+        (wrong(0, true, true), (Cause::Wiped, 1), &FIRST_LANE),
+        (wrong(1, true, false), (Cause::Memory, 0), &[]),
+    ] {
+        assert_wrong_stops(&rt, rt.alloc(), wrong, stop, expected)?;
+    }
+    Ok(())
 }
 
-/// A thousand texts, of which the third isn't sealed: the worker sends End, and the other lane
-/// closes.
-#[test]
-fn a_worker_that_stops_is_drained(rt: HostRuntime) -> Result<(), Fail> {
-    let drops = Arc::new(rt.alloc(), AtomicU64::new(0))?;
+/// Two senders: one of a thousand texts, of which the third isn't sealed, and one of none.
+fn stopping_lanes(alloc: Global, drops: &Arc<AtomicU64>) -> Result<Lanes, Fail> {
     let third = Odd {
         fails_at: 3,
         wiped: false,
     };
-    let mut texts: Vec<&[u8]> = Vec::new(rt.alloc());
-    for _ in 0..1000 {
-        texts.push(b"x")?;
-    }
-    let mut lanes = Lanes::new(rt.alloc());
-    lanes.add_odd(rt.alloc(), third, &drops, texts.as_slice())?;
-    lanes.add_odd(rt.alloc(), PLAIN, &drops, &[])?;
-    let Err(fault) = run(&rt, rt.alloc(), lanes, 1, &NoGate) else {
-        return Err(Fail::from("no fault"));
-    };
-    assert_same(&rt, (fault.cause, fault.lane), (Cause::Memory, 0));
-    assert!(rt; is_log(&fault.log, &[(0, "x"), (1, "closed"), (0, "x")]));
+    let texts: [&[u8]; 1000] = [b"x"; 1000];
+    let mut lanes = Lanes::new(alloc);
+    lanes.add_odd(alloc, third, drops, &texts)?;
+    lanes.add_odd(alloc, PLAIN, drops, &[])?;
+    Ok(lanes)
+}
+
+/// The worker sends End, and the other lane closes.
+#[test]
+fn a_worker_that_stops_is_drained(rt: HostRuntime) -> Result<(), Fail> {
+    let drops = Arc::new(rt.alloc(), AtomicU64::new(0))?;
+    let lanes = stopping_lanes(rt.alloc(), &drops)?;
+    let expected = [(0, "x"), (1, "closed"), (0, "x")];
+    assert_stops(&rt, rt.alloc(), lanes, 1, (Cause::Memory, 0), &expected)?;
     assert_same(&rt, drops.load(Ordering::SeqCst), 2);
     Ok(())
 }
@@ -116,52 +123,58 @@ fn a_worker_that_stops_is_drained(rt: HostRuntime) -> Result<(), Fail> {
 /// Each sealer is dropped once also where all is relayed.
 #[test]
 fn sealers_of_a_whole_relay_are_dropped(rt: HostRuntime) -> Result<(), Fail> {
+    let nothing = Wrong {
+        fails_at: 0,
+        wiped: false,
+        bad_plan: false,
+    };
     let expected = [(0, "a"), (1, "closed"), (0, "b"), (0, "closed")];
     for capacity in [1, 64] {
         let drops = Arc::new(rt.alloc(), AtomicU64::new(0))?;
-        let mut lanes = Lanes::new(rt.alloc());
-        lanes.add_odd(rt.alloc(), PLAIN, &drops, &[b"a", b"b"])?;
-        lanes.add_odd(rt.alloc(), PLAIN, &drops, &[])?;
-        let Ok(report) = run(&rt, rt.alloc(), lanes, capacity, &NoGate) else {
-            return Err(Fail::from("a fault"));
-        };
-        assert!(rt; is_log(&report.log, &expected));
+        let lanes = two_odd_lanes(rt.alloc(), nothing, &drops)?;
+        reported(&rt, rt.alloc(), lanes, capacity, &NoGate, &expected)?;
         assert_same(&rt, drops.load(Ordering::SeqCst), 2);
     }
     Ok(())
 }
 
-/// Adds an entry of this word for each of the first seven lanes.
-fn push_round(
-    entries: &mut Vec<(u32, &'static str)>,
-    word: &'static str,
-) -> Result<(), AllocError> {
-    for lane in 0..7 {
-        entries.push((lane, word))?;
-    }
-    Ok(())
-}
-
-/// No want of memory is told where there is memory, and the lanes below are served whole.
-#[test]
-fn wiped_sealer_of_the_last_lane_is_named(rt: HostRuntime) -> Result<(), Fail> {
-    let drops = Arc::new(rt.alloc(), AtomicU64::new(0))?;
-    let mut lanes = Lanes::new(rt.alloc());
+/// Eight senders of one text each. The sealer of the last one was wiped.
+fn eight_lanes(alloc: Global, drops: &Arc<AtomicU64>) -> Result<Lanes, Fail> {
+    let mut lanes = Lanes::new(alloc);
     for lane in 0..8 {
         let sealer = Odd {
             fails_at: 0,
             wiped: lane == 7,
         };
-        lanes.add_odd(rt.alloc(), sealer, &drops, &[b"a"])?;
+        lanes.add_odd(alloc, sealer, drops, &[b"a"])?;
     }
-    let Err(fault) = run(&rt, rt.alloc(), lanes, 64, &NoGate) else {
-        return Err(Fail::from("no fault"));
-    };
-    assert_same(&rt, (fault.cause, fault.lane), (Cause::Wiped, 7));
-    let mut expected = Vec::new(rt.alloc());
-    push_round(&mut expected, "a")?;
-    push_round(&mut expected, "closed")?;
-    assert!(rt; is_log(&fault.log, expected.as_slice()));
+    Ok(lanes)
+}
+
+/// The entries of the first seven lanes: each one's text, and then each one's close.
+const TWO_ROUNDS: [(u32, &str); 14] = [
+    (0, "a"),
+    (1, "a"),
+    (2, "a"),
+    (3, "a"),
+    (4, "a"),
+    (5, "a"),
+    (6, "a"),
+    (0, "closed"),
+    (1, "closed"),
+    (2, "closed"),
+    (3, "closed"),
+    (4, "closed"),
+    (5, "closed"),
+    (6, "closed"),
+];
+
+/// No want of memory is told where there is memory, and the lanes below are served whole.
+#[test]
+fn wiped_sealer_of_the_last_lane_is_named(rt: HostRuntime) -> Result<(), Fail> {
+    let drops = Arc::new(rt.alloc(), AtomicU64::new(0))?;
+    let lanes = eight_lanes(rt.alloc(), &drops)?;
+    assert_stops(&rt, rt.alloc(), lanes, 64, (Cause::Wiped, 7), &TWO_ROUNDS)?;
     assert_same(&rt, drops.load(Ordering::SeqCst), 8);
     Ok(())
 }

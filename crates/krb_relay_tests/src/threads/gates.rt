@@ -1,8 +1,7 @@
 //! That workers overlap, and that frames are handed over within the capacity, as gates see it.
 
-use super::lanes::{run, two_lanes};
+use super::lanes::{reported, run, two_lanes};
 use crate::asserts::assert_same;
-use crate::log_lines::is_log;
 use krb_relay::Gate;
 use std::sync::atomic::{AtomicU64, Ordering};
 use std::test::Fail;
@@ -89,14 +88,11 @@ const TEN: [&[u8]; 10] = [b"a", b"b", b"c", b"d", b"e", b"f", b"g", b"h", b"i", 
 
 #[test]
 fn workers_overlap(rt: HostRuntime) -> Result<(), Fail> {
+    let expected = [(0, "a"), (1, "closed"), (0, "b"), (0, "closed")];
     for capacity in [1, 64] {
         let gate = Meeting::new();
         let lanes = two_lanes(rt.alloc(), &[b"a", b"b"])?;
-        let Ok(report) = run(&rt, rt.alloc(), lanes, capacity, &gate) else {
-            return Err(Fail::from("a fault"));
-        };
-        let expected = [(0, "a"), (1, "closed"), (0, "b"), (0, "closed")];
-        assert!(rt; is_log(&report.log, &expected));
+        reported(&rt, rt.alloc(), lanes, capacity, &gate, &expected)?;
         assert_same(&rt, gate.met.load(Ordering::SeqCst), 2);
     }
     Ok(())

@@ -1,10 +1,11 @@
 //! The lanes of the worked examples, sender by sender, and their relay.
 
-use crate::asserts::{assert_receivers, assert_senders};
-use crate::odd_sealer::OddSealer;
+use crate::asserts::{assert_receivers, assert_same, assert_senders};
+use crate::log_lines::assert_log;
+use crate::odd_sealer::{Odd, OddSealer};
 use crate::peers::{receiving, sending};
 use crate::session::{KEY, MICROS, expect, session};
-use krb_peers::{Emit, Receiver, Receiving, Sending};
+use krb_peers::{Emit, Ending, Receiver, Receiving, Sending};
 use krb_relay::{Fault, Gate, Report, relay};
 use krb_seal::{Aes128Sealer, Aes256Sealer, Mode, Opener, Sealer};
 use std::alloc::{AllocError, Global};
@@ -16,22 +17,6 @@ use std::thread::Threads;
 
 /// The key of each sender of encryption type 18.
 const LONG_KEY: [u8; 32] = [0x11; 32];
-
-/// What a sealer does besides sealing: it answers `Memory` at one of its calls (0: at none), and
-/// its drop is counted where it was wiped before.
-#[derive(Drop)]
-pub(super) struct Odd {
-    /// The call that answers `Memory`, from 1 on.
-    pub(super) fails_at: u64,
-    /// Whether it was wiped before.
-    pub(super) wiped: bool,
-}
-
-/// A sealer that nothing is odd of.
-pub(super) const PLAIN: Odd = Odd {
-    fails_at: 0,
-    wiped: false,
-};
 
 /// A sealer of encryption type 18 where `long`, else 17.
 fn sealer(
@@ -56,28 +41,27 @@ fn receiver(
     mode: Mode,
     host: u8,
     first: u32,
-) -> Result<Receiver, AllocError> {
+) -> Result<Receiving, Fail> {
     let expect = expect(alloc, mode, host)?;
     let opener = if long {
         Opener::new_256(&mut { LONG_KEY }, expect)
     } else {
         Opener::new_128(&mut { KEY }, expect)
     };
-    Ok(Receiver::new(opener, first))
+    receiving(alloc, Receiver::new(opener, first), &[MICROS])
 }
 
-/// A sealer of KRB-SAFE messages from 7 on, which is odd.
-fn odd_sealer(
+/// A sender of KRB-SAFE messages from 7 on, whose sealer is odd.
+fn odd_sender(
     alloc: Global,
     host: u8,
     odd: Odd,
     drops: &Arc<AtomicU64>,
-) -> Result<Box<dyn Sealer + Send>, AllocError> {
-    let mut sealer = OddSealer::new(alloc, host, odd.fails_at, drops)?;
-    if odd.wiped {
-        sealer.wipe();
-    }
-    Ok(Box::new(alloc, sealer)?)
+    texts: &[&[u8]],
+) -> Result<Sending, Fail> {
+    let sealer = OddSealer::new(alloc, host, odd, drops)?;
+    let sealer: Box<dyn Sealer + Send> = Box::new(alloc, sealer)?;
+    sending(alloc, sealer, texts, &[MICROS])
 }
 
 /// The ends of lanes, sender by sender.
@@ -113,8 +97,8 @@ impl Lanes {
         let sealer = sealer(alloc, long, mode, host, first)?;
         self.sendings
             .push(sending(alloc, sealer, texts, &[MICROS])?)?;
-        let receiver = receiver(alloc, long, mode, host, first)?;
-        self.receivings.push(receiving(alloc, receiver)?)?;
+        self.receivings
+            .push(receiver(alloc, long, mode, host, first)?)?;
         Ok(())
     }
 
@@ -127,11 +111,10 @@ impl Lanes {
         texts: &[&[u8]],
     ) -> Result<(), Fail> {
         let host = self.next_host();
-        let sealer = odd_sealer(alloc, host, odd, drops)?;
         self.sendings
-            .push(sending(alloc, sealer, texts, &[MICROS])?)?;
-        let receiver = receiver(alloc, false, Mode::Safe, host, 7)?;
-        self.receivings.push(receiving(alloc, receiver)?)?;
+            .push(odd_sender(alloc, host, odd, drops, texts)?)?;
+        self.receivings
+            .push(receiver(alloc, false, Mode::Safe, host, 7)?)?;
         Ok(())
     }
 
@@ -176,4 +159,28 @@ pub(super) fn run<R: Threads + Wait + Abort + Sync, G: Gate + Sync>(
     assert_senders(rt, sendings.as_slice());
     assert_receivers(rt, receivings.as_slice());
     relay(rt, alloc, sendings, receivings, capacity, gate)
+}
+
+/// What is reported of these lanes, of which the log has these entries.
+pub(super) fn reported<R: Threads + Wait + Abort + Sync, G: Gate + Sync>(
+    rt: &R,
+    alloc: Global,
+    lanes: Lanes,
+    capacity: usize,
+    gate: &G,
+    expected: &[(u32, &str)],
+) -> Result<Report, Fail> {
+    let Ok(report) = run(rt, alloc, lanes, capacity, gate) else {
+        return Err(Fail::from("a fault"));
+    };
+    assert_log(rt, &report.log, expected);
+    Ok(report)
+}
+
+/// Asserts of each sender how many of how many texts are sealed, and why no more.
+pub(super) fn assert_sent(rt: &impl Abort, report: &Report, expected: &[(usize, usize, Ending)]) {
+    assert_same(rt, report.sent.len(), expected.len());
+    for (sent, counts) in report.sent.iter().zip(expected) {
+        assert_same(rt, (sent.k, sent.n, sent.ending), *counts);
+    }
 }

@@ -2,11 +2,11 @@
 //! for want of memory or of a thread, and then its log has of each lane a front of the known
 //! entries. `tools/sweep` refuses the growths, and counts the lines that tell of a refusal.
 
-use super::lanes::{run, two_lanes};
+use super::lanes::{assert_sent, run, two_lanes};
 use crate::asserts::assert_same;
-use crate::log_lines::{is_event, is_log};
-use krb_peers::{Log, Status};
-use krb_relay::{Cause, NoGate, Report};
+use crate::log_lines::{assert_log, is_event};
+use krb_peers::{Ending, Log, Status};
+use krb_relay::{Cause, Fault, NoGate, Report};
 use std::process::Abort;
 use std::test::Fail;
 
@@ -32,13 +32,19 @@ fn has_front(log: &Log, lane: u32, words: &[&str]) -> bool {
 /// Asserts that the relay did all that it was to do.
 fn assert_whole(rt: &impl Abort, report: &Report) {
     let whole = [(0, "a"), (1, "closed"), (0, "b"), (0, "closed")];
-    assert!(rt; is_log(&report.log, &whole));
+    assert_log(rt, &report.log, &whole);
     assert!(rt; report.log.lanes() == 2);
     assert_same(rt, report.log.status(0), Status::Closed);
     assert_same(rt, report.log.status(1), Status::Closed);
-    assert!(rt; report.sent.len() == 2);
-    assert_same(rt, (report.sent[0].k, report.sent[0].n), (2, 2));
-    assert_same(rt, (report.sent[1].k, report.sent[1].n), (0, 0));
+    assert_sent(rt, report, &[(2, 2, Ending::Done), (0, 0, Ending::Done)]);
+}
+
+/// Asserts that the relay stopped for want of memory or of a thread, behind a front of each lane.
+fn assert_stopped(rt: &impl Abort, fault: &Fault) {
+    assert!(rt; matches!(fault.cause, Cause::Memory | Cause::Spawn));
+    assert!(rt; fault.lane < 2);
+    assert!(rt; has_front(&fault.log, 0, &FIRST));
+    assert!(rt; has_front(&fault.log, 1, &SECOND));
 }
 
 #[test]
@@ -47,10 +53,7 @@ fn relay_reports_or_stops(rt: HostRuntime) -> Result<(), Fail> {
     match run(&rt, rt.alloc(), lanes, 1, &NoGate) {
         Ok(report) => assert_whole(&rt, &report),
         Err(fault) => {
-            assert!(rt; matches!(fault.cause, Cause::Memory | Cause::Spawn));
-            assert!(rt; fault.lane < 2);
-            assert!(rt; has_front(&fault.log, 0, &FIRST));
-            assert!(rt; has_front(&fault.log, 1, &SECOND));
+            assert_stopped(&rt, &fault);
             println!(rt; "refused: relay, {}", fault.cause)?;
         }
     }
