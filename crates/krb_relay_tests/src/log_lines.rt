@@ -1,5 +1,6 @@
 //! Logs as the worked examples print them.
 
+use crate::asserts::assert_same;
 use krb_peers::{Event, Log};
 use std::process::Abort;
 
@@ -12,14 +13,11 @@ pub(crate) fn is_event(event: &Event, word: &str) -> bool {
     }
 }
 
-/// Whether a log has these entries: the lane, and the text, `closed` or the refusal's name.
-pub(crate) fn is_log(log: &Log, expected: &[(u32, &str)]) -> bool {
-    log.entries().len() == expected.len()
-        && log.entries().iter().zip(expected).all(|(entry, (lane, word))| entry.lane == *lane
-            && is_event(&entry.event, word))
-}
-
-/// Asserts that a log has these entries.
+/// Asserts that a log has these entries: the lane, and the text, `closed` or the refusal's name.
 pub(crate) fn assert_log(rt: &impl Abort, log: &Log, expected: &[(u32, &str)]) {
-    assert!(rt; is_log(log, expected));
+    assert_same(rt, log.entries().len(), expected.len());
+    for (place, (entry, (lane, word))) in log.entries().iter().zip(expected).enumerate() {
+        let right = entry.lane == *lane && is_event(&entry.event, word);
+        assert!(rt; right, "entry {place}: lane {lane}, {word}");
+    }
 }

@@ -3,10 +3,10 @@
 use super::sealer;
 use super::steps::{begin, receiving};
 use crate::asserts::assert_same;
-use crate::log_lines::is_log;
+use crate::log_lines::assert_log;
 use crate::peers::{self, sending};
 use crate::session::{MICROS, expect, session};
-use krb_core::{Emit, Log, Receiver, Receiving, Sending, Status, Stepped};
+use krb_core::{Emit, Receiver, Receiving, Sending, Status, Stepped};
 use krb_seal::{Aes256Sealer, Mode, Opener, Sealer};
 use std::alloc::{AllocError, Global};
 use std::process::Abort;
@@ -85,19 +85,8 @@ fn two_lanes(
     relay_of(rt, alloc, capacity, sendings)
 }
 
-/// Whether the log has these entries, and two lanes with these statuses.
-fn is_log_of_two(
-    rt: &impl Abort,
-    log: &Log,
-    expected: &[(u32, &str)],
-    statuses: [Status; 2],
-) -> bool {
-    assert!(rt; log.lanes() == 2);
-    is_log(log, expected) && [log.status(0), log.status(1)] == statuses
-}
-
-/// Asserts that a relay which runs to its end has these entries and statuses then, and whether it
-/// is done.
+/// Asserts that a relay of two lanes which runs to its end has these entries and statuses then, and
+/// whether it is done.
 fn assert_finishes(
     rt: &impl Abort,
     relay: &mut Stepped,
@@ -106,7 +95,10 @@ fn assert_finishes(
     done: bool,
 ) -> Result<(), AllocError> {
     relay.finish()?;
-    assert!(rt; is_log_of_two(rt, relay.log(), expected, statuses));
+    let log = relay.log();
+    assert_log(rt, log, expected);
+    assert!(rt; log.lanes() == 2);
+    assert_same(rt, [log.status(0), log.status(1)], statuses);
     assert_same(rt, relay.done(), done);
     Ok(())
 }

@@ -1,5 +1,7 @@
 //! What a receiver answers to frames that a plan disturbs, and what it gives a log.
 
+ghost use Rattle.std.specs.Prelude.{◌≡◌, IfOk};
+
 use super::{answers_so, frames_of, receiver, receives, sealer};
 use crate::asserts::{assert_same, assert_sender};
 use crate::peers::{receiving, sending};
@@ -160,15 +162,23 @@ fn wire_of_one(rt: &impl Abort, alloc: Global) -> Result<Vec<Vec<u8>>, Fail> {
     Ok(emit_sealed(alloc, 0, sender)?)
 }
 
+/// The log of one lane into which a receiver takes a frame, and then demands the number 8.
+fn log_of(rt: &impl Abort, alloc: Global, frame: &[u8]) -> Result<Log, Fail>
+    ensures { IfOk result (λ log. log.lanes ≡ 1) }
+{
+    let now = moment(MICROS + 1)?;
+    let mut receiver = receiver(alloc, Mode::Priv, 7)?;
+    let mut log = Log::new(alloc, 1);
+    receiver.take_into(&mut log, alloc, 0, frame, now)?;
+    assert_same(rt, receiver.expected(), 8);
+    Ok(log)
+}
+
 #[test]
 fn frame_taken_into_a_log(rt: HostRuntime) -> Result<(), Fail> {
-    let now = moment(MICROS + 1)?;
     let wire = wire_of_one(&rt, rt.alloc())?;
     assert!(rt; wire.len() == 2);
-    let mut receiver = receiver(rt.alloc(), Mode::Priv, 7)?;
-    let mut log = Log::new(rt.alloc(), 1);
-    receiver.take_into(&mut log, rt.alloc(), 0, wire[0].as_slice(), now)?;
-    assert_same(&rt, receiver.expected(), 8);
+    let log = log_of(&rt, rt.alloc(), wire[0].as_slice())?;
     assert_same(&rt, log.text(0, 0), Some(b"hi".as_slice()));
     Ok(())
 }

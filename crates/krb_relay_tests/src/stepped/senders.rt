@@ -93,7 +93,19 @@ fn closes_at_the_last_number(frames: &[Vec<u8>]) -> bool {
     }
 }
 
-/// Asserts that a sender of two texts from `first` on seals `k` of them, up to the last number.
+/// The frames of a sender of two texts from `first` on, which seals `k` of them.
+fn last_frames(rt: &impl Abort, alloc: Global, first: u32, k: usize) -> Result<Vec<Vec<u8>>, Fail> {
+    let mut sending = says_two(alloc, first)?;
+    let sent = sending.sent();
+    assert_same(rt, (sent.k, sent.n), (k, 2));
+    assert_same(rt, sent.ending == Ending::Done, k == 2);
+    assert_same(rt, Some(sending.records()), k.checked_add(1));
+    let frames = sealed(rt, alloc, &mut sending)?;
+    assert_same(rt, sending.sealer.next(), 4_294_967_296);
+    Ok(frames)
+}
+
+/// Asserts that the last of them is a close at the last number, and what a receiver takes.
 fn assert_kept(
     rt: &impl Abort,
     alloc: Global,
@@ -101,13 +113,7 @@ fn assert_kept(
     k: usize,
     words: &[&str],
 ) -> Result<(), Fail> {
-    let mut sending = says_two(alloc, first)?;
-    let sent = sending.sent();
-    assert_same(rt, (sent.k, sent.n), (k, 2));
-    assert_same(rt, sent.ending == Ending::Done, k == 2);
-    assert_same(rt, sending.records(), words.len());
-    let frames = sealed(rt, alloc, &mut sending)?;
-    assert_same(rt, sending.sealer.next(), 4_294_967_296);
+    let frames = last_frames(rt, alloc, first, k)?;
     assert!(rt; closes_at_the_last_number(frames.as_slice()));
     assert!(rt; receives(alloc, Mode::Safe, first, frames.as_slice(), words)?);
     Ok(())
@@ -133,9 +139,15 @@ fn by_twos(alloc: Global, first: u32) -> Result<Sending<Aes128Sealer>, Fail> {
     Ok(sending)
 }
 
-/// Its frames from number 7 on.
+/// Its frames from number 7 on, which are three.
 fn frames_by_twos(rt: &impl Abort, alloc: Global) -> Result<Vec<Vec<u8>>, Fail> {
-    Ok(sealed(rt, alloc, &mut by_twos(alloc, 7)?)?)
+    let mut sending = by_twos(alloc, 7)?;
+    assert_same(rt, sending.records(), 3);
+    let sent = sending.sent();
+    assert_same(rt, (sent.k, sent.n, sent.ending), (3, 3, Ending::Done));
+    let frames = sealed(rt, alloc, &mut sending)?;
+    assert_same(rt, sending.sealer.next(), 10);
+    Ok(frames)
 }
 
 /// Asserts of the frames of `by_twos` that the first one carries the batch: up to the data, which
@@ -153,12 +165,7 @@ fn assert_batch(rt: &impl Abort, frames: &[Vec<u8>]) {
 
 #[test]
 fn two_texts_go_together(rt: HostRuntime) -> Result<(), Fail> {
-    let mut sending = by_twos(rt.alloc(), 7)?;
-    assert_same(&rt, sending.records(), 3);
-    let sent = sending.sent();
-    assert_same(&rt, (sent.k, sent.n, sent.ending), (3, 3, Ending::Done));
-    let frames = sealed(&rt, rt.alloc(), &mut sending)?;
-    assert_same(&rt, sending.sealer.next(), 10);
+    let frames = frames_by_twos(&rt, rt.alloc())?;
     assert_batch(&rt, frames.as_slice());
     let words = ["ab", "c", "closed"];
     assert!(rt; receives(rt.alloc(), Mode::Safe, 7, frames.as_slice(), &words)?);

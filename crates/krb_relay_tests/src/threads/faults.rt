@@ -120,20 +120,30 @@ fn a_worker_that_stops_is_drained(rt: HostRuntime) -> Result<(), Fail> {
     Ok(())
 }
 
-/// Each sealer is dropped once also where all is relayed.
-#[test]
-fn sealers_of_a_whole_relay_are_dropped(rt: HostRuntime) -> Result<(), Fail> {
+/// Asserts at a capacity that two senders of whom nothing is wrong are relayed whole, and that each
+/// sealer is dropped once.
+fn assert_relayed<R: Threads + Wait + Abort + Sync>(
+    rt: &R,
+    alloc: Global,
+    capacity: usize,
+) -> Result<(), Fail> {
     let nothing = Wrong {
         fails_at: 0,
         wiped: false,
         bad_plan: false,
     };
     let expected = [(0, "a"), (1, "closed"), (0, "b"), (0, "closed")];
+    let drops = Arc::new(alloc, AtomicU64::new(0))?;
+    let lanes = two_odd_lanes(alloc, nothing, &drops)?;
+    reported(rt, alloc, lanes, capacity, &NoGate, &expected)?;
+    assert_same(rt, drops.load(Ordering::SeqCst), 2);
+    Ok(())
+}
+
+#[test]
+fn sealers_of_a_whole_relay_are_dropped(rt: HostRuntime) -> Result<(), Fail> {
     for capacity in [1, 64] {
-        let drops = Arc::new(rt.alloc(), AtomicU64::new(0))?;
-        let lanes = two_odd_lanes(rt.alloc(), nothing, &drops)?;
-        reported(&rt, rt.alloc(), lanes, capacity, &NoGate, &expected)?;
-        assert_same(&rt, drops.load(Ordering::SeqCst), 2);
+        assert_relayed(&rt, rt.alloc(), capacity)?;
     }
     Ok(())
 }

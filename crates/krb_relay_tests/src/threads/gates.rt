@@ -3,8 +3,12 @@
 use super::lanes::{reported, run, two_lanes};
 use crate::asserts::assert_same;
 use krb_relay::Gate;
+use std::alloc::Global;
+use std::process::Abort;
+use std::sync::Wait;
 use std::sync::atomic::{AtomicU64, Ordering};
 use std::test::Fail;
+use std::thread::Threads;
 
 /// How often a gate looks for another worker.
 const TURNS: u64 = 1_000_000_000;
@@ -86,14 +90,24 @@ impl Gate for Fourth {
 
 const TEN: [&[u8]; 10] = [b"a", b"b", b"c", b"d", b"e", b"f", b"g", b"h", b"i", b"j"];
 
+/// Asserts at a capacity that both workers meet at the gate, and that all is relayed.
+fn assert_overlap<R: Threads + Wait + Abort + Sync>(
+    rt: &R,
+    alloc: Global,
+    capacity: usize,
+) -> Result<(), Fail> {
+    let expected = [(0, "a"), (1, "closed"), (0, "b"), (0, "closed")];
+    let gate = Meeting::new();
+    let lanes = two_lanes(alloc, &[b"a", b"b"])?;
+    reported(rt, alloc, lanes, capacity, &gate, &expected)?;
+    assert_same(rt, gate.met.load(Ordering::SeqCst), 2);
+    Ok(())
+}
+
 #[test]
 fn workers_overlap(rt: HostRuntime) -> Result<(), Fail> {
-    let expected = [(0, "a"), (1, "closed"), (0, "b"), (0, "closed")];
     for capacity in [1, 64] {
-        let gate = Meeting::new();
-        let lanes = two_lanes(rt.alloc(), &[b"a", b"b"])?;
-        reported(&rt, rt.alloc(), lanes, capacity, &gate, &expected)?;
-        assert_same(&rt, gate.met.load(Ordering::SeqCst), 2);
+        assert_overlap(&rt, rt.alloc(), capacity)?;
     }
     Ok(())
 }

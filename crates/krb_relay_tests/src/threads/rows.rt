@@ -110,17 +110,29 @@ fn plans_of_both_types_and_modes(rt: HostRuntime) -> Result<(), Fail> {
     Ok(())
 }
 
+/// Asserts of each kind the entries of the lane from a number on, and that `k` texts are sent.
+fn assert_kept<R: Threads + Wait + Abort + Sync>(
+    rt: &R,
+    alloc: Global,
+    first: u32,
+    k: usize,
+    expected: &[(u32, &str)],
+) -> Result<(), Fail> {
+    for (long, mode) in KINDS {
+        let lanes = one_lane(alloc, long, mode, first)?;
+        let report = reported(rt, alloc, lanes, 64, &NoGate, expected)?;
+        assert_sent(rt, &report, &[(k, 2, Ending::LastNumber)]);
+    }
+    Ok(())
+}
+
 #[test]
 fn last_number_is_kept_for_the_close(rt: HostRuntime) -> Result<(), Fail> {
-    for (long, mode) in KINDS {
-        for (first, k, expected) in [
-            (4_294_967_294, 1, [(0, "a"), (0, "closed")].as_slice()),
-            (4_294_967_295, 0, &[(0, "closed")]),
-        ] {
-            let lanes = one_lane(rt.alloc(), long, mode, first)?;
-            let report = reported(&rt, rt.alloc(), lanes, 64, &NoGate, expected)?;
-            assert_sent(&rt, &report, &[(k, 2, Ending::LastNumber)]);
-        }
+    for (first, k, expected) in [
+        (4_294_967_294, 1, [(0, "a"), (0, "closed")].as_slice()),
+        (4_294_967_295, 0, &[(0, "closed")]),
+    ] {
+        assert_kept(&rt, rt.alloc(), first, k, expected)?;
     }
     Ok(())
 }
