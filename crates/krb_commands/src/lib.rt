@@ -37,6 +37,3 @@ pub use opening::open_job;
 pub use published::vectors;
 pub use relaying::relay_job;
 pub use sealing::seal_job;
-
-#[cfg(test)]
-mod tests;

@@ -23,6 +23,3 @@ pub use job::{Command, Job, SenderJob};
 pub use place::Place;
 pub use read::read_job;
 pub use secret::Secret;
-
-#[cfg(test)]
-mod tests;

@@ -21,6 +21,3 @@ mod running;
 pub use command::{Cmd, command_of};
 pub use ending::{bad_words, finish, usage};
 pub use running::{obey, run};
-
-#[cfg(test)]
-mod tests;

@@ -1,0 +1,266 @@
+//! Readers and writers over memory that fail at one of their calls, and that the commands tell so.
+ghost use Rattle.std.specs.Prelude.{Some};
+
+use super::jobs::{run, sender};
+use super::opens::receiver;
+use super::relays::{SILENT, two_senders};
+use super::shows::{SAFE_LINE, SAFE_TEXT};
+use super::vectors::PUBLISHED;
+use crate::asserts::{assert_same, assert_same_at};
+use crate::frames::{SAFE_CLOSE, SAFE_TEXT as SAFE_FRAME};
+use crate::relayed::TWO_LANES;
+use krb_commands::{Fault, read_all, show, vectors};
+use krb_job::Command;
+use std::alloc::Global;
+use std::io;
+use std::io::{ErrorKind, Read, Write};
+use std::process::Abort;
+use std::sync::Wait;
+use std::test::Fail;
+use std::thread::Threads;
+
+/// What happens at the call that fails.
+#[derive(Clone, Copy, PartialEq, Eq)]
+enum Failure {
+    Error,
+    Nothing,
+}
+
+/// Gives at most three bytes a call, and fails at one call.
+#[derive(Drop)]
+struct FaultyReader<'a> {
+    rest: &'a [u8],
+    calls: usize,
+    fails_at: usize,
+}
+
+impl<'a> Read for FaultyReader<'a> {
+    ghost remaining = { λ r. Some r.rest.now };
+
+    fn read(&mut self, buf: &mut [u8]) -> io::Result<usize> {
+        self.calls = self.calls.wrapping_add(1);
+        if self.calls == self.fails_at {
+            return Err(io::Error::from(ErrorKind::Other));
+        }
+        let most = buf.len().min(3);
+        self.rest.read(&mut buf[..most])
+    }
+}
+
+/// Takes at most two bytes a call, and fails or takes nothing at one call.
+#[derive(Drop)]
+struct FaultyWriter {
+    taken: Vec<u8>,
+    calls: usize,
+    fails_at: usize,
+    failure: Failure,
+}
+
+impl Write for FaultyWriter {
+    ghost contents = { λ w. Some w.taken.items };
+
+    fn write(&mut self, buf: &[u8]) -> io::Result<usize> {
+        self.calls = self.calls.wrapping_add(1);
+        if self.calls == self.fails_at {
+            return match self.failure {
+                Failure::Error => Err(io::Error::from(ErrorKind::Other)),
+                Failure::Nothing => Ok(0),
+            };
+        }
+        let most = buf.len().min(2);
+        self.taken.write(&buf[..most])
+    }
+
+    fn flush(&mut self) -> io::Result<()> {
+        Ok(())
+    }
+}
+
+/// What `show` answers and writes where the reader fails at this call.
+fn with_read_fault(rt: &HostRuntime, fails_at: usize) -> (Result<u8, Fault>, Vec<u8>) {
+    let mut reader = FaultyReader {
+        rest: SAFE_LINE.as_bytes(),
+        calls: 0,
+        fails_at,
+    };
+    let mut output = Vec::new(rt.alloc());
+    let result = show(rt.alloc(), &mut reader, &mut output);
+    (result, output)
+}
+
+/// The same where the writer fails.
+fn with_write_fault(
+    rt: &HostRuntime,
+    fails_at: usize,
+    failure: Failure,
+) -> (Result<u8, Fault>, Vec<u8>) {
+    let mut reader = SAFE_LINE.as_bytes();
+    let mut writer = FaultyWriter {
+        taken: Vec::new(rt.alloc()),
+        calls: 0,
+        fails_at,
+        failure,
+    };
+    let result = show(rt.alloc(), &mut reader, &mut writer);
+    (result, writer.taken)
+}
+
+#[test]
+fn each_read_fails_in_turn(rt: HostRuntime) {
+    // 169 bytes, three a call, and one call that finds the end
+    for call in 1..59 {
+        let (result, output) = with_read_fault(&rt, call);
+        assert_same_at(&rt, result, Err(Fault::Read), call);
+        assert!(rt; output.is_empty(), "call {call}");
+    }
+    let (result, output) = with_read_fault(&rt, 59);
+    assert_same(&rt, result, Ok(0));
+    assert_same(&rt, output.as_slice(), SAFE_TEXT.as_bytes());
+}
+
+#[test]
+fn each_write_fails_or_takes_nothing_in_turn(rt: HostRuntime) {
+    for failure in [Failure::Error, Failure::Nothing] {
+        // 86 bytes, two a call
+        for call in 1..44 {
+            let (result, output) = with_write_fault(&rt, call, failure);
+            assert_same_at(&rt, result, Err(Fault::Write), call);
+            assert_same(&rt, output.len(), 2 * (call - 1));
+            assert!(rt;
+                SAFE_TEXT.as_bytes().starts_with(output.as_slice()),
+                "call {call}"
+            );
+        }
+        let (result, output) = with_write_fault(&rt, 44, failure);
+        assert_same(&rt, result, Ok(0));
+        assert_same(&rt, output.as_slice(), SAFE_TEXT.as_bytes());
+    }
+}
+
+/// What a command answers and writes where the writer fails.
+fn run_with_write_fault(
+    rt: &(impl Threads + Wait + Sync + Abort + Alloc<A = Global>),
+    command: Command,
+    job: &str,
+    fails_at: usize,
+    failure: Failure,
+) -> (Result<u8, Fault>, Vec<u8>) {
+    let mut writer = FaultyWriter {
+        taken: Vec::new(rt.alloc()),
+        calls: 0,
+        fails_at,
+        failure,
+    };
+    let result = run(rt, command, job, &mut writer);
+    (result, writer.taken)
+}
+
+/// Asserts that each call before the last tells its fault and leaves a part of the text, and that
+/// the last is not made.
+fn assert_write_faults(
+    rt: &(impl Threads + Wait + Sync + Abort + Alloc<A = Global>),
+    command: Command,
+    job: &str,
+    last: usize,
+    text: &str,
+) {
+    for failure in [Failure::Error, Failure::Nothing] {
+        for call in 1..last {
+            let (result, output) = run_with_write_fault(rt, command, job, call, failure);
+            assert_same_at(rt, result, Err(Fault::Write), call);
+            assert!(rt; output.len() < text.len(), "call {call}");
+            assert!(rt;
+                text.as_bytes().starts_with(output.as_slice()),
+                "call {call}"
+            );
+        }
+        let (result, output) = run_with_write_fault(rt, command, job, last, failure);
+        assert_same(rt, result, Ok(0));
+        assert_same(rt, output.as_slice(), text.as_bytes());
+    }
+}
+
+#[test]
+fn each_write_of_seal_fails_in_turn(rt: HostRuntime) -> Result<(), Fail> {
+    let job = sender(rt.alloc(), &[])?;
+    let text = format!(in rt.alloc(); "{SAFE_FRAME}\n{SAFE_CLOSE}\nsent 1 of 1 DONE\n")?;
+    // lines of 193, 189 and 17 bytes, two a call
+    assert_write_faults(&rt, Command::Seal, job.as_str(), 202, text.as_str());
+    Ok(())
+}
+
+#[test]
+fn each_write_of_open_fails_in_turn(rt: HostRuntime) -> Result<(), Fail> {
+    let job = receiver(rt.alloc(), &[], &[SAFE_FRAME, SAFE_CLOSE])?;
+    let text = "lane 0 text 6869\nlane 0 closed\nlane 0 CLOSED\n";
+    // lines of 17, 14 and 14 bytes, two a call
+    assert_write_faults(&rt, Command::Open, job.as_str(), 24, text);
+    Ok(())
+}
+
+#[test]
+fn each_write_of_relay_fails_in_turn(rt: HostRuntime) -> Result<(), Fail> {
+    let job = two_senders(&rt, 1, &SILENT)?;
+    // lines of 15, 14, 15, 14, 31 and 31 bytes, two a call
+    assert_write_faults(&rt, Command::Relay, job.as_str(), 63, TWO_LANES);
+    Ok(())
+}
+
+/// What `read_all` answers where the reader fails at this call: the fault, or none where it gives
+/// the whole line.
+fn read_with_fault(alloc: Global, fails_at: usize) -> Option<Fault> {
+    let mut reader = FaultyReader {
+        rest: SAFE_LINE.as_bytes(),
+        calls: 0,
+        fails_at,
+    };
+    match read_all(alloc, &mut reader) {
+        Ok(input) if input.as_slice() == SAFE_LINE.as_bytes() => None,
+        Ok(_) => Some(Fault::Stopped),
+        Err(fault) => Some(fault),
+    }
+}
+
+#[test]
+fn each_read_of_an_input_fails_in_turn(rt: HostRuntime) {
+    for call in 1..59 {
+        let fault = read_with_fault(rt.alloc(), call);
+        assert_same_at(&rt, fault, Some(Fault::Read), call);
+    }
+    assert_same(&rt, read_with_fault(rt.alloc(), 59), None);
+}
+
+/// What `vectors` answers and writes where the writer fails.
+fn vectors_with_fault(
+    rt: &HostRuntime,
+    fails_at: usize,
+    failure: Failure,
+) -> (Result<u8, Fault>, Vec<u8>) {
+    let mut writer = FaultyWriter {
+        taken: Vec::new(rt.alloc()),
+        calls: 0,
+        fails_at,
+        failure,
+    };
+    let result = vectors(rt.alloc(), &mut writer);
+    (result, writer.taken)
+}
+
+#[test]
+fn each_write_of_vectors_fails_in_turn(rt: HostRuntime) {
+    for failure in [Failure::Error, Failure::Nothing] {
+        // 376 bytes, two a call
+        for call in 1..189 {
+            let (result, output) = vectors_with_fault(&rt, call, failure);
+            assert_same_at(&rt, result, Err(Fault::Write), call);
+            assert_same(&rt, output.len(), 2 * (call - 1));
+            assert!(rt;
+                PUBLISHED.as_bytes().starts_with(output.as_slice()),
+                "call {call}"
+            );
+        }
+        let (result, output) = vectors_with_fault(&rt, 189, failure);
+        assert_same(&rt, result, Ok(0));
+        assert_same(&rt, output.as_slice(), PUBLISHED.as_bytes());
+    }
+}

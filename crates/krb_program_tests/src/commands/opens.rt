@@ -1,0 +1,148 @@
+//! What `open` prints of frames of an independent sealer, and of what `seal` prints.
+
+use super::jobs::{answers, listed, run, sender_with};
+use crate::asserts::assert_same;
+use crate::frames::{SAFE_CLOSE, SAFE_TEXT};
+use krb_job::Command;
+use std::alloc::{AllocError, Global};
+use std::process::Abort;
+use std::sync::Wait;
+use std::test::Fail;
+use std::thread::Threads;
+
+/// The job of the receiver of these frames, with these changes. It has no keys of a sender.
+pub fn receiver(
+    alloc: Global,
+    changes: &[(&str, &str)],
+    frames: &[&str],
+) -> Result<String, AllocError> {
+    let list = listed(alloc, frames)?;
+    let others = [
+        ("seed", ""),
+        ("at", ""),
+        ("texts", ""),
+        ("batch", ""),
+        ("frames", list.as_str()),
+    ];
+    sender_with(alloc, changes, &others)
+}
+
+/// Whether `open` answers so to these frames, with these changes of the job.
+pub fn opens(
+    rt: &(impl Threads + Wait + Sync + Abort + Alloc<A = Global>),
+    changes: &[(&str, &str)],
+    frames: &[&str],
+    status: u8,
+    text: &str,
+) -> Result<bool, Fail> {
+    let job = receiver(rt.alloc(), changes, frames)?;
+    Ok(answers(rt, Command::Open, job.as_str(), status, text))
+}
+
+#[test]
+fn text_and_close_are_accepted(rt: HostRuntime) -> Result<(), Fail> {
+    let text = "lane 0 text 6869\nlane 0 closed\nlane 0 CLOSED\n";
+    assert!(rt; opens(&rt, &[], &[SAFE_TEXT, SAFE_CLOSE], 0, text)?);
+    Ok(())
+}
+
+#[test]
+fn without_the_close_the_lane_is_truncated(rt: HostRuntime) -> Result<(), Fail> {
+    assert!(rt; opens(&rt, &[], &[], 3, "lane 0 TRUNCATED\n")?);
+    let text = "lane 0 text 6869\nlane 0 TRUNCATED\n";
+    assert!(rt; opens(&rt, &[], &[SAFE_TEXT], 3, text)?);
+    let text = "lane 0 refused 42 BADORDER\nlane 0 TRUNCATED\n";
+    assert!(rt; opens(&rt, &[], &[SAFE_CLOSE], 3, text)?);
+    Ok(())
+}
+
+#[test]
+fn frame_after_the_close_is_refused(rt: HostRuntime) -> Result<(), Fail> {
+    let frames = [SAFE_TEXT, SAFE_CLOSE, SAFE_CLOSE];
+    let text = "lane 0 text 6869\nlane 0 closed\nlane 0 refused 903 AFTER_CLOSE\nlane 0 CLOSED\n";
+    assert!(rt; opens(&rt, &[], &frames, 0, text)?);
+    Ok(())
+}
+
+#[test]
+fn each_frame_is_taken_at_the_moment_of_its_place(rt: HostRuntime) -> Result<(), Fail> {
+    let late = [("now", "[1700000000000005, 1700000300000006]")];
+    let text = "lane 0 text 6869\nlane 0 refused 37 SKEW\nlane 0 TRUNCATED\n";
+    assert!(rt; opens(&rt, &late, &[SAFE_TEXT, SAFE_CLOSE], 3, text)?);
+    // the last moment serves the frames after it, and a refused frame has a place as well
+    let early = [("now", "[1699999700000004, 1700000000000005]")];
+    let text = "lane 0 refused 37 SKEW\nlane 0 text 6869\nlane 0 closed\nlane 0 CLOSED\n";
+    assert!(rt; opens(&rt, &early, &[SAFE_TEXT, SAFE_TEXT, SAFE_CLOSE], 0, text)?);
+    Ok(())
+}
+
+/// The frames among the lines that `seal` prints.
+fn frames_of<'a>(alloc: Global, printed: &'a str) -> Result<Vec<&'a str>, AllocError> {
+    let mut frames = Vec::new(alloc);
+    for line in printed.lines() {
+        if !line.starts_with("sent ") {
+            frames.push(line)?;
+        }
+    }
+    Ok(frames)
+}
+
+/// What `open` prints where each of these texts and the close arrive.
+fn all_of(alloc: Global, texts: &[&str]) -> Result<String, AllocError> {
+    let mut printed = String::new(alloc);
+    for text in texts {
+        let line = format!(in alloc; "lane 0 text {text}\n")?;
+        printed.push_str(line.as_str())?;
+    }
+    printed.push_str("lane 0 closed\nlane 0 CLOSED\n")?;
+    Ok(printed)
+}
+
+/// Whether `open` gives each text of what `seal` makes of them, with these changes of the job.
+fn come_back(
+    rt: &(impl Threads + Wait + Sync + Abort + Alloc<A = Global>),
+    changes: &[(&str, &str)],
+    texts: &[&str],
+) -> Result<bool, Fail> {
+    let list = listed(rt.alloc(), texts)?;
+    let job = sender_with(rt.alloc(), changes, &[("texts", list.as_str())])?;
+    let mut output = Vec::new(rt.alloc());
+    let sealed = run(rt, Command::Seal, job.as_str(), &mut output);
+    assert_same(rt, sealed, Ok(0));
+    let printed = str::from_utf8(output.as_slice()).ok().ok_or("no text")?;
+    let frames = frames_of(rt.alloc(), printed)?;
+    assert_same(rt, frames.len(), texts.len() + 1);
+    let expected = all_of(rt.alloc(), texts)?;
+    opens(rt, changes, frames.as_slice(), 0, expected.as_str())
+}
+
+#[test]
+fn sealed_texts_come_back_in_each_mode_of_each_type(rt: HostRuntime) -> Result<(), Fail> {
+    let wide = "'1111111111111111111111111111111111111111111111111111111111111111'";
+    let texts = ["61", "", "ff00ff", "61"];
+    for mode in ["'safe'", "'priv'"] {
+        assert!(rt; come_back(&rt, &[("mode", mode)], &texts)?, "17 {mode}");
+        let changes = [("etype", "18"), ("key", wide), ("mode", mode)];
+        assert!(rt; come_back(&rt, &changes, &texts)?, "18 {mode}");
+        let changes = [("mode", mode), ("write_to", "true"), ("require_to", "true")];
+        assert!(rt; come_back(&rt, &changes, &texts)?, "to {mode}");
+    }
+    Ok(())
+}
+
+#[test]
+fn thousand_sealed_texts_come_back(rt: HostRuntime) -> Result<(), Fail> {
+    let texts = vec![in rt.alloc(); "00"; 1000]?;
+    assert!(rt; come_back(&rt, &[("mode", "'priv'")], texts.as_slice())?);
+    Ok(())
+}
+
+#[test]
+fn longest_text_comes_back(rt: HostRuntime) -> Result<(), Fail> {
+    let digits = vec![in rt.alloc(); b'7'; 2_000_000]?;
+    let text = str::from_utf8(digits.as_slice()).ok().ok_or("no text")?;
+    for mode in ["'safe'", "'priv'"] {
+        assert!(rt; come_back(&rt, &[("mode", mode)], &[text])?, "{mode}");
+    }
+    Ok(())
+}

@@ -1,0 +1,280 @@
+//! What `relay` prints: the deliveries, each refusal, and how each lane ends.
+
+use super::jobs::{answers, is_bad, prints, sender, sender_with};
+use crate::frames::{EMPTY_CHECKSUM, NO_CHECKSUM, NO_RECORD};
+use crate::relayed::{
+    AFTER_CLOSE, BAD_INTEGRITY, MALFORMED_FIRST, MODIFIED, NONE_OF_TWO, ONE_OF_TWO, OVERTAKEN,
+    REPEATED, TWO_LANES,
+};
+use krb_job::Command;
+use std::alloc::{AllocError, Global};
+use std::process::Abort;
+use std::sync::Wait;
+use std::test::Fail;
+use std::thread::Threads;
+
+/// Whether `relay` answers so to a job of one sender, with these changes.
+pub fn relays(
+    rt: &(impl Threads + Wait + Sync + Abort + Alloc<A = Global>),
+    changes: &[(&str, &str)],
+    status: u8,
+    text: &str,
+) -> Result<bool, Fail> {
+    prints(rt, Command::Relay, changes, status, text)
+}
+
+/// A job of two senders. The first says `a` and `b`, the second has these changes.
+pub fn two_senders(
+    rt: &(impl Threads + Wait + Sync + Abort + Alloc<A = Global>),
+    capacity: usize,
+    changes: &[(&str, &str)],
+) -> Result<String, AllocError> {
+    let first = sender(rt.alloc(), &[("texts", "['61', '62']")])?;
+    let second = sender(rt.alloc(), changes)?;
+    format!(in rt.alloc(); "capacity = {capacity}\n{first}{second}")
+}
+
+/// A sender of encryption type 18 that says nothing.
+pub const SILENT: [(&str, &str); 5] = [
+    ("etype", "18"),
+    (
+        "key",
+        "'1111111111111111111111111111111111111111111111111111111111111111'",
+    ),
+    ("mode", "'priv'"),
+    ("from", "'2:0a000002'"),
+    ("texts", "[]"),
+];
+
+#[test]
+fn lanes_go_on_in_rounds_whatever_the_capacity(rt: HostRuntime) -> Result<(), Fail> {
+    for capacity in [1, 64] {
+        let job = two_senders(&rt, capacity, &SILENT)?;
+        assert!(rt; answers(&rt, Command::Relay, job.as_str(), 0, TWO_LANES));
+    }
+    Ok(())
+}
+
+const SECOND_TRUNCATED: &str = "lane 0 text 61
+lane 1 refused 901 MALFORMED
+lane 0 text 62
+lane 0 closed
+lane 0 sent 2 of 2 DONE CLOSED
+lane 1 sent 1 of 1 DONE TRUNCATED
+";
+
+const FIRST_TRUNCATED: &str = "lane 0 refused 901 MALFORMED
+lane 1 text 61
+lane 1 text 62
+lane 1 closed
+lane 0 sent 1 of 1 DONE TRUNCATED
+lane 1 sent 2 of 2 DONE CLOSED
+";
+
+#[test]
+fn one_truncated_lane_of_two_gives_status_three(rt: HostRuntime) -> Result<(), Fail> {
+    let key = "'0f0e0d0c0b0a09080706050403020100'";
+    let good = sender(rt.alloc(), &[("texts", "['61', '62']")])?;
+    let cut = sender(rt.alloc(), &[("key", key), ("plan", "['raw 00']")])?;
+    let job = format!(in rt.alloc(); "{good}{cut}")?;
+    assert!(rt; answers(&rt, Command::Relay, job.as_str(), 3, SECOND_TRUNCATED));
+    let job = format!(in rt.alloc(); "{cut}{good}")?;
+    assert!(rt; answers(&rt, Command::Relay, job.as_str(), 3, FIRST_TRUNCATED));
+    Ok(())
+}
+
+#[test]
+fn repeated_frame_is_bad_order(rt: HostRuntime) -> Result<(), Fail> {
+    let changes = [("texts", "['61', '62']"), ("plan", "['0', '0', '1', '2']")];
+    assert!(rt; relays(&rt, &changes, 0, REPEATED)?);
+    Ok(())
+}
+
+#[test]
+fn overtaken_frames_are_bad_order(rt: HostRuntime) -> Result<(), Fail> {
+    let changes = [("texts", "['61', '62']"), ("plan", "['1', '0', '2']")];
+    assert!(rt; relays(&rt, &changes, 3, OVERTAKEN)?);
+    Ok(())
+}
+
+#[test]
+fn empty_wire_delivers_nothing(rt: HostRuntime) -> Result<(), Fail> {
+    let changes = [("texts", "['61', '62']"), ("plan", "[]")];
+    assert!(rt; relays(&rt, &changes, 3, "lane 0 sent 2 of 2 DONE TRUNCATED\n")?);
+    Ok(())
+}
+
+const ACCEPTED: &str = "lane 0 text 6869
+lane 0 closed
+lane 0 sent 1 of 1 DONE CLOSED
+";
+
+#[test]
+fn flipped_bit_is_found_in_each_mode(rt: HostRuntime) -> Result<(), Fail> {
+    let changes = [("plan", "['flip 0 95 01', '1']")];
+    assert!(rt; relays(&rt, &changes, 3, MODIFIED)?);
+    let changes = [("mode", "'priv'"), ("plan", "['flip 0 111 01', '1']")];
+    assert!(rt; relays(&rt, &changes, 3, BAD_INTEGRITY)?);
+    let changes = [("mode", "'priv'"), ("plan", "['flip 0 0 01', '0', '1']")];
+    assert!(rt; relays(&rt, &changes, 0, MALFORMED_FIRST)?);
+    Ok(())
+}
+
+const SKEWED: &str = "lane 0 refused 37 SKEW
+lane 0 refused 37 SKEW
+lane 0 sent 1 of 1 DONE TRUNCATED
+";
+
+#[test]
+fn clocks_may_differ_by_the_skew_and_no_more(rt: HostRuntime) -> Result<(), Fail> {
+    for now in ["[1700000300000005]", "[1699999700000005]"] {
+        assert!(rt; relays(&rt, &[("now", now)], 0, ACCEPTED)?, "{now}");
+    }
+    for now in ["[1700000300000006]", "[1699999700000004]"] {
+        assert!(rt; relays(&rt, &[("now", now)], 3, SKEWED)?, "{now}");
+    }
+    Ok(())
+}
+
+const NOT_TOLD: &str = "lane 0 refused 38 BADADDR
+lane 0 refused 38 BADADDR
+lane 0 sent 1 of 1 DONE TRUNCATED
+";
+
+#[test]
+fn receiver_may_require_its_address(rt: HostRuntime) -> Result<(), Fail> {
+    let changes = [("require_to", "true")];
+    assert!(rt; relays(&rt, &changes, 3, NOT_TOLD)?);
+    let changes = [("require_to", "true"), ("write_to", "true")];
+    assert!(rt; relays(&rt, &changes, 0, ACCEPTED)?);
+    Ok(())
+}
+
+/// Whether the one made-up frame of the wire is refused so.
+fn refuses(
+    rt: &(impl Threads + Wait + Sync + Abort + Alloc<A = Global>),
+    changes: &[(&str, &str)],
+    digits: &str,
+    refusal: &str,
+) -> Result<bool, Fail> {
+    let plan = format!(in rt.alloc(); "['raw {digits}']")?;
+    let job = sender_with(rt.alloc(), changes, &[("plan", plan.as_str())])?;
+    let text = format!(in rt.alloc();
+        "lane 0 refused {refusal}\nlane 0 sent 1 of 1 DONE TRUNCATED\n"
+    )?;
+    Ok(answers(rt, Command::Relay, job.as_str(), 3, text.as_str()))
+}
+
+#[test]
+fn first_failed_check_of_a_made_up_safe_message_is_told(rt: HostRuntime) -> Result<(), Fail> {
+    assert!(rt; refuses(&rt, &[], NO_CHECKSUM, "50 INAPP_CKSUM")?);
+    assert!(rt; refuses(&rt, &[], EMPTY_CHECKSUM, "41 MODIFIED")?);
+    // each change lets an earlier check fail
+    let changes = [
+        ("first", "8"),
+        ("now", "[1700000301000005]"),
+        ("from", "'2:0a000002'"),
+    ];
+    for (count, refusal) in [(1, "42 BADORDER"), (2, "37 SKEW"), (3, "38 BADADDR")] {
+        let some = &changes[..count];
+        assert!(rt; refuses(&rt, some, EMPTY_CHECKSUM, refusal)?, "{refusal}");
+    }
+    Ok(())
+}
+
+#[test]
+fn made_up_private_message_is_refused(rt: HostRuntime) -> Result<(), Fail> {
+    let private = "75193017a003020105a103020115a30b3009a003020111a2020400";
+    let other_type = "75193017a003020105a103020115a30b3009a003020112a2020400";
+    let other_version = "75193017a003020104a103020115a30b3009a003020111a2020400";
+    let other_kind = "75193017a003020105a103020114a30b3009a003020111a2020400";
+    let priv_mode = [("mode", "'priv'")];
+    assert!(rt; refuses(&rt, &[], private, "40 MSG_TYPE")?);
+    assert!(rt; refuses(&rt, &priv_mode, private, "31 BAD_INTEGRITY")?);
+    assert!(rt; refuses(&rt, &priv_mode, other_type, "14 ETYPE_NOSUPP")?);
+    assert!(rt; refuses(&rt, &[], other_version, "39 BADVERSION")?);
+    assert!(rt; refuses(&rt, &priv_mode, other_version, "39 BADVERSION")?);
+    assert!(rt; refuses(&rt, &priv_mode, other_kind, "40 MSG_TYPE")?);
+    Ok(())
+}
+
+#[test]
+fn bytes_that_are_no_message_or_no_record_are_refused(rt: HostRuntime) -> Result<(), Fail> {
+    assert!(rt; refuses(&rt, &[], "", "901 MALFORMED")?);
+    assert!(rt; refuses(&rt, &[], NO_RECORD, "902 BAD_RECORD")?);
+    Ok(())
+}
+
+#[test]
+fn frame_of_more_than_1_005_000_bytes_is_too_long(rt: HostRuntime) -> Result<(), Fail> {
+    for (length, refusal) in [
+        (2_010_000, "901 MALFORMED"),
+        (2_010_002, "61 FIELD_TOOLONG"),
+        (2_020_000, "61 FIELD_TOOLONG"),
+    ] {
+        let digits = vec![in rt.alloc(); b'0'; length]?;
+        let text = str::from_utf8(digits.as_slice()).ok().ok_or("no text")?;
+        assert!(rt; refuses(&rt, &[], text, refusal)?, "{refusal}");
+    }
+    Ok(())
+}
+
+#[test]
+fn frame_after_the_close_is_refused(rt: HostRuntime) -> Result<(), Fail> {
+    assert!(rt; relays(&rt, &[("plan", "['0', '1', '1']")], 0, AFTER_CLOSE)?);
+    Ok(())
+}
+
+#[test]
+fn last_number_is_kept_for_the_close(rt: HostRuntime) -> Result<(), Fail> {
+    let changes = [("first", "4294967294"), ("texts", "['61', '62']")];
+    assert!(rt; relays(&rt, &changes, 0, ONE_OF_TWO)?);
+    let changes = [("first", "4294967295"), ("texts", "['61', '62']")];
+    assert!(rt; relays(&rt, &changes, 0, NONE_OF_TWO)?);
+    Ok(())
+}
+
+#[test]
+fn bad_plan_is_told_and_nothing_printed(rt: HostRuntime) -> Result<(), Fail> {
+    for plan in ["['2']", "['flip 0 96 01']", "['flip 0 0 00']"] {
+        let job = sender(rt.alloc(), &[("plan", plan)])?;
+        let line = "krbrelay: bad input: sender 0: plan";
+        assert!(rt; is_bad(&rt, Command::Relay, job.as_str(), line)?, "{plan}");
+        let key = "'0f0e0d0c0b0a09080706050403020100'";
+        let job = two_senders(&rt, 1, &[("key", key), ("plan", plan)])?;
+        let line = "krbrelay: bad input: sender 1: plan";
+        assert!(rt; is_bad(&rt, Command::Relay, job.as_str(), line)?, "{plan}");
+    }
+    Ok(())
+}
+
+#[test]
+pub fn two_senders_of_one_key_are_bad_input(rt: HostRuntime) -> Result<(), Fail> {
+    let job = two_senders(&rt, 1, &[])?;
+    let line = "krbrelay: bad input: sender 1: key";
+    assert!(rt; is_bad(&rt, Command::Relay, job.as_str(), line)?);
+    Ok(())
+}
+
+#[test]
+fn text_may_have_1_000_000_bytes(rt: HostRuntime) -> Result<(), Fail> {
+    let digits = vec![in rt.alloc(); b'6'; 2_000_000]?;
+    let text = str::from_utf8(digits.as_slice()).ok().ok_or("no text")?;
+    let texts = format!(in rt.alloc(); "['{text}']")?;
+    let printed = format!(in rt.alloc();
+        "lane 0 text {text}\nlane 0 closed\nlane 0 sent 1 of 1 DONE CLOSED\n"
+    )?;
+    assert!(rt; relays(&rt, &[("texts", texts.as_str())], 0, printed.as_str())?);
+    Ok(())
+}
+
+#[test]
+fn text_of_1_000_001_bytes_is_bad_input(rt: HostRuntime) -> Result<(), Fail> {
+    let digits = vec![in rt.alloc(); b'6'; 2_000_002]?;
+    let text = str::from_utf8(digits.as_slice()).ok().ok_or("no text")?;
+    let texts = format!(in rt.alloc(); "['{text}']")?;
+    let job = sender(rt.alloc(), &[("texts", texts.as_str())])?;
+    let line = "krbrelay: bad input: sender 0: texts";
+    assert!(rt; is_bad(&rt, Command::Relay, job.as_str(), line)?);
+    Ok(())
+}

@@ -1,0 +1,109 @@
+//! The commands, where each growth in turn may be refused: the known output, or want of memory (of
+//! `relay` also of a thread), and then a front of the known lines, of `relay` of each lane's.
+//! `tools/sweep` refuses the growths, and counts the lines that tell of a refusal.
+
+use super::jobs::{run, sender};
+use super::opens::receiver;
+use super::relays::{SILENT, two_senders};
+use super::shows::{SAFE_LINE, SAFE_TEXT};
+use super::vectors::PUBLISHED;
+use crate::asserts::assert_same;
+use crate::frames::{SAFE_CLOSE, SAFE_TEXT as SAFE_FRAME};
+use crate::relayed::TWO_LANES;
+use krb_commands::{Fault, show, vectors};
+use krb_job::Command;
+use std::process::Abort;
+use std::test::Fail;
+
+/// More bytes than any of these commands writes, so that the writer wants no memory.
+const ROOM: usize = 2_000;
+
+/// Asserts that a command wrote this text, or wanted memory and wrote some of its first lines.
+/// Answers whether it wanted memory.
+fn ends_well(rt: &impl Abort, outcome: Result<u8, Fault>, output: &[u8], text: &str) -> bool {
+    if let Err(fault) = outcome {
+        assert!(rt; matches!(fault, Fault::Memory | Fault::Stopped));
+        assert_same(rt, fault.status(), 4);
+        assert!(rt; text.as_bytes().starts_with(output));
+        assert!(rt; output.is_empty() || output.ends_with(b"\n"));
+        return true;
+    }
+    assert_same(rt, outcome, Ok(0));
+    assert_same(rt, output, text.as_bytes());
+    false
+}
+
+#[test]
+fn message_is_shown_or_memory_wanted(rt: HostRuntime) -> Result<(), Fail> {
+    let mut output = Vec::with_capacity(rt.alloc(), ROOM)?;
+    let result = show(rt.alloc(), &mut SAFE_LINE.as_bytes(), &mut output);
+    if ends_well(&rt, result, &output, SAFE_TEXT) {
+        println!(rt; "refused: show")?;
+    }
+    Ok(())
+}
+
+#[test]
+fn text_is_sealed_or_memory_wanted(rt: HostRuntime) -> Result<(), Fail> {
+    let job = sender(rt.alloc(), &[])?;
+    let text = format!(in rt.alloc(); "{SAFE_FRAME}\n{SAFE_CLOSE}\nsent 1 of 1 DONE\n")?;
+    let mut output = Vec::with_capacity(rt.alloc(), ROOM)?;
+    let result = run(&rt, Command::Seal, job.as_str(), &mut output);
+    if ends_well(&rt, result, &output, text.as_str()) {
+        println!(rt; "refused: seal_job")?;
+    }
+    Ok(())
+}
+
+#[test]
+fn frames_are_opened_or_memory_wanted(rt: HostRuntime) -> Result<(), Fail> {
+    let job = receiver(rt.alloc(), &[], &[SAFE_FRAME, SAFE_CLOSE])?;
+    let mut output = Vec::with_capacity(rt.alloc(), ROOM)?;
+    let result = run(&rt, Command::Open, job.as_str(), &mut output);
+    let text = "lane 0 text 6869\nlane 0 closed\nlane 0 CLOSED\n";
+    if ends_well(&rt, result, &output, text) {
+        println!(rt; "refused: open_job")?;
+    }
+    Ok(())
+}
+
+/// Whether the lines of a lane in one text are the first few of its lines in another.
+fn has_front(text: &str, whole: &str, lane: &str) -> bool {
+    let mut lines = whole.lines().filter(|line| line.starts_with(lane));
+    for line in text.lines() {
+        if line.starts_with(lane) && lines.next() != Some(line) {
+            return false;
+        }
+    }
+    true
+}
+
+#[test]
+fn two_lanes_are_relayed_or_memory_wanted(rt: HostRuntime) -> Result<(), Fail> {
+    let job = two_senders(&rt, 1, &SILENT)?;
+    let mut output = Vec::with_capacity(rt.alloc(), ROOM)?;
+    let result = run(&rt, Command::Relay, job.as_str(), &mut output);
+    let printed = str::from_utf8(output.as_slice()).ok().ok_or("no text")?;
+    if let Err(fault) = result {
+        assert!(rt; matches!(fault, Fault::Memory | Fault::Stopped | Fault::Thread));
+        assert_same(&rt, fault.status(), 4);
+        assert!(rt; has_front(printed, TWO_LANES, "lane 0 "));
+        assert!(rt; has_front(printed, TWO_LANES, "lane 1 "));
+        assert!(rt; printed.is_empty() || printed.ends_with("\n"));
+        println!(rt; "refused: relay_job, {fault}")?;
+    } else {
+        assert_same(&rt, result, Ok(0));
+        assert_same(&rt, printed, TWO_LANES);
+    }
+    Ok(())
+}
+
+#[test]
+fn values_are_printed_or_memory_wanted(rt: HostRuntime) -> Result<(), Fail> {
+    let mut output = Vec::with_capacity(rt.alloc(), ROOM)?;
+    let result = vectors(rt.alloc(), &mut output);
+    if ends_well(&rt, result, &output, PUBLISHED) {
+        println!(rt; "refused: vectors")?;
+    }
+    Ok(())
+}

@@ -1,0 +1,102 @@
+//! The keys `from` to `skew`.
+
+use super::{COMMANDS, assert_bad, assert_good, zeros};
+use krb_job::{Command, Place};
+use std::test::Fail;
+
+#[test]
+fn bad_addresses(rt: HostRuntime) -> Result<(), Fail> {
+    let lines = [
+        (Place::From, ""),
+        (Place::From, "from = 2"),
+        (Place::From, "from = \"\""),
+        (Place::From, "from = \"2\""),
+        (Place::From, "from = \":00\""),
+        (Place::From, "from = \"02:00\""),
+        (Place::From, "from = \"00:00\""),
+        (Place::From, "from = \"+2:00\""),
+        (Place::From, "from = \"-0:00\""),
+        (Place::From, "from = \"--1:00\""),
+        (Place::From, "from = \" 2:00\""),
+        (Place::From, "from = \"2:0\""),
+        (Place::From, "from = \"2:0g\""),
+        (Place::From, "from = \"2:00:\""),
+        (Place::From, "from = \"2147483648:00\""),
+        (Place::From, "from = \"4294967298:00\""),
+        (Place::From, "from = \"10000000000:00\""),
+        (Place::From, "from = \"-2147483649:\""),
+        (Place::To, ""),
+        (Place::To, "to = []"),
+        (Place::To, "to = \"02:00\""),
+        (Place::To, "to = \"2:0\""),
+        (Place::To, "to = \"-2147483649:\""),
+    ];
+    for command in COMMANDS {
+        assert_bad(&rt, rt.alloc(), command, lines.as_slice())?;
+    }
+    Ok(())
+}
+
+#[test]
+fn good_addresses(rt: HostRuntime) -> Result<(), Fail> {
+    let lines = [
+        (Place::From, "from = \"0:\""),
+        (Place::From, "from = \"-1:00\""),
+        (Place::From, "from = \"2147483647:aBcD\""),
+        (Place::From, "from = \"-2147483648:\""),
+        (Place::To, "to = \"-2147483648:00\""),
+        (Place::To, "to = \"2147483647:\""),
+    ];
+    for command in COMMANDS {
+        assert_good(&rt, rt.alloc(), command, lines.as_slice())?;
+    }
+    Ok(())
+}
+
+/// An address has at most 32 bytes.
+#[test]
+fn long_addresses(rt: HostRuntime) -> Result<(), Fail> {
+    let most = zeros(rt.alloc(), 32)?;
+    let from = format!(in rt.alloc(); "from = \"2:{most}\"")?;
+    let to = format!(in rt.alloc(); "to = \"2:{most}\"")?;
+    let lines = [(Place::From, from.as_str()), (Place::To, to.as_str())];
+    assert_good(&rt, rt.alloc(), Command::Relay, lines.as_slice())?;
+    let more = zeros(rt.alloc(), 33)?;
+    let from = format!(in rt.alloc(); "from = \"2:{more}\"")?;
+    let to = format!(in rt.alloc(); "to = \"2:{more}\"")?;
+    let lines = [(Place::From, from.as_str()), (Place::To, to.as_str())];
+    assert_bad(&rt, rt.alloc(), Command::Relay, lines.as_slice())
+}
+
+#[test]
+fn bad_demands(rt: HostRuntime) -> Result<(), Fail> {
+    let lines = [
+        (Place::WriteTo, "write_to = 1"),
+        (Place::RequireTo, "require_to = \"true\""),
+        (Place::ExpectTime, "expect_time = 0"),
+        (Place::Skew, ""),
+        (Place::Skew, "skew = true"),
+        (Place::Skew, "skew = 300.0"),
+        (Place::Skew, "skew = -1"),
+        (Place::Skew, "skew = 86401"),
+    ];
+    for command in COMMANDS {
+        assert_bad(&rt, rt.alloc(), command, lines.as_slice())?;
+    }
+    Ok(())
+}
+
+#[test]
+fn good_demands(rt: HostRuntime) -> Result<(), Fail> {
+    let lines = [
+        (Place::WriteTo, "write_to = true"),
+        (Place::RequireTo, "require_to = true"),
+        (Place::ExpectTime, "expect_time = false"),
+        (Place::Skew, "skew = 0"),
+        (Place::Skew, "skew = 86400"),
+    ];
+    for command in COMMANDS {
+        assert_good(&rt, rt.alloc(), command, lines.as_slice())?;
+    }
+    Ok(())
+}

@@ -1,0 +1,90 @@
+//! The key `plan`.
+
+use super::{assert_bad, assert_good, list_line, zeros};
+use krb_job::{Command, Place};
+use std::test::Fail;
+
+const GOOD: [(Place, &str); 7] = [
+    (Place::Plan, "plan = []"),
+    (Place::Plan, "plan = [\"0\"]"),
+    (Place::Plan, "plan = [\"999999999\", \"10\"]"),
+    (Place::Plan, "plan = [\"flip 0 0 00\"]"),
+    (Place::Plan, "plan = [\"flip 999999999 999999999 fF\"]"),
+    (Place::Plan, "plan = [\"raw \"]"),
+    (Place::Plan, "plan = [\"raw 0fF0\"]"),
+];
+
+#[test]
+fn bad_plans(rt: HostRuntime) -> Result<(), Fail> {
+    let lines = [
+        (Place::Plan, "plan = 0"),
+        (Place::Plan, "plan = \"0\""),
+        (Place::Plan, "plan = [0]"),
+        (Place::Plan, "plan = [\"0\", \"\"]"),
+        (Place::Plan, "plan = [\"00\"]"),
+        (Place::Plan, "plan = [\"+1\"]"),
+        (Place::Plan, "plan = [\"-1\"]"),
+        (Place::Plan, "plan = [\" 0\"]"),
+        (Place::Plan, "plan = [\"0 \"]"),
+        (Place::Plan, "plan = [\"1000000000\"]"),
+        (Place::Plan, "plan = [\"raw\"]"),
+        (Place::Plan, "plan = [\"raw00\"]"),
+        (Place::Plan, "plan = [\"raw  00\"]"),
+        (Place::Plan, "plan = [\"raw 0\"]"),
+        (Place::Plan, "plan = [\"Raw 00\"]"),
+    ];
+    assert_bad(&rt, rt.alloc(), Command::Seal, lines.as_slice())?;
+    assert_bad(&rt, rt.alloc(), Command::Relay, lines.as_slice())
+}
+
+#[test]
+fn bad_flips(rt: HostRuntime) -> Result<(), Fail> {
+    let lines = [
+        (Place::Plan, "plan = [\"flip\"]"),
+        (Place::Plan, "plan = [\"flip 0\"]"),
+        (Place::Plan, "plan = [\"flip 0 1\"]"),
+        (Place::Plan, "plan = [\"flip 0 1 \"]"),
+        (Place::Plan, "plan = [\"flip 0 1 1\"]"),
+        (Place::Plan, "plan = [\"flip 0 1 001\"]"),
+        (Place::Plan, "plan = [\"flip 0 1 0g\"]"),
+        (Place::Plan, "plan = [\"flip 0 1 01 \"]"),
+        (Place::Plan, "plan = [\"flip 0  1 01\"]"),
+        (Place::Plan, "plan = [\"flip  0 1 01\"]"),
+        (Place::Plan, "plan = [\"flip 00 1 01\"]"),
+        (Place::Plan, "plan = [\"flip 0 01 01\"]"),
+        (Place::Plan, "plan = [\"flip 1000000000 1 01\"]"),
+        (Place::Plan, "plan = [\"flip 0 1000000000 01\"]"),
+    ];
+    assert_bad(&rt, rt.alloc(), Command::Seal, lines.as_slice())?;
+    assert_bad(&rt, rt.alloc(), Command::Relay, lines.as_slice())
+}
+
+#[test]
+fn good_plans(rt: HostRuntime) -> Result<(), Fail> {
+    assert_good(&rt, rt.alloc(), Command::Seal, GOOD.as_slice())?;
+    assert_good(&rt, rt.alloc(), Command::Relay, GOOD.as_slice())?;
+    assert_bad(&rt, rt.alloc(), Command::Open, GOOD.as_slice())
+}
+
+/// There are at most 2000 emissions.
+#[test]
+fn many_emissions(rt: HostRuntime) -> Result<(), Fail> {
+    let most = list_line(rt.alloc(), "plan", "\"0\"", 2000)?;
+    let more = list_line(rt.alloc(), "plan", "\"0\"", 2001)?;
+    let good = [(Place::Plan, most.as_str())];
+    let bad = [(Place::Plan, more.as_str())];
+    assert_good(&rt, rt.alloc(), Command::Seal, good.as_slice())?;
+    assert_bad(&rt, rt.alloc(), Command::Seal, bad.as_slice())
+}
+
+/// A raw emission has at most 1,010,000 bytes.
+#[test]
+fn long_raws(rt: HostRuntime) -> Result<(), Fail> {
+    let digits = zeros(rt.alloc(), 1_010_000)?;
+    let most = format!(in rt.alloc(); "plan = [\"raw {digits}\"]")?;
+    let more = format!(in rt.alloc(); "plan = [\"raw {digits}00\"]")?;
+    let good = [(Place::Plan, most.as_str())];
+    let bad = [(Place::Plan, more.as_str())];
+    assert_good(&rt, rt.alloc(), Command::Seal, good.as_slice())?;
+    assert_bad(&rt, rt.alloc(), Command::Seal, bad.as_slice())
+}

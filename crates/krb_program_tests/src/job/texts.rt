@@ -1,0 +1,49 @@
+//! The key `texts`.
+
+use super::{assert_bad, assert_good, list_line, zeros};
+use krb_job::{Command, Place};
+use std::test::Fail;
+
+#[test]
+fn texts(rt: HostRuntime) -> Result<(), Fail> {
+    let bad = [
+        (Place::Texts, ""),
+        (Place::Texts, "texts = \"68\""),
+        (Place::Texts, "texts = [68]"),
+        (Place::Texts, "texts = [\"68\", \"6\"]"),
+        (Place::Texts, "texts = [\"6 8\"]"),
+        (Place::Texts, "texts = [\"6g\"]"),
+    ];
+    let good = [
+        (Place::Texts, "texts = []"),
+        (Place::Texts, "texts = [\"fF\", \"\"]"),
+    ];
+    assert_bad(&rt, rt.alloc(), Command::Seal, bad.as_slice())?;
+    assert_bad(&rt, rt.alloc(), Command::Relay, bad.as_slice())?;
+    assert_good(&rt, rt.alloc(), Command::Seal, good.as_slice())?;
+    assert_good(&rt, rt.alloc(), Command::Relay, good.as_slice())?;
+    assert_bad(&rt, rt.alloc(), Command::Open, good.as_slice())
+}
+
+/// There are at most 1000 texts.
+#[test]
+fn many_texts(rt: HostRuntime) -> Result<(), Fail> {
+    let most = list_line(rt.alloc(), "texts", "\"\"", 1000)?;
+    let more = list_line(rt.alloc(), "texts", "\"\"", 1001)?;
+    let good = [(Place::Texts, most.as_str())];
+    let bad = [(Place::Texts, more.as_str())];
+    assert_good(&rt, rt.alloc(), Command::Seal, good.as_slice())?;
+    assert_bad(&rt, rt.alloc(), Command::Seal, bad.as_slice())
+}
+
+/// A text has at most 1,000,000 bytes.
+#[test]
+fn long_texts(rt: HostRuntime) -> Result<(), Fail> {
+    let digits = zeros(rt.alloc(), 1_000_000)?;
+    let most = format!(in rt.alloc(); "texts = [\"{digits}\"]")?;
+    let more = format!(in rt.alloc(); "texts = [\"{digits}00\"]")?;
+    let good = [(Place::Texts, most.as_str())];
+    let bad = [(Place::Texts, more.as_str())];
+    assert_good(&rt, rt.alloc(), Command::Seal, good.as_slice())?;
+    assert_bad(&rt, rt.alloc(), Command::Seal, bad.as_slice())
+}

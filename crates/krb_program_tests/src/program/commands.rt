@@ -1,0 +1,107 @@
+//! The command line.
+
+use clap::error::ErrorKind;
+use krb_program::{Cmd, command_of};
+use std::test::Fail;
+
+#[test]
+fn each_command_has_its_word(rt: HostRuntime) -> Result<(), Fail> {
+    for (word, expected) in [
+        ("show", Cmd::Show),
+        ("vectors", Cmd::Vectors),
+        ("seal", Cmd::Seal),
+        ("open", Cmd::Open),
+        ("relay", Cmd::Relay),
+    ] {
+        let command = command_of(rt.alloc(), &["krbrelay", word])?;
+        assert_eq!(rt; command, expected);
+    }
+    Ok(())
+}
+
+/// The kind of the error that the words give, and whether it goes to standard error.
+fn error_of(rt: &HostRuntime, words: &[&str]) -> Option<(ErrorKind, bool)> {
+    let error = command_of(rt.alloc(), words).err()?;
+    Some((error.kind(), error.use_stderr()))
+}
+
+#[test]
+fn other_words_are_faults_of_usage(rt: HostRuntime) {
+    let unknown = error_of(&rt, &["krbrelay", "shows"]);
+    assert_eq!(rt; unknown, Some((ErrorKind::InvalidSubcommand, true)));
+    let missing = error_of(&rt, &["krbrelay"]);
+    assert_eq!(rt; missing, Some((ErrorKind::MissingSubcommand, true)));
+    let further = error_of(&rt, &["krbrelay", "show", "it"]);
+    assert_eq!(rt; further, Some((ErrorKind::UnknownArgument, true)));
+}
+
+#[test]
+fn help_tells_what_is_read_and_printed(rt: HostRuntime) -> Result<(), Fail> {
+    for words in [
+        ["krbrelay", "--help"].as_slice(),
+        ["krbrelay", "show", "--help"].as_slice(),
+    ] {
+        assert_eq!(rt; error_of(&rt, words), Some((ErrorKind::DisplayHelp, false)));
+    }
+    let Some(help) = command_of(rt.alloc(), &["krbrelay", "show", "--help"]).err() else {
+        return Err(Fail::from("no help"));
+    };
+    let text = format!(in rt.alloc(); "{help}")?;
+    assert!(rt; text.contains("hexadecimal digits"));
+    assert!(rt; text.contains("PRIV 5 21 etype=17 kvno=- cipher="));
+    Ok(())
+}
+
+#[test]
+fn help_tells_the_keys_of_a_job(rt: HostRuntime) -> Result<(), Fail> {
+    let Some(help) = command_of(rt.alloc(), &["krbrelay", "relay", "--help"]).err() else {
+        return Err(Fail::from("no help"));
+    };
+    let text = format!(in rt.alloc(); "{help}")?;
+    for key in [
+        "capacity",
+        "etype",
+        "key",
+        "mode",
+        "first",
+        "from",
+        "to",
+        "write_to",
+        "require_to",
+        "expect_time",
+        "skew",
+        "seed",
+        "at",
+        "now",
+        "texts",
+        "batch",
+        "plan",
+    ] {
+        let line = format!(in rt.alloc(); "\n  {key} = ")?;
+        assert!(rt; text.contains(line.as_str()), "no {key}");
+    }
+    Ok(())
+}
+
+#[test]
+fn help_tells_limits_and_faults(rt: HostRuntime) -> Result<(), Fail> {
+    let Some(help) = command_of(rt.alloc(), &["krbrelay", "relay", "--help"]).err() else {
+        return Err(Fail::from("no help"));
+    };
+    let text = format!(in rt.alloc(); "{help}")?;
+    for part in [
+        "16,777,216 bytes",
+        "1 to 64; by default 1\n",
+        "0 to 4294967295\n",
+        "253402300799999999",
+        "0 to 86400\n",
+        "1,000 texts of up to 1,000,000 bytes",
+        "how many texts a frame carries at most, 1 to 1,000; by default 1.",
+        "a mask of 00 is refused",
+        "krbrelay: bad input: toml           they are no TOML document, or not UTF-8\n",
+        "krbrelay: bad input: sender J: KEY  of sender J, counted from 0",
+    ] {
+        assert!(rt; text.contains(part), "no {part}");
+    }
+    Ok(())
+}

@@ -1,0 +1,200 @@
+//! Readers and writers over memory that fail at one of their calls: each command, from its word on,
+//! tells a read fault and writes nothing, or tells a write fault and has written a part of its
+//! text.
+
+ghost use Rattle.std.specs.Prelude.{Some};
+
+use super::jobs::TWO_SENDERS;
+use super::runs::{SEALED, SESSION};
+use crate::frames::{SAFE_CLOSE, SAFE_TEXT};
+use crate::relayed::TWO_LANES;
+use krb_commands::Fault;
+use krb_program::obey;
+use std::alloc::Global;
+use std::io;
+use std::io::{BufWriter, ErrorKind, Read, Write};
+use std::process::Abort;
+use std::sync::Wait;
+use std::test::Fail;
+use std::thread::Threads;
+
+/// Gives at most sixteen bytes a call, and fails at one call.
+#[derive(Drop)]
+struct FaultyReader<'a> {
+    rest: &'a [u8],
+    calls: usize,
+    fails_at: usize,
+}
+
+impl<'a> Read for FaultyReader<'a> {
+    ghost remaining = { λ r. Some r.rest.now };
+
+    fn read(&mut self, buf: &mut [u8]) -> io::Result<usize> {
+        self.calls = self.calls.wrapping_add(1);
+        if self.calls == self.fails_at {
+            return Err(io::Error::from(ErrorKind::Other));
+        }
+        let most = buf.len().min(16);
+        self.rest.read(&mut buf[..most])
+    }
+}
+
+/// What fails of a writer.
+#[derive(Clone, Copy, PartialEq, Eq)]
+enum Failure {
+    /// The call is answered by an error.
+    Error,
+    /// The call takes nothing.
+    Nothing,
+    /// Each call for a flush is answered by an error, and no other.
+    Flush,
+}
+
+/// Takes at most two bytes a call, and fails.
+#[derive(Drop)]
+struct FaultyWriter {
+    taken: Vec<u8>,
+    calls: usize,
+    fails_at: usize,
+    failure: Failure,
+}
+
+impl Write for FaultyWriter {
+    ghost contents = { λ w. Some w.taken.items };
+
+    fn write(&mut self, buf: &[u8]) -> io::Result<usize> {
+        self.calls = self.calls.wrapping_add(1);
+        if self.calls == self.fails_at {
+            match self.failure {
+                Failure::Error => return Err(io::Error::from(ErrorKind::Other)),
+                Failure::Nothing => return Ok(0),
+                Failure::Flush => {}
+            }
+        }
+        let most = buf.len().min(2);
+        self.taken.write(&buf[..most])
+    }
+
+    fn flush(&mut self) -> io::Result<()> {
+        match self.failure {
+            Failure::Error | Failure::Nothing => Ok(()),
+            Failure::Flush => Err(io::Error::from(ErrorKind::Other)),
+        }
+    }
+}
+
+/// A word of the command line, the input, and the whole output of a run that ends with status 0.
+#[derive(Drop)]
+struct Run {
+    word: &'static str,
+    input: String,
+    text: String,
+}
+
+/// What a run answers and writes where the reader fails at a call, and the writer fails so at one.
+fn faulty(
+    rt: &(impl Threads + Wait + Sync + Abort + Alloc<A = Global>),
+    run: &Run,
+    read_fails_at: usize,
+    write_fails_at: usize,
+    failure: Failure,
+) -> Result<(Result<u8, Fault>, Vec<u8>), Fail> {
+    let mut reader = FaultyReader {
+        rest: run.input.as_bytes(),
+        calls: 0,
+        fails_at: read_fails_at,
+    };
+    let writer = FaultyWriter {
+        taken: Vec::new(rt.alloc()),
+        calls: 0,
+        fails_at: write_fails_at,
+        failure,
+    };
+    let mut writer = BufWriter::new(rt.alloc(), writer)?;
+    let words = ["krbrelay", run.word];
+    let outcome = obey(rt, rt.alloc(), &words, &mut reader, &mut writer)?;
+    let taken = writer.get_ref().taken.as_slice();
+    Ok((outcome, Vec::from_slice(rt.alloc(), taken)?))
+}
+
+/// A run of each command that reads.
+fn runs(alloc: Global) -> Result<Vec<Run>, Fail> {
+    let session = format!(in alloc;
+        "[[sender]]\netype = 17\nkey = '000102030405060708090a0b0c0d0e0f'\nmode = 'safe'\n\
+         first = 7\n{SESSION}"
+    )?;
+    let mut runs = Vec::new(alloc);
+    runs.push(Run {
+        word: "show",
+        input: String::from_str(
+            alloc,
+            "75193017a003020105a103020115a30b3009a003020111a2020400",
+        )?,
+        text: String::from_str(alloc, "PRIV 5 21 etype=17 kvno=- cipher=\n")?,
+    })?;
+    runs.push(Run {
+        word: "seal",
+        input: format!(in alloc; "{session}{SEALED}texts = ['6869']\n")?,
+        text: format!(in alloc; "{SAFE_TEXT}\n{SAFE_CLOSE}\nsent 1 of 1 DONE\n")?,
+    })?;
+    runs.push(Run {
+        word: "open",
+        input: format!(in alloc; "{session}frames = ['{SAFE_TEXT}', '{SAFE_CLOSE}']\n")?,
+        text: String::from_str(alloc, "lane 0 text 6869\nlane 0 closed\nlane 0 CLOSED\n")?,
+    })?;
+    runs.push(Run {
+        word: "relay",
+        input: String::from_str(alloc, TWO_SENDERS)?,
+        text: String::from_str(alloc, TWO_LANES)?,
+    })?;
+    Ok(runs)
+}
+
+#[test]
+fn each_read_of_each_command_fails_in_turn(rt: HostRuntime) -> Result<(), Fail> {
+    for run in runs(rt.alloc())? {
+        let word = run.word;
+        // sixteen bytes a call, and one call that finds the end
+        let unmade = run.input.len().div_ceil(16).saturating_add(2);
+        for call in 1..unmade {
+            let (outcome, output) = faulty(&rt, &run, call, 0, Failure::Error)?;
+            assert_eq!(rt; outcome, Err(Fault::Read), "{word} {call}");
+            assert!(rt; output.is_empty(), "{word} {call}");
+        }
+        let (outcome, output) = faulty(&rt, &run, unmade, 0, Failure::Error)?;
+        assert_eq!(rt; outcome, Ok(0), "{word}");
+        assert_eq!(rt; output.as_slice(), run.text.as_bytes(), "{word}");
+    }
+    Ok(())
+}
+
+#[test]
+fn each_write_of_each_command_fails_in_turn(rt: HostRuntime) -> Result<(), Fail> {
+    for run in runs(rt.alloc())? {
+        let word = run.word;
+        let unmade = run.text.len().div_ceil(2).saturating_add(1);
+        for failure in [Failure::Error, Failure::Nothing] {
+            for call in 1..unmade {
+                let (outcome, output) = faulty(&rt, &run, 0, call, failure)?;
+                assert_eq!(rt; outcome, Err(Fault::Write), "{word} {call}");
+                assert_eq!(rt; output.len(), (call - 1).saturating_mul(2), "{word}");
+                assert!(rt; run.text.as_bytes().starts_with(output.as_slice()));
+            }
+            let (outcome, output) = faulty(&rt, &run, 0, unmade, failure)?;
+            assert_eq!(rt; outcome, Ok(0), "{word}");
+            assert_eq!(rt; output.as_slice(), run.text.as_bytes(), "{word}");
+        }
+    }
+    Ok(())
+}
+
+#[test]
+fn failed_flush_is_a_write_fault(rt: HostRuntime) -> Result<(), Fail> {
+    for run in runs(rt.alloc())? {
+        let word = run.word;
+        let (outcome, output) = faulty(&rt, &run, 0, 0, Failure::Flush)?;
+        assert_eq!(rt; outcome, Err(Fault::Write), "{word}");
+        assert_eq!(rt; output.as_slice(), run.text.as_bytes(), "{word}");
+    }
+    Ok(())
+}
