@@ -128,12 +128,3 @@ fn list_line(alloc: Global, key: &str, item: &str, count: usize) -> Result<Strin
     line.push_str("]\n")?;
     Ok(line)
 }
-
-/// The hexadecimal digits of so many zeros.
-fn zeros(alloc: Global, size: usize) -> Result<String, AllocError> {
-    let mut digits = String::new(alloc);
-    for _ in 0..size {
-        digits.push_str("00")?;
-    }
-    Ok(digits)
-}

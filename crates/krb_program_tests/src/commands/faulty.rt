@@ -34,6 +34,17 @@ struct FaultyReader<'a> {
     fails_at: usize,
 }
 
+impl<'a> FaultyReader<'a> {
+    /// A reader of the line, which fails at this call.
+    fn new(fails_at: usize) -> FaultyReader<'a> {
+        FaultyReader {
+            rest: SAFE_LINE.as_bytes(),
+            calls: 0,
+            fails_at,
+        }
+    }
+}
+
 impl<'a> Read for FaultyReader<'a> {
     ghost remaining = { λ r. Some r.rest.now };
 
@@ -76,46 +87,76 @@ impl Write for FaultyWriter {
     }
 }
 
-/// What `show` answers and writes where the reader fails at this call.
-fn with_read_fault(rt: &HostRuntime, fails_at: usize) -> (Result<u8, Fault>, Vec<u8>) {
-    let mut reader = FaultyReader {
-        rest: SAFE_LINE.as_bytes(),
-        calls: 0,
-        fails_at,
-    };
-    let mut output = Vec::new(rt.alloc());
-    let result = show(rt.alloc(), &mut reader, &mut output);
-    (result, output)
+impl FaultyWriter {
+    fn new(alloc: Global, fails_at: usize, failure: Failure) -> FaultyWriter {
+        FaultyWriter {
+            taken: Vec::new(alloc),
+            calls: 0,
+            fails_at,
+            failure,
+        }
+    }
 }
 
-/// The same where the writer fails.
-fn with_write_fault(
-    rt: &HostRuntime,
-    fails_at: usize,
-    failure: Failure,
-) -> (Result<u8, Fault>, Vec<u8>) {
-    let mut reader = SAFE_LINE.as_bytes();
-    let mut writer = FaultyWriter {
-        taken: Vec::new(rt.alloc()),
-        calls: 0,
-        fails_at,
-        failure,
-    };
-    let result = show(rt.alloc(), &mut reader, &mut writer);
-    (result, writer.taken)
+/// Asserts that a command told that the writer failed at this call, and wrote a part of its text.
+fn assert_part(
+    rt: &impl Abort,
+    outcome: Result<u8, Fault>,
+    output: &[u8],
+    text: &str,
+    call: usize,
+) {
+    assert_same_at(rt, outcome, Err(Fault::Write), call);
+    assert_same_at(rt, output.len() < text.len(), true, call);
+    assert_same_at(rt, text.as_bytes().starts_with(output), true, call);
+}
+
+/// The same where each call before took two bytes.
+fn assert_pairs(
+    rt: &impl Abort,
+    outcome: Result<u8, Fault>,
+    output: &[u8],
+    text: &str,
+    call: usize,
+) {
+    assert_same_at(
+        rt,
+        output.len(),
+        call.saturating_sub(1).saturating_mul(2),
+        call,
+    );
+    assert_part(rt, outcome, output, text, call);
+}
+
+/// Asserts that a command succeeded, and wrote its text.
+fn assert_whole(rt: &impl Abort, outcome: Result<u8, Fault>, output: &[u8], text: &str) {
+    assert_same(rt, outcome, Ok(0));
+    assert_same(rt, output, text.as_bytes());
+}
+
+/// Asserts that `show` tells that the reader fails at this call, and writes nothing.
+fn assert_read_fault(rt: &(impl Abort + Alloc<A = Global>), call: usize) {
+    let mut reader = FaultyReader::new(call);
+    let mut output = Vec::new(rt.alloc());
+    let result = show(rt.alloc(), &mut reader, &mut output);
+    assert_same_at(rt, result, Err(Fault::Read), call);
+    assert_same_at(rt, output.is_empty(), true, call);
 }
 
 #[test]
 fn each_read_fails_in_turn(rt: HostRuntime) {
     // 169 bytes, three a call, and one call that finds the end
     for call in 1..59 {
-        let (result, output) = with_read_fault(&rt, call);
-        assert_same_at(&rt, result, Err(Fault::Read), call);
-        assert!(rt; output.is_empty(), "call {call}");
+        assert_read_fault(&rt, call);
     }
-    let (result, output) = with_read_fault(&rt, 59);
-    assert_same(&rt, result, Ok(0));
-    assert_same(&rt, output.as_slice(), SAFE_TEXT.as_bytes());
+    let mut output = Vec::new(rt.alloc());
+    let result = show(rt.alloc(), &mut FaultyReader::new(59), &mut output);
+    assert_whole(&rt, result, output.as_slice(), SAFE_TEXT);
+}
+
+/// What `show` answers where the writer fails.
+fn show_to(alloc: Global, writer: &mut FaultyWriter) -> Result<u8, Fault> {
+    show(alloc, &mut SAFE_LINE.as_bytes(), writer)
 }
 
 #[test]
@@ -123,36 +164,14 @@ fn each_write_fails_or_takes_nothing_in_turn(rt: HostRuntime) {
     for failure in [Failure::Error, Failure::Nothing] {
         // 86 bytes, two a call
         for call in 1..44 {
-            let (result, output) = with_write_fault(&rt, call, failure);
-            assert_same_at(&rt, result, Err(Fault::Write), call);
-            assert_same(&rt, output.len(), 2 * (call - 1));
-            assert!(rt;
-                SAFE_TEXT.as_bytes().starts_with(output.as_slice()),
-                "call {call}"
-            );
+            let mut writer = FaultyWriter::new(rt.alloc(), call, failure);
+            let result = show_to(rt.alloc(), &mut writer);
+            assert_pairs(&rt, result, writer.taken.as_slice(), SAFE_TEXT, call);
         }
-        let (result, output) = with_write_fault(&rt, 44, failure);
-        assert_same(&rt, result, Ok(0));
-        assert_same(&rt, output.as_slice(), SAFE_TEXT.as_bytes());
+        let mut writer = FaultyWriter::new(rt.alloc(), 44, failure);
+        let result = show_to(rt.alloc(), &mut writer);
+        assert_whole(&rt, result, writer.taken.as_slice(), SAFE_TEXT);
     }
-}
-
-/// What a command answers and writes where the writer fails.
-fn run_with_write_fault(
-    rt: &(impl Threads + Wait + Sync + Abort + Alloc<A = Global>),
-    command: Command,
-    job: &str,
-    fails_at: usize,
-    failure: Failure,
-) -> (Result<u8, Fault>, Vec<u8>) {
-    let mut writer = FaultyWriter {
-        taken: Vec::new(rt.alloc()),
-        calls: 0,
-        fails_at,
-        failure,
-    };
-    let result = run(rt, command, job, &mut writer);
-    (result, writer.taken)
 }
 
 /// Asserts that each call before the last tells its fault and leaves a part of the text, and that
@@ -166,17 +185,13 @@ fn assert_write_faults(
 ) {
     for failure in [Failure::Error, Failure::Nothing] {
         for call in 1..last {
-            let (result, output) = run_with_write_fault(rt, command, job, call, failure);
-            assert_same_at(rt, result, Err(Fault::Write), call);
-            assert!(rt; output.len() < text.len(), "call {call}");
-            assert!(rt;
-                text.as_bytes().starts_with(output.as_slice()),
-                "call {call}"
-            );
+            let mut writer = FaultyWriter::new(rt.alloc(), call, failure);
+            let result = run(rt, command, job, &mut writer);
+            assert_part(rt, result, writer.taken.as_slice(), text, call);
         }
-        let (result, output) = run_with_write_fault(rt, command, job, last, failure);
-        assert_same(rt, result, Ok(0));
-        assert_same(rt, output.as_slice(), text.as_bytes());
+        let mut writer = FaultyWriter::new(rt.alloc(), last, failure);
+        let result = run(rt, command, job, &mut writer);
+        assert_whole(rt, result, writer.taken.as_slice(), text);
     }
 }
 
@@ -209,12 +224,7 @@ fn each_write_of_relay_fails_in_turn(rt: HostRuntime) -> Result<(), Fail> {
 /// What `read_all` answers where the reader fails at this call: the fault, or none where it gives
 /// the whole line.
 fn read_with_fault(alloc: Global, fails_at: usize) -> Option<Fault> {
-    let mut reader = FaultyReader {
-        rest: SAFE_LINE.as_bytes(),
-        calls: 0,
-        fails_at,
-    };
-    match read_all(alloc, &mut reader) {
+    match read_all(alloc, &mut FaultyReader::new(fails_at)) {
         Ok(input) if input.as_slice() == SAFE_LINE.as_bytes() => None,
         Ok(_) => Some(Fault::Stopped),
         Err(fault) => Some(fault),
@@ -230,37 +240,17 @@ fn each_read_of_an_input_fails_in_turn(rt: HostRuntime) {
     assert_same(&rt, read_with_fault(rt.alloc(), 59), None);
 }
 
-/// What `vectors` answers and writes where the writer fails.
-fn vectors_with_fault(
-    rt: &HostRuntime,
-    fails_at: usize,
-    failure: Failure,
-) -> (Result<u8, Fault>, Vec<u8>) {
-    let mut writer = FaultyWriter {
-        taken: Vec::new(rt.alloc()),
-        calls: 0,
-        fails_at,
-        failure,
-    };
-    let result = vectors(rt.alloc(), &mut writer);
-    (result, writer.taken)
-}
-
 #[test]
 fn each_write_of_vectors_fails_in_turn(rt: HostRuntime) {
     for failure in [Failure::Error, Failure::Nothing] {
         // 376 bytes, two a call
         for call in 1..189 {
-            let (result, output) = vectors_with_fault(&rt, call, failure);
-            assert_same_at(&rt, result, Err(Fault::Write), call);
-            assert_same(&rt, output.len(), 2 * (call - 1));
-            assert!(rt;
-                PUBLISHED.as_bytes().starts_with(output.as_slice()),
-                "call {call}"
-            );
+            let mut writer = FaultyWriter::new(rt.alloc(), call, failure);
+            let result = vectors(rt.alloc(), &mut writer);
+            assert_pairs(&rt, result, writer.taken.as_slice(), PUBLISHED, call);
         }
-        let (result, output) = vectors_with_fault(&rt, 189, failure);
-        assert_same(&rt, result, Ok(0));
-        assert_same(&rt, output.as_slice(), PUBLISHED.as_bytes());
+        let mut writer = FaultyWriter::new(rt.alloc(), 189, failure);
+        let result = vectors(rt.alloc(), &mut writer);
+        assert_whole(&rt, result, writer.taken.as_slice(), PUBLISHED);
     }
 }

@@ -7,7 +7,7 @@ use krb_commands::{
     Fault, SessionKey, key_of, open_job, push_lane, receiving_of, relay_job, seal_job, sending_of,
     session_of,
 };
-use krb_job::{Command, Job, SenderJob, read_job};
+use krb_job::{Command, SenderJob, read_job};
 use krb_relay::{Gate, NoGate};
 use krb_seal::{Aes128Sealer, Aes256Sealer, Sealer};
 use std::alloc::{AllocError, Global};
@@ -54,12 +54,32 @@ fn change_of<'a>(key: &str, changes: &[(&str, &'a str)]) -> Option<&'a str> {
     last
 }
 
-/// The line of a key, or nothing where it has no value.
-fn line_of(alloc: Global, key: &str, value: &str) -> Result<String, AllocError> {
+/// Adds the line of a key, or nothing where it has no value.
+fn push_line(table: &mut String, key: &str, value: &str) -> Result<(), AllocError> {
     if value.is_empty() {
-        return Ok(String::new(alloc));
+        return Ok(());
     }
-    format!(in alloc; "{key} = {value}\n")
+    table.push_str(key)?;
+    table.push_str(" = ")?;
+    table.push_str(value)?;
+    table.push_str("\n")
+}
+
+/// Adds the line of a key with its value, or with that of the first list that changes it.
+fn push_changed(
+    table: &mut String,
+    key: &str,
+    value: &str,
+    others: &[(&str, &str)],
+    changes: &[(&str, &str)],
+) -> Result<(), AllocError> {
+    if let Some(other) = change_of(key, others) {
+        push_line(table, key, other)
+    } else if let Some(other) = change_of(key, changes) {
+        push_line(table, key, other)
+    } else {
+        push_line(table, key, value)
+    }
 }
 
 /// A sender with these changes, as a table of a job.
@@ -75,16 +95,16 @@ pub fn sender_with(
 ) -> Result<String, AllocError> {
     let mut table = String::from_str(alloc, "[[sender]]\n")?;
     for (key, value) in SENDER {
-        let line = if let Some(other) = change_of(key, others) {
-            line_of(alloc, key, other)?
-        } else if let Some(other) = change_of(key, changes) {
-            line_of(alloc, key, other)?
-        } else {
-            line_of(alloc, key, value)?
-        };
-        table.push_str(line.as_str())?;
+        push_changed(&mut table, key, value, others, changes)?;
     }
     Ok(table)
+}
+
+/// A sender of one text of so many bytes, which are 66 in digits.
+pub fn long_sender(alloc: Global, size: usize) -> Result<String, AllocError> {
+    let text = "66".repeat(alloc, size)?;
+    let texts = format!(in alloc; "['{text}']")?;
+    sender(alloc, &[("texts", texts.as_str())])
 }
 
 /// Runs a command on a job of one or two senders.
@@ -106,65 +126,97 @@ pub fn run_under<W: Write, G: Gate + Sync>(
     writer: &mut W,
     gate: &G,
 ) -> Result<u8, Fault> {
-    let Job {
-        capacity,
-        mut senders,
-    } = read_job(rt.alloc(), job.as_bytes(), command)?;
-    let capacity = capacity.max(room);
-    assert!(rt; 1 <= senders.len() && senders.len() <= 2);
-    let last = senders.pop().unwrap();
-    match (command, senders.pop()) {
-        (Command::Open, _) => open(rt.alloc(), last, writer),
-        (Command::Seal, _) => seal(rt, last, writer),
-        (Command::Relay, None) => relay_one(rt, last, capacity, writer, gate),
-        (Command::Relay, Some(first)) => relay_two(rt, first, last, capacity, writer, gate),
+    let mut job = read_job(rt.alloc(), job.as_bytes(), command)?;
+    let capacity = job.capacity.max(room);
+    let senders = &mut job.senders;
+    match command {
+        Command::Open => open(rt, senders.as_slice(), writer),
+        Command::Seal => seal(rt, senders, writer),
+        Command::Relay => {
+            if senders.len() == 1 {
+                relay_one(rt, senders, capacity, writer, gate)
+            } else {
+                relay_two(rt, senders, capacity, writer, gate)
+            }
+        }
     }
 }
 
-fn open<W: Write>(alloc: Global, sender: SenderJob, writer: &mut W) -> Result<u8, Fault> {
-    let receiving = receiving_of(alloc, &sender)?;
-    open_job(alloc, receiving, sender.frames.as_slice(), writer)
+fn open<W: Write>(
+    rt: &(impl Abort + Alloc<A = Global>),
+    senders: &[SenderJob],
+    writer: &mut W,
+) -> Result<u8, Fault> {
+    assert!(rt; senders.len() == 1);
+    let receiving = receiving_of(rt.alloc(), &senders[0])?;
+    open_job(rt.alloc(), receiving, senders[0].frames.as_slice(), writer)
+}
+
+/// Takes the one sender, which has a seed.
+fn take_one(rt: &impl Abort, senders: &mut Vec<SenderJob>) -> SenderJob
+    ensures { IsSome result.seed }
+{
+    assert!(rt; senders.len() == 1);
+    let sender = senders.pop().unwrap();
+    assert!(rt; sender.seed.is_some());
+    sender
 }
 
 fn seal<W: Write>(
-    rt: &(impl Threads + Wait + Sync + Abort + Alloc<A = Global>),
-    sender: SenderJob,
+    rt: &(impl Abort + Alloc<A = Global>),
+    senders: &mut Vec<SenderJob>,
     writer: &mut W,
 ) -> Result<u8, Fault> {
-    assert!(rt; sender.seed.is_some());
+    assert!(rt; senders.len() == 1);
     let alloc = rt.alloc();
-    let session = session_of(alloc, &sender)?;
-    match key_of(&sender) {
+    let session = session_of(alloc, &senders[0])?;
+    match key_of(&senders[0]) {
         SessionKey::Aes128(mut key) => {
             let sealer = Aes128Sealer::new(&mut key, session);
-            seal_job(alloc, sending_of(sender, sealer), writer)
+            seal_job(alloc, sending_of(take_one(rt, senders), sealer), writer)
         }
         SessionKey::Aes256(mut key) => {
             let sealer = Aes256Sealer::new(&mut key, session);
-            seal_job(alloc, sending_of(sender, sealer), writer)
+            seal_job(alloc, sending_of(take_one(rt, senders), sealer), writer)
         }
     }
 }
 
 fn relay_one<W: Write, G: Gate + Sync>(
     rt: &(impl Threads + Wait + Sync + Abort + Alloc<A = Global>),
-    sender: SenderJob,
+    senders: &mut Vec<SenderJob>,
     capacity: usize,
     writer: &mut W,
     gate: &G,
 ) -> Result<u8, Fault> {
-    assert!(rt; sender.seed.is_some());
+    assert!(rt; senders.len() == 1);
     assert!(rt; 0 < capacity && capacity <= 64);
     let alloc = rt.alloc();
-    let session = session_of(alloc, &sender)?;
-    match key_of(&sender) {
+    let session = session_of(alloc, &senders[0])?;
+    match key_of(&senders[0]) {
         SessionKey::Aes128(mut key) => {
             let sealer = Aes128Sealer::new(&mut key, session);
-            relay_alone(rt, alloc, sender, sealer, capacity, writer, gate)
+            relay_alone(
+                rt,
+                alloc,
+                take_one(rt, senders),
+                sealer,
+                capacity,
+                writer,
+                gate,
+            )
         }
         SessionKey::Aes256(mut key) => {
             let sealer = Aes256Sealer::new(&mut key, session);
-            relay_alone(rt, alloc, sender, sealer, capacity, writer, gate)
+            relay_alone(
+                rt,
+                alloc,
+                take_one(rt, senders),
+                sealer,
+                capacity,
+                writer,
+                gate,
+            )
         }
     }
 }
@@ -190,29 +242,49 @@ fn relay_alone<T: Threads + Wait + Sync, S: Sealer + Send, W: Write, G: Gate + S
     relay_job(rt, alloc, sendings, receivings, capacity, writer, gate)
 }
 
+/// Takes both senders, which have seeds.
+fn take_two(rt: &impl Abort, senders: &mut Vec<SenderJob>) -> (SenderJob, SenderJob)
+    ensures first { IsSome result.0.seed }
+    ensures second { IsSome result.1.seed }
+{
+    assert!(rt; senders.len() == 2);
+    let second = senders.pop().unwrap();
+    let first = senders.pop().unwrap();
+    assert!(rt; first.seed.is_some());
+    assert!(rt; second.seed.is_some());
+    (first, second)
+}
+
 fn relay_two<W: Write, G: Gate + Sync>(
     rt: &(impl Threads + Wait + Sync + Abort + Alloc<A = Global>),
-    first: SenderJob,
-    second: SenderJob,
+    senders: &mut Vec<SenderJob>,
     capacity: usize,
     writer: &mut W,
     gate: &G,
 ) -> Result<u8, Fault> {
-    assert!(rt; first.seed.is_some() && second.seed.is_some());
+    assert!(rt; senders.len() == 2);
     assert!(rt; 0 < capacity && capacity <= 64);
     let alloc = rt.alloc();
-    let session = session_of(alloc, &first)?;
-    let sealer: Box<dyn Sealer + Send> = match key_of(&first) {
+    let session = session_of(alloc, &senders[0])?;
+    let sealer: Box<dyn Sealer + Send> = match key_of(&senders[0]) {
         SessionKey::Aes128(mut key) => Box::new(alloc, Aes128Sealer::new(&mut key, session))?,
         SessionKey::Aes256(mut key) => Box::new(alloc, Aes256Sealer::new(&mut key, session))?,
     };
-    let session = session_of(alloc, &second)?;
-    let other: Box<dyn Sealer + Send> = match key_of(&second) {
+    let session = session_of(alloc, &senders[1])?;
+    let other: Box<dyn Sealer + Send> = match key_of(&senders[1]) {
         SessionKey::Aes128(mut key) => Box::new(alloc, Aes128Sealer::new(&mut key, session))?,
         SessionKey::Aes256(mut key) => Box::new(alloc, Aes256Sealer::new(&mut key, session))?,
     };
-    let (first, second) = ((first, sealer), (second, other));
-    relay_sealed(rt, alloc, first, second, capacity, writer, gate)
+    let (first, second) = take_two(rt, senders);
+    relay_sealed(
+        rt,
+        alloc,
+        (first, sealer),
+        (second, other),
+        capacity,
+        writer,
+        gate,
+    )
 }
 
 /// Relays the texts of two senders, each with its sealer.
@@ -288,12 +360,18 @@ pub fn is_bad(
     }
 }
 
+/// Adds a text to a list of TOML.
+fn push_item(list: &mut String, text: &str) -> Result<(), AllocError> {
+    list.push_str("'")?;
+    list.push_str(text)?;
+    list.push_str("', ")
+}
+
 /// The texts as a list of TOML.
 pub fn listed(alloc: Global, texts: &[&str]) -> Result<String, AllocError> {
     let mut list = String::from_str(alloc, "[")?;
     for text in texts {
-        let item = format!(in alloc; "'{text}', ")?;
-        list.push_str(item.as_str())?;
+        push_item(&mut list, text)?;
     }
     list.push_str("]")?;
     Ok(list)

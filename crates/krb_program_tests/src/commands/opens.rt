@@ -91,11 +91,26 @@ fn frames_of<'a>(alloc: Global, printed: &'a str) -> Result<Vec<&'a str>, AllocE
 fn all_of(alloc: Global, texts: &[&str]) -> Result<String, AllocError> {
     let mut printed = String::new(alloc);
     for text in texts {
-        let line = format!(in alloc; "lane 0 text {text}\n")?;
-        printed.push_str(line.as_str())?;
+        printed.push_str("lane 0 text ")?;
+        printed.push_str(text)?;
+        printed.push_str("\n")?;
     }
     printed.push_str("lane 0 closed\nlane 0 CLOSED\n")?;
     Ok(printed)
+}
+
+/// What `seal` prints of these texts, with these changes of the job.
+fn sealed(
+    rt: &(impl Threads + Wait + Sync + Abort + Alloc<A = Global>),
+    changes: &[(&str, &str)],
+    texts: &[&str],
+) -> Result<Vec<u8>, Fail> {
+    let list = listed(rt.alloc(), texts)?;
+    let job = sender_with(rt.alloc(), changes, &[("texts", list.as_str())])?;
+    let mut output = Vec::new(rt.alloc());
+    let status = run(rt, Command::Seal, job.as_str(), &mut output);
+    assert_same(rt, status, Ok(0));
+    Ok(output)
 }
 
 /// Whether `open` gives each text of what `seal` makes of them, with these changes of the job.
@@ -104,11 +119,7 @@ fn come_back(
     changes: &[(&str, &str)],
     texts: &[&str],
 ) -> Result<bool, Fail> {
-    let list = listed(rt.alloc(), texts)?;
-    let job = sender_with(rt.alloc(), changes, &[("texts", list.as_str())])?;
-    let mut output = Vec::new(rt.alloc());
-    let sealed = run(rt, Command::Seal, job.as_str(), &mut output);
-    assert_same(rt, sealed, Ok(0));
+    let output = sealed(rt, changes, texts)?;
     let printed = str::from_utf8(output.as_slice()).ok().ok_or("no text")?;
     let frames = frames_of(rt.alloc(), printed)?;
     assert_same(rt, frames.len(), texts.len() + 1);
@@ -139,10 +150,12 @@ fn thousand_sealed_texts_come_back(rt: HostRuntime) -> Result<(), Fail> {
 
 #[test]
 fn longest_text_comes_back(rt: HostRuntime) -> Result<(), Fail> {
-    let digits = vec![in rt.alloc(); b'7'; 2_000_000]?;
-    let text = str::from_utf8(digits.as_slice()).ok().ok_or("no text")?;
+    let text = "77".repeat(rt.alloc(), 1_000_000)?;
     for mode in ["'safe'", "'priv'"] {
-        assert!(rt; come_back(&rt, &[("mode", mode)], &[text])?, "{mode}");
+        assert!(rt;
+            come_back(&rt, &[("mode", mode)], &[text.as_str()])?,
+            "{mode}"
+        );
     }
     Ok(())
 }

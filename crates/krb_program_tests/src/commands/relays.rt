@@ -1,6 +1,6 @@
 //! What `relay` prints: the deliveries, each refusal, and how each lane ends.
 
-use super::jobs::{answers, is_bad, prints, sender, sender_with};
+use super::jobs::{answers, is_bad, long_sender, prints, sender, sender_with};
 use crate::frames::{EMPTY_CHECKSUM, NO_CHECKSUM, NO_RECORD};
 use crate::relayed::{
     AFTER_CLOSE, BAD_INTEGRITY, MALFORMED_FIRST, MODIFIED, NONE_OF_TWO, ONE_OF_TWO, OVERTAKEN,
@@ -23,15 +23,35 @@ pub fn relays(
     prints(rt, Command::Relay, changes, status, text)
 }
 
+/// A sender of two texts.
+const TWO_TEXTS: [(&str, &str); 1] = [("texts", "['61', '62']")];
+
+/// A sender with another key, of whose frames none arrives whole.
+const CUT: [(&str, &str); 2] = [
+    ("key", "'0f0e0d0c0b0a09080706050403020100'"),
+    ("plan", "['raw 00']"),
+];
+
+/// A job of two senders, each with its changes.
+fn joined(
+    alloc: Global,
+    changes: &[(&str, &str)],
+    others: &[(&str, &str)],
+) -> Result<String, AllocError> {
+    let mut job = sender(alloc, changes)?;
+    let second = sender(alloc, others)?;
+    job.push_str(second.as_str())?;
+    Ok(job)
+}
+
 /// A job of two senders. The first says `a` and `b`, the second has these changes.
 pub fn two_senders(
     rt: &(impl Threads + Wait + Sync + Abort + Alloc<A = Global>),
     capacity: usize,
     changes: &[(&str, &str)],
 ) -> Result<String, AllocError> {
-    let first = sender(rt.alloc(), &[("texts", "['61', '62']")])?;
-    let second = sender(rt.alloc(), changes)?;
-    format!(in rt.alloc(); "capacity = {capacity}\n{first}{second}")
+    let senders = joined(rt.alloc(), &TWO_TEXTS, changes)?;
+    format!(in rt.alloc(); "capacity = {capacity}\n{senders}")
 }
 
 /// A sender of encryption type 18 that says nothing.
@@ -72,13 +92,15 @@ lane 1 sent 2 of 2 DONE CLOSED
 ";
 
 #[test]
-fn one_truncated_lane_of_two_gives_status_three(rt: HostRuntime) -> Result<(), Fail> {
-    let key = "'0f0e0d0c0b0a09080706050403020100'";
-    let good = sender(rt.alloc(), &[("texts", "['61', '62']")])?;
-    let cut = sender(rt.alloc(), &[("key", key), ("plan", "['raw 00']")])?;
-    let job = format!(in rt.alloc(); "{good}{cut}")?;
+fn truncated_second_lane_of_two_gives_status_three(rt: HostRuntime) -> Result<(), Fail> {
+    let job = joined(rt.alloc(), &TWO_TEXTS, &CUT)?;
     assert!(rt; answers(&rt, Command::Relay, job.as_str(), 3, SECOND_TRUNCATED));
-    let job = format!(in rt.alloc(); "{cut}{good}")?;
+    Ok(())
+}
+
+#[test]
+fn truncated_first_lane_of_two_gives_status_three(rt: HostRuntime) -> Result<(), Fail> {
+    let job = joined(rt.alloc(), &CUT, &TWO_TEXTS)?;
     assert!(rt; answers(&rt, Command::Relay, job.as_str(), 3, FIRST_TRUNCATED));
     Ok(())
 }
@@ -207,14 +229,13 @@ fn bytes_that_are_no_message_or_no_record_are_refused(rt: HostRuntime) -> Result
 
 #[test]
 fn frame_of_more_than_1_005_000_bytes_is_too_long(rt: HostRuntime) -> Result<(), Fail> {
-    for (length, refusal) in [
-        (2_010_000, "901 MALFORMED"),
-        (2_010_002, "61 FIELD_TOOLONG"),
-        (2_020_000, "61 FIELD_TOOLONG"),
+    for (size, refusal) in [
+        (1_005_000, "901 MALFORMED"),
+        (1_005_001, "61 FIELD_TOOLONG"),
+        (1_010_000, "61 FIELD_TOOLONG"),
     ] {
-        let digits = vec![in rt.alloc(); b'0'; length]?;
-        let text = str::from_utf8(digits.as_slice()).ok().ok_or("no text")?;
-        assert!(rt; refuses(&rt, &[], text, refusal)?, "{refusal}");
+        let frame = "00".repeat(rt.alloc(), size)?;
+        assert!(rt; refuses(&rt, &[], frame.as_str(), refusal)?, "{refusal}");
     }
     Ok(())
 }
@@ -258,22 +279,18 @@ pub fn two_senders_of_one_key_are_bad_input(rt: HostRuntime) -> Result<(), Fail>
 
 #[test]
 fn text_may_have_1_000_000_bytes(rt: HostRuntime) -> Result<(), Fail> {
-    let digits = vec![in rt.alloc(); b'6'; 2_000_000]?;
-    let text = str::from_utf8(digits.as_slice()).ok().ok_or("no text")?;
-    let texts = format!(in rt.alloc(); "['{text}']")?;
+    let job = long_sender(rt.alloc(), 1_000_000)?;
+    let text = "66".repeat(rt.alloc(), 1_000_000)?;
     let printed = format!(in rt.alloc();
         "lane 0 text {text}\nlane 0 closed\nlane 0 sent 1 of 1 DONE CLOSED\n"
     )?;
-    assert!(rt; relays(&rt, &[("texts", texts.as_str())], 0, printed.as_str())?);
+    assert!(rt; answers(&rt, Command::Relay, job.as_str(), 0, printed.as_str()));
     Ok(())
 }
 
 #[test]
 fn text_of_1_000_001_bytes_is_bad_input(rt: HostRuntime) -> Result<(), Fail> {
-    let digits = vec![in rt.alloc(); b'6'; 2_000_002]?;
-    let text = str::from_utf8(digits.as_slice()).ok().ok_or("no text")?;
-    let texts = format!(in rt.alloc(); "['{text}']")?;
-    let job = sender(rt.alloc(), &[("texts", texts.as_str())])?;
+    let job = long_sender(rt.alloc(), 1_000_001)?;
     let line = "krbrelay: bad input: sender 0: texts";
     assert!(rt; is_bad(&rt, Command::Relay, job.as_str(), line)?);
     Ok(())

@@ -1,6 +1,6 @@
 //! What `seal` prints. The frames are those of an independent sealer.
 
-use super::jobs::{is_bad, prints, run, sender};
+use super::jobs::{is_bad, long_sender, prints, run, sender};
 use crate::asserts::assert_same;
 use crate::frames::{
     LAST_CLOSE, LONG_TEXT, PRIV_CLOSE, PRIV_TEXT, SAFE_CLOSE, SAFE_TEXT, TEXT_BEFORE_LAST,
@@ -59,22 +59,13 @@ fn first_line_from(printed: &str, beginning: &str) -> Option<usize> {
 
 #[test]
 fn lengths_of_a_long_text_take_three_octets(rt: HostRuntime) -> Result<(), Fail> {
-    let digits = vec![in rt.alloc(); b'6'; 2_000_000]?;
-    let text = str::from_utf8(digits.as_slice()).ok().ok_or("no text")?;
-    let texts = format!(in rt.alloc(); "['{text}']")?;
-    let job = sender(rt.alloc(), &[("texts", texts.as_str())])?;
+    let job = long_sender(rt.alloc(), 1_000_000)?;
     let mut printed = Vec::new(rt.alloc());
-    assert_same(
-        &rt,
-        run(&rt, Command::Seal, job.as_str(), &mut printed).ok(),
-        Some(0),
-    );
+    let result = run(&rt, Command::Seal, job.as_str(), &mut printed);
+    assert_same(&rt, result.ok(), Some(0));
     let printed = str::from_utf8(printed.as_slice()).ok().ok_or("no text")?;
-    assert_same(
-        &rt,
-        first_line_from(printed, LONG_TEXT),
-        Some(2 * 1_000_112),
-    );
+    let length = first_line_from(printed, LONG_TEXT);
+    assert_same(&rt, length, Some(2 * 1_000_112));
     Ok(())
 }
 

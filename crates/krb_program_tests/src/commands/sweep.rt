@@ -18,19 +18,28 @@ use std::test::Fail;
 /// More bytes than any of these commands writes, so that the writer wants no memory.
 const ROOM: usize = 2_000;
 
+/// Whether an output is some of the first lines of a text.
+fn is_front(output: &[u8], text: &str) -> bool {
+    let ends = output.is_empty() || output.ends_with(b"\n");
+    ends && text.as_bytes().starts_with(output)
+}
+
 /// Asserts that a command wrote this text, or wanted memory and wrote some of its first lines.
 /// Answers whether it wanted memory.
 fn ends_well(rt: &impl Abort, outcome: Result<u8, Fault>, output: &[u8], text: &str) -> bool {
-    if let Err(fault) = outcome {
-        assert!(rt; matches!(fault, Fault::Memory | Fault::Stopped));
-        assert_same(rt, fault.status(), 4);
-        assert!(rt; text.as_bytes().starts_with(output));
-        assert!(rt; output.is_empty() || output.ends_with(b"\n"));
-        return true;
+    match outcome {
+        Ok(status) => {
+            assert_same(rt, status, 0);
+            assert_same(rt, output, text.as_bytes());
+            false
+        }
+        Err(fault) => {
+            let told = matches!(fault, Fault::Memory | Fault::Stopped);
+            assert_same(rt, (told, fault.status()), (true, 4));
+            assert_same(rt, is_front(output, text), true);
+            true
+        }
     }
-    assert_same(rt, outcome, Ok(0));
-    assert_same(rt, output, text.as_bytes());
-    false
 }
 
 #[test]
@@ -78,22 +87,36 @@ fn has_front(text: &str, whole: &str, lane: &str) -> bool {
     true
 }
 
+/// Asserts that the relay of two lanes wrote all of its lines, or wanted memory or a thread and
+/// wrote some of the first lines of each lane. Answers whether it wanted either.
+fn relay_ends_well(rt: &impl Abort, outcome: Result<u8, Fault>, printed: &str) -> bool {
+    match outcome {
+        Ok(status) => {
+            assert_same(rt, status, 0);
+            assert_same(rt, printed, TWO_LANES);
+            false
+        }
+        Err(fault) => {
+            let told = matches!(fault, Fault::Memory | Fault::Stopped | Fault::Thread);
+            assert_same(rt, (told, fault.status()), (true, 4));
+            assert_same(rt, has_front(printed, TWO_LANES, "lane 0 "), true);
+            assert_same(rt, has_front(printed, TWO_LANES, "lane 1 "), true);
+            let ends = printed.is_empty() || printed.ends_with("\n");
+            assert_same(rt, ends, true);
+            true
+        }
+    }
+}
+
 #[test]
 fn two_lanes_are_relayed_or_memory_wanted(rt: HostRuntime) -> Result<(), Fail> {
     let job = two_senders(&rt, 1, &SILENT)?;
     let mut output = Vec::with_capacity(rt.alloc(), ROOM)?;
     let result = run(&rt, Command::Relay, job.as_str(), &mut output);
     let printed = str::from_utf8(output.as_slice()).ok().ok_or("no text")?;
-    if let Err(fault) = result {
-        assert!(rt; matches!(fault, Fault::Memory | Fault::Stopped | Fault::Thread));
-        assert_same(&rt, fault.status(), 4);
-        assert!(rt; has_front(printed, TWO_LANES, "lane 0 "));
-        assert!(rt; has_front(printed, TWO_LANES, "lane 1 "));
-        assert!(rt; printed.is_empty() || printed.ends_with("\n"));
+    if relay_ends_well(&rt, result, printed) {
+        let fault = result.err().ok_or("no fault")?;
         println!(rt; "refused: relay_job, {fault}")?;
-    } else {
-        assert_same(&rt, result, Ok(0));
-        assert_same(&rt, printed, TWO_LANES);
     }
     Ok(())
 }

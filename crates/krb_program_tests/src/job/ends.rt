@@ -1,6 +1,6 @@
 //! The keys `from` to `skew`.
 
-use super::{COMMANDS, assert_bad, assert_good, zeros};
+use super::{COMMANDS, assert_bad, assert_good};
 use krb_job::{Command, Place};
 use std::test::Fail;
 
@@ -56,12 +56,12 @@ fn good_addresses(rt: HostRuntime) -> Result<(), Fail> {
 /// An address has at most 32 bytes.
 #[test]
 fn long_addresses(rt: HostRuntime) -> Result<(), Fail> {
-    let most = zeros(rt.alloc(), 32)?;
+    let most = "00".repeat(rt.alloc(), 32)?;
     let from = format!(in rt.alloc(); "from = \"2:{most}\"")?;
     let to = format!(in rt.alloc(); "to = \"2:{most}\"")?;
     let lines = [(Place::From, from.as_str()), (Place::To, to.as_str())];
     assert_good(&rt, rt.alloc(), Command::Relay, lines.as_slice())?;
-    let more = zeros(rt.alloc(), 33)?;
+    let more = "00".repeat(rt.alloc(), 33)?;
     let from = format!(in rt.alloc(); "from = \"2:{more}\"")?;
     let to = format!(in rt.alloc(); "to = \"2:{more}\"")?;
     let lines = [(Place::From, from.as_str()), (Place::To, to.as_str())];

@@ -1,6 +1,6 @@
 //! The key `frames`.
 
-use super::{assert_bad, assert_good, list_line, zeros};
+use super::{assert_bad, assert_good, list_line};
 use krb_job::{Command, Place};
 use std::test::Fail;
 
@@ -37,7 +37,7 @@ fn many_frames(rt: HostRuntime) -> Result<(), Fail> {
 /// A frame has at most 1,010,000 bytes.
 #[test]
 fn long_frames(rt: HostRuntime) -> Result<(), Fail> {
-    let digits = zeros(rt.alloc(), 1_010_000)?;
+    let digits = "00".repeat(rt.alloc(), 1_010_000)?;
     let most = format!(in rt.alloc(); "frames = [\"{digits}\"]")?;
     let more = format!(in rt.alloc(); "frames = [\"{digits}00\"]")?;
     let good = [(Place::Frames, most.as_str())];

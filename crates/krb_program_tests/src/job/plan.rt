@@ -1,6 +1,6 @@
 //! The key `plan`.
 
-use super::{assert_bad, assert_good, list_line, zeros};
+use super::{assert_bad, assert_good, list_line};
 use krb_job::{Command, Place};
 use std::test::Fail;
 
@@ -80,7 +80,7 @@ fn many_emissions(rt: HostRuntime) -> Result<(), Fail> {
 /// A raw emission has at most 1,010,000 bytes.
 #[test]
 fn long_raws(rt: HostRuntime) -> Result<(), Fail> {
-    let digits = zeros(rt.alloc(), 1_010_000)?;
+    let digits = "00".repeat(rt.alloc(), 1_010_000)?;
     let most = format!(in rt.alloc(); "plan = [\"raw {digits}\"]")?;
     let more = format!(in rt.alloc(); "plan = [\"raw {digits}00\"]")?;
     let good = [(Place::Plan, most.as_str())];

@@ -1,6 +1,6 @@
 //! The keys `etype`, `key`, `mode` and `first`.
 
-use super::{COMMANDS, assert_bad, assert_good, error_of, sender, zeros};
+use super::{COMMANDS, assert_bad, assert_good, error_of, sender};
 use crate::asserts::assert_same_at;
 use krb_job::Place;
 use std::test::Fail;
@@ -62,7 +62,7 @@ fn good_protections(rt: HostRuntime) -> Result<(), Fail> {
 fn long_keys(rt: HostRuntime) -> Result<(), Fail> {
     let table = [(16, false), (31, false), (32, true), (33, false)];
     for (size, good) in table {
-        let digits = zeros(rt.alloc(), size)?;
+        let digits = "00".repeat(rt.alloc(), size)?;
         let lines = format!(in rt.alloc(); "etype = 18\nkey = \"{digits}\"")?;
         for command in COMMANDS {
             let keys = [Place::Etype, Place::Key];

@@ -1,6 +1,6 @@
 //! The key `texts`.
 
-use super::{assert_bad, assert_good, list_line, zeros};
+use super::{assert_bad, assert_good, list_line};
 use krb_job::{Command, Place};
 use std::test::Fail;
 
@@ -39,7 +39,7 @@ fn many_texts(rt: HostRuntime) -> Result<(), Fail> {
 /// A text has at most 1,000,000 bytes.
 #[test]
 fn long_texts(rt: HostRuntime) -> Result<(), Fail> {
-    let digits = zeros(rt.alloc(), 1_000_000)?;
+    let digits = "00".repeat(rt.alloc(), 1_000_000)?;
     let most = format!(in rt.alloc(); "texts = [\"{digits}\"]")?;
     let more = format!(in rt.alloc(); "texts = [\"{digits}00\"]")?;
     let good = [(Place::Texts, most.as_str())];

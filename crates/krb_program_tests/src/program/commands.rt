@@ -1,7 +1,9 @@
 //! The command line.
 
+use crate::asserts::assert_same;
 use clap::error::ErrorKind;
 use krb_program::{Cmd, command_of};
+use std::alloc::Global;
 use std::test::Fail;
 
 #[test]
@@ -14,25 +16,32 @@ fn each_command_has_its_word(rt: HostRuntime) -> Result<(), Fail> {
         ("relay", Cmd::Relay),
     ] {
         let command = command_of(rt.alloc(), &["krbrelay", word])?;
-        assert_eq!(rt; command, expected);
+        assert_same(&rt, command, expected);
     }
     Ok(())
 }
 
 /// The kind of the error that the words give, and whether it goes to standard error.
-fn error_of(rt: &HostRuntime, words: &[&str]) -> Option<(ErrorKind, bool)> {
-    let error = command_of(rt.alloc(), words).err()?;
+fn error_of(alloc: Global, words: &[&str]) -> Option<(ErrorKind, bool)> {
+    let error = command_of(alloc, words).err()?;
     Some((error.kind(), error.use_stderr()))
 }
 
 #[test]
 fn other_words_are_faults_of_usage(rt: HostRuntime) {
-    let unknown = error_of(&rt, &["krbrelay", "shows"]);
-    assert_eq!(rt; unknown, Some((ErrorKind::InvalidSubcommand, true)));
-    let missing = error_of(&rt, &["krbrelay"]);
-    assert_eq!(rt; missing, Some((ErrorKind::MissingSubcommand, true)));
-    let further = error_of(&rt, &["krbrelay", "show", "it"]);
-    assert_eq!(rt; further, Some((ErrorKind::UnknownArgument, true)));
+    let unknown = error_of(rt.alloc(), &["krbrelay", "shows"]);
+    assert_same(&rt, unknown, Some((ErrorKind::InvalidSubcommand, true)));
+    let missing = error_of(rt.alloc(), &["krbrelay"]);
+    assert_same(&rt, missing, Some((ErrorKind::MissingSubcommand, true)));
+    let further = error_of(rt.alloc(), &["krbrelay", "show", "it"]);
+    assert_same(&rt, further, Some((ErrorKind::UnknownArgument, true)));
+}
+
+/// The help of a command.
+fn help_of(alloc: Global, word: &str) -> Result<String, Fail> {
+    let error = command_of(alloc, &["krbrelay", word, "--help"]).err();
+    let help = error.ok_or("no help")?;
+    Ok(format!(in alloc; "{help}")?)
 }
 
 #[test]
@@ -41,12 +50,10 @@ fn help_tells_what_is_read_and_printed(rt: HostRuntime) -> Result<(), Fail> {
         ["krbrelay", "--help"].as_slice(),
         ["krbrelay", "show", "--help"].as_slice(),
     ] {
-        assert_eq!(rt; error_of(&rt, words), Some((ErrorKind::DisplayHelp, false)));
+        let kind = error_of(rt.alloc(), words);
+        assert_same(&rt, kind, Some((ErrorKind::DisplayHelp, false)));
     }
-    let Some(help) = command_of(rt.alloc(), &["krbrelay", "show", "--help"]).err() else {
-        return Err(Fail::from("no help"));
-    };
-    let text = format!(in rt.alloc(); "{help}")?;
+    let text = help_of(rt.alloc(), "show")?;
     assert!(rt; text.contains("hexadecimal digits"));
     assert!(rt; text.contains("PRIV 5 21 etype=17 kvno=- cipher="));
     Ok(())
@@ -54,10 +61,7 @@ fn help_tells_what_is_read_and_printed(rt: HostRuntime) -> Result<(), Fail> {
 
 #[test]
 fn help_tells_the_keys_of_a_job(rt: HostRuntime) -> Result<(), Fail> {
-    let Some(help) = command_of(rt.alloc(), &["krbrelay", "relay", "--help"]).err() else {
-        return Err(Fail::from("no help"));
-    };
-    let text = format!(in rt.alloc(); "{help}")?;
+    let text = help_of(rt.alloc(), "relay")?;
     for key in [
         "capacity",
         "etype",
@@ -85,10 +89,7 @@ fn help_tells_the_keys_of_a_job(rt: HostRuntime) -> Result<(), Fail> {
 
 #[test]
 fn help_tells_limits_and_faults(rt: HostRuntime) -> Result<(), Fail> {
-    let Some(help) = command_of(rt.alloc(), &["krbrelay", "relay", "--help"]).err() else {
-        return Err(Fail::from("no help"));
-    };
-    let text = format!(in rt.alloc(); "{help}")?;
+    let text = help_of(rt.alloc(), "relay")?;
     for part in [
         "16,777,216 bytes",
         "1 to 64; by default 1\n",

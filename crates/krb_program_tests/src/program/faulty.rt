@@ -6,11 +6,12 @@ ghost use Rattle.std.specs.Prelude.{Some};
 
 use super::jobs::TWO_SENDERS;
 use super::runs::{SEALED, SESSION};
+use crate::asserts::assert_same_at;
 use crate::frames::{SAFE_CLOSE, SAFE_TEXT};
 use crate::relayed::TWO_LANES;
 use krb_commands::Fault;
 use krb_program::obey;
-use std::alloc::Global;
+use std::alloc::{AllocError, Global};
 use std::io;
 use std::io::{BufWriter, ErrorKind, Read, Write};
 use std::process::Abort;
@@ -83,6 +84,17 @@ impl Write for FaultyWriter {
     }
 }
 
+/// A message that `show` reads.
+const PRIV_LINE: &str = "75193017a003020105a103020115a30b3009a003020111a2020400";
+
+/// How the sender of a job of `seal` and of `open` begins.
+const SENDER: &str = "[[sender]]
+etype = 17
+key = '000102030405060708090a0b0c0d0e0f'
+mode = 'safe'
+first = 7
+";
+
 /// A word of the command line, the input, and the whole output of a run that ends with status 0.
 #[derive(Drop)]
 struct Run {
@@ -117,72 +129,107 @@ fn faulty(
     Ok((outcome, Vec::from_slice(rt.alloc(), taken)?))
 }
 
-/// A run of each command that reads.
-fn runs(alloc: Global) -> Result<Vec<Run>, Fail> {
-    let session = format!(in alloc;
-        "[[sender]]\netype = 17\nkey = '000102030405060708090a0b0c0d0e0f'\nmode = 'safe'\n\
-         first = 7\n{SESSION}"
-    )?;
-    let mut runs = Vec::new(alloc);
-    runs.push(Run {
-        word: "show",
-        input: String::from_str(
-            alloc,
-            "75193017a003020105a103020115a30b3009a003020111a2020400",
-        )?,
-        text: String::from_str(alloc, "PRIV 5 21 etype=17 kvno=- cipher=\n")?,
-    })?;
-    runs.push(Run {
-        word: "seal",
-        input: format!(in alloc; "{session}{SEALED}texts = ['6869']\n")?,
-        text: format!(in alloc; "{SAFE_TEXT}\n{SAFE_CLOSE}\nsent 1 of 1 DONE\n")?,
-    })?;
-    runs.push(Run {
-        word: "open",
-        input: format!(in alloc; "{session}frames = ['{SAFE_TEXT}', '{SAFE_CLOSE}']\n")?,
-        text: String::from_str(alloc, "lane 0 text 6869\nlane 0 closed\nlane 0 CLOSED\n")?,
-    })?;
-    runs.push(Run {
-        word: "relay",
-        input: String::from_str(alloc, TWO_SENDERS)?,
-        text: String::from_str(alloc, TWO_LANES)?,
-    })?;
-    Ok(runs)
+/// The commands that read.
+const WORDS: [&str; 4] = ["show", "seal", "open", "relay"];
+
+/// What a run of the command reads.
+fn input_of(alloc: Global, word: &str) -> Result<String, AllocError> {
+    match word {
+        "show" => String::from_str(alloc, PRIV_LINE),
+        "seal" => format!(in alloc; "{SENDER}{SESSION}{SEALED}texts = ['6869']\n"),
+        "open" => format!(in alloc; "{SENDER}{SESSION}frames = ['{SAFE_TEXT}', '{SAFE_CLOSE}']\n"),
+        _ => String::from_str(alloc, TWO_SENDERS),
+    }
+}
+
+/// What it prints.
+fn text_of(alloc: Global, word: &str) -> Result<String, AllocError> {
+    match word {
+        "show" => String::from_str(alloc, "PRIV 5 21 etype=17 kvno=- cipher=\n"),
+        "seal" => format!(in alloc; "{SAFE_TEXT}\n{SAFE_CLOSE}\nsent 1 of 1 DONE\n"),
+        "open" => String::from_str(alloc, "lane 0 text 6869\nlane 0 closed\nlane 0 CLOSED\n"),
+        _ => String::from_str(alloc, TWO_LANES),
+    }
+}
+
+/// A run of the command of this word.
+fn run_of(alloc: Global, word: &'static str) -> Result<Run, AllocError> {
+    let input = input_of(alloc, word)?;
+    let text = text_of(alloc, word)?;
+    Ok(Run { word, input, text })
+}
+
+/// Asserts that the run told that the reader failed, and wrote nothing.
+fn assert_read_fault(
+    rt: &(impl Threads + Wait + Sync + Abort + Alloc<A = Global>),
+    run: &Run,
+    call: usize,
+) -> Result<(), Fail> {
+    let (outcome, output) = faulty(rt, run, call, 0, Failure::Error)?;
+    assert_same_at(rt, outcome, Err(Fault::Read), run.word);
+    assert_same_at(rt, output.is_empty(), true, call);
+    Ok(())
+}
+
+/// Asserts that the run told that the writer failed at this call, and wrote two bytes at each
+/// before.
+fn assert_write_fault(
+    rt: &(impl Threads + Wait + Sync + Abort + Alloc<A = Global>),
+    run: &Run,
+    call: usize,
+    failure: Failure,
+) -> Result<(), Fail> {
+    let (outcome, output) = faulty(rt, run, 0, call, failure)?;
+    assert_same_at(rt, outcome, Err(Fault::Write), run.word);
+    assert_same_at(
+        rt,
+        output.len(),
+        call.saturating_sub(1).saturating_mul(2),
+        run.word,
+    );
+    let is_part = run.text.as_bytes().starts_with(output.as_slice());
+    assert_same_at(rt, is_part, true, call);
+    Ok(())
+}
+
+/// Asserts that a run of which no call failed, or the flush alone, wrote the whole text.
+fn assert_whole(
+    rt: &(impl Threads + Wait + Sync + Abort + Alloc<A = Global>),
+    run: &Run,
+    calls: (usize, usize),
+    failure: Failure,
+    expected: Result<u8, Fault>,
+) -> Result<(), Fail> {
+    let (outcome, output) = faulty(rt, run, calls.0, calls.1, failure)?;
+    assert_same_at(rt, outcome, expected, run.word);
+    assert_same_at(rt, output.as_slice(), run.text.as_bytes(), run.word);
+    Ok(())
 }
 
 #[test]
 fn each_read_of_each_command_fails_in_turn(rt: HostRuntime) -> Result<(), Fail> {
-    for run in runs(rt.alloc())? {
-        let word = run.word;
+    for word in WORDS {
+        let run = run_of(rt.alloc(), word)?;
         // sixteen bytes a call, and one call that finds the end
         let unmade = run.input.len().div_ceil(16).saturating_add(2);
         for call in 1..unmade {
-            let (outcome, output) = faulty(&rt, &run, call, 0, Failure::Error)?;
-            assert_eq!(rt; outcome, Err(Fault::Read), "{word} {call}");
-            assert!(rt; output.is_empty(), "{word} {call}");
+            assert_read_fault(&rt, &run, call)?;
         }
-        let (outcome, output) = faulty(&rt, &run, unmade, 0, Failure::Error)?;
-        assert_eq!(rt; outcome, Ok(0), "{word}");
-        assert_eq!(rt; output.as_slice(), run.text.as_bytes(), "{word}");
+        assert_whole(&rt, &run, (unmade, 0), Failure::Error, Ok(0))?;
     }
     Ok(())
 }
 
 #[test]
 fn each_write_of_each_command_fails_in_turn(rt: HostRuntime) -> Result<(), Fail> {
-    for run in runs(rt.alloc())? {
-        let word = run.word;
+    for word in WORDS {
+        let run = run_of(rt.alloc(), word)?;
         let unmade = run.text.len().div_ceil(2).saturating_add(1);
         for failure in [Failure::Error, Failure::Nothing] {
             for call in 1..unmade {
-                let (outcome, output) = faulty(&rt, &run, 0, call, failure)?;
-                assert_eq!(rt; outcome, Err(Fault::Write), "{word} {call}");
-                assert_eq!(rt; output.len(), (call - 1).saturating_mul(2), "{word}");
-                assert!(rt; run.text.as_bytes().starts_with(output.as_slice()));
+                assert_write_fault(&rt, &run, call, failure)?;
             }
-            let (outcome, output) = faulty(&rt, &run, 0, unmade, failure)?;
-            assert_eq!(rt; outcome, Ok(0), "{word}");
-            assert_eq!(rt; output.as_slice(), run.text.as_bytes(), "{word}");
+            assert_whole(&rt, &run, (0, unmade), failure, Ok(0))?;
         }
     }
     Ok(())
@@ -190,11 +237,9 @@ fn each_write_of_each_command_fails_in_turn(rt: HostRuntime) -> Result<(), Fail>
 
 #[test]
 fn failed_flush_is_a_write_fault(rt: HostRuntime) -> Result<(), Fail> {
-    for run in runs(rt.alloc())? {
-        let word = run.word;
-        let (outcome, output) = faulty(&rt, &run, 0, 0, Failure::Flush)?;
-        assert_eq!(rt; outcome, Err(Fault::Write), "{word}");
-        assert_eq!(rt; output.as_slice(), run.text.as_bytes(), "{word}");
+    for word in WORDS {
+        let run = run_of(rt.alloc(), word)?;
+        assert_whole(&rt, &run, (0, 0), Failure::Flush, Err(Fault::Write))?;
     }
     Ok(())
 }

@@ -1,6 +1,7 @@
 //! What is told on the two streams, and by the exit code: each fault in its one line, and help on
 //! standard output.
 
+use crate::asserts::{assert_same, assert_same_at};
 use krb_commands::Fault;
 use krb_job::{BadInput, Place};
 use krb_program::{bad_words, command_of, finish, usage};
@@ -135,12 +136,9 @@ fn each_fault_is_told_in_one_line(rt: HostRuntime) {
         (Fault::Write, "krbrelay: write fault\n", 4),
     ] {
         let streams = Streams::new(rt.alloc());
-        assert_eq!(rt;
-            finish(&streams, Err(fault)),
-            ExitCode::from(status),
-            "{line}"
-        );
-        assert!(rt; streams.told("", line), "{line}");
+        let code = finish(&streams, Err(fault));
+        assert_same_at(&rt, code, ExitCode::from(status), line);
+        assert_same_at(&rt, streams.told("", line), true, line);
     }
 }
 
@@ -148,8 +146,9 @@ fn each_fault_is_told_in_one_line(rt: HostRuntime) {
 fn end_without_a_fault_tells_its_status_alone(rt: HostRuntime) {
     for status in [0, 2, 3] {
         let streams = Streams::new(rt.alloc());
-        assert_eq!(rt; finish(&streams, Ok(status)), ExitCode::from(status));
-        assert!(rt; streams.told("", ""));
+        let code = finish(&streams, Ok(status));
+        assert_same(&rt, code, ExitCode::from(status));
+        assert_same(&rt, streams.told("", ""), true);
     }
 }
 
@@ -163,9 +162,17 @@ fn words_that_could_not_be_had_are_told(rt: HostRuntime) {
     ] {
         let streams = Streams::new(rt.alloc());
         let code = bad_words(&streams, &io::Error::from(kind));
-        assert_eq!(rt; code, ExitCode::from(status), "{line}");
-        assert!(rt; streams.told("", line), "{line}");
+        assert_same_at(&rt, code, ExitCode::from(status), line);
+        assert_same_at(&rt, streams.told("", line), true, line);
     }
+}
+
+/// What the two streams are told of words that name no command, and the exit code.
+fn told_of(alloc: Global, words: &[&str]) -> Result<(Streams, ExitCode), Fail> {
+    let error = command_of(alloc, words).err().ok_or("a command")?;
+    let streams = Streams::new(alloc);
+    let code = usage(&streams, &error);
+    Ok((streams, code))
 }
 
 #[test]
@@ -185,11 +192,10 @@ fn fault_of_usage_is_told_on_standard_error(rt: HostRuntime) -> Result<(), Fail>
             "Usage: krbrelay relay < JOB.toml\n",
         ),
     ] {
-        let error = command_of(rt.alloc(), words).err().ok_or("a command")?;
-        let streams = Streams::new(rt.alloc());
-        assert_eq!(rt; usage(&streams, &error), ExitCode::from(2), "{part}");
-        assert!(rt; has(&streams.error, part), "{part}");
-        assert!(rt; holds(&streams.output, ""), "{part}");
+        let (streams, code) = told_of(rt.alloc(), words)?;
+        assert_same_at(&rt, code, ExitCode::from(2), part);
+        assert_same_at(&rt, has(&streams.error, part), true, part);
+        assert_same_at(&rt, holds(&streams.output, ""), true, part);
     }
     Ok(())
 }
@@ -207,11 +213,10 @@ fn help_is_told_on_standard_output(rt: HostRuntime) -> Result<(), Fail> {
         ),
         (["krbrelay", "--version"].as_slice(), "krbrelay 0.1.0\n"),
     ] {
-        let error = command_of(rt.alloc(), words).err().ok_or("a command")?;
-        let streams = Streams::new(rt.alloc());
-        assert_eq!(rt; usage(&streams, &error), ExitCode::from(0), "{part}");
-        assert!(rt; has(&streams.output, part), "{part}");
-        assert!(rt; holds(&streams.error, ""), "{part}");
+        let (streams, code) = told_of(rt.alloc(), words)?;
+        assert_same_at(&rt, code, ExitCode::from(0), part);
+        assert_same_at(&rt, has(&streams.output, part), true, part);
+        assert_same_at(&rt, holds(&streams.error, ""), true, part);
     }
     Ok(())
 }
@@ -220,6 +225,6 @@ fn help_is_told_on_standard_output(rt: HostRuntime) -> Result<(), Fail> {
 fn no_memory_for_the_words_is_a_fault(rt: HostRuntime) {
     let streams = Streams::new(rt.alloc());
     let code = usage(&streams, &clap::Error::from(AllocError));
-    assert_eq!(rt; code, ExitCode::from(4));
-    assert!(rt; streams.told("", "krbrelay: out of memory\n"));
+    assert_same(&rt, code, ExitCode::from(4));
+    assert_same(&rt, streams.told("", "krbrelay: out of memory\n"), true);
 }
