@@ -128,3 +128,9 @@ fn list_line(alloc: Global, key: &str, item: &str, count: usize) -> Result<Strin
     line.push_str("]\n")?;
     Ok(line)
 }
+
+/// A line of a list with one item, of so many bytes.
+fn long_line(alloc: Global, before: &str, size: usize) -> Result<String, AllocError> {
+    let digits = "00".repeat(alloc, size)?;
+    format!(in alloc; "{before}{digits}\"]")
+}

@@ -3,6 +3,7 @@
 ghost use Rattle.std.specs.Prelude.{◌≡◌, ◌<◌, ◌≤◌, false, IsSome};
 ghost use Rattle.krb_base.specs.Limits.{last_number};
 
+use crate::asserts::{assert_same, assert_same_at};
 use krb_commands::{
     Fault, SessionKey, key_of, open_job, push_lane, receiving_of, relay_job, seal_job, sending_of,
     session_of,
@@ -312,52 +313,60 @@ fn relay_sealed<T: Threads + Wait + Sync, S: Sealer + Send, W: Write, G: Gate + 
     relay_job(rt, alloc, sendings, receivings, capacity, writer, gate)
 }
 
-/// Whether the command answers the job by this status and this output, also with the most room in
-/// each lane.
-pub fn answers(
+/// Asserts that the command answers the job by this status and this output, also with the most room
+/// in each lane.
+pub fn assert_answers(
     rt: &(impl Threads + Wait + Sync + Abort + Alloc<A = Global>),
     command: Command,
     job: &str,
     status: u8,
     text: &str,
-) -> bool {
+) {
     for room in [1, 64] {
         let mut output = Vec::new(rt.alloc());
-        let result = run_under(rt, command, job, room, &mut output, &NoGate);
-        if result != Ok(status) || output.as_slice() != text.as_bytes() {
-            return false;
-        }
+        let outcome = run_under(rt, command, job, room, &mut output, &NoGate);
+        assert_same_at(rt, outcome, Ok(status), room);
+        assert_same_at(rt, output.as_slice(), text.as_bytes(), room);
     }
-    true
 }
 
-/// Whether the command answers a job of one sender, with these changes, so.
-pub fn prints(
+/// Asserts that the command answers a job of one sender, with these changes, so.
+pub fn assert_prints(
     rt: &(impl Threads + Wait + Sync + Abort + Alloc<A = Global>),
     command: Command,
     changes: &[(&str, &str)],
     status: u8,
     text: &str,
-) -> Result<bool, Fail> {
+) -> Result<(), Fail> {
     let job = sender(rt.alloc(), changes)?;
-    Ok(answers(rt, command, job.as_str(), status, text))
+    assert_answers(rt, command, job.as_str(), status, text);
+    Ok(())
 }
 
-/// Whether the command finds the job bad, for which this is its line, and prints nothing.
-pub fn is_bad(
+/// Asserts that the command finds the job bad, for which this is its line, and prints nothing.
+pub fn assert_bad(
     rt: &(impl Threads + Wait + Sync + Abort + Alloc<A = Global>),
     command: Command,
     job: &str,
     line: &str,
-) -> Result<bool, Fail> {
+) -> Result<(), Fail> {
     let mut output = Vec::new(rt.alloc());
-    match run(rt, command, job, &mut output) {
-        Ok(_) => Ok(false),
-        Err(fault) => {
-            let text = format!(in rt.alloc(); "{fault}")?;
-            Ok(text.as_str() == line && fault.status() == 2 && output.is_empty())
-        }
-    }
+    let outcome = run(rt, command, job, &mut output);
+    assert_same(rt, output.is_empty(), true);
+    assert_told(rt, outcome.err(), line)
+}
+
+/// Asserts that a fault of the input is told by this line.
+fn assert_told(
+    rt: &(impl Abort + Alloc<A = Global>),
+    fault: Option<Fault>,
+    line: &str,
+) -> Result<(), Fail> {
+    let fault = fault.ok_or("no fault")?;
+    assert_same(rt, fault.status(), 2);
+    let text = format!(in rt.alloc(); "{fault}")?;
+    assert_same(rt, text.as_str(), line);
+    Ok(())
 }
 
 /// Adds a text to a list of TOML.

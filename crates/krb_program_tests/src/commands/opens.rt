@@ -1,6 +1,6 @@
 //! What `open` prints of frames of an independent sealer, and of what `seal` prints.
 
-use super::jobs::{answers, listed, run, sender_with};
+use super::jobs::{assert_answers, listed, run, sender_with};
 use crate::asserts::assert_same;
 use crate::frames::{SAFE_CLOSE, SAFE_TEXT};
 use krb_job::Command;
@@ -27,53 +27,50 @@ pub fn receiver(
     sender_with(alloc, changes, &others)
 }
 
-/// Whether `open` answers so to these frames, with these changes of the job.
-pub fn opens(
+/// Asserts that `open` answers so to these frames, with these changes of the job.
+pub fn assert_opens(
     rt: &(impl Threads + Wait + Sync + Abort + Alloc<A = Global>),
     changes: &[(&str, &str)],
     frames: &[&str],
     status: u8,
     text: &str,
-) -> Result<bool, Fail> {
+) -> Result<(), Fail> {
     let job = receiver(rt.alloc(), changes, frames)?;
-    Ok(answers(rt, Command::Open, job.as_str(), status, text))
+    assert_answers(rt, Command::Open, job.as_str(), status, text);
+    Ok(())
 }
 
 #[test]
 fn text_and_close_are_accepted(rt: HostRuntime) -> Result<(), Fail> {
     let text = "lane 0 text 6869\nlane 0 closed\nlane 0 CLOSED\n";
-    assert!(rt; opens(&rt, &[], &[SAFE_TEXT, SAFE_CLOSE], 0, text)?);
-    Ok(())
+    assert_opens(&rt, &[], &[SAFE_TEXT, SAFE_CLOSE], 0, text)
 }
 
 #[test]
 fn without_the_close_the_lane_is_truncated(rt: HostRuntime) -> Result<(), Fail> {
-    assert!(rt; opens(&rt, &[], &[], 3, "lane 0 TRUNCATED\n")?);
+    assert_opens(&rt, &[], &[], 3, "lane 0 TRUNCATED\n")?;
     let text = "lane 0 text 6869\nlane 0 TRUNCATED\n";
-    assert!(rt; opens(&rt, &[], &[SAFE_TEXT], 3, text)?);
+    assert_opens(&rt, &[], &[SAFE_TEXT], 3, text)?;
     let text = "lane 0 refused 42 BADORDER\nlane 0 TRUNCATED\n";
-    assert!(rt; opens(&rt, &[], &[SAFE_CLOSE], 3, text)?);
-    Ok(())
+    assert_opens(&rt, &[], &[SAFE_CLOSE], 3, text)
 }
 
 #[test]
 fn frame_after_the_close_is_refused(rt: HostRuntime) -> Result<(), Fail> {
     let frames = [SAFE_TEXT, SAFE_CLOSE, SAFE_CLOSE];
     let text = "lane 0 text 6869\nlane 0 closed\nlane 0 refused 903 AFTER_CLOSE\nlane 0 CLOSED\n";
-    assert!(rt; opens(&rt, &[], &frames, 0, text)?);
-    Ok(())
+    assert_opens(&rt, &[], &frames, 0, text)
 }
 
 #[test]
 fn each_frame_is_taken_at_the_moment_of_its_place(rt: HostRuntime) -> Result<(), Fail> {
     let late = [("now", "[1700000000000005, 1700000300000006]")];
     let text = "lane 0 text 6869\nlane 0 refused 37 SKEW\nlane 0 TRUNCATED\n";
-    assert!(rt; opens(&rt, &late, &[SAFE_TEXT, SAFE_CLOSE], 3, text)?);
+    assert_opens(&rt, &late, &[SAFE_TEXT, SAFE_CLOSE], 3, text)?;
     // the last moment serves the frames after it, and a refused frame has a place as well
     let early = [("now", "[1699999700000004, 1700000000000005]")];
     let text = "lane 0 refused 37 SKEW\nlane 0 text 6869\nlane 0 closed\nlane 0 CLOSED\n";
-    assert!(rt; opens(&rt, &early, &[SAFE_TEXT, SAFE_TEXT, SAFE_CLOSE], 0, text)?);
-    Ok(())
+    assert_opens(&rt, &early, &[SAFE_TEXT, SAFE_TEXT, SAFE_CLOSE], 0, text)
 }
 
 /// The frames among the lines that `seal` prints.
@@ -113,30 +110,58 @@ fn sealed(
     Ok(output)
 }
 
-/// Whether `open` gives each text of what `seal` makes of them, with these changes of the job.
-fn come_back(
+/// Asserts that `open` gives each of these texts, of the lines that `seal` printed of them.
+fn assert_frames_open(
     rt: &(impl Threads + Wait + Sync + Abort + Alloc<A = Global>),
     changes: &[(&str, &str)],
     texts: &[&str],
-) -> Result<bool, Fail> {
-    let output = sealed(rt, changes, texts)?;
-    let printed = str::from_utf8(output.as_slice()).ok().ok_or("no text")?;
+    printed: &str,
+) -> Result<(), Fail> {
     let frames = frames_of(rt.alloc(), printed)?;
     assert_same(rt, frames.len(), texts.len() + 1);
     let expected = all_of(rt.alloc(), texts)?;
-    opens(rt, changes, frames.as_slice(), 0, expected.as_str())
+    assert_opens(rt, changes, frames.as_slice(), 0, expected.as_str())
+}
+
+/// Asserts that `open` gives each text of what `seal` makes of them, with these changes of the job.
+fn assert_come_back(
+    rt: &(impl Threads + Wait + Sync + Abort + Alloc<A = Global>),
+    changes: &[(&str, &str)],
+    texts: &[&str],
+) -> Result<(), Fail> {
+    let output = sealed(rt, changes, texts)?;
+    let printed = str::from_utf8(output.as_slice()).ok().ok_or("no text")?;
+    assert_frames_open(rt, changes, texts, printed)
+}
+
+const MODES: [&str; 2] = ["'safe'", "'priv'"];
+
+const TEXTS: [&str; 4] = ["61", "", "ff00ff", "61"];
+
+#[test]
+fn sealed_texts_come_back_in_each_mode(rt: HostRuntime) -> Result<(), Fail> {
+    for mode in MODES {
+        let changes = [("mode", mode)];
+        assert_come_back(&rt, &changes, &TEXTS)?;
+    }
+    Ok(())
 }
 
 #[test]
-fn sealed_texts_come_back_in_each_mode_of_each_type(rt: HostRuntime) -> Result<(), Fail> {
+fn sealed_texts_come_back_in_each_mode_of_type_18(rt: HostRuntime) -> Result<(), Fail> {
     let wide = "'1111111111111111111111111111111111111111111111111111111111111111'";
-    let texts = ["61", "", "ff00ff", "61"];
-    for mode in ["'safe'", "'priv'"] {
-        assert!(rt; come_back(&rt, &[("mode", mode)], &texts)?, "17 {mode}");
+    for mode in MODES {
         let changes = [("etype", "18"), ("key", wide), ("mode", mode)];
-        assert!(rt; come_back(&rt, &changes, &texts)?, "18 {mode}");
+        assert_come_back(&rt, &changes, &TEXTS)?;
+    }
+    Ok(())
+}
+
+#[test]
+fn sealed_texts_come_back_with_the_address_of_the_receiver(rt: HostRuntime) -> Result<(), Fail> {
+    for mode in MODES {
         let changes = [("mode", mode), ("write_to", "true"), ("require_to", "true")];
-        assert!(rt; come_back(&rt, &changes, &texts)?, "to {mode}");
+        assert_come_back(&rt, &changes, &TEXTS)?;
     }
     Ok(())
 }
@@ -144,18 +169,14 @@ fn sealed_texts_come_back_in_each_mode_of_each_type(rt: HostRuntime) -> Result<(
 #[test]
 fn thousand_sealed_texts_come_back(rt: HostRuntime) -> Result<(), Fail> {
     let texts = vec![in rt.alloc(); "00"; 1000]?;
-    assert!(rt; come_back(&rt, &[("mode", "'priv'")], texts.as_slice())?);
-    Ok(())
+    assert_come_back(&rt, &[("mode", "'priv'")], texts.as_slice())
 }
 
 #[test]
 fn longest_text_comes_back(rt: HostRuntime) -> Result<(), Fail> {
     let text = "77".repeat(rt.alloc(), 1_000_000)?;
-    for mode in ["'safe'", "'priv'"] {
-        assert!(rt;
-            come_back(&rt, &[("mode", mode)], &[text.as_str()])?,
-            "{mode}"
-        );
+    for mode in MODES {
+        assert_come_back(&rt, &[("mode", mode)], &[text.as_str()])?;
     }
     Ok(())
 }

@@ -1,6 +1,6 @@
 //! What `seal` prints. The frames are those of an independent sealer.
 
-use super::jobs::{is_bad, long_sender, prints, run, sender};
+use super::jobs::{assert_bad, assert_prints, long_sender, run, sender};
 use crate::asserts::assert_same;
 use crate::frames::{
     LAST_CLOSE, LONG_TEXT, PRIV_CLOSE, PRIV_TEXT, SAFE_CLOSE, SAFE_TEXT, TEXT_BEFORE_LAST,
@@ -13,14 +13,14 @@ use std::sync::Wait;
 use std::test::Fail;
 use std::thread::Threads;
 
-/// Whether `seal` prints these lines of the job with these changes.
-pub fn seals(
+/// Asserts that `seal` prints these lines of the job with these changes.
+pub fn assert_seals(
     rt: &(impl Threads + Wait + Sync + Abort + Alloc<A = Global>),
     changes: &[(&str, &str)],
     lines: &[&str],
-) -> Result<bool, Fail> {
+) -> Result<(), Fail> {
     let text = joined(rt, lines)?;
-    prints(rt, Command::Seal, changes, 0, text.as_str())
+    assert_prints(rt, Command::Seal, changes, 0, text.as_str())
 }
 
 /// The lines, each with its line feed.
@@ -39,12 +39,11 @@ fn joined(
 #[test]
 fn text_and_close_are_sealed(rt: HostRuntime) -> Result<(), Fail> {
     let safe = [SAFE_TEXT, SAFE_CLOSE, "sent 1 of 1 DONE"];
-    assert!(rt; seals(&rt, &[], &safe)?);
+    assert_seals(&rt, &[], &safe)?;
     let private = [PRIV_TEXT, PRIV_CLOSE, "sent 1 of 1 DONE"];
-    assert!(rt; seals(&rt, &[("mode", "'priv'")], &private)?);
+    assert_seals(&rt, &[("mode", "'priv'")], &private)?;
     let none = [SAFE_CLOSE, "sent 0 of 0 DONE"];
-    assert!(rt; seals(&rt, &[("first", "8"), ("texts", "[]")], &none)?);
-    Ok(())
+    assert_seals(&rt, &[("first", "8"), ("texts", "[]")], &none)
 }
 
 /// How many characters the first line has, where it begins with these.
@@ -72,28 +71,25 @@ fn lengths_of_a_long_text_take_three_octets(rt: HostRuntime) -> Result<(), Fail>
 #[test]
 fn address_of_the_receiver_is_written_where_it_is_asked_for(rt: HostRuntime) -> Result<(), Fail> {
     let changes = [("write_to", "true"), ("plan", "['0']")];
-    assert!(rt; seals(&rt, &changes, &[TOLD_TEXT, "sent 1 of 1 DONE"])?);
-    Ok(())
+    assert_seals(&rt, &changes, &[TOLD_TEXT, "sent 1 of 1 DONE"])
 }
 
 #[test]
 fn plan_makes_the_wire_of_the_frames(rt: HostRuntime) -> Result<(), Fail> {
     let changes = [("plan", "['1', 'raw 00fF', '0', '0']")];
     let lines = [SAFE_CLOSE, "00ff", SAFE_TEXT, SAFE_TEXT, "sent 1 of 1 DONE"];
-    assert!(rt; seals(&rt, &changes, &lines)?);
-    assert!(rt; seals(&rt, &[("plan", "[]")], &["sent 1 of 1 DONE"])?);
-    Ok(())
+    assert_seals(&rt, &changes, &lines)?;
+    assert_seals(&rt, &[("plan", "[]")], &["sent 1 of 1 DONE"])
 }
 
 #[test]
 fn last_number_is_kept_for_the_close(rt: HostRuntime) -> Result<(), Fail> {
     let changes = [("first", "4294967294"), ("texts", "['61', '62']")];
     let lines = [TEXT_BEFORE_LAST, LAST_CLOSE, "sent 1 of 2 LAST_NUMBER"];
-    assert!(rt; seals(&rt, &changes, &lines)?);
+    assert_seals(&rt, &changes, &lines)?;
     let changes = [("first", "4294967295"), ("texts", "['61', '62']")];
     let lines = [LAST_CLOSE, "sent 0 of 2 LAST_NUMBER"];
-    assert!(rt; seals(&rt, &changes, &lines)?);
-    Ok(())
+    assert_seals(&rt, &changes, &lines)
 }
 
 #[test]
@@ -101,7 +97,7 @@ fn bad_plan_is_told_and_nothing_printed(rt: HostRuntime) -> Result<(), Fail> {
     for plan in ["['2']", "['flip 0 96 01']", "['0', 'flip 0 0 00']"] {
         let job = sender(rt.alloc(), &[("plan", plan)])?;
         let line = "krbrelay: bad input: sender 0: plan";
-        assert!(rt; is_bad(&rt, Command::Seal, job.as_str(), line)?, "{plan}");
+        assert_bad(&rt, Command::Seal, job.as_str(), line)?;
     }
     Ok(())
 }

@@ -12,6 +12,7 @@ use crate::frames::{SAFE_CLOSE, SAFE_TEXT as SAFE_FRAME};
 use crate::relayed::TWO_LANES;
 use krb_commands::{Fault, show, vectors};
 use krb_job::Command;
+use std::io::Print;
 use std::process::Abort;
 use std::test::Fail;
 
@@ -24,32 +25,35 @@ fn is_front(output: &[u8], text: &str) -> bool {
     ends && text.as_bytes().starts_with(output)
 }
 
-/// Asserts that a command wrote this text, or wanted memory and wrote some of its first lines.
-/// Answers whether it wanted memory.
-fn ends_well(rt: &impl Abort, outcome: Result<u8, Fault>, output: &[u8], text: &str) -> bool {
+/// Asserts that a command wrote this text, or wanted memory and wrote some of its first lines, and
+/// tells of a call that wanted memory.
+fn assert_ends(
+    rt: &(impl Abort + Print),
+    call: &str,
+    outcome: Result<u8, Fault>,
+    output: &[u8],
+    text: &str,
+) -> Result<(), Fail> {
     match outcome {
         Ok(status) => {
             assert_same(rt, status, 0);
             assert_same(rt, output, text.as_bytes());
-            false
         }
         Err(fault) => {
             let told = matches!(fault, Fault::Memory | Fault::Stopped);
             assert_same(rt, (told, fault.status()), (true, 4));
             assert_same(rt, is_front(output, text), true);
-            true
+            println!(rt; "refused: {call}")?;
         }
     }
+    Ok(())
 }
 
 #[test]
 fn message_is_shown_or_memory_wanted(rt: HostRuntime) -> Result<(), Fail> {
     let mut output = Vec::with_capacity(rt.alloc(), ROOM)?;
     let result = show(rt.alloc(), &mut SAFE_LINE.as_bytes(), &mut output);
-    if ends_well(&rt, result, &output, SAFE_TEXT) {
-        println!(rt; "refused: show")?;
-    }
-    Ok(())
+    assert_ends(&rt, "show", result, &output, SAFE_TEXT)
 }
 
 #[test]
@@ -58,10 +62,7 @@ fn text_is_sealed_or_memory_wanted(rt: HostRuntime) -> Result<(), Fail> {
     let text = format!(in rt.alloc(); "{SAFE_FRAME}\n{SAFE_CLOSE}\nsent 1 of 1 DONE\n")?;
     let mut output = Vec::with_capacity(rt.alloc(), ROOM)?;
     let result = run(&rt, Command::Seal, job.as_str(), &mut output);
-    if ends_well(&rt, result, &output, text.as_str()) {
-        println!(rt; "refused: seal_job")?;
-    }
-    Ok(())
+    assert_ends(&rt, "seal_job", result, &output, text.as_str())
 }
 
 #[test]
@@ -70,10 +71,7 @@ fn frames_are_opened_or_memory_wanted(rt: HostRuntime) -> Result<(), Fail> {
     let mut output = Vec::with_capacity(rt.alloc(), ROOM)?;
     let result = run(&rt, Command::Open, job.as_str(), &mut output);
     let text = "lane 0 text 6869\nlane 0 closed\nlane 0 CLOSED\n";
-    if ends_well(&rt, result, &output, text) {
-        println!(rt; "refused: open_job")?;
-    }
-    Ok(())
+    assert_ends(&rt, "open_job", result, &output, text)
 }
 
 /// Whether the lines of a lane in one text are the first few of its lines in another.
@@ -88,13 +86,17 @@ fn has_front(text: &str, whole: &str, lane: &str) -> bool {
 }
 
 /// Asserts that the relay of two lanes wrote all of its lines, or wanted memory or a thread and
-/// wrote some of the first lines of each lane. Answers whether it wanted either.
-fn relay_ends_well(rt: &impl Abort, outcome: Result<u8, Fault>, printed: &str) -> bool {
+/// wrote some of the first lines of each lane, and tells of a relay that wanted either.
+fn assert_relay_ends(
+    rt: &(impl Abort + Print),
+    outcome: Result<u8, Fault>,
+    output: &[u8],
+) -> Result<(), Fail> {
+    let printed = str::from_utf8(output).ok().ok_or("no text")?;
     match outcome {
         Ok(status) => {
             assert_same(rt, status, 0);
             assert_same(rt, printed, TWO_LANES);
-            false
         }
         Err(fault) => {
             let told = matches!(fault, Fault::Memory | Fault::Stopped | Fault::Thread);
@@ -103,9 +105,10 @@ fn relay_ends_well(rt: &impl Abort, outcome: Result<u8, Fault>, printed: &str) -
             assert_same(rt, has_front(printed, TWO_LANES, "lane 1 "), true);
             let ends = printed.is_empty() || printed.ends_with("\n");
             assert_same(rt, ends, true);
-            true
+            println!(rt; "refused: relay_job, {fault}")?;
         }
     }
+    Ok(())
 }
 
 #[test]
@@ -113,20 +116,12 @@ fn two_lanes_are_relayed_or_memory_wanted(rt: HostRuntime) -> Result<(), Fail> {
     let job = two_senders(&rt, 1, &SILENT)?;
     let mut output = Vec::with_capacity(rt.alloc(), ROOM)?;
     let result = run(&rt, Command::Relay, job.as_str(), &mut output);
-    let printed = str::from_utf8(output.as_slice()).ok().ok_or("no text")?;
-    if relay_ends_well(&rt, result, printed) {
-        let fault = result.err().ok_or("no fault")?;
-        println!(rt; "refused: relay_job, {fault}")?;
-    }
-    Ok(())
+    assert_relay_ends(&rt, result, output.as_slice())
 }
 
 #[test]
 fn values_are_printed_or_memory_wanted(rt: HostRuntime) -> Result<(), Fail> {
     let mut output = Vec::with_capacity(rt.alloc(), ROOM)?;
     let result = vectors(rt.alloc(), &mut output);
-    if ends_well(&rt, result, &output, PUBLISHED) {
-        println!(rt; "refused: vectors")?;
-    }
-    Ok(())
+    assert_ends(&rt, "vectors", result, &output, PUBLISHED)
 }

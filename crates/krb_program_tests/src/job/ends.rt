@@ -2,6 +2,7 @@
 
 use super::{COMMANDS, assert_bad, assert_good};
 use krb_job::{Command, Place};
+use std::alloc::{AllocError, Global};
 use std::test::Fail;
 
 #[test]
@@ -53,17 +54,25 @@ fn good_addresses(rt: HostRuntime) -> Result<(), Fail> {
     Ok(())
 }
 
+/// The line of an address of so many bytes.
+fn address_line(alloc: Global, key: &str, size: usize) -> Result<String, AllocError> {
+    let digits = "00".repeat(alloc, size)?;
+    format!(in alloc; "{key} = \"2:{digits}\"")
+}
+
 /// An address has at most 32 bytes.
 #[test]
 fn long_addresses(rt: HostRuntime) -> Result<(), Fail> {
-    let most = "00".repeat(rt.alloc(), 32)?;
-    let from = format!(in rt.alloc(); "from = \"2:{most}\"")?;
-    let to = format!(in rt.alloc(); "to = \"2:{most}\"")?;
+    let from = address_line(rt.alloc(), "from", 32)?;
+    let to = address_line(rt.alloc(), "to", 32)?;
     let lines = [(Place::From, from.as_str()), (Place::To, to.as_str())];
-    assert_good(&rt, rt.alloc(), Command::Relay, lines.as_slice())?;
-    let more = "00".repeat(rt.alloc(), 33)?;
-    let from = format!(in rt.alloc(); "from = \"2:{more}\"")?;
-    let to = format!(in rt.alloc(); "to = \"2:{more}\"")?;
+    assert_good(&rt, rt.alloc(), Command::Relay, lines.as_slice())
+}
+
+#[test]
+fn too_long_addresses(rt: HostRuntime) -> Result<(), Fail> {
+    let from = address_line(rt.alloc(), "from", 33)?;
+    let to = address_line(rt.alloc(), "to", 33)?;
     let lines = [(Place::From, from.as_str()), (Place::To, to.as_str())];
     assert_bad(&rt, rt.alloc(), Command::Relay, lines.as_slice())
 }

@@ -1,6 +1,6 @@
 //! The key `frames`.
 
-use super::{assert_bad, assert_good, list_line};
+use super::{assert_bad, assert_good, list_line, long_line};
 use krb_job::{Command, Place};
 use std::test::Fail;
 
@@ -37,11 +37,10 @@ fn many_frames(rt: HostRuntime) -> Result<(), Fail> {
 /// A frame has at most 1,010,000 bytes.
 #[test]
 fn long_frames(rt: HostRuntime) -> Result<(), Fail> {
-    let digits = "00".repeat(rt.alloc(), 1_010_000)?;
-    let most = format!(in rt.alloc(); "frames = [\"{digits}\"]")?;
-    let more = format!(in rt.alloc(); "frames = [\"{digits}00\"]")?;
+    let most = long_line(rt.alloc(), "frames = [\"", 1_010_000)?;
     let good = [(Place::Frames, most.as_str())];
-    let bad = [(Place::Frames, more.as_str())];
     assert_good(&rt, rt.alloc(), Command::Open, good.as_slice())?;
+    let more = long_line(rt.alloc(), "frames = [\"", 1_010_001)?;
+    let bad = [(Place::Frames, more.as_str())];
     assert_bad(&rt, rt.alloc(), Command::Open, bad.as_slice())
 }

@@ -74,7 +74,11 @@ fn many_moments(rt: HostRuntime) -> Result<(), Fail> {
     let ats = list_line(rt.alloc(), "at", "0", 2000)?;
     let nows = list_line(rt.alloc(), "now", "0", 2000)?;
     let good = [(Place::At, ats.as_str()), (Place::Now, nows.as_str())];
-    assert_good(&rt, rt.alloc(), Command::Seal, good.as_slice())?;
+    assert_good(&rt, rt.alloc(), Command::Seal, good.as_slice())
+}
+
+#[test]
+fn too_many_moments(rt: HostRuntime) -> Result<(), Fail> {
     let ats = list_line(rt.alloc(), "at", "0", 2001)?;
     let nows = list_line(rt.alloc(), "now", "0", 2001)?;
     let bad = [(Place::At, ats.as_str()), (Place::Now, nows.as_str())];

@@ -1,6 +1,6 @@
 //! The key `plan`.
 
-use super::{assert_bad, assert_good, list_line};
+use super::{assert_bad, assert_good, list_line, long_line};
 use krb_job::{Command, Place};
 use std::test::Fail;
 
@@ -80,11 +80,10 @@ fn many_emissions(rt: HostRuntime) -> Result<(), Fail> {
 /// A raw emission has at most 1,010,000 bytes.
 #[test]
 fn long_raws(rt: HostRuntime) -> Result<(), Fail> {
-    let digits = "00".repeat(rt.alloc(), 1_010_000)?;
-    let most = format!(in rt.alloc(); "plan = [\"raw {digits}\"]")?;
-    let more = format!(in rt.alloc(); "plan = [\"raw {digits}00\"]")?;
+    let most = long_line(rt.alloc(), "plan = [\"raw ", 1_010_000)?;
     let good = [(Place::Plan, most.as_str())];
-    let bad = [(Place::Plan, more.as_str())];
     assert_good(&rt, rt.alloc(), Command::Seal, good.as_slice())?;
+    let more = long_line(rt.alloc(), "plan = [\"raw ", 1_010_001)?;
+    let bad = [(Place::Plan, more.as_str())];
     assert_bad(&rt, rt.alloc(), Command::Seal, bad.as_slice())
 }

@@ -1,6 +1,6 @@
 //! The key `texts`.
 
-use super::{assert_bad, assert_good, list_line};
+use super::{assert_bad, assert_good, list_line, long_line};
 use krb_job::{Command, Place};
 use std::test::Fail;
 
@@ -39,11 +39,10 @@ fn many_texts(rt: HostRuntime) -> Result<(), Fail> {
 /// A text has at most 1,000,000 bytes.
 #[test]
 fn long_texts(rt: HostRuntime) -> Result<(), Fail> {
-    let digits = "00".repeat(rt.alloc(), 1_000_000)?;
-    let most = format!(in rt.alloc(); "texts = [\"{digits}\"]")?;
-    let more = format!(in rt.alloc(); "texts = [\"{digits}00\"]")?;
+    let most = long_line(rt.alloc(), "texts = [\"", 1_000_000)?;
     let good = [(Place::Texts, most.as_str())];
-    let bad = [(Place::Texts, more.as_str())];
     assert_good(&rt, rt.alloc(), Command::Seal, good.as_slice())?;
+    let more = long_line(rt.alloc(), "texts = [\"", 1_000_001)?;
+    let bad = [(Place::Texts, more.as_str())];
     assert_bad(&rt, rt.alloc(), Command::Seal, bad.as_slice())
 }

@@ -1,9 +1,9 @@
 //! The command line.
 
-use crate::asserts::assert_same;
+use crate::asserts::{assert_same, assert_same_at};
 use clap::error::ErrorKind;
 use krb_program::{Cmd, command_of};
-use std::alloc::Global;
+use std::alloc::{AllocError, Global};
 use std::test::Fail;
 
 #[test]
@@ -54,55 +54,68 @@ fn help_tells_what_is_read_and_printed(rt: HostRuntime) -> Result<(), Fail> {
         assert_same(&rt, kind, Some((ErrorKind::DisplayHelp, false)));
     }
     let text = help_of(rt.alloc(), "show")?;
-    assert!(rt; text.contains("hexadecimal digits"));
-    assert!(rt; text.contains("PRIV 5 21 etype=17 kvno=- cipher="));
+    assert_same(&rt, text.contains("hexadecimal digits"), true);
+    let message = "PRIV 5 21 etype=17 kvno=- cipher=";
+    assert_same(&rt, text.contains(message), true);
     Ok(())
+}
+
+/// The keys of a job.
+const KEYS: [&str; 17] = [
+    "capacity",
+    "etype",
+    "key",
+    "mode",
+    "first",
+    "from",
+    "to",
+    "write_to",
+    "require_to",
+    "expect_time",
+    "skew",
+    "seed",
+    "at",
+    "now",
+    "texts",
+    "batch",
+    "plan",
+];
+
+/// Whether a line of the help is of this key.
+fn tells_key(alloc: Global, help: &str, key: &str) -> Result<bool, AllocError> {
+    let line = format!(in alloc; "\n  {key} = ")?;
+    Ok(help.contains(line.as_str()))
 }
 
 #[test]
 fn help_tells_the_keys_of_a_job(rt: HostRuntime) -> Result<(), Fail> {
     let text = help_of(rt.alloc(), "relay")?;
-    for key in [
-        "capacity",
-        "etype",
-        "key",
-        "mode",
-        "first",
-        "from",
-        "to",
-        "write_to",
-        "require_to",
-        "expect_time",
-        "skew",
-        "seed",
-        "at",
-        "now",
-        "texts",
-        "batch",
-        "plan",
-    ] {
-        let line = format!(in rt.alloc(); "\n  {key} = ")?;
-        assert!(rt; text.contains(line.as_str()), "no {key}");
+    for key in KEYS {
+        let told = tells_key(rt.alloc(), text.as_str(), key)?;
+        assert_same_at(&rt, told, true, key);
     }
     Ok(())
 }
 
+/// Parts of the help of `relay`.
+const PARTS: [&str; 10] = [
+    "16,777,216 bytes",
+    "1 to 64; by default 1\n",
+    "0 to 4294967295\n",
+    "253402300799999999",
+    "0 to 86400\n",
+    "1,000 texts of up to 1,000,000 bytes",
+    "how many texts a frame carries at most, 1 to 1,000; by default 1.",
+    "a mask of 00 is refused",
+    "krbrelay: bad input: toml           they are no TOML document, or not UTF-8\n",
+    "krbrelay: bad input: sender J: KEY  of sender J, counted from 0",
+];
+
 #[test]
 fn help_tells_limits_and_faults(rt: HostRuntime) -> Result<(), Fail> {
     let text = help_of(rt.alloc(), "relay")?;
-    for part in [
-        "16,777,216 bytes",
-        "1 to 64; by default 1\n",
-        "0 to 4294967295\n",
-        "253402300799999999",
-        "0 to 86400\n",
-        "1,000 texts of up to 1,000,000 bytes",
-        "how many texts a frame carries at most, 1 to 1,000; by default 1.",
-        "a mask of 00 is refused",
-        "krbrelay: bad input: toml           they are no TOML document, or not UTF-8\n",
-        "krbrelay: bad input: sender J: KEY  of sender J, counted from 0",
-    ] {
-        assert!(rt; text.contains(part), "no {part}");
+    for part in PARTS {
+        assert_same_at(&rt, text.contains(part), true, part);
     }
     Ok(())
 }

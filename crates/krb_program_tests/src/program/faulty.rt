@@ -125,8 +125,8 @@ fn faulty(
     let mut writer = BufWriter::new(rt.alloc(), writer)?;
     let words = ["krbrelay", run.word];
     let outcome = obey(rt, rt.alloc(), &words, &mut reader, &mut writer)?;
-    let taken = writer.get_ref().taken.as_slice();
-    Ok((outcome, Vec::from_slice(rt.alloc(), taken)?))
+    let (writer, _) = writer.into_parts();
+    Ok((outcome, writer.taken))
 }
 
 /// The commands that read.
@@ -206,16 +206,37 @@ fn assert_whole(
     Ok(())
 }
 
+/// Asserts that each read of the run fails in turn, and that there are no more.
+fn assert_read_faults(
+    rt: &(impl Threads + Wait + Sync + Abort + Alloc<A = Global>),
+    run: &Run,
+) -> Result<(), Fail> {
+    // sixteen bytes a call, and one call that finds the end
+    let unmade = run.input.len().div_ceil(16).saturating_add(2);
+    for call in 1..unmade {
+        assert_read_fault(rt, run, call)?;
+    }
+    assert_whole(rt, run, (unmade, 0), Failure::Error, Ok(0))
+}
+
+/// Asserts that each write of the run fails so in turn, and that there are no more.
+fn assert_write_faults(
+    rt: &(impl Threads + Wait + Sync + Abort + Alloc<A = Global>),
+    run: &Run,
+    failure: Failure,
+) -> Result<(), Fail> {
+    let unmade = run.text.len().div_ceil(2).saturating_add(1);
+    for call in 1..unmade {
+        assert_write_fault(rt, run, call, failure)?;
+    }
+    assert_whole(rt, run, (0, unmade), failure, Ok(0))
+}
+
 #[test]
 fn each_read_of_each_command_fails_in_turn(rt: HostRuntime) -> Result<(), Fail> {
     for word in WORDS {
         let run = run_of(rt.alloc(), word)?;
-        // sixteen bytes a call, and one call that finds the end
-        let unmade = run.input.len().div_ceil(16).saturating_add(2);
-        for call in 1..unmade {
-            assert_read_fault(&rt, &run, call)?;
-        }
-        assert_whole(&rt, &run, (unmade, 0), Failure::Error, Ok(0))?;
+        assert_read_faults(&rt, &run)?;
     }
     Ok(())
 }
@@ -224,13 +245,8 @@ fn each_read_of_each_command_fails_in_turn(rt: HostRuntime) -> Result<(), Fail> 
 fn each_write_of_each_command_fails_in_turn(rt: HostRuntime) -> Result<(), Fail> {
     for word in WORDS {
         let run = run_of(rt.alloc(), word)?;
-        let unmade = run.text.len().div_ceil(2).saturating_add(1);
-        for failure in [Failure::Error, Failure::Nothing] {
-            for call in 1..unmade {
-                assert_write_fault(&rt, &run, call, failure)?;
-            }
-            assert_whole(&rt, &run, (0, unmade), failure, Ok(0))?;
-        }
+        assert_write_faults(&rt, &run, Failure::Error)?;
+        assert_write_faults(&rt, &run, Failure::Nothing)?;
     }
     Ok(())
 }

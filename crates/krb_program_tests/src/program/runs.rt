@@ -2,6 +2,7 @@
 //! each mode. The lines that don't depend on either were worked by hand; the frames are those of an
 //! independent sealer, `tools/frames.py`.
 
+use crate::asserts::assert_same;
 use crate::frames::{
     PRIV_CLOSE, PRIV_CLOSE_18, PRIV_TEXT, PRIV_TEXT_18, SAFE_CLOSE, SAFE_CLOSE_18, SAFE_TEXT,
     SAFE_TEXT_18,
@@ -12,7 +13,7 @@ use crate::relayed::{
 };
 use krb_commands::Fault;
 use krb_program::obey;
-use std::alloc::Global;
+use std::alloc::{AllocError, Global};
 use std::io::BufWriter;
 use std::process::Abort;
 use std::sync::Wait;
@@ -40,59 +41,86 @@ at = [1700000000000005]
 ";
 
 /// Each encryption type and mode, and its frames.
-const KINDS: [(&str, &str, [&str; 2]); 4] = [
-    (TYPE_17, "safe", [SAFE_TEXT, SAFE_CLOSE]),
-    (TYPE_17, "priv", [PRIV_TEXT, PRIV_CLOSE]),
-    (TYPE_18, "safe", [SAFE_TEXT_18, SAFE_CLOSE_18]),
-    (TYPE_18, "priv", [PRIV_TEXT_18, PRIV_CLOSE_18]),
+const KINDS: [(&str, &str, &str, &str); 4] = [
+    (TYPE_17, "safe", SAFE_TEXT, SAFE_CLOSE),
+    (TYPE_17, "priv", PRIV_TEXT, PRIV_CLOSE),
+    (TYPE_18, "safe", SAFE_TEXT_18, SAFE_CLOSE_18),
+    (TYPE_18, "priv", PRIV_TEXT_18, PRIV_CLOSE_18),
 ];
 
-/// Whether the program answers a job of this type and mode, and of these further keys, so, and all
-/// of its output has left its buffer.
-fn answers(
+/// A job of this type and mode, and of these further keys.
+fn job_of(alloc: Global, etype: &str, mode: &str, keys: &str) -> Result<String, AllocError> {
+    format!(in alloc; "[[sender]]\n{etype}mode = '{mode}'\n{SESSION}{keys}")
+}
+
+/// Asserts that the program answers a job so, and that all of its output has left its buffer.
+fn assert_answers(
     rt: &(impl Threads + Wait + Sync + Abort + Alloc<A = Global>),
     word: &str,
-    kind: (&str, &str),
-    keys: &str,
-    expected: (u8, &str),
-) -> Result<bool, Fail> {
-    let (etype, mode) = kind;
-    let job = format!(in rt.alloc(); "[[sender]]\n{etype}mode = '{mode}'\n{SESSION}{keys}")?;
+    job: &str,
+    status: u8,
+    text: &str,
+) -> Result<(), Fail> {
     let mut writer = BufWriter::new(rt.alloc(), Vec::new(rt.alloc()))?;
     let words = ["krbrelay", word];
     let outcome = obey(rt, rt.alloc(), &words, &mut job.as_bytes(), &mut writer)?;
-    Ok(outcome == Ok(expected.0) && writer.get_ref().as_slice() == expected.1.as_bytes())
+    assert_same(rt, outcome, Ok(status));
+    assert_same(rt, writer.get_ref().as_slice(), text.as_bytes());
+    Ok(())
+}
+
+/// Asserts that the text's frame and the close are sealed under this type and mode.
+fn assert_sealed(
+    rt: &(impl Threads + Wait + Sync + Abort + Alloc<A = Global>),
+    kind: (&str, &str),
+    text: &str,
+    close: &str,
+) -> Result<(), Fail> {
+    let keys = format!(in rt.alloc(); "{SEALED}first = 7\ntexts = ['6869']\n")?;
+    let job = job_of(rt.alloc(), kind.0, kind.1, keys.as_str())?;
+    let output = format!(in rt.alloc(); "{text}\n{close}\nsent 1 of 1 DONE\n")?;
+    assert_answers(rt, "seal", job.as_str(), 0, output.as_str())
 }
 
 #[test]
 fn text_and_close_are_sealed(rt: HostRuntime) -> Result<(), Fail> {
-    let keys = format!(in rt.alloc(); "{SEALED}first = 7\ntexts = ['6869']\n")?;
-    for (etype, mode, [text, close]) in KINDS {
-        let output = format!(in rt.alloc(); "{text}\n{close}\nsent 1 of 1 DONE\n")?;
-        let expected = (0, output.as_str());
-        assert!(rt;
-            answers(&rt, "seal", (etype, mode), keys.as_str(), expected)?,
-            "{etype}{mode}"
-        );
+    for (etype, mode, text, close) in KINDS {
+        assert_sealed(&rt, (etype, mode), text, close)?;
     }
     Ok(())
 }
 
+/// Asserts that these frames are opened under this type and mode.
+fn assert_opened(
+    rt: &(impl Threads + Wait + Sync + Abort + Alloc<A = Global>),
+    kind: (&str, &str),
+    text: &str,
+    close: &str,
+) -> Result<(), Fail> {
+    let keys = format!(in rt.alloc(); "first = 7\nframes = ['{text}', '{close}']\n")?;
+    let job = job_of(rt.alloc(), kind.0, kind.1, keys.as_str())?;
+    let output = "lane 0 text 6869\nlane 0 closed\nlane 0 CLOSED\n";
+    assert_answers(rt, "open", job.as_str(), 0, output)
+}
+
 #[test]
 fn sealed_frames_are_opened(rt: HostRuntime) -> Result<(), Fail> {
-    for (etype, mode, [text, close]) in KINDS {
-        let keys = format!(in rt.alloc(); "first = 7\nframes = ['{text}', '{close}']\n")?;
-        let expected = (0, "lane 0 text 6869\nlane 0 closed\nlane 0 CLOSED\n");
-        assert!(rt;
-            answers(&rt, "open", (etype, mode), keys.as_str(), expected)?,
-            "{etype}{mode}"
-        );
-        let expected = (3, "lane 0 TRUNCATED\n");
-        let keys = "first = 7\nframes = []\n";
-        assert!(rt;
-            answers(&rt, "open", (etype, mode), keys, expected)?,
-            "{etype}{mode}"
-        );
+    for (etype, mode, text, close) in KINDS {
+        assert_opened(&rt, (etype, mode), text, close)?;
+    }
+    Ok(())
+}
+
+const MODES: [&str; 2] = ["safe", "priv"];
+
+#[test]
+fn no_frames_leave_the_lane_truncated(rt: HostRuntime) -> Result<(), Fail> {
+    let keys = "first = 7\nframes = []\n";
+    for etype in [TYPE_17, TYPE_18] {
+        for mode in MODES {
+            let job = job_of(rt.alloc(), etype, mode, keys)?;
+            assert_answers(&rt, "open", job.as_str(), 3, "lane 0 TRUNCATED\n")?;
+        }
     }
     Ok(())
 }
@@ -116,13 +144,27 @@ const TWO_TEXT_RELAYS: [(&str, u8, &str); 6] = [
     ("first = 4294967295\n", 0, NONE_OF_TWO),
 ];
 
+/// Asserts that a sender with these keys is relayed so under each type.
+fn assert_relayed(
+    rt: &(impl Threads + Wait + Sync + Abort + Alloc<A = Global>),
+    mode: &str,
+    keys: &str,
+    status: u8,
+    output: &str,
+) -> Result<(), Fail> {
+    for etype in [TYPE_17, TYPE_18] {
+        let job = job_of(rt.alloc(), etype, mode, keys)?;
+        assert_answers(rt, "relay", job.as_str(), status, output)?;
+    }
+    Ok(())
+}
+
 #[test]
 fn two_texts_are_relayed_as_planned(rt: HostRuntime) -> Result<(), Fail> {
     for (keys, status, output) in TWO_TEXT_RELAYS {
         let keys = format!(in rt.alloc(); "{SEALED}texts = ['61', '62']\n{keys}")?;
-        for (etype, mode, _) in KINDS {
-            let right = answers(&rt, "relay", (etype, mode), keys.as_str(), (status, output))?;
-            assert!(rt; right, "{etype}{mode}{keys}");
+        for mode in MODES {
+            assert_relayed(&rt, mode, keys.as_str(), status, output)?;
         }
     }
     Ok(())
@@ -144,31 +186,30 @@ fn one_text_is_relayed_as_planned(rt: HostRuntime) -> Result<(), Fail> {
         let keys = format!(in rt.alloc();
             "{SEALED}first = 7\ntexts = ['6869']\nplan = [{plan}]\n"
         )?;
-        for etype in [TYPE_17, TYPE_18] {
-            let right = answers(&rt, "relay", (etype, mode), keys.as_str(), (status, output))?;
-            assert!(rt; right, "{etype}{mode}{plan}");
-        }
+        assert_relayed(&rt, mode, keys.as_str(), status, output)?;
     }
+    Ok(())
+}
+
+/// Asserts that a command finds a job bad, and writes nothing.
+fn assert_bad(
+    rt: &(impl Threads + Wait + Sync + Abort + Alloc<A = Global>),
+    word: &str,
+) -> Result<(), Fail> {
+    let mut writer = BufWriter::new(rt.alloc(), Vec::new(rt.alloc()))?;
+    let mut reader = b"capacity = 0".as_slice();
+    let words = ["krbrelay", word];
+    let outcome = obey(rt, rt.alloc(), &words, &mut reader, &mut writer)?;
+    assert!(rt; matches!(outcome, Err(Fault::BadInput(_))), "{word}");
+    let written = (writer.get_ref().len(), writer.buffer().len());
+    assert_same(rt, written, (0, 0));
     Ok(())
 }
 
 #[test]
 fn bad_job_prints_nothing(rt: HostRuntime) -> Result<(), Fail> {
     for word in ["seal", "open", "relay"] {
-        let mut writer = BufWriter::new(rt.alloc(), Vec::new(rt.alloc()))?;
-        let mut reader = b"capacity = 0".as_slice();
-        let outcome = obey(
-            &rt,
-            rt.alloc(),
-            &["krbrelay", word],
-            &mut reader,
-            &mut writer,
-        )?;
-        assert!(rt; matches!(outcome, Err(Fault::BadInput(_))), "{word}");
-        assert!(rt;
-            writer.get_ref().is_empty() && writer.buffer().is_empty(),
-            "{word}"
-        );
+        assert_bad(&rt, word)?;
     }
     Ok(())
 }
