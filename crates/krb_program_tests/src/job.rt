@@ -24,7 +24,7 @@ use std::test::Fail;
 const COMMANDS: [Command; 3] = [Command::Seal, Command::Open, Command::Relay];
 
 /// The lines of each sender.
-const COMMON: [(Place, &str); 8] = [
+static COMMON: [(Place, &str); 8] = [
     (Place::Etype, "etype = 17\n"),
     (Place::Key, "key = \"000102030405060708090a0b0c0d0e0f\"\n"),
     (Place::Mode, "mode = \"safe\"\n"),
@@ -36,7 +36,7 @@ const COMMON: [(Place, &str); 8] = [
 ];
 
 /// Its other lines for `seal` and `relay`.
-const SENT: [(Place, &str); 3] = [
+static SENT: [(Place, &str); 3] = [
     (
         Place::Seed,
         "seed = \"000102030405060708090a0b0c0d0e0f101112131415161718191a1b1c1d1e1f\"\n",
@@ -46,7 +46,7 @@ const SENT: [(Place, &str); 3] = [
 ];
 
 /// Its other lines for `open`.
-const OPENED: [(Place, &str); 1] = [(Place::Frames, "frames = [\"74\"]\n")];
+static OPENED: [(Place, &str); 1] = [(Place::Frames, "frames = [\"74\"]\n")];
 
 /// Adds the lines but those of some keys.
 fn push_lines(

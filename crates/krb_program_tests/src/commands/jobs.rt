@@ -21,7 +21,7 @@ use std::thread::Threads;
 /// The keys of a sender and their values, as TOML. A key with no value is left out.
 ///
 /// Its one text is `hi`, from 10.0.0.1 to 10.0.0.255, at 2023-11-14T22:13:20Z and 5 microseconds.
-const SENDER: [(&str, &str); 17] = [
+static SENDER: [(&str, &str); 17] = [
     ("etype", "17"),
     ("key", "'000102030405060708090a0b0c0d0e0f'"),
     ("mode", "'safe'"),
@@ -95,7 +95,7 @@ pub fn sender_with(
     others: &[(&str, &str)],
 ) -> Result<String, AllocError> {
     let mut table = String::from_str(alloc, "[[sender]]\n")?;
-    for (key, value) in SENDER {
+    for (key, value) in SENDER.iter() {
         push_changed(&mut table, key, value, others, changes)?;
     }
     Ok(table)

@@ -5,29 +5,30 @@ use crate::asserts::assert_same_at;
 use krb_job::{Command, Place, read_job};
 use std::test::Fail;
 
-const GOOD: [(Place, &str); 4] = [
+static GOOD: [(Place, &str); 4] = [
     (Place::Batch, "batch = 1"),
     (Place::Batch, "batch = 2"),
     (Place::Batch, "batch = 0x3e8"),
     (Place::Batch, "batch = 1000"),
 ];
 
+static BAD_BATCHES: [(Place, &str); 7] = [
+    (Place::Batch, "batch = 0"),
+    (Place::Batch, "batch = 1001"),
+    (Place::Batch, "batch = -2"),
+    (Place::Batch, "batch = 2.0"),
+    (Place::Batch, "batch = true"),
+    (Place::Batch, "batch = \"2\""),
+    (Place::Batch, "batch = [2]"),
+];
+
 #[test]
 fn batches(rt: HostRuntime) -> Result<(), Fail> {
-    let bad = [
-        (Place::Batch, "batch = 0"),
-        (Place::Batch, "batch = 1001"),
-        (Place::Batch, "batch = -2"),
-        (Place::Batch, "batch = 2.0"),
-        (Place::Batch, "batch = true"),
-        (Place::Batch, "batch = \"2\""),
-        (Place::Batch, "batch = [2]"),
-    ];
     for command in [Command::Seal, Command::Relay] {
-        assert_bad(&rt, rt.alloc(), command, bad.as_slice())?;
+        assert_bad(&rt, rt.alloc(), command, BAD_BATCHES.as_slice())?;
         assert_good(&rt, rt.alloc(), command, GOOD.as_slice())?;
     }
-    assert_bad(&rt, rt.alloc(), Command::Open, bad.as_slice())?;
+    assert_bad(&rt, rt.alloc(), Command::Open, BAD_BATCHES.as_slice())?;
     assert_bad(&rt, rt.alloc(), Command::Open, GOOD.as_slice())
 }
 

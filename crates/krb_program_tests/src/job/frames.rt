@@ -4,20 +4,21 @@ use super::{assert_bad, assert_good, list_line, long_line};
 use krb_job::{Command, Place};
 use std::test::Fail;
 
+static BAD_FRAMES: [(Place, &str); 5] = [
+    (Place::Frames, ""),
+    (Place::Frames, "frames = 1"),
+    (Place::Frames, "frames = [74]"),
+    (Place::Frames, "frames = [\"74\", \"7\"]"),
+    (Place::Frames, "frames = [\"7x\"]"),
+];
+
 #[test]
 fn frames(rt: HostRuntime) -> Result<(), Fail> {
-    let bad = [
-        (Place::Frames, ""),
-        (Place::Frames, "frames = 1"),
-        (Place::Frames, "frames = [74]"),
-        (Place::Frames, "frames = [\"74\", \"7\"]"),
-        (Place::Frames, "frames = [\"7x\"]"),
-    ];
     let good = [
         (Place::Frames, "frames = []"),
         (Place::Frames, "frames = [\"\", \"fF\"]"),
     ];
-    assert_bad(&rt, rt.alloc(), Command::Open, bad.as_slice())?;
+    assert_bad(&rt, rt.alloc(), Command::Open, BAD_FRAMES.as_slice())?;
     assert_good(&rt, rt.alloc(), Command::Open, good.as_slice())?;
     assert_bad(&rt, rt.alloc(), Command::Seal, good.as_slice())?;
     assert_bad(&rt, rt.alloc(), Command::Relay, good.as_slice())

@@ -7,7 +7,7 @@ use std::alloc::{AllocError, Global};
 use std::test::Fail;
 
 /// The keys in the order of their checks, each with a line that is good for `seal`, and a bad one.
-const LINES: [(Place, &str, &str); 18] = [
+static LINES: [(Place, &str, &str); 18] = [
     (Place::Etype, "etype = 17\n", "etype = 0\n"),
     (
         Place::Key,
@@ -65,16 +65,17 @@ fn keys_in_order(rt: HostRuntime) -> Result<(), Fail> {
     Ok(())
 }
 
+static UNKNOWN_KEYS: [(Place, &str); 4] = [
+    (Place::UnknownKey, "other = 1"),
+    (Place::UnknownKey, "capacity = 1"),
+    (Place::UnknownKey, "Etype = 17"),
+    (Place::UnknownKey, "\"\" = 1"),
+];
+
 /// A key at the top is none of a sender.
 #[test]
 fn unknown_keys(rt: HostRuntime) -> Result<(), Fail> {
-    let lines = [
-        (Place::UnknownKey, "other = 1"),
-        (Place::UnknownKey, "capacity = 1"),
-        (Place::UnknownKey, "Etype = 17"),
-        (Place::UnknownKey, "\"\" = 1"),
-    ];
-    assert_bad(&rt, rt.alloc(), Command::Seal, lines.as_slice())?;
-    assert_bad(&rt, rt.alloc(), Command::Open, lines.as_slice())?;
-    assert_bad(&rt, rt.alloc(), Command::Relay, lines.as_slice())
+    assert_bad(&rt, rt.alloc(), Command::Seal, UNKNOWN_KEYS.as_slice())?;
+    assert_bad(&rt, rt.alloc(), Command::Open, UNKNOWN_KEYS.as_slice())?;
+    assert_bad(&rt, rt.alloc(), Command::Relay, UNKNOWN_KEYS.as_slice())
 }

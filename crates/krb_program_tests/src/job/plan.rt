@@ -4,7 +4,7 @@ use super::{assert_bad, assert_good, list_line, long_line};
 use krb_job::{Command, Place};
 use std::test::Fail;
 
-const GOOD: [(Place, &str); 7] = [
+static GOOD: [(Place, &str); 7] = [
     (Place::Plan, "plan = []"),
     (Place::Plan, "plan = [\"0\"]"),
     (Place::Plan, "plan = [\"999999999\", \"10\"]"),
@@ -14,49 +14,51 @@ const GOOD: [(Place, &str); 7] = [
     (Place::Plan, "plan = [\"raw 0fF0\"]"),
 ];
 
+static BAD_PLANS: [(Place, &str); 15] = [
+    (Place::Plan, "plan = 0"),
+    (Place::Plan, "plan = \"0\""),
+    (Place::Plan, "plan = [0]"),
+    (Place::Plan, "plan = [\"0\", \"\"]"),
+    (Place::Plan, "plan = [\"00\"]"),
+    (Place::Plan, "plan = [\"+1\"]"),
+    (Place::Plan, "plan = [\"-1\"]"),
+    (Place::Plan, "plan = [\" 0\"]"),
+    (Place::Plan, "plan = [\"0 \"]"),
+    (Place::Plan, "plan = [\"1000000000\"]"),
+    (Place::Plan, "plan = [\"raw\"]"),
+    (Place::Plan, "plan = [\"raw00\"]"),
+    (Place::Plan, "plan = [\"raw  00\"]"),
+    (Place::Plan, "plan = [\"raw 0\"]"),
+    (Place::Plan, "plan = [\"Raw 00\"]"),
+];
+
 #[test]
 fn bad_plans(rt: HostRuntime) -> Result<(), Fail> {
-    let lines = [
-        (Place::Plan, "plan = 0"),
-        (Place::Plan, "plan = \"0\""),
-        (Place::Plan, "plan = [0]"),
-        (Place::Plan, "plan = [\"0\", \"\"]"),
-        (Place::Plan, "plan = [\"00\"]"),
-        (Place::Plan, "plan = [\"+1\"]"),
-        (Place::Plan, "plan = [\"-1\"]"),
-        (Place::Plan, "plan = [\" 0\"]"),
-        (Place::Plan, "plan = [\"0 \"]"),
-        (Place::Plan, "plan = [\"1000000000\"]"),
-        (Place::Plan, "plan = [\"raw\"]"),
-        (Place::Plan, "plan = [\"raw00\"]"),
-        (Place::Plan, "plan = [\"raw  00\"]"),
-        (Place::Plan, "plan = [\"raw 0\"]"),
-        (Place::Plan, "plan = [\"Raw 00\"]"),
-    ];
-    assert_bad(&rt, rt.alloc(), Command::Seal, lines.as_slice())?;
-    assert_bad(&rt, rt.alloc(), Command::Relay, lines.as_slice())
+    assert_bad(&rt, rt.alloc(), Command::Seal, BAD_PLANS.as_slice())?;
+    assert_bad(&rt, rt.alloc(), Command::Relay, BAD_PLANS.as_slice())
 }
+
+static BAD_FLIPS: [(Place, &str); 14] = [
+    (Place::Plan, "plan = [\"flip\"]"),
+    (Place::Plan, "plan = [\"flip 0\"]"),
+    (Place::Plan, "plan = [\"flip 0 1\"]"),
+    (Place::Plan, "plan = [\"flip 0 1 \"]"),
+    (Place::Plan, "plan = [\"flip 0 1 1\"]"),
+    (Place::Plan, "plan = [\"flip 0 1 001\"]"),
+    (Place::Plan, "plan = [\"flip 0 1 0g\"]"),
+    (Place::Plan, "plan = [\"flip 0 1 01 \"]"),
+    (Place::Plan, "plan = [\"flip 0  1 01\"]"),
+    (Place::Plan, "plan = [\"flip  0 1 01\"]"),
+    (Place::Plan, "plan = [\"flip 00 1 01\"]"),
+    (Place::Plan, "plan = [\"flip 0 01 01\"]"),
+    (Place::Plan, "plan = [\"flip 1000000000 1 01\"]"),
+    (Place::Plan, "plan = [\"flip 0 1000000000 01\"]"),
+];
 
 #[test]
 fn bad_flips(rt: HostRuntime) -> Result<(), Fail> {
-    let lines = [
-        (Place::Plan, "plan = [\"flip\"]"),
-        (Place::Plan, "plan = [\"flip 0\"]"),
-        (Place::Plan, "plan = [\"flip 0 1\"]"),
-        (Place::Plan, "plan = [\"flip 0 1 \"]"),
-        (Place::Plan, "plan = [\"flip 0 1 1\"]"),
-        (Place::Plan, "plan = [\"flip 0 1 001\"]"),
-        (Place::Plan, "plan = [\"flip 0 1 0g\"]"),
-        (Place::Plan, "plan = [\"flip 0 1 01 \"]"),
-        (Place::Plan, "plan = [\"flip 0  1 01\"]"),
-        (Place::Plan, "plan = [\"flip  0 1 01\"]"),
-        (Place::Plan, "plan = [\"flip 00 1 01\"]"),
-        (Place::Plan, "plan = [\"flip 0 01 01\"]"),
-        (Place::Plan, "plan = [\"flip 1000000000 1 01\"]"),
-        (Place::Plan, "plan = [\"flip 0 1000000000 01\"]"),
-    ];
-    assert_bad(&rt, rt.alloc(), Command::Seal, lines.as_slice())?;
-    assert_bad(&rt, rt.alloc(), Command::Relay, lines.as_slice())
+    assert_bad(&rt, rt.alloc(), Command::Seal, BAD_FLIPS.as_slice())?;
+    assert_bad(&rt, rt.alloc(), Command::Relay, BAD_FLIPS.as_slice())
 }
 
 #[test]

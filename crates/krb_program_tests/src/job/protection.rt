@@ -5,54 +5,56 @@ use crate::asserts::assert_same_at;
 use krb_job::Place;
 use std::test::Fail;
 
+static BAD_PROTECTIONS: [(Place, &str); 24] = [
+    (Place::Etype, ""),
+    (Place::Etype, "etype = \"17\""),
+    (Place::Etype, "etype = 16"),
+    (Place::Etype, "etype = 19"),
+    (Place::Etype, "etype = 17.0"),
+    (Place::Etype, "etype = -17"),
+    (Place::Key, ""),
+    (Place::Key, "key = 17"),
+    (Place::Key, "key = \"\""),
+    (Place::Key, "key = \"000102030405060708090a0b0c0d0e\""),
+    (Place::Key, "key = \"000102030405060708090a0b0c0d0e0\""),
+    (Place::Key, "key = \"000102030405060708090a0b0c0d0e0f10\""),
+    (Place::Key, "key = \"000102030405060708090a0b0c0d0e0g\""),
+    (Place::Key, "key = \"00 102030405060708090a0b0c0d0e0f\""),
+    (Place::Key, "key = \"000102030405060708090a0b0c0d0é\""),
+    (Place::Mode, ""),
+    (Place::Mode, "mode = true"),
+    (Place::Mode, "mode = \"Safe\""),
+    (Place::Mode, "mode = \"private\""),
+    (Place::First, ""),
+    (Place::First, "first = \"7\""),
+    (Place::First, "first = 7.0"),
+    (Place::First, "first = -1"),
+    (Place::First, "first = 4294967296"),
+];
+
 #[test]
 fn bad_protections(rt: HostRuntime) -> Result<(), Fail> {
-    let lines = [
-        (Place::Etype, ""),
-        (Place::Etype, "etype = \"17\""),
-        (Place::Etype, "etype = 16"),
-        (Place::Etype, "etype = 19"),
-        (Place::Etype, "etype = 17.0"),
-        (Place::Etype, "etype = -17"),
-        (Place::Key, ""),
-        (Place::Key, "key = 17"),
-        (Place::Key, "key = \"\""),
-        (Place::Key, "key = \"000102030405060708090a0b0c0d0e\""),
-        (Place::Key, "key = \"000102030405060708090a0b0c0d0e0\""),
-        (Place::Key, "key = \"000102030405060708090a0b0c0d0e0f10\""),
-        (Place::Key, "key = \"000102030405060708090a0b0c0d0e0g\""),
-        (Place::Key, "key = \"00 102030405060708090a0b0c0d0e0f\""),
-        (Place::Key, "key = \"000102030405060708090a0b0c0d0é\""),
-        (Place::Mode, ""),
-        (Place::Mode, "mode = true"),
-        (Place::Mode, "mode = \"Safe\""),
-        (Place::Mode, "mode = \"private\""),
-        (Place::First, ""),
-        (Place::First, "first = \"7\""),
-        (Place::First, "first = 7.0"),
-        (Place::First, "first = -1"),
-        (Place::First, "first = 4294967296"),
-    ];
     for command in COMMANDS {
-        assert_bad(&rt, rt.alloc(), command, lines.as_slice())?;
+        assert_bad(&rt, rt.alloc(), command, BAD_PROTECTIONS.as_slice())?;
     }
     Ok(())
 }
 
+static GOOD_PROTECTIONS: [(Place, &str); 8] = [
+    (Place::Etype, "etype = +17"),
+    (Place::Etype, "etype = 0x11"),
+    (Place::Etype, "etype = 1_7"),
+    (Place::Key, "key = \"FF0102030405060708090A0b0C0d0E0f\""),
+    (Place::Mode, "mode = \"priv\""),
+    (Place::First, "first = 0"),
+    (Place::First, "first = -0"),
+    (Place::First, "first = 4294967295"),
+];
+
 #[test]
 fn good_protections(rt: HostRuntime) -> Result<(), Fail> {
-    let lines = [
-        (Place::Etype, "etype = +17"),
-        (Place::Etype, "etype = 0x11"),
-        (Place::Etype, "etype = 1_7"),
-        (Place::Key, "key = \"FF0102030405060708090A0b0C0d0E0f\""),
-        (Place::Mode, "mode = \"priv\""),
-        (Place::First, "first = 0"),
-        (Place::First, "first = -0"),
-        (Place::First, "first = 4294967295"),
-    ];
     for command in COMMANDS {
-        assert_good(&rt, rt.alloc(), command, lines.as_slice())?;
+        assert_good(&rt, rt.alloc(), command, GOOD_PROTECTIONS.as_slice())?;
     }
     Ok(())
 }

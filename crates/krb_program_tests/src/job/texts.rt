@@ -4,22 +4,23 @@ use super::{assert_bad, assert_good, list_line, long_line};
 use krb_job::{Command, Place};
 use std::test::Fail;
 
+static BAD_TEXTS: [(Place, &str); 6] = [
+    (Place::Texts, ""),
+    (Place::Texts, "texts = \"68\""),
+    (Place::Texts, "texts = [68]"),
+    (Place::Texts, "texts = [\"68\", \"6\"]"),
+    (Place::Texts, "texts = [\"6 8\"]"),
+    (Place::Texts, "texts = [\"6g\"]"),
+];
+
 #[test]
 fn texts(rt: HostRuntime) -> Result<(), Fail> {
-    let bad = [
-        (Place::Texts, ""),
-        (Place::Texts, "texts = \"68\""),
-        (Place::Texts, "texts = [68]"),
-        (Place::Texts, "texts = [\"68\", \"6\"]"),
-        (Place::Texts, "texts = [\"6 8\"]"),
-        (Place::Texts, "texts = [\"6g\"]"),
-    ];
     let good = [
         (Place::Texts, "texts = []"),
         (Place::Texts, "texts = [\"fF\", \"\"]"),
     ];
-    assert_bad(&rt, rt.alloc(), Command::Seal, bad.as_slice())?;
-    assert_bad(&rt, rt.alloc(), Command::Relay, bad.as_slice())?;
+    assert_bad(&rt, rt.alloc(), Command::Seal, BAD_TEXTS.as_slice())?;
+    assert_bad(&rt, rt.alloc(), Command::Relay, BAD_TEXTS.as_slice())?;
     assert_good(&rt, rt.alloc(), Command::Seal, good.as_slice())?;
     assert_good(&rt, rt.alloc(), Command::Relay, good.as_slice())?;
     assert_bad(&rt, rt.alloc(), Command::Open, good.as_slice())

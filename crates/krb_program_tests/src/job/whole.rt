@@ -6,13 +6,19 @@ use krb_job::{Command, Job, Place, read_job};
 use krb_peers::Emit;
 use krb_seal::Mode;
 use std::alloc::Global;
+use std::process::Abort;
 use std::test::Fail;
+
+/// A job of `seal` with this line.
+fn sealed(alloc: Global, line: &str) -> Result<Job, Fail> {
+    let text = sender(alloc, Command::Seal, &[], line)?;
+    Ok(read_job(alloc, text.as_bytes(), Command::Seal)?)
+}
 
 #[test]
 fn job_of_seal(rt: HostRuntime) -> Result<(), Fail> {
     let line = "write_to = true\nplan = [\"1\", \"flip 0 9 0A\", \"raw 74\"]\n";
-    let text = sender(rt.alloc(), Command::Seal, &[], line)?;
-    let job = read_job(rt.alloc(), text.as_bytes(), Command::Seal)?;
+    let job = sealed(rt.alloc(), line)?;
     assert_same(&rt, job.capacity, 1);
     assert!(rt; job.senders.len() == 1);
     let sender = &job.senders[0];
@@ -36,34 +42,46 @@ fn job_of_seal(rt: HostRuntime) -> Result<(), Fail> {
     Ok(())
 }
 
+const PLAN: &str = "plan = [\"1\", \"flip 0 9 0A\", \"raw 74\"]\n";
+
 #[test]
 fn traffic_of_seal(rt: HostRuntime) -> Result<(), Fail> {
-    let line = "plan = [\"1\", \"flip 0 9 0A\", \"raw 74\"]\n";
-    let text = sender(rt.alloc(), Command::Seal, &[], line)?;
-    let job = read_job(rt.alloc(), text.as_bytes(), Command::Seal)?;
+    let job = sealed(rt.alloc(), PLAN)?;
     let sender = &job.senders[0];
     let seed = sender.seed.as_ref().ok_or("a seed")?;
     assert_same(&rt, seed[31], 31);
     assert!(rt; sender.ats.len() == 1);
     assert_same(&rt, sender.ats[0].micros(), 1_000_000);
-    assert!(rt; sender.nows.len() == 2);
+    assert_same(&rt, sender.nows.len(), 2);
     assert!(rt; sender.texts.len() == 2);
     assert_same(&rt, sender.texts[0].as_slice(), b"hi".as_slice());
-    assert!(rt; sender.frames.len() == 0);
-    let plan = sender.plan.as_ref().ok_or("a plan")?;
+    assert_same(&rt, sender.frames.len(), 0);
+    Ok(())
+}
+
+/// Asserts that a plan is the one of the line.
+fn assert_plan(rt: &impl Abort, plan: &[Emit]) {
     assert!(rt; plan.len() == 3);
-    assert!(rt; matches!(&plan[0], Emit::Frame(1)));
-    assert!(rt;
-        matches!(
-            &plan[1],
-            Emit::Flip {
-                k: 0,
-                at: 9,
-                mask: 10
-            }
-        )
+    let first = matches!(&plan[0], Emit::Frame(1));
+    assert_same(rt, first, true);
+    let flip = matches!(
+        &plan[1],
+        Emit::Flip {
+            k: 0,
+            at: 9,
+            mask: 10
+        }
     );
-    assert!(rt; matches!(&plan[2], Emit::Raw(bytes) if bytes.as_slice() == b"t".as_slice()));
+    assert_same(rt, flip, true);
+    let raw = matches!(&plan[2], Emit::Raw(bytes) if bytes.as_slice() == b"t".as_slice());
+    assert_same(rt, raw, true);
+}
+
+#[test]
+fn plan_of_seal(rt: HostRuntime) -> Result<(), Fail> {
+    let job = sealed(rt.alloc(), PLAN)?;
+    let plan = job.senders[0].plan.as_ref().ok_or("a plan")?;
+    assert_plan(&rt, plan.as_slice());
     Ok(())
 }
 

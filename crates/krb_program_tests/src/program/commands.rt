@@ -61,7 +61,7 @@ fn help_tells_what_is_read_and_printed(rt: HostRuntime) -> Result<(), Fail> {
 }
 
 /// The keys of a job.
-const KEYS: [&str; 17] = [
+static KEYS: [&str; 17] = [
     "capacity",
     "etype",
     "key",
@@ -90,7 +90,7 @@ fn tells_key(alloc: Global, help: &str, key: &str) -> Result<bool, AllocError> {
 #[test]
 fn help_tells_the_keys_of_a_job(rt: HostRuntime) -> Result<(), Fail> {
     let text = help_of(rt.alloc(), "relay")?;
-    for key in KEYS {
+    for key in KEYS.iter() {
         let told = tells_key(rt.alloc(), text.as_str(), key)?;
         assert_same_at(&rt, told, true, key);
     }
@@ -98,7 +98,7 @@ fn help_tells_the_keys_of_a_job(rt: HostRuntime) -> Result<(), Fail> {
 }
 
 /// Parts of the help of `relay`.
-const PARTS: [&str; 10] = [
+static PARTS: [&str; 10] = [
     "16,777,216 bytes",
     "1 to 64; by default 1\n",
     "0 to 4294967295\n",
@@ -114,8 +114,8 @@ const PARTS: [&str; 10] = [
 #[test]
 fn help_tells_limits_and_faults(rt: HostRuntime) -> Result<(), Fail> {
     let text = help_of(rt.alloc(), "relay")?;
-    for part in PARTS {
-        assert_same_at(&rt, text.contains(part), true, part);
+    for part in PARTS.iter() {
+        assert_same_at(&rt, text.contains(*part), true, part);
     }
     Ok(())
 }

@@ -5,7 +5,10 @@ use crate::asserts::assert_same;
 use krb_program::{Cmd, run};
 use std::alloc::{AllocError, Global};
 use std::io::BufWriter;
+use std::process::Abort;
+use std::sync::Wait;
 use std::test::Fail;
+use std::thread::Threads;
 
 /// The text's frame 1,999 times, and then the close.
 fn plan(alloc: Global) -> Result<String, AllocError> {
@@ -17,14 +20,19 @@ fn plan(alloc: Global) -> Result<String, AllocError> {
     Ok(plan)
 }
 
-/// Eight senders of one text each, with this plan and a key of their own.
+/// A sender of one text, with this plan and a key of its own.
+fn sender(alloc: Global, lane: u32, plan: &str) -> Result<String, AllocError> {
+    format!(in alloc;
+        "[[sender]]\netype = 17\nkey = '000102030405060708090a0b0c0d0e0{lane}'\nmode = 'safe'\n\
+         first = 7\n{SESSION}{SEALED}texts = ['6869']\nplan = [{plan}]\n"
+    )
+}
+
+/// Eight such senders.
 fn job(alloc: Global, plan: &str) -> Result<String, AllocError> {
     let mut job = String::from_str(alloc, "capacity = 64\n")?;
     for lane in 0..8 {
-        let key = format!(in alloc; "000102030405060708090a0b0c0d0e0{lane}")?;
-        let ends = format!(in alloc; "etype = 17\nkey = '{key}'\nmode = 'safe'\nfirst = 7\n")?;
-        let texts = format!(in alloc; "texts = ['6869']\nplan = [{plan}]\n")?;
-        let sender = format!(in alloc; "[[sender]]\n{ends}{SESSION}{SEALED}{texts}")?;
+        let sender = sender(alloc, lane, plan)?;
         job.push_str(sender.as_str())?;
     }
     Ok(job)
@@ -51,20 +59,24 @@ fn lines(alloc: Global) -> Result<String, AllocError> {
     Ok(text)
 }
 
+/// Asserts that the job is relayed so.
+fn assert_relayed(
+    rt: &(impl Threads + Wait + Sync + Abort + Alloc<A = Global>),
+    job: &str,
+    lines: &str,
+) -> Result<(), Fail> {
+    let mut writer = BufWriter::new(rt.alloc(), Vec::new(rt.alloc()))?;
+    let mut reader = job.as_bytes();
+    let outcome = run(rt, rt.alloc(), Cmd::Relay, &mut reader, &mut writer);
+    assert_same(rt, outcome, Ok(0));
+    assert!(rt; writer.get_ref().as_slice() == lines.as_bytes());
+    Ok(())
+}
+
 #[test]
 fn eight_lanes_of_2_000_emissions_are_relayed(rt: HostRuntime) -> Result<(), Fail> {
     let plan = plan(rt.alloc())?;
     let job = job(rt.alloc(), plan.as_str())?;
     let lines = lines(rt.alloc())?;
-    let mut writer = BufWriter::new(rt.alloc(), Vec::new(rt.alloc()))?;
-    let result = run(
-        &rt,
-        rt.alloc(),
-        Cmd::Relay,
-        &mut job.as_bytes(),
-        &mut writer,
-    );
-    assert_same(&rt, result, Ok(0));
-    assert!(rt; writer.get_ref().as_slice() == lines.as_bytes());
-    Ok(())
+    assert_relayed(&rt, job.as_str(), lines.as_str())
 }

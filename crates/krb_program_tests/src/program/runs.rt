@@ -41,7 +41,7 @@ at = [1700000000000005]
 ";
 
 /// Each encryption type and mode, and its frames.
-const KINDS: [(&str, &str, &str, &str); 4] = [
+static KINDS: [(&str, &str, &str, &str); 4] = [
     (TYPE_17, "safe", SAFE_TEXT, SAFE_CLOSE),
     (TYPE_17, "priv", PRIV_TEXT, PRIV_CLOSE),
     (TYPE_18, "safe", SAFE_TEXT_18, SAFE_CLOSE_18),
@@ -84,8 +84,8 @@ fn assert_sealed(
 
 #[test]
 fn text_and_close_are_sealed(rt: HostRuntime) -> Result<(), Fail> {
-    for (etype, mode, text, close) in KINDS {
-        assert_sealed(&rt, (etype, mode), text, close)?;
+    for (etype, mode, text, close) in KINDS.iter() {
+        assert_sealed(&rt, (*etype, *mode), text, close)?;
     }
     Ok(())
 }
@@ -105,8 +105,8 @@ fn assert_opened(
 
 #[test]
 fn sealed_frames_are_opened(rt: HostRuntime) -> Result<(), Fail> {
-    for (etype, mode, text, close) in KINDS {
-        assert_opened(&rt, (etype, mode), text, close)?;
+    for (etype, mode, text, close) in KINDS.iter() {
+        assert_opened(&rt, (*etype, *mode), text, close)?;
     }
     Ok(())
 }
@@ -135,7 +135,7 @@ const NOTHING_SENT: &str = "lane 0 sent 2 of 2 DONE TRUNCATED
 ";
 
 /// The keys of a sender of two texts, its status and what is printed.
-const TWO_TEXT_RELAYS: [(&str, u8, &str); 6] = [
+static TWO_TEXT_RELAYS: [(&str, u8, &str); 6] = [
     ("first = 7\n", 0, TWO_TEXTS),
     ("first = 7\nplan = ['0', '0', '1', '2']\n", 0, REPEATED),
     ("first = 7\nplan = ['1', '0', '2']\n", 3, OVERTAKEN),
@@ -161,17 +161,17 @@ fn assert_relayed(
 
 #[test]
 fn two_texts_are_relayed_as_planned(rt: HostRuntime) -> Result<(), Fail> {
-    for (keys, status, output) in TWO_TEXT_RELAYS {
+    for (keys, status, output) in TWO_TEXT_RELAYS.iter() {
         let keys = format!(in rt.alloc(); "{SEALED}texts = ['61', '62']\n{keys}")?;
         for mode in MODES {
-            assert_relayed(&rt, mode, keys.as_str(), status, output)?;
+            assert_relayed(&rt, mode, keys.as_str(), *status, output)?;
         }
     }
     Ok(())
 }
 
 /// The mode and the plan of a sender of one text, its status and what is printed.
-const ONE_TEXT_RELAYS: [(&str, &str, u8, &str); 6] = [
+static ONE_TEXT_RELAYS: [(&str, &str, u8, &str); 6] = [
     ("safe", "'0', '1', '1'", 0, AFTER_CLOSE),
     ("priv", "'0', '1', '1'", 0, AFTER_CLOSE),
     ("safe", "'flip 0 95 01', '1'", 3, MODIFIED),
@@ -182,11 +182,11 @@ const ONE_TEXT_RELAYS: [(&str, &str, u8, &str); 6] = [
 
 #[test]
 fn one_text_is_relayed_as_planned(rt: HostRuntime) -> Result<(), Fail> {
-    for (mode, plan, status, output) in ONE_TEXT_RELAYS {
+    for (mode, plan, status, output) in ONE_TEXT_RELAYS.iter() {
         let keys = format!(in rt.alloc();
             "{SEALED}first = 7\ntexts = ['6869']\nplan = [{plan}]\n"
         )?;
-        assert_relayed(&rt, mode, keys.as_str(), status, output)?;
+        assert_relayed(&rt, mode, keys.as_str(), *status, output)?;
     }
     Ok(())
 }
