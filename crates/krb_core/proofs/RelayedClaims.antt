@@ -1,5 +1,5 @@
 -- What is claimed of each lane of a relay that was turned.
-use Rattle.std.proofs.Common.{◌≡◌, ◌≢◌, ℕ, zero, suc, ◌≤◌, ◌<◌, true, false, List, [], ◌∷◌, ◌++◌, length, set, take, drop, slice_get, Option, Some, None, Result, Ok, Err, inl, inr, refl, sym, ap, ap₂, subst, ◌∙◌, arith, append_assoc, append-nil}
+use Rattle.std.proofs.Common.{◌≡◌, ◌≢◌, ℕ, zero, suc, ◌≤◌, ◌<◌, true, false, List, [], ◌∷◌, ◌++◌, length, set, take, drop, slice_get, Option, Some, None, Result, Ok, Err, inl, inr, refl, sym, ap, ap₂, ◌∙◌, arith, append_assoc, append-nil}
 use Rattle.std.specs.Prelude.{OnOk, OnErr}
 use Rattle.std.proofs.lemmas.List.{take_all, take-append-drop}
 use Rattle.std.proofs.lemmas.List.Concat.{flat_map-append}
@@ -11,16 +11,12 @@ use Rattle.krb_base.specs.Lane.{Item, Lane, Frame, End, empty, has_end, frames, 
 use Rattle.krb_base.specs.Lane as machine
 use Rattle.krb_base.proofs.LaneLemmas.{frames-append, state_whole}
 use Rattle.krb_base.proofs.LaneLemmas as lane_lemmas
-use Rattle.krb_peers.specs.declared.log.Event.{Event}
 use Rattle.krb_core.specs.declared.turn.Turn.{Turn}
 use Rattle.krb_core.specs.declared.turn.Turn.TheVariants.{Send, Take}
-use Rattle.krb_peers.specs.Log.{events_of, texts_in, has_closed}
 use Rattle.krb_peers.specs.LogState.{LogState}
 use Rattle.krb_peers.specs.Plan.{wire}
 use Rattle.krb_peers.specs.Sender.{sealed_texts, AreFrames}
 use Rattle.krb_peers.specs.Sender as sender
-use Rattle.krb_peers.specs.Verdicts.{Verdict}
-use Rattle.krb_peers.specs.Verdicts as verdict
 use Rattle.krb_peers.specs.Run.{IsRun}
 use Rattle.krb_peers.specs.Undisturbed.{TakesAll}
 use Rattle.krb_core.specs.Track.{TrackState, verdict_now, log_behind}

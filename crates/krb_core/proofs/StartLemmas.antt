@@ -1,13 +1,10 @@
 -- How a lane begins.
-use Rattle.std.proofs.Common.{◌≡◌, ℕ, suc, true, List, [], ◌∷◌, ◌++◌, length, map, Option, Some, Result, Ok, Err, inr, refl, sym, ap, ap₂, subst, ◌∙◌, arith, append_assoc, append-nil, length-append, replicate, false}
+use Rattle.std.proofs.Common.{◌≡◌, ℕ, suc, true, List, [], ◌∷◌, ◌++◌, length, map, Result, Ok, Err, inr, refl, sym, ap, ap₂, subst, ◌∙◌, arith, append_assoc, append-nil, length-append, replicate, false}
 use Rattle.std.proofs.lemmas.List.{map_push, map-append, length-map}
 use Rattle.krb_peers.specs.Sending.{source_of}
 use Rattle.std.specs.List.{zip}
-use Rattle.std.specs.Prelude.{Vec, IsTrue, IfErr, IsErrAnd, option_map}
+use Rattle.std.specs.Prelude.{IfErr, IsErrAnd}
 use Rattle.krb_base.specs.Limits.{lane_limit}
-use Rattle.krb_peers.specs.declared.plan.Emit.{Emit}
-use Rattle.krb_peers.specs.Plan.{is_good, wire}
-use Rattle.krb_peers.specs.Sender.{IsWithinLimits, Source, records, AreFrames}
 use Rattle.krb_seal.specs.Sealer.{SealerState}
 use Rattle.krb_peers.specs.declared.receiver.Receiving.{Receiving}
 use Rattle.krb_peers.specs.declared.sending.Sending.{Sending}
@@ -18,9 +15,7 @@ use Rattle.krb_peers.specs.Log.{new_log, is_closed}
 use Rattle.krb_peers.specs.LogState.{LogState}
 use Rattle.krb_core.specs.Track.{TrackState}
 use Rattle.krb_core.specs.Stepped.{IsRelay}
-use Rattle.krb_peers.specs.Verdicts.{AllBytes}
 use Rattle.krb_peers.specs.Ends.{Ends, ends_of}
-use Rattle.krb_peers.specs.Wire.{IsWire}
 use Rattle.krb_peers.specs.StartError.{IsReason}
 use Rattle.krb_core.specs.Start.{IsBegun, AreBegun, FailsToBegin}
 
