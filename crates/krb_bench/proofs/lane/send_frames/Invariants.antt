@@ -1,5 +1,5 @@
 use Rattle.std.proofs.Common.{◌≡◌, ◌+◌, length}
-use Rattle.krb_lane_bench.proofs.send_frames.Given as goal
+use Rattle.krb_bench.proofs.lane.send_frames.Given as goal
 
 abbrev pub invariant-loop : goal.invariant-loop
 invariant-loop g l =

@@ -1,26 +1,20 @@
-//! Counts the frames a second that pass through a lane of krb_lane between two threads.
-//!
-//! `krb_lane_bench FRAMES` passes that many frames of 100 bytes through a lane of capacity 1, 8 and
-//! 64 in turn, from a worker to the calling thread, and prints one line for each. Each frame is
-//! allocated by the worker and freed by the calling thread. With no argument it does nothing.
-#![tactic(auto)]
+//! Frames of 100 bytes through a lane of capacity 1, 8 and 64 in turn, from a worker to the calling
+//! thread, and a line for each. Each frame is allocated by the worker and freed by the calling
+//! thread.
 
 ghost use Rattle.std.specs.Prelude.{◌≡◌, ◌<◌, ◌≤◌, ◌+◌, ◌^◌, [], true, length, IfSome};
 
+use crate::rate::rate;
 use krb_lane::{Item, LaneRx, LaneTx, SentAll, lane, meet};
 use std::alloc::Global;
-use std::process::ExitCode;
 use std::snapshot::Snapshot;
 use std::sync::Wait;
 use std::thread::{Promise, Threads};
 use std::time::{Clock, Instant};
-use std::{env, io, thread};
+use std::{io, thread};
 
 /// How many bytes a frame has.
 const SIZE: usize = 100;
-
-/// The most frames of a run.
-const MOST: u64 = 1 << 32;
 
 // What a worker promises: it sends at this end, and this many frames where it sends End.
 #[derive(Drop)]
@@ -115,21 +109,24 @@ fn pass_frames<R: Threads + Wait + Sync>(
     )
 }
 
-// Passes so many frames through a lane of each capacity, and prints how fast they went.
-fn run(
+/// Passes so many frames through a lane of each capacity, prints how fast they went, and says whether
+/// all did.
+pub(crate) fn measure(
     rt: &(impl Threads + Wait + Sync + Clock + Print + Alloc<A = Global>),
-    frames: u64,
-) -> io::Result<()>
-    requires { frames < 2 ^ 60 }
-{
+    frames: u32,
+) -> io::Result<bool> {
+    let mut whole = true;
     for capacity in [1, 8, 64] {
         let start = Instant::now(rt)?;
-        let passed = pass_frames(rt, rt.alloc(), capacity, frames);
-        let micros = start.elapsed(rt)?.as_micros().max(1);
+        let passed = pass_frames(rt, rt.alloc(), capacity, u64::from(frames));
+        let micros = start.elapsed(rt)?.as_micros();
         match passed {
-            None => println!(rt; "capacity {capacity}: no memory, or no thread")?,
+            None => {
+                whole = false;
+                println!(rt; "capacity {capacity}: no memory, or no thread")?;
+            }
             Some(got) => {
-                let speed = u128::from(got) * 1_000_000 / micros;
+                let speed = rate(u128::from(got), micros);
                 let millis = micros / 1000;
                 println!(rt;
                     "capacity {capacity}: {got} frames in {millis} ms: {speed} frames a second"
@@ -137,17 +134,5 @@ fn run(
             }
         }
     }
-    Ok(())
-}
-
-fn main(rt: HostRuntime) -> io::Result<ExitCode> {
-    let Some(word) = env::args(&rt)?.nth(1) else {
-        return Ok(ExitCode::SUCCESS);
-    };
-    let Ok(frames) = word.parse::<u64>() else {
-        eprintln!(&rt; "usage: krb_lane_bench FRAMES")?;
-        return Ok(ExitCode::from(2));
-    };
-    run(&rt, frames.min(MOST))?;
-    Ok(ExitCode::SUCCESS)
+    Ok(whole)
 }

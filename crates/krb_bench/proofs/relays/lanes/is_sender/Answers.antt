@@ -1,7 +1,7 @@
 -- What was tested makes a sender.
 use Rattle.std.proofs.Common.{rules}
 use Rattle.krb_peers.proofs.SendingLemmas.{short_texts}
-use Rattle.krb_relay_bench.proofs.lanes.is_sender.Goals as goal
+use Rattle.krb_bench.proofs.relays.lanes.is_sender.Goals as goal
 
 pub returns-then-not-is_empty : goal.returns-then-not-is_empty
 returns-then-not-is_empty g c = λ fits. record {

@@ -1,19 +1,15 @@
-//! Times `seal` and `unseal` of krb_seal.
-//!
-//! `krb_seal_bench ROUNDS` prints, for both encryption types and modes and for data of 64, 1,024,
-//! 60,000 and 1,000,000 bytes, how many messages a second are made and read: the best of that many
-//! short runs.
-//! With no argument it does nothing.
-#![tactic(auto)]
+//! `seal` and `unseal` of krb_seal, for both encryption types and modes and for data of 64, 1,024,
+//! 60,000 and 1,000,000 bytes: how many messages a second are made and read.
 
 mod ends;
 
+use crate::rate::rate;
 use ends::{ends_128, ends_256, moment, open_often, seal_often};
 use krb_der::Moment;
 use krb_seal::{Mode, Opener, Sealer};
-use std::process::ExitCode;
-use std::time::Instant;
-use std::{env, io};
+use std::alloc::Global;
+use std::io;
+use std::time::{Clock, Instant};
 
 /// How many messages of so many bytes go through in one run.
 fn times(size: usize) -> u32 {
@@ -35,7 +31,7 @@ struct Best {
 
 /// One run.
 fn run_once<S: Sealer>(
-    rt: &HostRuntime,
+    rt: &(impl Clock + Print + Alloc<A = Global>),
     sealer: &mut S,
     opener: &Opener,
     data: &[u8],
@@ -65,7 +61,7 @@ fn run_once<S: Sealer>(
 
 /// The best of so many runs.
 fn best_of<S: Sealer>(
-    rt: &HostRuntime,
+    rt: &(impl Clock + Print + Alloc<A = Global>),
     sealer: &mut S,
     opener: &Opener,
     size: usize,
@@ -91,11 +87,6 @@ fn best_of<S: Sealer>(
     Ok(best)
 }
 
-/// How many a second, where `times` of them take so many microseconds.
-fn rate(times: u32, micros: u128) -> u128 {
-    u128::from(times) * 1_000_000 / micros.max(1)
-}
-
 fn mode_name(mode: Mode) -> &'static str {
     match mode {
         Mode::Safe => "safe",
@@ -105,7 +96,7 @@ fn mode_name(mode: Mode) -> &'static str {
 
 /// Times one kind of session at each size.
 fn print_sizes<S: Sealer>(
-    rt: &HostRuntime,
+    rt: &(impl Clock + Print + Alloc<A = Global>),
     sealer: &mut S,
     opener: &Opener,
     mode: Mode,
@@ -116,15 +107,20 @@ fn print_sizes<S: Sealer>(
     let etype = sealer.etype();
     for size in [64, 1_024, 60_000, 1_000_000] {
         let best = best_of(rt, sealer, opener, size, rounds)?;
-        let made = rate(times(size), best.make);
-        let read = rate(times(size), best.read);
+        let made = rate(u128::from(times(size)), best.make);
+        let read = rate(u128::from(times(size)), best.read);
         println!(rt; "{mode} {etype} {size} bytes: {made} made, {read} read a second")?;
         whole = whole && best.whole;
     }
     Ok(whole)
 }
 
-fn run(rt: &HostRuntime, rounds: u32) -> io::Result<bool> {
+/// Prints the best speed of so many runs of each kind, and says whether each message was made and
+/// read.
+pub(crate) fn measure(
+    rt: &(impl Clock + Print + Alloc<A = Global>),
+    rounds: u32,
+) -> io::Result<bool> {
     let mut whole = true;
     for mode in [Mode::Safe, Mode::Priv] {
         let (mut sealer, opener) = ends_128(rt.alloc(), mode)?;
@@ -134,21 +130,4 @@ fn run(rt: &HostRuntime, rounds: u32) -> io::Result<bool> {
         whole = whole && narrow && wide;
     }
     Ok(whole)
-}
-
-fn main(rt: HostRuntime) -> io::Result<ExitCode> {
-    match env::args(&rt)?.nth(1) {
-        None => Ok(ExitCode::SUCCESS),
-        Some(word) => {
-            let Ok(rounds) = word.parse() else {
-                eprintln!(&rt; "usage: krb_seal_bench ROUNDS")?;
-                return Ok(ExitCode::from(2));
-            };
-            if run(&rt, rounds)? {
-                Ok(ExitCode::SUCCESS)
-            } else {
-                Ok(ExitCode::FAILURE)
-            }
-        }
-    }
 }

@@ -2,7 +2,7 @@
 use Rattle.std.proofs.Common.{arith, rules, ◌<◌, length}
 use Rattle.krb_peers.specs.Sending.{source_of, IsSender}
 use Rattle.krb_peers.proofs.ListLemmas.{All-more, All-whole}
-use Rattle.krb_relay_bench.proofs.lanes.are_senders.Goals as goal
+use Rattle.krb_bench.proofs.relays.lanes.are_senders.Goals as goal
 
 pub loop-sending-preserved : goal.loop-sending-preserved
 loop-sending-preserved g c =

@@ -1,5 +1,5 @@
 use Rattle.std.proofs.Common.{◌≡◌}
-use Rattle.krb_lane_bench.proofs.take_frames.Given as goal
+use Rattle.krb_bench.proofs.lane.take_frames.Given as goal
 
 abbrev pub invariant-loop : goal.invariant-loop
 invariant-loop g l =

@@ -4,7 +4,7 @@ ghost use Rattle.std.specs.Prelude.{◌≡◌, ◌<◌, ◌≤◌, All, IsTrue, 
 ghost use Rattle.krb_base.specs.Limits.{lane_limit};
 ghost use Rattle.krb_peers.specs.Sending.{source_of, IsSender};
 
-use crate::lanes::{Lanes, Size, are_senders, have_moments, lanes_of};
+use super::lanes::{Lanes, Size, are_senders, have_moments, lanes_of};
 use krb_core::Stepped;
 use krb_peers::{Entry, Event, Log, Status};
 use krb_relay::{NoGate, Report, relay};

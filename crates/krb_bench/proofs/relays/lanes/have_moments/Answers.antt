@@ -1,7 +1,7 @@
 -- One receiver more.
 use Rattle.std.proofs.Common.{arith, rules, ◌<◌, length}
 use Rattle.krb_peers.proofs.ListLemmas.{All-more, All-whole}
-use Rattle.krb_relay_bench.proofs.lanes.have_moments.Goals as goal
+use Rattle.krb_bench.proofs.relays.lanes.have_moments.Goals as goal
 
 pub loop-receiving-preserved : goal.loop-receiving-preserved
 loop-receiving-preserved c =

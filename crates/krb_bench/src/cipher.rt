@@ -1,14 +1,10 @@
-//! Times `cts_encrypt` and `cts_decrypt` of krb_aes on texts of 16,384 bytes.
-//!
-//! `krb_aes_bench ROUNDS` prints the best speed of that many short runs, one line for each key size
-//! and direction, in thousands of bytes a second, as `openssl speed` does. With no argument it does
-//! nothing. `tools/bench_aes` runs it side by side with OpenSSL.
-#![tactic(auto)]
+//! `cts_encrypt` and `cts_decrypt` of krb_aes on texts of 16,384 bytes: a line for each key size and
+//! direction, in thousands of bytes a second, as `openssl speed` does. `tools/bench_aes` runs it
+//! side by side with OpenSSL.
 
 use krb_aes::{CipherKey, Schedule, cts_decrypt, cts_encrypt};
-use std::process::ExitCode;
-use std::time::Instant;
-use std::{env, io};
+use std::io;
+use std::time::{Clock, Instant};
 
 // How many times the text goes through in one run.
 const TIMES: u32 = 64;
@@ -59,21 +55,34 @@ impl Best {
 }
 
 // The time that enciphering takes, in microseconds.
-fn encrypt_time(rt: &HostRuntime, schedule: &Schedule, text: &mut [u8; 16384]) -> io::Result<u128> {
+fn encrypt_time(
+    rt: &(impl Clock + Print),
+    schedule: &Schedule,
+    text: &mut [u8; 16384],
+) -> io::Result<u128> {
     let start = Instant::now(rt)?;
     encrypt_often(schedule, text);
     Ok(start.elapsed(rt)?.as_micros())
 }
 
 // The time that deciphering takes, in microseconds.
-fn decrypt_time(rt: &HostRuntime, schedule: &Schedule, text: &mut [u8; 16384]) -> io::Result<u128> {
+fn decrypt_time(
+    rt: &(impl Clock + Print),
+    schedule: &Schedule,
+    text: &mut [u8; 16384],
+) -> io::Result<u128> {
     let start = Instant::now(rt)?;
     decrypt_often(schedule, text);
     Ok(start.elapsed(rt)?.as_micros())
 }
 
 // The best of `rounds` runs of each kind, in turn.
-fn measure(rt: &HostRuntime, narrow: &Schedule, wide: &Schedule, rounds: u32) -> io::Result<Best> {
+fn best_of(
+    rt: &(impl Clock + Print),
+    narrow: &Schedule,
+    wide: &Schedule,
+    rounds: u32,
+) -> io::Result<Best> {
     let mut text = [7u8; 16384];
     let mut best = Best::none_yet();
     for _ in 0..rounds {
@@ -91,30 +100,20 @@ fn speed(micros: u128) -> u128 {
     bytes * 1000 / micros.max(1)
 }
 
-fn print(rt: &HostRuntime, best: &Best) -> io::Result<()> {
+fn print(rt: &(impl Clock + Print), best: &Best) -> io::Result<()> {
     println!(rt; "encrypt aes-128 {}", speed(best.encrypt_128))?;
     println!(rt; "decrypt aes-128 {}", speed(best.decrypt_128))?;
     println!(rt; "encrypt aes-256 {}", speed(best.encrypt_256))?;
     println!(rt; "decrypt aes-256 {}", speed(best.decrypt_256))
 }
 
-fn run(rt: &HostRuntime, rounds: u32) -> io::Result<()> {
+/// Prints the best speed of so many runs of each kind.
+pub(crate) fn measure(rt: &(impl Clock + Print), rounds: u32) -> io::Result<bool> {
     let narrow = schedule_of(CipherKey::from_128(*b"chicken teriyaki"));
     let wide = schedule_of(CipherKey::from_256(*b"chicken teriyaki and wonton soup"));
-    let measured = measure(rt, &narrow, &wide, rounds);
+    let best = best_of(rt, &narrow, &wide, rounds);
     end(narrow);
     end(wide);
-    print(rt, &measured?)
-}
-
-fn main(rt: HostRuntime) -> io::Result<ExitCode> {
-    let Some(word) = env::args(&rt)?.nth(1) else {
-        return Ok(ExitCode::SUCCESS);
-    };
-    let Ok(rounds) = word.parse() else {
-        eprintln!(&rt; "usage: krb_aes_bench ROUNDS")?;
-        return Ok(ExitCode::from(2));
-    };
-    run(&rt, rounds)?;
-    Ok(ExitCode::SUCCESS)
+    print(rt, &best?)?;
+    Ok(true)
 }

@@ -1,31 +1,20 @@
-//! Times the relay on threads beside the stepped one, over the same lanes.
+//! The relay on threads beside the stepped one, over the same lanes.
 //!
-//! `krb_relay_bench ROUNDS SENDERS TEXTS BYTES CAPACITY` relays TEXTS texts of BYTES bytes from
-//! each of SENDERS senders (KRB-PRIV under encryption type 18) by `Stepped` and by `relay`, in
-//! turn, and prints how many texts a second each relays, the best of that many rounds, and what
-//! part of the stepped relay's time `relay` takes. Each text goes alone; with further arguments
-//! `BATCH ..` it does so once for each of them, and at most BATCH texts go together.
-//! `krb_relay_bench soak N` relays one job of two senders with five texts of 64 bytes each by
-//! `relay` and then N more like it, and prints how many a second, and of how many the log isn't
-//! that of the first. It ends with 1 where a relay didn't end well or a log differs. With no
-//! argument it does nothing.
-#![tactic(auto)]
+//! Texts of as many bytes go from each sender (KRB-PRIV under encryption type 18) by `Stepped` and by
+//! `relay`, in turn; printed is how many texts a second each relays, and what part of the stepped
+//! relay's time `relay` takes.
 
 mod lanes;
-mod relays;
+mod runs;
 
-use lanes::Size;
-use relays::{is_same, run_stepped, run_threads};
+use crate::rate::rate;
+pub(crate) use lanes::Size;
+use runs::{is_same, run_stepped, run_threads};
 use std::alloc::Global;
-use std::process::ExitCode;
+use std::io;
 use std::sync::Wait;
 use std::thread::Threads;
 use std::time::{Clock, Instant};
-use std::{env, io};
-
-/// What is said of other arguments.
-const USAGE: &str =
-    "krb_relay_bench ROUNDS SENDERS TEXTS BYTES CAPACITY [BATCH ..], or krb_relay_bench soak N";
 
 /// The best times of both relays, in microseconds, and whether each ended well.
 #[derive(Clone, Copy)]
@@ -58,11 +47,6 @@ fn best_of(
     Ok(best)
 }
 
-/// How many a second, where so many take so many microseconds.
-fn rate(count: u128, micros: u128) -> u128 {
-    count.saturating_mul(1_000_000) / micros.max(1)
-}
-
 /// Times both relays.
 fn compare(
     rt: &(impl Threads + Wait + Sync + Clock + Print + Alloc<A = Global>),
@@ -80,8 +64,9 @@ fn compare(
     Ok(best.whole)
 }
 
-/// Times both relays once for each of these batches, or where there is none, with each text alone.
-fn compare_all(
+/// Times both relays once for each of these batches, so many texts of which go together at most, or
+/// where there is none, with each text alone. Says whether each relay ended well.
+pub(crate) fn measure(
     rt: &(impl Threads + Wait + Sync + Clock + Print + Alloc<A = Global>),
     rounds: u32,
     size: Size,
@@ -101,8 +86,9 @@ fn compare_all(
     Ok(whole)
 }
 
-/// Relays a small job and then so many more like it, and compares each log with the first.
-fn soak(
+/// Relays a small job by `relay` and then so many more like it, prints how many a second, and of how
+/// many the log isn't that of the first, and says whether there was none.
+pub(crate) fn soak(
     rt: &(impl Threads + Wait + Sync + Clock + Print + Alloc<A = Global>),
     jobs: u32,
 ) -> io::Result<bool> {
@@ -128,39 +114,4 @@ fn soak(
     let speed = rate(u128::from(jobs), start.elapsed(rt)?.as_micros());
     println!(rt; "{jobs} jobs, {speed} a second, {different} other logs")?;
     Ok(different == 0)
-}
-
-fn exit_code(whole: bool) -> ExitCode {
-    if whole {
-        ExitCode::SUCCESS
-    } else {
-        ExitCode::FAILURE
-    }
-}
-
-fn main(rt: HostRuntime) -> io::Result<ExitCode> {
-    let words: Vec<String> = env::args(&rt)?.collect(rt.alloc())?;
-    let numbers: Vec<u32> = words
-        .iter()
-        .skip(1)
-        .filter_map(|word| word.parse().ok())
-        .collect(rt.alloc())?;
-    match (words.len(), numbers.as_slice()) {
-        (0 | 1, _) => Ok(ExitCode::SUCCESS),
-        (_, [jobs]) => Ok(exit_code(soak(&rt, *jobs)?)),
-        (_, [rounds, senders, texts, bytes, capacity, batches @ ..]) => {
-            let size = Size {
-                senders: *senders as usize,
-                texts: *texts as usize,
-                bytes: *bytes as usize,
-                batch: 1,
-                capacity: *capacity as usize,
-            };
-            Ok(exit_code(compare_all(&rt, *rounds, size, batches)?))
-        }
-        _ => {
-            println!(&rt; "{USAGE}")?;
-            Ok(ExitCode::from(2))
-        }
-    }
 }
