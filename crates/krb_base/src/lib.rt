@@ -1,10 +1,10 @@
 //! Words that several crates of the relay speak of: byte strings on the heap, prefixes of lists,
 //! the lane as a state machine, and the limits of texts and messages.
 //!
-//! ```rust crates/krb_base/src/tests.rt
+//! ```rust crates/krb_seal_tests/src/base.rt
 //! let bytes = Bytes::new(vec![in rt.alloc(); 0x68, 0x69]?);
-//! assert_eq!(rt; bytes.as_slice(), b"hi".as_slice());
-//! assert_eq!(rt; bytes.into_vec().as_slice(), b"hi".as_slice());
+//! assert_same(&rt, bytes.as_slice(), b"hi".as_slice());
+//! assert_same(&rt, bytes.into_vec().as_slice(), b"hi".as_slice());
 //! ```
 #![tactic(auto)]
 
@@ -21,6 +21,3 @@ pub use limits::{
     limit_laws,
 };
 pub use prefix::prefix_laws;
-
-#[cfg(test)]
-mod tests;

@@ -6,9 +6,9 @@
 //! spelling and each spelling one batch. [`group_end`] says how many of a sender's texts go
 //! together, and [`group_laws`] what the groups of all of them are.
 //!
-//! ```rust crates/krb_batch/src/tests.rt
+//! ```rust crates/krb_seal_tests/src/batch.rt
 //! let texts = read_batch(rt.alloc(), b"\x42\0\0\0\x01\x61\0\0\0\x01\x62")?;
-//! assert_eq!(rt; texts.as_slice().len(), 2);
+//! assert_same(&rt, texts.as_slice().len(), 2);
 //! ```
 #![tactic(auto)]
 
@@ -19,6 +19,3 @@ mod texts;
 pub use batch::{BatchError, batch_bytes, batch_laws, read_batch};
 pub use groups::{group_end, group_laws};
 pub use texts::Texts;
-
-#[cfg(test)]
-mod tests;

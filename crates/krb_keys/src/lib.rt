@@ -1,6 +1,6 @@
 //! n-fold, HMAC-SHA1 and key derivation, as Kerberos uses them (RFC 3961, 3962 and 2104).
 //!
-//! ```rust crates/krb_keys/src/tests.rt
+//! ```rust crates/krb_seal_tests/src/keys.rt
 //! let mut mac = MacKey::new(key);
 //! let first = mac.hmac_sha1(&[data]);
 //! let second = mac.hmac_sha1(&[&[], data, &[]]);
@@ -16,8 +16,6 @@ mod equality;
 mod fold;
 mod hmac;
 mod mac_key;
-#[cfg(test)]
-mod tests;
 
 pub use derivation::{CHECKSUM_TAIL, ENCRYPTION_TAIL, INTEGRITY_TAIL, derive};
 pub use equality::mac_equal;

@@ -3,11 +3,11 @@
 //! [`lane`] makes both ends, which may stand in two threads. Where both came to rest, [`meet`]
 //! brings them together, and then what was got is what was sent.
 //!
-//! ```rust crates/krb_lane/src/tests.rt
+//! ```rust crates/krb_relay_tests/src/lane.rt
 //! let (mut tx, mut rx) = lane(&rt, alloc, 2)?;
 //! tx.send(&rt, [0x61].to_vec(alloc)?)?;
 //! tx.send(&rt, [0x62].to_vec(alloc)?)?;
-//! assert_eq!(rt; tx.count(), 2);
+//! assert_same(&rt, tx.count(), 2);
 //! assert!(rt; next_is(&rt, &mut rx, 0, 0x61));
 //! assert!(rt; next_is(&rt, &mut rx, 1, 0x62));
 //! let Ok(sent) = tx.end(&rt) else {
@@ -15,9 +15,9 @@
 //! };
 //! assert!(rt; next_is_end(&rt, &mut rx));
 //! assert!(rt; next_is_end(&rt, &mut rx));
-//! assert_eq!(rt; (sent.count(), rx.count()), (2, 2));
+//! assert_same(&rt, (sent.count(), rx.count()), (2, 2));
 //! let met = meet(sent, rx);
-//! assert_eq!(rt; (met.sent, met.got), (2, 2));
+//! assert_same(&rt, (met.sent, met.got), (2, 2));
 //! ```
 //!
 //! Only `send`, `end` and `take` may wait. A call that answers `Err` has changed nothing.
@@ -40,6 +40,3 @@ pub use receiving::{LaneRx, Lost};
 pub use rule::every_step;
 pub use sending::LaneTx;
 pub use sent::SentAll;
-
-#[cfg(test)]
-mod tests;

@@ -8,12 +8,23 @@ ghost use Rattle.krb_peers.specs.Sending.{source_of, IsSender};
 use krb_base::{BATCH_LIMIT, Bytes, LAST_NUMBER, TEXT_LIMIT};
 use krb_peers::{Receiving, Sending};
 use krb_seal::Sealer;
-use std::fmt::Debug;
+use std::alloc::Global;
+use std::fmt::{Debug, Display};
 use std::process::Abort;
 
 /// Asserts that two values are the same, and prints both where they aren't.
 pub(crate) fn assert_same<T: PartialEq + Debug + Drop>(rt: &impl Abort, left: T, right: T) {
     assert_eq!(rt; left, right);
+}
+
+/// Asserts that a value is displayed in these words.
+pub(crate) fn assert_displayed<T: Display + Drop>(
+    rt: &(impl Abort + Alloc<A = Global>),
+    value: T,
+    words: &str,
+) {
+    let text = format!(in rt.alloc(); "{value}").expect(rt, "memory");
+    assert_same(rt, text.as_str(), words);
 }
 
 fn are_short(texts: &[Bytes]) -> bool

@@ -1,4 +1,4 @@
-//! Tests of both relays, and of the senders, receivers and logs that they are made of.
+//! Tests of the lane, of both relays, and of the senders, receivers and logs that these are made of.
 //!
 //! `stepped` tests the relay of `krb_core`, which one thread steps, and `threads` that of
 //! `krb_relay`, which has a worker for each sender. This crate has no public item.
@@ -6,6 +6,8 @@
 
 #[cfg(test)]
 mod asserts;
+#[cfg(test)]
+mod lane;
 #[cfg(test)]
 mod log_lines;
 #[cfg(test)]

@@ -1,10 +1,13 @@
+//! A lane in one thread and between two, and where either end is gone.
+
 ghost use Rattle.std.specs.Prelude.{◌≡◌, ◌<◌, ◌≤◌};
 
 mod passing;
 mod sweep;
 
-use crate::{Item, LaneError, LaneRx, Lost, lane, meet};
+use crate::asserts::{assert_displayed, assert_same};
 use krb_base::Bytes;
+use krb_lane::{Item, LaneError, LaneRx, Lost, lane, meet};
 use passing::pass_on;
 use std::alloc::Global;
 use std::process::Abort;
@@ -40,7 +43,7 @@ fn frames_come_in_order_and_then_end(rt: HostRuntime) -> Result<(), Fail> {
     let (mut tx, mut rx) = lane(&rt, alloc, 2)?;
     tx.send(&rt, [0x61].to_vec(alloc)?)?;
     tx.send(&rt, [0x62].to_vec(alloc)?)?;
-    assert_eq!(rt; tx.count(), 2);
+    assert_same(&rt, tx.count(), 2);
     assert!(rt; next_is(&rt, &mut rx, 0, 0x61));
     assert!(rt; next_is(&rt, &mut rx, 1, 0x62));
     let Ok(sent) = tx.end(&rt) else {
@@ -48,9 +51,9 @@ fn frames_come_in_order_and_then_end(rt: HostRuntime) -> Result<(), Fail> {
     };
     assert!(rt; next_is_end(&rt, &mut rx));
     assert!(rt; next_is_end(&rt, &mut rx));
-    assert_eq!(rt; (sent.count(), rx.count()), (2, 2));
+    assert_same(&rt, (sent.count(), rx.count()), (2, 2));
     let met = meet(sent, rx);
-    assert_eq!(rt; (met.sent, met.got), (2, 2));
+    assert_same(&rt, (met.sent, met.got), (2, 2));
     Ok(())
 }
 
@@ -62,14 +65,14 @@ fn what_was_sent_comes_back_where_the_receiver_is_gone(rt: HostRuntime) -> Resul
     drop(rx);
     match tx.send(&rt, [0x61].to_vec(alloc)?) {
         Ok(()) => return Err(Fail::from("sent")),
-        Err(back) => assert_eq!(rt; back.as_slice(), [0x61].as_slice()),
+        Err(back) => assert_same(&rt, back.as_slice(), [0x61].as_slice()),
     }
-    assert_eq!(rt; tx.count(), 1);
+    assert_same(&rt, tx.count(), 1);
     match tx.end(&rt) {
         Ok(_) => Err(Fail::from("ended")),
         Err(tx) => {
-            assert_eq!(rt; tx.count(), 1);
-            assert_eq!(rt; tx.stop().count(), 1);
+            assert_same(&rt, tx.count(), 1);
+            assert_same(&rt, tx.stop().count(), 1);
             Ok(())
         }
     }
@@ -85,7 +88,7 @@ fn longest_raw_frame_comes_back_whole(rt: HostRuntime) -> Result<(), Fail> {
         Ok(()) => Err(Fail::from("sent")),
         Err(back) => {
             assert!(rt; back.as_slice() == expected.as_slice());
-            assert_eq!(rt; tx.count(), 0);
+            assert_same(&rt, tx.count(), 0);
             Ok(())
         }
     }
@@ -100,7 +103,7 @@ fn lost_follows_the_frames_where_the_sender_is_gone(rt: HostRuntime) -> Result<(
     assert!(rt; next_is(&rt, &mut rx, 0, 0x61));
     assert!(rt; rx.take(&rt).is_err());
     assert!(rt; rx.take(&rt).is_err());
-    assert_eq!(rt; rx.count(), 1);
+    assert_same(&rt, rx.count(), 1);
     Ok(())
 }
 
@@ -112,7 +115,7 @@ fn what_is_queued_was_sent_and_not_got(rt: HostRuntime) -> Result<(), Fail> {
     tx.send(&rt, [0x62].to_vec(alloc)?)?;
     assert!(rt; next_is(&rt, &mut rx, 0, 0x61));
     let met = meet(tx.stop(), rx);
-    assert_eq!(rt; (met.sent, met.got), (2, 1));
+    assert_same(&rt, (met.sent, met.got), (2, 1));
     Ok(())
 }
 
@@ -132,13 +135,13 @@ fn pass_ten_thousand<R: Abort + Threads + Wait + Sync>(
     let Ok((got, met)) = pass_on(rt, alloc, capacity, frames) else {
         return Err(Fail::from("a fault"));
     };
-    assert_eq!(rt; got.len(), 10_000);
+    assert_same(rt, got.len(), 10_000);
     let mut expected = 0u64;
     for bytes in &got {
-        assert_eq!(rt; bytes.as_slice(), expected.to_be_bytes().as_slice());
+        assert_same(rt, bytes.as_slice(), expected.to_be_bytes().as_slice());
         expected = expected.wrapping_add(1);
     }
-    assert_eq!(rt; (met.sent, met.got), (10_000, 10_000));
+    assert_same(rt, (met.sent, met.got), (10_000, 10_000));
     Ok(())
 }
 
@@ -151,15 +154,9 @@ fn ten_thousand_frames_pass_between_two_threads(rt: HostRuntime) -> Result<(), F
 }
 
 #[test]
-fn errors_have_numbers_and_words(rt: HostRuntime) -> Result<(), Fail> {
-    let alloc = rt.alloc();
-    let memory = LaneError::Memory;
-    assert_eq!(rt; memory.code(), 1);
-    assert_eq!(rt; format!(in alloc; "{memory}")?.as_str(), "out of memory");
-    assert_eq!(rt; Lost.code(), 1);
-    assert_eq!(rt;
-        format!(in alloc; "{Lost}")?.as_str(),
-        "the sending end is gone, and sent no End"
-    );
-    Ok(())
+fn errors_have_numbers_and_words(rt: HostRuntime) {
+    assert_same(&rt, LaneError::Memory.code(), 1);
+    assert_displayed(&rt, LaneError::Memory, "out of memory");
+    assert_same(&rt, Lost.code(), 1);
+    assert_displayed(&rt, Lost, "the sending end is gone, and sent no End");
 }

@@ -5,7 +5,8 @@
 ghost use Rattle.std.specs.Prelude.{◌≡◌, []};
 
 use super::{next_is, next_is_end};
-use crate::{LaneError, LaneRx, LaneTx, lane, meet};
+use crate::asserts::assert_same;
+use krb_lane::{LaneError, LaneRx, LaneTx, lane, meet};
 use std::process::Abort;
 use std::sync::Wait;
 use std::test::Fail;
@@ -34,7 +35,7 @@ fn assert_passes(
     };
     assert!(rt; next_is_end(rt, &mut rx));
     let met = meet(sent, rx);
-    assert_eq!(rt; (met.sent, met.got), (2, 2));
+    assert_same(rt, (met.sent, met.got), (2, 2));
     Ok(())
 }
 

@@ -1,9 +1,9 @@
-// How two threads use a lane: a worker of a scope sends a list and promises what it sent, the
-// calling thread takes up to End, and `meet` proves that the lists are equal.
+//! How two threads use a lane: a worker of a scope sends a list and promises what it sent, the
+//! calling thread takes up to End, and `meet` proves that the lists are equal.
 ghost use Rattle.std.specs.Prelude.{◌≡◌, ◌<◌, ◌≤◌, ◌+◌, ◌^◌, ◌++◌, [], true, length, IfOk};
 
-use crate::{Item, LaneRx, LaneTx, Met, SentAll, lane, meet};
 use krb_base::Bytes;
+use krb_lane::{Item, LaneRx, LaneTx, Met, SentAll, lane, meet};
 use std::alloc::Global;
 use std::snapshot::Snapshot;
 use std::sync::Wait;
