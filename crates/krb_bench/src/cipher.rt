@@ -56,7 +56,7 @@ impl Best {
 
 // The time that enciphering takes, in microseconds.
 fn encrypt_time(
-    rt: &(impl Clock + Print),
+    rt: &impl Clock,
     schedule: &Schedule,
     text: &mut [u8; 16384],
 ) -> io::Result<u128> {
@@ -67,7 +67,7 @@ fn encrypt_time(
 
 // The time that deciphering takes, in microseconds.
 fn decrypt_time(
-    rt: &(impl Clock + Print),
+    rt: &impl Clock,
     schedule: &Schedule,
     text: &mut [u8; 16384],
 ) -> io::Result<u128> {
@@ -78,7 +78,7 @@ fn decrypt_time(
 
 // The best of `rounds` runs of each kind, in turn.
 fn best_of(
-    rt: &(impl Clock + Print),
+    rt: &impl Clock,
     narrow: &Schedule,
     wide: &Schedule,
     rounds: u32,
@@ -100,7 +100,7 @@ fn speed(micros: u128) -> u128 {
     bytes * 1000 / micros.max(1)
 }
 
-fn print(rt: &(impl Clock + Print), best: &Best) -> io::Result<()> {
+fn print(rt: &impl Print, best: &Best) -> io::Result<()> {
     println!(rt; "encrypt aes-128 {}", speed(best.encrypt_128))?;
     println!(rt; "decrypt aes-128 {}", speed(best.decrypt_128))?;
     println!(rt; "encrypt aes-256 {}", speed(best.encrypt_256))?;

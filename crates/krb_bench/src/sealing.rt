@@ -31,7 +31,7 @@ struct Best {
 
 /// One run.
 fn run_once<S: Sealer>(
-    rt: &(impl Clock + Print + Alloc<A = Global>),
+    rt: &(impl Clock + Alloc<A = Global>),
     sealer: &mut S,
     opener: &Opener,
     data: &[u8],
@@ -61,7 +61,7 @@ fn run_once<S: Sealer>(
 
 /// The best of so many runs.
 fn best_of<S: Sealer>(
-    rt: &(impl Clock + Print + Alloc<A = Global>),
+    rt: &(impl Clock + Alloc<A = Global>),
     sealer: &mut S,
     opener: &Opener,
     size: usize,

@@ -1,5 +1,6 @@
 //! How two threads use a lane: a worker of a scope sends a list and promises what it sent, the
 //! calling thread takes up to End, and `meet` proves that the lists are equal.
+
 ghost use Rattle.std.specs.Prelude.{◌≡◌, ◌<◌, ◌≤◌, ◌+◌, ◌^◌, ◌++◌, [], true, length, IfOk};
 
 use krb_base::Bytes;
