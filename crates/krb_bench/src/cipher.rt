@@ -55,34 +55,21 @@ impl Best {
 }
 
 // The time that enciphering takes, in microseconds.
-fn encrypt_time(
-    rt: &impl Clock,
-    schedule: &Schedule,
-    text: &mut [u8; 16384],
-) -> io::Result<u128> {
+fn encrypt_time(rt: &impl Clock, schedule: &Schedule, text: &mut [u8; 16384]) -> io::Result<u128> {
     let start = Instant::now(rt)?;
     encrypt_often(schedule, text);
     Ok(start.elapsed(rt)?.as_micros())
 }
 
 // The time that deciphering takes, in microseconds.
-fn decrypt_time(
-    rt: &impl Clock,
-    schedule: &Schedule,
-    text: &mut [u8; 16384],
-) -> io::Result<u128> {
+fn decrypt_time(rt: &impl Clock, schedule: &Schedule, text: &mut [u8; 16384]) -> io::Result<u128> {
     let start = Instant::now(rt)?;
     decrypt_often(schedule, text);
     Ok(start.elapsed(rt)?.as_micros())
 }
 
 // The best of `rounds` runs of each kind, in turn.
-fn best_of(
-    rt: &impl Clock,
-    narrow: &Schedule,
-    wide: &Schedule,
-    rounds: u32,
-) -> io::Result<Best> {
+fn best_of(rt: &impl Clock, narrow: &Schedule, wide: &Schedule, rounds: u32) -> io::Result<Best> {
     let mut text = [7u8; 16384];
     let mut best = Best::none_yet();
     for _ in 0..rounds {
