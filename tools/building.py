@@ -35,6 +35,17 @@ def krbrelay():
     return KRBRELAY
 
 
+def bench():
+    """The program of the benchmarks, which is proved and built before where that is needed."""
+    program = program_of("krb_bench")
+    if not is_built("krb_bench", program):
+        built_from = digest_of("krb_bench")
+        subprocess.run(["rt", "run"], cwd=folder_of("krb_bench"), check=True,
+                       stdin=subprocess.DEVNULL, stdout=subprocess.DEVNULL)
+        note(program, built_from)
+    return program
+
+
 def c_compiler():
     """The words that start the C compiler: those of the variable CC, else cc or gcc."""
     return shlex.split(os.environ.get("CC", "")) or ["cc" if shutil.which("cc") else "gcc"]
