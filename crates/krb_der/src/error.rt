@@ -1,6 +1,6 @@
-ghost use Rattle.std.specs.Prelude.{◌≡◌};
+ghost use Rattle.std.specs.Prelude.{◌≡◌, Some};
 ghost use Rattle.krb_der.specs.declared.error.DerError.TheVariants.{Memory};
-ghost use Rattle.krb_der.specs.Error.{error_code};
+ghost use Rattle.krb_der.specs.Error.{error_code, error_words};
 
 use std::alloc::{AllocError, AllocFailed};
 use std::error::Error;
@@ -31,6 +31,8 @@ impl DerError {
 }
 
 impl fmt::Display for DerError {
+    ghost output = { λ error. Some (error_words error) };
+
     fn fmt<W: fmt::Write>(&self, f: &mut fmt::Formatter<W>) -> fmt::Result {
         match self {
             DerError::TooLong => write!(f, "longer than a message may be"),
