@@ -189,16 +189,23 @@ impl<S: Sealer> Sending<S> {
 
     /// Seals all records, the close last.
     ///
-    /// The errors are those of [`seal_record`](Sending::seal_record); the first ends it.
+    /// The errors are those of [`seal_record`](Sending::seal_record); the first ends it, behind the
+    /// frames that were sealed until then.
     pub fn seal_all(&mut self, alloc: Global) -> Result<Vec<Vec<u8>>, SealError>
         requires { IsSender (source_of S.state self.old) }
         ensures frames { IfOk result (λ frames. AreFrames (source_of S.state self.old)
             (records (source_of S.state self.old)) (contents frames.items)) }
         ensures bytes { IfOk result (λ frames. AllBytes (contents frames.items)) }
+        ensures behind { OnOk result (source_of S.state self.new ≡ behind
+            (length (records (source_of S.state self.old))) (source_of S.state self.old)) }
         ensures wiped { (S.state self.old.sealer).wiped ≡ true → IsErr result }
         ensures errors { IfErr result (λ e.
             ((e ≡ SealError.Wiped) × ((S.state self.old.sealer).wiped ≡ true))
             ⊎ (e ≡ SealError.Memory)) }
+        ensures texts { self.new.texts ≡ self.old.texts }
+        ensures batch { self.new.batch ≡ self.old.batch }
+        ensures ats { self.new.ats ≡ self.old.ats }
+        ensures plan { self.new.plan ≡ self.old.plan }
     {
         let count = self.records();
         let mut frames = Vec::with_capacity(alloc, count)?;

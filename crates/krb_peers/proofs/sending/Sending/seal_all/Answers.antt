@@ -22,6 +22,10 @@ loop-k-preserved g c =
           let still : (g.S.Sealer.state c.loop-k.self.sealer).wiped ≡ true = ap (λ s. s.sealer.wiped) c.loop-k.invariant.sealed.state ∙ wiped in
           let failed : IsErr c.seal_record.result = c.seal_record.ensures.wiped still in
           absurd (search rules);
+      texts = c.seal_record.ensures.texts ∙ c.loop-k.invariant.texts;
+      batch = c.seal_record.ensures.batch ∙ c.loop-k.invariant.batch;
+      ats = c.seal_record.ensures.ats ∙ c.loop-k.invariant.ats;
+      plan = c.seal_record.ensures.plan ∙ c.loop-k.invariant.plan;
     }
 
 pub returns-clause-wiped : goal.returns-clause-wiped

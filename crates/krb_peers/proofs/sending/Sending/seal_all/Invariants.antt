@@ -11,4 +11,8 @@ invariant-loop-k g l = record {
   sealed : HasSealed (source_of g.S.Sealer.state l.fn.self) l.k (contents l.frames.items) (source_of g.S.Sealer.state l.self);
   bytes : AllBytes (contents l.frames.items);
   none_if_wiped : (g.S.Sealer.state l.fn.self.sealer).wiped ≡ true → l.k ≡ 0;
+  texts : l.self.texts ≡ l.fn.self.texts;
+  batch : l.self.batch ≡ l.fn.self.batch;
+  ats : l.self.ats ≡ l.fn.self.ats;
+  plan : l.self.plan ≡ l.fn.self.plan;
 }
