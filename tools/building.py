@@ -1,13 +1,16 @@
-"""Which programs lie built in crates/NAME/out, and from which sources; and the C compiler.
+"""Which programs are built in crates/NAME/out, and from which sources; and the C compiler.
 
-Beside each program that a tool has had proved and built stands a file that tells the digest of the
-sources and of the program: where both are still the same, it isn't built again.
+Beside each program that a tool has had proved and built is a file with the digest of the sources
+and of the program: while both are the same, it isn't built again. A program that was built without
+its proofs has no such file (tools/unproved.py): nothing here takes it for a proved one.
 """
+import filecmp
 import hashlib
 import os
 import shlex
 import shutil
 import subprocess
+import sys
 
 TOP = os.path.dirname(os.path.dirname(os.path.realpath(__file__)))
 
@@ -28,22 +31,34 @@ def tests_of(crate):
 KRBRELAY = program_of("krbrelay")
 
 
-def krbrelay():
-    """The program, which is proved and built before where that is needed."""
-    subprocess.run([os.path.join(TOP, "tools", "krbrelay"), "--version"], check=True,
-                   stdin=subprocess.DEVNULL, stdout=subprocess.DEVNULL)
-    return KRBRELAY
+def krbrelay(program=None):
+    """The program, which is proved and built first if needed; or the one that is named."""
+    return proved("krbrelay", program)
 
 
-def bench():
-    """The program of the benchmarks, which is proved and built before where that is needed."""
-    program = program_of("krb_bench")
-    if not is_built("krb_bench", program):
-        built_from = digest_of("krb_bench")
-        subprocess.run(["rt", "run"], cwd=folder_of("krb_bench"), check=True,
-                       stdin=subprocess.DEVNULL, stdout=subprocess.DEVNULL)
-        note(program, built_from)
+def bench(program=None):
+    """The program of the benchmarks, likewise."""
+    return proved("krb_bench", program)
+
+
+def proved(crate, program=None):
+    """A program of the crate that is proved. Without a name it is proved and built first if needed;
+    a named one has to be the same, byte for byte, or the tool ends."""
+    if program is None:
+        prover = [sys.executable, os.path.join(TOP, "tools", "proving.py"), crate]
+        if subprocess.run(prover, check=False, stdin=subprocess.DEVNULL).returncode:
+            sys.exit(f"there is no proved program {crate}")
+        return program_of(crate)
+    if not is_proved(crate, program):
+        sys.exit(f"{program} isn't the program {crate} that was proved from these sources")
     return program
+
+
+def is_proved(crate, program):
+    """Whether a file is the program of the crate that was proved and built from these sources."""
+    ours = program_of(crate)
+    return (is_built(crate, ours) and os.path.exists(program)
+            and filecmp.cmp(ours, program, shallow=False))
 
 
 def c_compiler():

@@ -1,0 +1,144 @@
+"""The program as the kit builds it without its proofs (`rt try`), for a first answer in a minute.
+
+It is out/unproved/krbrelay, in a folder of its own, with a file that tells from which sources and
+by which kit: in that file the first word is `unproved`, and it has another name than that of a
+proved program, so nothing that asks for a proved program finds it (tools/building.py).
+
+`rt try` builds the program in a temporary folder, runs it there with the checks of a compiler, and
+removes the folder. While it works, this module gives the program a second name outside of it. If
+that can't be, each answer is one of `rt try`.
+"""
+import os
+import shutil
+import subprocess
+import sys
+import tempfile
+import time
+
+import building
+
+FOLDER = os.path.join(building.TOP, "out", "unproved")
+PROGRAM = os.path.join(FOLDER, "krbrelay")
+STAMP = PROGRAM + ".unproved_from"
+LOG = os.path.join(FOLDER, "krbrelay.log")
+TRY = ["rt", "try"]
+NOT_KEPT = "the kit's program wasn't kept"
+
+
+def say(text):
+    print(text, file=sys.stderr, flush=True)
+
+
+def kit():
+    return subprocess.run(["rt", "version"], check=True, stdin=subprocess.DEVNULL,
+                          stdout=subprocess.PIPE, text=True).stdout.strip()
+
+
+# ---- the file that tells what it was built from
+
+def stamp():
+    """What the file tells of a program that is kept, or of the fact that none could be."""
+    kept = building.digest([PROGRAM]) if os.path.exists(PROGRAM) else NOT_KEPT
+    return f"unproved {building.digest_of('krbrelay')} {kit()}\n{kept}\n"
+
+
+def is_known():
+    """Whether these sources were tried by this kit, and what is kept is what was built."""
+    try:
+        with open(STAMP, encoding="utf-8") as file:
+            return file.read() == stamp()
+    except FileNotFoundError:
+        return False
+
+
+def note():
+    with open(STAMP, "w", encoding="utf-8") as file:
+        file.write(stamp())
+
+
+# ---- building
+
+def link_programs(room, links):
+    """Gives each program that lies in the room now a second name, once."""
+    for folder, _, names in os.walk(room):
+        for name in names:
+            if name.startswith("program") and folder != room:
+                link(os.path.join(folder, name), room, links)
+
+
+def link(path, room, links):
+    try:
+        number = os.stat(path).st_ino
+        if number not in links:
+            os.link(path, os.path.join(room, f"kept{number}"))
+            links[number] = os.path.join(room, f"kept{number}")
+    except OSError:     # It went, or the file system has no second names.
+        pass
+
+
+def is_whole(program):
+    """Whether a file is the program, to its end."""
+    try:
+        ran = subprocess.run([program, "--version"], stdin=subprocess.DEVNULL, check=False,
+                             capture_output=True, timeout=60)
+    except (OSError, subprocess.TimeoutExpired):
+        return False
+    return ran.returncode == 0 and ran.stdout.startswith(b"krbrelay ")
+
+
+def build():
+    """Builds the program, keeps it if that can be, and notes it. Answers the exit status."""
+    os.makedirs(FOLDER, exist_ok=True)
+    say("no krbrelay is proved from these sources yet: one is being built without its proofs,"
+        " which takes a minute or two")
+    with tempfile.TemporaryDirectory(dir=FOLDER) as room, open(LOG, "wb") as log:
+        links = {}
+        ran = subprocess.Popen([*TRY, "--", "--version"], stdin=subprocess.DEVNULL, stdout=log,
+                               stderr=subprocess.STDOUT, cwd=building.folder_of("krbrelay"),
+                               env={**os.environ, "TMPDIR": room})
+        try:
+            while ran.poll() is None:
+                link_programs(room, links)
+                time.sleep(0.01)
+        finally:
+            ran.terminate()
+            ran.wait()
+        if ran.returncode:
+            return ran.returncode
+        keep(next(filter(is_whole, links.values()), None))
+    note()
+    return 0
+
+
+def keep(path):
+    """Has this file in the place of what was kept before, or no file."""
+    if path is not None:
+        os.chmod(path, 0o755)
+        os.replace(path, PROGRAM)
+    elif os.path.exists(PROGRAM):
+        os.remove(PROGRAM)
+
+
+def fail():
+    with open(LOG, encoding="utf-8", errors="replace") as log:
+        say("".join(log.readlines()[-20:]).rstrip())
+    say(f"krbrelay can't be built: the whole output is in {os.path.relpath(LOG)}")
+    return 1
+
+
+# ---- running
+
+def run(words):
+    """Runs the program with these words. Answers its exit status, after a last line on standard
+    error which says that it isn't proved."""
+    if shutil.which("rt") is None:
+        say("krbrelay can't be built: there is no command rt, which is the kit's")
+        return 1
+    if not is_known() and build():
+        return fail()
+    folder = None if os.path.exists(PROGRAM) else building.folder_of("krbrelay")
+    command = [PROGRAM] if folder is None else [*TRY, "--"]
+    status = subprocess.run([*command, *words], cwd=folder, check=False).returncode
+    say("This answer is one of a program that was built without its proofs: tools/test, or"
+        " tools/krbrelay --prove, proves it.")
+    return status if status >= 0 else 128 - status
