@@ -1,5 +1,6 @@
 /* Each allocation refused in turn: a call answers want of memory and leaves its handle usable, and
- * the next call succeeds. Built with -Wl,--wrap=malloc -Wl,--wrap=realloc. */
+ * the next call succeeds. And a KRB-PRIV message takes all its memory at once, so no block that held
+ * a text in the clear is left behind. Built with -Wl,--wrap=malloc -Wl,--wrap=realloc. */
 #include "check.h"
 #include "krbrelay.h"
 #include "session.h"
@@ -10,12 +11,19 @@
 /* How many allocations come before the one that is refused; below 0 none is. */
 static long before_refusal = -1;
 
+/* How many allocations were asked for. */
+static long asked;
+
 void *__real_malloc(size_t size);
 void *__real_realloc(void *block, size_t size);
 void *__wrap_malloc(size_t size);
 void *__wrap_realloc(void *block, size_t size);
 
-static int is_refused(void) { return before_refusal >= 0 && before_refusal-- == 0; }
+static int is_refused(void)
+{
+    asked++;
+    return before_refusal >= 0 && before_refusal-- == 0;
+}
 
 void *__wrap_malloc(size_t size) { return is_refused() ? NULL : __real_malloc(size); }
 
@@ -76,8 +84,27 @@ static int session_with_refusal(uint32_t mode, int etype, long at)
     return refused > met;
 }
 
+/* How many allocations sealing a KRB-PRIV message of so many bytes takes. */
+static long asked_by_seal(int etype, const uint8_t *bytes, size_t size)
+{
+    struct krb_session session = session_of(KRB_PRIV, 7);
+    struct krb_sealer s = { 0 };
+    size_t n = 0;
+    CHECK(krb_sealer_new(&s, etype, key, key_size(etype), &session) == KRB_OK);
+    long before = asked;
+    CHECK(krb_sealer_seal(&s, bytes, size, SECS, USEC, confounder, frame, sizeof frame, &n) == KRB_OK);
+    long took = asked - before;
+    krb_sealer_free(&s);
+    return took;
+}
+
 int main(void)
 {
+    static const uint8_t bytes[KRB_USER_DATA_LIMIT];
+    for (int etype = 17; etype <= 18; etype++) {
+        CHECK(asked_by_seal(etype, bytes, 1) == 1);
+        CHECK(asked_by_seal(etype, bytes, sizeof bytes) == 1);
+    }
     for (int etype = 17; etype <= 18; etype++)
         for (uint32_t mode = KRB_SAFE; mode <= KRB_PRIV; mode++) {
             long at = 0;

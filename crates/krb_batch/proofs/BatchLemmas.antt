@@ -100,9 +100,6 @@ no_batch bytes rest texts others e short is spells =
     let tails : rest ≡ flat_map text_bytes others = ap (λ l. drop 1 l) (sym e ∙ spells.1) in
     subst IsBatch (one_reading rest texts others short is tails) spells.0
 
-pub no_texts : (bytes rest : List ℕ) (others : List (List ℕ)) → bytes ≡ 0x42 ∷ rest → SpellsBatch others bytes → rest ≡ flat_map text_bytes others
-no_texts bytes rest others e spells = ap (λ l. drop 1 l) (sym e ∙ spells.1)
-
 pub no_tag : (bytes : List ℕ) (others : List (List ℕ)) → ((rest : List ℕ) → length rest ≤ batch_size_limit → bytes ≡ 0x42 ∷ rest → ⊥) → SpellsBatch others bytes → ⊥
 no_tag bytes others none spells =
     let small = spells.0.small in

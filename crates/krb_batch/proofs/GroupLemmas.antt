@@ -36,10 +36,6 @@ longest_here b texts n fits stop = (
       ],
 )
 
--- so the first group ends there
-pub first_here : (b : ℕ) (texts : List (List ℕ)) (n : ℕ) → Fits b texts n → (Fits b texts (n + 1) → ⊥) → IsFirstGroup b texts (max 1 n)
-first_here b texts n fits stop = (n, longest_here b texts n fits stop, refl)
-
 one_longest : (b : ℕ) (texts : List (List ℕ)) (m n : ℕ) → IsLongest b texts m → IsLongest b texts n → m ≡ n
 one_longest b texts m n p q =
     let le = q.1 m p.0 in

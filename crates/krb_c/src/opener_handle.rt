@@ -103,9 +103,8 @@ impl KrbOpener {
         ensures { self.new.opener ≡ Some opener.value }
     {
         let held = KrbOpener::of_parts(Parts::of(opener));
-        // A drop moves the value first, so the keys on the heap are overwritten here.
-        if let Some(mut old) = mem::replace(self, held).into_box(alloc) {
-            old.wipe();
+        if let Some(old) = mem::replace(self, held).into_box(alloc) {
+            end_held(old);
         }
     }
 
@@ -113,8 +112,19 @@ impl KrbOpener {
     pub fn clear(&mut self, alloc: Global)
         ensures { self.new.opener ≡ None }
     {
-        if let Some(mut old) = self.take(alloc) {
-            old.wipe();
+        if let Some(old) = self.take(alloc) {
+            end_held(old);
         }
     }
 }
+
+/// Ends an opener. A drop moves the value first, so its keys are overwritten on the heap before.
+fn end_held(mut held: Box<WipeableOpener>) {
+    held.wipe();
+    spend(held);
+}
+
+/// Ends an opener whose keys are overwritten.
+fn spend(_opener: Box<WipeableOpener>)
+    requires { _opener.value ≡ None }
+{}

@@ -5,7 +5,8 @@ ghost use Rattle.std.specs.Prelude.{◌≡◌, IfSome, IfNone, MatchOption, None
 use krb_seal::Opener;
 use std::marker::Model;
 
-/// An opener, until it is wiped. Contracts see nothing of one that was wiped.
+/// An opener, until it is wiped. Contracts see nothing of one that was wiped, and the key of what
+/// lies there then is zeros.
 #[derive(Drop)]
 pub struct WipeableOpener {
     opener: Opener,
@@ -18,9 +19,11 @@ impl Model for WipeableOpener {
 
     ghost Value = { Option OpenerState };
 
-    ghost use Rattle.krb_c.specs.Wipeable.{unless_wiped};
+    ghost use Rattle.krb_c.specs.Wipeable.{unless_wiped, IsOverwritten};
 
     ghost view = { λ a. unless_wiped a.wiped a.opener };
+
+    ghost invariant = { λ a. IsOverwritten a.wiped a.opener };
 }
 
 impl WipeableOpener {

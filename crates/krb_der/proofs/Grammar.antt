@@ -19,10 +19,10 @@ use Rattle.krb_der.specs.Address.{host_address, IsAddress}
 use Rattle.krb_der.specs.Body.{body_fields, body, part, IsBody}
 use Rattle.krb_der.specs.Safe.{safe_fields, safe, IsSafe}
 use Rattle.krb_der.specs.Private.{encrypted_data, private_fields, private, IsPrivate}
-use Rattle.krb_der.specs.Message.{message, IsMessage, SpellsWithin, Spells, SpellsPart, UniqueSpelling, Decodes}
+use Rattle.krb_der.specs.Message.{message, IsMessage, SpellsWithin, Spells, SpellsPart, OneSpelling, UniqueSpelling, Decodes}
 use Rattle.krb_base.specs.Limits.{frame_limit}
 use Rattle.krb_time.specs.Steps.{◌>>=◌}
-use Rattle.krb_der.specs.Reading.{alone, signed, int_of, as_int32, as_below, int32_of, below_of, int32_element_of, below_element_of, octets_of, typed_of, address_of, time_element_of, behind_of, body_of, safe_of, encrypted_of, private_of, message_of, part_of, starts_with, tagged_at, Gives}
+use Rattle.krb_der.specs.Reading.{alone, signed, int_of, as_int32, as_below, int32_of, below_of, int32_element_of, below_element_of, octets_of, typed_of, address_of, time_element_of, behind_of, body_of, safe_of, encrypted_of, private_of, message_of, part_of, starts_with, tagged_at, Gives, FindsSpelt}
 use Rattle.krb_der.proofs.Numbers.{IsBytes}
 use Rattle.krb_time.proofs.Times.{time-found, time-again}
 use Rattle.krb_time.proofs.OptionSteps.{bind_some, provided, some_is}
@@ -319,6 +319,31 @@ messages_unique = unique IsMessage message message_of message_reads messages_apa
 
 pub parts_unique : UniqueSpelling SpellsPart
 parts_unique = unique IsBody part part_of part_reads parts_apart
+
+one_spelling : {V : Type 0} (P : V → Type 0) (spell : V → List ℕ) → OneSpelling (SpellsWithin frame_limit P spell)
+one_spelling P spell v s t hs ht = hs.spelt ∙ sym ht.spelt
+
+pub one_message_spelling : OneSpelling Spells
+one_message_spelling = one_spelling IsMessage message
+
+pub one_part_spelling : OneSpelling SpellsPart
+one_part_spelling = one_spelling IsBody part
+
+-- ---- reading finds what is spelt
+
+finds : {V : Type 0} (P : V → Type 0) (spell : V → List ℕ) (of : List ℕ → Option V) → Reads P spell of → FindsSpelt (SpellsWithin frame_limit P spell) of
+finds P spell of r v bytes fits le = (
+  λ e. let h = r.found bytes v fits e in record { in_range = h.0; spelt = h.1; short = le },
+  λ s.
+      let short : length (spell v) ≤ frame_limit = subst (λ (z : List ℕ). length z ≤ frame_limit) s.spelt s.short in
+      ap of s.spelt ∙ r.again v s.in_range (omega arith),
+)
+
+pub messages_found : FindsSpelt Spells message_of
+messages_found = finds IsMessage message message_of message_reads
+
+pub parts_found : FindsSpelt SpellsPart part_of
+parts_found = finds IsBody part part_of part_reads
 
 -- ---- decoding
 

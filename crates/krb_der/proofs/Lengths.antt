@@ -88,9 +88,6 @@ long_safe_body m b h e = too_long (IsShortBody m.body) (length (safe m)) b h e (
 pub long_safe_checksum : (m : SafeMsg) (b : Bool) → (IsTrue b ↔ IsShort m.checksum) → b ≡ false → frame_limit < length (safe m)
 long_safe_checksum m b h e = too_long (IsShort m.checksum) (length (safe m)) b h e (λ le. (short_safe m le).1)
 
-pub long_priv : (m : PrivMsg) (b : Bool) → (IsTrue b ↔ IsShort m.cipher) → b ≡ false → frame_limit < length (private m)
-long_priv m b h e = too_long (IsShort m.cipher) (length (private m)) b h e (short_priv m)
-
 pub long_part : (b : Body) (t : Bool) → (IsTrue t ↔ IsShortBody b) → t ≡ false → frame_limit < length (part b)
 long_part b t h e = too_long (IsShortBody b) (length (part b)) t h e (short_part b)
 

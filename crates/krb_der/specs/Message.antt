@@ -88,7 +88,11 @@ Covers m (Err errors.TooLong) = frame_limit < length (safe_input m)
 Covers m (Err errors.Malformed) = ⊥
 Covers m (Err errors.Memory) = length (safe_input m) ≤ frame_limit
 
--- One spelling for each value, one value for each spelling, and no spelling begins another.
+-- One spelling for each value.
+abbrev pub OneSpelling : {V : Type 0} → (V → List ℕ → Type 0) → Type 0
+OneSpelling {V} Spelt = (v : V) (s t : List ℕ) → Spelt v s → Spelt v t → s ≡ t
+
+-- One value for each spelling, and no spelling begins another.
 abbrev pub UniqueSpelling : {V : Type 0} → (V → List ℕ → Type 0) → Type 0
 UniqueSpelling {V} Spelt =
     (a b : V) (s t x y : List ℕ) → Spelt a s → Spelt b t → s ++ x ≡ t ++ y → (a ≡ b) × (s ≡ t) × (x ≡ y)

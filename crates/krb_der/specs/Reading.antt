@@ -1,7 +1,8 @@
 -- Aids of the code, and no definitions of the standard: the value that bytes spell, read from left
--- to right, if they spell one. Private functions alone cite this file; a law ties it to the
--- grammar, and the contracts of `decode` and `decode_part` are in the words of Message.antt.
-use Rattle.std.specs.Prelude.{◌≡◌, ℕ, ◌+◌, ◌*◌, ◌^◌, Bool, true, false, ℤ, pos, negsuc, List, [], ◌∷◌, ◌++◌, length, get_or, take, drop, Option, Some, None, Result, Ok, Err, nat_lt, nat_eq, if◌then◌else◌}
+-- to right, if they spell one. The law `reading_laws` ties `message_of` and `part_of` to the
+-- grammar; the contracts of `decode` and `decode_part` are in the words of Message.antt.
+use Rattle.std.specs.Prelude.{◌≡◌, ℕ, ◌+◌, ◌*◌, ◌^◌, ◌<◌, ◌≤◌, ◌↔◌, Bool, true, false, ℤ, pos, negsuc, List, [], ◌∷◌, ◌++◌, length, get_or, take, drop, Option, Some, None, Result, Ok, Err, nat_lt, nat_eq, if◌then◌else◌}
+use Rattle.krb_base.specs.Limits.{frame_limit}
 use Rattle.krb_time.specs.Moment.{last_usec}
 use Rattle.krb_time.specs.Reading.{time_of}
 use Rattle.krb_time.specs.Steps.{◌>>=◌}
@@ -199,3 +200,10 @@ unfoldable pub part_of : List ℕ → Option Body
 part_of bytes = do
   content ← alone (application 28) Some bytes
   body_of content
+
+-- ---- the law that ties reading to the grammar
+
+-- Of bytes within the limit, reading finds a value if and only if they spell it.
+abbrev pub FindsSpelt : {V : Type 0} → (V → List ℕ → Type 0) → (List ℕ → Option V) → Type 0
+FindsSpelt {V} Spelt of =
+    (v : V) (bytes : List ℕ) → ((i : ℕ) → get_or bytes i 0 < 256) → length bytes ≤ frame_limit → (of bytes ≡ Some v) ↔ Spelt v bytes

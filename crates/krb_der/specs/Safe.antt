@@ -34,7 +34,7 @@ abbrev pub with_checksum : SafeMsg → ℤ → List ℕ → SafeMsg
 with_checksum m kind bytes = record m { cksum_type = kind; checksum = bytes }
 
 -- the message with checksum type 0 and an empty checksum, whose spelling is under the checksum
--- (RFC 4120 section 3.4.1)
+-- (RFC 4120 section 5.6.1)
 abbrev pub without_checksum : SafeMsg → SafeMsg
 without_checksum m = with_checksum m (pos 0) []
 

@@ -1,12 +1,23 @@
 ghost use Rattle.krb_der.specs.Earlier.{SpellsAsEarlier, PartSpellsAsEarlier};
-ghost use Rattle.krb_der.specs.Message.{Spells, SpellsPart, UniqueSpelling};
+ghost use Rattle.krb_der.specs.Message.{OneSpelling, Spells, SpellsPart, UniqueSpelling};
+ghost use Rattle.krb_der.specs.Reading.{FindsSpelt, message_of, part_of};
 ghost use Rattle.krb_der.specs.Size.{SmallPart, SmallSafe, SmallPrivate, ShorterInput};
 
 /// One spelling for each value, one value for each spelling, and no spelling begins another: of
 /// messages, and of encrypted parts.
 pub fn unique_spelling()
+    ensures one_spelling { OneSpelling Spells }
+    ensures one_part_spelling { OneSpelling SpellsPart }
     ensures messages { UniqueSpelling Spells }
     ensures parts { UniqueSpelling SpellsPart }
+{}
+
+/// Reading from left to right, as the definitions of the crates above cite it, finds the value that
+/// the bytes spell, and none where they spell nothing. This holds of bytes within the limit, for
+/// messages and for encrypted parts.
+pub fn reading_laws()
+    ensures messages { FindsSpelt Spells message_of }
+    ensures parts { FindsSpelt SpellsPart part_of }
 {}
 
 /// How long a spelling can be: tags, lengths and numbers take few bytes beside the data, the

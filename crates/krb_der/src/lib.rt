@@ -37,7 +37,7 @@ pub use krb_time::{
     LAST_SECOND, LAST_USEC, MICROS_PER_SECOND, Moment, kerberos_time,
     kerberos_time_names_its_second, read_kerberos_time,
 };
-pub use laws::{earlier_spellings, size_laws, unique_spelling};
+pub use laws::{earlier_spellings, reading_laws, size_laws, unique_spelling};
 pub use message::{Message, decode};
 pub use part::{decode_part, decode_part_from, encode_part};
 pub use private::{Draft, PrivMsg, draft_priv, encode_priv};

@@ -316,7 +316,7 @@ pub fn encode_safe(alloc: Global, m: &SafeMsg) -> Result<Vec<u8>, DerError>
 }
 
 /// The bytes under the checksum of the message: its spelling with checksum type 0 and an empty
-/// checksum (RFC 4120 section 3.4.1).
+/// checksum (RFC 4120 section 5.6.1).
 ///
 /// [`DerError::TooLong`] is answered exactly where they are over 1,005,000 bytes, before any memory
 /// is taken.

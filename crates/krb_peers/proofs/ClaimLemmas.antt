@@ -7,9 +7,10 @@ use Rattle.krb_peers.specs.Sender.{sealed_groups}
 use Rattle.krb_peers.specs.Verdicts.{events_from}
 use Rattle.krb_peers.specs.Run.{Run, IsRun}
 use Rattle.krb_peers.specs.Undisturbed.{TakesAll}
-use Rattle.krb_peers.specs.Claims.{has_ended, Headline, DeliversPrefix}
+use Rattle.krb_peers.specs.Claims.{has_ended, Headline, DeliversPrefix, DeliversWhole}
 use Rattle.krb_peers.proofs.HeadlineLemmas.{records_prefix, delivered_prefix, delivered_whole, quiet_after, refuses, refusal_nothing}
 use Rattle.krb_peers.proofs.UndisturbedLemmas.{all_texts}
+use Rattle.krb_peers.proofs.CarriedLemmas.{carried_whole}
 
 -- it follows where the log has of the lane what the verdicts of a run bring, and where the lane
 -- ends only behind all that its wire carries
@@ -30,6 +31,9 @@ headline_of run lane log is entries takes_all =
       all_where_closed = λ paired honest closed.
           ap texts_in entries ∙ delivered_whole vs (sealed_groups source) (records_prefix run is paired honest) (ap has_closed (sym entries) ∙ closed);
       all_where_undisturbed = λ calm ended. ap texts_in entries ∙ all_texts run calm (takes_all ended).fits is (takes_all ended);
+      all_where_carried = λ carried honest ended.
+          let P : List Event → Type 0 = λ es. DeliversWhole source es in
+          subst P (sym entries) (carried_whole run carried honest (takes_all ended).fits is (takes_all ended));
       refused_exactly = λ place frame refusal at. refuses receiver.opener nows start took vs is.judged place frame refusal at;
       refusals_deliver_nothing = λ front back refusal at.
           let w = refusal_nothing start vs front back refusal at in

@@ -73,7 +73,7 @@ origin_by frames plan place frame true is h =
     origin_of frames plan place frame w.source w.at w.is (all_pass (is_good_emission frames) plan place w.source is w.at)
 origin_by frames plan place frame false is h = absurd (let e = h in cc)
 
-origin : (frames : List (List ℕ)) (plan : Option (List Emit)) (place : ℕ) (frame : List ℕ) → slice_get (wire frames plan) place ≡ Some frame → Origin frames plan place frame
+pub origin : (frames : List (List ℕ)) (plan : Option (List Emit)) (place : ℕ) (frame : List ℕ) → slice_get (wire frames plan) place ≡ Some frame → Origin frames plan place frame
 origin frames None place frame h = own place h
 origin frames (Some plan) place frame h = origin_by frames plan place frame (is_good frames plan) refl h
 
@@ -123,7 +123,7 @@ small_record source count k r at =
     ]
 
 -- one of the sender's own frames carries its own record, and no other number opens it
-own_record : (ends : Ends) (count : ℕ) (frames : List (List ℕ)) → IsPaired ends → AreFrames ends.source (take count (sender.records ends.source)) frames
+pub own_record : (ends : Ends) (count : ℕ) (frames : List (List ℕ)) → IsPaired ends → AreFrames ends.source (take count (sender.records ends.source)) frames
     → (k : ℕ) (frame : List ℕ) → slice_get frames k ≡ Some frame → (c now : ℕ) (user : List ℕ) → Opens ends.receiver.opener (ends.receiver.demand.expected + c) now frame (Ok user)
     → (r : Record) → SpellsRecord r user → slice_get (take count (sender.records ends.source)) c ≡ Some r
 own_record ends count frames paired sealed k frame at c now user opened r spelled =
@@ -142,7 +142,7 @@ own_record ends count frames paired sealed k frame at c now user opened r spelle
     rw place (at-r ∙ ap (λ x. Some x) same)
 
 -- where each accepted record is the one of its number, the records are a prefix
-records_from : (carried : List Record) (vs : List Verdict) (c : ℕ)
+pub records_from : (carried : List Record) (vs : List Verdict) (c : ℕ)
     → ((i : ℕ) (d : Delivery) → slice_get vs i ≡ Some (Ok d) → slice_get carried (c + length (records_of (take i vs))) ≡ Some (record_of d))
     → IsPrefix (records_of vs) (drop c carried)
 records_from carried [] c h = (drop c carried, refl)

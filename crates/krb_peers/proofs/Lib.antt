@@ -9,6 +9,7 @@ pub mod VerdictLemmas
 pub mod LoggedLemmas
 pub mod HeadlineLemmas
 pub mod UndisturbedLemmas
+pub mod CarriedLemmas
 pub mod ClaimLemmas
 pub mod RoundsLemmas
 pub mod NumberLemmas

@@ -1,24 +1,22 @@
 -- What a verdict leaves of a receiver and of a log.
-use Rattle.std.proofs.Common.{◌≡◌, ℕ, Bool, List, Ok, Err, inl, inr, sym, ap, ◌∙◌}
+use Rattle.std.proofs.Common.{◌≡◌, ℕ, Bool, List, Ok, Err, sym, ap, ◌∙◌}
 use Rattle.krb_aes.specs.Words.{AreBytes}
 use Rattle.krb_seal.specs.declared.refusal.Refusal.{Refusal}
-use Rattle.krb_seal.specs.declared.refusal.Refusal.TheVariants.{Memory}
 use Rattle.krb_peers.specs.declared.delivery.Delivery.{Delivery}
 use Rattle.krb_peers.specs.Demand.{Demand}
 use Rattle.krb_peers.specs.LogState.{LogState}
 use Rattle.krb_peers.specs.ReceiverState.{ReceiverState}
-use Rattle.krb_peers.specs.Receiver.{IsJudgement, verdict_by, receiver_behind, advanced}
+use Rattle.krb_peers.specs.Receiver.{verdict_by, receiver_behind, advanced}
 use Rattle.krb_peers.specs.Record.{is_close}
 use Rattle.krb_peers.specs.Verdicts.{Verdict, IsVerdict, record_of}
 use Rattle.krb_peers.specs.Logged.{noted}
 use Rattle.krb_peers.proofs.OrderLemmas.{demand_after-nil, demand_one}
 use Rattle.krb_peers.proofs.VerdictLemmas.{one_verdict, right_verdict}
 
--- an answer that isn't want of memory is the verdict
-pub answer_is : (receiver : ReceiverState) (now : ℕ) (frame : List ℕ) (v : Verdict) → AreBytes frame → (v ≡ Err Memory → ⊥) → IsJudgement receiver now frame v → v ≡ verdict_by receiver now frame
+-- an answer that is a verdict is the one
+pub answer_is : (receiver : ReceiverState) (now : ℕ) (frame : List ℕ) (v : Verdict) → AreBytes frame → IsVerdict receiver.opener receiver.demand now frame v → v ≡ verdict_by receiver now frame
 unfolding verdict_by
-answer_is receiver now frame v bytes other (inl h) = absurd (other h)
-answer_is receiver now frame v bytes other (inr h) = one_verdict receiver.opener receiver.demand now frame v bytes h
+answer_is receiver now frame v bytes h = one_verdict receiver.opener receiver.demand now frame v bytes h
 
 -- and it is a verdict
 pub verdict_is : (receiver : ReceiverState) (now : ℕ) (frame : List ℕ) → AreBytes frame → IsVerdict receiver.opener receiver.demand now frame (verdict_by receiver now frame)
@@ -39,18 +37,17 @@ module _ (receiver : ReceiverState) (log : LogState) (lane now : ℕ) (frame : L
   }
 
   -- a delivery moves the receiver on
-  pub received : (d : Delivery) (close : Bool) (receiver-now : ReceiverState) (log-now : LogState) → IsJudgement receiver now frame (Ok d) → close ≡ is_close (record_of d)
+  pub received : (d : Delivery) (close : Bool) (receiver-now : ReceiverState) (log-now : LogState) → IsVerdict receiver.opener receiver.demand now frame (Ok d) → close ≡ is_close (record_of d)
       → receiver-now ≡ advanced receiver close → log-now ≡ noted log lane (Ok d) → IsReceived receiver receiver-now log log-now lane now frame
-  received d close receiver-now log-now (inl h) closes r l = absurd (let e = h in cc)
-  received d close receiver-now log-now (inr h) closes r l =
-      let is = answer_is receiver now frame (Ok d) bytes (λ e. let f = e in cc) (inr h) in
+  received d close receiver-now log-now h closes r l =
+      let is = answer_is receiver now frame (Ok d) bytes h in
       let next : advanced receiver close ≡ receiver_behind receiver (Ok d) =
       ap (λ b. advanced receiver b) closes ∙ ap (λ (demand : Demand). let z : ReceiverState = record receiver { demand = demand } in z) (demand_one receiver.demand (record_of d) h.0) in
       received_by (Ok d) receiver-now log-now is (r ∙ next) l
 
   -- a refusal leaves it as it was
-  pub received_refusal : (refusal : Refusal) (log-now : LogState) → (refusal ≡ Memory → ⊥) → IsJudgement receiver now frame (Err refusal)
+  pub received_refusal : (refusal : Refusal) (log-now : LogState) → IsVerdict receiver.opener receiver.demand now frame (Err refusal)
       → log-now ≡ noted log lane (Err refusal) → IsReceived receiver receiver log log-now lane now frame
-  received_refusal refusal log-now other h l =
-      let is = answer_is receiver now frame (Err refusal) bytes (λ e. other (let f = e in cc)) h in
+  received_refusal refusal log-now h l =
+      let is = answer_is receiver now frame (Err refusal) bytes h in
       received_by (Err refusal) receiver log-now is (ap (λ (d : Demand). let z : ReceiverState = record { opener = receiver.opener; demand = d } in z) (sym (demand_after-nil receiver.demand))) l

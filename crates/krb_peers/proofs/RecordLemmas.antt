@@ -73,13 +73,6 @@ module _ (bytes : List ℕ) (other : IsOther bytes) where
       → (answer ≡ Err BadRecord) ↔ ((texts : List (List ℕ)) → SpellsBatch texts bytes → ⊥) → IsBadExactly answer bytes
   batch_bad answer bad = (λ is. none_but (bad.0 is), λ none. bad.1 (λ texts spells. none (Batch texts) spells))
 
-pub batch_ok : (answer : Result Record RecordError) (bytes : List ℕ)
-    → IfOk answer (λ r. (texts : List (List ℕ)) × (r ≡ Batch texts) × SpellsBatch texts bytes) → IfOk answer (λ r. SpellsRecord r bytes)
-batch_ok (Ok got) bytes ok =
-    let P : Record → Type 0 = λ x. SpellsRecord x bytes in
-    subst P (sym ok.1) ok.2
-batch_ok (Err e) bytes ok = tt
-
 -- bytes of another tag, a text that is too long, and a close with more behind it are other bytes
 pub other_by : (tag : ℕ) (rest : List ℕ) → (tag ≡ 0x44 → length rest ≤ text_limit → ⊥) → (tag ≡ 0x43 → rest ≡ [] → ⊥) → IsOther (tag ∷ rest)
 other_by tag rest no_text no_close = record {

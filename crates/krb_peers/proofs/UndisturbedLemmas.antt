@@ -32,11 +32,11 @@ use Rattle.krb_peers.proofs.VerdictLemmas.{unique_verdict}
 
 -- ---- the wire of frames in order
 
-length-in_order : (n : ℕ) → length (in_order n) ≡ n
+pub length-in_order : (n : ℕ) → length (in_order n) ≡ n
 length-in_order zero = refl
 length-in_order (suc n) = simp length-append (omega (arith, length-in_order n))
 
-in_order-at : (n i : ℕ) (e : Emit) → slice_get (in_order n) i ≡ Some e → e ≡ Frame i
+pub in_order-at : (n i : ℕ) (e : Emit) → slice_get (in_order n) i ≡ Some e → e ≡ Frame i
 in_order-at zero i e h = absurd (let f = h in cc)
 in_order-at (suc n) i e h =
     let long : length (in_order n ++ Frame n ∷ []) ≡ n + 1 = simp length-append (omega (arith, length-in_order n)) in
@@ -60,7 +60,7 @@ carried : (frames : List (List ℕ)) (plan : Option (List Emit)) (n i : ℕ) (fr
 carried frames None n i frame order h = h
 carried frames (Some plan) n i frame order h = carried_by frames plan n i frame (is_good frames plan) refl order h
 
-good_in_order : (frames : List (List ℕ)) (n : ℕ) → n ≤ length frames → is_good frames (in_order n) ≡ true
+pub good_in_order : (frames : List (List ℕ)) (n : ℕ) → n ≤ length frames → is_good frames (in_order n) ≡ true
 good_in_order frames zero le = refl
 good_in_order frames (suc n) le =
     list_all-append (is_good_emission frames) (in_order n) (Frame n ∷ [])
@@ -74,15 +74,15 @@ whole_by frames (Some plan) n order count =
 
 -- ---- the records
 
-abbrev delivery_of : Record → Delivery
+abbrev pub delivery_of : Record → Delivery
 delivery_of (records.Text text) = Text text
 delivery_of (records.Batch texts) = Batch texts
 delivery_of records.Close = Closed
 
-abbrev answer_of : Record → Verdict
+abbrev pub answer_of : Record → Verdict
 answer_of r = Ok (delivery_of r)
 
-same_record : (r : Record) → record_of (delivery_of r) ≡ r
+pub same_record : (r : Record) → record_of (delivery_of r) ≡ r
 same_record (records.Text text) = refl
 same_record (records.Batch texts) = refl
 same_record records.Close = refl
@@ -104,13 +104,13 @@ delivered-answers groups =
     ∙ (ap (λ rs. flat_map texts_of rs) (records_of-answers (records_for groups)) ∙ texts_of_records groups)
 
 -- before the last record stands no close
-none_closed : (groups : List (List (List ℕ))) (i : ℕ) → i < length (records_for groups) → list_any is_close (take i (records_for groups)) ≡ false
+pub none_closed : (groups : List (List (List ℕ))) (i : ℕ) → i < length (records_for groups) → list_any is_close (take i (records_for groups)) ≡ false
 none_closed [] zero h = refl
 none_closed [] (suc i) h = absurd (omega arith)
 none_closed (g ∷ groups) zero h = refl
 none_closed (g ∷ groups) (suc i) h = rw not_close (none_closed groups i (omega arith))
 
-fits_at : (n : ℕ) (groups : List (List (List ℕ))) (i : ℕ) (r : Record) → All (λ group. FitsLimits (record_for group)) groups → slice_get (records_for (take n groups)) i ≡ Some r → FitsLimits r
+pub fits_at : (n : ℕ) (groups : List (List (List ℕ))) (i : ℕ) (r : Record) → All (λ group. FitsLimits (record_for group)) groups → slice_get (records_for (take n groups)) i ≡ Some r → FitsLimits r
 fits_at zero groups zero r fit at = subst FitsLimits (let e : records.Close ≡ r = (let f = at in cc) in e) tt
 fits_at zero groups (suc i) r fit at = absurd (let f = at in cc)
 fits_at (suc n) [] zero r fit at = subst FitsLimits (let e : records.Close ≡ r = (let f = at in cc) in e) tt

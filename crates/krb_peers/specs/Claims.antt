@@ -14,6 +14,7 @@ use Rattle.krb_peers.specs.Run.{Run}
 use Rattle.krb_peers.specs.Sender.{Source, moment_at, sealed_texts}
 use Rattle.krb_peers.specs.Premises.{IsPaired, AlteredAreHonest}
 use Rattle.krb_peers.specs.Undisturbed.{Undisturbed}
+use Rattle.krb_peers.specs.Carried.{Carried}
 use Rattle.krb_peers.specs.Verdicts.{Verdict, Fails, records_of, delivered}
 
 -- ---- the claims
@@ -25,6 +26,10 @@ DeliversPrefix source events = IsPrefix (texts_in events) (sealed_texts source)
 -- all texts are delivered
 abbrev pub DeliversAll : Source → List Event → Type 0
 DeliversAll source events = texts_in events ≡ sealed_texts source
+
+-- so they are, and the close is accepted
+abbrev pub DeliversWhole : Source → List Event → Type 0
+DeliversWhole source events = DeliversAll source events × (has_closed events ≡ true)
 
 -- nothing is delivered and no close is accepted after a close
 abbrev pub NothingAfterClose : List Event → Type 0
@@ -65,6 +70,9 @@ pub record Headline (log : LogState) (lane : ℕ) (run : Run) : Type 0 where
   -- all texts are delivered where nothing disturbs the lane and its End was taken
   pub all_where_undisturbed :
       Undisturbed run.ends → has_ended lane log ≡ true → DeliversAll run.ends.source (events_of lane log.entries)
+  -- and where each frame came in its turn, whatever else came, and the lane's End was taken
+  pub all_where_carried :
+      Carried run.ends → AlteredAreHonest run → has_ended lane log ≡ true → DeliversWhole run.ends.source (events_of lane log.entries)
   pub refused_exactly : RefusesExactly run.ends.receiver run.ends.nows run.took run.verdicts
   pub refusals_deliver_nothing :
       RefusalsDeliverNothing run.ends.receiver.demand run.verdicts (events_of lane log.entries)

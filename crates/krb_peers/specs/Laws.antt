@@ -1,5 +1,5 @@
 -- What holds of senders, receivers and logs.
-use Rattle.std.specs.Prelude.{◌≡◌, ◌↔◌, ◌≤◌, ℕ, suc, ◌+◌, List, [], ◌∷◌, ◌++◌, length, take, All, IsOk, None}
+use Rattle.std.specs.Prelude.{◌≡◌, ◌↔◌, ◌<◌, ◌≤◌, ℕ, suc, ◌+◌, List, [], ◌∷◌, ◌++◌, length, take, All, IsOk, None}
 use Rattle.std.specs.List.{Contains, flat_map}
 use Rattle.krb_base.specs.Prefix.{IsPrefix}
 use Rattle.krb_base.specs.Limits.{user_data_limit}
@@ -24,7 +24,8 @@ use Rattle.krb_peers.specs.Ends.{Ends}
 use Rattle.krb_peers.specs.Run.{Run, IsRun, AreRuns, OfRuns}
 use Rattle.krb_peers.specs.Premises.{IsPaired, AlteredAreHonest}
 use Rattle.krb_peers.specs.Undisturbed.{Undisturbed, TakesAll}
-use Rattle.krb_peers.specs.Claims.{DeliversPrefix, DeliversAll, NothingAfterClose, AllWhereClosed, RefusesExactly, RefusalsDeliverNothing, Headline}
+use Rattle.krb_peers.specs.Carried.{ComeInTurn, Carried, AcceptInOrder, GoesOnBehind, AlteredAreHonestBehind}
+use Rattle.krb_peers.specs.Claims.{DeliversPrefix, DeliversAll, DeliversWhole, NothingAfterClose, AllWhereClosed, RefusesExactly, RefusalsDeliverNothing, Headline}
 use Rattle.krb_peers.specs.Rounds.{AreRounds, joined, list_of, rounds, rounds_below, NoneLonger}
 use Rattle.krb_peers.specs.Whole.{rounds_of, EndsWhole, IsRelayed, IsWhole}
 
@@ -153,6 +154,56 @@ DemandsNumberBehind = OfUndisturbed (λ run.
 -- all texts are delivered where all frames were taken
 abbrev pub DeliversAllThatIsTaken : Type 0
 DeliversAllThatIsTaken = OfUndisturbed (λ run. TakesAll run.ends.source run.took → DeliversAll run.ends.source (events_from run.verdicts))
+
+-- ---- a lane whose carrier brings each frame in its turn
+
+-- it holds of each run of such a lane in which altered frames are honest
+abbrev pub OfCarried : ((run : Run) → Carried run.ends → Type 0) → Type 0
+OfCarried Claim =
+    (run : Run) (carried : Carried run.ends) → AlteredAreHonest run → IsWithinLimits run.ends.source → IsRun run → Claim run carried
+
+-- behind frame k in its turn, a number behind record k is demanded
+abbrev pub DemandsNumbersInTurn : Type 0
+DemandsNumbersInTurn = OfCarried (λ run carried.
+    (k : ℕ) → k < length (records run.ends.source) → carried.in_turn.place k < length run.took
+    → let start = run.ends.receiver.demand in
+    start.expected + k < (demand_after start (records_of (take (suc (carried.in_turn.place k)) run.verdicts))).expected)
+
+-- all texts are delivered and the close is accepted where all frames were taken
+abbrev pub DeliversAllThatIsCarried : Type 0
+DeliversAllThatIsCarried = OfCarried (λ run carried. TakesAll run.ends.source run.took → DeliversWhole run.ends.source (events_from run.verdicts))
+
+-- a lane that nothing disturbs is one of these, and no frame of it is altered
+abbrev pub UndisturbedIsCarried : Type 0
+UndisturbedIsCarried = (ends : Ends) → Undisturbed ends → Carried ends
+
+abbrev pub UndisturbedIsHonest : Type 0
+UndisturbedIsHonest = (run : Run) → Undisturbed run.ends → AlteredAreHonest run
+
+-- ---- a receiver that goes on elsewhere
+
+-- a receiver of a paired lane accepts in order
+abbrev pub PairedAcceptInOrder : Type 0
+PairedAcceptInOrder = (run : Run) → IsPaired run.ends → IsRun run → AlteredAreHonest run → AcceptInOrder run.ends.source run.verdicts
+
+-- it holds of each run that goes on behind verdicts that accepted in order
+abbrev pub OfGoingOn : (Source → List Verdict → Run → Type 0) → Type 0
+OfGoingOn Claim =
+    (source : Source) (before : List Verdict) (run : Run) → AcceptInOrder source before → GoesOnBehind source before run.ends
+    → AlteredAreHonestBehind (length (records_of before)) run → IsRun run → Claim source before run
+
+-- together they accept in order, whatever comes again
+abbrev pub GoingOnAcceptsInOrder : Type 0
+GoingOnAcceptsInOrder = OfGoingOn (λ source before run. AcceptInOrder source (before ++ run.verdicts))
+
+-- so what they deliver is a prefix of the texts that were sealed
+abbrev pub InOrderDeliversPrefix : Type 0
+InOrderDeliversPrefix = (source : Source) (verdicts : List Verdict) → AcceptInOrder source verdicts → DeliversPrefix source (events_from verdicts)
+
+-- and all of them, where the frames that weren't accepted before come in their turn
+abbrev pub GoingOnDeliversAll : Type 0
+GoingOnDeliversAll = OfGoingOn (λ source before run.
+    ComeInTurn (length (records_of before)) run.ends → TakesAll run.ends.source run.took → DeliversWhole source (events_from (before ++ run.verdicts)))
 
 -- ---- what a log has of a lane
 

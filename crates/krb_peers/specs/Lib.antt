@@ -19,6 +19,7 @@ pub mod StartError
 pub mod Run
 pub mod Premises
 pub mod Undisturbed
+pub mod Carried
 pub mod Claims
 pub mod Rounds
 pub mod Whole

@@ -1,7 +1,9 @@
 -- What a receiver answers in code.
 use Rattle.std.specs.Prelude.{◌≡◌, ◌⊎◌, ◌≤◌, ℕ, Bool, false, List, length, Err}
 use Rattle.krb_seal.specs.declared.refusal.Refusal.TheVariants.{Memory}
+use Rattle.krb_aes.specs.Keys.{AreZero}
 use Rattle.krb_base.specs.Limits.{frame_limit}
+use Rattle.krb_peers.specs.declared.receiver.Receiving.{Receiving}
 use Rattle.krb_peers.specs.Order.{demand_after, next_demand}
 use Rattle.krb_peers.specs.ReceiverState.{ReceiverState}
 use Rattle.krb_peers.specs.Verdicts.{Verdict, IsVerdict, accepted_by, verdict}
@@ -25,3 +27,7 @@ receiver_behind receiver answer = record receiver { demand = demand_after receiv
 -- and behind an accepted record, which was the close or wasn't
 abbrev pub advanced : ReceiverState → Bool → ReceiverState
 advanced receiver close = record receiver { demand = next_demand receiver.demand close }
+
+-- the key of a lane's receiver is overwritten: it is zeros
+abbrev pub IsWiped : Receiving → Type 0
+IsWiped receiving = AreZero receiving.receiver.opener.key

@@ -53,3 +53,7 @@ pub record IsSender (source : Source) : Type 0 where
 pub record HasSealed (source : Source) (k : ℕ) (frames : List (List ℕ)) (now : Source) : Type 0 where
   pub sealed : AreFrames source (take k (records source)) frames
   pub state : now ≡ behind k source
+
+-- the sealer of a sender after some of its records
+abbrev pub StandsAfterSome : Source → SealerState → Type 0
+StandsAfterSome source sealer = (k : ℕ) × (k ≤ length (records source)) × (sealer ≡ (behind k source).sealer)

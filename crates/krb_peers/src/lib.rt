@@ -5,6 +5,8 @@
 //! plan ([`emit`]) may disturb the frames on purpose. A [`Receiver`] demands the numbers one after
 //! another ([`Order`]), and accepts nothing behind a close. A [`Log`] keeps what became of the
 //! frames of each lane. [`headline_laws`] says what is delivered and refused, whatever the plan;
+//! [`carried_laws`] that all is delivered where each frame comes in its turn, whatever else comes,
+//! and [`going_on_laws`] what receivers that go on one behind the other deliver together.
 //! [`relay_laws`] says it of the log of any relay, stepped or on threads, that has the verdicts of
 //! all lanes in rounds.
 //!
@@ -20,6 +22,7 @@
 //! ```
 #![tactic(auto)]
 
+mod carried;
 mod confounder;
 mod delivery;
 mod emission;
@@ -34,6 +37,7 @@ mod record;
 mod sending;
 mod start;
 
+pub use carried::{carried_laws, going_on_laws};
 pub use delivery::Delivery;
 pub use emission::{emit, known_bytes};
 pub use headline::{headline_laws, relay_laws, undisturbed_laws};

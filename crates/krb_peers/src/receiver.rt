@@ -1,7 +1,6 @@
 //! The receiver of a lane.
 
-ghost use Rattle.std.specs.Prelude.{◌≡◌, ◌+◌, ◌<◌, ◌≤◌, length, IsTrue, IfOk, OnOk, OnErr};
-ghost use Rattle.krb_aes.specs.Keys.{AreZero};
+ghost use Rattle.std.specs.Prelude.{◌≡◌, ◌+◌, ◌<◌, ◌≤◌, length, replicate, IsTrue, IfOk, OnOk, OnErr};
 ghost use Rattle.krb_base.specs.Limits.{last_number};
 ghost use Rattle.krb_peers.specs.Record.{is_close};
 ghost use Rattle.krb_peers.specs.Sender.{moment_at};
@@ -131,13 +130,13 @@ impl Receiver {
         ensures logged { OnOk result
             (LogsNext self.old log.old lane now frame.now self.new log.new) }
     {
-        match self.judge(alloc, frame, now) {
+        let verdict = self.verdict_on(alloc, frame, now)?;
+        match verdict {
             Ok(delivery) => {
                 let close = matches!(delivery, Delivery::Closed);
                 note(log, lane, Ok(delivery))?;
                 self.advance(close);
             }
-            Err(Refusal::Memory) => return Err(AllocError),
             Err(refusal) => note(log, lane, Err(refusal))?,
         }
         Ok(())
@@ -145,12 +144,33 @@ impl Receiver {
 
     /// Overwrites the keys where they lie. Each frame is refused from then on, as behind a close.
     pub fn wipe(&mut self)
-        ensures key { AreZero self.new.opener.key }
+        ensures key { self.new.opener.key ≡ replicate (length self.old.opener.key) 0 }
         ensures closed { IsTrue self.new.demand.closed }
         ensures expected { self.new.demand.expected ≡ self.old.demand.expected }
     {
         self.opener.wipe();
         self.order.shut();
+    }
+
+    /// The verdict on a frame. Nothing changes. Out of memory is no verdict, and comes for no frame
+    /// after a close or over the limit.
+    fn verdict_on(
+        &self,
+        alloc: Global,
+        frame: &[u8],
+        now: Moment,
+    ) -> Result<Result<Delivery, Refusal>, AllocError>
+        ensures verdict { IfOk result (λ verdict.
+            IsVerdict self.now.opener self.now.demand now frame.now verdict) }
+        ensures memory { OnErr result (TakesMemory self.now frame.now) }
+        ensures in_range { IfOk result (λ verdict.
+            OnOk verdict (self.now.demand.expected ≤ last_number)) }
+    {
+        match self.judge(alloc, frame, now) {
+            Ok(delivery) => Ok(Ok(delivery)),
+            Err(Refusal::Memory) => Err(AllocError),
+            Err(refusal) => Ok(Err(refusal)),
+        }
     }
 
     /// What [`take`](Receiver::take) would answer now. Nothing changes.

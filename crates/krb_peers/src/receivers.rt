@@ -1,7 +1,7 @@
 //! The receivers of several lanes.
 
 ghost use Rattle.std.specs.Prelude.{◌≡◌, [], All, IfOk};
-ghost use Rattle.krb_aes.specs.Keys.{AreZero};
+ghost use Rattle.krb_peers.specs.Receiver.{IsWiped};
 
 use crate::receiver::Receiving;
 use std::alloc::{AllocError, Global};
@@ -40,7 +40,7 @@ impl Receivers {
 /// Overwrites the keys of all receivers where they lie. A value that is moved out of a list leaves
 /// its bytes there, so this comes before the list is let go.
 pub fn wipe_receivers(receivings: &mut [Receiving])
-    ensures { All (λ receiving. AreZero receiving.receiver.opener.key) receivings.new }
+    ensures { All IsWiped receivings.new }
 {
     for receiving in receivings.iter_mut() {
         receiving.receiver.wipe();

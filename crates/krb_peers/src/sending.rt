@@ -10,7 +10,7 @@ ghost use Rattle.krb_peers.specs.Plan.{contents};
 ghost use Rattle.krb_peers.specs.Sender.{Source, AreFrames, records, moment_at, sealed_groups, sealed_texts};
 ghost use Rattle.krb_peers.specs.Sender.{group_behind, texts_before, record_for, record_at};
 ghost use Rattle.krb_peers.specs.Verdicts.{AllBytes};
-ghost use Rattle.krb_peers.specs.Sending.{source_of, sealed_of, sent_of, before, behind, IsSender, HasSealed};
+ghost use Rattle.krb_peers.specs.Sending.{source_of, sealed_of, sent_of, before, behind, IsSender, HasSealed, StandsAfterSome};
 
 use crate::confounder::draw_confounder;
 use crate::emission::known_bytes;
@@ -189,8 +189,8 @@ impl<S: Sealer> Sending<S> {
 
     /// Seals all records, the close last.
     ///
-    /// The errors are those of [`seal_record`](Sending::seal_record); the first ends it, behind the
-    /// frames that were sealed until then.
+    /// The errors are those of [`seal_record`](Sending::seal_record). The first one ends it, and the
+    /// sealer stands after the records that were sealed until then.
     pub fn seal_all(&mut self, alloc: Global) -> Result<Vec<Vec<u8>>, SealError>
         requires { IsSender (source_of S.state self.old) }
         ensures frames { IfOk result (λ frames. AreFrames (source_of S.state self.old)
@@ -198,6 +198,8 @@ impl<S: Sealer> Sending<S> {
         ensures bytes { IfOk result (λ frames. AllBytes (contents frames.items)) }
         ensures behind { OnOk result (source_of S.state self.new ≡ behind
             (length (records (source_of S.state self.old))) (source_of S.state self.old)) }
+        ensures stopped { OnErr result
+            (StandsAfterSome (source_of S.state self.old) (S.state self.new.sealer)) }
         ensures wiped { (S.state self.old.sealer).wiped ≡ true → IsErr result }
         ensures errors { IfErr result (λ e.
             ((e ≡ SealError.Wiped) × ((S.state self.old.sealer).wiped ≡ true))

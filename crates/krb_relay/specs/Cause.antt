@@ -1,6 +1,8 @@
 -- Why a relay stops: numbers and words.
 use Rattle.std.specs.Prelude.{ℕ, List, codes, ◌++◌}
 use Rattle.std.specs.Fmt.{decimal}
+use Rattle.krb_peers.specs.declared.plan.EmitError.{EmitError}
+use Rattle.krb_peers.specs.declared.plan.EmitError.TheVariants as emission
 use Rattle.krb_relay.specs.declared.cause.Cause.{Cause}
 use Rattle.krb_relay.specs.declared.cause.Cause.TheVariants.{Memory, Spawn, Lost, BadPlan, Wiped}
 use Rattle.krb_relay.specs.declared.cause.OwnCause.{OwnCause}
@@ -31,3 +33,8 @@ abbrev pub cause_of : OwnCause → Cause
 cause_of own.Memory = Memory
 cause_of own.Spawn = Spawn
 cause_of own.Lost = Lost
+
+-- why a plan's frames could not be made, among all causes
+abbrev pub cause_of_emission : EmitError → Cause
+cause_of_emission emission.BadPlan = BadPlan
+cause_of_emission emission.Memory = Memory

@@ -3,6 +3,9 @@
 ghost use Rattle.std.specs.Prelude.{◌≡◌, Some};
 ghost use Rattle.krb_relay.specs.Cause.{code_of, words_of, cause_of};
 
+use krb_lane::LaneError;
+use krb_peers::EmitError;
+use std::alloc::AllocError;
 use std::error::Error;
 use std::fmt;
 
@@ -52,6 +55,24 @@ impl fmt::Display for Cause {
 
 impl Error for Cause {}
 
+impl From<EmitError> for Cause {
+    ghost use Rattle.std.specs.Prelude.{◌≡◌};
+    ghost use Rattle.krb_relay.specs.Cause.{cause_of_emission};
+
+    ghost from_gives = { λ error cause. cause ≡ cause_of_emission error };
+
+    fn from(error: EmitError) -> Cause {
+        match error {
+            EmitError::BadPlan => Cause::BadPlan,
+            EmitError::Memory => Cause::Memory,
+        }
+    }
+}
+
+/// A thread could not be started.
+#[derive(Clone, Copy)]
+pub(crate) struct NoThread;
+
 /// Why the calling thread stops: it seals nothing and follows no plan.
 #[derive(Clone, Copy)]
 pub(crate) enum OwnCause {
@@ -73,5 +94,38 @@ impl OwnCause {
             OwnCause::Spawn => Cause::Spawn,
             OwnCause::Lost => Cause::Lost,
         }
+    }
+}
+
+impl From<AllocError> for OwnCause {
+    ghost use Rattle.std.specs.Prelude.{◌≡◌};
+    ghost use Rattle.krb_relay.specs.declared.cause.OwnCause.TheVariants.{Memory};
+
+    ghost from_gives = { λ _ cause. cause ≡ Memory };
+
+    fn from(_error: AllocError) -> OwnCause {
+        OwnCause::Memory
+    }
+}
+
+impl From<LaneError> for OwnCause {
+    ghost use Rattle.std.specs.Prelude.{◌≡◌};
+    ghost use Rattle.krb_relay.specs.declared.cause.OwnCause.TheVariants.{Memory};
+
+    ghost from_gives = { λ _ cause. cause ≡ Memory };
+
+    fn from(_error: LaneError) -> OwnCause {
+        OwnCause::Memory
+    }
+}
+
+impl From<NoThread> for OwnCause {
+    ghost use Rattle.std.specs.Prelude.{◌≡◌};
+    ghost use Rattle.krb_relay.specs.declared.cause.OwnCause.TheVariants.{Spawn};
+
+    ghost from_gives = { λ _ cause. cause ≡ Spawn };
+
+    fn from(_error: NoThread) -> OwnCause {
+        OwnCause::Spawn
     }
 }

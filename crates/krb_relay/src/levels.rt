@@ -37,7 +37,7 @@ pub(crate) fn level<'s, 'e, R: Threads + Wait, S: Send + Drop + 's, W: Work<S> +
     capacity: usize,
     work: &'e W,
     mut parts: Vec<S>,
-    receivings: Vec<Receiving>,
+    mut receivings: Vec<Receiving>,
     mut ends: Vec<LaneRx>,
     mut log: Log,
 ) -> Gathered
@@ -56,7 +56,7 @@ pub(crate) fn level<'s, 'e, R: Threads + Wait, S: Send + Drop + 's, W: Work<S> +
 {
     let number = ends.len() as u32;
     let Some(part) = parts.pop() else {
-        let own = finish(rt, alloc, ends.as_mut_slice(), receivings, &mut log);
+        let own = finish(rt, alloc, ends.as_mut_slice(), &mut receivings, &mut log);
         return Gathered {
             ends,
             log,
@@ -70,7 +70,7 @@ pub(crate) fn level<'s, 'e, R: Threads + Wait, S: Send + Drop + 's, W: Work<S> +
                 cause,
                 lane: number,
             };
-            let own = give_up(rt, ends.as_mut_slice(), receivings, &log, fault);
+            let own = give_up(rt, ends.as_mut_slice(), &mut receivings, &log, fault);
             Gathered {
                 ends,
                 log,
@@ -113,15 +113,9 @@ fn begin<'s, 'e, R: Threads + Wait, S: Send + Drop + 's, W: Work<S> + Sync>(
         Begun ends.old.items ends.new.items worker.promise.tx.value) }
 {
     let number = ends.len() as u32;
-    if ends.reserve(1).is_err() {
-        return Err(OwnCause::Memory);
-    }
-    let Ok((tx, rx)) = lane(rt, alloc, capacity) else {
-        return Err(OwnCause::Memory);
-    };
-    let Some(worker) = start(scope, work, number, part, tx) else {
-        return Err(OwnCause::Spawn);
-    };
+    ends.reserve(1)?;
+    let (tx, rx) = lane(rt, alloc, capacity)?;
+    let worker = start(scope, work, number, part, tx)?;
     ends.push_reserved(rx);
     Ok(worker)
 }

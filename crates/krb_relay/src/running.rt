@@ -5,6 +5,7 @@ ghost use Rattle.krb_base.specs.Limits.{lane_limit, capacity_limit};
 ghost use Rattle.krb_lane.specs.Side.{Side};
 ghost use Rattle.krb_peers.specs.Ends.{lanes_of};
 ghost use Rattle.krb_peers.specs.Log.{new_log};
+ghost use Rattle.krb_peers.specs.Receiver.{IsWiped};
 ghost use Rattle.krb_peers.specs.Sending.{source_of, sent_of, IsSender};
 ghost use Rattle.krb_peers.specs.Whole.{IsWhole};
 ghost use Rattle.krb_relay.specs.Gathering.{Gathers};
@@ -62,15 +63,11 @@ pub fn relay<R: Threads + Wait + Sync, G: Gate + Sync, S: Sealer + Send>(
     ensures lanes { IfOk result (λ report. report.log.lanes ≡ length sendings.items) }
     ensures stopped { IfErr result (λ fault. StopsRelay
         (lanes_of S.state sendings.items receivings.items) fault.log fault.lane fault.cause) }
+    ensures stopped_lanes { IfErr result (λ fault. fault.log.lanes ≡ length sendings.items) }
 {
     let log = Log::new(alloc, sendings.len() as u32);
     let Ok(sent) = sents(alloc, sendings.as_slice()) else {
-        wipe_receivers(&mut receivings);
-        return Err(Fault {
-            cause: Cause::Memory,
-            lane: 0,
-            log,
-        });
+        return Err(unstarted(receivings.as_mut_slice(), log));
     };
     // Each level takes the last one.
     sendings.reverse();
@@ -95,6 +92,22 @@ pub fn relay<R: Threads + Wait + Sync, G: Gate + Sync, S: Sealer + Send>(
             log,
         }),
         None => Ok(Report { log, sent }),
+    }
+}
+
+/// The fault of a relay that ran out of memory before it made a lane. The receivers are wiped where
+/// they lie.
+fn unstarted(receivings: &mut [Receiving], log: Log) -> Fault
+    ensures cause { result.cause ≡ Cause.Memory }
+    ensures lane { result.lane ≡ 0 }
+    ensures log { result.log ≡ log }
+    ensures wiped { All IsWiped receivings.new }
+{
+    wipe_receivers(receivings);
+    Fault {
+        cause: Cause::Memory,
+        lane: 0,
+        log,
     }
 }
 

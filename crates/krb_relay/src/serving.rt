@@ -3,6 +3,7 @@
 ghost use Rattle.std.specs.Prelude.{◌≡◌, ◌<◌, ◌≤◌, length, All, Some};
 ghost use Rattle.krb_base.specs.Limits.{lane_limit};
 ghost use Rattle.krb_peers.specs.Log.{new_log};
+ghost use Rattle.krb_peers.specs.Receiver.{IsWiped};
 ghost use Rattle.krb_relay.specs.Gathering.{Finished, IsFresh};
 
 use crate::fault::OwnFault;
@@ -19,19 +20,20 @@ pub(crate) fn finish<R: Wait>(
     rt: &R,
     alloc: Global,
     ends: &mut [LaneRx],
-    mut receivings: Vec<Receiving>,
+    receivings: &mut Vec<Receiving>,
     log: &mut Log,
 ) -> Option<OwnFault>
-    requires each { length ends.old ≡ length receivings.items }
-    requires few { length receivings.items ≤ lane_limit }
-    requires moments { All (λ receiving. 0 < length receiving.nows.items) receivings.items }
+    requires each { length ends.old ≡ length receivings.old.items }
+    requires few { length receivings.old.items ≤ lane_limit }
+    requires moments { All (λ receiving. 0 < length receiving.nows.items) receivings.old.items }
     requires fresh { All IsFresh ends.old }
-    requires log { log.old ≡ new_log (length receivings.items) }
-    ensures { Finished receivings.items ends.old ends.new log.new result }
+    requires log { log.old ≡ new_log (length receivings.old.items) }
+    ensures finished { Finished receivings.old.items ends.old ends.new log.new result }
+    ensures wiped { All IsWiped receivings.new.items }
 {
-    let starts = Snapshot::of(&receivings);
+    let starts = Snapshot::of(&*receivings);
     let served = serve_all(rt, alloc, &starts, ends, receivings.as_mut_slice(), log);
-    wipe_receivers(&mut receivings);
+    wipe_receivers(receivings.as_mut_slice());
     match served {
         Ok(()) => None,
         Err(fault) => {
@@ -46,17 +48,18 @@ pub(crate) fn finish<R: Wait>(
 pub(crate) fn give_up<R: Wait>(
     rt: &R,
     ends: &mut [LaneRx],
-    mut receivings: Vec<Receiving>,
+    receivings: &mut Vec<Receiving>,
     log: &Log,
     fault: OwnFault,
 ) -> Option<OwnFault>
-    requires each { length ends.old ≤ length receivings.items }
+    requires each { length ends.old ≤ length receivings.old.items }
     requires fresh { All IsFresh ends.old }
-    requires log { log.now ≡ new_log (length receivings.items) }
-    ensures finished { Finished receivings.items ends.old ends.new log.now result }
+    requires log { log.now ≡ new_log (length receivings.old.items) }
+    ensures finished { Finished receivings.old.items ends.old ends.new log.now result }
     ensures fault { result ≡ Some fault }
+    ensures wiped { All IsWiped receivings.new.items }
 {
-    wipe_receivers(&mut receivings);
+    wipe_receivers(receivings);
     drain(rt, ends);
     Some(fault)
 }

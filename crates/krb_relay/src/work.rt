@@ -1,9 +1,10 @@
 //! A worker in a thread of its own, whose join tells what its work gives.
 
-ghost use Rattle.std.specs.Prelude.{◌≡◌, IfSome};
+ghost use Rattle.std.specs.Prelude.{◌≡◌, IfOk};
 ghost use Rattle.krb_lane.specs.Side.{Side};
 ghost use Rattle.krb_relay.specs.declared.worker.Handed.{Handed};
 
+use crate::cause::NoThread;
 use crate::worker::Handed;
 use krb_lane::LaneTx;
 use std::snapshot::Snapshot;
@@ -41,11 +42,11 @@ pub(crate) fn start<'s, 'e, S: Send + Drop + 's, W: Work<S> + Sync>(
     lane: u32,
     part: S,
     tx: LaneTx,
-) -> Option<Worker<S, W>>
+) -> Result<Worker<S, W>, NoThread>
     requires { W.can_run work.now part tx }
-    ensures work { IfSome result (λ worker. worker.promise.work.value ≡ work.now) }
-    ensures part { IfSome result (λ worker. worker.promise.part.value ≡ part) }
-    ensures tx { IfSome result (λ worker. worker.promise.tx.value ≡ tx) }
+    ensures work { IfOk result (λ worker. worker.promise.work.value ≡ work.now) }
+    ensures part { IfOk result (λ worker. worker.promise.part.value ≡ part) }
+    ensures tx { IfOk result (λ worker. worker.promise.tx.value ≡ tx) }
 {
     let kept = Kept {
         work: Snapshot::of(work),
@@ -60,7 +61,7 @@ pub(crate) fn start<'s, 'e, S: Send + Drop + 's, W: Work<S> + Sync>(
         { work.run(lane, part, tx) },
     );
     match started {
-        Ok(worker) => Some(worker),
-        Err(_) => None,
+        Ok(worker) => Ok(worker),
+        Err(_) => Err(NoThread),
     }
 }

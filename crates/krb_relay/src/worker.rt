@@ -1,6 +1,6 @@
 //! What a worker does: it seals its sender's records, and sends the frames.
 
-ghost use Rattle.std.specs.Prelude.{◌≡◌, ◌+◌, ◌<◌, ◌≤◌, ◌++◌, ◌∷◌, [], ℕ, List, length, false, Some, None, IfOk, IfErr, OnOk};
+ghost use Rattle.std.specs.Prelude.{◌≡◌, ◌+◌, ◌<◌, ◌≤◌, ◌++◌, ◌∷◌, [], ℕ, List, length, false, true, Some, None, IfOk, IfErr, OnOk};
 ghost use Rattle.krb_aes.specs.Words.{AreBytes};
 ghost use Rattle.krb_base.specs.Prefix.{IsPrefix};
 ghost use Rattle.krb_peers.specs.Plan.{contents};
@@ -11,7 +11,7 @@ ghost use Rattle.krb_relay.specs.Sent.{IsAll, IsCut, IsOfSealing, IsTrueOf, Send
 use crate::cause::Cause;
 use crate::gate::Gate;
 use krb_lane::{LaneTx, SentAll};
-use krb_peers::{Emit, EmitError, Sending, emit, known_bytes};
+use krb_peers::{Emit, Sending, emit, known_bytes};
 use krb_seal::{SealError, Sealer};
 use std::alloc::Global;
 use std::sync::Wait;
@@ -26,7 +26,7 @@ pub(crate) struct Handed {
 /// Seals and sends what a sender has for its lane, and then End.
 ///
 /// Without a plan each frame is sent before the next record is sealed. With one all is sealed and
-/// emitted first. The sealer is wiped where it lies.
+/// emitted first.
 pub(crate) fn serve<R: Wait, G: Gate, S: Sealer>(
     rt: &R,
     alloc: Global,
@@ -40,7 +40,6 @@ pub(crate) fn serve<R: Wait, G: Gate, S: Sealer>(
     ensures { Served (source_of S.state sending) tx result }
 {
     let cause = send_all(rt, alloc, gate, lane, &mut sending, &mut tx);
-    sending.sealer.wipe();
     match tx.end(rt) {
         Ok(all) => Handed { all, cause },
         Err(tx) => Handed {
@@ -50,7 +49,8 @@ pub(crate) fn serve<R: Wait, G: Gate, S: Sealer>(
     }
 }
 
-/// Seals and sends what a sender has for its lane: why no more, where that isn't all.
+/// Seals and sends what a sender has for its lane: why no more, where that isn't all. The sealer is
+/// wiped then, where it lies.
 fn send_all<R: Wait, G: Gate, S: Sealer>(
     rt: &R,
     alloc: Global,
@@ -63,11 +63,13 @@ fn send_all<R: Wait, G: Gate, S: Sealer>(
     requires sender { IsSender (source_of S.state sending.old) }
     ensures sends { Sends (source_of S.state sending.old) tx.new.frames result }
     ensures lane { tx.new.lane ≡ tx.old.lane }
+    ensures wiped { (S.state sending.new.sealer).wiped ≡ true }
 {
     let sent = match sending.plan.take() {
         None => seal_and_send(rt, alloc, gate, lane, sending, tx),
         Some(plan) => send_planned(rt, alloc, gate, lane, sending, plan.as_slice(), tx),
     };
+    sending.sealer.wipe();
     sent.err()
 }
 
@@ -150,11 +152,7 @@ fn seal_planned<G: Gate, S: Sealer>(
         (IsTrueOf (with_plan (Some plan.now) (source_of S.state sending.old)) []) }
 {
     let frames = seal_each(alloc, gate, lane, sending)?;
-    match emit(alloc, frames.as_slice(), plan) {
-        Ok(wire) => Ok(wire),
-        Err(EmitError::BadPlan) => Err(Cause::BadPlan),
-        Err(EmitError::Memory) => Err(Cause::Memory),
-    }
+    Ok(emit(alloc, frames.as_slice(), plan)?)
 }
 
 /// The frames of all records.

@@ -69,9 +69,6 @@ length-encrypted key text long =
     let w : List ℕ = expanded_key (encryption_key key) in
     omega (arith, length-append (cts w text) (tag_of key text), length-cts w text long, length-hmac96 (integrity_key key) text)
 
-pub long_text : (m : PrivMsg) (conf : List ℕ) (b : Body) (n : ℕ) (draft : Draft) → length conf ≡ 16 → IsDraft m conf b n draft → 16 ≤ length (drop draft.start draft.bytes.items)
-long_text m conf b n draft size d = omega (arith, ap length d.text, length-append conf (part b))
-
 sealed_draft : (etype : ℤ) (key conf : List ℕ) (b : Body) (draft : Draft) (frame : List ℕ) → length conf ≡ 16
     → IsDraft (unenciphered etype) conf b (length conf + length (part b) + 12) draft
     → frame ≡ take draft.start draft.bytes.items ++ encrypted key (drop draft.start draft.bytes.items)

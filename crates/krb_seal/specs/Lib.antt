@@ -9,6 +9,7 @@ pub mod HeldKeys
 pub mod KeysInside
 pub mod Opens
 pub mod Opening
+pub mod OpenerInside
 pub mod Body
 pub mod Checksum
 pub mod SealingInside

@@ -8,7 +8,7 @@ use crate::keys::Keys;
 use krb_der::{DerError, SafeRef, safe_input_around};
 use std::alloc::Global;
 
-/// The checksum that the message must have (RFC 4120 section 3.4.1). The data are not copied to be
+/// The checksum that the message must have (RFC 4120 section 5.6.1). The data are not copied to be
 /// hashed.
 ///
 /// [`DerError::TooLong`] is answered exactly where what is under the checksum is longer than a

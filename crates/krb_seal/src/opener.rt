@@ -1,7 +1,6 @@
 //! What opens the frames of a session.
 
 ghost use Rattle.std.specs.Prelude.{◌≡◌, ◌≤◌, pos, drop, length, replicate, Err};
-ghost use Rattle.krb_aes.specs.Keys.{AreZero};
 ghost use Rattle.krb_base.specs.Limits.{frame_limit};
 ghost use Rattle.krb_der.specs.declared.message.Message.TheVariants as messages;
 ghost use Rattle.krb_der.specs.Body.{InRange};
@@ -34,15 +33,16 @@ pub struct Opener {
 }
 
 impl Model for Opener {
-    ghost use Rattle.std.specs.Prelude.{◌≡◌, false};
     ghost use Rattle.krb_seal.specs.Etype.{number_of};
     ghost use Rattle.krb_seal.specs.Opens.{OpenerState, opener_of};
 
     ghost Value = { OpenerState };
 
+    ghost use Rattle.krb_seal.specs.OpenerInside.{HasKeys};
+
     ghost view = { λ a. opener_of (number_of a.etype) a.keys.key a.expect };
 
-    ghost invariant = { λ a. a.keys.wiped ≡ false };
+    ghost invariant = { HasKeys };
 }
 
 impl Drop for Opener {
@@ -110,10 +110,10 @@ impl Opener {
         }
     }
 
-    /// Overwrites all keys where they lie. What is left is the opener of a key of zeros, which is
-    /// nobody's.
+    /// Overwrites all keys where they lie. What is left is the opener of a key of as many zeros,
+    /// which is nobody's.
     pub fn wipe(&mut self)
-        ensures key { AreZero self.new.key }
+        ensures key { self.new.key ≡ replicate (length self.old.key) 0 }
         ensures etype { self.new.etype ≡ self.old.etype }
         ensures expect { self.new.expect ≡ self.old.expect }
     {

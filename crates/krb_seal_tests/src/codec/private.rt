@@ -141,3 +141,27 @@ fn what_is_over_the_limit_is_not_written(rt: HostRuntime) {
         Err(DerError::TooLong),
     );
 }
+
+/// How many bytes the cipher has in the message with a cipher of so many bytes, read again.
+fn cipher_read_again(alloc: Global, count: usize) -> Result<usize, DerError> {
+    let mut m = decode_priv(alloc, &PRIV)?;
+    m.cipher = repeated(alloc, 0, count)?;
+    let bytes = priv_spelling(alloc, &m)?;
+    let m = decode_priv(alloc, &bytes)?;
+    Ok(m.cipher.as_slice().len())
+}
+
+/// How many bytes the text has in the part with a text of so many bytes, read again.
+fn text_of_part_read_again(alloc: Global, count: usize) -> Result<usize, DerError> {
+    let mut body = decode_part(alloc, &PART)?;
+    set_text(alloc, &mut body, 0, count)?;
+    let bytes = part_spelling(alloc, &body)?;
+    size_behind(alloc, &[], &bytes)
+}
+
+#[test]
+fn longest_message_and_part_are_read(rt: HostRuntime) {
+    let (cipher, text) = (1_005_000 - 45, 1_005_000 - 66);
+    assert_same(&rt, cipher_read_again(rt.alloc(), cipher), Ok(cipher));
+    assert_same(&rt, text_of_part_read_again(rt.alloc(), text), Ok(text));
+}

@@ -195,6 +195,19 @@ fn message_over_the_limit_is_not_written(rt: HostRuntime) {
     );
 }
 
+/// How many bytes the text has in the message with a text of so many bytes, read again.
+fn text_read_again(alloc: Global, count: usize) -> Result<usize, DerError> {
+    let bytes = spelling_with_text(alloc, 0, count)?;
+    let m = decode_safe(alloc, &bytes)?;
+    Ok(m.body.user_data.as_slice().len())
+}
+
+#[test]
+fn longest_message_is_read(rt: HostRuntime) {
+    let most = 1_005_000 - 99;
+    assert_same(&rt, text_read_again(rt.alloc(), most), Ok(most));
+}
+
 #[test]
 fn part_is_no_message(rt: HostRuntime) {
     assert_same(

@@ -14,7 +14,7 @@ returns-in_default g t c =
     let len : length c.finish-own.new.ends ≡ c.args.ends.len = omega arith in
     rw (take_at c.finish-own.new.ends (drop (length c.finish-own.new.ends) c.args.ends.items) c.args.ends.len len)
     (gathers_none {S = g.row.S.Denot} (g.W.Work.gives c.args.work.now) c.args.parts.items c.args.receivings.items c.args.ends.items c.finish-own.new.ends c.finish-own.new.log c.finish-own.result None refl (λ none. empty)
-    (subst P c.as_mut_slice.ensures.value c.finish-own.ensures))
+    (subst P c.as_mut_slice.ensures.value c.finish-own.ensures.finished))
 
 pub begin-requires-clause-callable : goal.begin-requires-clause-callable
 begin-requires-clause-callable g t c κs within =

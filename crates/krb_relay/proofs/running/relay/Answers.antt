@@ -8,9 +8,10 @@ use Rattle.krb_relay.proofs.running.relay.Goals as goal
 
 pub returns-in_default-clause-stopped : goal.returns-in_default-clause-stopped
 returns-in_default-clause-stopped g c =
-    let log_is : c.new-log.result ≡ new_log (length c.args.receivings.items) = search rules in
-    stopped_unstarted (λ part tx handed. Served (source_of g.S.Sealer.state part) tx handed) (source_of g.S.Sealer.state) (λ part tx handed k. k)
-    c.args.sendings.items c.args.receivings.items c.new-log.result c.requires.same log_is
+    let log_is : c.unstarted.result.log ≡ new_log (length c.args.receivings.items) = search rules in
+    rw (c.unstarted.ensures.lane, c.unstarted.ensures.cause)
+    (stopped_unstarted (λ part tx handed. Served (source_of g.S.Sealer.state part) tx handed) (source_of g.S.Sealer.state) (λ part tx handed k. k)
+    c.args.sendings.items c.args.receivings.items c.unstarted.result.log c.requires.same log_is)
 
 pub returns-in-Some-clause-stopped : goal.returns-in-Some-clause-stopped
 returns-in-Some-clause-stopped g c =

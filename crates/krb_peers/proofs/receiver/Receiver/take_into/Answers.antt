@@ -1,8 +1,8 @@
 -- The answer is the verdict, and what follows is what a verdict leaves.
-use Rattle.std.proofs.Common.{◌≡◌, rules}
+use Rattle.std.proofs.Common.{◌≡◌, Ok, Err, subst, rules}
 use Rattle.krb_aes.specs.Words.{AreBytes}
 use Rattle.krb_peers.specs.Record.{is_close}
-use Rattle.krb_peers.specs.Verdicts.{record_of}
+use Rattle.krb_peers.specs.Verdicts.{Verdict, IsVerdict, record_of}
 use Rattle.krb_peers.proofs.ReceiveLemmas.{received, received_refusal, verdict_is}
 use Rattle.krb_peers.proofs.LoggedLemmas.{logs_next}
 use Rattle.krb_peers.proofs.receiver.Receiver.take_into.Goals as goal
@@ -11,7 +11,9 @@ pub returns-in_ok-note-in-Ok : goal.returns-in_ok-note-in-Ok
 returns-in_ok-note-in-Ok c =
     let bytes : AreBytes c.args.frame.now = record { small = λ i. (c.type_inv.frame i).fits } in
     let close : c.match-matches.matches ≡ is_close (record_of c.in-Ok.delivery) = search rules in
-    let is = received c.args.self.now c.args.log.now c.args.lane c.args.now c.args.frame.now bytes c.in-Ok.delivery c.match-matches.matches c.advance.new.self c.note.new.log c.in-Ok.ensures.verdict close c.advance.ensures c.in_ok-note-in-Ok.ensures.ok in
+    let P : Verdict → Type 0 = λ v. IsVerdict c.args.self.now.opener c.args.self.now.demand c.args.now c.args.frame.now v in
+    let told : P (Ok c.in-Ok.delivery) = subst P c.in-Ok.is c.in_ok-verdict.ensures.verdict in
+    let is = received c.args.self.now c.args.log.now c.args.lane c.args.now c.args.frame.now bytes c.in-Ok.delivery c.match-matches.matches c.advance.new.self c.note.new.log told close c.advance.ensures c.in_ok-note-in-Ok.ensures.ok in
     let right = verdict_is c.args.self.now c.args.now c.args.frame.now bytes in
     record {
       verdict = right;
@@ -25,7 +27,9 @@ returns-in_ok-note-in-Ok c =
 pub returns-in_ok-note-in-Err : goal.returns-in_ok-note-in-Err
 returns-in_ok-note-in-Err c =
     let bytes : AreBytes c.args.frame.now = record { small = λ i. (c.type_inv.frame i).fits } in
-    let is = received_refusal c.args.self.now c.args.log.now c.args.lane c.args.now c.args.frame.now bytes c.in-Err.refusal c.note-in-Err.new.log (search rules) c.in-Err.ensures.verdict c.in_ok-note-in-Err.ensures.ok in
+    let P : Verdict → Type 0 = λ v. IsVerdict c.args.self.now.opener c.args.self.now.demand c.args.now c.args.frame.now v in
+    let told : P (Err c.in-Err.refusal) = subst P c.in-Err.is c.in_ok-verdict.ensures.verdict in
+    let is = received_refusal c.args.self.now c.args.log.now c.args.lane c.args.now c.args.frame.now bytes c.in-Err.refusal c.note-in-Err.new.log told c.in_ok-note-in-Err.ensures.ok in
     let right = verdict_is c.args.self.now c.args.now c.args.frame.now bytes in
     record {
       verdict = right;

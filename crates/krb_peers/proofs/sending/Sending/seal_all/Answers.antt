@@ -1,6 +1,7 @@
 -- Frame after frame, and none under a wiped sealer.
 use Rattle.std.proofs.Common.{◌≡◌, ◌+◌, ◌++◌, ◌∷◌, [], true, IsErr, ap, sym, ◌∙◌, arith, rules}
 use Rattle.std.proofs.lemmas.List.{map-append}
+use Rattle.std.proofs.lemmas.Result.{err_from_is_err_and}
 use Rattle.krb_peers.specs.Sender.{texts_before}
 use Rattle.krb_peers.specs.Sending.{source_of}
 use Rattle.krb_peers.proofs.ListLemmas.{AllBytes-push}
@@ -33,3 +34,9 @@ returns-clause-wiped g c = λ wiped.
     let none = c.loop-k.invariant.none_if_wiped wiped in
     let some = length-records (source_of g.S.Sealer.state c.args.self.now) in
     absurd (omega (arith, c.records-count.ensures))
+
+pub returns-in_err-map_err-clause-stopped : goal.returns-in_err-map_err-clause-stopped
+returns-in_err-map_err-clause-stopped g c =
+    let sealed = c.in_ok-frame.ensures.frames _ _ c.loop-k.invariant.sealed in
+    let p = err_from_is_err_and c.from_residual-in_err-map_err.result c.from_residual-in_err-map_err.ensures.1 in
+    rw p.1 (c.loop-k.k + 1, omega (arith, c.records-count.ensures), ap (λ s. s.sealer) sealed.state)
