@@ -76,6 +76,14 @@ def below():
     return {crate: [it for it in deps if it in found] for crate, deps in found.items()}
 
 
+def write_crates(crates, folder):
+    """Writes the file crates.txt of a tree that has these crates alone."""
+    with open(os.path.join(TOP, "crates.txt"), encoding="utf-8") as file:
+        lines = [line for line in file if line.split(":")[0].split(" ")[0] in crates]
+    with open(os.path.join(folder, "crates.txt"), "w", encoding="utf-8") as file:
+        file.writelines(lines)
+
+
 def in_order(crate, deps=None, found=None):
     """The crates that it stands on, lowest first, and it."""
     deps = below() if deps is None else deps

@@ -10,6 +10,7 @@ prover's output is in out/proving/, a file a crate. It ends with 1 if a crate is
 import dataclasses
 import os
 import re
+import shutil
 import signal
 import subprocess
 import sys
@@ -18,6 +19,7 @@ import time
 import building
 
 LOGS = os.path.join(building.TOP, "out", "proving")
+TREES = os.path.join(LOGS, "trees")
 # The memory that the proof of a crate is given: with one job, and for each further one. At most 2.4
 # GB were seen with one or two jobs, and 2.9 with four.
 MEMORY, MORE_MEMORY = 3 << 30, 1 << 30
@@ -143,10 +145,11 @@ class NotProved(Exception):
 
 
 class Run:
-    """The proofs of the crates of a schedule, each a process."""
+    """The proofs of the crates of a schedule, each a process: `start` gives it, and `harvest` is
+    called with each crate that is proved."""
 
-    def __init__(self, schedule, start, say):
-        self.schedule, self.start, self.say = schedule, start, say
+    def __init__(self, schedule, start, harvest, say):
+        self.schedule, self.start, self.harvest, self.say = schedule, start, harvest, say
         self.count = len(schedule.waiting)
         self.begun = time.monotonic()
         self.since, self.processes = {}, {}
@@ -180,6 +183,7 @@ class Run:
         if status:
             raise NotProved(crate)
         del self.processes[crate]
+        self.harvest(crate)
         now, jobs = time.monotonic(), self.schedule.running[crate]
         self.taken += now - self.since[crate]
         self.wanted += seconds_of(crate, jobs)
@@ -209,14 +213,51 @@ def log_of(crate):
     return os.path.join(LOGS, crate + ".log")
 
 
+# ---- a tree for each proof
+
+# `rt` locks the folder of each library that it works over, so two proofs over one library would
+# wait for each other. So each proof has a tree of its own, whose folders are new and whose files
+# are those of the repository, by hard links.
+
+def link(path, place):
+    try:
+        os.link(path, place)
+    except OSError:     # The file system has no hard links.
+        shutil.copy2(path, place)
+
+
+def plant(crate, deps):
+    """Makes the tree of a crate, and answers the crate's folder in it."""
+    crates, tree = building.in_order(crate, deps), os.path.join(TREES, crate)
+    shutil.rmtree(tree, ignore_errors=True)
+    for it in crates:
+        kept = () if it == crate else ("incremental",)      # A library that is proved needs none.
+        shutil.copytree(building.folder_of(it), os.path.join(tree, "crates", it),
+                        copy_function=link, ignore=shutil.ignore_patterns(*kept))
+    link(os.path.join(building.TOP, "HANDLES"), os.path.join(tree, "HANDLES"))
+    building.write_crates(crates, tree)
+    return os.path.join(tree, "crates", crate)
+
+
+def harvest(crate):
+    """Puts what a proof has made into the crate's folder, and removes the tree."""
+    made, place = (os.path.join(folder, "out") for folder in
+                   (os.path.join(TREES, crate, "crates", crate), building.folder_of(crate)))
+    shutil.rmtree(place, ignore_errors=True)
+    os.rename(made, place)
+    shutil.rmtree(os.path.join(TREES, crate))
+
+
 def start(top):
     """How the proof of a crate is started: `top` is the program."""
+    deps = building.below()
+
     def begin(crate, jobs):
         words = ["rt", "run" if crate == top else "lib", "--jobs", str(jobs)]
         # The program is run once as it is built: by these words it does nothing to speak of.
         words += ["--", "--version"] if crate == "krbrelay" else []
         with open(log_of(crate), "w", encoding="utf-8") as log:
-            return subprocess.Popen(words, cwd=building.folder_of(crate), stdin=subprocess.DEVNULL,
+            return subprocess.Popen(words, cwd=plant(crate, deps), stdin=subprocess.DEVNULL,
                                     stdout=log, stderr=subprocess.STDOUT)
     return begin
 
@@ -230,7 +271,7 @@ def prove(top):
     os.makedirs(LOGS, exist_ok=True)
     say(f"{top} is being proved, on {schedule.cores} cores: {len(crates)} crates,"
         f" the prover's output is in {os.path.relpath(LOGS)}")
-    Run(schedule, start(top), say).all()
+    Run(schedule, start(top), harvest, say).all()
     building.note(building.program_of(top), built_from)
 
 

@@ -1,0 +1,75 @@
+"""At which goal the prover refuses each mutant: what the edits say, and what `rt` reports.
+
+The first line of an edit is 'clause: GOAL'. GOAL is the prover's name for what it can't prove of
+the mutant, as `returns-clause-capacity`: the clause `capacity` of what the function ensures. It is
+the clause that the mutant violates, so a mutant that is refused somewhere else misses its target.
+"""
+import os
+import re
+
+import building
+
+FOLDERS = "must-fail", "must-fail-more"
+KEY = "clause: "
+# A line of `rt` on a mutant that is refused, and the goals that are named in its words. `rt` cuts
+# long lines, so the last name may be the first part of one.
+REFUSED = re.compile(r"rt: must-fail (\w+)/(\S+)\.edit: refused, as it must be: (.*)")
+GOAL = re.compile(r"(?:\(|error: )`([\w+-]+)(`?)")
+
+
+def said(path):
+    """The goal that an edit names in its first line, or None."""
+    with open(path, encoding="utf-8") as file:
+        line = file.readline().rstrip("\n")
+    return line.removeprefix(KEY) if line.startswith(KEY) else None
+
+
+def path_of(crate, name):
+    """The file of an edit, or None."""
+    for folder in FOLDERS:
+        path = os.path.join(building.folder_of(crate), folder, f"{name}.edit")
+        if os.path.isfile(path):
+            return path
+    return None
+
+
+def reported(output):
+    """Each refused mutant that an output of `rt` names: its crate, its name, the goal or the first
+    part of it, and whether the goal is whole. A goal that isn't named at all is an empty part."""
+    for crate, name, words in REFUSED.findall(output):
+        found = GOAL.search(words)
+        yield (crate, name, found[1], found[2] == "`") if found else (crate, name, "", False)
+
+
+def is_goal(said_goal, goal, whole):
+    return said_goal == goal if whole else said_goal.startswith(goal)
+
+
+def differences(output):
+    """How many mutants were refused at the goal that their edit names, and a line for each other."""
+    same, others = 0, []
+    for crate, name, goal, whole in reported(output):
+        path = path_of(crate, name)
+        if path is None:
+            others.append(f"{crate}/{name}: there is no such edit")
+        elif (wanted := said(path)) is None:
+            others.append(f"{crate}/{name}: its first line isn't '{KEY}GOAL'")
+        elif is_goal(wanted, goal, whole):
+            same += 1
+        else:
+            others.append(f"{crate}/{name}: refused at {goal}, and not at {wanted}")
+    return same, others
+
+
+def note(output):
+    """Writes the goal into each edit that names none. Answers how many."""
+    noted = 0
+    for crate, name, goal, _ in reported(output):
+        path = path_of(crate, name)
+        if path and goal and said(path) is None:
+            with open(path, encoding="utf-8") as file:
+                text = file.read()
+            with open(path, "w", encoding="utf-8") as file:
+                file.write(f"{KEY}{goal}\n{text}")
+            noted += 1
+    return noted
