@@ -4,7 +4,7 @@ from __future__ import annotations
 
 import html
 import re
-from typing import Dict, Iterable, Iterator, List
+from typing import Iterable, Iterator, List
 
 import pages
 from pages import (ClauseBlock, Heading, Inline, Listing, Page, Paragraph, Source, Table, Target)
@@ -14,8 +14,11 @@ TO_TOP = "../../"
 STYLE = "style.css"
 TOKEN = re.compile(r"(//[^\n]*|--[^\n]*|\"(?:\\.|[^\"\\])*\")"
                    r"|((?<![\w.'])[A-Za-z_][\w']*(?:\.[A-Za-z_][\w']*)*)")
-KEYWORDS = {"pub", "fn", "struct", "enum", "trait", "impl", "const", "static", "type", "mut", "for",
-            "where", "extern", "ghost", "abbrev", "unfoldable", "record", "data", "let", "in", "do"}
+KEYWORDS = {
+    "rust": {"pub", "fn", "struct", "enum", "trait", "impl", "const", "static", "type", "mut", "for",
+             "where", "extern", "ghost", "let", "in", "match", "return"},
+    "": {"pub", "abbrev", "unfoldable", "record", "data", "module", "where", "let", "in", "do"},
+}
 
 CSS = """\
 :root { --ink: #1c2024; --muted: #5b6570; --page: #ffffff; --box: #f4f6f8; --line: #d9dfe5;
@@ -82,24 +85,24 @@ def line(parts: Iterable[Inline]) -> str:
     return "".join(map(inline, parts)).strip()
 
 
-def token(found: re.Match, links: Dict[str, Target]) -> str:
+def token(found: re.Match, source: Source) -> str:
     """A comment, a quoted text or a word of a source text."""
     if found[1]:
         return f"<i>{html.escape(found[1], quote=False)}</i>"
     word = found[2]
     head, dot, rest = word.partition(".")
-    if word in links:
-        return link(word, links[word])
-    if head in links:
-        return link(head, links[head]) + dot + rest
-    return f"<b>{word}</b>" if word in KEYWORDS else html.escape(word, quote=False)
+    if word in source.links:
+        return link(word, source.links[word])
+    if head in source.links:
+        return link(head, source.links[head]) + dot + rest
+    return f"<b>{word}</b>" if word in KEYWORDS[source.language] else html.escape(word, quote=False)
 
 
 def pre(source: Source) -> str:
     made, at = [], 0
     for found in TOKEN.finditer(source.text):
         made.append(html.escape(source.text[at:found.start()], quote=False))
-        made.append(token(found, source.links))
+        made.append(token(found, source))
         at = found.end()
     return f"<pre>{''.join(made)}{html.escape(source.text[at:], quote=False)}</pre>"
 
