@@ -76,7 +76,7 @@ fn receiving(alloc: Global, host: u8, now: Moment) -> Result<Receiving, AllocErr
 fn relay_both<R: Threads + Wait + Sync>(rt: &R, alloc: Global, at: Moment) -> Result<Report>
     ensures { IfOk result (λ report. report.log.lanes ≡ 2) }
 {
-    // Frame 0 twice, and the close behind it.
+    // Frame 0 twice, and then the close.
     let plan = vec![in alloc; Emit::Frame(0), Emit::Frame(0), Emit::Frame(1)]?;
     let first = sending(alloc, 1, b"hi", Some(plan), at)?;
     let second = sending(alloc, 2, b"last", None, at)?;
@@ -85,7 +85,7 @@ fn relay_both<R: Threads + Wait + Sync>(rt: &R, alloc: Global, at: Moment) -> Re
     Ok(relay(rt, alloc, sendings, receivings, 8, &NoGate)?)
 }
 
-/// Prints what became of one frame.
+/// Prints the outcome of one frame.
 fn print_entry(rt: &impl Print, entry: &Entry) -> Result<()> {
     let lane = entry.lane;
     match &entry.event {

@@ -1,4 +1,4 @@
--- The code's own aids, and no part of the standard: a byte as two elements of the field of 16
+-- What the code follows, and no part of the standard: a byte as two elements of the field of 16
 -- elements.
 --
 -- An element of that field is a nibble, the sum of powers of g = 0x5c, for which g^4 = g + 1. With
@@ -10,7 +10,7 @@ use Rattle.std.specs.Prelude.{ℕ, ◌/◌, nat_lt, nat_le, Bool, T, ◌||◌, L
 use Rattle.std.specs.Simd.Lanes.{Each1}
 use Rattle.krb_aes.specs.Field.{times}
 
--- a place in a table of 16 bytes, or one from 128 on, which stands for none
+-- a place in a table of 16 bytes, or one from 128 on, which means none
 abbrev pub is_place : ℕ → Bool
 is_place j = nat_le 128 j || nat_lt j 16
 
@@ -22,7 +22,7 @@ pub record ArePlaces (js : List ℕ) : Type 0 where
 abbrev pub entry : List ℕ → ℕ → ℕ
 entry t j = if nat_le 128 j then 0 else slice_index t j
 
--- the inverse of each nibble; 0 has none, and stands for no place
+-- the inverse of each nibble; 0 has none, and means no place
 abbrev pub inverses : List ℕ
 inverses =
     0x80 ∷ 0x01 ∷ 0x09 ∷ 0x0e ∷ 0x0d ∷ 0x0b ∷ 0x07 ∷ 0x06

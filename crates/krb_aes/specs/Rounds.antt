@@ -1,5 +1,5 @@
--- The code's own aids, and no part of the standard: how the rounds on vectors hold a state and the
--- round keys.
+-- What the code follows, and no part of the standard: how the rounds on vectors hold a state and
+-- the round keys.
 --
 -- A round leaves out the ShiftRows that moves the state, so that after n rounds the vector holds
 -- the state with ShiftRows undone n times, which is ShiftRows 3 n times: four times ShiftRows
@@ -23,8 +23,8 @@ unfoldable pub round_key : List ℕ → ℕ → List ℕ
 round_key w n = from_cells (λ r c. word_byte (slice_index w (4 * n + c)) r)
 
 -- the round keys as the rounds take them. A round that mixes adds its key to bytes that lack the
--- S-box's constant and that it lowers by one place afterwards, with the rows as they stand after
--- the round; the last one ends in plain bytes.
+-- S-box's constant and that it lowers by one place afterwards, with the rows as they are after the
+-- round; the last one ends in plain bytes.
 pub record AreRoundKeys (keys : List (List ℕ)) (turns : ℕ) (w : List ℕ) : Type 0 where
   pub size : length w / 4 ≡ 4 * turns + 3
   pub first : slice_index_or keys 0 [] ≡ map nibbles_of (round_key w 0)
@@ -55,7 +55,7 @@ pub record IsOpening (w : List ℕ) (n : ℕ) (q : ℕ) (block : List ℕ) (x : 
   pub lanes : x ≡ map inv_affine_nibbles (rows_shifted q state)
   pub same : inv_rounds w n (inv_sub_bytes (inv_shift_rows state)) ≡ inv_cipher w block
 
--- how often four rounds are repeated under a key of 32 or 16 bytes; three more rounds stand before
+-- how often four rounds are repeated under a key of 32 or 16 bytes; three more rounds come before
 -- and after
 abbrev pub turns_of : Bool → ℕ
 turns_of wide = if wide then 3 else 2

@@ -2,8 +2,8 @@
 // SubBytes is.
 //
 // Between the rounds of the inverse cipher the S-box's affine map is undone already, so that the
-// inverse S-box of a byte is the inverse of what its nibbles stand for. tools/vector_tables.py
-// computes the tables.
+// inverse S-box of a byte is the inverse of what its nibbles mean. tools/vector_tables.py computes
+// the tables.
 
 ghost use Rattle.std.specs.Prelude.{◌≡◌, List, ℕ, map};
 ghost use Rattle.krb_aes.specs.Field.{times};

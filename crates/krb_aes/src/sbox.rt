@@ -17,7 +17,7 @@ ghost use Rattle.krb_aes.specs.Nibbles.{ArePlaces, entry, first_place, second_pl
 use crate::words;
 use std::simd::prelude::*;
 
-// The inverse of each element of the field of 16 elements; 0 has none, and stands for no place.
+// The inverse of each element of the field of 16 elements; 0 has none, and means no place.
 const INVERSES: [u8; 16] = [
     0x80, 0x01, 0x09, 0x0e, 0x0d, 0x0b, 0x07, 0x06, 0x0f, 0x02, 0x0c, 0x05, 0x0a, 0x04, 0x03, 0x08,
 ];

@@ -34,13 +34,13 @@ module _ {F : Type 0} where
   frames (Frame f ∷ items) = f ∷ frames items
   frames (End ∷ items) = frames items
 
-  -- a Send is possible where the queue is below the capacity and End was not sent, a Take where
-  -- something is queued
+  -- a Send is possible if the queue is below the capacity and End was not sent, a Take if something
+  -- is queued
   abbrev pub is_possible : Lane F → Event F → Bool
   is_possible lane (Send item) = nat_lt (length lane.queue) lane.capacity && not (has_end lane.sent)
   is_possible lane Take = nat_lt 0 (length lane.queue)
 
-  -- Take moves the front of the queue to the end of got
+  -- Take moves the first item of the queue to the end of got
   abbrev pub taken : Lane F → List (Item F) → Lane F
   taken lane [] = lane
   taken lane (front ∷ rest) = record lane { got = lane.got ++ front ∷ []; queue = rest }
@@ -63,7 +63,7 @@ module _ {F : Type 0} where
   abbrev pub IsReached : Lane F → Type 0
   IsReached lane = (events : List (Event F)) × (after (empty lane.capacity) events ≡ lane)
 
-  -- nothing stands behind an End, so it is last and stands at most once
+  -- nothing follows an End, so it is last and occurs at most once
   abbrev pub IsEndLast : List (Item F) → Type 0
   IsEndLast [] = Unit {0}
   IsEndLast (Frame f ∷ items) = IsEndLast items
@@ -76,6 +76,6 @@ module _ {F : Type 0} where
     pub within : length lane.queue ≤ lane.capacity
     pub end_last : IsEndLast lane.sent
 
--- it holds of whatever events leave of an empty lane
+-- it holds of each lane that events leave of an empty one
 abbrev pub Always : (F : Type 0) → (Lane F → Type 0) → Type 0
 Always F P = (capacity : ℕ) (events : List (Event F)) → P (after (empty capacity) events)

@@ -38,14 +38,14 @@ skew_limit = 86400
 abbrev pub texts_limit : ℕ
 texts_limit = 1000
 
--- the texts of a batch, and its bytes behind its first byte
+-- the texts of a batch, and its bytes after its first byte
 abbrev pub batch_limit : ℕ
 batch_limit = 1000
 
 abbrev pub batch_size_limit : ℕ
 batch_size_limit = 1000000
 
--- the moments of a job's sender, and its emissions or frames
+-- the timestamps of a job's sender, and its emissions or frames
 abbrev pub entries_limit : ℕ
 entries_limit = 2000
 

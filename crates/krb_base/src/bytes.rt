@@ -5,7 +5,7 @@ use std::marker::Model;
 
 /// A byte string on the heap, which contracts see as the list of its bytes.
 ///
-/// Neither making one nor giving its `Vec` back takes memory; a clone takes its own.
+/// Neither making one nor giving its `Vec` back allocates; a clone does.
 #[derive(Debug, Drop)]
 pub struct Bytes {
     vec: Vec<u8>,
@@ -43,7 +43,7 @@ impl Bytes {
     }
 }
 
-/// Another byte string with the same bytes. Only want of memory can refuse it.
+/// Another byte string with the same bytes. The only error is out of memory.
 impl Clone for Bytes {
     ghost is_clone = { λ bytes copy. copy ≡ bytes };
 

@@ -5,8 +5,8 @@ ghost use Rattle.krb_base.specs.Lane.{Lane, Event, empty, has_end, is_possible, 
 /// The laws of a lane whose frames are of any type.
 ///
 /// After any events of an empty lane, what was sent is what was got and then what is queued
-/// (`linked`), the queue is within the capacity (`within`), and End stands last and at most once
-/// (`end_last`). So what was got begins what was sent (`begins`), and is all of it where End was
+/// (`linked`), the queue is within the capacity (`within`), and End is last and occurs at most once
+/// (`end_last`). So what was got is a prefix of what was sent (`begins`), and all of it if End was
 /// got (`whole`). The capacity stays (`capacity`). A possible event moves its item (`possible`),
 /// and an impossible one changes nothing (`impossible`).
 pub fn lane_laws<F>()

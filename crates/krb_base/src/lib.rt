@@ -1,5 +1,5 @@
-//! Words that several crates of the relay speak of: byte strings on the heap, prefixes of lists,
-//! the lane as a state machine, and the limits of texts and messages.
+//! What several crates of the relay use: byte strings on the heap, prefixes of lists, the lane as a
+//! state machine, and the limits of texts and messages.
 //!
 //! ```rust crates/krb_seal_tests/src/base.rt
 //! let bytes = Bytes::new(vec![in rt.alloc(); 0x68, 0x69]?);

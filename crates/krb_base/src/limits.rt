@@ -32,16 +32,16 @@ pub const TEXTS_LIMIT: usize = 1_000;
 /// The most texts of a batch.
 pub const BATCH_LIMIT: usize = 1_000;
 
-/// The most bytes of a batch behind its first byte: four and its length for each text.
+/// The most bytes of a batch after its first byte: for each text its length and four.
 pub const BATCH_SIZE_LIMIT: usize = 1_000_000;
 
-/// The most moments of a job's sender, and the most emissions or frames.
+/// The most timestamps of a job's sender, and the most emissions or frames.
 pub const ENTRIES_LIMIT: usize = 2_000;
 
 /// The last sequence number (RFC 4120 section 5.2.4, UInt32). It is kept for the close.
 pub const LAST_NUMBER: u64 = 4_294_967_295;
 
-/// Laws, and no work: the constants are the limits that the definitions speak of.
+/// A law: the constants are the limits of the definitions. It does nothing when it runs.
 pub fn limit_laws()
     ensures text { TEXT_LIMIT ≡ text_limit }
     ensures user_data { USER_DATA_LIMIT ≡ user_data_limit }

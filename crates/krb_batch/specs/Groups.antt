@@ -13,13 +13,13 @@ pub record Fits (b : ℕ) (texts : List (List ℕ)) (n : ℕ) : Type 0 where
 abbrev pub IsLongest : ℕ → List (List ℕ) → ℕ → Type 0
 IsLongest b texts n = Fits b texts n × ((m : ℕ) → Fits b texts m → m ≤ n)
 
--- the first group has n texts: it is the longest prefix that fits, or the first text alone where
--- that prefix is empty
+-- the first group has n texts: it is the longest prefix that fits, or the first text alone if that
+-- prefix is empty
 abbrev pub IsFirstGroup : ℕ → List (List ℕ) → ℕ → Type 0
 IsFirstGroup b texts n = (longest : ℕ) × IsLongest b texts longest × (n ≡ max 1 longest)
 
--- these are the groups of the texts: none of no texts, else the first group and then the groups of
--- the rest
+-- these are the groups of the texts: none if there are no texts, else the first group and then the
+-- groups of the rest
 abbrev pub AreGroups : ℕ → List (List ℕ) → List (List (List ℕ)) → Type 0
 AreGroups b texts [] = texts ≡ []
 AreGroups b texts (group ∷ groups) =
@@ -31,7 +31,7 @@ AreGroups b texts (group ∷ groups) =
 abbrev pub takes : ℕ → List (List ℕ) → List ℕ → Bool
 takes b group text = nat_lt (length group) b && nat_le (texts_size (group ++ text ∷ [])) batch_size_limit
 
--- the groups of the texts of a group that was begun and of those behind it
+-- the groups of the texts of a group that was begun and of those after it
 abbrev pub groups_from : ℕ → List (List ℕ) → List (List ℕ) → List (List (List ℕ))
 groups_from b group [] = group ∷ []
 groups_from b group (text ∷ texts) =

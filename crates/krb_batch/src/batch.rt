@@ -1,4 +1,4 @@
-//! Batches, and the bytes that stand for them.
+//! Batches, and their bytes.
 
 ghost use Rattle.std.specs.Prelude.{◌≡◌, ◌↔◌, ◌≤◌, ◌<◌, ◌+◌, ◌^◌, ◌++◌, ◌∷◌, ℕ, List, length, All, IfOk, IfSome, IfNone, OnOk, MatchResult, Some};
 ghost use Rattle.std.specs.List.{flat_map};
@@ -20,7 +20,7 @@ const BATCH_TAG: u8 = 0x42;
 pub enum BatchError {
     /// The bytes are those of no batch.
     NoBatch,
-    /// A growth was refused.
+    /// Out of memory.
     Memory,
 }
 
@@ -61,8 +61,8 @@ fn size_of(texts: &[Bytes]) -> usize
 
 /// The bytes of the batch of `texts`, which are its user data.
 ///
-/// The texts are 2 to [`BATCH_LIMIT`], and take at most [`BATCH_SIZE_LIMIT`] bytes: four and its
-/// length for each. The only error is want of memory.
+/// The texts are 2 to [`BATCH_LIMIT`], and take at most [`BATCH_SIZE_LIMIT`] bytes, for each text
+/// its length and four. The only error is out of memory.
 pub fn batch_bytes(alloc: Global, texts: &[Bytes]) -> Result<Vec<u8>, AllocError>
     requires { IsBatch texts.now }
     ensures { IfOk result (λ bytes. SpellsBatch texts.now bytes.items) }
@@ -86,7 +86,7 @@ fn put_text(bytes: &mut Vec<u8>, text: &[u8]) -> Result<(), AllocError>
     Ok(())
 }
 
-/// The text at the front, and what follows it.
+/// The first text, and what follows it.
 fn first_text(bytes: &[u8]) -> Option<(&[u8], &[u8])>
     ensures found { IfSome result (λ found. bytes.now ≡ text_bytes found.0.now ++ found.1.now) }
     ensures small { IfSome result (λ found. length found.0.now < 2 ^ 32) }
@@ -105,7 +105,7 @@ fn first_text(bytes: &[u8]) -> Option<(&[u8], &[u8])>
     Some(rest.split_at(len))
 }
 
-/// How many texts these bytes are, one behind the other, if they are texts.
+/// How many texts these bytes are, one after the other, if they are texts.
 fn count_texts(bytes: &[u8]) -> Option<usize>
     requires { length bytes.now ≤ batch_size_limit }
     ensures some { IfSome result (λ count. (texts : List (List ℕ))
@@ -122,7 +122,7 @@ fn count_texts(bytes: &[u8]) -> Option<usize>
     if rest.is_empty() { Some(count) } else { None }
 }
 
-/// The texts that these bytes are, one behind the other. They are `count`.
+/// The `count` texts that these bytes are, one after the other.
 fn take_texts(alloc: Global, count: usize, bytes: &[u8]) -> Result<Vec<Bytes>, AllocError>
     requires { length bytes.now ≤ batch_size_limit }
     ensures { IfOk result (λ vec. (texts : List (List ℕ))
@@ -137,7 +137,7 @@ fn take_texts(alloc: Global, count: usize, bytes: &[u8]) -> Result<Vec<Bytes>, A
     Ok(texts)
 }
 
-/// What follows the first byte, where that is a batch's and no more follows than a batch may have.
+/// What follows the first byte, if that is a batch's and no more follows than a batch may have.
 fn behind_tag(bytes: &[u8]) -> Option<&[u8]>
     ensures some { IfSome result (λ rest. bytes.now ≡ 0x42 ∷ rest.now) }
     ensures short { IfSome result (λ rest. length rest.now ≤ batch_size_limit) }
@@ -150,7 +150,7 @@ fn behind_tag(bytes: &[u8]) -> Option<&[u8]>
     }
 }
 
-/// How many texts the batch has that `bytes` stand for, and their bytes, if they stand for one.
+/// How many texts the batch has whose spelling `bytes` is, and their bytes, if it is one's.
 fn batch_in(bytes: &[u8]) -> Option<(usize, &[u8])>
     ensures some { IfSome result (λ found. (texts : List (List ℕ)) × SpellsBatch texts bytes.now
         × (found.1.now ≡ flat_map text_bytes texts)) }
@@ -166,14 +166,14 @@ fn batch_in(bytes: &[u8]) -> Option<(usize, &[u8])>
     }
 }
 
-/// The texts of the batch that `bytes` stand for.
+/// The texts of the batch whose spelling `bytes` is.
 ///
-/// `NoBatch` comes exactly where they stand for none, before any memory is taken: what a length
-/// claims is compared to what follows it. The time is linear in the bytes.
+/// `NoBatch` is returned if and only if there is none, before any allocation: what a length claims
+/// is compared to what follows it. The time is linear in the bytes.
 pub fn read_batch(alloc: Global, bytes: &[u8]) -> Result<Texts, BatchError>
     ensures ok { IfOk result (λ texts. SpellsBatch texts bytes.now) }
 
-    // Where the bytes are those of a batch, nothing else is answered, memory aside.
+    // If the bytes are those of a batch, the only error is out of memory.
     ensures only { (texts : List (List ℕ)) → SpellsBatch texts bytes.now
         → MatchResult result (λ got. got ≡ texts) (λ e. e ≡ BatchError.Memory) }
     ensures no_batch { (result ≡ Err BatchError.NoBatch)
@@ -191,7 +191,7 @@ pub fn read_batch(alloc: Global, bytes: &[u8]) -> Result<Texts, BatchError>
 ///
 /// Each batch has one spelling (`one_spelling`), and each spelling is of one batch (`one_batch`). A
 /// spelling is short enough for a message (`short`), and so is each text of a batch (`texts`). The
-/// function `batch_in` finds the batch that bytes are of (`found`).
+/// function `batch_in` finds the batch whose spelling bytes are (`found`).
 pub fn batch_laws()
     ensures one_spelling { (texts : List (List ℕ)) (a b : List ℕ)
         → SpellsBatch texts a → SpellsBatch texts b → a ≡ b }

@@ -8,10 +8,10 @@ ghost use Rattle.krb_batch.specs.Groups.{IsFirstGroup, AreGroups, groups};
 
 use krb_base::{BATCH_SIZE_LIMIT, Bytes};
 
-/// How many texts the first group of `texts` has, where a group has at most `batch`.
+/// How many texts the first group of `texts` has, if a group has at most `batch`.
 ///
 /// It is the longest prefix of at most `batch` texts that take at most [`BATCH_SIZE_LIMIT`] bytes,
-/// four and its length for each, or the first text alone where that prefix is empty.
+/// for each text its length and four, or the first text alone if that prefix is empty.
 pub fn group_end(texts: &[Bytes], batch: usize) -> usize
     requires { texts.now ≢ [] }
     ensures { IsFirstGroup batch texts.now result }
@@ -26,12 +26,12 @@ pub fn group_end(texts: &[Bytes], batch: usize) -> usize
     texts.len()
 }
 
-/// The laws of groups, where a group has at most `b` texts.
+/// The laws of groups, if a group has at most `b` texts.
 ///
 /// Texts have groups (`some`), and no others (`only`). The groups joined are the texts (`joined`),
-/// and each has at least one text and at most `b` (`sizes`), so by ones each text is a group of its
-/// own (`single`). A group of two or more texts is a batch (`batch`). Behind the first group stand
-/// the groups of the texts behind it (`next`), and so behind the first k (`behind`).
+/// and each has at least one text and at most `b` (`sizes`), so if `b` is 1 each text is a group of
+/// its own (`single`). A group of two or more texts is a batch (`batch`). After the first group
+/// come the groups of the texts after it (`next`), and likewise after the first k (`behind`).
 pub fn group_laws()
     ensures some { (b : ℕ) (texts : List (List ℕ)) → AreGroups b texts (groups b texts) }
     ensures only { (b : ℕ) (texts : List (List ℕ)) (parts : List (List (List ℕ)))

@@ -2,9 +2,9 @@
 //!
 //! A batch is byte 42 (hexadecimal) followed by 2 to 1,000 texts, each as its length in four bytes,
 //! most significant first, and its bytes. The format is this project's own. [`batch_bytes`] writes
-//! [`Texts`] so, and [`read_batch`] reads them again; [`batch_laws`] says that each batch has one
-//! spelling and each spelling one batch. [`group_end`] says how many of a sender's texts go
-//! together, and [`group_laws`] what the groups of all of them are.
+//! batches, and [`read_batch`] reads them; [`batch_laws`] says that each batch has one spelling and
+//! each spelling one batch. [`group_end`] says how many of a sender's texts go together, and
+//! [`group_laws`] what the groups of all of them are.
 //!
 //! ```rust crates/krb_seal_tests/src/batch.rt
 //! let texts = read_batch(rt.alloc(), b"\x42\0\0\0\x01\x61\0\0\0\x01\x62")?;

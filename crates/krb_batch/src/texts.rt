@@ -6,7 +6,7 @@ use std::marker::Model;
 
 /// Texts in order, which contracts see as the list of them.
 ///
-/// Neither making them nor giving their `Vec` back takes memory; a clone takes its own.
+/// Neither making them nor giving their `Vec` back allocates; a clone does.
 #[derive(Debug, Drop)]
 pub struct Texts {
     vec: Vec<Bytes>,
@@ -44,7 +44,7 @@ impl Texts {
     }
 }
 
-/// Other texts with the same bytes. Only want of memory can refuse them.
+/// Other texts with the same bytes. The only error is out of memory.
 impl Clone for Texts {
     ghost is_clone = { λ texts copy. copy ≡ texts };
 

@@ -1,4 +1,4 @@
--- How a relay that is stepped runs to its end.
+-- How a stepped relay runs to its end.
 use Rattle.std.specs.Prelude.{ℕ, zero, suc, ◌+◌, ◌≤◌, max, List, [], ◌∷◌, ◌++◌, length, map}
 use Rattle.krb_peers.specs.declared.log.Event.{Event}
 use Rattle.krb_peers.specs.declared.log.Entry.{Entry}
@@ -36,15 +36,15 @@ groups_over track =
     let start = track.receiver.demand in
     groups_of (verdicts track.receiver.opener track.nows start 0 track.wire)
 
--- it holds of a relay whose lanes have room for a frame, whatever was turned before
+-- it holds of a relay whose lanes have room for a frame, after any turns
 abbrev pub WithRoom : Relay → Type 0 → Type 0
 WithRoom relay Claim =
     (lanes : List Ends) (capacity : ℕ) (before : List Turn) → 1 ≤ capacity → HasTurned lanes capacity before relay → Claim
 
--- it holds of one of which no turn was taken
+-- it holds of one with no turns before
 abbrev pub FromStart : Relay → Type 0 → Type 0
 FromStart relay Claim = (lanes : List Ends) (capacity : ℕ) → 1 ≤ capacity → HasTurned lanes capacity [] relay → Claim
 
--- the rounds of all that becomes of the lanes' frames
+-- the rounds of the outcomes of all frames of the lanes
 abbrev pub whole_log : Relay → List Entry
 whole_log relay = rounds (map groups_over relay.tracks)

@@ -1,4 +1,4 @@
--- What holds of a relay that is stepped, whatever its turns.
+-- What holds of a stepped relay after any turns.
 use Rattle.std.specs.Prelude.{◌≡◌, ℕ, List}
 use Rattle.krb_base.specs.Lane.{has_end}
 use Rattle.krb_peers.specs.Claims.{has_ended}
@@ -7,7 +7,7 @@ use Rattle.krb_core.specs.declared.turn.Turn.{Turn}
 use Rattle.krb_core.specs.Stepped.{Relay}
 use Rattle.krb_core.specs.Relayed.{HasTurned, IsLane, OfEachLane, HaveHeadline, turned_events, entries_in, takings}
 
--- it holds of each relay of lanes that was turned
+-- it holds of each relay of lanes after any turns
 abbrev pub OfTurned : ((lanes : List Ends) → (capacity : ℕ) → (turns : List Turn) → (relay : Relay) → HasTurned lanes capacity turns relay → Type 0) → Type 0
 OfTurned Claim =
     (lanes : List Ends) (capacity : ℕ) (turns : List Turn) (relay : Relay) (turned : HasTurned lanes capacity turns relay)
@@ -17,8 +17,8 @@ OfTurned Claim =
 abbrev pub TurnsKeepHeadline : Type 0
 TurnsKeepHeadline = OfTurned (λ lanes capacity turns relay turned. HaveHeadline lanes relay)
 
--- each lane is what the events of its turns leave of an empty one, and what was sent begins what
--- its sender emits
+-- each lane is what the events of its turns leave of an empty one, and what was sent is a prefix of
+-- what its sender emits
 abbrev pub TurnsKeepLanes : Type 0
 TurnsKeepLanes = OfTurned (λ lanes capacity turns relay turned.
     OfEachLane lanes relay (λ ends lane track. IsLane ends capacity (turned_events lane turned.begun turns) track))
@@ -27,7 +27,7 @@ TurnsKeepLanes = OfTurned (λ lanes capacity turns relay turned.
 abbrev pub EntriesFollowTurns : Type 0
 EntriesFollowTurns = OfTurned (λ lanes capacity turns relay turned. relay.log.entries ≡ entries_in (takings turned.begun turns))
 
--- the log notes that a lane has ended exactly where its End was taken
+-- the log notes that a lane has ended if and only if its End was taken
 abbrev pub EndsAreNoted : Type 0
 EndsAreNoted = OfTurned (λ lanes capacity turns relay turned.
     OfEachLane lanes relay (λ ends lane track. has_ended lane relay.log ≡ has_end track.lane.got))

@@ -1,4 +1,4 @@
--- What is so of a relay that is stepped, whatever its turns.
+-- What is true of a stepped relay after any turns.
 use Rattle.std.specs.Prelude.{◌≡◌, ◌≤◌, ℕ, ◌==◌, List, [], ◌∷◌, ◌++◌, length, slice_get, Option, Some, None, if◌then◌else◌}
 use Rattle.std.specs.List.{flat_map}
 use Rattle.krb_base.specs.Limits.{lane_limit}
@@ -38,7 +38,7 @@ pub record HasTurned (lanes : List Ends) (capacity : ℕ) (turns : List Turn) (r
 
 -- ---- the events of turns
 
--- the event of a turn, where it is one of this lane
+-- the event of a turn, if it is one of this lane
 abbrev pub event_at : ℕ → Turn → Option TrackState → List (machine.Event (List ℕ))
 event_at lane turn None = []
 event_at lane turn (Some track) = if lane_of turn == lane then event_of turn track ∷ [] else []
@@ -56,7 +56,7 @@ pub record Taking : Type 0 where
   pub lane : ℕ
   pub verdict : Verdict
 
--- the frame at the front of a lane's queue, where there is one
+-- the first frame of a lane's queue, if there is one
 abbrev pub taking_of : ℕ → TrackState → List (Item (List ℕ)) → List Taking
 taking_of lane track [] = []
 taking_of lane track (Frame frame ∷ queue) = record { lane = lane; verdict = verdict_now track frame } ∷ []
@@ -79,10 +79,10 @@ takings relay (turn ∷ turns) = taking_at turn (slice_get relay.tracks (lane_of
 abbrev pub entries_in : List Taking → List Entry
 entries_in takings = flat_map (λ taking. entries_by taking.lane taking.verdict) takings
 
--- ---- what is so of each lane
+-- ---- what is true of each lane
 
--- the lane is what these events leave of an empty one, and what was sent begins what its sender
--- emits and then End
+-- the lane is what these events leave of an empty one, and what was sent is a prefix of what its
+-- sender emits and then End
 pub record IsLane (ends : Ends) (capacity : ℕ) (events : List (machine.Event (List ℕ))) (track : TrackState) : Type 0 where
   pub emits : IsWire ends.source track.wire
   pub sent : IsPrefix track.lane.sent (items_of track.wire)
@@ -119,13 +119,13 @@ HaveHeadline lanes relay = OfEachLane lanes relay (λ ends lane track. HasHeadli
 
 -- ---- from turns to turns
 
--- whatever was turned before, these turns come behind
+-- after any turns, these turns come next
 abbrev pub GoesOn : Relay → List Turn → Relay → Type 0
 GoesOn old turns now =
     (lanes : List Ends) (capacity : ℕ) (before : List Turn) → HasTurned lanes capacity before old
     → HasTurned lanes capacity (before ++ turns) now
 
--- whatever was turned before, the headline holds
+-- after any turns, the headline holds
 abbrev pub KeepsHeadline : Relay → Relay → Type 0
 KeepsHeadline old now =
     (lanes : List Ends) (capacity : ℕ) (before : List Turn) → HasTurned lanes capacity before old

@@ -1,4 +1,4 @@
--- How a relay that is stepped begins.
+-- How a stepped relay begins.
 use Rattle.std.specs.Prelude.{◌≡◌, ℕ, false, ◌⊎◌, List, [], ◌∷◌, ◌++◌, length}
 use Rattle.krb_base.specs.Lane.{empty}
 use Rattle.krb_peers.specs.declared.sending.Sent.{Sent}

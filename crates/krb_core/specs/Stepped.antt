@@ -1,4 +1,4 @@
--- A relay that is stepped, and what its turns leave.
+-- A stepped relay, and what its turns leave.
 use Rattle.std.specs.Prelude.{◌≡◌, ℕ, Bool, false, List, [], ◌∷◌, length, Option, Some, None, slice_get, slice_set}
 use Rattle.std.specs.List.{list_all}
 use Rattle.krb_base.specs.Lane.{Event, Take, has_end, is_possible}
@@ -24,7 +24,7 @@ abbrev pub event_of : Turn → TrackState → Event (List ℕ)
 event_of (turn.Send lane) track = next_send track
 event_of (turn.Take lane) track = Take
 
--- its track and the log behind the event; an impossible one changes nothing
+-- its track and the log after the event; an impossible one changes nothing
 abbrev pub track_behind : Turn → TrackState → TrackState
 track_behind (turn.Send lane) track = after_send track
 track_behind (turn.Take lane) track = after_take track
@@ -61,7 +61,7 @@ may_move relay t = may_at t (slice_get relay.tracks (lane_of t))
 abbrev pub is_done : Relay → Bool
 is_done relay = list_all (λ track. has_end track.lane.got) relay.tracks
 
--- the log has the lanes, whose receivers accept no more behind a close
+-- the log has the lanes, whose receivers accept no more after a close
 pub record IsRelay (tracks : List TrackState) (log : LogState) (sents : List Sent) : Type 0 where
   pub lanes : length tracks ≡ log.lanes
   pub sealed : length sents ≡ length tracks

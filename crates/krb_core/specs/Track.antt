@@ -1,4 +1,4 @@
--- One lane of a relay that is stepped.
+-- One lane of a stepped relay.
 use Rattle.std.specs.Prelude.{◌≡◌, ℕ, List, [], ◌∷◌, length, slice_get, Option, Some, None}
 use Rattle.krb_base.specs.Lane.{Item, Lane, Event, Frame, End, Send, Take, after_event}
 use Rattle.krb_peers.specs.Log.{ended_at}
@@ -16,7 +16,7 @@ pub record TrackState : Type 0 where
   pub receiver : ReceiverState
   pub nows : List ℕ
 
--- what is sent at a place: the frame there, and End behind them all
+-- what is sent at a place: the frame there, and End after all frames
 abbrev pub item_of : Option (List ℕ) → Item (List ℕ)
 item_of (Some frame) = Frame frame
 item_of None = End
@@ -34,7 +34,7 @@ after_send track = record track { lane = after_event track.lane (next_send track
 abbrev pub verdict_now : TrackState → List ℕ → Verdict
 verdict_now track frame = verdict_by track.receiver (moment_at track.nows (length track.lane.got)) frame
 
--- the receiver behind what is taken from the front of a queue
+-- the receiver after it has taken the first item of a queue
 abbrev pub receiver_after : TrackState → List (Item (List ℕ)) → ReceiverState
 receiver_after track [] = track.receiver
 receiver_after track (Frame frame ∷ queue) = receiver_behind track.receiver (verdict_now track frame)
@@ -46,7 +46,7 @@ after_take track = record track {
   receiver = receiver_after track track.lane.queue;
 }
 
--- the log behind what is taken: End adds no entry
+-- the log after that: End adds no entry
 abbrev pub log_behind : LogState → ℕ → TrackState → List (Item (List ℕ)) → LogState
 log_behind log lane track [] = log
 log_behind log lane track (Frame frame ∷ queue) = noted log lane (verdict_now track frame)
@@ -55,7 +55,7 @@ log_behind log lane track (End ∷ queue) = ended_at log lane
 abbrev pub log_after : LogState → ℕ → TrackState → LogState
 log_after log lane track = log_behind log lane track track.lane.queue
 
--- where a frame is at the front, a take leaves it behind all that were taken before, and other
+-- if a frame is first in the queue, a take leaves it after all that were taken before, and other
 -- lanes' entries stay
 abbrev pub LogsFront : ℕ → TrackState → LogState → TrackState → LogState → Type 0
 LogsFront lane track log track-now log-now =

@@ -1,4 +1,4 @@
-//! How a relay that is stepped begins: all is sealed, and each plan is followed.
+//! How a stepped relay begins: all is sealed, and each plan is followed.
 
 ghost use Rattle.std.specs.Prelude.{◌<◌, length, IfOk, IfErr};
 ghost use Rattle.krb_peers.specs.Ends.{ends_of};

@@ -3,7 +3,7 @@
 //!
 //! [`Stepped`] has one to eight lanes and one [`Log`]. [`stepped_laws`] says what turns leave: the
 //! headline of each lane, by what the log has of it. Senders, receivers, plans and the log are
-//! those of [`krb_peers`], and have their paths here too.
+//! those of [`krb_peers`], and are re-exported here.
 //!
 //! ```rust crates/krb_relay_tests/src/stepped/steps.rt
 //! relay.run(&[SEND, SEND, TAKE, TAKE, SEND, TAKE, SEND, TAKE])?;

@@ -1,4 +1,4 @@
-//! A relay that is stepped: one event of one lane at a time, in any order that the caller likes.
+//! A stepped relay: one event of one lane at a time, in any order that the caller chooses.
 
 ghost use Rattle.std.specs.Prelude.{◌≡◌, ◌↔◌, ◌<◌, ◌≤◌, ℕ, length, take, [], ◌∷◌, Some, false, slice_get, All, IfOk, IfErr, OnOk, OnErr};
 ghost use Rattle.krb_base.specs.Limits.{lane_limit};
@@ -49,8 +49,8 @@ impl Stepped {
     /// Seals and emits all, lane by lane, and sends nothing yet.
     ///
     /// There are one to eight lanes, with as many receivers as senders, each within its limits. The
-    /// first error that is met ends it: want of memory, or the least lane whose plan is bad or
-    /// whose sealer was wiped.
+    /// first error ends it: out of memory, or the least lane whose plan is bad or whose sealer was
+    /// wiped.
     pub fn new<S: Sealer>(
         alloc: Global,
         sendings: Vec<Sending<S>>,
@@ -90,11 +90,11 @@ impl Stepped {
         })
     }
 
-    /// One turn: the next event of its lane, which is there.
+    /// One turn: the next event of its lane, which exists.
     ///
-    /// A send puts the lane's next frame into the queue, and behind the last one the end. A take
-    /// gives the frame at the front to the lane's receiver, and what became of it to the log, or
-    /// notes the end there. An impossible event changes nothing, and neither does want of memory,
+    /// A send puts the lane's next frame into the queue, and after the last one the end. A take
+    /// gives the first frame of the queue to the lane's receiver and enters the outcome in the log,
+    /// or notes the end there. An impossible event changes nothing, and neither does out of memory,
     /// which is the only error.
     pub fn step(&mut self, turn: Turn) -> Result<Did, AllocError>
         requires { lane_of turn < length self.old.tracks }
@@ -103,7 +103,7 @@ impl Stepped {
         ensures err { OnErr result (self.new ≡ self.old) }
         ensures lanes { length self.new.tracks ≡ length self.old.tracks }
 
-        // Whatever was turned before, the turn comes behind, and the headline holds of each lane.
+        // After any turns, the turn comes next, and the headline holds of each lane.
         ensures turned { OnOk result (GoesOn self.old (turn ∷ []) self.new) }
         ensures headline { KeepsHeadline self.old self.new }
     {
@@ -118,14 +118,14 @@ impl Stepped {
 
     /// All turns, one after another.
     ///
-    /// The first want of memory ends it, with the earlier turns done.
+    /// It ends when it first runs out of memory, with the earlier turns done.
     pub fn run(&mut self, turns: &[Turn]) -> Result<(), AllocError>
         requires { All (λ turn. lane_of turn < length self.old.tracks) turns.now }
         ensures after { (n : ℕ) × (self.new ≡ after self.old (take n turns.now))
             × OnOk result (n ≡ length turns.now) }
 
-        // Whatever was turned before, these turns come behind, and the headline holds of each lane,
-        // also where want of memory ended them.
+        // After any turns, these turns come next, and the headline holds of each lane, also if
+        // memory ran out.
         ensures turned { (n : ℕ) × GoesOn self.old (take n turns.now) self.new
             × OnOk result (n ≡ length turns.now) }
         ensures headline { KeepsHeadline self.old self.new }
@@ -145,7 +145,7 @@ impl Stepped {
         self.log.lanes()
     }
 
-    /// What became of the frames so far.
+    /// The outcomes of the frames so far.
     pub fn log(&self) -> &Log
         ensures { result.now ≡ self.now.log }
     {
@@ -159,7 +159,7 @@ impl Stepped {
         self.tracks.iter().all(|track| track.is_done())
     }
 
-    /// How much the sender of `lane` sealed. The lane is there.
+    /// How much the sender of `lane` sealed. The lane exists.
     pub fn sent(&self, lane: u32) -> Sent
         requires { lane < length self.now.tracks }
         ensures { slice_get self.now.sents lane ≡ Some result }

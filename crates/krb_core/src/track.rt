@@ -1,5 +1,4 @@
-//! One lane of a relay that is stepped: what its sender emits, how far that has come, and its
-//! receiver.
+//! One lane of a stepped relay: what its sender emits, how far that has come, and its receiver.
 
 ghost use Rattle.std.specs.Prelude.{◌≡◌, ◌↔◌, ◌<◌, length, false, OnOk, OnErr, IfOk};
 ghost use Rattle.krb_base.specs.Lane.{Take, has_end, is_possible};
@@ -15,7 +14,7 @@ use std::marker::Model;
 
 /// A lane whose frames stay where they are: two places say what was sent, and what of it was taken.
 ///
-/// Behind the last frame stands the end, as one item more.
+/// After the last frame comes the end, as one more item.
 #[derive(Drop)]
 pub(crate) struct Track {
     wire: Vec<Vec<u8>>,
@@ -60,7 +59,7 @@ impl Track {
         }
     }
 
-    /// Puts the next item into the queue, where there is room and the end wasn't sent.
+    /// Puts the next item into the queue, if there is room and the end wasn't sent.
     pub(crate) fn send(&mut self) -> Did
         ensures after { self.new ≡ after_send self.old }
         ensures waits { (result ≡ Did.Waits)
@@ -74,10 +73,10 @@ impl Track {
         }
     }
 
-    /// Takes what is at the front of the queue, where there is something.
+    /// Takes the first item of the queue, if there is one.
     ///
-    /// A frame is judged by the receiver at the moment of its place, and what became of it goes to
-    /// the log. The end is noted there. Want of memory changes nothing.
+    /// The receiver judges a frame at the timestamp of its place, and the outcome goes to the log.
+    /// The end is noted there. Out of memory changes nothing.
     pub(crate) fn take(
         &mut self,
         alloc: Global,

@@ -1,4 +1,4 @@
--- What bytes spell, and what reading and writing answer.
+-- What bytes spell, and what reading and writing return.
 use Rattle.std.specs.Prelude.{◌≡◌, ℕ, ◌<◌, ◌≤◌, List, ◌++◌, length, take, drop, Result, Ok, Err}
 use Rattle.std.specs.Global.{Vec}
 use Rattle.krb_base.specs.Limits.{frame_limit}
@@ -37,49 +37,49 @@ Spells = SpellsWithin frame_limit IsMessage message
 abbrev pub SpellsPart : Body → List ℕ → Type 0
 SpellsPart = SpellsWithin frame_limit IsBody part
 
--- What a reading answers: the value, that the bytes are too many, or that they spell nothing.
+-- What a reading returns: the value, that the bytes are too many, or that they spell nothing.
 abbrev pub Decodes : {V : Type 0} → (V → List ℕ → Type 0) → Result V DerError → List ℕ → Type 0
 Decodes Spelt (Ok v) bytes = Spelt v bytes
 Decodes Spelt (Err errors.TooLong) bytes = frame_limit < length bytes
 Decodes Spelt (Err errors.Malformed) bytes = (length bytes ≤ frame_limit) × ((v : _) → Spelt v bytes → ⊥)
 Decodes Spelt (Err errors.Memory) bytes = length bytes ≤ frame_limit
 
--- What a writing answers: the spelling, or that it would be too long.
+-- What a writing returns: the spelling, or that it would be too long.
 abbrev pub Encodes : {V : Type 0} → (V → List ℕ → Type 0) → (V → List ℕ) → V → Result (Vec ℕ) DerError → Type 0
 Encodes Spelt spelling v (Ok bytes) = Spelt v bytes.items
 Encodes Spelt spelling v (Err errors.TooLong) = frame_limit < length (spelling v)
 Encodes Spelt spelling v (Err errors.Malformed) = ⊥
 Encodes Spelt spelling v (Err errors.Memory) = length (spelling v) ≤ frame_limit
 
--- The front of a message up to its cipher: with any cipher of n octets behind it, the message is
--- spelt.
+-- The prefix of a message up to its cipher: with any cipher of n octets after it, the bytes spell
+-- the message.
 abbrev pub Precedes : PrivMsg → ℕ → List ℕ → Type 0
 Precedes m n front = (cipher : List ℕ) → length cipher ≡ n → Spells (Priv (record m { cipher = cipher })) (front ++ cipher)
 
--- A message whose cipher is to be of n octets: up to `start` its front, and from there the text to
--- be enciphered, which is other bytes and the part of a body behind them.
+-- A message whose cipher is to be of n octets: its prefix up to `start`, and from there the
+-- plaintext, which is other bytes and the part of a body after them.
 pub record IsDraft (m : PrivMsg) (before : List ℕ) (b : Body) (n : ℕ) (draft : Draft) : Type 0 where
   pub body : IsBody b
   pub within : draft.start ≤ length draft.bytes.items
   pub front : Precedes m n (take draft.start draft.bytes.items)
   pub text : drop draft.start draft.bytes.items ≡ before ++ part b
 
--- the message with a cipher of n octets, whichever they are, is within the limit, or over it
+-- the message with any cipher of n octets is within the limit, or over it
 abbrev pub IsWithinLimit : PrivMsg → ℕ → Type 0
 IsWithinLimit m n = (cipher : List ℕ) → length cipher ≡ n → length (private (record m { cipher = cipher })) ≤ frame_limit
 
 abbrev pub IsOverLimit : PrivMsg → ℕ → Type 0
 IsOverLimit m n = (cipher : List ℕ) → length cipher ≡ n → frame_limit < length (private (record m { cipher = cipher }))
 
--- What writing such a draft answers, where the cipher is of n octets.
+-- What writing such a draft returns, for a cipher of n octets.
 abbrev pub Drafts : PrivMsg → List ℕ → Body → ℕ → Result Draft DerError → Type 0
 Drafts m before b n (Ok draft) = IsDraft m before b n draft
 Drafts m before b n (Err errors.TooLong) = IsOverLimit m n
 Drafts m before b n (Err errors.Malformed) = ⊥
 Drafts m before b n (Err errors.Memory) = IsWithinLimit m n
 
--- What writing the bytes under a checksum answers, around the data: with the data between them
--- they are those bytes, within the limit.
+-- What writing the bytes under a checksum returns, around the data: with the data between them they
+-- are those bytes, within the limit.
 abbrev pub Covers : SafeMsg → Result Covered DerError → Type 0
 Covers m (Ok around) =
     (around.before.items ++ (m.body.user_data ++ around.behind.items) ≡ safe_input m)

@@ -1,5 +1,5 @@
--- Aids of the code, and no definitions of the standard: the value that bytes spell, read from left
--- to right, if they spell one. The law `reading_laws` ties `message_of` and `part_of` to the
+-- What the code follows, and no definitions of the standard: the value that bytes spell, read from
+-- left to right, if they spell one. The law `reading_laws` ties `message_of` and `part_of` to the
 -- grammar; the contracts of `decode` and `decode_part` are in the words of Message.antt.
 use Rattle.std.specs.Prelude.{◌≡◌, ℕ, ◌+◌, ◌*◌, ◌^◌, ◌<◌, ◌≤◌, ◌↔◌, Bool, true, false, ℤ, pos, negsuc, List, [], ◌∷◌, ◌++◌, length, get_or, take, drop, Option, Some, None, Result, Ok, Err, nat_lt, nat_eq, if◌then◌else◌}
 use Rattle.krb_base.specs.Limits.{frame_limit}
@@ -29,7 +29,7 @@ abbrev pub Gives : {X Y : Type 0} → (X → Y) → Result X DerError → Option
 Gives view (Ok x) read = read ≡ Some (view x)
 Gives view (Err e) read = Fails e read
 
--- the same, where the rest of the bytes is left in a reader
+-- the same, with the rest of the bytes left in a reader
 abbrev pub Takes : {X Y : Type 0} → (X → Y) → Result X DerError → List ℕ → Option (Y × List ℕ) → Type 0
 Takes view (Ok x) rest read = read ≡ Some (view x, rest)
 Takes view (Err e) rest read = Fails e read
@@ -43,7 +43,7 @@ abbrev pub ended : {A : Type 0} → A → List ℕ → Option A
 ended x [] = Some x
 ended x (b ∷ rest) = None
 
--- ---- lengths, and what stands under a tag
+-- ---- lengths, and what is under a tag
 
 -- the number that octets are, the most significant first
 abbrev pub be_value : List ℕ → ℕ
@@ -104,7 +104,7 @@ five_octets true n = complement (big_endian 5 n)
 abbrev pub fewest : Bool → ℕ → ℕ → Option (Bool × ℕ)
 fewest negative n len = if nat_eq (width n) len then Some (negative, n) else None
 
--- whether the number is negative, and n at n or at -(n + 1)
+-- whether the number is negative, and n for n or for -(n + 1)
 unfoldable pub int_of : List ℕ → Option (Bool × ℕ)
 int_of content =
     if nat_lt 5 (length content) then None else if nat_lt (get_or content 0 0) 128 then fewest false (be_value content) (length content) else fewest true (be_value (complement content)) (length content)
@@ -148,7 +148,7 @@ time_element_of bytes = alone generalized_time_tag time_of bytes
 abbrev pub body_with : List ℕ → Details → Body
 body_with user_data d = record { user_data = user_data; time = d.time; usec = d.usec; seq = d.seq; s_addr = d.s_addr; r_addr = d.r_addr }
 
--- the fields behind the data
+-- the fields after the data
 unfoldable pub behind_of : List ℕ → List ℕ → Option Body
 behind_of user_data bytes = do
   time ← optional_at (context 1) time_element_of bytes

@@ -1,5 +1,5 @@
--- Aids of the code, and no definitions of the standard: sizes, and the pieces that a spelling is
--- written in. Private functions alone cite this file; the contracts of the encoders are in the
+-- What the code follows, and no definitions of the standard: sizes, and the pieces that a spelling
+-- is written in. Private functions alone cite this file; the contracts of the encoders are in the
 -- words of Message.antt.
 use Rattle.std.specs.Prelude.{ℕ, ◌+◌, ◌≤◌, ℤ, pos, List, [], ◌∷◌, ◌++◌, length, Option, IfSome}
 use Rattle.krb_base.specs.Limits.{frame_limit}

@@ -40,7 +40,7 @@ impl HostAddress {
     }
 }
 
-/// The same address, with bytes of its own. Only want of memory can refuse it.
+/// The same address, with bytes of its own. The only error is out of memory.
 impl Clone for HostAddress {
     ghost is_clone = { λ address copy. copy ≡ address };
 

@@ -102,7 +102,7 @@ fn read_optional_address(
     Ok(Some(address))
 }
 
-/// What a body carries behind its data.
+/// What a body carries after its data.
 #[derive(Drop)]
 pub struct Details {
     time: Option<u64>,
@@ -128,8 +128,8 @@ impl Details {
     }
 }
 
-/// The data of the body that the bytes spell, and the fields behind them, which are the last of
-/// the bytes.
+/// The data of the body that the bytes spell, and the fields after them, which are the last of the
+/// bytes.
 #[tactic(auto, unfolding(crate::specs::Reading::body_of, crate::specs::Reading::octets_of))]
 pub fn split_data(bytes: &[u8]) -> Result<(&[u8], &[u8]), DerError>
     ensures fields { IfOk result (λ x. body_of bytes.now ≡ behind_of x.0.now x.1.now) }
@@ -141,7 +141,7 @@ pub fn split_data(bytes: &[u8]) -> Result<(&[u8], &[u8]), DerError>
     Ok((data, fields.rest()))
 }
 
-/// The fields behind the data.
+/// The fields after the data.
 #[tactic(auto, unfolding(crate::specs::Reading::behind_of))]
 pub fn read_details(alloc: Global, bytes: &[u8]) -> Result<Details, DerError>
     ensures { (user_data : List ℕ) → Gives (body_with user_data) result (behind_of user_data bytes.now) }
@@ -235,8 +235,8 @@ fn known_optional_address(address: &Option<HostAddress>)
     }
 }
 
-/// A [`Body`] whose data and addresses are lent: so a message is written from where they lie, with
-/// no copy of its own.
+/// A [`Body`] whose data and addresses are borrowed, so a message is written without a copy of
+/// them.
 #[derive(Drop)]
 pub struct BodyRef<'a> {
     user_data: &'a [u8],
@@ -263,7 +263,7 @@ impl<'a> Model for BodyRef<'a> {
 }
 
 impl Body {
-    /// The body, lent.
+    /// The body, borrowed.
     pub fn borrowed(&self) -> BodyRef<'_>
         ensures { result ≡ self.now }
     {
@@ -279,7 +279,7 @@ impl Body {
 }
 
 impl<'a> BodyRef<'a> {
-    /// The body with this data, at a moment and a number, from one address to another.
+    /// The body with this data, at a timestamp and a sequence number, from one address to another.
     pub fn new(
         user_data: &'a [u8],
         at: Moment,
@@ -326,7 +326,7 @@ impl<'a> BodyRef<'a> {
         is_short(self.user_data) && is_short(self.s_addr.bytes.as_slice()) && r_addr
     }
 
-    /// What the types of its numbers say, beside the ranges that are required.
+    /// What the types of its numbers say, besides the ranges that are required.
     pub(crate) fn known(&self)
         requires { InRange self.now }
         ensures { IsBody self.now }
@@ -360,7 +360,7 @@ impl<'a> BodyRef<'a> {
         size_around(self.fields_size())
     }
 
-    /// Adds what stands before the data.
+    /// Adds what comes before the data.
     pub(crate) fn write_before_data(&self, out: &mut Writer) -> Result<(), AllocError>
         requires short { IsShortBody self.now }
         requires time { IfSome self.now.time IsSecond }
@@ -372,7 +372,7 @@ impl<'a> BodyRef<'a> {
         out.begin(tag::OCTET_STRING, data)
     }
 
-    /// Adds the fields behind the data.
+    /// Adds the fields after the data.
     pub(crate) fn write_behind_data(&self, out: &mut Writer) -> Result<(), AllocError>
         requires short { IsShortBody self.now }
         requires time { IfSome self.now.time IsSecond }

@@ -11,9 +11,9 @@ use std::fmt;
 pub enum DerError {
     /// The bytes read, or to be written, are over the limit of a message.
     TooLong,
-    /// The bytes spell nothing. Writing never answers this.
+    /// The bytes spell nothing. Writing never returns this.
     Malformed,
-    /// A growth was refused.
+    /// Out of memory.
     Memory,
 }
 

@@ -43,7 +43,7 @@ fn number_of_complement(octets: &[u8]) -> u64
     end - 1 - be_number(octets)
 }
 
-/// Whether the number is negative, and n where it is n or -(n + 1).
+/// Whether the number is negative, and n if it is n or -(n + 1).
 #[tactic(auto, unfolding(crate::specs::Reading::int_of))]
 fn magnitude(content: &[u8]) -> Result<(bool, u64), DerError>
     ensures { Gives (λ x. x) result (int_of content.now) }
@@ -90,7 +90,7 @@ fn read_int32(bytes: &[u8]) -> Result<i32, DerError>
     reader.finish(value)
 }
 
-/// The Int32 that stands in a field.
+/// The Int32 of a field.
 #[tactic(auto, unfolding(crate::specs::Reading::field_at))]
 pub fn read_int32_field(fields: &mut Reader<'_>, tag: u8) -> Result<i32, DerError>
     ensures { Takes (λ x. x) result fields.new (field_at tag int32_element_of fields.old) }
@@ -119,7 +119,7 @@ fn read_natural(limit: u64, bytes: &[u8]) -> Result<u32, DerError>
     reader.finish(value)
 }
 
-/// The number below a limit that stands in an optional field.
+/// The number below a limit of an optional field.
 #[tactic(auto, unfolding(crate::specs::Reading::optional_at))]
 pub fn read_optional_natural(
     fields: &mut Reader<'_>,
@@ -137,7 +137,7 @@ pub fn read_optional_natural(
     Ok(Some(value))
 }
 
-/// A number that is n, or where it is negative -(n + 1).
+/// A number that is n, or -(n + 1) if it is negative.
 #[derive(Drop)]
 struct Signed {
     negative: bool,

@@ -13,7 +13,7 @@ pub fn unique_spelling()
 {}
 
 /// Reading from left to right, as the definitions of the crates above cite it, finds the value that
-/// the bytes spell, and none where they spell nothing. This holds of bytes within the limit, for
+/// the bytes spell, and none if they spell nothing. This holds of bytes within the limit, for
 /// messages and for encrypted parts.
 pub fn reading_laws()
     ensures messages { FindsSpelt Spells message_of }
@@ -21,7 +21,7 @@ pub fn reading_laws()
 {}
 
 /// How long a spelling can be: tags, lengths and numbers take few bytes beside the data, the
-/// addresses, the checksum and the cipher. So whoever keeps to the limits of these never meets
+/// addresses, the checksum and the cipher. So who keeps to the limits of these never gets
 /// [`DerError::TooLong`](crate::DerError::TooLong).
 pub fn size_laws()
     ensures part { SmallPart }

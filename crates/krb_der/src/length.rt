@@ -35,7 +35,7 @@ fn wide_length(count: usize, least: u64, octets: &[u8]) -> Result<(u64, &[u8]), 
     Ok((n, rest))
 }
 
-/// The length at the front, in its shortest form, and what follows it.
+/// The length at the beginning, in its shortest form, and what follows it.
 #[tactic(auto, unfolding(crate::specs::Reading::length_at))]
 pub fn read_length(octets: &[u8]) -> Result<(u64, &[u8]), DerError>
     ensures { Gives (λ x. (x.0, x.1.now)) result (length_at octets.now) }

@@ -36,8 +36,8 @@ fn read_message(alloc: Global, bytes: &[u8]) -> Result<Message, DerError>
 
 /// The message that the bytes spell.
 ///
-/// [`DerError::TooLong`] is answered exactly where there are over 1,005,000 bytes, and
-/// [`DerError::Malformed`] exactly where there are no more and they spell nothing. Bodies that are
+/// [`DerError::TooLong`] is returned if and only if there are over 1,005,000 bytes, and
+/// [`DerError::Malformed`] if and only if there are no more and they spell nothing. Bodies that are
 /// read are in range.
 pub fn decode(alloc: Global, bytes: &[u8]) -> Result<Message, DerError>
     ensures answer { Decodes Spells result bytes.now }

@@ -29,7 +29,7 @@ impl<'a> BodyRef<'a> {
         size_around(self.size())
     }
 
-    /// The same, where it is within the limit.
+    /// The same, if it is within the limit.
     pub(crate) fn limited_part_size(&self) -> Result<usize, DerError>
         requires { InRange self.now }
         ensures value { IfOk result (λ size. size ≡ length (part self.now)) }
@@ -75,8 +75,8 @@ impl<'a> BodyRef<'a> {
 
 /// The spelling of the body as the encrypted part of KRB-PRIV (RFC 4120 section 5.7.1).
 ///
-/// [`DerError::TooLong`] is answered exactly where it has over 1,005,000 bytes, before any memory
-/// is taken.
+/// [`DerError::TooLong`] is returned if and only if it has over 1,005,000 bytes, before any
+/// allocation.
 pub fn encode_part(alloc: Global, b: &Body) -> Result<Vec<u8>, DerError>
     requires { InRange b.now }
     ensures { Encodes SpellsPart part b.now result }
@@ -86,8 +86,8 @@ pub fn encode_part(alloc: Global, b: &Body) -> Result<Vec<u8>, DerError>
     Ok(b.part_spelling(alloc, size)?)
 }
 
-/// The data of the body that the bytes spell as an encrypted part, and the fields behind them,
-/// which are the last of the bytes.
+/// The data of the body that the bytes spell as an encrypted part, and the fields after them, which
+/// are the last of the bytes.
 #[tactic(auto, unfolding(crate::specs::Reading::part_of))]
 fn split_part(bytes: &[u8]) -> Result<(&[u8], &[u8]), DerError>
     ensures fields { IfOk result (λ x. part_of bytes.now ≡ behind_of x.0.now x.1.now) }
@@ -106,8 +106,8 @@ fn read_part(alloc: Global, bytes: &[u8]) -> Result<Body, DerError>
 
 /// The body that the bytes spell as the encrypted part of KRB-PRIV.
 ///
-/// [`DerError::TooLong`] is answered exactly where there are over 1,005,000 bytes, and
-/// [`DerError::Malformed`] exactly where there are no more and they spell nothing. A body that is
+/// [`DerError::TooLong`] is returned if and only if there are over 1,005,000 bytes, and
+/// [`DerError::Malformed`] if and only if there are no more and they spell nothing. A body that is
 /// read is in range.
 pub fn decode_part(alloc: Global, bytes: &[u8]) -> Result<Body, DerError>
     ensures answer { Decodes SpellsPart result bytes.now }
@@ -120,8 +120,8 @@ pub fn decode_part(alloc: Global, bytes: &[u8]) -> Result<Body, DerError>
     read_part(alloc, bytes)
 }
 
-/// The bytes from `start` up to `end`, in their own block: a deque drops what stands before them
-/// and moves them to the front at once.
+/// The bytes from `start` up to `end`, in their own block: a deque drops what comes before them and
+/// moves them to the beginning in one move.
 fn cut_out(bytes: Vec<u8>, start: usize, end: usize) -> Vec<u8>
     requires order { start ≤ end }
     requires within { end ≤ length bytes.items }
@@ -152,8 +152,8 @@ fn known_bytes(bytes: &[u8])
 {}
 
 /// The body that the bytes from `start` on spell as the encrypted part of KRB-PRIV, as
-/// [`decode_part`] gives it. Its data stay in the block of the bytes: they are moved to its front,
-/// and no memory is taken for them.
+/// [`decode_part`] gives it. Its data stay in the block of the bytes: they are moved to its
+/// beginning, and nothing is allocated for them.
 pub fn decode_part_from(alloc: Global, bytes: Vec<u8>, start: usize) -> Result<Body, DerError>
     requires { start ≤ length bytes.items }
     ensures answer { Decodes SpellsPart result (drop start bytes.items) }

@@ -29,7 +29,7 @@ pub struct PrivMsg {
     pub msg_type: i32,
     /// The encryption type.
     pub etype: i32,
-    /// The version of the key, if it is told.
+    /// The version of the key, if there is one.
     pub kvno: Option<u32>,
     /// The encrypted part, with its checksum.
     pub cipher: Bytes,
@@ -118,7 +118,7 @@ impl PrivMsg {
         size_around(size_around(self.fields_size(cipher)))
     }
 
-    /// The same, where it is within the limit.
+    /// The same, if it is within the limit.
     fn limited_size(&self, cipher: usize) -> Result<usize, DerError>
         ensures value { IfOk result (λ size. size ≡ private_size self.now cipher) }
         ensures limit { IfOk result (λ size. size ≤ frame_limit) }
@@ -136,7 +136,7 @@ impl PrivMsg {
         Ok(size)
     }
 
-    /// Adds what stands before a cipher of so many bytes.
+    /// Adds what comes before a cipher of so many bytes.
     fn write_before_cipher(&self, out: &mut Writer, cipher: usize) -> Result<(), AllocError>
         requires { cipher ≤ frame_limit }
         ensures { OnOk result (out.new ≡ out.old ++ private_before_cipher self.now cipher) }
@@ -196,8 +196,8 @@ impl PrivMsg {
 
 /// The spelling of the message.
 ///
-/// [`DerError::TooLong`] is answered exactly where it has over 1,005,000 bytes, before any memory
-/// is taken.
+/// [`DerError::TooLong`] is returned if and only if it has over 1,005,000 bytes, before any
+/// allocation.
 pub fn encode_priv(alloc: Global, m: &PrivMsg) -> Result<Vec<u8>, DerError>
     ensures { Encodes Spells message (Priv m.now) result }
 {
@@ -206,8 +206,8 @@ pub fn encode_priv(alloc: Global, m: &PrivMsg) -> Result<Vec<u8>, DerError>
     Ok(m.spelling(alloc, size)?)
 }
 
-/// A KRB-PRIV whose cipher isn't one yet: from `start` on stands the text that is to be enciphered
-/// there, and there is room for what an encryption puts behind it.
+/// A KRB-PRIV whose cipher isn't encrypted yet: from `start` on it has the plaintext, with room for
+/// what an encryption appends.
 #[derive(Drop)]
 pub struct Draft {
     /// The message so far.
@@ -216,12 +216,12 @@ pub struct Draft {
     pub start: usize,
 }
 
-/// The message with the bytes `before` and the part of a body where its cipher is to be, and with
-/// room for `behind` bytes of that cipher more: so a part is enciphered where it is written (RFC
-/// 3961 section 5.3). The cipher of `m` itself plays no part.
+/// The message with the bytes `before` and the part of a body in the place of its cipher, and with
+/// room for `behind` more bytes of that cipher: so a part is encrypted where it is written (RFC
+/// 3961 section 5.3). The cipher of `m` itself isn't used.
 ///
-/// [`DerError::TooLong`] is answered exactly where the message would have over 1,005,000 bytes,
-/// before any memory is taken.
+/// [`DerError::TooLong`] is returned if and only if the message would have over 1,005,000 bytes,
+/// before any allocation.
 pub fn draft_priv(
     alloc: Global,
     m: &PrivMsg,

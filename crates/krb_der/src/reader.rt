@@ -64,7 +64,7 @@ impl<'a> Reader<'a> {
         self.rest
     }
 
-    /// The value, where nothing is left.
+    /// The value, if nothing is left.
     pub fn finish<T: Drop>(&self, value: T) -> Result<T, DerError>
         ensures { Gives (λ x. x) result (ended value self.now) }
     {
@@ -76,7 +76,7 @@ impl<'a> Reader<'a> {
     }
 }
 
-/// The content of the element with this tag at the front, and what follows it.
+/// The content of the first element, which has this tag, and what follows it.
 #[tactic(auto, unfolding(crate::specs::Reading::tagged_at))]
 fn split_element(tag: u8, bytes: &[u8]) -> Result<(&[u8], &[u8]), DerError>
     ensures { Gives (λ x. (x.0.now, x.1.now)) result (tagged_at tag bytes.now) }
@@ -117,7 +117,7 @@ fn read_octets(alloc: Global, bytes: &[u8]) -> Result<Bytes, DerError>
     Ok(Bytes::new(Vec::from_slice(alloc, content)?))
 }
 
-/// The bytes of the OCTET STRING that stands in a field.
+/// The bytes of the OCTET STRING of a field.
 #[tactic(auto, unfolding(crate::specs::Reading::field_at))]
 pub fn read_octets_field(alloc: Global, fields: &mut Reader<'_>, tag: u8) -> Result<Bytes, DerError>
     ensures { Takes (λ x. x) result fields.new (field_at tag octets_of fields.old) }

@@ -58,17 +58,17 @@ pub fn read_safe(alloc: Global, bytes: &[u8]) -> Result<SafeMsg, DerError>
     })
 }
 
-/// The bytes under the checksum of a KRB-SAFE, without the data that stands in their middle: so
-/// the data needn't be copied to be hashed.
+/// The bytes under the checksum of a KRB-SAFE, without the data in their middle, so the data
+/// needn't be copied to be hashed.
 #[derive(Debug, Drop)]
 pub struct Covered {
-    /// What stands before the data.
+    /// What comes before the data.
     pub before: Vec<u8>,
-    /// What stands behind it.
+    /// What comes after it.
     pub behind: Vec<u8>,
 }
 
-/// A [`SafeMsg`] whose data, addresses and checksum are lent.
+/// A [`SafeMsg`] whose data, addresses and checksum are borrowed.
 #[derive(Drop)]
 pub struct SafeRef<'a> {
     pvno: i32,
@@ -93,7 +93,7 @@ impl<'a> Model for SafeRef<'a> {
 }
 
 impl SafeMsg {
-    /// The message, lent.
+    /// The message, borrowed.
     pub fn borrowed(&self) -> SafeRef<'_>
         ensures { result ≡ self.now }
     {
@@ -199,8 +199,8 @@ impl<'a> SafeRef<'a> {
     /// Its spelling with this type of checksum and this checksum in place of its own: one value
     /// gives both what is under a checksum and the message that has it.
     ///
-    /// [`DerError::TooLong`] is answered exactly where it has over 1,005,000 bytes, before any
-    /// memory is taken.
+    /// [`DerError::TooLong`] is returned if and only if it has over 1,005,000 bytes, before any
+    /// allocation.
     pub fn encode_with_checksum(
         &self,
         alloc: Global,
@@ -234,7 +234,7 @@ impl<'a> SafeRef<'a> {
         Ok(self.spelling(alloc, kind, checksum, size)?)
     }
 
-    /// How many bytes its spelling with no checksum has, where they are within the limit.
+    /// How many bytes its spelling with no checksum has, if they are within the limit.
     fn limited_input_size(&self) -> Result<usize, DerError>
         requires { InRange self.now.body }
         ensures limit { OnOk result (length (safe_input self.now) ≤ frame_limit) }
@@ -252,7 +252,7 @@ impl<'a> SafeRef<'a> {
         Ok(size)
     }
 
-    /// Adds what stands before the data in its spelling with no checksum.
+    /// Adds what comes before the data in its spelling with no checksum.
     fn write_before_data(&self, out: &mut Writer) -> Result<(), AllocError>
         requires short { IsShortBody self.now.body }
         requires time { IfSome self.now.body.time IsSecond }
@@ -267,7 +267,7 @@ impl<'a> SafeRef<'a> {
         self.body.write_before_data(out)
     }
 
-    /// What stands before the data in its spelling with no checksum.
+    /// What comes before the data in its spelling with no checksum.
     fn before_data(&self, alloc: Global) -> Result<Vec<u8>, AllocError>
         requires short { IsShortBody self.now.body }
         requires time { IfSome self.now.body.time IsSecond }
@@ -278,7 +278,7 @@ impl<'a> SafeRef<'a> {
         Ok(out.into_vec())
     }
 
-    /// What stands behind the data, in a `Vec` with room for so many bytes.
+    /// What comes after the data, in a `Vec` with room for so many bytes.
     fn behind_data(&self, alloc: Global, room: usize) -> Result<Vec<u8>, AllocError>
         requires short { IsShortBody self.now.body }
         requires time { IfSome self.now.body.time IsSecond }
@@ -305,8 +305,8 @@ impl<'a> SafeRef<'a> {
 
 /// The spelling of the message.
 ///
-/// [`DerError::TooLong`] is answered exactly where it has over 1,005,000 bytes, before any memory
-/// is taken.
+/// [`DerError::TooLong`] is returned if and only if it has over 1,005,000 bytes, before any
+/// allocation.
 pub fn encode_safe(alloc: Global, m: &SafeMsg) -> Result<Vec<u8>, DerError>
     requires { InRange m.now.body }
     ensures { Encodes Spells message (Safe m.now) result }
@@ -318,8 +318,8 @@ pub fn encode_safe(alloc: Global, m: &SafeMsg) -> Result<Vec<u8>, DerError>
 /// The bytes under the checksum of the message: its spelling with checksum type 0 and an empty
 /// checksum (RFC 4120 section 5.6.1).
 ///
-/// [`DerError::TooLong`] is answered exactly where they are over 1,005,000 bytes, before any memory
-/// is taken.
+/// [`DerError::TooLong`] is returned if and only if they are over 1,005,000 bytes, before any
+/// allocation.
 pub fn safe_input(alloc: Global, m: &SafeMsg) -> Result<Vec<u8>, DerError>
     requires { InRange m.now.body }
     ensures input { IfOk result (λ bytes. bytes.items ≡ safe_input m.now) }
@@ -331,8 +331,8 @@ pub fn safe_input(alloc: Global, m: &SafeMsg) -> Result<Vec<u8>, DerError>
 /// The bytes under the checksum of the message, around its data: with the data between them they
 /// are what [`safe_input`] gives.
 ///
-/// [`DerError::TooLong`] is answered exactly where they are over 1,005,000 bytes, before any memory
-/// is taken.
+/// [`DerError::TooLong`] is returned if and only if they are over 1,005,000 bytes, before any
+/// allocation.
 pub fn safe_input_around(alloc: Global, m: &SafeRef<'_>) -> Result<Covered, DerError>
     requires { InRange m.now.body }
     ensures { Covers m.now result }

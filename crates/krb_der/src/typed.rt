@@ -26,7 +26,7 @@ pub fn read_typed(alloc: Global, bytes: &[u8]) -> Result<(i32, Bytes), DerError>
     fields.finish((kind, bytes))
 }
 
-/// The type and the bytes that stand in a field.
+/// The type and the bytes of a field.
 #[tactic(auto, unfolding(crate::specs::Reading::field_at))]
 pub fn read_typed_field(
     alloc: Global,

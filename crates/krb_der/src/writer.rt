@@ -22,7 +22,7 @@ impl Model for Writer {
 }
 
 impl Writer {
-    /// A writer with room for so many bytes, the one growth where no more are written.
+    /// A writer with room for so many bytes: the only allocation, if no more are written.
     pub fn with_capacity(alloc: Global, capacity: usize) -> Result<Writer, AllocError>
         ensures { IfOk result (λ w. w ≡ []) }
     {
@@ -44,7 +44,7 @@ impl Writer {
         self.bytes.extend_from_slice(bytes)
     }
 
-    /// Adds what stands before a content of so many bytes: its tag and its length.
+    /// Adds what comes before a content of so many bytes: its tag and its length.
     #[tactic(auto, unfolding(crate::specs::Element::header))]
     pub fn begin(&mut self, tag: u8, content: usize) -> Result<(), AllocError>
         requires { content < 2 ^ 24 }

@@ -1,6 +1,6 @@
 ghost use Rattle.std.specs.Prelude.{◌≡◌, ◌↔◌, IsTrue};
 
-/// Whether two message codes are equal. Of codes of one length it reads every byte.
+/// Whether two message codes are equal. If they have one length, it reads every byte.
 pub fn mac_equal(a: &[u8], b: &[u8]) -> bool
     ensures { IsTrue result ↔ (a.now ≡ b.now) }
 {

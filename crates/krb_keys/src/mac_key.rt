@@ -44,8 +44,8 @@ fn keyed(byte: u8, key: &[u8]) -> Sha1
     hash
 }
 
-/// A key for HMAC-SHA1 (RFC 2104) that is ready for use: the two hashes of HMAC are kept where
-/// each has taken in its padded key (section 4 of the RFC), so that a code costs two blocks less.
+/// A key for HMAC-SHA1 (RFC 2104) that is ready for use: the two hashes of HMAC are kept where each
+/// has taken in its padded key (section 4 of the RFC), so a code costs two blocks less.
 ///
 /// Whoever has these hashes can make codes as the holder of the key can. So a `MacKey` isn't
 /// dropped: it ends by `wipe` and then `spend`.
@@ -88,7 +88,7 @@ impl MacKey {
         first
     }
 
-    /// Forgets the key: both hashes are as new. The codes made from then on are under no key.
+    /// Forgets the key: both hashes are as new. Codes made after that are under no key.
     pub fn wipe(&mut self)
         ensures { IsForgotten self.new }
     {
@@ -96,7 +96,7 @@ impl MacKey {
         self.outer = Sha1::new();
     }
 
-    /// Ends a key that was wiped.
+    /// Ends a key. Both of its hashes have to be as new.
     pub fn spend(self)
         requires { IsForgotten self }
     {

@@ -15,14 +15,14 @@ accepted_of (offer ∷ offers) [] = []
 accepted_of (offer ∷ offers) (Ok accepted ∷ answers) = offer.carried ∷ accepted_of offers answers
 accepted_of (offer ∷ offers) (Err refusal ∷ answers) = accepted_of offers answers
 
--- an offer comes next where no close was accepted before, and its number is at most the last one
--- and is the first number plus the count of the records accepted before
+-- an offer comes next if no close was accepted before, and its number is at most the last one and
+-- is the first number plus the count of the records accepted before
 pub record ComesNext (first : ℕ) (before : List Record) (offer : Offer) : Type 0 where
   pub not_closed : ¬ Contains before Close
   pub in_range : offer.number ≤ last_number
   pub demanded : offer.number ≡ first + length before
 
--- an offer is accepted exactly where it comes next, and refused as after the close exactly where
+-- an offer is accepted if and only if it comes next, and refused as after the close if and only if
 -- a close was accepted before; any other is out of order
 pub record IsAnswer (first : ℕ) (before : List Record) (offer : Offer) (answer : Answer) : Type 0 where
   pub accepted : IsOk answer ↔ ComesNext first before offer
@@ -48,6 +48,6 @@ IsNumbered first records offer = (k : ℕ) → offer.number ≡ first + k → sl
 abbrev pub AreNumbered : ℕ → List Record → List Offer → Type 0
 AreNumbered first records offers = All (IsNumbered first records) offers
 
--- the one close of a list stands last
+-- the list has one close, which is last
 abbrev pub EndsWithItsClose : List Record → Type 0
 EndsWithItsClose records = (front : List Record) × (¬ Contains front Close) × (records ≡ front ++ Close ∷ [])

@@ -1,5 +1,5 @@
--- What is claimed of a lane. Each claim stands here once, of a list of events: `headline_laws` says
--- it of those that verdicts bring, and `Headline` of those that a log has of the lane.
+-- What is claimed of a lane. Each claim is here once, about a list of events: `headline_laws`
+-- states it of those that verdicts bring, and `Headline` of those that a log has of the lane.
 use Rattle.std.specs.Prelude.{◌≡◌, ◌↔◌, ℕ, Bool, true, false, List, [], ◌∷◌, ◌++◌, take, slice_get, slice_index_or, Some, Err}
 use Rattle.krb_base.specs.Prefix.{IsPrefix}
 use Rattle.krb_seal.specs.declared.refusal.Refusal.{Refusal}
@@ -27,7 +27,7 @@ DeliversPrefix source events = IsPrefix (texts_in events) (sealed_texts source)
 abbrev pub DeliversAll : Source → List Event → Type 0
 DeliversAll source events = texts_in events ≡ sealed_texts source
 
--- so they are, and the close is accepted
+-- all texts are delivered, and the close is accepted
 abbrev pub DeliversWhole : Source → List Event → Type 0
 DeliversWhole source events = DeliversAll source events × (has_closed events ≡ true)
 
@@ -36,11 +36,11 @@ abbrev pub NothingAfterClose : List Event → Type 0
 NothingAfterClose events =
     (front back : List Event) → events ≡ front ++ Closed ∷ back → (texts_in back ≡ []) × (has_closed back ≡ false)
 
--- all texts are delivered where the close was accepted
+-- all texts are delivered if the close was accepted
 abbrev pub AllWhereClosed : Source → List Event → Type 0
 AllWhereClosed source events = has_closed events ≡ true → DeliversAll source events
 
--- a frame is refused exactly where it fails a check, by the first that it fails
+-- a frame is refused if and only if it fails a check, by the first that it fails
 abbrev pub RefusesExactly : ReceiverState → List ℕ → List (List ℕ) → List Verdict → Type 0
 RefusesExactly start nows took verdicts =
     (place : ℕ) (frame : List ℕ) (refusal : Refusal) → slice_get took place ≡ Some frame
@@ -67,10 +67,10 @@ pub record Headline (log : LogState) (lane : ℕ) (run : Run) : Type 0 where
   pub nothing_after_close : NothingAfterClose (events_of lane log.entries)
   pub all_where_closed :
       IsPaired run.ends → AlteredAreHonest run → AllWhereClosed run.ends.source (events_of lane log.entries)
-  -- all texts are delivered where nothing disturbs the lane and its End was taken
+  -- all texts are delivered if the lane is clean and its End was taken
   pub all_where_undisturbed :
       Undisturbed run.ends → has_ended lane log ≡ true → DeliversAll run.ends.source (events_of lane log.entries)
-  -- and where each frame came in its turn, whatever else came, and the lane's End was taken
+  -- and if each frame came in its turn, whatever else came, and the lane's End was taken
   pub all_where_carried :
       Carried run.ends → AlteredAreHonest run → has_ended lane log ≡ true → DeliversWhole run.ends.source (events_of lane log.entries)
   pub refused_exactly : RefusesExactly run.ends.receiver run.ends.nows run.took run.verdicts

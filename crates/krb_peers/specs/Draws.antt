@@ -1,5 +1,5 @@
--- What a ChaCha20 generator gives from where it stands, and the confounders made of it. Their
--- choice is this project's own.
+-- What a ChaCha20 generator gives from its present state, and the confounders made of it. RFC 3961
+-- leaves their choice open; it is this project's own.
 use Rattle.std.specs.Prelude.{ℕ, zero, suc, ◌+◌, ◌*◌, ◌%◌, ◌^◌, List, ◌++◌}
 use Rattle.std.specs.Int.{w32, to_le_bytes}
 use Rattle.rand_chacha.specs.ChaCha.{ChaCha, word_at}
@@ -8,7 +8,7 @@ use Rattle.rand_chacha.specs.ChaCha.{ChaCha, word_at}
 unfoldable pub word_bytes : ChaCha → List ℕ
 word_bytes g = to_le_bytes w32 (word_at 10 g.key g.stream g.word_pos)
 
--- the generator behind its next word, and behind its next n words
+-- the generator after its next word, and after its next n words
 unfoldable pub after_word : ChaCha → ChaCha
 after_word g = record g { word_pos = (g.word_pos + 1) % 2 ^ 68 }
 

@@ -1,4 +1,4 @@
--- What holds of senders, receivers and logs.
+-- What holds of senders, receivers and logs: what the laws state.
 use Rattle.std.specs.Prelude.{◌≡◌, ◌↔◌, ◌<◌, ◌≤◌, ℕ, suc, ◌+◌, List, [], ◌∷◌, ◌++◌, length, take, All, IsOk, None}
 use Rattle.std.specs.List.{Contains, flat_map}
 use Rattle.krb_base.specs.Prefix.{IsPrefix}
@@ -46,12 +46,12 @@ abbrev pub OneListOfAnswers : Type 0
 OneListOfAnswers = (first : ℕ) (offers : List Offer) (answers : List Answer)
     → Accepted first offers answers ↔ (answers ≡ answers_to (first_demand first) offers)
 
--- nothing is accepted behind a close
+-- nothing is accepted after a close
 abbrev pub CloseIsLast : Type 0
 CloseIsLast = (first : ℕ) (offers : List Offer) (answers : List Answer) → Accepted first offers answers
     → (front back : List Record) → accepted_of offers answers ≡ front ++ Close ∷ back → back ≡ []
 
--- it holds where each offer numbered `first + k` carries record k of the list
+-- it holds if each offer numbered `first + k` carries record k of the list
 abbrev pub OfNumbered : (List Record → List Record → Type 0) → Type 0
 OfNumbered Claim =
     (first : ℕ) (records : List Record) (offers : List Offer) (answers : List Answer) → Accepted first offers answers
@@ -64,7 +64,7 @@ AcceptsPrefix = OfNumbered (λ records accepted. IsPrefix accepted records)
 abbrev pub AcceptsTextsPrefix : Type 0
 AcceptsTextsPrefix = OfNumbered (λ records accepted. IsPrefix (flat_map texts_of accepted) (flat_map texts_of records))
 
--- and it is the whole list where the list's one close stands last and was accepted
+-- and it is the whole list if the list's one close is last and was accepted
 abbrev pub AcceptsWhole : Type 0
 AcceptsWhole = OfNumbered (λ records accepted. EndsWithItsClose records → Contains accepted Close → accepted ≡ records)
 
@@ -80,14 +80,14 @@ abbrev pub OneListOfVerdicts : Type 0
 OneListOfVerdicts = (opener : OpenerState) (nows : List ℕ) (start : Demand) (frames : List (List ℕ)) (answers : List Verdict)
     → AllBytes frames → AreVerdicts opener nows start 0 frames answers ↔ (answers ≡ verdicts opener nows start 0 frames)
 
--- with one frame more comes one verdict more, by what is demanded then
+-- one more frame brings one more verdict, by what is demanded then
 abbrev pub VerdictsGoOn : Type 0
 VerdictsGoOn = (opener : OpenerState) (nows : List ℕ) (start : Demand) (frames : List (List ℕ)) (answers : List Verdict) (frame : List ℕ) (v : Verdict)
     → AreVerdicts opener nows start 0 frames answers
     → IsVerdict opener (demand_after start (records_of answers)) (moment_at nows (length frames)) frame v
     → AreVerdicts opener nows start 0 (frames ++ frame ∷ []) (answers ++ v ∷ [])
 
--- and so of the list as it is computed
+-- and likewise of the list as it is computed
 abbrev pub NextVerdict : Type 0
 NextVerdict = (opener : OpenerState) (nows : List ℕ) (start : Demand) (frames : List (List ℕ)) (frame : List ℕ)
     → let before = verdicts opener nows start 0 frames in
@@ -133,7 +133,7 @@ VerdictsRefuseExactly = OfVerdicts RefusesExactly
 abbrev pub VerdictsOfRefusalsDeliverNothing : Type 0
 VerdictsOfRefusalsDeliverNothing = (start : Demand) (answers : List Verdict) → RefusalsDeliverNothing start answers (events_from answers)
 
--- ---- a lane that nothing disturbs
+-- ---- a clean lane
 
 -- it holds of each run of such a lane
 abbrev pub OfUndisturbed : (Run → Type 0) → Type 0
@@ -146,12 +146,12 @@ NoneIsRefused = OfUndisturbed (λ run. All IsOk run.verdicts)
 abbrev pub AcceptsFirstRecords : Type 0
 AcceptsFirstRecords = OfUndisturbed (λ run. records_of run.verdicts ≡ take (length run.took) (records run.ends.source))
 
--- and the number behind them is demanded
+-- and the number after them is demanded
 abbrev pub DemandsNumberBehind : Type 0
 DemandsNumberBehind = OfUndisturbed (λ run.
     (demand_after run.ends.receiver.demand (records_of run.verdicts)).expected ≡ run.ends.receiver.demand.expected + length run.took)
 
--- all texts are delivered where all frames were taken
+-- all texts are delivered if all frames were taken
 abbrev pub DeliversAllThatIsTaken : Type 0
 DeliversAllThatIsTaken = OfUndisturbed (λ run. TakesAll run.ends.source run.took → DeliversAll run.ends.source (events_from run.verdicts))
 
@@ -162,37 +162,37 @@ abbrev pub OfCarried : ((run : Run) → Carried run.ends → Type 0) → Type 0
 OfCarried Claim =
     (run : Run) (carried : Carried run.ends) → AlteredAreHonest run → IsWithinLimits run.ends.source → IsRun run → Claim run carried
 
--- behind frame k in its turn, a number behind record k is demanded
+-- after frame k in its turn, a number after that of record k is demanded
 abbrev pub DemandsNumbersInTurn : Type 0
 DemandsNumbersInTurn = OfCarried (λ run carried.
     (k : ℕ) → k < length (records run.ends.source) → carried.in_turn.place k < length run.took
     → let start = run.ends.receiver.demand in
     start.expected + k < (demand_after start (records_of (take (suc (carried.in_turn.place k)) run.verdicts))).expected)
 
--- all texts are delivered and the close is accepted where all frames were taken
+-- all texts are delivered and the close is accepted if all frames were taken
 abbrev pub DeliversAllThatIsCarried : Type 0
 DeliversAllThatIsCarried = OfCarried (λ run carried. TakesAll run.ends.source run.took → DeliversWhole run.ends.source (events_from run.verdicts))
 
--- a lane that nothing disturbs is one of these, and no frame of it is altered
+-- a clean lane is one of these, and no frame of it is altered
 abbrev pub UndisturbedIsCarried : Type 0
 UndisturbedIsCarried = (ends : Ends) → Undisturbed ends → Carried ends
 
 abbrev pub UndisturbedIsHonest : Type 0
 UndisturbedIsHonest = (run : Run) → Undisturbed run.ends → AlteredAreHonest run
 
--- ---- a receiver that goes on elsewhere
+-- ---- a receiver that continues elsewhere
 
 -- a receiver of a paired lane accepts in order
 abbrev pub PairedAcceptInOrder : Type 0
 PairedAcceptInOrder = (run : Run) → IsPaired run.ends → IsRun run → AlteredAreHonest run → AcceptInOrder run.ends.source run.verdicts
 
--- it holds of each run that goes on behind verdicts that accepted in order
+-- it holds of each run that continues after verdicts that accepted in order
 abbrev pub OfGoingOn : (Source → List Verdict → Run → Type 0) → Type 0
 OfGoingOn Claim =
     (source : Source) (before : List Verdict) (run : Run) → AcceptInOrder source before → GoesOnBehind source before run.ends
     → AlteredAreHonestBehind (length (records_of before)) run → IsRun run → Claim source before run
 
--- together they accept in order, whatever comes again
+-- together they accept in order, whatever is repeated
 abbrev pub GoingOnAcceptsInOrder : Type 0
 GoingOnAcceptsInOrder = OfGoingOn (λ source before run. AcceptInOrder source (before ++ run.verdicts))
 
@@ -200,7 +200,7 @@ GoingOnAcceptsInOrder = OfGoingOn (λ source before run. AcceptInOrder source (b
 abbrev pub InOrderDeliversPrefix : Type 0
 InOrderDeliversPrefix = (source : Source) (verdicts : List Verdict) → AcceptInOrder source verdicts → DeliversPrefix source (events_from verdicts)
 
--- and all of them, where the frames that weren't accepted before come in their turn
+-- and all of them, if the frames that weren't accepted before come in their turn
 abbrev pub GoingOnDeliversAll : Type 0
 GoingOnDeliversAll = OfGoingOn (λ source before run.
     ComeInTurn (length (records_of before)) run.ends → TakesAll run.ends.source run.took → DeliversWhole source (events_from (before ++ run.verdicts)))
@@ -212,7 +212,7 @@ abbrev pub NothingIsLogged : Type 0
 NothingIsLogged = (start : ReceiverState) (nows : List ℕ) (lane : ℕ) (log : LogState)
     → events_of lane log.entries ≡ [] → HasLogged start nows lane [] log start []
 
--- behind a close that stands there, the receiver accepts no more
+-- after a close that is there, the receiver accepts no more
 abbrev pub LoggedIsShut : Type 0
 LoggedIsShut = (start : ReceiverState) (nows : List ℕ) (lane : ℕ) (took : List (List ℕ)) (log : LogState) (receiver : ReceiverState) (verdicts : List Verdict)
     → HasLogged start nows lane took log receiver verdicts → IsShut log lane receiver
@@ -228,15 +228,15 @@ OneListOfRounds = (lists : List (List (List Event))) (entries : List Entry) → 
 abbrev pub RoundsKeepLanes : Type 0
 RoundsKeepLanes = (lists : List (List (List Event))) (lane : ℕ) → events_of lane (rounds lists) ≡ joined (list_of lists lane)
 
--- one group more comes last, where no lane behind has more groups than its lane had: of the rounds
--- up to it
+-- one more group comes last, if no later lane has more groups than its lane had: of the rounds up
+-- to it
 abbrev pub RoundGoesOn : Type 0
 RoundGoesOn = (front : List (List (List Event))) (groups : List (List Event)) (group : List Event) (back : List (List (List Event)))
     → NoneLonger (length groups) back
     → let before = rounds_below (suc (length groups)) (front ++ groups ∷ back) in
     rounds_below (suc (length groups)) (front ++ (groups ++ group ∷ []) ∷ back) ≡ before ++ entries_for (length front) group
 
--- and of all rounds, where no lane before it has more groups than it has then
+-- and of all rounds, if no lane before it has more groups than it has then
 abbrev pub RoundsGoOn : Type 0
 RoundsGoOn = (front : List (List (List Event))) (groups : List (List Event)) (group : List Event) (back : List (List (List Event)))
     → NoneLonger (suc (length groups)) front → NoneLonger (length groups) back
@@ -244,8 +244,8 @@ RoundsGoOn = (front : List (List (List Event))) (groups : List (List Event)) (gr
 
 -- ---- any relay
 
--- it follows where the log has the verdicts on fronts of the lanes' wires, in rounds, and a lane
--- ends only behind all that its wire carries
+-- it follows if the log has the verdicts on prefixes of the lanes' wires, in rounds, and a lane
+-- ends only after all that its wire carries
 abbrev pub OfFronts : (List Ends → List Run → LogState → Type 0) → Type 0
 OfFronts Claim =
     (lanes : List Ends) (runs : List Run) (log : LogState)
@@ -259,7 +259,7 @@ FrontsHaveHeadline = OfFronts (λ lanes runs log. OfRuns runs (Headline log))
 abbrev pub FrontsAreRelayed : Type 0
 FrontsAreRelayed = OfFronts (λ lanes runs log. (relayed : IsRelayed lanes log) × (relayed.runs ≡ runs))
 
--- the whole log of given lanes is one list, and so is what is told of how much their senders sealed
+-- the whole log of given lanes is one list, and so is the report of how much their senders sealed
 abbrev pub OneWholeLog : Type 0
 OneWholeLog = (lanes : List Ends) (log other : LogState) (sents others : List Sent)
     → IsWhole lanes log sents → IsWhole lanes other others → (log.entries ≡ other.entries) × (sents ≡ others)

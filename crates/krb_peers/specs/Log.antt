@@ -32,28 +32,28 @@ has_closed (Text text ∷ events) = has_closed events
 has_closed (Closed ∷ events) = true
 has_closed (Refused refusal ∷ events) = has_closed events
 
--- the texts of a lane, and whether a close of it stands
+-- the texts of a lane, and whether the log has a close of it
 abbrev pub texts_of : ℕ → List Entry → List (List ℕ)
 texts_of lane entries = texts_in (events_of lane entries)
 
 abbrev pub is_closed : ℕ → List Entry → Bool
 is_closed lane entries = has_closed (events_of lane entries)
 
--- a text or a close may follow where no close of the lane stands, a refusal everywhere
+-- a text or a close may follow if there is no close of the lane, a refusal always
 abbrev pub MayFollow : Event → ℕ → List Entry → Type 0
 MayFollow (Text text) lane entries = is_closed lane entries ≡ false
 MayFollow Closed lane entries = is_closed lane entries ≡ false
 MayFollow (Refused refusal) lane entries = Unit {0}
 
--- nothing became of any frame yet
+-- a new log: it has no entries
 abbrev pub new_log : ℕ → LogState
 new_log lanes = record { lanes = lanes; entries = []; ended = replicate lane_limit false }
 
--- one entry more
+-- one more entry
 abbrev pub appended : LogState → ℕ → Event → LogState
 appended log lane event = record log { entries = log.entries ++ record { lane = lane; event = event } ∷ [] }
 
--- several entries more, each an event of one lane
+-- several more entries, each an event of one lane
 abbrev pub appended_all : LogState → ℕ → List Event → LogState
 appended_all log lane events = record log { entries = log.entries ++ entries_for lane events }
 
@@ -61,7 +61,7 @@ appended_all log lane events = record log { entries = log.entries ++ entries_for
 abbrev pub ended_at : LogState → ℕ → LogState
 ended_at log lane = record log { ended = slice_set log.ended lane true }
 
--- closed where a close stands, else truncated where the lane has ended, else live
+-- closed if there is a close, else truncated if the lane has ended, else live
 abbrev pub status_of : LogState → ℕ → Status
 status_of log lane =
     if is_closed lane log.entries then status.Closed

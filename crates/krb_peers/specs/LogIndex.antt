@@ -6,19 +6,20 @@ use Rattle.krb_peers.specs.declared.log.Event.TheVariants.{Text, Closed, Refused
 use Rattle.krb_peers.specs.declared.log.Entry.{Entry}
 use Rattle.krb_peers.specs.Log.{is_closed}
 
--- the place of an event, where it is a text
+-- the place of an event, if it is a text
 abbrev pub text_place : ℕ → Event → List ℕ
 text_place place (Text text) = place ∷ []
 text_place place Closed = []
 text_place place (Refused refusal) = []
 
--- the places of a lane's texts among entries, of which the first stands at this place
+-- the places of a lane's texts among entries, of which the first is at this place
 abbrev pub places_from : ℕ → ℕ → List Entry → List ℕ
 places_from place lane [] = []
 places_from place lane (entry ∷ entries) =
     (if entry.lane == lane then text_place place entry.event else []) ++ places_from (place + 1) lane entries
 
--- beside the entries stand, lane by lane, the places of its texts, and whether a close of it stands
+-- beside the entries there are, lane by lane, the places of its texts, and whether there is a close
+-- of it
 pub record IsIndexed (lanes : ℕ) (entries : List Entry) (texts : List (List ℕ)) (closed : List Bool) : Type 0 where
   pub few : lanes ≤ lane_limit
   pub places : (lane : ℕ) → lane < lane_limit → slice_index_or texts lane [] ≡ places_from 0 lane entries

@@ -9,31 +9,31 @@ use Rattle.krb_peers.specs.Order.{demand_after}
 use Rattle.krb_peers.specs.Verdicts.{Verdict, AreJudged, records_of, events_by, events_from}
 use Rattle.krb_peers.specs.Receiver.{verdict_by}
 
--- the log behind a verdict on a frame of this lane: what it brings is added
+-- the log after a verdict on a frame of this lane: what it brings is added
 abbrev pub entries_by : ℕ → Verdict → List Entry
 entries_by lane v = entries_for lane (events_by v)
 
 abbrev pub noted : LogState → ℕ → Verdict → LogState
 noted log lane v = record log { entries = log.entries ++ entries_by lane v }
 
--- where a close of the lane stands in the log, only refusals may come
+-- if the log has a close of the lane, only refusals may come
 abbrev pub MayBeNoted : Verdict → ℕ → List Entry → Type 0
 MayBeNoted (Ok delivery) lane entries = is_closed lane entries ≡ false
 MayBeNoted (Err refusal) lane entries = Unit {0}
 
--- where a close of the lane stands in the log, its receiver accepts no more
+-- if the log has a close of the lane, its receiver accepts no more
 abbrev pub IsShut : LogState → ℕ → ReceiverState → Type 0
 IsShut log lane receiver = is_closed lane log.entries ≡ true → receiver.demand.closed ≡ true
 
 -- These are the verdicts on the frames that a receiver took from its start on, each by the records
--- accepted before it and at the moment of its place, and the log has of the lane what they bring,
--- in order. The receiver demands what they leave.
+-- accepted before it and at the timestamp of its place, and the log has of the lane what they
+-- bring, in order. The receiver demands what they leave.
 pub record HasLogged (start : ReceiverState) (nows : List ℕ) (lane : ℕ) (took : List (List ℕ)) (log : LogState) (receiver : ReceiverState) (verdicts : List Verdict) : Type 0 where
   pub judged : AreJudged start nows took verdicts
   pub entries : events_of lane log.entries ≡ events_from verdicts
   pub receiver_is : receiver ≡ record start { demand = demand_after start.demand (records_of verdicts) }
 
--- Whatever was taken before, the frame comes behind: its verdict is one more, and the log has it.
+-- Whatever was taken before, the frame comes after it: its verdict is one more, and the log has it.
 -- What the log has of any other lane stays.
 pub record LogsNext (receiver : ReceiverState) (log : LogState) (lane now : ℕ) (frame : List ℕ) (receiver-now : ReceiverState) (log-now : LogState) : Type 0 where
   pub goes_on :

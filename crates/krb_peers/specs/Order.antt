@@ -1,4 +1,4 @@
--- What an order demands, and what it answers to an offer.
+-- What an order demands, and its answer to an offer.
 use Rattle.std.specs.Prelude.{ℕ, Bool, false, ◌+◌, ◌==◌, ◌&&◌, ◌||◌, nat_le, List, [], ◌∷◌, length, codes, Result, Ok, Err, ⊤, if◌then◌else◌}
 use Rattle.std.specs.List.{list_any}
 use Rattle.krb_peers.specs.declared.record.Record.{Record}
@@ -37,11 +37,11 @@ carried_by offer (Err refusal) = []
 abbrev pub first_demand : ℕ → Demand
 first_demand first = record { expected = first; closed = false }
 
--- once these records were accepted
+-- after these records were accepted
 abbrev pub demand_after : Demand → List Record → Demand
 demand_after demand accepted = record { expected = demand.expected + length accepted; closed = demand.closed || list_any is_close accepted }
 
--- the same of one record that may be accepted, which was the close or wasn't
+-- the same after one record that may be accepted, which was the close or wasn't
 abbrev pub next_demand : Demand → Bool → Demand
 next_demand demand close = record { expected = demand.expected + 1; closed = close }
 

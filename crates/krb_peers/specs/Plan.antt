@@ -1,4 +1,5 @@
--- What a wire makes of a sender's frames: a plan disturbs them on purpose.
+-- What a wire makes of a sender's frames. A plan repeats, drops, reorders or changes them on
+-- purpose, to test a receiver.
 use Rattle.std.specs.Prelude.{ℕ, ◌==◌, nat_lt, Bool, true, not, ◌&&◌, List, [], map, length, codes, Vec, Option, Some, None, slice_index, slice_index_or, slice_set, bit_xor, if◌then◌else◌}
 use Rattle.std.specs.List.{list_all}
 use Rattle.krb_peers.specs.declared.plan.Emit.{Emit}
@@ -17,7 +18,7 @@ frame_at frames k = slice_index_or frames k []
 abbrev pub flipped : List ℕ → ℕ → ℕ → List ℕ
 flipped frame at mask = slice_set frame at (bit_xor (slice_index frame at) mask)
 
--- the frame, and in it the byte, are there, and the mask changes something
+-- the frame, and in it the byte, exist, and the mask changes something
 abbrev pub is_good_emission : List (List ℕ) → Emit → Bool
 is_good_emission frames (Frame k) = nat_lt k (length frames)
 is_good_emission frames (Flip k at mask) = nat_lt k (length frames) && nat_lt at (length (frame_at frames k)) && not (mask == 0)
@@ -40,8 +41,7 @@ emission frames (Raw bytes) = bytes
 abbrev pub emissions : List (List ℕ) → List Emit → List (List ℕ)
 emissions frames plan = map (emission frames) plan
 
--- the wire: the frames where no plan is given, else one frame for each emission; a bad plan has
--- none
+-- the wire: the frames if there is no plan, else one frame for each emission; a bad plan has none
 abbrev pub wire : List (List ℕ) → Option (List Emit) → List (List ℕ)
 wire frames None = frames
 wire frames (Some plan) = if is_good frames plan then emissions frames plan else []

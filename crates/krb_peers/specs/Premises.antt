@@ -30,9 +30,9 @@ abbrev pub altered_at : Option (List Emit) → ℕ → Bool
 altered_at None place = false
 altered_at (Some plan) place = is_altered_one (slice_get plan place)
 
--- The altered-frames premise. Where a changed or a raw frame was accepted in this run, it carried
--- the record of its number. Nothing is assumed of the sender's own frames, however they are
--- repeated, dropped or reordered.
+-- The altered-frames premise. If a changed or a raw frame was accepted in this run, it carried the
+-- record of its number. Nothing is assumed of the sender's own frames, however they are repeated,
+-- dropped or reordered.
 abbrev pub AlteredAreHonest : Run → Type 0
 AlteredAreHonest run =
     (place : ℕ) (d : Delivery) → altered_at run.ends.source.plan place ≡ true → slice_get run.verdicts place ≡ Some (Ok d)

@@ -1,4 +1,4 @@
--- What a receiver answers in code.
+-- What a receiver returns.
 use Rattle.std.specs.Prelude.{◌≡◌, ◌⊎◌, ◌≤◌, ℕ, Bool, false, List, length, Err}
 use Rattle.krb_seal.specs.declared.refusal.Refusal.TheVariants.{Memory}
 use Rattle.krb_aes.specs.Keys.{AreZero}
@@ -8,11 +8,11 @@ use Rattle.krb_peers.specs.Order.{demand_after, next_demand}
 use Rattle.krb_peers.specs.ReceiverState.{ReceiverState}
 use Rattle.krb_peers.specs.Verdicts.{Verdict, IsVerdict, accepted_by, verdict}
 
--- the verdict on a frame that is taken at a moment, or want of memory
+-- the verdict on a frame that is taken at a timestamp, or out of memory
 abbrev pub IsJudgement : ReceiverState → ℕ → List ℕ → Verdict → Type 0
 IsJudgement receiver now frame answer = (answer ≡ Err Memory) ⊎ IsVerdict receiver.opener receiver.demand now frame answer
 
--- memory is taken for no frame behind a close, and for none over the limit
+-- nothing is allocated for a frame after a close, nor for one over the limit
 abbrev pub TakesMemory : ReceiverState → List ℕ → Type 0
 TakesMemory receiver frame = (receiver.demand.closed ≡ false) × (length frame ≤ frame_limit)
 
@@ -20,11 +20,11 @@ TakesMemory receiver frame = (receiver.demand.closed ≡ false) × (length frame
 unfoldable pub verdict_by : ReceiverState → ℕ → List ℕ → Verdict
 verdict_by receiver now frame = verdict receiver.opener receiver.demand now frame
 
--- behind a verdict the next number is demanded, or the same one
+-- after a verdict the next number is demanded, or the same one
 abbrev pub receiver_behind : ReceiverState → Verdict → ReceiverState
 receiver_behind receiver answer = record receiver { demand = demand_after receiver.demand (accepted_by answer) }
 
--- and behind an accepted record, which was the close or wasn't
+-- and after an accepted record, which was the close or wasn't
 abbrev pub advanced : ReceiverState → Bool → ReceiverState
 advanced receiver close = record receiver { demand = next_demand receiver.demand close }
 

@@ -6,12 +6,12 @@ use Rattle.krb_peers.specs.declared.log.Event.{Event}
 use Rattle.krb_peers.specs.declared.log.Entry.{Entry}
 use Rattle.krb_peers.specs.Log.{entries_for}
 
--- the entries of a lane, where it has a group
+-- the entries of a lane, if it has a group
 abbrev pub named : ℕ → Option (List Event) → List Entry
 named lane None = []
 named lane (Some group) = entries_for lane group
 
--- one round: from a lane on, the group of each at this place, where it has one
+-- one round: from a lane on, the group of each at this place, if it has one
 abbrev pub round : ℕ → ℕ → List (List (List Event)) → List Entry
 round place lane [] = []
 round place lane (groups ∷ rest) = named lane (slice_get groups place) ++ round place (lane + 1) rest
@@ -60,7 +60,7 @@ entries_at lists spot = named spot.lane (slice_get (list_of lists spot.lane) spo
 abbrev pub IsBefore : Spot → Spot → Type 0
 IsBefore a b = (a.place < b.place) ⊎ ((a.place ≡ b.place) × (a.lane < b.lane))
 
--- each stands before all that follow, so none stands twice
+-- each comes before all that follow, so none occurs twice
 abbrev pub Rises : List Spot → Type 0
 Rises [] = Unit {0}
 Rises (spot ∷ spots) = All (IsBefore spot) spots × Rises spots

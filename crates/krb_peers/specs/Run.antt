@@ -1,4 +1,4 @@
--- What was taken of a lane, and what its receiver said of it.
+-- What was taken of a lane, and its receiver's verdicts.
 use Rattle.std.specs.Prelude.{◌≡◌, ℕ, List, [], ◌∷◌, take, slice_get, Some}
 use Rattle.krb_peers.specs.Ends.{Ends}
 use Rattle.krb_peers.specs.Plan.{wire}

@@ -12,8 +12,8 @@ use Rattle.krb_peers.specs.declared.plan.Emit.{Emit}
 use Rattle.krb_peers.specs.Record.{bytes_of}
 use Rattle.krb_peers.specs.Draws.{confounder_at}
 
--- a sealer, the texts for it, how many of them go together at most, the moments, a generator, and
--- the plan of the wire, if there is one
+-- a sealer, the texts for it, how many of them go together at most, the timestamps, a generator,
+-- and the plan of the wire, if there is one
 pub record Source : Type 0 where
   pub sealer : SealerState
   pub texts : List (List ℕ)
@@ -27,7 +27,7 @@ pub record IsWithinLimits (source : Source) : Type 0 where
   pub texts : All (λ text. length text ≤ text_limit) source.texts
   pub batch : source.batch ≤ batch_limit
 
--- the moment of a place: the last one serves all later places
+-- the timestamp of a place: the last one serves all later places
 abbrev pub moment_at : List ℕ → ℕ → ℕ
 moment_at moments place = slice_index moments (min place (length moments - 1))
 
@@ -49,7 +49,7 @@ sealed_groups source = take (sealed_count source.sealer.next (length (text_group
 abbrev pub sealed_texts : Source → List (List ℕ)
 sealed_texts source = texts_of_groups (sealed_groups source)
 
--- the group that comes when so many texts are passed, where any text is left
+-- the group that comes after so many texts, if any text is left
 abbrev pub group_behind : ℕ → Source → List (List ℕ)
 group_behind passed source = slice_index_or (groups source.batch (drop passed source.texts)) 0 []
 
@@ -63,8 +63,8 @@ record_for [] = Batch []
 record_for (text ∷ []) = Text text
 record_for (text ∷ other ∷ texts) = Batch (text ∷ other ∷ texts)
 
--- the record that comes at a number: that of the group, or the close where none is left or the
--- number is the last
+-- the record that comes at a number: that of the group, or the close if none is left or the number
+-- is the last
 abbrev pub record_at : ℕ → List (List ℕ) → Record
 record_at number [] = Close
 record_at number (text ∷ texts) = if nat_lt number last_number then record_for (text ∷ texts) else Close
@@ -77,7 +77,7 @@ abbrev pub records : Source → List Record
 records source = records_for (sealed_groups source)
 
 -- the frame is that of record k: sealed at the k-th number from the sealer's next one on, at its
--- moment, under confounder k
+-- timestamp, under confounder k
 abbrev pub IsFrame : Source → ℕ → Record → List ℕ → Type 0
 IsFrame source k carried frame =
     let s = source.sealer in

@@ -42,8 +42,8 @@ behind k source = record source {
   draws = after_words (4 * k) source.draws;
 }
 
--- the limits of a sender: no text is too long, not too many go together, there is a moment, and a
--- number is left for the close
+-- the limits of a sender: no text is too long, not too many go together, there is a timestamp, and
+-- a number is left for the close
 pub record IsSender (source : Source) : Type 0 where
   pub limits : IsWithinLimits source
   pub ats : 0 < length source.ats

@@ -6,7 +6,7 @@ use Rattle.krb_peers.specs.declared.start.StartError.TheVariants.{Memory, BadPla
 use Rattle.krb_peers.specs.Sender.{Source}
 use Rattle.krb_peers.specs.Wire.{IsBad}
 
--- the reason of an error, where this is the sender of the lane
+-- the reason of an error, if this is the sender of the lane
 abbrev pub IsReason : Source → ℕ → StartError → Type 0
 IsReason source lane Memory = Unit {0}
 IsReason source lane (BadPlan at) = (at ≡ lane) × (source.sealer.wiped ≡ false) × IsBad source

@@ -1,5 +1,5 @@
--- A lane that nothing disturbs: what its sender sealed is what its receiver expects, and the wire
--- carries it as it is.
+-- A clean lane: what its sender sealed is what its receiver expects, and the wire carries it as it
+-- is.
 use Rattle.std.specs.Prelude.{◌≡◌, ℕ, zero, suc, ◌<◌, List, [], ◌∷◌, ◌++◌, length, Option, Some, None}
 use Rattle.krb_seal.specs.Laws.{Agree}
 use Rattle.krb_peers.specs.declared.plan.Emit.{Emit}
@@ -19,9 +19,8 @@ abbrev pub IsInOrder : Option (List Emit) → ℕ → Type 0
 IsInOrder None n = Unit {0}
 IsInOrder (Some plan) n = plan ≡ in_order n
 
--- The lane is paired, and both ends speak of one mode and of the same addresses. The k-th frame is
--- taken within the skew of the moment at which record k is sealed. The wire carries the frames as
--- they are.
+-- The lane is paired, and both ends agree on mode and addresses. The k-th frame is taken within the
+-- skew of the timestamp at which record k is sealed. The wire carries the frames as they are.
 pub record Undisturbed (ends : Ends) : Type 0 where
   pub paired : IsPaired ends
   pub agree :

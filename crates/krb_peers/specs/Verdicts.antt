@@ -1,4 +1,4 @@
--- What a receiver answers to the frames that it takes.
+-- A receiver's verdicts on the frames that it takes.
 use Rattle.std.specs.Prelude.{◌≡◌, ℕ, ◌+◌, ◌==◌, nat_le, ◌&&◌, ◌⊎◌, Bool, true, false, List, [], ◌∷◌, length, map, take, slice_get, Option, Some, None, option_map, Result, Ok, Err, if◌then◌else◌}
 use Rattle.std.specs.Result.{MatchResult}
 use Rattle.std.specs.List.{flat_map}
@@ -61,7 +61,7 @@ groups_of verdicts = map events_by verdicts
 abbrev pub delivered : List Verdict → List (List ℕ)
 delivered verdicts = texts_in (events_from verdicts)
 
--- ---- what a verdict is: on a frame that is taken at a moment, where this is demanded
+-- ---- what a verdict is: on a frame that is taken at a timestamp, with this demand
 
 abbrev pub IsNoRecord : List ℕ → Type 0
 IsNoRecord user = (r : Record) → ¬ SpellsRecord r user
@@ -83,7 +83,7 @@ abbrev pub IsVerdict : OpenerState → Demand → ℕ → List ℕ → Verdict �
 IsVerdict opener demand now frame verdict = MatchResult verdict (Carries opener demand now frame) (Fails opener demand now frame)
 
 -- one verdict for each frame, by the records accepted before it; the first frame is taken at this
--- place, and each is opened at the moment of its place
+-- place, and each is opened at the timestamp of its place
 pub record AreVerdicts (opener : OpenerState) (nows : List ℕ) (demand : Demand) (place : ℕ) (frames : List (List ℕ)) (verdicts : List Verdict) : Type 0 where
   pub one_each : length verdicts ≡ length frames
   pub each :
@@ -100,7 +100,7 @@ AllBytes (frame ∷ frames) = AreBytes frame × AllBytes frames
 
 -- ---- the same as a function: the law `verdict_laws` says that it gives the one such list of frames of bytes
 
--- what the user data delivers, where it is the bytes of a record
+-- what the user data delivers, if it is the bytes of a record
 abbrev pub delivery_in : List ℕ → Option Delivery
 delivery_in [] = None
 delivery_in (tag ∷ rest) =

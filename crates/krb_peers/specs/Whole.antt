@@ -1,4 +1,4 @@
--- What a relay leaves of its lanes, whatever ran when, and of lanes that ran to their ends.
+-- What a relay leaves of its lanes in any schedule, and of lanes that ran to their ends.
 use Rattle.std.specs.Prelude.{◌≡◌, ◌<◌, ℕ, true, false, List, length, map}
 use Rattle.krb_base.specs.Prefix.{IsPrefix}
 use Rattle.krb_peers.specs.declared.log.Entry.{Entry}
@@ -12,19 +12,19 @@ use Rattle.krb_peers.specs.Ends.{Ends, sents_of}
 use Rattle.krb_peers.specs.Wire.{IsWire}
 use Rattle.krb_peers.specs.Rounds.{rounds}
 
--- what becomes of the frames that were taken: of the first of each lane, by lane number, then of
+-- the outcomes of the frames that were taken: of the first of each lane, by lane number, then of
 -- the second of each, and so on
 abbrev pub rounds_of : List Run → List Entry
 rounds_of runs = rounds (map (λ run. groups_of run.verdicts) runs)
 
 -- ---- what any relay leaves
 
--- where the lane has ended, all that its wire carries was taken
+-- if the lane has ended, all that its wire carries was taken
 abbrev pub EndsWhole : LogState → ℕ → Run → Type 0
 EndsWhole log lane run = has_ended lane log ≡ true → TakesAll run.ends.source run.took
 
--- Of each lane a front of its wire was taken, however short: the log has the verdicts on these
--- frames, in rounds, and the headline holds of each lane.
+-- A prefix of each lane's wire was taken, however short: the log has the verdicts on these frames,
+-- in rounds, and the headline holds of each lane.
 pub record IsRelayed (lanes : List Ends) (log : LogState) : Type 0 where
   pub runs : List Run
   pub are : AreRuns lanes runs
@@ -39,14 +39,15 @@ pub record IsWholeRun (run : Run) : Type 0 where
   pub live : run.ends.source.sealer.wiped ≡ false
   pub emits : IsWire run.ends.source run.took
 
--- that of every lane, every lane has ended, and this is told of how much each sender sealed
+-- this holds of every lane, every lane has ended, and this is reported of how much each sender
+-- sealed
 pub record IsWhole (lanes : List Ends) (log : LogState) (sents : List Sent) : Type 0 where
   pub relayed : IsRelayed lanes log
   pub whole : OfRuns (relayed.runs) (λ lane run. IsWholeRun run)
   pub ended : (lane : ℕ) → lane < length lanes → has_ended lane log ≡ true
   pub sealed : sents ≡ sents_of lanes
 
--- the log has a front of it
+-- the log has a prefix of that log
 pub record IsPart (lanes : List Ends) (log : LogState) : Type 0 where
   pub runs : List Run
   pub are : AreRuns lanes runs

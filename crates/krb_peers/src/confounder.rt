@@ -1,5 +1,4 @@
-//! Confounders: the sixteen bytes that stand before what a frame of KRB-PRIV enciphers (RFC 3961
-//! section 5.3).
+//! Confounders: the sixteen bytes that come before what a KRB-PRIV encrypts (RFC 3961 section 5.3).
 
 ghost use Rattle.std.specs.Prelude.{◌≡◌, length};
 ghost use Rattle.krb_peers.specs.Draws.{word_bytes, after_word, after_words, confounder_at};
@@ -9,7 +8,7 @@ use rand_core::utils::NextWord;
 
 /// The next four words of `draws`, in order, each as four bytes, least significant first.
 ///
-/// The generator then stands behind these words.
+/// The generator is then after these words.
 pub fn draw_confounder(draws: &mut ChaCha20Rng) -> [u8; 16]
     ensures bytes { result ≡ confounder_at draws.old 0 }
     ensures after { draws.new ≡ after_words 4 draws.old }

@@ -10,7 +10,7 @@ use std::alloc::{AllocError, Global};
 
 /// What `plan` makes of `frames`: one frame for each emission, in order.
 ///
-/// `BadPlan` comes exactly where the plan is bad, before any memory is taken.
+/// `BadPlan` is returned if and only if the plan is bad, before any allocation.
 pub fn emit(alloc: Global, frames: &[Vec<u8>], plan: &[Emit]) -> Result<Vec<Vec<u8>>, EmitError>
     ensures ok { IfOk result (λ emitted.
         contents emitted.items ≡ wire (contents frames.now) (Some plan.now)) }

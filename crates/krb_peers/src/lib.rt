@@ -1,14 +1,14 @@
-//! The two ends of a lane: what a sender seals, and what a receiver says of what it takes.
+//! The two ends of a lane: what a sender seals, and a receiver's verdicts on what it takes.
 //!
 //! The user data of a message is a [`Record`]: a text, a batch of texts or the close. A [`Sending`]
-//! seals its texts as records of rising numbers, some together where its `batch` says so, and a
-//! plan ([`emit`]) may disturb the frames on purpose. A [`Receiver`] demands the numbers one after
-//! another ([`Order`]), and accepts nothing behind a close. A [`Log`] keeps what became of the
-//! frames of each lane. [`headline_laws`] says what is delivered and refused, whatever the plan;
-//! [`carried_laws`] that all is delivered where each frame comes in its turn, whatever else comes,
-//! and [`going_on_laws`] what receivers that go on one behind the other deliver together.
-//! [`relay_laws`] says it of the log of any relay, stepped or on threads, that has the verdicts of
-//! all lanes in rounds.
+//! seals its texts as records of rising numbers, some together if its `batch` is more than 1, and a
+//! plan ([`emit`]) may repeat, drop, reorder or change the frames on purpose. A [`Receiver`]
+//! demands the numbers one after another ([`Order`]), and accepts nothing after a close. A [`Log`]
+//! keeps the outcomes of the frames of each lane. [`headline_laws`] says what is delivered and
+//! refused, whatever the plan; [`carried_laws`] that all is delivered if each frame comes in its
+//! turn, whatever else comes, and [`going_on_laws`] what receivers that continue one after the
+//! other deliver together. [`relay_laws`] says it of the log of any relay, stepped or on threads,
+//! that has the verdicts of all lanes in rounds.
 //!
 //! ```rust crates/example_relay/src/main.rt
 //! Ok(Sending {

@@ -1,4 +1,4 @@
-//! The log of a relay: what became of each frame, lane by lane, in one order.
+//! The log of a relay: the outcome of each frame, lane by lane, in one order.
 
 ghost use Rattle.std.specs.Prelude.{◌≡◌, ◌<◌, ◌≤◌, ◌+◌, ◌++◌, [], length, map, replicate, slice_get, OnOk, OnErr, false, option_map, vec_len, vec_capacity};
 ghost use Rattle.std.specs.List.{range_with_len};
@@ -12,7 +12,7 @@ use std::alloc::{AllocError, Global};
 use std::array;
 use std::marker::Model;
 
-/// What became of a frame.
+/// The outcome of a frame.
 #[derive(Debug, Drop)]
 pub enum Event {
     /// It carried this text, which was delivered.
@@ -28,7 +28,7 @@ pub enum Event {
 pub struct Entry {
     /// The lane's number, from 0 on.
     pub lane: u32,
-    /// What became of the frame.
+    /// The outcome of the frame.
     pub event: Event,
 }
 
@@ -45,7 +45,7 @@ pub enum Status {
 
 /// The entries of one to eight lanes, in the order in which they came, and which lanes have ended.
 ///
-/// Beside the entries it keeps the places of each lane's texts, so that no call walks them all.
+/// Beside the entries it keeps the places of each lane's texts, so that no call walks all entries.
 #[derive(Drop)]
 pub struct Log {
     lanes: u32,
@@ -93,7 +93,7 @@ impl Log {
 
     /// Appends an event of `lane`.
     ///
-    /// The lane's number is below that of the lanes. Behind a close only refusals may come. Want of
+    /// The lane's number is below that of the lanes. After a close only refusals may come. Out of
     /// memory is the only error, and changes nothing.
     pub fn push(&mut self, lane: u32, event: Event) -> Result<(), AllocError>
         requires lane { lane < self.old.lanes }
@@ -114,8 +114,8 @@ impl Log {
 
     /// Appends an event of `lane` for each text of a batch, in order.
     ///
-    /// The lane's number is below that of the lanes, and no close of it stands. Room for all comes
-    /// first, so want of memory, which is the only error, changes nothing.
+    /// The lane's number is below that of the lanes, and there is no close of it. Room for all
+    /// comes first, so out of memory, which is the only error, changes nothing.
     pub fn push_batch(&mut self, lane: u32, texts: Texts) -> Result<(), AllocError>
         requires lane { lane < self.old.lanes }
         requires open { is_closed lane self.old.entries ≡ false }
@@ -162,7 +162,7 @@ impl Log {
         self.texts[lane as usize].len()
     }
 
-    /// The text of `lane` at place `i`, from 0 on, where there is one.
+    /// The text of `lane` at place `i`, from 0 on, if there is one.
     pub fn text(&self, lane: u32, i: usize) -> Option<&[u8]>
         requires { lane < self.now.lanes }
         ensures { option_map (λ text. text.now) result

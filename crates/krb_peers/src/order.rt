@@ -1,4 +1,4 @@
-//! The order of records: one number after another, and nothing behind the close.
+//! The order of records: one number after another, and nothing after the close.
 
 ghost use Rattle.std.specs.Prelude.{◌≡◌, ◌≢◌, ◌↔◌, ◌⊎◌, ℕ, ◌+◌, ◌≤◌, ◌<◌, List, [], ◌∷◌, ◌++◌, IsTrue, IsFalse, OnOk, OnErr, Some};
 ghost use Rattle.krb_base.specs.Limits.{last_number};
@@ -33,7 +33,7 @@ impl Model for Order {
     ghost invariant = { λ order. order.expected ≤ last_number + 1 };
 }
 
-/// Why an [`Order`] refuses a record. The first that fits is answered.
+/// Why an [`Order`] refuses a record. The first that applies is returned.
 #[derive(Clone, Copy, Debug, PartialEq, Eq)]
 pub enum OrderRefusal {
     /// A close was accepted before.
@@ -95,7 +95,7 @@ impl Order {
         self.closed
     }
 
-    /// Accepts the record `offered` where `number` is demanded and no close was accepted before.
+    /// Accepts the record `offered` if `number` is demanded and no close was accepted before.
     ///
     /// The next number is then demanded, and a close is noted. A refusal changes nothing.
     pub fn accept(&mut self, number: u64, offered: &Record) -> Result<(), OrderRefusal>
@@ -108,7 +108,7 @@ impl Order {
         ensures close { OnOk result (self.new.closed ≡ is_close offered.now) }
         ensures err { OnErr result (self.new ≡ self.old) }
 
-        // Whatever an order has answered before, it goes on as `Accepted` says.
+        // Whatever an order has answered before, it continues as `Accepted` says.
         ensures answered { (first : ℕ) (offers : List Offer) (answers : List Answer)
             → HasAnswered first offers answers self.old
             → HasAnswered first (offers ++ offer number offered.now ∷ []) (answers ++ result ∷ [])
@@ -124,7 +124,7 @@ impl Order {
         Ok(())
     }
 
-    /// Moves on behind an accepted record: the next number is demanded, and a close is noted.
+    /// Moves on after an accepted record: the next number is demanded, and a close is noted.
     pub(crate) fn advance(&mut self, close: bool)
         requires { self.old.expected ≤ last_number }
         ensures { self.new ≡ next_demand self.old close }
@@ -133,7 +133,7 @@ impl Order {
         self.closed = close;
     }
 
-    /// Refuses each record from now on, as behind a close.
+    /// Refuses each record from now on, as after a close.
     pub(crate) fn shut(&mut self)
         ensures closed { IsTrue self.new.closed }
         ensures expected { self.new.expected ≡ self.old.expected }

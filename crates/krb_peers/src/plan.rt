@@ -1,4 +1,4 @@
-//! Plans: how a wire may disturb the frames of a sender.
+//! Plans: how a wire may repeat, drop, reorder and change the frames of a sender.
 
 ghost use Rattle.std.specs.Prelude.{◌≡◌, Some};
 ghost use Rattle.krb_peers.specs.Plan.{code_of, words_of};
@@ -22,9 +22,9 @@ pub enum Emit {
 /// Why [`emit`](crate::emit) emits nothing.
 #[derive(Clone, Copy, Debug, PartialEq, Eq)]
 pub enum EmitError {
-    /// An emission names a frame or a byte that isn't there, or a mask of 0.
+    /// An emission names a frame or a byte that doesn't exist, or a mask of 0.
     BadPlan,
-    /// A growth was refused.
+    /// Out of memory.
     Memory,
 }
 

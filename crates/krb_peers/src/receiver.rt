@@ -27,18 +27,19 @@ pub struct Receiver {
     order: Order,
 }
 
-/// A receiver and the moments at which it takes frames: entry i for the i-th, refused ones counted,
-/// and the last one for all others. There is at least one.
+/// A receiver and the timestamps at which it takes frames: entry i for the i-th, refused ones
+/// counted, and the last one for all others. There is at least one.
 #[derive(Drop)]
 pub struct Receiving {
     /// What takes the frames.
     pub receiver: Receiver,
-    /// The moments, in order.
+    /// The timestamps, in order.
     pub nows: Vec<Moment>,
 }
 
 impl Receiving {
-    /// The moment at which the frame of this place is taken: the last one serves all later places.
+    /// The timestamp at which the frame of this place is taken: the last one serves all later
+    /// places.
     pub fn moment_at(&self, place: usize) -> Moment
         requires { 0 < length self.now.nows.items }
         ensures { result ≡ moment_at self.now.nows.items place }
@@ -82,11 +83,11 @@ impl Receiver {
         self.order.closed()
     }
 
-    /// Takes a frame at the moment `now`: what it carries, or the refusal of the first check that
-    /// it fails.
+    /// Takes a frame at the timestamp `now`: what it carries, or the refusal of the first check
+    /// that it fails.
     ///
-    /// `Memory` comes where a growth was refused, and for no frame behind a close or over the
-    /// limit. Each refusal leaves the receiver as it was.
+    /// `Memory` is returned if an allocation failed, and never for a frame after a close or over
+    /// the limit. Each refusal leaves the receiver as it was.
     pub fn take(&mut self, alloc: Global, frame: &[u8], now: Moment) -> Result<Delivery, Refusal>
         ensures verdict { IsJudgement self.old now frame.now result }
         ensures memory { result ≡ Err Refusal.Memory → TakesMemory self.old frame.now }
@@ -102,10 +103,10 @@ impl Receiver {
         Ok(delivery)
     }
 
-    /// Takes a frame as [`take`](Receiver::take) does, and notes what became of it in the log as an
+    /// Takes a frame as [`take`](Receiver::take) does, and enters the outcome in the log as an
     /// event of `lane`, or one for each text of a batch.
     ///
-    /// Every growth comes before the first change, so want of memory, which is the only error,
+    /// Every allocation comes before the first change, so out of memory, which is the only error,
     /// changes nothing.
     pub fn take_into(
         &mut self,
@@ -126,7 +127,7 @@ impl Receiver {
         ensures unchanged { OnErr result (self.new ≡ self.old) }
         ensures unwritten { OnErr result (log.new ≡ log.old) }
 
-        // Whatever was taken before, the frame comes behind, and other lanes' entries stay.
+        // Whatever was taken before, the frame comes after it, and other lanes' entries stay.
         ensures logged { OnOk result
             (LogsNext self.old log.old lane now frame.now self.new log.new) }
     {
@@ -142,7 +143,7 @@ impl Receiver {
         Ok(())
     }
 
-    /// Overwrites the keys where they lie. Each frame is refused from then on, as behind a close.
+    /// Overwrites the keys where they lie. Each frame is refused from then on, as after a close.
     pub fn wipe(&mut self)
         ensures key { self.new.opener.key ≡ replicate (length self.old.opener.key) 0 }
         ensures closed { IsTrue self.new.demand.closed }
@@ -152,8 +153,8 @@ impl Receiver {
         self.order.shut();
     }
 
-    /// The verdict on a frame. Nothing changes. Out of memory is no verdict, and comes for no frame
-    /// after a close or over the limit.
+    /// The verdict on a frame. Nothing changes. Out of memory is no verdict, and is never returned
+    /// for a frame after a close or over the limit.
     fn verdict_on(
         &self,
         alloc: Global,
@@ -173,7 +174,7 @@ impl Receiver {
         }
     }
 
-    /// What [`take`](Receiver::take) would answer now. Nothing changes.
+    /// What [`take`](Receiver::take) would return now. Nothing changes.
     fn judge(&self, alloc: Global, frame: &[u8], now: Moment) -> Result<Delivery, Refusal>
         ensures verdict { IsJudgement self.now now frame.now result }
         ensures memory { result ≡ Err Refusal.Memory → TakesMemory self.now frame.now }
@@ -196,8 +197,8 @@ impl Receiver {
         })
     }
 
-    /// Moves on behind what [`judge`](Receiver::judge) delivered: the next number is demanded, and
-    /// a close is noted.
+    /// Moves on after what [`judge`](Receiver::judge) delivered: the next number is demanded, and a
+    /// close is noted.
     fn advance(&mut self, close: bool)
         requires { self.old.demand.expected ≤ last_number }
         ensures { self.new ≡ advanced self.old close }
@@ -206,7 +207,7 @@ impl Receiver {
     }
 }
 
-/// Notes in the log what a verdict on a frame of `lane` brings.
+/// Enters in the log what a verdict on a frame of `lane` brings.
 fn note(log: &mut Log, lane: u32, verdict: Result<Delivery, Refusal>) -> Result<(), AllocError>
     requires lane { lane < log.old.lanes }
     requires open { MayBeNoted verdict lane log.old.entries }

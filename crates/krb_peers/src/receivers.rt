@@ -38,7 +38,7 @@ impl Receivers {
 }
 
 /// Overwrites the keys of all receivers where they lie. A value that is moved out of a list leaves
-/// its bytes there, so this comes before the list is let go.
+/// its bytes there, so this comes before the list is dropped.
 pub fn wipe_receivers(receivings: &mut [Receiving])
     ensures { All IsWiped receivings.new }
 {

@@ -1,4 +1,4 @@
-//! Records, and the bytes that stand for them.
+//! Records, and their bytes.
 
 ghost use Rattle.std.specs.Prelude.{◌≡◌, ◌≢◌, ◌↔◌, ◌≤◌, ℕ, List, length, IfOk, MatchResult, Some};
 ghost use Rattle.krb_base.specs.Limits.{text_limit};
@@ -23,10 +23,10 @@ const CLOSE_TAG: u8 = 0x43;
 pub enum Record {
     /// A text of at most [`TEXT_LIMIT`] bytes.
     Text(Bytes),
-    /// A batch of 2 to 1,000 texts, which take at most 1,000,000 bytes: four and its length for
-    /// each.
+    /// A batch of 2 to 1,000 texts, which take at most 1,000,000 bytes, for each its length and
+    /// four.
     Batch(Texts),
-    /// The end of what the sender says.
+    /// The close: no text follows.
     Close,
 }
 
@@ -35,7 +35,7 @@ pub enum Record {
 pub enum RecordError {
     /// The bytes are those of no record.
     BadRecord,
-    /// A growth was refused.
+    /// Out of memory.
     Memory,
 }
 
@@ -77,7 +77,7 @@ impl From<AllocError> for RecordError {
 /// The bytes of `record`, which are its user data.
 ///
 /// A text has at most [`TEXT_LIMIT`] bytes, and a batch is within the limits of [`Record::Batch`].
-/// The only error is want of memory.
+/// The only error is out of memory.
 pub fn record_bytes(alloc: Global, record: &Record) -> Result<Vec<u8>, AllocError>
     requires { FitsLimits «record».now }
     ensures { IfOk result (λ bytes. SpellsRecord «record».now bytes.items) }
@@ -118,13 +118,13 @@ pub(crate) fn close_record(alloc: Global) -> Result<Vec<u8>, AllocError>
     Vec::from_slice(alloc, &[CLOSE_TAG])
 }
 
-/// The record that `bytes` stand for.
+/// The record whose bytes these are.
 ///
-/// `BadRecord` comes exactly where they stand for none. The close takes no memory.
+/// `BadRecord` is returned if and only if there is none. The close allocates nothing.
 pub fn read_record(alloc: Global, bytes: &[u8]) -> Result<Record, RecordError>
     ensures ok { IfOk result (λ r. SpellsRecord r bytes.now) }
 
-    // Where the bytes are those of a record, nothing else is answered, memory aside.
+    // If the bytes are those of a record, the only error is out of memory.
     ensures only { (r : Record) → SpellsRecord r bytes.now
         → MatchResult result (λ got. got ≡ r) (λ e. e ≡ RecordError.Memory) }
     ensures bad { (result ≡ Err RecordError.BadRecord) ↔ ((r : Record) → ¬ SpellsRecord r bytes.now) }
@@ -144,7 +144,7 @@ pub fn read_record(alloc: Global, bytes: &[u8]) -> Result<Record, RecordError>
     }
 }
 
-/// The batch that `bytes` stand for, as a record.
+/// The batch whose bytes these are, as a record.
 fn batch_record(alloc: Global, bytes: &[u8]) -> Result<Record, RecordError>
     ensures ok { IfOk result (λ r. (texts : List (List ℕ))
         × (r ≡ Record.Batch texts) × SpellsBatch texts bytes.now) }

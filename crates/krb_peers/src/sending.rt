@@ -26,18 +26,18 @@ use std::alloc::{AllocError, Global};
 /// A sealer and what it is to seal.
 ///
 /// Its limits: a text has at most 1,000,000 bytes, at most 1,000 texts go together, there is at
-/// least one moment, and the sealer's next number is at most [`LAST_NUMBER`]. With fewer moments
-/// than records, the last one serves the others. Its drop wipes the sealer where it lies, a boxed
-/// one in its box.
+/// least one timestamp, and the sealer's next number is at most [`LAST_NUMBER`]. With fewer
+/// timestamps than records, the last one serves the others. Its drop wipes the sealer where it
+/// lies, a boxed one in its box.
 pub struct Sending<S: Sealer = Box<dyn Sealer + Send>> {
     /// What seals.
     pub sealer: S,
     /// The texts, in order.
     pub texts: Vec<Bytes>,
-    /// How many texts go together in one record at most, 1 to 1,000: with 1, each goes alone. No
-    /// more go together than take 1,000,000 bytes, four and its length for each.
+    /// How many texts go together in one record at most, 1 to 1,000: with 1, each goes alone. Those
+    /// that go together take at most 1,000,000 bytes, for each its length and four.
     pub batch: usize,
-    /// The moments of the records, in order.
+    /// The timestamps of the records, in order.
     pub ats: Vec<Moment>,
     /// Where the confounders come from: four words each.
     pub draws: ChaCha20Rng,
@@ -62,29 +62,29 @@ impl<S: Sealer> Drop for Sending<S> {
 /// How much of a sender's texts is sealed.
 #[derive(Clone, Copy, Debug, PartialEq, Eq)]
 pub struct Sent {
-    /// So many texts are sealed,
+    /// How many texts are sealed.
     pub k: usize,
-    /// of so many.
+    /// How many texts there are.
     pub n: usize,
-    /// Why no more.
+    /// Why no more are sealed.
     pub ending: Ending,
 }
 
 /// Why no more texts are sealed.
 #[derive(Clone, Copy, Debug, PartialEq, Eq)]
 pub enum Ending {
-    /// All of them are.
+    /// All texts are sealed.
     Done,
     /// The last number is kept for the close.
     LastNumber,
 }
 
-/// What of a sender's texts is sealed.
+/// How much of a sender's texts is sealed.
 #[derive(Drop)]
 struct Sealed {
-    /// So many groups,
+    /// How many groups are sealed.
     groups: usize,
-    /// and the texts of these.
+    /// How many texts these have.
     texts: usize,
 }
 
@@ -134,9 +134,9 @@ impl<S: Sealer> Sending<S> {
     /// Seals record `k` at the sealer's next number, under the next four words of `draws`.
     ///
     /// Record 0 is the one at the number `k` before the next: the records are those of a sender who
-    /// has sealed `k` of them. Those have passed so many texts as `passed` says, 0 before the
-    /// first, and the record's own are added. The only errors are `Wiped`, where the sealer was
-    /// wiped, and `Memory`. Each leaves the sealer as it was, but the generator may have moved.
+    /// has sealed `k` of them. Those carried `passed` texts, 0 before the first, and the record's
+    /// own are added. The only errors are `Wiped`, if the sealer was wiped, and `Memory`. Each
+    /// leaves the sealer as it was, but the generator may have moved.
     pub fn seal_record(
         &mut self,
         alloc: Global,
@@ -155,12 +155,12 @@ impl<S: Sealer> Sending<S> {
         ensures behind { OnOk result
             (source_of S.state self.new ≡ behind 1 (source_of S.state self.old)) }
 
-        // Whatever a sender has sealed before, its frames go on as those of its records.
+        // Whatever a sender has sealed before, its frames continue as those of its records.
         ensures frames { IfOk result (λ frame. (source : Source) (frames : List (List ℕ))
             → HasSealed source k frames (source_of S.state self.old)
             → HasSealed source (k + 1) (frames ++ frame.items ∷ []) (source_of S.state self.new)) }
 
-        // The texts of this record are passed behind it.
+        // After it the texts of this record are counted.
         ensures passed { OnOk result
             (passed.new ≡ texts_before (k + 1) (source_of S.state self.old)) }
         ensures stays { OnErr result (passed.new ≡ passed.old) }
@@ -189,8 +189,8 @@ impl<S: Sealer> Sending<S> {
 
     /// Seals all records, the close last.
     ///
-    /// The errors are those of [`seal_record`](Sending::seal_record). The first one ends it, and the
-    /// sealer stands after the records that were sealed until then.
+    /// The errors are those of [`seal_record`](Sending::seal_record). The first one ends it, and
+    /// the sealer is then after the records that were sealed until then.
     pub fn seal_all(&mut self, alloc: Global) -> Result<Vec<Vec<u8>>, SealError>
         requires { IsSender (source_of S.state self.old) }
         ensures frames { IfOk result (λ frames. AreFrames (source_of S.state self.old)
@@ -220,7 +220,7 @@ impl<S: Sealer> Sending<S> {
         Ok(frames)
     }
 
-    /// The texts that go together next, where so many are passed: none where none is left.
+    /// The texts that go together next, after the first `passed` ones: none if none is left.
     fn group_behind(&self, passed: usize) -> &[Bytes]
         requires { passed ≤ length self.now.texts.items }
         ensures { result.now ≡ group_behind passed (source_of S.state self.now) }
@@ -232,7 +232,7 @@ impl<S: Sealer> Sending<S> {
         rest.split_at(group_end(rest, self.batch)).0
     }
 
-    /// The texts behind the first `passed` ones.
+    /// The texts after the first `passed` ones.
     fn texts_behind(&self, passed: usize) -> &[Bytes]
         requires { passed ≤ length self.now.texts.items }
         ensures { result.now ≡ drop passed self.now.texts.items }
@@ -240,8 +240,8 @@ impl<S: Sealer> Sending<S> {
         self.texts.split_at(passed).1
     }
 
-    /// The bytes of the record that comes at the sealer's next number, where this group is next:
-    /// the close where no text is left or the number is the last.
+    /// The bytes of the record that comes at the sealer's next number, if this group is next: the
+    /// close if no text is left or the number is the last.
     fn record_at(&self, alloc: Global, group: &[Bytes]) -> Result<Vec<u8>, AllocError>
         requires { group.now ≢ [] → FitsLimits (record_for group.now) }
         ensures bytes { IfOk result (λ bytes.

@@ -17,9 +17,9 @@ use std::fmt;
 /// Why nothing is sent on a lane.
 #[derive(Clone, Copy, Debug, PartialEq, Eq)]
 pub enum StartError {
-    /// A growth was refused.
+    /// Out of memory.
     Memory,
-    /// The plan of this lane names what its frames don't have, or a mask of 0.
+    /// The plan of this lane names a frame or a byte that doesn't exist, or a mask of 0.
     BadPlan { lane: u32 },
     /// The sealer of this lane was wiped.
     Wiped { lane: u32 },

@@ -1,4 +1,4 @@
--- A moment: a KerberosTime and its Microseconds (RFC 4120 sections 5.2.3 and 5.2.4), seen as the
+-- A timestamp: a KerberosTime and its Microseconds (RFC 4120 sections 5.2.3 and 5.2.4), seen as the
 -- number of microseconds since 1970-01-01T00:00:00Z.
 use Rattle.std.specs.Prelude.{ℕ, ◌+◌, ◌*◌, ◌/◌, ◌%◌, ◌≤◌}
 use Rattle.krb_time.specs.Time.{last_second}
@@ -13,15 +13,15 @@ IsMicroseconds n = n ≤ last_usec
 abbrev pub micros_per_second : ℕ
 micros_per_second = 1_000_000
 
--- the moment of a second and a number of microseconds
+-- the timestamp of a second and a number of microseconds
 abbrev pub moment_of : ℕ → ℕ → ℕ
 moment_of secs usec = micros_per_second * secs + usec
 
--- the last moment of the year 9999
+-- the last timestamp of the year 9999
 abbrev pub last_moment : ℕ
 last_moment = moment_of last_second last_usec
 
--- the whole seconds of a moment, and the microseconds beyond them
+-- the whole seconds of a timestamp, and the microseconds beyond them
 abbrev pub secs_of : ℕ → ℕ
 secs_of moment = moment / micros_per_second
 

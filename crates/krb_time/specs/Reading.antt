@@ -1,6 +1,6 @@
--- Aids of the code, and no definitions of the standard: the second that a text names, read from
--- left to right. Private functions alone cite this file; the contract of `read_kerberos_time` is
--- in the words of Time.antt.
+-- What the code follows, and no definitions of the standard: the second that a text names, read
+-- from left to right. Private functions alone cite this file; the contract of `read_kerberos_time`
+-- is in the words of Time.antt.
 use Rattle.std.specs.Prelude.{ℕ, ◌+◌, ◌-◌, ◌*◌, Bool, false, ◌&&◌, List, [], ◌∷◌, Option, Some, None, pos, nat_lt, nat_le, nat_eq, if◌then◌else◌}
 use Rattle.std.specs.Char.{is_ascii_digit}
 use Rattle.jiff_core.specs.Calendar.{days_in_month}
@@ -17,7 +17,7 @@ pair_of (a ∷ b ∷ rest) =
     then Some (10 * (a - zero_digit) + (b - zero_digit), rest)
     else None
 
--- nothing stands there but the 'Z'
+-- nothing is left but the 'Z'
 abbrev pub is_zulu : List ℕ → Bool
 is_zulu [] = false
 is_zulu (b ∷ []) = nat_eq b zulu

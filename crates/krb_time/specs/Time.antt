@@ -5,7 +5,8 @@ use Rattle.jiff_core.specs.Calendar.{IsDate, days_from_civil}
 use Rattle.jiff_core.specs.Time.{IsTime}
 use Rattle.krb_time.specs.Calendar.{year_of, month_of, day_of}
 
--- 9999-12-31T23:59:59Z in seconds since 1970-01-01T00:00:00Z: the last whose year has four digits
+-- 9999-12-31T23:59:59Z in seconds since 1970-01-01T00:00:00Z: the last second whose year has four
+-- digits
 abbrev pub last_second : ℕ
 last_second = 253_402_300_799
 

@@ -1,4 +1,4 @@
-//! The times of Kerberos V5 (RFC 4120 section 5.2.3): moments in whole microseconds since
+//! The times of Kerberos V5 (RFC 4120 section 5.2.3): timestamps in whole microseconds since
 //! 1970-01-01T00:00:00Z, and the fifteen bytes YYYYMMDDHHMMSSZ that name a second.
 //!
 //! ```rust crates/krb_seal_tests/src/time.rt

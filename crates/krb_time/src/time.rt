@@ -1,4 +1,4 @@
-// Kerberos times (RFC 4120 section 5.2.3): the fifteen bytes YYYYMMDDHHMMSSZ of a second.
+// KerberosTime (RFC 4120 section 5.2.3): the fifteen bytes YYYYMMDDHHMMSSZ of a second.
 
 ghost use Rattle.std.specs.Prelude.{◌≡◌, ◌↔◌, ◌<◌, ◌≤◌, ◌*◌, ℕ, List, pos, Some, IfSome, option_map};
 ghost use Rattle.jiff.specs.Words.{civil_nanos};
@@ -136,16 +136,16 @@ fn time_at(text: &[u8]) -> Option<u64>
     )
 }
 
-/// The second whose [`kerberos_time`] this text is. `None` for any other text: one of another
-/// length or form, a date that the calendar doesn't have, a year before 1970, a second 60.
+/// The second whose [`kerberos_time`] this text is. The result is `None` for any other text: one of
+/// another length or form, a date that the calendar doesn't have, a year before 1970, a second 60.
 pub fn read_kerberos_time(text: &[u8]) -> Option<u64>
     ensures { (s : ℕ) → (result ≡ Some s) ↔ IsKerberosTime s text.now }
 {
     time_at(text)
 }
 
-/// A law, and no work: a text is the Kerberos time of a second exactly where both name the same
-/// date of the calendar and time of day, in the years 1970 to 9999.
+/// A law, which does nothing when it runs: a text is the KerberosTime of a second if and only if
+/// both name the same date of the calendar and time of day, in the years 1970 to 9999.
 pub fn kerberos_time_names_its_second()
     ensures { (s : ℕ) (text : List ℕ) → IsKerberosTime s text ↔ NamesSameTime s text }
 {}

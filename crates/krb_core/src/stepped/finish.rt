@@ -17,12 +17,12 @@ use std::alloc::AllocError;
 impl Stepped {
     /// Steps a send and a take of each lane in turn, round after round, until every end was taken.
     ///
-    /// Each queue needs room for a frame. Where no turn was taken before, the log is then all that
-    /// becomes of the frames, in rounds: of the first frame of each lane, by lane number, then of
+    /// Each queue needs room for a frame. If there were no turns before, the log then has the
+    /// outcomes of all frames, in rounds: of the first frame of each lane, by lane number, then of
     /// the second of each, and so on.
     ///
-    /// The first want of memory ends it, with the earlier turns done. The log then has a front of
-    /// those entries: what becomes of the frames that were taken of each lane.
+    /// It ends when it first runs out of memory, with the earlier turns done. The log then has a
+    /// prefix of those entries: the outcomes of the frames that were taken of each lane.
     pub fn finish(&mut self) -> Result<(), AllocError>
         ensures after { (done : List Turn) × IsPrefix done (finishing self.old.tracks)
             × (self.new ≡ after self.old done) }
@@ -38,8 +38,8 @@ impl Stepped {
             (self.new.log.entries ≡ whole_log self.old)) }
         ensures front { FromStart self.old (IsPrefix self.new.log.entries (whole_log self.old)) }
 
-        // The same by the lanes: what becomes of all their frames, and the headline of each. Where
-        // want of memory ended it, what becomes of those that were taken, and the headline too.
+        // The same by the lanes: the outcomes of all their frames, and the headline of each. If
+        // memory ran out, the outcomes of those that were taken, and the headline too.
         ensures whole { (lanes : List Ends) (capacity : ℕ) → 1 ≤ capacity
             → HasTurned lanes capacity [] self.old → OnOk result
             (IsWhole lanes self.new.log self.new.sents) }

@@ -1,0 +1,609 @@
+"""What is on each page of the reference: headings, prose, source text with links, and tables.
+
+`pages_of` makes the pages of a project. tools/pages_markdown.py and tools/pages_html.py write them.
+A page is a list of blocks, and a block's words are a list of inline parts, so that neither renderer
+knows anything of crates.
+"""
+from __future__ import annotations
+
+import dataclasses
+import re
+from typing import Dict, Iterable, Iterator, List, Optional, Set, Tuple, Union
+
+import sources
+from sources import KIT, Clause, Definition, Function, Item, Module, Project, Ref, Scope
+
+INDEX, HEADLINE = "README", "headline"
+ROOT = Ref("krb_relay", "", "relay")    # the function whose contract is the headline
+
+GUIDE = [
+    "`requires` is what a caller has to prove; `ensures` is what it gets. A clause has a name where"
+    " there are several.",
+    "`x.old` and `x.new` are the values of a mutable borrow before and after the call; `x.now` is"
+    " the value of a shared one, and `xs.items` the list of a vector.",
+    "`IfOk result (λ x. P x)`: if the result is an Ok, P holds of its value; `IfErr` likewise."
+    " `OnOk result P`: if the result is an Ok, P holds.",
+    "`(x : A) → P x` is \"for all x\", `(x : A) × P x` is \"there is an x\", `P × Q` is \"and\","
+    " `P ⊎ Q` is \"or\", `P ↔ Q` is \"if and only if\", `¬ P` is \"not\", `⊥` is never true, `≡` is"
+    " equality.",
+    "A `record` of propositions holds if all of its fields do; its arguments are what it speaks of.",
+    "Words that don't link are the kit's: lists, numbers, options and results with their usual"
+    " meaning.",
+]
+
+
+# ---- blocks
+
+@dataclasses.dataclass(frozen=True)
+class Target:
+    """A place of a page, or a file of the repository where `page` is ''."""
+    page: str
+    anchor: str = ""
+    file: str = ""
+
+
+@dataclasses.dataclass(frozen=True)
+class Inline:
+    """A part of a line: plain or code, and a link where it has a target."""
+    text: str
+    is_code: bool = False
+    target: Optional[Target] = None
+
+
+@dataclasses.dataclass
+class Heading:
+    level: int
+    text: str
+    anchor: str
+    is_code: bool = False
+
+
+@dataclasses.dataclass
+class Paragraph:
+    parts: List[Inline]
+
+
+@dataclasses.dataclass
+class Listing:
+    entries: List[List[Inline]]
+
+
+@dataclasses.dataclass
+class Source:
+    """Source text, with the words that link."""
+    text: str
+    language: str
+    links: Dict[str, Target]
+    says_links: bool = True     # where the text itself can't link, a line after it does
+
+
+@dataclasses.dataclass
+class ClauseBlock:
+    kind: str
+    name: str
+    anchor: str
+    source: Source
+    comment: List[Inline]
+
+
+@dataclasses.dataclass
+class Table:
+    head: List[str]
+    rows: List[List[List[Inline]]]
+
+
+Block = Union[Heading, Paragraph, Listing, Source, ClauseBlock, Table]
+
+
+@dataclasses.dataclass
+class Page:
+    name: str
+    title: str
+    blocks: List[Block]
+
+    def anchors(self) -> Iterator[str]:
+        for block in self.blocks:
+            if isinstance(block, (Heading, ClauseBlock)) and block.anchor:
+                yield block.anchor
+
+
+def plain(text: str) -> List[Inline]:
+    return [Inline(text)]
+
+
+def code(text: str, target: Optional[Target] = None) -> List[Inline]:
+    return [Inline(text, True, target)]
+
+
+# ---- what cites what
+
+class Graph:
+    """What the clauses, the types and the definitions of a project cite."""
+
+    def __init__(self, project: Project):
+        self.project = project
+
+    def of_clause(self, crate: str, scope: Scope, clause: Clause) -> Dict[str, Ref]:
+        """What the words of a clause stand for: what its file imports, or a type of Rust."""
+        masked = sources.blanked(clause.text, sources.RUST_ASIDE)
+        found = {}
+        for word in sorted(sources.free_words(masked, set())):
+            head = word.split(".")[0]
+            ref = self.project.meaning(scope, word)
+            if ref is None and head[0].isupper():
+                ref = self.project.type_named(crate, head)
+            if ref is not None:
+                found[word] = ref
+        return found
+
+    def of_text(self, crate: str, text: str) -> Dict[str, Ref]:
+        """The types that a piece of Rust names."""
+        words = re.findall(r"\b[A-Z]\w*", sources.blanked(text, sources.RUST_ASIDE))
+        found = {word: self.project.type_named(crate, word) for word in sorted(set(words))}
+        return {word: ref for word, ref in found.items() if ref is not None}
+
+    def of_definition(self, definition: Definition) -> Dict[str, Ref]:
+        ref = definition.ref
+        module = self.project.module_of(ref.crate, ref.module)
+        assert module is not None
+        own = {it.ref.word: it.ref for it in module.definitions}
+        own.update({maker: own[data] for maker, data in module.makers.items()})
+        found = {}
+        for word in sorted(definition.words):
+            meant = self.project.meaning(module.scope, word)
+            meant = meant or own.get(word.split(".")[0])
+            if meant is not None and meant != ref:
+                found[word] = meant
+        return found
+
+    def of_function(self, crate: str, made: Function) -> List[Ref]:
+        found = list(self.of_text(crate, made.signature).values())
+        for clause in made.clauses:
+            found += self.of_clause(crate, made.scope, clause).values()
+        return found
+
+    def of_item(self, crate: str, item: Item) -> List[Ref]:
+        """What contracts see of a type: its view, or its fields; of a trait, its contracts."""
+        seen = item.seen_as()
+        if seen is not None:
+            scope = next(it.scope for it in item.implementations if it.trait == "Model")
+            return list(self.of_clause(crate, scope, seen).values())
+        found = list(self.of_text(crate, fields_of(item)).values())
+        for clause in item.clauses:
+            found += self.of_clause(crate, item.scope, clause).values()
+        if item.kind == "trait":
+            for made in item.functions:
+                found += self.of_function(crate, made)
+        return [it for it in found if it != Ref(crate, "", item.name)]
+
+    def cited(self, ref: Ref) -> List[Ref]:
+        if ref.crate == KIT:
+            return []
+        item = self.project.item(ref)
+        if item is not None:
+            return self.of_item(ref.crate, item)
+        definition = self.project.definition(ref)
+        return list(self.of_definition(definition).values()) if definition else []
+
+    def reached(self, roots: Iterable[Ref]) -> List[Ref]:
+        """The roots and all that they cite, the nearest first."""
+        found: List[Ref] = []
+        seen: Set[Ref] = set()
+        near = list(roots)
+        while near:
+            far: List[Ref] = []
+            for ref in near:
+                if ref not in seen:
+                    seen.add(ref)
+                    found.append(ref)
+                    far += self.cited(ref)
+            near = far
+        return found
+
+    def public_roots(self) -> Iterator[Ref]:
+        """What the public items of all crates cite."""
+        for crate in self.project.crates.values():
+            for name in crate.public:
+                if name in crate.functions:
+                    yield from self.of_function(crate.name, crate.functions[name])
+                    continue
+                item = crate.items[name]
+                yield Ref(crate.name, "", name)
+                for made in item.functions:
+                    yield from self.of_function(crate.name, made)
+                for part in item.implementations:
+                    for made in part.functions:
+                        if made.is_public:
+                            yield from self.of_function(crate.name, made)
+                    for clause in shown_ghosts(part):
+                        yield from self.of_clause(crate.name, part.scope, clause).values()
+
+
+def methods_of(crate: sources.Crate, name: str) -> Set[str]:
+    """The public methods of an item."""
+    if name not in crate.items:
+        return set()
+    item = crate.items[name]
+    own = [made for part in item.implementations if not part.trait for made in part.functions]
+    return {made.name for made in item.functions + own if made.is_public}
+
+
+def fields_of(item: Item) -> str:
+    """The text of a type that names the types of its fields: not the names of its variants."""
+    if item.kind == "enum":
+        return re.sub(r"^    [A-Z]\w*", "", item.whole, flags=re.M)
+    return "" if item.kind == "trait" else item.whole
+
+
+def shown_ghosts(made: sources.Implementation) -> List[Clause]:
+    """What an implementation says to callers: not a type's private view and invariant."""
+    hidden = ("view", "invariant") if made.trait == "Model" else ()
+    return [it for it in made.clauses if it.name not in hidden]
+
+
+# ---- docs
+
+FENCE = "```"
+PART = re.compile(r"\[`([^`\]]+)`\](?:\(([^)]*)\))?|`([^`]+)`|\[([^\]]+)\]\(([^)]+)\)")
+
+
+class Writer:
+    """Makes the pages."""
+
+    def __init__(self, project: Project):
+        self.project, self.graph = project, Graph(project)
+        self.shown = set(self.graph.reached(self.graph.public_roots()))
+        self.headline = self.graph.reached(self.headline_roots())
+        self.shown.update(self.headline)
+
+    def headline_roots(self) -> List[Ref]:
+        relay = self.project.crates[ROOT.crate].functions[ROOT.word]
+        return self.graph.of_function(ROOT.crate, relay)
+
+    # ---- links
+
+    def target(self, ref: Ref) -> Optional[Target]:
+        if ref.crate == KIT:
+            return None
+        if not ref.is_type():
+            place = Target(ref.crate, f"specs.{ref.module}.{ref.word}")
+            return place if ref in self.shown else None
+        crate = self.project.crates[ref.crate]
+        is_there = ref.word in crate.public or ref in self.shown
+        return Target(ref.crate, ref.word) if is_there else None
+
+    def links(self, meanings: Dict[str, Ref]) -> Dict[str, Target]:
+        found = {word: self.target(ref) for word, ref in meanings.items()}
+        return {word: target for word, target in found.items() if target is not None}
+
+    def named(self, crate: str, name: str) -> Optional[Target]:
+        """Where a doc comment's name leads: an item of the crate, or of one that it stands on; a
+        method, or the type of a variant or a field."""
+        name = name.replace("crate::", "").replace("::", ".").split("(")[0]
+        first, _, rest = name.partition(".")
+        if first in self.project.crates and rest:
+            return self.named(first, rest)
+        for place in [crate, *self.project.crates[crate].below]:
+            found = self.project.crates[place]
+            if first in found.public:
+                return Target(place, name if rest in methods_of(found, first) else first)
+        return Target(first) if first in self.project.crates else None
+
+    # ---- prose
+
+    def inlines(self, crate: str, text: str) -> List[Inline]:
+        found, at = [], 0
+        for match in PART.finditer(text):
+            if match.start() > at:
+                found.append(Inline(text[at:match.start()]))
+            at = match.end()
+            if match[1]:
+                found.append(Inline(match[1], True, self.named(crate, match[2] or match[1])))
+            elif match[3]:
+                found.append(Inline(match[3], True))
+            else:
+                found.append(Inline(match[4], False, self.named(crate, match[5])))
+        return found + ([Inline(text[at:])] if at < len(text) else [])
+
+    def prose(self, crate: str, text: str) -> Iterator[Block]:
+        """The blocks of a doc comment: paragraphs, lists and code."""
+        lines: List[str] = []
+        fenced: Optional[List[str]] = None
+        for line in text.split("\n"):
+            if fenced is not None and line.strip() == FENCE:
+                yield Source("\n".join(fenced), "rust", {}, False)
+                fenced = None
+            elif fenced is not None:
+                fenced.append(line)
+            elif line.startswith(FENCE):
+                yield from self.paragraph(crate, lines)
+                lines, fenced = [], []
+            elif not line.strip():
+                yield from self.paragraph(crate, lines)
+                lines = []
+            else:
+                lines.append(line)
+        yield from self.paragraph(crate, lines)
+
+    def paragraph(self, crate: str, lines: List[str]) -> Iterator[Block]:
+        begins = [at for at, line in enumerate(lines) if re.match(r"[-*] ", line)]
+        before = lines[:begins[0]] if begins else lines
+        if before:
+            yield Paragraph(self.inlines(crate, " ".join(it.strip() for it in before)))
+        if begins:
+            ends = begins[1:] + [len(lines)]
+            yield Listing([self.inlines(crate, " ".join(it.strip() for it in lines[at:end])[2:])
+                           for at, end in zip(begins, ends)])
+
+    # ---- items
+
+    def clause(self, crate: str, owner: str, scope: Scope, clause: Clause) -> ClauseBlock:
+        links = self.links(self.graph.of_clause(crate, scope, clause))
+        anchor = f"{owner}.{clause.name}" if clause.name else ""
+        if clause.kind == "requires" and anchor:
+            anchor = f"{owner}.requires.{clause.name}"
+        return ClauseBlock(clause.kind, clause.name, anchor, Source(clause.text, "", links),
+                           self.inlines(crate, clause.comment))
+
+    def function(self, crate: str, made: Function, owner: str, level: int) -> Iterator[Block]:
+        name = f"{owner}.{made.name}" if owner else made.name
+        yield Heading(level, name.replace(".", "::"), name, True)
+        yield from self.prose(crate, made.doc)
+        links = self.links(self.graph.of_text(crate, made.signature))
+        yield Source(made.signature, "rust", links, False)
+        for clause in made.clauses:
+            yield self.clause(crate, name, made.scope, clause)
+
+    def item(self, crate: str, item: Item, level: int) -> Iterator[Block]:
+        yield Heading(level, item.name, item.name, True)
+        yield from self.prose(crate, item.doc)
+        named = item.declaration if item.kind == "trait" else fields_of(item)
+        yield Source(item.declaration, "rust", self.links(self.graph.of_text(crate, named)), False)
+        yield from self.seen(crate, item)
+        if item.kind == "trait":
+            for clause in item.clauses:
+                yield self.clause(crate, item.name, item.scope, clause)
+        for made in item.functions:
+            yield from self.function(crate, made, item.name, level + 1)
+        for part in item.implementations:
+            if not part.trait:
+                for made in part.functions:
+                    if made.is_public:
+                        yield from self.function(crate, made, item.name, level + 1)
+        yield from self.implemented(crate, item)
+
+    def seen(self, crate: str, item: Item) -> Iterator[Block]:
+        seen = item.seen_as()
+        if seen is None:
+            return
+        scope = next(it.scope for it in item.implementations if it.trait == "Model")
+        links = self.links(self.graph.of_clause(crate, scope, seen))
+        yield Paragraph([Inline("Contracts see it as "),
+                         Inline(seen.text, True, links.get(seen.text)), Inline(".")])
+
+    def implemented(self, crate: str, item: Item) -> Iterator[Block]:
+        """The traits of an item, with what contracts know of them."""
+        names = []
+        for part in item.implementations:
+            if not part.trait or part.trait == "Model":
+                continue
+            said = shown_ghosts(part)
+            if not said:
+                names.append(part.header)
+                continue
+            yield Paragraph([Inline(part.header, True), Inline(", of which callers know:")])
+            for clause in said:
+                yield self.clause(crate, f"{item.name}.{part.label()}", part.scope, clause)
+        if names:
+            yield Paragraph([Inline("Also: ")] + [
+                it for name in names for it in (Inline(name, True), Inline(", "))][:-1])
+
+    # ---- definitions
+
+    def definition(self, definition: Definition) -> Iterator[Block]:
+        ref = definition.ref
+        yield Heading(4, ref.word, f"specs.{ref.module}.{ref.word}", True)
+        if definition.comment:
+            yield Paragraph(self.inlines(ref.crate, sentence(definition.comment)))
+        links = self.links(self.graph.of_definition(definition))
+        yield Source(definition.text, "", links)
+
+    def module(self, module: Module) -> Iterator[Block]:
+        shown = [it for it in module.definitions if it.ref in self.shown]
+        if not shown:
+            return
+        yield Heading(3, module.name, f"specs.{module.name}", True)
+        about = self.inlines(module.crate, sentence(module.comment) + " ") if module.comment else []
+        yield Paragraph(about + [Inline("From "), link_to(module.file), Inline(".")])
+        for definition in shown:
+            yield from self.definition(definition)
+
+    # ---- pages
+
+    def crate(self, name: str) -> Page:
+        crate = self.project.crates[name]
+        blocks: List[Block] = [Heading(1, name, "", True)]
+        blocks += self.prose(name, crate.doc)
+        blocks += self.stands_on(name)
+        items = [crate.items[it] for it in crate.public if it in crate.items]
+        groups = [("Types", ("struct", "enum", "type")), ("Traits", ("trait",)),
+                  ("Constants", ("const", "static"))]
+        for title, kinds in groups[:2]:
+            blocks += self.group(name, title, [it for it in items if it.kind in kinds])
+        functions = [crate.functions[it] for it in crate.public if it in crate.functions]
+        if functions:
+            blocks.append(Heading(2, "Functions", "functions"))
+        for made in functions:
+            blocks += self.function(name, made, "", 3)
+        blocks += self.group(name, groups[2][0], [it for it in items if it.kind in groups[2][1]])
+        hidden = [it for it in crate.items.values() if it.name not in crate.public
+                  and Ref(name, "", it.name) in self.shown]
+        blocks += self.group(name, "Further types that definitions speak of",
+                             sorted(hidden, key=lambda it: it.name))
+        modules = [block for it in crate.modules.values() for block in self.module(it)]
+        if modules:
+            blocks += [Heading(2, "Definitions", "definitions"), *modules]
+        return Page(name, name, blocks)
+
+    def group(self, crate: str, title: str, items: List[Item]) -> Iterator[Block]:
+        if items:
+            yield Heading(2, title, title.split()[0].lower())
+        for item in items:
+            yield from self.item(crate, item, 3)
+
+    def stands_on(self, name: str) -> Iterator[Block]:
+        below = [it for it in self.project.crates[name].deps if self.project.crates[it].public]
+        if below:
+            yield Paragraph([Inline("It stands on ")] + joined(
+                Inline(it, True, Target(it)) for it in below) + [Inline(".")])
+        for other, names in self.project.crates[name].shown.items():
+            yield Paragraph([Inline("It also shows, of "), Inline(other, True, Target(other)),
+                             Inline(": ")] + joined(
+                Inline(it, True, self.named(other, it)) for it in names) + [Inline(".")])
+
+    def index(self) -> Page:
+        blocks: List[Block] = [
+            Heading(1, "Reference", ""),
+            Paragraph(self.inlines("krb_base", "Each public type and function of the crates, with its"
+                                   " contract, and each definition that a contract cites."
+                                   " `tools/reference` makes these pages from the sources. The"
+                                   " prover has checked each function against its contract.")),
+            Paragraph([Inline("Start with "),
+                       Inline("what the headline rests on", False, Target(HEADLINE)),
+                       Inline(": the contract of "), *code("relay", Target("krb_relay", "relay")),
+                       Inline(", and each definition that it reaches.")]),
+            Heading(2, "How to read a contract", "contracts"), *self.guide(),
+            Heading(2, "Crates", "crates")]
+        rows = []
+        for crate in self.project.crates.values():
+            if crate.public:
+                rows.append([code(crate.name, Target(crate.name)),
+                             self.inlines(crate.name, first_sentence(crate.doc)),
+                             plain(str(len(crate.public)))])
+        blocks.append(Table(["Crate", "What it is for", "Public items"], rows))
+        return Page(INDEX, "Reference", blocks)
+
+    def guide(self) -> Iterator[Block]:
+        yield Listing([self.inlines("krb_base", it) for it in GUIDE])
+
+    # ---- the headline
+
+    def headline_page(self) -> Page:
+        relay = self.project.crates[ROOT.crate].functions[ROOT.word]
+        definitions = [it for it in map(self.project.definition, self.headline) if it is not None]
+        lines = sum(it.lines() for it in definitions)
+        about = (f"These are {len(definitions)} definitions, of {lines} lines without comments."
+                 " The contract reaches them by its clauses, by what contracts see of the types in"
+                 " its signature, and by the contracts of the traits there.")
+        blocks: List[Block] = [
+            Heading(1, "What the headline rests on", ""),
+            Paragraph([Inline("The promise of a relay is the contract of "),
+                       *code("relay", Target("krb_relay", "relay")),
+                       Inline(". The prover has checked that its body keeps it. A reader has to"
+                              " check that the contract says what is wanted, so has to believe the"
+                              " definitions that it speaks of. "), Inline(about)]),
+            Heading(2, "The contract", "contract"),
+            Source(relay.signature, "rust",
+                   self.links(self.graph.of_text(ROOT.crate, relay.signature)), False)]
+        for clause in relay.clauses:
+            block = self.clause(ROOT.crate, "", relay.scope, clause)
+            block.anchor = ""
+            blocks.append(block)
+        blocks += [Heading(2, "The definitions", "definitions"),
+                   Paragraph(plain("The modules that the contract reaches in fewer steps come"
+                                   " first. A source is named if the definition, or the head of its"
+                                   " file, cites one; the others are this project's."))]
+        for (crate, module), found in self.by_module(definitions).items():
+            blocks += self.module_rows(crate, module, found)
+        blocks += self.headline_types()
+        blocks += self.headline_words()
+        return Page(HEADLINE, "What the headline rests on", blocks)
+
+    def by_module(self, definitions: List[Definition]) -> Dict[Tuple[str, str], List[Definition]]:
+        found: Dict[Tuple[str, str], List[Definition]] = {}
+        for definition in definitions:
+            found.setdefault((definition.ref.crate, definition.ref.module), []).append(definition)
+        return found
+
+    def module_rows(self, crate: str, name: str, found: List[Definition]) -> Iterator[Block]:
+        module = self.project.module_of(crate, name)
+        assert module is not None
+        lines = sum(it.lines() for it in found)
+        yield Heading(3, f"{crate}: {name}", f"{crate}.{name}")
+        about = sentence(module.comment) + " " if module.comment else ""
+        yield Paragraph(self.inlines(crate, about) + [
+            Inline(f"{counted(len(found), 'definition')}, {counted(lines, 'line')} of "),
+            link_to(module.file), Inline(".")])
+        order = {it.ref: place for place, it in enumerate(module.definitions)}
+        rows = []
+        for it in sorted(found, key=lambda it: order[it.ref]):
+            rows.append([code(it.ref.word, self.target(it.ref)),
+                         self.inlines(crate, sentence(it.comment)),
+                         plain(source_of(it.comment) or source_of(module.comment)),
+                         plain(str(it.lines()))])
+        yield Table(["Definition", "What it says", "Source", "Lines"], rows)
+
+    def headline_types(self) -> Iterator[Block]:
+        refs = sorted({it for it in self.headline if it.is_type()},
+                      key=lambda it: (it.crate, it.word))
+        yield Heading(2, "The types", "types")
+        yield Paragraph(plain("These types of the crates stand in the contract or in those"
+                              " definitions."))
+        crates: Dict[str, List[Inline]] = {}
+        for ref in refs:
+            crates.setdefault(ref.crate, []).append(Inline(ref.word, True, self.target(ref)))
+        yield Listing([[Inline(crate, True, Target(crate)), Inline(": "), *joined(words)]
+                       for crate, words in crates.items()])
+
+    def headline_words(self) -> Iterator[Block]:
+        words: Dict[str, Set[str]] = {}
+        for ref in self.headline:
+            if ref.crate == KIT:
+                words.setdefault(ref.module, set()).add(ref.word)
+        yield Heading(2, "Words of the kit", "kit")
+        yield Paragraph(plain("These words are defined by the kit, most of them in its standard"
+                              " library. Operators, as of lists and numbers, are not listed."))
+        yield Listing([[Inline(module[len("Rattle."):], True), Inline(": "),
+                        *joined(Inline(it, True) for it in sorted(words[module]))]
+                       for module in sorted(words)])
+
+
+def link_to(file: str) -> Inline:
+    return Inline(file, True, Target("", "", file))
+
+
+def joined(parts: Iterable[Inline]) -> List[Inline]:
+    return [it for part in parts for it in (part, Inline(", "))][:-1]
+
+
+def counted(count: int, what: str) -> str:
+    return f"{count:,} {what}{'' if count == 1 else 's'}"
+
+
+def sentence(comment: str) -> str:
+    """A comment as a sentence of its own."""
+    text = " ".join(comment.split())
+    if not text:
+        return ""
+    return text[0].upper() + text[1:] + ("" if text[-1] in ".:" else ".")
+
+
+def first_sentence(doc: str) -> str:
+    text = " ".join(doc.split("\n\n")[0].split())
+    return re.split(r"(?<=[.!?])\s+(?=[A-Z`\[])", text)[0]
+
+
+SECTION = r"[\dA-Z]+(?:\.\d+)*(?:(?:, | and )\d+(?:\.\d+)*)*"
+STANDARD = re.compile(r"(?:RFC \d+|FIPS \d+(?:-\d)?|X\.690|SP 800-38A)"
+                      rf"(?:,? (?:sections?|appendix) {SECTION})?")
+
+
+def source_of(comment: str) -> str:
+    """The standards that a comment cites, with their sections."""
+    return "; ".join(dict.fromkeys(STANDARD.findall(" ".join(comment.split()))))
+
+
+def pages_of(project: Project) -> List[Page]:
+    writer = Writer(project)
+    pages = [writer.index(), writer.headline_page()]
+    return pages + [writer.crate(it.name) for it in project.crates.values() if it.public]
