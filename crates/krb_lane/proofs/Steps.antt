@@ -185,6 +185,13 @@ pub sends : (n pass : ℕ) (v : Hand) (x : Item) → v.sends ≡ true → n ≡ 
     → Pushes IsLane n pass v x (λ w. w ≡ puts v x)
 sends n pass v x may full unended next queue views room h at = (puts v x, (sent_step queue views pass v x h at may (subst (λ (m : ℕ). length queue < m) full room) unended next).0, refl)
 
+-- the same behind tries that changed nothing
+pub sends_again : (n pass : ℕ) (v u : Hand) (x y : Item) → v ≡ u → x ≡ y → u.sends ≡ true → n ≡ u.capacity → has_end u.sent ≡ false
+    → IsNext (length (frames_of u.sent)) y → Pushes IsLane n pass v x (λ w. w ≡ puts v x)
+sends_again n pass v u x y same item may full unended next =
+    sends n pass v x (ap (λ (w : Hand). w.sends) same ∙ may) (full ∙ sym (ap (λ (w : Hand). w.capacity) same)) (ap (λ (w : Hand). has_end w.sent) same ∙ unended)
+    (subst (λ (z : Hand × Item). IsNext (length (frames_of z.0.sent)) z.1) (λ i. (sym same i, sym item i)) next)
+
 pub takes : (pass : ℕ) (v : Hand) → v.takes ≡ true → Pops IsLane pass v (λ x w. (w ≡ pulls v x) × IsNext (length (frames_of v.got)) x)
 takes pass v may x queue views h at = let t = taken_step queue views pass v x h at may in (pulls v x, t.0.0, (refl, t.1))
 

@@ -23,11 +23,11 @@
 //! Only `send`, `end` and `take` may wait. A call that answers `Err` has changed nothing.
 #![tactic(auto)]
 
-mod credit;
 mod item;
 mod meeting;
 mod opening;
 mod passes;
+mod patience;
 mod receiving;
 mod rule;
 mod sending;

@@ -34,7 +34,6 @@ pub fn meet(sent: SentAll, rx: LaneRx) -> Met
         pass: other,
         count: got,
         ended: _,
-        credit: _,
     } = rx;
     sender.absorb::<Whole>(&mut pass, other);
     sender.learn_as::<Total>(&mut pass);

@@ -5,9 +5,9 @@ ghost use Rattle.crossbeam_channel.specs.Ends.{sends_on, ruled_capacity};
 ghost use Rattle.krb_lane.specs.Errors.{words_of_lane_error};
 ghost use Rattle.krb_lane.specs.Rule.{hand, uncut};
 
-use crate::credit::open_credit;
 use crate::item::Item;
 use crate::passes::{Halves, Room};
+use crate::patience::Patience;
 use crate::receiving::LaneRx;
 use crate::rule::{Hand, LaneRule};
 use crate::sending::{Front, LaneTx};
@@ -83,7 +83,6 @@ pub fn lane<R>(rt: &R, alloc: Global, capacity: usize) -> Result<(LaneTx, LaneRx
 {
     // Every call of a lane is passed the handle, and this one has no use for it.
     let _ = rt;
-    let (allowance, credit) = open_credit(alloc, capacity)?;
     let (sender, receiver, mut pass) = bounded_with::<Item, Hand, LaneRule, Global>(
         alloc, capacity,
     )?;
@@ -92,14 +91,13 @@ pub fn lane<R>(rt: &R, alloc: Global, capacity: usize) -> Result<(LaneTx, LaneRx
         sender,
         pass,
         count: 0,
-        allowance,
+        patience: Patience::new(),
     };
     let rx = LaneRx {
         receiver,
         pass: other,
         count: 0,
         ended: false,
-        credit,
     };
     Ok((tx, rx))
 }

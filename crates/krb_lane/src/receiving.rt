@@ -2,7 +2,6 @@ ghost use Rattle.std.specs.Prelude.{◌≡◌, true, length, Some, Ok, IfOk, OnE
 ghost use Rattle.krb_lane.specs.Errors.{words_of_lost};
 ghost use Rattle.krb_lane.specs.Side.{Takes as Taken};
 
-use crate::credit::Credit;
 use crate::item::Item;
 use crate::passes::Takes;
 use crate::rule::{Hand, LaneRule};
@@ -48,7 +47,6 @@ pub struct LaneRx {
     pub(crate) pass: Pass<Item, Hand>,
     pub(crate) count: u64,
     pub(crate) ended: bool,
-    pub(crate) credit: Credit,
 }
 
 impl Model for LaneRx {
@@ -63,10 +61,10 @@ impl Model for LaneRx {
 }
 
 impl LaneRx {
-    /// Takes the item at the front, and may wait for one. After End it answers End again, and waits
-    /// for nobody.
+    /// Takes the item at the front. After End it answers End again.
     ///
-    /// A frame's index is the number of frames got before.
+    /// It waits if and only if nothing is queued, End wasn't taken and the sending end is there. A
+    /// frame's index is the number of frames got before.
     pub fn take(&mut self, rt: &impl Wait) -> Result<Item, Lost>
         ensures ok { IfOk result (λ item. Taken self.old self.new item) }
         ensures err { OnErr result (self.new ≡ self.old) }
@@ -78,7 +76,6 @@ impl LaneRx {
         match self.receiver.recv_as::<Takes, _>(rt, &mut self.pass) {
             Ok(Item::Frame { index, bytes }) => {
                 self.count += 1;
-                self.credit.earn(rt);
                 Ok(Item::Frame { index, bytes })
             }
             Ok(Item::End) => {

@@ -1,9 +1,8 @@
 ghost use Rattle.std.specs.Prelude.{◌≡◌, ◌<◌, ◌^◌, ◌++◌, [], ◌∷◌, true, false, length};
 ghost use Rattle.std.specs.Prelude.{IfOk, IfErr, OnOk, OnErr};
 
-use crate::credit::Allowance;
 use crate::item::Item;
-use crate::passes::Sends;
+use crate::patience::{Patience, put};
 use crate::rule::{Hand, LaneRule};
 use crate::sent::SentAll;
 use crossbeam_channel::{Pass, RuledSender};
@@ -23,7 +22,7 @@ pub struct LaneTx {
     pub(crate) sender: Front,
     pub(crate) pass: Pass<Item, Hand>,
     pub(crate) count: u64,
-    pub(crate) allowance: Allowance,
+    pub(crate) patience: Patience,
 }
 
 impl Model for LaneTx {
@@ -39,10 +38,10 @@ impl Model for LaneTx {
 }
 
 impl LaneTx {
-    /// Sends a frame, and may wait for room. Where the other end is gone nothing is sent, and the
-    /// very bytes come back.
+    /// Sends a frame. If the receiving end is gone, nothing is sent and the very bytes come back.
     ///
-    /// Fewer than 2^63 frames were sent before.
+    /// It waits if and only if the lane is full, until a take makes room or the receiving end is
+    /// gone. Fewer than 2^63 frames were sent before.
     pub fn send(&mut self, rt: &impl Wait, bytes: Vec<u8>) -> Result<(), Vec<u8>>
         requires { length self.old.frames < 2 ^ 63 }
         ensures ok { OnOk result
@@ -50,25 +49,23 @@ impl LaneTx {
         ensures err { OnErr result (self.new ≡ self.old) }
         ensures back { IfErr result (λ back. back.items ≡ bytes.items) }
     {
-        self.allowance.spend(rt);
         let item = Item::Frame {
             index: self.count,
             bytes: Bytes::new(bytes),
         };
-        match self.sender.send_as::<Sends, _>(rt, &mut self.pass, item) {
+        match put(rt, &self.sender, &mut self.pass, item, &mut self.patience) {
             Ok(()) => {
                 self.count += 1;
                 Ok(())
             }
-            Err(error) => match error.into_inner() {
-                Item::Frame { index: _, bytes } => Err(bytes.into_vec()),
-                Item::End => unreachable!(),
-            },
+            Err(Item::Frame { index: _, bytes }) => Err(bytes.into_vec()),
+            Err(Item::End) => unreachable!(),
         }
     }
 
-    /// Sends End, and may wait for room. Where the other end is gone nothing is sent, and this end
-    /// comes back.
+    /// Sends End. If the receiving end is gone, nothing is sent and this end comes back.
+    ///
+    /// It waits if and only if the lane is full, as [`send`](LaneTx::send) does.
     pub fn end(self, rt: &impl Wait) -> Result<SentAll, LaneTx>
         ensures ok { IfOk result (λ sent. sent ≡ record self { ended = true }) }
         ensures err { IfErr result (λ tx. tx ≡ self) }
@@ -77,9 +74,9 @@ impl LaneTx {
             sender,
             mut pass,
             count,
-            allowance,
+            mut patience,
         } = self;
-        match sender.send_as::<Sends, _>(rt, &mut pass, Item::End) {
+        match put(rt, &sender, &mut pass, Item::End, &mut patience) {
             Ok(()) => Ok(SentAll {
                 sender,
                 pass,
@@ -89,7 +86,7 @@ impl LaneTx {
                 sender,
                 pass,
                 count,
-                allowance,
+                patience,
             }),
         }
     }
@@ -103,7 +100,7 @@ impl LaneTx {
             sender,
             pass,
             count,
-            allowance: _,
+            patience: _,
         } = self;
         SentAll {
             sender,

@@ -3,6 +3,7 @@
 ghost use Rattle.std.specs.Prelude.{◌≡◌, ◌<◌, ◌≤◌};
 
 mod passing;
+mod room;
 mod sweep;
 
 use crate::asserts::{assert_displayed, assert_same};
@@ -145,7 +146,7 @@ fn pass_ten_thousand<R: Abort + Threads + Wait + Sync>(
     Ok(())
 }
 
-// In the first lane each frame makes room; in the others room is given back by four and by 32.
+// The sender of each lane finds it full again and again.
 #[test]
 fn ten_thousand_frames_pass_between_two_threads(rt: HostRuntime) -> Result<(), Fail> {
     pass_ten_thousand(&rt, rt.alloc(), 1)?;

@@ -57,28 +57,30 @@ impl Gate for Meeting {
     }
 }
 
-/// The first `enter` of lane 1 looks for a fourth of lane 0.
+/// The first `enter` of lane 1 looks for so many of lane 0.
 #[derive(Drop)]
-struct Fourth {
+struct Ahead {
+    least: u64,
     came: [AtomicU64; 2],
     seen: AtomicU64,
 }
 
-impl Fourth {
-    fn new() -> Fourth {
-        Fourth {
+impl Ahead {
+    fn new(least: u64) -> Ahead {
+        Ahead {
+            least,
             came: [AtomicU64::new(0), AtomicU64::new(0)],
             seen: AtomicU64::new(0),
         }
     }
 }
 
-impl Gate for Fourth {
+impl Gate for Ahead {
     fn enter(&self, lane: u32) {
         let [first, second] = &self.came;
         if lane == 0 {
             first.fetch_add(1, Ordering::SeqCst);
-        } else if second.fetch_add(1, Ordering::SeqCst) == 0 && comes_to(first, 4) {
+        } else if second.fetch_add(1, Ordering::SeqCst) == 0 && comes_to(first, self.least) {
             self.seen.fetch_add(1, Ordering::SeqCst);
         }
     }
@@ -88,7 +90,8 @@ impl Gate for Fourth {
     }
 }
 
-const TEN: [&[u8]; 10] = [b"a", b"b", b"c", b"d", b"e", b"f", b"g", b"h", b"i", b"j"];
+/// More texts than any lane has room for.
+const TEXTS: [&[u8]; 70] = [b"x"; 70];
 
 /// Asserts at a capacity that both workers meet at the gate, and that all is relayed.
 fn assert_overlap<R: Threads + Wait + Abort + Sync>(
@@ -123,22 +126,33 @@ fn one_thread_does_not_overlap(rt: HostRuntime) {
     assert_same(&rt, gate.met.load(Ordering::SeqCst), 1);
 }
 
+/// How often a gate sees so many seals for lane 0 of which only the first frame is taken.
+fn seen_ahead<R: Threads + Wait + Abort + Sync>(
+    rt: &R,
+    alloc: Global,
+    capacity: usize,
+    least: u64,
+) -> Result<u64, Fail> {
+    let gate = Ahead::new(least);
+    let lanes = two_lanes(alloc, &TEXTS)?;
+    assert!(rt; run(rt, alloc, lanes, capacity, &gate).is_ok());
+    assert_same(rt, gate.came[0].load(Ordering::SeqCst), 71);
+    Ok(gate.seen.load(Ordering::SeqCst))
+}
+
+/// The frames that the lane has room for are sealed, and one that waits for room.
 #[test]
-fn frames_are_handed_over_within_the_capacity(rt: HostRuntime) -> Result<(), Fail> {
-    let gate = Fourth::new();
-    let lanes = two_lanes(rt.alloc(), &TEN)?;
-    assert!(rt; run(&rt, rt.alloc(), lanes, 1, &gate).is_ok());
-    assert_same(&rt, gate.came[0].load(Ordering::SeqCst), 11);
-    assert_same(&rt, gate.seen.load(Ordering::SeqCst), 0);
+fn sender_seals_until_its_lane_is_full(rt: HostRuntime) -> Result<(), Fail> {
+    for (capacity, least) in [(1, 3), (8, 10), (64, 66)] {
+        assert_same(&rt, seen_ahead(&rt, rt.alloc(), capacity, least)?, 1);
+    }
     Ok(())
 }
 
-/// A lane with more room lets the sender go on, as a queue without a bound would.
 #[test]
-fn a_wide_lane_is_seen(rt: HostRuntime) -> Result<(), Fail> {
-    let gate = Fourth::new();
-    let lanes = two_lanes(rt.alloc(), &TEN)?;
-    assert!(rt; run(&rt, rt.alloc(), lanes, 64, &gate).is_ok());
-    assert_same(&rt, gate.seen.load(Ordering::SeqCst), 1);
+fn sender_seals_no_more_than_its_lane_has_room_for(rt: HostRuntime) -> Result<(), Fail> {
+    for (capacity, least) in [(1, 4), (8, 11), (64, 67)] {
+        assert_same(&rt, seen_ahead(&rt, rt.alloc(), capacity, least)?, 0);
+    }
     Ok(())
 }
