@@ -5,8 +5,8 @@ use Rattle.std.proofs.lemmas.List.Folds.{concat-append}
 use Rattle.std.specs.List.{concat}
 use Rattle.std.specs.Io.KnownBytes.{Appends}
 use Rattle.std.proofs.KnownBytes.{Appends-trans}
-use Rattle.krb_commands.specs.Output.{AppendsPrefix}
-use Rattle.krb_commands.proofs.OutputLemmas.{AppendsPrefix-after}
+use Rattle.krb_commands.specs.Output.{AppendsPart}
+use Rattle.krb_commands.proofs.OutputLemmas.{AppendsPart-after}
 
 module _ {X : Type 0} (line : X → List ℕ) where
   lines-append : (xs ys : List X) → concat (map line (xs ++ ys)) ≡ concat (map line xs) ++ concat (map line ys)
@@ -28,7 +28,7 @@ module _ {X : Type 0} (line : X → List ℕ) where
       rw (lines-more xs i x lt is) (Appends-trans old then now (concat (map line (take i xs))) (line x) done next)
 
   pub printed-part : (old then now : Option (List ℕ)) (xs : List X) (i : ℕ) (x : X) → i < length xs → x ≡ get_or xs i x
-      → Appends old then (concat (map line (take i xs))) → AppendsPrefix then now (line x) → AppendsPrefix old now (concat (map line xs))
+      → Appends old then (concat (map line (take i xs))) → AppendsPart then now (line x) → AppendsPart old now (concat (map line xs))
   printed-part old then now xs i x lt is done next =
-      AppendsPrefix-after old then now (concat (map line (take i xs))) (line x) (concat (map line xs)) done next
+      AppendsPart-after old then now (concat (map line (take i xs))) (line x) (concat (map line xs)) done next
       (concat (map line (drop (i + 1) xs))) (lines-cut xs (i + 1) ∙ ap (λ l. l ++ concat (map line (drop (i + 1) xs))) (lines-more xs i x lt is))

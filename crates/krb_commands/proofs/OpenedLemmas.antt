@@ -3,7 +3,7 @@ use Rattle.std.proofs.Common.{◌≡◌, ℕ, ◌+◌, ◌<◌, ◌≤◌, Bool,
 use Rattle.std.specs.Io.KnownBytes.{Appends}
 use Rattle.std.proofs.KnownBytes.{Appends-trans}
 use Rattle.std.specs.List.{concat}
-use Rattle.std.proofs.lemmas.List.{take_more, take_all, map-append}
+use Rattle.std.proofs.lemmas.List.{take_more, take_all, map-append, length-map}
 use Rattle.krb_peers.specs.declared.log.Entry.{Entry}
 use Rattle.krb_peers.specs.declared.log.Event.{Event}
 use Rattle.krb_peers.specs.declared.log.Status.{Status}
@@ -90,8 +90,14 @@ module _ {A E : Type 0} (start : ReceiverState) (nows : List ℕ) (frames : List
   pub entries_alone : Appends old now (concat (map entry_line log.entries)) → PrintsOpenedPrefix start nows frames old now
   entries_alone p = prefix_of_entries (whole old now (concat (map entry_line log.entries)) p)
 
-  pub first_printed : Appends old now (concat (map entry_line log.entries)) → PrintsFirst start nows frames old now
-  first_printed p = let P : List ℕ → Type 0 = λ l. Appends old now l in (h.0, h.1.verdicts, h.1.opened, subst P (lines_are h.1.verdicts log h.1.entries) p)
+  -- one line for each event
+  count_is : length log.entries ≡ length (events_from h.1.verdicts)
+  count_is = ap (λ (l : LogState). length l.entries) h.1.entries ∙ length-map (events_from h.1.verdicts) _
+
+  pub first_printed : (lines : ℕ) → lines ≡ length log.entries → Appends old now (concat (map entry_line log.entries)) → PrintsFirst start nows frames lines old now
+  first_printed lines many p =
+      let P : List ℕ → Type 0 = λ l. Appends old now l in
+      (h.0, h.1.verdicts, h.1.opened, many ∙ count_is, subst P (lines_are h.1.verdicts log h.1.entries) p)
 
   module _ (ok : h.0 ≡ length frames) where
     all_opened : AreJudged start nows frames h.1.verdicts

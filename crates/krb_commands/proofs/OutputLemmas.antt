@@ -1,24 +1,53 @@
 -- Writes one after another.
 use Rattle.std.proofs.lemmas.List.{take_all, length-drop, take-append-drop}
-use Rattle.std.proofs.Common.{◌-◌, ◌≤◌, length, take, drop, arith, ◌≡◌, ℕ, List, [], ◌++◌, refl, sym, ap, ◌∙◌, append_assoc, Option}
+use Rattle.std.proofs.Common.{◌+◌, ◌-◌, ◌<◌, ◌≤◌, length, take, drop, arith, ◌≡◌, ℕ, List, [], ◌++◌, refl, sym, ap, ◌∙◌, append_assoc, length-append, Option, codes}
 use Rattle.std.specs.Io.KnownBytes.{Appends}
 use Rattle.std.proofs.KnownBytes.{Appends-trans, Appends-nil}
-use Rattle.krb_commands.specs.Output.{AppendsPrefix}
+use Rattle.krb_base.specs.Prefix.{IsPrefix}
+use Rattle.krb_commands.specs.JobLines.{line_of}
+use Rattle.krb_commands.specs.Output.{AppendsPrefix, AppendsPart}
+
+-- a prefix of a text stands after another
+prefix_after : (done text whole front : List ℕ) → IsPrefix front text → (rest : List ℕ) → whole ≡ done ++ text ++ rest → IsPrefix (done ++ front) whole
+prefix_after done text whole front q rest e = (
+  q.0 ++ rest,
+  e ∙ ap (λ t. done ++ t ++ rest) q.1 ∙ ap (λ l. l ++ rest) (sym (append_assoc done front q.0)) ∙ append_assoc (done ++ front) q.0 rest,
+)
 
 -- a text that was written whole, and a front of the next
 pub AppendsPrefix-after : (a b c : Option (List ℕ)) (done text whole : List ℕ) → Appends a b done → AppendsPrefix b c text
     → (rest : List ℕ) → whole ≡ done ++ text ++ rest → AppendsPrefix a c whole
-AppendsPrefix-after a b c done text whole p q rest e = (
-  done ++ q.0,
-  Appends-trans a b c done q.0 p q.1,
-  (
-    q.2.0 ++ rest,
-    e ∙ ap (λ t. done ++ t ++ rest) q.2.1 ∙ ap (λ l. l ++ rest) (sym (append_assoc done q.0 q.2.0)) ∙ append_assoc (done ++ q.0) q.2.0 rest,
-  ),
-)
+AppendsPrefix-after a b c done text whole p q rest e =
+    (done ++ q.0, Appends-trans a b c done q.0 p q.1, prefix_after done text whole q.0 q.2 rest e)
 
 pub AppendsPrefix-none : (a : Option (List ℕ)) (whole : List ℕ) → AppendsPrefix a a whole
 AppendsPrefix-none a whole = ([], Appends-nil a, (whole, refl))
+
+pub prefix_by_part : (a b : Option (List ℕ)) (text : List ℕ) → AppendsPart a b text → AppendsPrefix a b text
+prefix_by_part a b text p = (p.0, p.1, p.2)
+
+-- a text that was written whole, and only a prefix of the next
+pub AppendsPart-after : (a b c : Option (List ℕ)) (done text whole : List ℕ) → Appends a b done → AppendsPart b c text
+    → (rest : List ℕ) → whole ≡ done ++ text ++ rest → AppendsPart a c whole
+AppendsPart-after a b c done text whole p q rest e =
+    let short = q.3 in
+    let size : length whole ≡ (length done + length text) + length rest = ap length e ∙ length-append (done ++ text) rest ∙ ap (λ n. n + length rest) (length-append done text) in (
+      done ++ q.0,
+      Appends-trans a b c done q.0 p q.1,
+      prefix_after done text whole q.0 q.2 rest e,
+      omega (arith, length-append done q.0, size, short),
+    )
+
+-- a prefix of what another text begins with
+pub AppendsPart-within : (a b : Option (List ℕ)) (text whole : List ℕ) → AppendsPart a b text → (rest : List ℕ) → whole ≡ text ++ rest → AppendsPart a b whole
+AppendsPart-within a b text whole p rest e = AppendsPart-after a a b [] text whole (Appends-nil a) p rest e
+
+pub AppendsPart-none : (a : Option (List ℕ)) (whole : List ℕ) → 0 < length whole → AppendsPart a a whole
+AppendsPart-none a whole some = ([], Appends-nil a, (whole, refl), some)
+
+-- nothing of a line is written
+pub no_line : (a : Option (List ℕ)) (text : List ℕ) → AppendsPart a a (line_of text)
+no_line a text = AppendsPart-none a (line_of text) (omega (arith, length-append text (codes "\n")))
 
 -- a writer took `count` bytes of what was left
 pub wrote_more : (a b c : Option (List ℕ)) (done rest all : List ℕ) (count : ℕ) → Appends a b done → all ≡ done ++ rest → Appends b c (take count rest)

@@ -14,8 +14,8 @@ use Rattle.krb_peers.specs.Ends.{Ends, lanes_of, sents_of}
 use Rattle.krb_peers.specs.Whole.{IsWhole}
 use Rattle.krb_commands.specs.JobLines.{entry_line, entry_lines, end_line, end_lines, are_closed, is_closed_state, status_by}
 use Rattle.krb_commands.specs.Relayed.{relayed_text, PrintsRelayed, PrintsRelayedPrefix}
-use Rattle.krb_commands.specs.Output.{AppendsPrefix}
-use Rattle.krb_commands.proofs.OutputLemmas.{AppendsPrefix-after}
+use Rattle.krb_commands.specs.Output.{AppendsPart}
+use Rattle.krb_commands.proofs.OutputLemmas.{AppendsPrefix-after, AppendsPart-after, prefix_by_part}
 
 -- ---- how the lanes ended
 
@@ -52,9 +52,9 @@ module _ (old then now : Option (List ℕ)) (sents : List Sent) (log : LogState)
     states = h.states ∙ ap (λ b. closed && b) next_state ∙ and_assoc closed (is_closed_state (status_of log lane)) (are_closed (lane + 1) (drop (lane + 1) sents) log);
   }
 
-  pub printed_front : AppendsPrefix then now (end_line lane sent (status_of log lane)) → AppendsPrefix old now (end_lines 0 sents log)
+  pub printed_front : AppendsPart then now (end_line lane sent (status_of log lane)) → AppendsPart old now (end_lines 0 sents log)
   printed_front p =
-      AppendsPrefix-after old then now h.done (end_line lane sent (status_of log lane)) (end_lines 0 sents log) h.written p
+      AppendsPart-after old then now h.done (end_line lane sent (status_of log lane)) (end_lines 0 sents log) h.written p
       (end_lines (lane + 1) (drop (lane + 1) sents) log)
       (h.lines ∙ ap (λ l. h.done ++ l) next_line ∙ sym (append_assoc h.done (end_line lane sent (status_of log lane)) (end_lines (lane + 1) (drop (lane + 1) sents) log)))
 
@@ -72,19 +72,19 @@ sents_many {S} state sendings receivings sents same are = ap length are ∙ many
 
 module _ (lanes : List Ends) (log : LogState) (old then now : Option (List ℕ)) where
   -- a prefix of the entries of a whole relay
-  pub entries_front : (sents : List Sent) → IsWhole lanes log sents → AppendsPrefix old now (entry_lines log.entries) → PrintsRelayedPrefix lanes old now
-  entries_front sents h p = inr (inl (log, subst (λ (l : List Sent). IsWhole lanes log l) h.sealed h, AppendsPrefix-after old old now [] (entry_lines log.entries) (relayed_text lanes log) (Appends-nil old) p (end_lines 0 (sents_of lanes) log) refl))
+  pub entries_front : (sents : List Sent) → IsWhole lanes log sents → AppendsPart old now (entry_lines log.entries) → PrintsRelayedPrefix lanes old now
+  entries_front sents h p = inr (inl (log, subst (λ (l : List Sent). IsWhole lanes log l) h.sealed h, AppendsPrefix-after old old now [] (entry_lines log.entries) (relayed_text lanes log) (Appends-nil old) (prefix_by_part old now (entry_lines log.entries) p) (end_lines 0 (sents_of lanes) log) refl))
 
   module _ (sents : List Sent) (left : IsWhole lanes log sents) (are : sents ≡ sents_of lanes) (first : Appends old then (concat (map entry_line log.entries))) where
     h : IsWhole lanes log (sents_of lanes)
     h = subst (λ (l : List Sent). IsWhole lanes log l) are left
 
     -- and how the lanes ended, or a prefix of that
-    pub ends_front : AppendsPrefix then now (end_lines 0 sents log) → PrintsRelayedPrefix lanes old now
+    pub ends_front : AppendsPart then now (end_lines 0 sents log) → PrintsRelayedPrefix lanes old now
     ends_front p =
         let last : relayed_text lanes log ≡ entry_lines log.entries ++ end_lines 0 sents log ++ [] =
         sym (append-nil (entry_lines log.entries ++ end_lines 0 sents log) ∙ ap (λ l. entry_lines log.entries ++ end_lines 0 l log) are) in
-        inr (inl (log, h, AppendsPrefix-after old then now (entry_lines log.entries) (end_lines 0 sents log) (relayed_text lanes log) first p [] last))
+        inr (inl (log, h, AppendsPrefix-after old then now (entry_lines log.entries) (end_lines 0 sents log) (relayed_text lanes log) first (prefix_by_part then now (end_lines 0 sents log) p) [] last))
 
     pub all_relayed : Appends then now (end_lines 0 sents log) → (status : ℕ) → status ≡ status_by (are_closed 0 sents log) → PrintsRelayed lanes old now status
     all_relayed p status is =
@@ -101,6 +101,6 @@ module _ (lanes : List Ends) (log : LogState) (old then now : Option (List ℕ))
     relayed_by (Ok status) p is = all_relayed p status is
     relayed_by (Err e) p is = tt
 
-    pub front_by : {E : Type 0} (r : Result ℕ E) → OnErr r (AppendsPrefix then now (end_lines 0 sents log)) → OnErr r (PrintsRelayedPrefix lanes old now)
+    pub front_by : {E : Type 0} (r : Result ℕ E) → OnErr r (AppendsPart then now (end_lines 0 sents log)) → OnErr r (PrintsRelayedPrefix lanes old now)
     front_by (Ok status) p = tt
     front_by (Err e) p = ends_front p

@@ -78,16 +78,31 @@ module _ {S : Type 0} (state : S → SealerState) (sendings : List (Sending S)) 
       let e : true ≡ false = sym (l.reason.0) ∙ flag in
       cc
 
+-- what a relay that stopped has printed, by what it answers
+pub stopped_lines : (cause : Cause) (lane count lines : ℕ) → IsLiveCause cause → of_relay cause lane count ≡ fault.Stopped lines → lines ≡ count
+stopped_lines Memory lane count lines live is = cc
+stopped_lines Spawn lane count lines live is = absurd cc
+stopped_lines Lost lane count lines live is = absurd cc
+stopped_lines BadPlan lane count lines live is = absurd cc
+stopped_lines Wiped lane count lines live is = absurd live
+
+pub thread_lines : (cause : Cause) (lane count lines : ℕ) → IsLiveCause cause → of_relay cause lane count ≡ fault.Thread lines → lines ≡ count
+thread_lines Memory lane count lines live is = absurd cc
+thread_lines Spawn lane count lines live is = cc
+thread_lines Lost lane count lines live is = cc
+thread_lines BadPlan lane count lines live is = absurd cc
+thread_lines Wiped lane count lines live is = absurd live
+
 none_printed : (told : Fault) (bad : BadInput) → told ≡ fault.BadInput bad → IsOfPrinting told → ⊥
 none_printed told bad is h = subst IsOfPrinting is h
 
 -- where bad input is told, it is that plan
-pub names_bad_plan : (lanes : List Ends) (log : LogState) (lane : ℕ) (cause : Cause) (told : Fault) (bad : BadInput) → StopsRelay lanes log lane cause → (told ≡ of_relay cause lane) ⊎ IsOfPrinting told → told ≡ fault.BadInput bad
+pub names_bad_plan : (lanes : List Ends) (log : LogState) (lane : ℕ) (cause : Cause) (told : Fault) (bad : BadInput) → StopsRelay lanes log lane cause → (lines : ℕ) (Part : Type 0) → (told ≡ of_relay cause lane lines) ⊎ (IsOfPrinting told × Part) → told ≡ fault.BadInput bad
     → (at : ℕ) × (bad ≡ bad_plan at) × HasBadPlanFirst lanes at
-names_bad_plan lanes log lane cause told bad h (inr printing) named = absurd (none_printed told bad named printing)
-names_bad_plan lanes log lane Memory told bad h (inl is) named = absurd (let e : fault.Stopped ≡ fault.BadInput bad = sym is ∙ named in cc)
-names_bad_plan lanes log lane Spawn told bad h (inl is) named = absurd (let e : fault.Thread ≡ fault.BadInput bad = sym is ∙ named in cc)
-names_bad_plan lanes log lane Lost told bad h (inl is) named = absurd (let e : fault.Thread ≡ fault.BadInput bad = sym is ∙ named in cc)
-names_bad_plan lanes log lane BadPlan told bad h (inl is) named =
+names_bad_plan lanes log lane cause told bad h lines Part (inr printing) named = absurd (none_printed told bad named printing.0)
+names_bad_plan lanes log lane Memory told bad h lines Part (inl is) named = absurd (let e : fault.Stopped lines ≡ fault.BadInput bad = sym is ∙ named in cc)
+names_bad_plan lanes log lane Spawn told bad h lines Part (inl is) named = absurd (let e : fault.Thread lines ≡ fault.BadInput bad = sym is ∙ named in cc)
+names_bad_plan lanes log lane Lost told bad h lines Part (inl is) named = absurd (let e : fault.Thread lines ≡ fault.BadInput bad = sym is ∙ named in cc)
+names_bad_plan lanes log lane BadPlan told bad h lines Part (inl is) named =
     (lane, (let e : fault.BadInput (bad_plan lane) ≡ fault.BadInput bad = sym is ∙ named in let f : bad_plan lane ≡ bad = cc in sym f), first_bad_plan lanes log lane h)
-names_bad_plan lanes log lane Wiped told bad h (inl is) named = absurd (let e : fault.Memory ≡ fault.BadInput bad = sym is ∙ named in cc)
+names_bad_plan lanes log lane Wiped told bad h lines Part (inl is) named = absurd (let e : fault.Memory ≡ fault.BadInput bad = sym is ∙ named in cc)

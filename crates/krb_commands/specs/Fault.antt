@@ -17,8 +17,8 @@ abbrev pub fault_status : Fault → ℕ
 fault_status fault.TooLong = 2
 fault_status (fault.BadInput b) = 2
 fault_status fault.Memory = 4
-fault_status fault.Stopped = 4
-fault_status fault.Thread = 4
+fault_status (fault.Stopped lines) = 4
+fault_status (fault.Thread lines) = 4
 fault_status fault.Read = 4
 fault_status fault.Write = 4
 
@@ -41,25 +41,26 @@ of_start start.Memory = fault.Memory
 of_start (start.BadPlan lane) = fault.BadInput (bad_plan lane)
 of_start (start.Wiped lane) = fault.Memory
 
--- the same of a relay that stops
+-- no sealer was wiped, where a relay stops
 abbrev pub IsLiveCause : Cause → Type 0
 IsLiveCause cause.Wiped = ⊥
 IsLiveCause other = Unit {0}
 
-abbrev pub of_relay : Cause → ℕ → Fault
-of_relay cause.Memory lane = fault.Stopped
-of_relay cause.Spawn lane = fault.Thread
-of_relay cause.Lost lane = fault.Thread
-of_relay cause.BadPlan lane = fault.BadInput (bad_plan lane)
-of_relay cause.Wiped lane = fault.Memory
+-- why a relay stopped at a lane, where so many lines are printed
+abbrev pub of_relay : Cause → ℕ → ℕ → Fault
+of_relay cause.Memory lane lines = fault.Stopped lines
+of_relay cause.Spawn lane lines = fault.Thread lines
+of_relay cause.Lost lane lines = fault.Thread lines
+of_relay cause.BadPlan lane lines = fault.BadInput (bad_plan lane)
+of_relay cause.Wiped lane lines = fault.Memory
 
 -- a fault of reading an input
 abbrev pub IsOfReading : Fault → Type 0
 IsOfReading fault.TooLong = Unit {0}
 IsOfReading (fault.BadInput b) = ⊥
 IsOfReading fault.Memory = Unit {0}
-IsOfReading fault.Stopped = ⊥
-IsOfReading fault.Thread = ⊥
+IsOfReading (fault.Stopped lines) = ⊥
+IsOfReading (fault.Thread lines) = ⊥
 IsOfReading fault.Read = Unit {0}
 IsOfReading fault.Write = ⊥
 
@@ -68,8 +69,8 @@ abbrev pub IsOfPrinting : Fault → Type 0
 IsOfPrinting fault.TooLong = ⊥
 IsOfPrinting (fault.BadInput b) = ⊥
 IsOfPrinting fault.Memory = Unit {0}
-IsOfPrinting fault.Stopped = ⊥
-IsOfPrinting fault.Thread = ⊥
+IsOfPrinting (fault.Stopped lines) = ⊥
+IsOfPrinting (fault.Thread lines) = ⊥
 IsOfPrinting fault.Read = ⊥
 IsOfPrinting fault.Write = Unit {0}
 
@@ -78,8 +79,8 @@ abbrev pub IsOfNoJob : Fault → Type 0
 IsOfNoJob fault.TooLong = Unit {0}
 IsOfNoJob (fault.BadInput b) = ⊥
 IsOfNoJob fault.Memory = Unit {0}
-IsOfNoJob fault.Stopped = ⊥
-IsOfNoJob fault.Thread = ⊥
+IsOfNoJob (fault.Stopped lines) = ⊥
+IsOfNoJob (fault.Thread lines) = ⊥
 IsOfNoJob fault.Read = Unit {0}
 IsOfNoJob fault.Write = Unit {0}
 
@@ -88,8 +89,8 @@ abbrev pub IsOfSealing : Fault → Type 0
 IsOfSealing fault.TooLong = ⊥
 IsOfSealing (fault.BadInput b) = Unit {0}
 IsOfSealing fault.Memory = Unit {0}
-IsOfSealing fault.Stopped = ⊥
-IsOfSealing fault.Thread = ⊥
+IsOfSealing (fault.Stopped lines) = ⊥
+IsOfSealing (fault.Thread lines) = ⊥
 IsOfSealing fault.Read = ⊥
 IsOfSealing fault.Write = Unit {0}
 
@@ -98,8 +99,8 @@ abbrev pub IsOfOpening : Fault → Type 0
 IsOfOpening fault.TooLong = ⊥
 IsOfOpening (fault.BadInput b) = ⊥
 IsOfOpening fault.Memory = Unit {0}
-IsOfOpening fault.Stopped = Unit {0}
-IsOfOpening fault.Thread = ⊥
+IsOfOpening (fault.Stopped lines) = Unit {0}
+IsOfOpening (fault.Thread lines) = ⊥
 IsOfOpening fault.Read = ⊥
 IsOfOpening fault.Write = Unit {0}
 
@@ -108,8 +109,8 @@ abbrev pub IsOfRelaying : Fault → Type 0
 IsOfRelaying fault.TooLong = ⊥
 IsOfRelaying (fault.BadInput b) = Unit {0}
 IsOfRelaying fault.Memory = Unit {0}
-IsOfRelaying fault.Stopped = Unit {0}
-IsOfRelaying fault.Thread = Unit {0}
+IsOfRelaying (fault.Stopped lines) = Unit {0}
+IsOfRelaying (fault.Thread lines) = Unit {0}
 IsOfRelaying fault.Read = ⊥
 IsOfRelaying fault.Write = Unit {0}
 
@@ -118,7 +119,7 @@ abbrev pub IsOfTelling : Fault → Type 0
 IsOfTelling fault.TooLong = Unit {0}
 IsOfTelling (fault.BadInput b) = Unit {0}
 IsOfTelling fault.Memory = Unit {0}
-IsOfTelling fault.Stopped = ⊥
-IsOfTelling fault.Thread = ⊥
+IsOfTelling (fault.Stopped lines) = ⊥
+IsOfTelling (fault.Thread lines) = ⊥
 IsOfTelling fault.Read = Unit {0}
 IsOfTelling fault.Write = ⊥

@@ -16,9 +16,13 @@ use Rattle.krb_peers.specs.declared.sending.Ending.TheVariants.{Done, LastNumber
 use Rattle.krb_peers.specs.Log.{status_of}
 use Rattle.krb_peers.specs.LogState.{LogState}
 
+-- a text and its line feed
+abbrev pub line_of : List ℕ → List ℕ
+line_of text = text ++ codes "\n"
+
 -- a frame that is put on the wire
 abbrev pub frame_line : List ℕ → List ℕ
-frame_line frame = encode_lower frame ++ codes "\n"
+frame_line frame = line_of (encode_lower frame)
 
 abbrev pub frame_lines : List (List ℕ) → List ℕ
 frame_lines frames = concat (map frame_line frames)
@@ -32,8 +36,11 @@ event_text (Text text) = codes "text " ++ encode_lower text
 event_text Closed = codes "closed"
 event_text (Refused refusal) = refusal_text refusal
 
+abbrev pub entry_text : Entry → List ℕ
+entry_text entry = codes "lane " ++ decimal entry.lane ++ codes " " ++ event_text entry.event
+
 abbrev pub entry_line : Entry → List ℕ
-entry_line entry = codes "lane " ++ decimal entry.lane ++ codes " " ++ event_text entry.event ++ codes "\n"
+entry_line entry = line_of (entry_text entry)
 
 abbrev pub entry_lines : List Entry → List ℕ
 entry_lines entries = concat (map entry_line entries)
@@ -47,7 +54,7 @@ abbrev pub sent_text : Sent → List ℕ
 sent_text sent = codes "sent " ++ decimal sent.k ++ codes " of " ++ decimal sent.n ++ codes " " ++ ending_name sent.ending
 
 abbrev pub sent_line : Sent → List ℕ
-sent_line sent = sent_text sent ++ codes "\n"
+sent_line sent = line_of (sent_text sent)
 
 -- whether the close of a lane that has ended was accepted
 abbrev pub state_name : Status → List ℕ
@@ -55,8 +62,11 @@ state_name status.Closed = codes "CLOSED"
 state_name status.Truncated = codes "TRUNCATED"
 state_name status.Live = codes "TRUNCATED"
 
+abbrev pub state_text : ℕ → Status → List ℕ
+state_text lane state = codes "lane " ++ decimal lane ++ codes " " ++ state_name state
+
 abbrev pub state_line : ℕ → Status → List ℕ
-state_line lane state = codes "lane " ++ decimal lane ++ codes " " ++ state_name state ++ codes "\n"
+state_line lane state = line_of (state_text lane state)
 
 abbrev pub is_closed_state : Status → Bool
 is_closed_state status.Closed = true
@@ -69,9 +79,12 @@ state_by closed = if closed then status.Closed else status.Truncated
 
 -- how each lane ended, from a lane on: how much its sender sealed, and whether its close was
 -- accepted
+abbrev pub end_text : ℕ → Sent → Status → List ℕ
+end_text lane sent state =
+    codes "lane " ++ decimal lane ++ codes " " ++ sent_text sent ++ codes " " ++ state_name state
+
 abbrev pub end_line : ℕ → Sent → Status → List ℕ
-end_line lane sent state =
-    codes "lane " ++ decimal lane ++ codes " " ++ sent_text sent ++ codes " " ++ state_name state ++ codes "\n"
+end_line lane sent state = line_of (end_text lane sent state)
 
 abbrev pub end_lines : ℕ → List Sent → LogState → List ℕ
 end_lines lane [] log = []

@@ -25,10 +25,11 @@ PrintsOpened receiver nows frames old new status =
     (verdicts : List Verdict) × AreJudged receiver nows frames verdicts
     × Appends old new (opened_text verdicts) × (status ≡ opened_status verdicts)
 
--- the lines of the first frames alone are printed
-abbrev pub PrintsFirst : ReceiverState → List ℕ → List (List ℕ) → Option (List ℕ) → Option (List ℕ) → Type 0
-PrintsFirst receiver nows frames old new =
-    (n : ℕ) × (verdicts : List Verdict) × AreJudged receiver nows (take n frames) verdicts × Appends old new (opened_lines verdicts)
+-- so many lines are printed: those of the first frames alone
+abbrev pub PrintsFirst : ReceiverState → List ℕ → List (List ℕ) → ℕ → Option (List ℕ) → Option (List ℕ) → Type 0
+PrintsFirst receiver nows frames lines old new =
+    (n : ℕ) × (verdicts : List Verdict) × AreJudged receiver nows (take n frames) verdicts
+    × (lines ≡ length (events_from verdicts)) × Appends old new (opened_lines verdicts)
 
 -- a prefix of what is printed of all, or of the lines of the first frames alone
 abbrev pub PrintsOpenedPrefix : ReceiverState → List ℕ → List (List ℕ) → Option (List ℕ) → Option (List ℕ) → Type 0

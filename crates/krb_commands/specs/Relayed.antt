@@ -1,5 +1,5 @@
 -- What `relay` prints.
-use Rattle.std.specs.Prelude.{◌≡◌, ◌<◌, ◌⊎◌, ℕ, List, ◌++◌, slice_get, Option, Some}
+use Rattle.std.specs.Prelude.{◌≡◌, ◌<◌, ◌⊎◌, ℕ, List, ◌++◌, length, slice_get, Option, Some}
 use Rattle.std.specs.Io.KnownBytes.{Appends, Keeps}
 use Rattle.krb_peers.specs.LogState.{LogState}
 use Rattle.krb_peers.specs.Ends.{Ends, sents_of}
@@ -24,11 +24,12 @@ abbrev pub PrintsRelayed : List Ends → Option (List ℕ) → Option (List ℕ)
 PrintsRelayed lanes old new status =
     (log : LogState) × IsWhole lanes log (sents_of lanes) × Appends old new (relayed_text lanes log) × (status ≡ relayed_status lanes log)
 
--- What becomes of the frames that were taken until the run stopped is printed, and the headline
--- holds of each lane.
-abbrev pub PrintsStopped : List Ends → Option (List ℕ) → Option (List ℕ) → Type 0
-PrintsStopped lanes old new =
-    (log : LogState) × IsRelayed lanes (unended log) × Appends old new (entry_lines log.entries)
+-- So many lines are printed: the outcome of each frame that was taken until the run stopped. The
+-- headline holds of each lane.
+abbrev pub PrintsStopped : List Ends → ℕ → Option (List ℕ) → Option (List ℕ) → Type 0
+PrintsStopped lanes lines old new =
+    (log : LogState) × IsRelayed lanes (unended log) × (lines ≡ length log.entries)
+    × Appends old new (entry_lines log.entries)
 
 -- A prefix of what is printed of all, or of the lines of the first entries alone, or nothing. The
 -- first entries are what becomes of the frames that were taken of each lane, and the headline holds

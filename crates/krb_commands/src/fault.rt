@@ -21,13 +21,18 @@ pub enum Fault {
     /// An allocation was refused.
     #[error("krbrelay: out of memory")]
     Memory,
-    /// An allocation was refused while frames were taken: what became of those until then is
-    /// printed.
+    /// An allocation was refused while frames were taken.
     #[error("krbrelay: out of memory")]
-    Stopped,
-    /// A thread couldn't be started, or was lost: what became of the frames until then is printed.
+    Stopped {
+        /// How many lines are printed: the outcome of the frames until then.
+        lines: usize,
+    },
+    /// A thread couldn't be started, or was lost.
     #[error("krbrelay: thread fault")]
-    Thread,
+    Thread {
+        /// How many lines are printed: the outcome of the frames until then.
+        lines: usize,
+    },
     /// The reader failed.
     #[error("krbrelay: read fault")]
     Read,
@@ -43,7 +48,8 @@ impl Fault {
     {
         match self {
             Fault::TooLong | Fault::BadInput(_) => 2,
-            Fault::Memory | Fault::Stopped | Fault::Thread | Fault::Read | Fault::Write => 4,
+            Fault::Memory | Fault::Stopped { .. } | Fault::Thread { .. } => 4,
+            Fault::Read | Fault::Write => 4,
         }
     }
 
@@ -59,21 +65,22 @@ impl Fault {
         }
     }
 
-    /// Why a relay of sealers that weren't wiped stops, as a fault: a bad plan is bad input.
-    pub(crate) fn of_relay(cause: Cause, lane: u32) -> Fault
+    /// Why a relay of sealers that weren't wiped stops, as a fault: a bad plan is bad input. So
+    /// many lines are printed.
+    pub(crate) fn of_relay(cause: Cause, lane: u32, lines: usize) -> Fault
         requires { IsLiveCause cause }
-        ensures { result ≡ of_relay cause lane }
+        ensures { result ≡ of_relay cause lane lines }
     {
         match cause {
-            Cause::Memory => Fault::Stopped,
-            Cause::Spawn | Cause::Lost => Fault::Thread,
+            Cause::Memory => Fault::Stopped { lines },
+            Cause::Spawn | Cause::Lost => Fault::Thread { lines },
             Cause::BadPlan => Fault::bad_plan(lane),
             Cause::Wiped => unreachable!(),
         }
     }
 
     /// The plan of a sender names what its frames don't have.
-    fn bad_plan(lane: u32) -> Fault
+    pub(crate) fn bad_plan(lane: u32) -> Fault
         ensures { result ≡ Fault.BadInput (bad_plan lane) }
     {
         Fault::BadInput(BadInput::InSender {

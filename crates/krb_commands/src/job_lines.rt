@@ -1,17 +1,23 @@
 //! The lines that are printed for a job.
 
-ghost use Rattle.std.specs.Prelude.{◌≡◌, ◌++◌, codes, IfOk};
+ghost use Rattle.std.specs.Prelude.{◌≡◌, ◌++◌, codes, length, IfOk, IfErr, OnOk, OnErr};
+ghost use Rattle.std.specs.Io.KnownBytes.{Appends};
 ghost use Rattle.std.specs.String.{string_bytes};
+ghost use Rattle.hex.specs.Hex.{encode_lower};
+ghost use Rattle.krb_commands.specs.Fault.{IsOfPrinting};
 ghost use Rattle.krb_commands.specs.JobLines as lines;
+ghost use Rattle.krb_commands.specs.Output.{AppendsPart};
 
-use crate::line::Line;
-use krb_peers::{Ending, Entry, Event, Sent, Status};
+use crate::fault::Fault;
+use crate::line::{Line, print_lines};
+use krb_peers::{Ending, Entry, Event, Log, Sent, Status};
 use krb_seal::Refusal;
 use std::alloc::{AllocError, Global};
+use std::io::Write;
 
 /// A frame is printed as its digits.
 impl Line for Vec<u8> {
-    ghost text = { λ frame. lines.frame_line frame.items };
+    ghost text = { λ frame. encode_lower frame.items };
 
     fn line(&self, alloc: Global) -> Result<String, AllocError> {
         let digits = hex::encode(alloc, self.as_slice())?;
@@ -21,13 +27,29 @@ impl Line for Vec<u8> {
 
 /// An entry of a log.
 impl Line for Entry {
-    ghost text = { λ entry. lines.entry_line entry };
+    ghost text = { λ entry. lines.entry_text entry };
 
     fn line(&self, alloc: Global) -> Result<String, AllocError> {
         let lane = self.lane;
         let event = event_text(alloc, &self.event)?;
         format!(in alloc; "lane {lane} {event}\n")
     }
+}
+
+/// Prints all entries of a log, one a line, and answers how many these are.
+///
+/// After a fault a prefix of the lines is written, and not all.
+pub(crate) fn print_log<W: Write>(alloc: Global, log: &Log, writer: &mut W) -> Result<usize, Fault>
+    ensures count { IfOk result (λ count. count ≡ length log.now.entries) }
+    ensures printed { OnOk result (Appends
+        (W.contents writer.old) (W.contents writer.new) (lines.entry_lines log.now.entries)) }
+    ensures part { OnErr result (AppendsPart
+        (W.contents writer.old) (W.contents writer.new) (lines.entry_lines log.now.entries)) }
+    ensures faults { IfErr result IsOfPrinting }
+{
+    let entries = log.entries();
+    print_lines(alloc, entries, writer)?;
+    Ok(entries.len())
 }
 
 fn event_text(alloc: Global, event: &Event) -> Result<String, AllocError>
@@ -53,7 +75,7 @@ fn refusal_text(alloc: Global, refusal: &Refusal) -> Result<String, AllocError>
 
 /// How much of a sender's texts is sealed.
 impl Line for Sent {
-    ghost text = { λ sent. lines.sent_line sent };
+    ghost text = { λ sent. lines.sent_text sent };
 
     fn line(&self, alloc: Global) -> Result<String, AllocError> {
         let text = sent_text(alloc, self)?;
@@ -86,7 +108,7 @@ pub(crate) struct StateLine {
 }
 
 impl Line for StateLine {
-    ghost text = { λ state. lines.state_line state.lane state.status };
+    ghost text = { λ state. lines.state_text state.lane state.status };
 
     fn line(&self, alloc: Global) -> Result<String, AllocError> {
         let (lane, name) = (self.lane, state_name(self.status));
@@ -112,7 +134,7 @@ pub(crate) struct EndLine {
 }
 
 impl Line for EndLine {
-    ghost text = { λ end. lines.end_line end.lane end.sent end.status };
+    ghost text = { λ end. lines.end_text end.lane end.sent end.status };
 
     fn line(&self, alloc: Global) -> Result<String, AllocError> {
         let (lane, name) = (self.lane, state_name(self.status));

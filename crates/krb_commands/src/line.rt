@@ -5,7 +5,8 @@ ghost use Rattle.std.specs.List.{concat};
 ghost use Rattle.std.specs.Io.KnownBytes.{Appends};
 ghost use Rattle.std.specs.String.{string_bytes};
 ghost use Rattle.krb_commands.specs.Fault.{IsOfPrinting};
-ghost use Rattle.krb_commands.specs.Output.{AppendsPrefix};
+ghost use Rattle.krb_commands.specs.JobLines.{line_of};
+ghost use Rattle.krb_commands.specs.Output.{AppendsPart};
 
 use crate::fault::Fault;
 use crate::output::write_all;
@@ -14,26 +15,26 @@ use std::io::Write;
 
 /// Something that is printed as one line.
 pub(crate) trait Line {
-    /// The line, with its line feed.
+    /// The line, without its line feed.
     ghost text: { Self → List ℕ };
 
     /// The line, with its line feed.
     fn line(&self, alloc: Global) -> Result<String, AllocError>
-        ensures { IfOk result (λ line. string_bytes line ≡ text self.now) };
+        ensures { IfOk result (λ line. string_bytes line ≡ line_of (text self.now)) };
 }
 
 /// Prints the lines of the items, in order.
 ///
-/// After a fault a prefix of them is written.
+/// After a fault a prefix of them is written, and not all.
 pub(crate) fn print_lines<L: Line, W: Write>(
     alloc: Global,
     items: &[L],
     writer: &mut W,
 ) -> Result<(), Fault>
-    ensures printed { OnOk result
-        (Appends (W.contents writer.old) (W.contents writer.new) (concat (map L.text items.now))) }
-    ensures prefix { OnErr result (AppendsPrefix
-        (W.contents writer.old) (W.contents writer.new) (concat (map L.text items.now))) }
+    ensures printed { OnOk result (Appends (W.contents writer.old) (W.contents writer.new)
+        (concat (map (λ item. line_of (L.text item)) items.now))) }
+    ensures part { OnErr result (AppendsPart (W.contents writer.old) (W.contents writer.new)
+        (concat (map (λ item. line_of (L.text item)) items.now))) }
     ensures faults { IfErr result IsOfPrinting }
 {
     for item in items {
@@ -49,9 +50,9 @@ pub(crate) fn print_line<L: Line, W: Write>(
     writer: &mut W,
 ) -> Result<(), Fault>
     ensures printed { OnOk result
-        (Appends (W.contents writer.old) (W.contents writer.new) (L.text item.now)) }
-    ensures prefix { OnErr result
-        (AppendsPrefix (W.contents writer.old) (W.contents writer.new) (L.text item.now)) }
+        (Appends (W.contents writer.old) (W.contents writer.new) (line_of (L.text item.now))) }
+    ensures part { OnErr result
+        (AppendsPart (W.contents writer.old) (W.contents writer.new) (line_of (L.text item.now))) }
     ensures faults { IfErr result IsOfPrinting }
 {
     let line = item.line(alloc)?;

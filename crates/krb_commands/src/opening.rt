@@ -1,13 +1,13 @@
 //! The command `open`.
 
-ghost use Rattle.std.specs.Prelude.{◌≡◌, ◌<◌, length, IfOk, IfErr, OnErr};
+ghost use Rattle.std.specs.Prelude.{◌≡◌, ◌<◌, ℕ, length, IfOk, IfErr, OnErr};
 ghost use Rattle.krb_peers.specs.Log.{new_log};
 ghost use Rattle.krb_commands.specs.Fault.{IsOfOpening};
 ghost use Rattle.krb_commands.specs.Opened.{LogsFrames, PrintsFirst, PrintsOpened, PrintsOpenedPrefix};
 
 use crate::fault::Fault;
-use crate::job_lines::{StateLine, is_closed, status_of_lanes};
-use crate::line::{print_line, print_lines};
+use crate::job_lines::{StateLine, is_closed, print_log, status_of_lanes};
+use crate::line::print_line;
 use krb_base::Bytes;
 use krb_peers::{Log, Receiving};
 use std::alloc::{AllocError, Global};
@@ -17,8 +17,8 @@ use std::io::Write;
 /// and whether the close was accepted.
 ///
 /// There is at least one moment. The answer is the exit status: 0 where the close was accepted,
-/// else 3. `Stopped` is want of memory while frames were taken: the lines of those until then are
-/// printed. After a fault of printing a prefix is.
+/// else 3. `Stopped` is an allocation that failed while frames were taken: its `lines` are printed,
+/// those of all frames until then. After a fault of printing a prefix is.
 pub fn open_job<W: Write>(
     alloc: Global,
     receiving: Receiving,
@@ -30,15 +30,16 @@ pub fn open_job<W: Write>(
         (W.contents writer.old) (W.contents writer.new)) }
     ensures prefix { OnErr result (PrintsOpenedPrefix receiving.receiver receiving.nows.items
         frames.now (W.contents writer.old) (W.contents writer.new)) }
-    ensures stopped { result ≡ Err Fault.Stopped → PrintsFirst receiving.receiver
-        receiving.nows.items frames.now (W.contents writer.old) (W.contents writer.new) }
+    ensures stopped { (lines : ℕ) → result ≡ Err (Fault.Stopped lines)
+        → PrintsFirst receiving.receiver receiving.nows.items frames.now lines
+        (W.contents writer.old) (W.contents writer.new) }
     ensures faults { IfErr result IsOfOpening }
 {
     let mut log = Log::new(alloc, 1);
     let outcome = take_all(alloc, receiving, frames, &mut log);
-    print_lines(alloc, log.entries(), writer)?;
+    let lines = print_log(alloc, &log, writer)?;
     if outcome.is_err() {
-        return Err(Fault::Stopped);
+        return Err(Fault::Stopped { lines });
     }
     log.end(0);
     let status = log.status(0);

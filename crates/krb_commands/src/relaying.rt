@@ -7,16 +7,16 @@ ghost use Rattle.krb_peers.specs.Sending.{source_of, IsSender};
 ghost use Rattle.krb_peers.specs.Ends.{lanes_of};
 ghost use Rattle.krb_commands.specs.Fault.{bad_plan, of_relay, IsLiveCause, IsOfPrinting, IsOfRelaying};
 ghost use Rattle.krb_commands.specs.JobLines.{are_closed, end_lines, entry_lines, status_by};
-ghost use Rattle.krb_commands.specs.Output.{AppendsPrefix};
+ghost use Rattle.krb_commands.specs.Output.{AppendsPart, AppendsPrefix};
 ghost use Rattle.krb_commands.specs.Relayed.{HasBadPlanFirst, PrintsRelayed, PrintsRelayedPrefix, PrintsStopped};
 ghost use Rattle.std.specs.Io.KnownBytes.{Appends};
 ghost use Rattle.krb_base.specs.Limits.{lane_limit, capacity_limit};
 
 use crate::fault::Fault;
-use crate::job_lines::{EndLine, is_closed, status_of_lanes};
-use crate::line::{print_line, print_lines};
+use crate::job_lines::{EndLine, is_closed, print_log, status_of_lanes};
+use crate::line::print_line;
 use krb_peers::{Receiving, Sending};
-use krb_relay::{Gate, Report, relay};
+use krb_relay::{Cause, Gate, Report, relay};
 use krb_seal::Sealer;
 use std::alloc::Global;
 use std::io::Write;
@@ -29,9 +29,9 @@ use std::thread::Threads;
 /// Each sender seals in a thread of its own, whose seal calls stand within the gate. There are one
 /// to eight senders, within their limits and none of them wiped, as many receivers, and room for 1
 /// to 64 items in each lane. The answer is the exit status: 0 where every lane's close was
-/// accepted, else 3. A bad plan is bad input, and nothing is printed. `Stopped` is want of memory
-/// in the run and `Thread` a fault of its threads: the lines of what came until then are printed.
-/// After a fault of printing a prefix is.
+/// accepted, else 3. A bad plan is bad input, and nothing is printed. `Stopped` is an allocation
+/// that failed in the run and `Thread` a fault of its threads: their `lines` are printed, the
+/// outcome of each frame until then. After a fault of printing a prefix is.
 pub fn relay_job<T: Threads + Wait + Sync, G: Gate + Sync, S: Sealer + Send, W: Write>(
     rt: &T,
     alloc: Global,
@@ -60,11 +60,11 @@ pub fn relay_job<T: Threads + Wait + Sync, G: Gate + Sync, S: Sealer + Send, W: 
     ensures prefix { OnErr result (PrintsRelayedPrefix
         (lanes_of S.state sendings.items receivings.items)
         (W.contents writer.old) (W.contents writer.new)) }
-    ensures stopped { result ≡ Err Fault.Stopped → PrintsStopped
-        (lanes_of S.state sendings.items receivings.items)
+    ensures stopped { (lines : ℕ) → result ≡ Err (Fault.Stopped lines) → PrintsStopped
+        (lanes_of S.state sendings.items receivings.items) lines
         (W.contents writer.old) (W.contents writer.new) }
-    ensures thread { result ≡ Err Fault.Thread → PrintsStopped
-        (lanes_of S.state sendings.items receivings.items)
+    ensures thread { (lines : ℕ) → result ≡ Err (Fault.Thread lines) → PrintsStopped
+        (lanes_of S.state sendings.items receivings.items) lines
         (W.contents writer.old) (W.contents writer.new) }
     ensures faults { IfErr result IsOfRelaying }
 {
@@ -72,33 +72,37 @@ pub fn relay_job<T: Threads + Wait + Sync, G: Gate + Sync, S: Sealer + Send, W: 
         Ok(report) => report,
         Err(stopped) => return Err(print_stopped(alloc, &stopped, writer)),
     };
-    print_lines(alloc, report.log.entries(), writer)?;
+    print_log(alloc, &report.log, writer)?;
     print_ends(alloc, &report, writer)
 }
 
-/// Prints what became of the frames until a relay stopped, and answers the fault; nothing where a
-/// plan is bad.
+/// Prints the outcome of all frames until a relay stopped, and answers its fault, or that of the
+/// printing. Prints nothing where a plan is bad.
 fn print_stopped<W: Write>(alloc: Global, stopped: &krb_relay::Fault, writer: &mut W) -> Fault
     requires { IsLiveCause stopped.now.cause }
-    ensures fault { (result ≡ of_relay stopped.now.cause stopped.now.lane) ⊎ IsOfPrinting result }
+    ensures fault { (result
+        ≡ of_relay stopped.now.cause stopped.now.lane (length stopped.now.log.entries))
+        ⊎ (IsOfPrinting result × AppendsPart (W.contents writer.old) (W.contents writer.new)
+        (entry_lines stopped.now.log.entries)) }
     ensures faults { IsOfRelaying result }
 
     ensures bad_plan { (bad : BadInput) → result ≡ Fault.BadInput bad
         → Keeps (W.contents writer.old) (W.contents writer.new) }
-    ensures stopped { result ≡ Fault.Stopped → Appends (W.contents writer.old)
+    ensures stopped { (lines : ℕ) → result ≡ Fault.Stopped lines
+        → (lines ≡ length stopped.now.log.entries) × Appends (W.contents writer.old)
         (W.contents writer.new) (entry_lines stopped.now.log.entries) }
-    ensures thread { result ≡ Fault.Thread → Appends (W.contents writer.old)
+    ensures thread { (lines : ℕ) → result ≡ Fault.Thread lines
+        → (lines ≡ length stopped.now.log.entries) × Appends (W.contents writer.old)
         (W.contents writer.new) (entry_lines stopped.now.log.entries) }
     ensures prefix { Keeps (W.contents writer.old) (W.contents writer.new)
         ⊎ AppendsPrefix (W.contents writer.old) (W.contents writer.new)
         (entry_lines stopped.now.log.entries) }
 {
-    let fault = Fault::of_relay(stopped.cause, stopped.lane);
-    if matches!(fault, Fault::BadInput(_)) {
-        return fault;
+    if matches!(stopped.cause, Cause::BadPlan) {
+        return Fault::bad_plan(stopped.lane);
     }
-    match print_lines(alloc, stopped.log.entries(), writer) {
-        Ok(()) => fault,
+    match print_log(alloc, &stopped.log, writer) {
+        Ok(lines) => Fault::of_relay(stopped.cause, stopped.lane, lines),
         Err(fault) => fault,
     }
 }
@@ -110,7 +114,7 @@ fn print_ends<W: Write>(alloc: Global, report: &Report, writer: &mut W) -> Resul
         (end_lines 0 report.now.sent.items report.now.log)) }
     ensures status { IfOk result (λ status.
         status ≡ status_by (are_closed 0 report.now.sent.items report.now.log)) }
-    ensures prefix { OnErr result (AppendsPrefix
+    ensures part { OnErr result (AppendsPart
         (W.contents writer.old) (W.contents writer.new)
         (end_lines 0 report.now.sent.items report.now.log)) }
     ensures faults { IfErr result IsOfPrinting }

@@ -57,12 +57,12 @@ prefix_kept Seal input old mid new k d = λ told is. stable (λ a b. SealsPrefix
 prefix_kept Open input old mid new k d = λ told is. stable (λ a b. OpensPrefix told a b) (λ a b p. p) (no_opens told) old mid new k (d told is)
 prefix_kept Relay input old mid new k d = λ told is. stable (λ a b. RelaysPrefix told a b) (λ a b p. p) (no_relays told) old mid new k (d told is)
 
-first_kept : (command : Cmd) (input old mid new : Option (List ℕ)) → Keeps mid new → DoesFirst command input old mid → DoesFirst command input old new
-first_kept Show input old mid new k d = d
-first_kept Vectors input old mid new k d = d
-first_kept Seal input old mid new k d = d
-first_kept Open input old mid new k d = λ told is. stable (λ a b. OpensFirst told a b) (λ a b p. p) (λ xs p. p.2.3) old mid new k (d told is)
-first_kept Relay input old mid new k d = λ told is. stable (λ a b. StopsRelay told a b) (λ a b p. p) (λ xs p. p.2.2.2) old mid new k (d told is)
+first_kept : (command : Cmd) (lines : ℕ) (input old mid new : Option (List ℕ)) → Keeps mid new → DoesFirst command lines input old mid → DoesFirst command lines input old new
+first_kept Show lines input old mid new k d = d
+first_kept Vectors lines input old mid new k d = d
+first_kept Seal lines input old mid new k d = d
+first_kept Open lines input old mid new k d = λ told is. stable (λ a b. OpensFirst told lines a b) (λ a b p. p) (λ xs p. p.2.4) old mid new k (d told is)
+first_kept Relay lines input old mid new k d = λ told is. stable (λ a b. StopsRelay told lines a b) (λ a b p. p) (λ xs p. p.2.2.3) old mid new k (d told is)
 
 -- ---- the whole output is a prefix of itself
 
@@ -88,8 +88,8 @@ any_prefix command input old mid new (Err fault) k d p = prefix_kept command inp
 pub run_kept : (command : Cmd) (input old mid new : Option (List ℕ)) (r : Result ℕ Fault) → Keeps mid new
     → IfOk r (λ status. Does command input old mid status)
     → OnErr r (DoesPrefix command input old mid)
-    → (r ≡ Err fault.Stopped → DoesFirst command input old mid)
-    → (r ≡ Err fault.Thread → DoesFirst command input old mid)
+    → ((lines : ℕ) → r ≡ Err (fault.Stopped lines) → DoesFirst command lines input old mid)
+    → ((lines : ℕ) → r ≡ Err (fault.Thread lines) → DoesFirst command lines input old mid)
     → ((bad : BadInput) → r ≡ Err (fault.BadInput bad) → IsBadInput command input bad)
     → ((bad : BadInput) → r ≡ Err (fault.BadInput bad) → Keeps old mid)
     → (r ≡ Err fault.TooLong → IfSome input (λ bytes. input_limit < length bytes))
@@ -100,7 +100,7 @@ run_kept command input old mid new (Ok status) k done prefix first thread bad ba
 run_kept command input old mid new (Err fault.TooLong) k done prefix first thread bad bad_keeps long long_keeps read_keeps = (long refl, Keeps-trans old mid new (long_keeps refl) k)
 run_kept command input old mid new (Err (fault.BadInput b)) k done prefix first thread bad bad_keeps long long_keeps read_keeps = (bad b refl, Keeps-trans old mid new (bad_keeps b refl) k)
 run_kept command input old mid new (Err fault.Memory) k done prefix first thread bad bad_keeps long long_keeps read_keeps = prefix_kept command input old mid new k prefix
-run_kept command input old mid new (Err fault.Stopped) k done prefix first thread bad bad_keeps long long_keeps read_keeps = first_kept command input old mid new k (first refl)
-run_kept command input old mid new (Err fault.Thread) k done prefix first thread bad bad_keeps long long_keeps read_keeps = first_kept command input old mid new k (thread refl)
+run_kept command input old mid new (Err (fault.Stopped lines)) k done prefix first thread bad bad_keeps long long_keeps read_keeps = first_kept command lines input old mid new k (first lines refl)
+run_kept command input old mid new (Err (fault.Thread lines)) k done prefix first thread bad bad_keeps long long_keeps read_keeps = first_kept command lines input old mid new k (thread lines refl)
 run_kept command input old mid new (Err fault.Read) k done prefix first thread bad bad_keeps long long_keeps read_keeps = Keeps-trans old mid new (read_keeps refl) k
 run_kept command input old mid new (Err fault.Write) k done prefix first thread bad bad_keeps long long_keeps read_keeps = prefix_kept command input old mid new k prefix

@@ -54,10 +54,11 @@ OpensPrefix told old new =
     ⊎ ((sender : Sender) × TellsOne told sender
     × PrintsOpenedPrefix (receiver_of sender) sender.nows sender.frames old new)
 
--- what becomes of the first frames is printed
-abbrev pub OpensFirst : Told → Option (List ℕ) → Option (List ℕ) → Type 0
-OpensFirst told old new =
-    (sender : Sender) × TellsOne told sender × PrintsFirst (receiver_of sender) sender.nows sender.frames old new
+-- so many lines are printed: the outcome of the first frames
+abbrev pub OpensFirst : Told → ℕ → Option (List ℕ) → Option (List ℕ) → Type 0
+OpensFirst told lines old new =
+    (sender : Sender) × TellsOne told sender
+    × PrintsFirst (receiver_of sender) sender.nows sender.frames lines old new
 
 -- these are the lanes of the job's senders
 abbrev pub AreLanes : Job → List Ends → Type 0
@@ -73,9 +74,9 @@ RelaysJobPrefix job old new =
     Keeps old new
     ⊎ ((lanes : List Ends) × AreLanes job lanes × PrintsRelayedPrefix lanes old new)
 
--- what becomes of the frames that were taken until the run stopped is printed
-abbrev pub StopsJob : Job → Option (List ℕ) → Option (List ℕ) → Type 0
-StopsJob job old new = (lanes : List Ends) × AreLanes job lanes × PrintsStopped lanes old new
+-- so many lines are printed: the outcome of each frame that was taken until the run stopped
+abbrev pub StopsJob : Job → ℕ → Option (List ℕ) → Option (List ℕ) → Type 0
+StopsJob job lines old new = (lanes : List Ends) × AreLanes job lanes × PrintsStopped lanes lines old new
 
 -- the plan of a lane is bad, and of none before it
 abbrev pub HasBadPlan : Job → BadInput → Type 0
@@ -89,8 +90,8 @@ Relays told old new status = (job : Job) × (told ≡ Ok job) × RelaysJob job o
 abbrev pub RelaysPrefix : Told → Option (List ℕ) → Option (List ℕ) → Type 0
 RelaysPrefix told old new = Keeps old new ⊎ ((job : Job) × (told ≡ Ok job) × RelaysJobPrefix job old new)
 
-abbrev pub StopsRelay : Told → Option (List ℕ) → Option (List ℕ) → Type 0
-StopsRelay told old new = (job : Job) × (told ≡ Ok job) × StopsJob job old new
+abbrev pub StopsRelay : Told → ℕ → Option (List ℕ) → Option (List ℕ) → Type 0
+StopsRelay told lines old new = (job : Job) × (told ≡ Ok job) × StopsJob job lines old new
 
 -- a check that isn't passed, or a bad plan
 abbrev pub IsBadToRelay : Told → BadInput → Type 0

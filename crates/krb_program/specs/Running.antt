@@ -31,13 +31,13 @@ DoesPrefix Seal input old new = (told : Told) → IsTold job.Seal input told →
 DoesPrefix Open input old new = (told : Told) → IsTold job.Open input told → OpensPrefix told old new
 DoesPrefix Relay input old new = (told : Told) → IsTold job.Relay input told → RelaysPrefix told old new
 
--- the run stopped while frames were taken, and what became of those until then is written
-abbrev pub DoesFirst : Cmd → Option (List ℕ) → Option (List ℕ) → Option (List ℕ) → Type 0
-DoesFirst Show input old new = ⊥
-DoesFirst Vectors input old new = ⊥
-DoesFirst Seal input old new = ⊥
-DoesFirst Open input old new = (told : Told) → IsTold job.Open input told → OpensFirst told old new
-DoesFirst Relay input old new = (told : Told) → IsTold job.Relay input told → StopsRelay told old new
+-- the run stopped while frames were taken, and so many lines are written: their outcome until then
+abbrev pub DoesFirst : Cmd → ℕ → Option (List ℕ) → Option (List ℕ) → Option (List ℕ) → Type 0
+DoesFirst Show lines input old new = ⊥
+DoesFirst Vectors lines input old new = ⊥
+DoesFirst Seal lines input old new = ⊥
+DoesFirst Open lines input old new = (told : Told) → IsTold job.Open input told → OpensFirst told lines old new
+DoesFirst Relay lines input old new = (told : Told) → IsTold job.Relay input told → StopsRelay told lines old new
 
 -- this is what is bad in a job
 abbrev pub IsBadInput : Cmd → Option (List ℕ) → BadInput → Type 0
@@ -54,8 +54,8 @@ IsRun command input old new (Ok status) = Does command input old new status
 IsRun command input old new (Err fault.TooLong) = IfSome input (λ bytes. input_limit < length bytes) × Keeps old new
 IsRun command input old new (Err (fault.BadInput bad)) = IsBadInput command input bad × Keeps old new
 IsRun command input old new (Err fault.Memory) = DoesPrefix command input old new
-IsRun command input old new (Err fault.Stopped) = DoesFirst command input old new
-IsRun command input old new (Err fault.Thread) = DoesFirst command input old new
+IsRun command input old new (Err (fault.Stopped lines)) = DoesFirst command lines input old new
+IsRun command input old new (Err (fault.Thread lines)) = DoesFirst command lines input old new
 IsRun command input old new (Err fault.Read) = Keeps old new
 IsRun command input old new (Err fault.Write) = DoesPrefix command input old new
 

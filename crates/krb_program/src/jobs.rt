@@ -21,7 +21,7 @@ use krb_commands::{
 };
 use krb_job::{Command, Job, Secret, SenderJob, read_job};
 use krb_peers::{Receivers, Receiving, Sending};
-use krb_relay::NoGate;
+use krb_relay::Gate;
 use krb_seal::{Aes128Sealer, Aes256Sealer, Sealer};
 use std::alloc::Global;
 use std::io::{Read, Write};
@@ -45,8 +45,8 @@ pub fn seal<R: Read, W: Write>(alloc: Global, reader: &mut R, writer: &mut W) ->
         → Keeps (W.contents writer.old) (W.contents writer.new) }
     ensures read_fault_prints_nothing { result ≡ Err Fault.Read
         → Keeps (W.contents writer.old) (W.contents writer.new) }
-    ensures never_stopped { ¬ (result ≡ Err Fault.Stopped) }
-    ensures no_thread { ¬ (result ≡ Err Fault.Thread) }
+    ensures never_stopped { (lines : ℕ) → ¬ (result ≡ Err (Fault.Stopped lines)) }
+    ensures no_thread { (lines : ℕ) → ¬ (result ≡ Err (Fault.Thread lines)) }
     ensures prefix { (told : Told) → IsTold Command.Seal (R.remaining reader.old) told
         → OnErr result (SealsPrefix told (W.contents writer.old) (W.contents writer.new)) }
 {
@@ -131,9 +131,9 @@ pub fn open<R: Read, W: Write>(alloc: Global, reader: &mut R, writer: &mut W) ->
     ensures read_fault_prints_nothing { result ≡ Err Fault.Read
         → Keeps (W.contents writer.old) (W.contents writer.new) }
     ensures stopped { (told : Told) → IsTold Command.Open (R.remaining reader.old) told
-        → result ≡ Err Fault.Stopped
-        → OpensFirst told (W.contents writer.old) (W.contents writer.new) }
-    ensures no_thread { ¬ (result ≡ Err Fault.Thread) }
+        → (lines : ℕ) → result ≡ Err (Fault.Stopped lines)
+        → OpensFirst told lines (W.contents writer.old) (W.contents writer.new) }
+    ensures no_thread { (lines : ℕ) → ¬ (result ≡ Err (Fault.Thread lines)) }
     ensures prefix { (told : Told) → IsTold Command.Open (R.remaining reader.old) told
         → OnErr result (OpensPrefix told (W.contents writer.old) (W.contents writer.new)) }
 {
@@ -142,12 +142,13 @@ pub fn open<R: Read, W: Write>(alloc: Global, reader: &mut R, writer: &mut W) ->
     open_job(alloc, receiving, sender.frames.as_slice(), writer)
 }
 
-/// Relays the texts of all senders of the job, each sealed in a thread of its own.
-pub fn relay<T: Threads + Wait + Sync, R: Read, W: Write>(
+/// Relays the texts of all senders of the job, each sealed in a thread of its own within the gate.
+pub fn relay<T: Threads + Wait + Sync, R: Read, W: Write, G: Gate + Sync>(
     rt: &T,
     alloc: Global,
     reader: &mut R,
     writer: &mut W,
+    gate: &G,
 ) -> Result<u8, Fault>
     ensures printed { (told : Told) → IsTold Command.Relay (R.remaining reader.old) told
         → IfOk result (Relays told (W.contents writer.old) (W.contents writer.new)) }
@@ -164,24 +165,25 @@ pub fn relay<T: Threads + Wait + Sync, R: Read, W: Write>(
     ensures read_fault_prints_nothing { result ≡ Err Fault.Read
         → Keeps (W.contents writer.old) (W.contents writer.new) }
     ensures stopped { (told : Told) → IsTold Command.Relay (R.remaining reader.old) told
-        → result ≡ Err Fault.Stopped
-        → StopsRelay told (W.contents writer.old) (W.contents writer.new) }
+        → (lines : ℕ) → result ≡ Err (Fault.Stopped lines)
+        → StopsRelay told lines (W.contents writer.old) (W.contents writer.new) }
     ensures thread { (told : Told) → IsTold Command.Relay (R.remaining reader.old) told
-        → result ≡ Err Fault.Thread
-        → StopsRelay told (W.contents writer.old) (W.contents writer.new) }
+        → (lines : ℕ) → result ≡ Err (Fault.Thread lines)
+        → StopsRelay told lines (W.contents writer.old) (W.contents writer.new) }
     ensures prefix { (told : Told) → IsTold Command.Relay (R.remaining reader.old) told
         → OnErr result (RelaysPrefix told (W.contents writer.old) (W.contents writer.new)) }
 {
     let job = told_job(alloc, reader, Command::Relay)?;
-    relay_senders(rt, alloc, job, writer)
+    relay_senders(rt, alloc, job, writer, gate)
 }
 
 /// Relays the texts of the senders of a job, each of which has a seed.
-fn relay_senders<T: Threads + Wait + Sync, W: Write>(
+fn relay_senders<T: Threads + Wait + Sync, W: Write, G: Gate + Sync>(
     rt: &T,
     alloc: Global,
     job: Job,
     writer: &mut W,
+    gate: &G,
 ) -> Result<u8, Fault>
     requires { All (λ sender. IsSome sender.seed) job.senders.items }
     ensures printed { IfOk result (λ status.
@@ -191,10 +193,10 @@ fn relay_senders<T: Threads + Wait + Sync, W: Write>(
         → HasBadPlan (job_view job) bad }
     ensures bad_plan_prints_nothing { (bad : BadInput) → result ≡ Err (Fault.BadInput bad)
         → Keeps (W.contents writer.old) (W.contents writer.new) }
-    ensures stopped { result ≡ Err Fault.Stopped
-        → StopsJob (job_view job) (W.contents writer.old) (W.contents writer.new) }
-    ensures thread { result ≡ Err Fault.Thread
-        → StopsJob (job_view job) (W.contents writer.old) (W.contents writer.new) }
+    ensures stopped { (lines : ℕ) → result ≡ Err (Fault.Stopped lines)
+        → StopsJob (job_view job) lines (W.contents writer.old) (W.contents writer.new) }
+    ensures thread { (lines : ℕ) → result ≡ Err (Fault.Thread lines)
+        → StopsJob (job_view job) lines (W.contents writer.old) (W.contents writer.new) }
     ensures prefix { OnErr result
         (RelaysJobPrefix (job_view job) (W.contents writer.old) (W.contents writer.new)) }
     ensures faults { IfErr result IsOfRelaying }
@@ -211,7 +213,7 @@ fn relay_senders<T: Threads + Wait + Sync, W: Write>(
         push_told(alloc, &mut sendings, &mut receivers.items, sender, sealer)?;
     }
     let receivings = receivers.into_vec(alloc);
-    relay_job(rt, alloc, sendings, receivings, capacity, writer, &NoGate)
+    relay_job(rt, alloc, sendings, receivings, capacity, writer, gate)
 }
 
 /// Adds a sender's lane to those of the senders before it.

@@ -5,7 +5,7 @@
 //! what went otherwise on standard error, and give the exit code.
 //!
 //! ```text
-//! match obey(&rt, rt.alloc(), words.as_slice(), &mut rt.reader(), &mut writer) {
+//! match obey(&rt, rt.alloc(), words.as_slice(), &mut rt.reader(), &mut writer, &NoGate) {
 //!     Ok(outcome) => finish(&rt, outcome),
 //!     Err(error) => usage(&rt, &error),
 //! }

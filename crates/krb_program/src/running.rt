@@ -1,6 +1,6 @@
 //! A command over a reader and a writer.
 
-ghost use Rattle.std.specs.Prelude.{◌≡◌, ◌≢◌, [], ◌<◌, ◌≤◌, length, map, option_map, Some, IfOk, OnOk, OnErr, IfSome};
+ghost use Rattle.std.specs.Prelude.{◌≡◌, ◌≢◌, [], ◌<◌, ◌≤◌, ℕ, length, map, option_map, Some, IfOk, OnOk, OnErr, IfSome};
 ghost use Rattle.std.specs.Io.Buffered.{writer_buffer, writer_contents};
 ghost use Rattle.std.specs.Io.KnownBytes.{Keeps};
 ghost use Rattle.clap.specs.Words.{subcommand_of, FailsBy, fault_of};
@@ -13,21 +13,24 @@ use crate::command::{Cmd, command_of};
 use crate::jobs;
 use clap::Error;
 use krb_commands::{Fault, show, vectors};
+use krb_relay::Gate;
 use std::alloc::Global;
 use std::convert::AsStr;
 use std::io::{BufWriter, Read, Write};
 use std::sync::Wait;
 use std::thread::Threads;
 
-/// Runs the command that the words of a command line name, and answers how it went.
+/// Runs the command that the words of a command line name, and answers how it went. A relay's seal
+/// calls stand within the gate.
 ///
-/// An error is `clap`'s, and nothing is read or written then.
-pub fn obey<'a, T: Threads + Wait + Sync, S: AsStr, R: Read, W: Write + Drop>(
+/// An error is `clap`'s, and nothing is read or written then. `vectors` reads nothing.
+pub fn obey<'a, T: Threads + Wait + Sync, S: AsStr, R: Read, W: Write + Drop, G: Gate + Sync>(
     rt: &T,
     alloc: Global,
     words: &'a [S],
     reader: &mut R,
     writer: &mut BufWriter<W>,
+    gate: &G,
 ) -> Result<Result<u8, Fault>, Error>
     ensures ran { IfOk result (λ outcome. (command : Cmd)
         × (option_map (λ p. p.0) (subcommand_of krbrelay_app (map S.text words.entry.now))
@@ -36,29 +39,38 @@ pub fn obey<'a, T: Threads + Wait + Sync, S: AsStr, R: Read, W: Write + Drop>(
         (writer_contents W.contents writer.new) outcome) }
     ensures flushed { IfOk result (λ outcome. ¬ (outcome ≡ Err Fault.Write)
         → writer_buffer writer.new ≡ []) }
+    ensures vectors_reads_nothing { option_map (λ p. p.0)
+        (subcommand_of krbrelay_app (map S.text words.entry.now)) ≡ Some (word_of Cmd.Vectors)
+        → reader.new ≡ reader.old }
+
     ensures faults { FailsBy (fault_of krbrelay_app (map S.text words.entry.now)) result }
+    ensures nothing_read { OnErr result (reader.new ≡ reader.old) }
+    ensures nothing_written { OnErr result (writer.new ≡ writer.old) }
 {
     let command = command_of(alloc, words)?;
-    Ok(run(rt, alloc, command, reader, writer))
+    Ok(run(rt, alloc, command, reader, writer, gate))
 }
 
-/// Runs a command, and answers the exit status.
+/// Runs a command, and answers the exit status. A relay's seal calls stand within the gate.
 ///
-/// All that is written has left the buffer then, unless the fault is the writer's.
-pub fn run<T: Threads + Wait + Sync, R: Read, W: Write + Drop>(
+/// All that is written has left the buffer then, unless the fault is the writer's. `vectors` reads
+/// nothing.
+pub fn run<T: Threads + Wait + Sync, R: Read, W: Write + Drop, G: Gate + Sync>(
     rt: &T,
     alloc: Global,
     command: Cmd,
     reader: &mut R,
     writer: &mut BufWriter<W>,
+    gate: &G,
 ) -> Result<u8, Fault>
     ensures run { IsRun command (R.remaining reader.old) (writer_contents W.contents writer.old)
         (writer_contents W.contents writer.new) result }
     ensures within { command ≢ Cmd.Vectors
         → OnOk result (IfSome (R.remaining reader.old) (λ input. length input ≤ input_limit)) }
     ensures flushed { ¬ (result ≡ Err Fault.Write) → writer_buffer writer.new ≡ [] }
+    ensures vectors_reads_nothing { command ≡ Cmd.Vectors → reader.new ≡ reader.old }
 {
-    let outcome = command_over(rt, alloc, command, reader, writer);
+    let outcome = command_over(rt, alloc, command, reader, writer, gate);
     if writer.flush().is_err() {
         return Err(Fault::Write);
     }
@@ -66,23 +78,27 @@ pub fn run<T: Threads + Wait + Sync, R: Read, W: Write + Drop>(
 }
 
 /// Runs a command, and lets its last lines stand in the writer's buffer.
-fn command_over<T: Threads + Wait + Sync, R: Read, W: Write>(
+fn command_over<T: Threads + Wait + Sync, R: Read, W: Write, G: Gate + Sync>(
     rt: &T,
     alloc: Global,
     command: Cmd,
     reader: &mut R,
     writer: &mut W,
+    gate: &G,
 ) -> Result<u8, Fault>
     ensures done { IfOk result (λ status. Does command (R.remaining reader.old)
         (W.contents writer.old) (W.contents writer.new) status) }
     ensures within { command ≢ Cmd.Vectors
         → OnOk result (IfSome (R.remaining reader.old) (λ input. length input ≤ input_limit)) }
+    ensures vectors_reads_nothing { command ≡ Cmd.Vectors → reader.new ≡ reader.old }
 
     ensures prefix { OnErr result (DoesPrefix command (R.remaining reader.old)
         (W.contents writer.old) (W.contents writer.new)) }
-    ensures stopped { result ≡ Err Fault.Stopped → DoesFirst command (R.remaining reader.old)
+    ensures stopped { (lines : ℕ) → result ≡ Err (Fault.Stopped lines)
+        → DoesFirst command lines (R.remaining reader.old)
         (W.contents writer.old) (W.contents writer.new) }
-    ensures thread { result ≡ Err Fault.Thread → DoesFirst command (R.remaining reader.old)
+    ensures thread { (lines : ℕ) → result ≡ Err (Fault.Thread lines)
+        → DoesFirst command lines (R.remaining reader.old)
         (W.contents writer.old) (W.contents writer.new) }
     ensures bad_input { (bad : BadInput) → result ≡ Err (Fault.BadInput bad)
         → IsBadInput command (R.remaining reader.old) bad }
@@ -100,6 +116,6 @@ fn command_over<T: Threads + Wait + Sync, R: Read, W: Write>(
         Cmd::Vectors => vectors(alloc, writer),
         Cmd::Seal => jobs::seal(alloc, reader, writer),
         Cmd::Open => jobs::open(alloc, reader, writer),
-        Cmd::Relay => jobs::relay(rt, alloc, reader, writer),
+        Cmd::Relay => jobs::relay(rt, alloc, reader, writer, gate),
     }
 }

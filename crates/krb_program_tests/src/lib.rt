@@ -12,6 +12,8 @@ mod commands;
 #[cfg(test)]
 mod frames;
 #[cfg(test)]
+mod gate;
+#[cfg(test)]
 mod job;
 #[cfg(test)]
 mod program;

@@ -4,7 +4,9 @@
 
 mod commands;
 mod faulty;
+mod gates;
 mod jobs;
 mod limits;
 mod runs;
 mod streams;
+mod unread;

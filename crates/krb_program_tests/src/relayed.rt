@@ -9,6 +9,23 @@ lane 0 sent 2 of 2 DONE CLOSED
 lane 1 sent 0 of 0 DONE CLOSED
 ";
 
+/// Of two senders, of which the first says `a` to `j` and the second nothing.
+pub const TEN_TEXTS: &str = "lane 0 text 61
+lane 1 closed
+lane 0 text 62
+lane 0 text 63
+lane 0 text 64
+lane 0 text 65
+lane 0 text 66
+lane 0 text 67
+lane 0 text 68
+lane 0 text 69
+lane 0 text 6a
+lane 0 closed
+lane 0 sent 10 of 10 DONE CLOSED
+lane 1 sent 0 of 0 DONE CLOSED
+";
+
 /// Of `a` and `b` where the first frame comes twice.
 pub const REPEATED: &str = "lane 0 text 61
 lane 0 refused 42 BADORDER

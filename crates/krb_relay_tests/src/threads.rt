@@ -5,6 +5,7 @@ mod gates;
 mod lanes;
 mod rows;
 mod sweep;
+mod watched;
 
 use crate::asserts::assert_same;
 use krb_peers::Log;

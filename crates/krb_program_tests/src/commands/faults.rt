@@ -36,8 +36,8 @@ fn each_fault_has_its_line_and_status(rt: HostRuntime) -> Result<(), Fail> {
             2,
         ),
         (Fault::from(JobError::Memory), "krbrelay: out of memory", 4),
-        (Fault::Stopped, "krbrelay: out of memory", 4),
-        (Fault::Thread, "krbrelay: thread fault", 4),
+        (Fault::Stopped { lines: 2 }, "krbrelay: out of memory", 4),
+        (Fault::Thread { lines: 2 }, "krbrelay: thread fault", 4),
         (Fault::Read, "krbrelay: read fault", 4),
         (Fault::Write, "krbrelay: write fault", 4),
     ];

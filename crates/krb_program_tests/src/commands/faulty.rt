@@ -226,7 +226,7 @@ fn each_write_of_relay_fails_in_turn(rt: HostRuntime) -> Result<(), Fail> {
 fn read_with_fault(alloc: Global, fails_at: usize) -> Option<Fault> {
     match read_all(alloc, &mut FaultyReader::new(fails_at)) {
         Ok(input) if input.as_slice() == SAFE_LINE.as_bytes() => None,
-        Ok(_) => Some(Fault::Stopped),
+        Ok(_) => Some(Fault::Stopped { lines: 0 }),
         Err(fault) => Some(fault),
     }
 }

@@ -1,9 +1,11 @@
-//! That the command relays with workers that seal at once.
+//! That the command relays with workers that seal at once, each within its gate, and with lanes of
+//! the capacity of the job.
 
 use super::jobs::run_under;
-use super::relays::{SILENT, two_senders};
+use super::relays::{SILENT, ten_texts, two_senders};
 use crate::asserts::assert_same;
-use crate::relayed::TWO_LANES;
+use crate::gate::HeldGate;
+use crate::relayed::{TEN_TEXTS, TWO_LANES};
 use krb_job::Command;
 use krb_relay::Gate;
 use std::sync::atomic::{AtomicU64, Ordering};
@@ -59,5 +61,19 @@ fn workers_overlap(rt: HostRuntime) -> Result<(), Fail> {
     assert_same(&rt, result, Ok(0));
     assert_same(&rt, output.as_slice(), TWO_LANES.as_bytes());
     assert_same(&rt, gate.met.load(Ordering::SeqCst), 2);
+    Ok(())
+}
+
+/// A lane holds as many frames as the job says: the receiver has one more, and one waits for room.
+#[test]
+fn lanes_have_the_capacity_of_the_job(rt: HostRuntime) -> Result<(), Fail> {
+    let job = ten_texts(&rt, 3)?;
+    let gate = HeldGate::new(5);
+    let mut output = Vec::new(rt.alloc());
+    let result = run_under(&rt, Command::Relay, job.as_str(), 1, &mut output, &gate);
+    assert_same(&rt, result, Ok(0));
+    assert_same(&rt, output.as_slice(), TEN_TEXTS.as_bytes());
+    gate.assert_held(&rt);
+    gate.assert_passed(&rt, [11, 1]);
     Ok(())
 }

@@ -244,7 +244,7 @@ fn relay_alone<T: Threads + Wait + Sync, S: Sealer + Send, W: Write, G: Gate + S
 }
 
 /// Takes both senders, which have seeds.
-fn take_two(rt: &impl Abort, senders: &mut Vec<SenderJob>) -> (SenderJob, SenderJob)
+pub fn take_two(rt: &impl Abort, senders: &mut Vec<SenderJob>) -> (SenderJob, SenderJob)
     ensures first { IsSome result.0.seed }
     ensures second { IsSome result.1.seed }
 {
@@ -289,7 +289,7 @@ fn relay_two<W: Write, G: Gate + Sync>(
 }
 
 /// Relays the texts of two senders, each with its sealer.
-fn relay_sealed<T: Threads + Wait + Sync, S: Sealer + Send, W: Write, G: Gate + Sync>(
+pub fn relay_sealed<T: Threads + Wait + Sync, S: Sealer + Send, W: Write, G: Gate + Sync>(
     rt: &T,
     alloc: Global,
     first: (SenderJob, S),

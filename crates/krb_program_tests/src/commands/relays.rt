@@ -54,6 +54,16 @@ pub fn two_senders(
     format!(in rt.alloc(); "capacity = {capacity}\n{senders}")
 }
 
+/// A job of two senders. The first says `a` to `j`, and the second nothing.
+pub fn ten_texts(
+    rt: &(impl Threads + Wait + Sync + Abort + Alloc<A = Global>),
+    capacity: usize,
+) -> Result<String, AllocError> {
+    let texts = "['61', '62', '63', '64', '65', '66', '67', '68', '69', '6a']";
+    let senders = joined(rt.alloc(), &[("texts", texts)], &SILENT)?;
+    format!(in rt.alloc(); "capacity = {capacity}\n{senders}")
+}
+
 /// A sender of encryption type 18 that says nothing.
 pub const SILENT: [(&str, &str); 5] = [
     ("etype", "18"),

@@ -12,6 +12,7 @@ use crate::frames::{SAFE_CLOSE, SAFE_TEXT as SAFE_FRAME};
 use crate::relayed::TWO_LANES;
 use krb_commands::{Fault, show, vectors};
 use krb_job::Command;
+use std::alloc::Global;
 use std::io::Print;
 use std::process::Abort;
 use std::test::Fail;
@@ -23,6 +24,19 @@ const ROOM: usize = 2_000;
 fn is_front(output: &[u8], text: &str) -> bool {
     let ends = output.is_empty() || output.ends_with(b"\n");
     ends && text.as_bytes().starts_with(output)
+}
+
+/// Asserts that as many lines are printed as the fault says, and tells of a call that wanted memory.
+fn tell(rt: &(impl Abort + Print), call: &str, fault: Fault, output: &[u8]) -> Result<(), Fail> {
+    let printed = output.iter().filter(|byte| **byte == b'\n').count();
+    match fault {
+        Fault::Stopped { lines } | Fault::Thread { lines } => {
+            assert_same(rt, lines, printed);
+            println!(rt; "refused: {call}, lines printed: {lines}")?;
+        }
+        _ => println!(rt; "refused: {call}")?,
+    }
+    Ok(())
 }
 
 /// Asserts that a command wrote this text, or wanted memory and wrote some of its first lines, and
@@ -40,10 +54,10 @@ fn assert_ends(
             assert_same(rt, output, text.as_bytes());
         }
         Err(fault) => {
-            let told = matches!(fault, Fault::Memory | Fault::Stopped);
+            let told = matches!(fault, Fault::Memory | Fault::Stopped { .. });
             assert_same(rt, (told, fault.status()), (true, 4));
             assert_same(rt, is_front(output, text), true);
-            println!(rt; "refused: {call}")?;
+            tell(rt, call, fault, output)?;
         }
     }
     Ok(())
@@ -88,7 +102,7 @@ fn has_front(text: &str, whole: &str, lane: &str) -> bool {
 /// Asserts that the relay of two lanes wrote all of its lines, or wanted memory or a thread and
 /// wrote some of the first lines of each lane, and tells of a relay that wanted either.
 fn assert_relay_ends(
-    rt: &(impl Abort + Print),
+    rt: &(impl Abort + Print + Alloc<A = Global>),
     outcome: Result<u8, Fault>,
     output: &[u8],
 ) -> Result<(), Fail> {
@@ -99,13 +113,14 @@ fn assert_relay_ends(
             assert_same(rt, printed, TWO_LANES);
         }
         Err(fault) => {
-            let told = matches!(fault, Fault::Memory | Fault::Stopped | Fault::Thread);
-            assert_same(rt, (told, fault.status()), (true, 4));
+            assert_same(rt, fault.status(), 4);
+            assert_same(rt, matches!(fault, Fault::Write | Fault::Read), false);
             assert_same(rt, has_front(printed, TWO_LANES, "lane 0 "), true);
             assert_same(rt, has_front(printed, TWO_LANES, "lane 1 "), true);
             let ends = printed.is_empty() || printed.ends_with("\n");
             assert_same(rt, ends, true);
-            println!(rt; "refused: relay_job, {fault}")?;
+            let call = format!(in rt.alloc(); "relay_job, {fault}")?;
+            tell(rt, call.as_str(), fault, output)?;
         }
     }
     Ok(())

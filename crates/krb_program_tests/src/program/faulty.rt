@@ -11,6 +11,7 @@ use crate::frames::{SAFE_CLOSE, SAFE_TEXT};
 use crate::relayed::TWO_LANES;
 use krb_commands::Fault;
 use krb_program::obey;
+use krb_relay::NoGate;
 use std::alloc::{AllocError, Global};
 use std::io;
 use std::io::{BufWriter, ErrorKind, Read, Write};
@@ -124,7 +125,7 @@ fn faulty(
     };
     let mut writer = BufWriter::new(rt.alloc(), writer)?;
     let words = ["krbrelay", run.word];
-    let outcome = obey(rt, rt.alloc(), &words, &mut reader, &mut writer)?;
+    let outcome = obey(rt, rt.alloc(), &words, &mut reader, &mut writer, &NoGate)?;
     let (writer, _) = writer.into_parts();
     Ok((outcome, writer.taken))
 }

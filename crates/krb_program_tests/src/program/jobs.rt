@@ -3,6 +3,7 @@
 use crate::asserts::assert_same;
 use crate::relayed::TWO_LANES;
 use krb_program::{Cmd, run};
+use krb_relay::NoGate;
 use std::alloc::Global;
 use std::io::BufWriter;
 use std::process::Abort;
@@ -79,7 +80,7 @@ fn assert_run(
     output: &str,
 ) -> Result<(), Fail> {
     let mut writer = BufWriter::new(rt.alloc(), Vec::new(rt.alloc()))?;
-    let result = run(rt, rt.alloc(), command, &mut job.as_bytes(), &mut writer);
+    let result = run(rt, rt.alloc(), command, &mut job.as_bytes(), &mut writer, &NoGate);
     assert_same(rt, result, Ok(status));
     assert_same(rt, writer.get_ref().as_slice(), output.as_bytes());
     Ok(())

@@ -3,6 +3,7 @@
 use super::runs::{SEALED, SESSION};
 use crate::asserts::assert_same;
 use krb_program::{Cmd, run};
+use krb_relay::NoGate;
 use std::alloc::{AllocError, Global};
 use std::io::BufWriter;
 use std::process::Abort;
@@ -67,7 +68,7 @@ fn assert_relayed(
 ) -> Result<(), Fail> {
     let mut writer = BufWriter::new(rt.alloc(), Vec::new(rt.alloc()))?;
     let mut reader = job.as_bytes();
-    let outcome = run(rt, rt.alloc(), Cmd::Relay, &mut reader, &mut writer);
+    let outcome = run(rt, rt.alloc(), Cmd::Relay, &mut reader, &mut writer, &NoGate);
     assert_same(rt, outcome, Ok(0));
     assert!(rt; writer.get_ref().as_slice() == lines.as_bytes());
     Ok(())

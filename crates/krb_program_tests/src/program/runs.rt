@@ -13,6 +13,7 @@ use crate::relayed::{
 };
 use krb_commands::Fault;
 use krb_program::obey;
+use krb_relay::NoGate;
 use std::alloc::{AllocError, Global};
 use std::io::BufWriter;
 use std::process::Abort;
@@ -63,7 +64,7 @@ fn assert_answers(
 ) -> Result<(), Fail> {
     let mut writer = BufWriter::new(rt.alloc(), Vec::new(rt.alloc()))?;
     let words = ["krbrelay", word];
-    let outcome = obey(rt, rt.alloc(), &words, &mut job.as_bytes(), &mut writer)?;
+    let outcome = obey(rt, rt.alloc(), &words, &mut job.as_bytes(), &mut writer, &NoGate)?;
     assert_same(rt, outcome, Ok(status));
     assert_same(rt, writer.get_ref().as_slice(), text.as_bytes());
     Ok(())
@@ -199,7 +200,7 @@ fn assert_bad(
     let mut writer = BufWriter::new(rt.alloc(), Vec::new(rt.alloc()))?;
     let mut reader = b"capacity = 0".as_slice();
     let words = ["krbrelay", word];
-    let outcome = obey(rt, rt.alloc(), &words, &mut reader, &mut writer)?;
+    let outcome = obey(rt, rt.alloc(), &words, &mut reader, &mut writer, &NoGate)?;
     assert!(rt; matches!(outcome, Err(Fault::BadInput(_))), "{word}");
     let written = (writer.get_ref().len(), writer.buffer().len());
     assert_same(rt, written, (0, 0));

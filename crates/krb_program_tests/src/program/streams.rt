@@ -131,7 +131,8 @@ fn each_fault_is_told_in_one_line(rt: HostRuntime) {
             2,
         ),
         (Fault::Memory, "krbrelay: out of memory\n", 4),
-        (Fault::Stopped, "krbrelay: out of memory\n", 4),
+        (Fault::Stopped { lines: 2 }, "krbrelay: out of memory\n", 4),
+        (Fault::Thread { lines: 2 }, "krbrelay: thread fault\n", 4),
         (Fault::Read, "krbrelay: read fault\n", 4),
         (Fault::Write, "krbrelay: write fault\n", 4),
     ] {

@@ -51,17 +51,15 @@ fn receiver(
     receiving(alloc, Receiver::new(opener, first), &[MICROS])
 }
 
-/// A sender of KRB-SAFE messages from 7 on, whose sealer is odd.
-fn odd_sender(
+/// A sealer of KRB-SAFE messages from 7 on that is odd.
+fn odd_sealer(
     alloc: Global,
     host: u8,
     odd: Odd,
     drops: &Arc<AtomicU64>,
-    texts: &[&[u8]],
-) -> Result<Sending, Fail> {
+) -> Result<Box<dyn Sealer + Send>, AllocError> {
     let sealer = OddSealer::new(alloc, host, odd, drops)?;
-    let sealer: Box<dyn Sealer + Send> = Box::new(alloc, sealer)?;
-    sending(alloc, sealer, texts, &[MICROS])
+    Ok(Box::new(alloc, sealer)?)
 }
 
 /// The ends of lanes, sender by sender.
@@ -80,7 +78,7 @@ impl Lanes {
     }
 
     /// The host of the sender that is added next.
-    fn next_host(&self) -> u8 {
+    pub(super) fn next_host(&self) -> u8 {
         1 + (self.sendings.len() % 8) as u8
     }
 
@@ -110,9 +108,21 @@ impl Lanes {
         drops: &Arc<AtomicU64>,
         texts: &[&[u8]],
     ) -> Result<(), Fail> {
+        let sealer = odd_sealer(alloc, self.next_host(), odd, drops)?;
+        self.add_sealer(alloc, sealer, texts)
+    }
+
+    /// Adds a sender whose sealer is one of type 17 for KRB-SAFE messages from 7 on, at the next
+    /// host.
+    pub(super) fn add_sealer(
+        &mut self,
+        alloc: Global,
+        sealer: Box<dyn Sealer + Send>,
+        texts: &[&[u8]],
+    ) -> Result<(), Fail> {
         let host = self.next_host();
         self.sendings
-            .push(odd_sender(alloc, host, odd, drops, texts)?)?;
+            .push(sending(alloc, sealer, texts, &[MICROS])?)?;
         self.receivings
             .push(receiver(alloc, false, Mode::Safe, host, 7)?)?;
         Ok(())

@@ -15,13 +15,13 @@ pub returns-in-Err-clause-bad_plan : goal.returns-in-Err-clause-bad_plan
 returns-in-Err-clause-bad_plan g c = λ bad named.
     let lanes = lanes_of g.S.Sealer.state c.args.sendings.items c.args.receivings.items in
     let stopped = c.in-Err.stopped in
-    names_bad_plan lanes stopped.log stopped.lane stopped.cause c.print_stopped.result bad c.in-Err.ensures.stopped c.print_stopped.ensures.fault (let e = named in cc)
+    names_bad_plan lanes stopped.log stopped.lane stopped.cause c.print_stopped.result bad c.in-Err.ensures.stopped _ _ c.print_stopped.ensures.fault (let e = named in cc)
 
-pub returns-in_err-print_lines-clause-prefix : goal.returns-in_err-print_lines-clause-prefix
-returns-in_err-print_lines-clause-prefix g c =
+pub returns-in_err-print_log-clause-prefix : goal.returns-in_err-print_log-clause-prefix
+returns-in_err-print_log-clause-prefix g c =
     let lanes = lanes_of g.S.Sealer.state c.args.sendings.items c.args.receivings.items in
     let old = g.W.Write.contents c.args.writer.now in
-    on_err _ c.from_residual.result (entries_front lanes c.in-Ok.report.log old old _ c.in-Ok.report.sent.items c.in-Ok.ensures.whole (rw c.entries.ensures at c.in_err-print_lines.ensures.prefix))
+    on_err _ c.from_residual.result (entries_front lanes c.in-Ok.report.log old old _ c.in-Ok.report.sent.items c.in-Ok.ensures.whole c.in_err-print_log.ensures.part)
 
 pub print_ends-requires : goal.print_ends-requires
 print_ends-requires g c =
@@ -32,7 +32,7 @@ returns-clause-printed g c =
     let lanes = lanes_of g.S.Sealer.state c.args.sendings.items c.args.receivings.items in
     let old = g.W.Write.contents c.args.writer.now in
     let whole = c.in-Ok.ensures.whole in
-    relayed_by lanes c.in-Ok.report.log old _ _ c.in-Ok.report.sent.items whole whole.sealed (rw c.entries.ensures at c.in_ok-print_lines.ensures.printed)
+    relayed_by lanes c.in-Ok.report.log old _ _ c.in-Ok.report.sent.items whole whole.sealed c.in_ok-print_log.ensures.printed
     c.print_ends.result c.print_ends.ensures.printed c.print_ends.ensures.status
 
 pub returns-clause-prefix : goal.returns-clause-prefix
@@ -40,5 +40,5 @@ returns-clause-prefix g c =
     let lanes = lanes_of g.S.Sealer.state c.args.sendings.items c.args.receivings.items in
     let old = g.W.Write.contents c.args.writer.now in
     let whole = c.in-Ok.ensures.whole in
-    front_by lanes c.in-Ok.report.log old _ _ c.in-Ok.report.sent.items whole whole.sealed (rw c.entries.ensures at c.in_ok-print_lines.ensures.printed)
-    c.print_ends.result c.print_ends.ensures.prefix
+    front_by lanes c.in-Ok.report.log old _ _ c.in-Ok.report.sent.items whole whole.sealed c.in_ok-print_log.ensures.printed
+    c.print_ends.result c.print_ends.ensures.part

@@ -5,3 +5,6 @@ returns-in-Seal-clause-bad_input g c = rw c.in-Seal.is (λ bad named told is. c.
 
 pub returns-in-Relay-clause-bad_input : goal.returns-in-Relay-clause-bad_input
 returns-in-Relay-clause-bad_input g c = rw c.in-Relay.is (λ bad named told is. c.relay.ensures.bad_input told is bad named)
+
+pub returns-in-Relay-clause-stopped : goal.returns-in-Relay-clause-stopped
+returns-in-Relay-clause-stopped g c = rw c.in-Relay.is (λ lines named told is. c.relay.ensures.stopped told is lines named)
