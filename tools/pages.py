@@ -15,6 +15,7 @@ from sources import KIT, Clause, Definition, Function, Item, Module, Project, Re
 
 INDEX, HEADLINE = "README", "headline"
 ROOT = Ref("krb_relay", "", "relay")    # the function whose contract is the headline
+OWN = "this project"                    # the source of a definition that cites no standard
 
 GUIDE = [
     "`requires` is what a caller has to prove; `ensures` is what it gets. A clause has a name where"
@@ -511,8 +512,9 @@ class Writer:
             blocks.append(block)
         blocks += [Heading(2, "The definitions", "definitions"),
                    Paragraph(plain("The modules that the contract reaches in fewer steps come"
-                                   " first. A source is named if the definition, or the head of its"
-                                   " file, cites one; the others are this project's."))]
+                                   " first. The source is the standard that the definition, or the"
+                                   " head of its file, cites; the other definitions are this"
+                                   " project's."))]
         for (crate, module), found in self.by_module(definitions).items():
             blocks += self.module_rows(crate, module, found)
         blocks += self.headline_types()
@@ -539,7 +541,7 @@ class Writer:
         for it in sorted(found, key=lambda it: order[it.ref]):
             rows.append([code(it.ref.word, self.target(it.ref)),
                          self.inlines(crate, sentence(it.comment)),
-                         plain(source_of(it.comment) or source_of(module.comment)),
+                         plain(source_in(it.comment, module.comment)),
                          plain(str(it.lines()))])
         yield Table(["Definition", "What it says", "Source", "Lines"], rows)
 
@@ -594,13 +596,27 @@ def first_sentence(doc: str) -> str:
 
 
 SECTION = r"[\dA-Z]+(?:\.\d+)*(?:(?:, | and )\d+(?:\.\d+)*)*"
-STANDARD = re.compile(r"(?:RFC \d+|FIPS \d+(?:-\d)?|X\.690|SP 800-38A)"
+STANDARD = re.compile(r"(?:RFC \d+|FIPS \d+(?:-\d)?|X\.690|X\.680|ISO 8601)"
                       rf"(?:,? (?:sections?|appendix) {SECTION})?")
+
+
+ONLY_SECTION = re.compile(r"\((?:section )?(\d+(?:\.\d+)+)\)")
 
 
 def source_of(comment: str) -> str:
     """The standards that a comment cites, with their sections."""
-    return "; ".join(dict.fromkeys(STANDARD.findall(" ".join(comment.split()))))
+    cited = STANDARD.findall(" ".join(comment.split()))
+    return "; ".join(dict.fromkeys(it.replace(",", "", 1) for it in cited))
+
+
+def source_in(comment: str, head: str) -> str:
+    """The same of a definition whose file has this head: a section alone is one of the head's only
+    standard."""
+    section = ONLY_SECTION.search(comment)
+    standards = set(re.findall(r"RFC \d+|FIPS \d+(?:-\d)?|X\.\d+", head))
+    if not STANDARD.search(comment) and section and len(standards) == 1:
+        return f"{standards.pop()} section {section[1]}"
+    return source_of(comment) or source_of(head) or OWN
 
 
 def pages_of(project: Project) -> List[Page]:
