@@ -75,7 +75,7 @@ class Source:
     text: str
     language: str
     links: Dict[str, Target]
-    says_links: bool = True     # where the text itself can't link, a line after it does
+    label: str = "Cites"    # of the line with the links, where the text itself can't link
 
 
 @dataclasses.dataclass
@@ -312,7 +312,7 @@ class Writer:
         fenced: Optional[List[str]] = None
         for line in text.split("\n"):
             if fenced is not None and line.strip() == FENCE:
-                yield Source("\n".join(fenced), "rust", {}, False)
+                yield Source("\n".join(fenced), "rust", {})
                 fenced = None
             elif fenced is not None:
                 fenced.append(line)
@@ -351,7 +351,7 @@ class Writer:
         yield Heading(level, name.replace(".", "::"), name, True)
         yield from self.prose(crate, made.doc)
         links = self.links(self.graph.of_text(crate, made.signature))
-        yield Source(made.signature, "rust", links, False)
+        yield Source(made.signature, "rust", links, "Types:")
         for clause in made.clauses:
             yield self.clause(crate, name, made.scope, clause)
 
@@ -359,7 +359,9 @@ class Writer:
         yield Heading(level, item.name, item.name, True)
         yield from self.prose(crate, item.doc)
         named = item.declaration if item.kind == "trait" else fields_of(item)
-        yield Source(item.declaration, "rust", self.links(self.graph.of_text(crate, named)), False)
+        links = self.links(self.graph.of_text(crate, named))
+        links.pop(item.name, None)
+        yield Source(item.declaration, "rust", links, "Types:")
         yield from self.seen(crate, item)
         if item.kind == "trait":
             for clause in item.clauses:
@@ -505,7 +507,7 @@ class Writer:
                               " definitions that it speaks of. "), Inline(about)]),
             Heading(2, "The contract", "contract"),
             Source(relay.signature, "rust",
-                   self.links(self.graph.of_text(ROOT.crate, relay.signature)), False)]
+                   self.links(self.graph.of_text(ROOT.crate, relay.signature)), "Types:")]
         for clause in relay.clauses:
             block = self.clause(ROOT.crate, "", relay.scope, clause)
             block.anchor = ""
