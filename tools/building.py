@@ -134,6 +134,6 @@ def is_built(crate, program):
 
 
 def note(program, built_from):
-    """Tells that the program was proved and built from sources of this digest."""
+    """Notes that the program was proved and built from sources of this digest."""
     with open(stamp_of(program), "w", encoding="utf-8") as file:
         file.write(built_from + digest([program]))

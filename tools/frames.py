@@ -154,7 +154,7 @@ def groups(texts, most):
 
 
 def batch(texts):
-    """Several texts as one record, each behind its length."""
+    """Several texts as one record, each after its length."""
     return b"B" + b"".join(len(text).to_bytes(4, "big") + text for text in texts)
 
 
@@ -172,7 +172,7 @@ KEY_256 = bytes([0x11] * 32)
 
 
 def keys(key):
-    """The strings that tell of a session key, as NAME=HEX,NAME=HEX."""
+    """The strings that reveal a session key, as NAME=HEX,NAME=HEX."""
     strings = {
         "key": key,
         "digits": key.hex().encode(),

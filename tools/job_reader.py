@@ -1,4 +1,4 @@
-"""Reads a job file of krbrelay, for tools that show it; `krbrelay relay --help` tells its keys.
+"""Reads a job file of krbrelay, for tools that show it; `krbrelay relay --help` describes its keys.
 
 From Python 3.11 on the interpreter reads TOML. With an older one this module reads what jobs are
 commonly written in: comments, keys with whole numbers, true, false, strings without escapes and

@@ -1,4 +1,4 @@
-"""Job files of krbrelay, as tools write them; `krbrelay relay --help` tells the keys."""
+"""Job files of krbrelay, as tools write them; `krbrelay relay --help` describes the keys."""
 
 MICROS = 1_700_000_000_000_005  # 2023-11-14T22:13:20Z and 5 microseconds
 
@@ -13,7 +13,7 @@ def address(pair):
 
 
 def moments(value):
-    """One moment or several."""
+    """One timestamp or several."""
     return value if isinstance(value, list) else [value]
 
 

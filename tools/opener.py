@@ -1,7 +1,7 @@
 """An independent sender and receiver of KRB-SAFE and KRB-PRIV messages: what is sealed of a list of
-texts, and what becomes of frames, by RFC 4120 (sections 3.4, 3.5, 5.6, 5.7 and 7.5.1), RFC 3961 and
-RFC 3962, with the records, numbers and order of checks that `krbrelay relay --help` and README.md
-tell. It stands on reader.py and frames.py and shares nothing with the crates."""
+texts, and the outcome of frames, by RFC 4120 (sections 3.4, 3.5, 5.6, 5.7 and 7.5.1), RFC 3961 and
+RFC 3962, with the records, numbers and order of checks of this project. It uses reader.py and
+frames.py and shares nothing with the crates."""
 import calendar
 import dataclasses
 import functools
@@ -122,7 +122,7 @@ def is_modified(session, frame, checksum):
 
 
 def unseal(session, number, now, frame):
-    """The user data of a frame at the demanded number and the moment `now`, in microseconds."""
+    """The user data of a frame at the demanded number and the timestamp `now`, in microseconds."""
     private = session.mode == "priv"
     refuse(61, len(frame) > reader.LIMIT)
     message = read(reader.message, frame)
@@ -141,7 +141,7 @@ def unseal(session, number, now, frame):
 
 
 class Receiver:
-    """Takes the frames of a sender, each at the moment of its place; the last serves all later."""
+    """Takes the frames of a sender, each at the timestamp of its place; the last serves all later."""
 
     def __init__(self, session, nows):
         self.session, self.nows = session, nows
@@ -187,7 +187,7 @@ def batch_texts(data):
 
 @dataclasses.dataclass
 class Sender:
-    """The texts of a session, their moments, the seed of their confounders, and how many of them a
+    """The texts of a session, their timestamps, the seed of their confounders, and how many of them a
     frame carries at most. A plan is None or a list of ("frame", k), ("flip", k, at, mask) and
     ("raw", bytes)."""
     session: Session
@@ -262,7 +262,7 @@ def open_lines(session, nows, wire):
 
 
 def relay_lines(lanes):
-    """The log in rounds, in each of which the lines of one frame stand together, and how each lane
+    """The log in rounds, in each of which the lines of one frame are together, and how each lane
     ended; a lane is a sender and its receiver's moments."""
     receivers = [Receiver(sender.session, nows) for sender, nows in lanes]
     logs = [[it.take(frame) for frame in sender.wire()]

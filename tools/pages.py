@@ -15,6 +15,7 @@ from sources import KIT, Clause, Definition, Function, Item, Module, Project, Re
 
 INDEX, HEADLINE = "README", "headline"
 ROOT = Ref("krb_relay", "", "relay")    # the function whose contract is the headline
+OWN = "this project"                    # the source of a definition that cites no standard
 
 GUIDE = [
     "`requires` is what a caller has to prove; `ensures` is what it gets. A clause has a name where"
@@ -74,7 +75,7 @@ class Source:
     text: str
     language: str
     links: Dict[str, Target]
-    says_links: bool = True     # where the text itself can't link, a line after it does
+    label: str = "Cites"    # of the line with the links, where the text itself can't link
 
 
 @dataclasses.dataclass
@@ -311,7 +312,7 @@ class Writer:
         fenced: Optional[List[str]] = None
         for line in text.split("\n"):
             if fenced is not None and line.strip() == FENCE:
-                yield Source("\n".join(fenced), "rust", {}, False)
+                yield Source("\n".join(fenced), "rust", {})
                 fenced = None
             elif fenced is not None:
                 fenced.append(line)
@@ -350,7 +351,7 @@ class Writer:
         yield Heading(level, name.replace(".", "::"), name, True)
         yield from self.prose(crate, made.doc)
         links = self.links(self.graph.of_text(crate, made.signature))
-        yield Source(made.signature, "rust", links, False)
+        yield Source(made.signature, "rust", links, "Types:")
         for clause in made.clauses:
             yield self.clause(crate, name, made.scope, clause)
 
@@ -358,7 +359,9 @@ class Writer:
         yield Heading(level, item.name, item.name, True)
         yield from self.prose(crate, item.doc)
         named = item.declaration if item.kind == "trait" else fields_of(item)
-        yield Source(item.declaration, "rust", self.links(self.graph.of_text(crate, named)), False)
+        links = self.links(self.graph.of_text(crate, named))
+        links.pop(item.name, None)
+        yield Source(item.declaration, "rust", links, "Types:")
         yield from self.seen(crate, item)
         if item.kind == "trait":
             for clause in item.clauses:
@@ -504,15 +507,16 @@ class Writer:
                               " definitions that it speaks of. "), Inline(about)]),
             Heading(2, "The contract", "contract"),
             Source(relay.signature, "rust",
-                   self.links(self.graph.of_text(ROOT.crate, relay.signature)), False)]
+                   self.links(self.graph.of_text(ROOT.crate, relay.signature)), "Types:")]
         for clause in relay.clauses:
             block = self.clause(ROOT.crate, "", relay.scope, clause)
             block.anchor = ""
             blocks.append(block)
         blocks += [Heading(2, "The definitions", "definitions"),
                    Paragraph(plain("The modules that the contract reaches in fewer steps come"
-                                   " first. A source is named if the definition, or the head of its"
-                                   " file, cites one; the others are this project's."))]
+                                   " first. The source is the standard that the definition, or the"
+                                   " head of its file, cites; the other definitions are this"
+                                   " project's."))]
         for (crate, module), found in self.by_module(definitions).items():
             blocks += self.module_rows(crate, module, found)
         blocks += self.headline_types()
@@ -539,7 +543,7 @@ class Writer:
         for it in sorted(found, key=lambda it: order[it.ref]):
             rows.append([code(it.ref.word, self.target(it.ref)),
                          self.inlines(crate, sentence(it.comment)),
-                         plain(source_of(it.comment) or source_of(module.comment)),
+                         plain(source_in(it.comment, module.comment)),
                          plain(str(it.lines()))])
         yield Table(["Definition", "What it says", "Source", "Lines"], rows)
 
@@ -594,13 +598,27 @@ def first_sentence(doc: str) -> str:
 
 
 SECTION = r"[\dA-Z]+(?:\.\d+)*(?:(?:, | and )\d+(?:\.\d+)*)*"
-STANDARD = re.compile(r"(?:RFC \d+|FIPS \d+(?:-\d)?|X\.690|SP 800-38A)"
+STANDARD = re.compile(r"(?:RFC \d+|FIPS \d+(?:-\d)?|X\.690|X\.680|ISO 8601)"
                       rf"(?:,? (?:sections?|appendix) {SECTION})?")
+
+
+ONLY_SECTION = re.compile(r"\((?:section )?(\d+(?:\.\d+)+)\)")
 
 
 def source_of(comment: str) -> str:
     """The standards that a comment cites, with their sections."""
-    return "; ".join(dict.fromkeys(STANDARD.findall(" ".join(comment.split()))))
+    cited = STANDARD.findall(" ".join(comment.split()))
+    return "; ".join(dict.fromkeys(it.replace(",", "", 1) for it in cited))
+
+
+def source_in(comment: str, head: str) -> str:
+    """The same of a definition whose file has this head: a section alone is one of the head's only
+    standard."""
+    section = ONLY_SECTION.search(comment)
+    standards = set(re.findall(r"RFC \d+|FIPS \d+(?:-\d)?|X\.\d+", head))
+    if not STANDARD.search(comment) and section and len(standards) == 1:
+        return f"{standards.pop()} section {section[1]}"
+    return source_of(comment) or source_of(head) or OWN
 
 
 def pages_of(project: Project) -> List[Page]:

@@ -50,9 +50,9 @@ def fenced(source: Source, indent: str = "") -> Iterator[str]:
 
 def source_block(source: Source) -> Iterator[str]:
     yield from fenced(source)
-    if source.says_links and source.links:
+    if source.links:
         yield ""
-        yield f"Cites {cited(source.links)}."
+        yield f"{source.label} {cited(source.links)}."
 
 
 def clause(block: ClauseBlock) -> Iterator[str]:

@@ -284,7 +284,7 @@ def fail(crate):
 
 
 def ensure(top):
-    """Proves and builds a program unless it is built. Answers the exit status."""
+    """Proves and builds a program unless it is built. Returns the exit status."""
     try:
         if not building.is_built(top, building.program_of(top)):
             prove(top)

@@ -19,7 +19,7 @@ def need(condition):
 
 
 def element(data, tag):
-    """The content of the element at the front with this tag, and what follows it."""
+    """The content of the first element, which has this tag, and what follows it."""
     need(len(data) >= 2 and data[0] == tag)
     first, rest = data[1], data[2:]
     if first < 0x80:

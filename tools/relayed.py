@@ -2,7 +2,7 @@
 
 The log is a list of lines in rounds: the first frame of each lane, then the second of each, and so
 on. A frame that is accepted has a line for each text that it carries, any other frame has one line.
-An accepted frame carries the record of its number, and texts are delivered in order (README.md): so
+An accepted frame carries the record of its number, and texts are delivered in order (README.md), so
 each line belongs to one frame. Lines that don't fit the job are a Fault.
 """
 import dataclasses

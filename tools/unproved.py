@@ -1,7 +1,7 @@
 """The program as the kit builds it without its proofs (`rt try`), for a first answer in a minute.
 
-It is out/unproved/krbrelay, in a folder of its own, with a file that tells from which sources and
-by which kit: in that file the first word is `unproved`, and it has another name than that of a
+It is out/unproved/krbrelay, in a folder of its own, with a file that says from which sources and by
+which kit it was built: in that file the first word is `unproved`, and it has another name than that of a
 proved program, so nothing that asks for a proved program finds it (tools/building.py).
 
 `rt try` builds the program in a temporary folder, runs it there with the checks of a compiler, and
@@ -34,10 +34,10 @@ def kit():
                           stdout=subprocess.PIPE, text=True).stdout.strip()
 
 
-# ---- the file that tells what it was built from
+# ---- the file that says what it was built from
 
 def stamp():
-    """What the file tells of a program that is kept, or of the fact that none could be."""
+    """What the file says of a program that is kept, or of the fact that none could be."""
     kept = building.digest([PROGRAM]) if os.path.exists(PROGRAM) else NOT_KEPT
     return f"unproved {building.digest_of('krbrelay')} {kit()}\n{kept}\n"
 
@@ -87,7 +87,7 @@ def is_whole(program):
 
 
 def build():
-    """Builds the program, keeps it if that can be, and notes it. Answers the exit status."""
+    """Builds the program, keeps it if that can be, and notes it. Returns the exit status."""
     os.makedirs(FOLDER, exist_ok=True)
     say("no krbrelay is proved from these sources yet: one is being built without its proofs,"
         " which takes a minute or two")
@@ -129,7 +129,7 @@ def fail():
 # ---- running
 
 def run(words):
-    """Runs the program with these words. Answers its exit status, after a last line on standard
+    """Runs the program with these words. Returns its exit status, after a last line on standard
     error which says that it isn't proved."""
     if shutil.which("rt") is None:
         say("krbrelay can't be built: there is no command rt, which is the kit's")

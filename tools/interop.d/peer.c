@@ -100,7 +100,7 @@ static void set_key(krb5_auth_context c, int etype, struct bytes *key)
     must(krb5_auth_con_setuseruserkey(ctx, c, &block), "setuseruserkey");
 }
 
-/* No call sets them: they are written into the context's bytes, behind its magic and its flags. */
+/* No call sets them: they are written into the context's bytes, after its magic and its flags. */
 static void set_numbers(krb5_auth_context *c, unsigned long number)
 {
     krb5_octet spelt[4096], *end = spelt;

@@ -1,4 +1,4 @@
-/* Preloaded: tells each block that is freed, or left by realloc, while it holds one of the byte
+/* Preloaded: prints each block that is freed, or left by realloc, while it holds one of the byte
  * strings that the variable RESIDUE_STRINGS names, as NAME=HEX,NAME=HEX. For each it appends a line
  * 'SIZE NAME' to the file that RESIDUE_REPORT names, and 'end BLOCKS' at the end, with the number
  * of blocks that were looked at. realloc always moves here, so that no block that it could leave is
@@ -22,7 +22,7 @@ static int count, report = -1;
 static unsigned long looked_at;
 static void (*real_free)(void *);
 
-/* Reads one NAME=HEX, and answers what stands behind it. */
+/* Reads one NAME=HEX, and returns what comes after it. */
 static const char *read_text(const char *from)
 {
     struct text *t = &texts[count++];

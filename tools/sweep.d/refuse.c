@@ -1,4 +1,4 @@
-/* Preloaded: refuses one growth of memory, the one whose number the variable SWEEP_REFUSE gives,
+/* Preloaded: fails one allocation, the one whose number the variable SWEEP_REFUSE gives,
  * counted from 1 over all threads of the process; each allocation and each realloc is one. Where it
  * refused it makes the file that SWEEP_REPORT names. */
 #include <errno.h>

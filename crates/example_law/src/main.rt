@@ -1,5 +1,5 @@
-//! A caller that rests on a law: what comes out of an opener is the text that was sealed, and comes
-//! out only at the number that it was sealed at.
+//! A caller that relies on a law: what comes out of an opener is the text that was sealed, and
+//! comes out only at the number that it was sealed at.
 #![tactic(auto)]
 
 ghost use Rattle.std.specs.Prelude.{◌≡◌, IfOk, OnOk};

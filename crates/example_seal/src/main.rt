@@ -13,8 +13,8 @@ use std::alloc::{AllocError, Global};
 /// The session key, of encryption type 18, which both ends have from their exchange.
 const KEY: [u8; 32] = [0x11; 32];
 
-/// Sixteen bytes that are drawn anew for each message. They stay the same here, so that the program
-/// always prints the same.
+/// Sixteen bytes that a program draws anew for each message. Here they are fixed, so that the
+/// program always prints the same.
 const CONFOUNDER: [u8; 16] = [7; 16];
 
 /// 2023-11-14T22:13:20Z and 5 microseconds.

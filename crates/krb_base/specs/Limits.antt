@@ -38,10 +38,11 @@ skew_limit = 86400
 abbrev pub texts_limit : ℕ
 texts_limit = 1000
 
--- the texts of a batch, and its bytes after its first byte
+-- the texts of a batch
 abbrev pub batch_limit : ℕ
 batch_limit = 1000
 
+-- the bytes of a batch after its first byte
 abbrev pub batch_size_limit : ℕ
 batch_size_limit = 1000000
 

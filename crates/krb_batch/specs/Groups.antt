@@ -37,6 +37,7 @@ groups_from b group [] = group ∷ []
 groups_from b group (text ∷ texts) =
     if takes b group text then groups_from b (group ++ text ∷ []) texts else group ∷ groups_from b (text ∷ []) texts
 
+-- the groups of the texts, at most b in each
 abbrev pub groups : ℕ → List (List ℕ) → List (List (List ℕ))
 groups b [] = []
 groups b (text ∷ texts) = groups_from b (text ∷ []) texts

@@ -54,14 +54,14 @@ impl Best {
     }
 }
 
-// The time that enciphering takes, in microseconds.
+// The time that encryption takes, in microseconds.
 fn encrypt_time(rt: &impl Clock, schedule: &Schedule, text: &mut [u8; 16384]) -> io::Result<u128> {
     let start = Instant::now(rt)?;
     encrypt_often(schedule, text);
     Ok(start.elapsed(rt)?.as_micros())
 }
 
-// The time that deciphering takes, in microseconds.
+// The time that decryption takes, in microseconds.
 fn decrypt_time(rt: &impl Clock, schedule: &Schedule, text: &mut [u8; 16384]) -> io::Result<u128> {
     let start = Instant::now(rt)?;
     decrypt_often(schedule, text);

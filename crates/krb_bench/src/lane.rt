@@ -16,7 +16,7 @@ use std::{io, thread};
 /// How many bytes a frame has.
 const SIZE: usize = 100;
 
-// What a worker promises: it sends at this end, and this many frames where it sends End.
+// What a worker promises: it sends at this end, and this many frames if it sends End.
 #[derive(Drop)]
 struct SentFrom {
     tx: Snapshot<LaneTx>,
@@ -30,7 +30,7 @@ impl Promise<SentAll> for SentFrom {
         × (sent.ended ≡ true → length sent.frames ≡ length p.tx.value.frames + p.frames) };
 }
 
-// Sends so many frames and End, as far as there is memory and the other end is there.
+// Sends so many frames and End, while memory is available and the other end exists.
 fn send_frames(rt: &impl Wait, alloc: Global, tx: LaneTx, frames: u64) -> SentAll
     requires { length tx.frames + frames < 2 ^ 60 }
     ensures lane { result.lane ≡ tx.lane }

@@ -6,8 +6,8 @@
 //! - `krb_bench relay ROUNDS SENDERS TEXTS BYTES CAPACITY [BATCH ..]`: both relays.
 //! - `krb_bench soak JOBS`: one relay again and again.
 //!
-//! It ends with 1 where something didn't end well. Other words are answered by these, with 2; with
-//! no argument it does nothing.
+//! It ends with 1 if something didn't end well. For other words it prints this list and ends with
+//! 2; with no argument it does nothing.
 #![tactic(auto)]
 
 mod cipher;
@@ -26,8 +26,7 @@ use std::{env, io};
 const USAGE: &str = "usage: krb_bench aes ROUNDS | seal ROUNDS | lane FRAMES \
     | relay ROUNDS SENDERS TEXTS BYTES CAPACITY [BATCH ..] | soak JOBS";
 
-/// Times what the words ask for, and says whether all ended well. There is no answer to other
-/// words.
+/// Times what the words ask for, and says whether all ended well; `None` for other words.
 fn measure(
     rt: &(impl Threads + Wait + Sync + Clock + Print + Alloc<A = Global>),
     part: &str,
@@ -52,7 +51,7 @@ fn measure(
     }
 }
 
-/// The numbers that the words spell, where each spells one.
+/// The numbers that the words spell, if each spells one.
 fn numbers_of(alloc: Global, words: &[String]) -> io::Result<Option<Vec<u32>>> {
     let mut numbers = Vec::with_capacity(alloc, words.len())?;
     for word in words {

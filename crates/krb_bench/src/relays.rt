@@ -65,7 +65,7 @@ fn compare(
 }
 
 /// Times both relays once for each of these batches, so many texts of which go together at most, or
-/// where there is none, with each text alone. Says whether each relay ended well.
+/// if there is none, with each text alone. Says whether each relay ended well.
 pub(crate) fn measure(
     rt: &(impl Threads + Wait + Sync + Clock + Print + Alloc<A = Global>),
     rounds: u32,

@@ -6,6 +6,7 @@ use Rattle.krb_der.specs.declared.address.HostAddress.{HostAddress}
 use Rattle.krb_der.specs.Integer.{IsInt32}
 use Rattle.krb_der.specs.Typed.{typed_octets}
 
+-- HostAddress, with its type and its bytes
 abbrev pub host_address : HostAddress → List ℕ
 host_address a = typed_octets a.kind a.bytes
 
@@ -13,5 +14,6 @@ host_address a = typed_octets a.kind a.bytes
 abbrev pub same_address : HostAddress → HostAddress → Bool
 same_address a b = int_eq a.kind b.kind && bytes_eq a.bytes b.bytes
 
+-- the type of an address is an Int32
 abbrev pub IsAddress : HostAddress → Type 0
 IsAddress a = IsInt32 a.kind

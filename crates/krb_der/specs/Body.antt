@@ -10,6 +10,7 @@ use Rattle.krb_der.specs.Integer.{natural, IsUInt32}
 use Rattle.krb_der.specs.KerberosTime.{time}
 use Rattle.krb_der.specs.Address.{host_address, IsAddress}
 
+-- its fields, each under its explicit tag
 abbrev pub body_fields : Body → List (List ℕ)
 body_fields b =
     tagged (context 0) (octets b.user_data)
@@ -20,6 +21,7 @@ body_fields b =
     ∷ optional (context 5) host_address b.r_addr
     ∷ []
 
+-- KRB-SAFE-BODY ::= SEQUENCE
 unfoldable pub body : Body → List ℕ
 body b = sequence (body_fields b)
 
@@ -27,6 +29,7 @@ body b = sequence (body_fields b)
 abbrev pub part : Body → List ℕ
 part b = tagged (application 28) (body b)
 
+-- the numbers of a body are in the ranges of their types
 pub record IsBody (b : Body) : Type 0 where
   pub time : IfSome b.time IsSecond
   pub usec : IfSome b.usec IsMicroseconds

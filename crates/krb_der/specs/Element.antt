@@ -7,9 +7,11 @@ use Rattle.krb_der.specs.Length.{length_octets}
 unfoldable pub header : ℕ → ℕ → List ℕ
 header tag n = tag ∷ length_octets n
 
+-- an element: its tag, the length of its content, and the content
 unfoldable pub tagged : ℕ → List ℕ → List ℕ
 tagged tag content = header tag (length content) ++ content
 
+-- elements, one after another
 abbrev pub joined : List (List ℕ) → List ℕ
 joined [] = []
 joined (f ∷ fs) = f ++ joined fs

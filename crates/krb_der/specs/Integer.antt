@@ -10,6 +10,7 @@ width n =
     if nat_lt n (2 ^ 7) then 1 else if nat_lt n (2 ^ 15) then 2
     else if nat_lt n (2 ^ 23) then 3 else if nat_lt n (2 ^ 31) then 4 else 5
 
+-- the complement of each octet
 abbrev pub complement : List ℕ → List ℕ
 complement bytes = map (λ b. 255 - b) bytes
 
@@ -18,9 +19,11 @@ unfoldable pub int_octets : ℤ → List ℕ
 int_octets (pos n) = big_endian (width n) n
 int_octets (negsuc n) = complement (big_endian (width n) n)
 
+-- INTEGER
 abbrev pub integer : ℤ → List ℕ
 integer z = tagged integer_tag (int_octets z)
 
+-- a natural number as an INTEGER
 abbrev pub natural : ℕ → List ℕ
 natural n = integer (pos n)
 

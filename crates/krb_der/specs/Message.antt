@@ -1,4 +1,5 @@
--- What bytes spell, and what reading and writing return.
+-- What bytes spell (the messages of RFC 4120 sections 5.6 and 5.7), and what reading and writing
+-- return.
 use Rattle.std.specs.Prelude.{◌≡◌, ℕ, ◌<◌, ◌≤◌, List, ◌++◌, length, take, drop, Result, Ok, Err}
 use Rattle.std.specs.Global.{Vec}
 use Rattle.krb_base.specs.Limits.{frame_limit}
@@ -15,10 +16,12 @@ use Rattle.krb_der.specs.Body.{part, IsBody}
 use Rattle.krb_der.specs.Safe.{safe, safe_input, IsSafe}
 use Rattle.krb_der.specs.Private.{private, IsPrivate}
 
+-- the spelling of a message
 abbrev pub message : Message → List ℕ
 message (Safe m) = safe m
 message (Priv m) = private m
 
+-- the numbers of a message are in the ranges of their types
 abbrev pub IsMessage : Message → Type 0
 IsMessage (Safe m) = IsSafe m
 IsMessage (Priv m) = IsPrivate m

@@ -14,9 +14,11 @@ encrypted_fields etype kvno cipher =
     ∷ tagged (context 2) (octets cipher)
     ∷ []
 
+-- EncryptedData ::= SEQUENCE
 unfoldable pub encrypted_data : ℤ → Option ℕ → List ℕ → List ℕ
 encrypted_data etype kvno cipher = sequence (encrypted_fields etype kvno cipher)
 
+-- the fields of KRB-PRIV
 abbrev pub private_fields : PrivMsg → List (List ℕ)
 private_fields m =
     tagged (context 0) (integer m.pvno)
@@ -28,6 +30,7 @@ private_fields m =
 abbrev pub private : PrivMsg → List ℕ
 private m = tagged (application 21) (sequence (private_fields m))
 
+-- the numbers of a KRB-PRIV are in the ranges of their types
 pub record IsPrivate (m : PrivMsg) : Type 0 where
   pub pvno : IsInt32 m.pvno
   pub msg_type : IsInt32 m.msg_type

@@ -11,6 +11,7 @@ use Rattle.krb_der.specs.Body.{body, IsBody}
 abbrev pub checksum : ℤ → List ℕ → List ℕ
 checksum kind bytes = typed_octets kind bytes
 
+-- the fields of KRB-SAFE
 abbrev pub safe_fields : SafeMsg → List (List ℕ)
 safe_fields m =
     tagged (context 0) (integer m.pvno)
@@ -23,6 +24,7 @@ safe_fields m =
 abbrev pub safe : SafeMsg → List ℕ
 safe m = tagged (application 20) (sequence (safe_fields m))
 
+-- the numbers of a KRB-SAFE are in the ranges of their types
 pub record IsSafe (m : SafeMsg) : Type 0 where
   pub pvno : IsInt32 m.pvno
   pub msg_type : IsInt32 m.msg_type
@@ -38,5 +40,6 @@ with_checksum m kind bytes = record m { cksum_type = kind; checksum = bytes }
 abbrev pub without_checksum : SafeMsg → SafeMsg
 without_checksum m = with_checksum m (pos 0) []
 
+-- the bytes under the checksum (RFC 4120 section 5.6.1)
 abbrev pub safe_input : SafeMsg → List ℕ
 safe_input m = safe (without_checksum m)

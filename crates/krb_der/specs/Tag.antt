@@ -6,12 +6,15 @@ use Rattle.std.specs.Prelude.{ℕ, ◌+◌}
 abbrev pub integer_tag : ℕ
 integer_tag = 0x02
 
+-- OCTET STRING
 abbrev pub octet_string_tag : ℕ
 octet_string_tag = 0x04
 
+-- GeneralizedTime
 abbrev pub generalized_time_tag : ℕ
 generalized_time_tag = 0x18
 
+-- SEQUENCE
 abbrev pub sequence_tag : ℕ
 sequence_tag = 0x30
 

@@ -5,11 +5,13 @@ use Rattle.krb_der.specs.Tag.{context}
 use Rattle.krb_der.specs.Element.{tagged, sequence, octets}
 use Rattle.krb_der.specs.Integer.{integer}
 
+-- the type and the bytes, each under its explicit tag
 abbrev pub typed_fields : ℤ → List ℕ → List (List ℕ)
 typed_fields kind bytes =
     tagged (context 0) (integer kind)
     ∷ tagged (context 1) (octets bytes)
     ∷ []
 
+-- the sequence of both
 unfoldable pub typed_octets : ℤ → List ℕ → List ℕ
 typed_octets kind bytes = sequence (typed_fields kind bytes)

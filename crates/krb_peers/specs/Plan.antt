@@ -11,6 +11,7 @@ use Rattle.krb_peers.specs.declared.plan.EmitError.TheVariants.{BadPlan, Memory}
 abbrev pub contents : {A : Type 0} → List (Vec ℕ A) → List (List ℕ)
 contents vectors = map (λ vector. vector.items) vectors
 
+-- frame k, or no bytes
 abbrev pub frame_at : List (List ℕ) → ℕ → List ℕ
 frame_at frames k = slice_index_or frames k []
 
@@ -24,6 +25,7 @@ is_good_emission frames (Frame k) = nat_lt k (length frames)
 is_good_emission frames (Flip k at mask) = nat_lt k (length frames) && nat_lt at (length (frame_at frames k)) && not (mask == 0)
 is_good_emission frames (Raw bytes) = true
 
+-- each emission is good
 abbrev pub is_good : List (List ℕ) → List Emit → Bool
 is_good frames plan = list_all (is_good_emission frames) plan
 
@@ -38,6 +40,7 @@ emission frames (Frame k) = frame_at frames k
 emission frames (Flip k at mask) = flipped (frame_at frames k) at mask
 emission frames (Raw bytes) = bytes
 
+-- what the emissions put on the wire, in order
 abbrev pub emissions : List (List ℕ) → List Emit → List (List ℕ)
 emissions frames plan = map (emission frames) plan
 

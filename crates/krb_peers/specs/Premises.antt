@@ -22,10 +22,12 @@ is_altered (Frame k) = false
 is_altered (Flip k at mask) = true
 is_altered (Raw bytes) = true
 
+-- the same, if there is an emission
 abbrev pub is_altered_one : Option Emit → Bool
 is_altered_one None = false
 is_altered_one (Some emission) = is_altered emission
 
+-- the frame at a place of the wire is altered: never without a plan
 abbrev pub altered_at : Option (List Emit) → ℕ → Bool
 altered_at None place = false
 altered_at (Some plan) place = is_altered_one (slice_get plan place)

@@ -43,9 +43,11 @@ texts_of_groups groups = flat_map (λ group. group) groups
 abbrev pub sealed_count : ℕ → ℕ → ℕ
 sealed_count next n = min n (last_number - next)
 
+-- the groups that are sealed
 abbrev pub sealed_groups : Source → List (List (List ℕ))
 sealed_groups source = take (sealed_count source.sealer.next (length (text_groups source))) (text_groups source)
 
+-- the texts that are sealed
 abbrev pub sealed_texts : Source → List (List ℕ)
 sealed_texts source = texts_of_groups (sealed_groups source)
 
@@ -73,6 +75,7 @@ record_at number (text ∷ texts) = if nat_lt number last_number then record_for
 abbrev pub records_for : List (List (List ℕ)) → List Record
 records_for groups = map record_for groups ++ Close ∷ []
 
+-- all records that a sender seals
 abbrev pub records : Source → List Record
 records source = records_for (sealed_groups source)
 

@@ -40,6 +40,7 @@ abbrev pub accepted_by : Verdict → List Record
 accepted_by (Ok delivery) = record_of delivery ∷ []
 accepted_by (Err refusal) = []
 
+-- the events of one verdict
 abbrev pub events_by : Verdict → List Event
 events_by (Ok (Text text)) = events.Text text ∷ []
 events_by (Ok (Batch texts)) = map events.Text texts
@@ -50,6 +51,7 @@ events_by (Err refusal) = events.Refused refusal ∷ []
 abbrev pub records_of : List Verdict → List Record
 records_of verdicts = flat_map accepted_by verdicts
 
+-- the events of verdicts, in order
 abbrev pub events_from : List Verdict → List Event
 events_from verdicts = flat_map events_by verdicts
 
@@ -63,6 +65,7 @@ delivered verdicts = texts_in (events_from verdicts)
 
 -- ---- what a verdict is: on a frame that is taken at a timestamp, with this demand
 
+-- the user data are those of no record
 abbrev pub IsNoRecord : List ℕ → Type 0
 IsNoRecord user = (r : Record) → ¬ SpellsRecord r user
 
@@ -79,6 +82,8 @@ abbrev pub Carries : OpenerState → Demand → ℕ → List ℕ → Delivery �
 Carries opener demand now frame delivery =
     (demand.closed ≡ false) × ((user : List ℕ) × Opens opener demand.expected now frame (Ok user) × SpellsRecord (record_of delivery) user)
 
+-- the verdict on a frame: a delivery if it passes all checks, else the refusal of the first that it
+-- fails
 abbrev pub IsVerdict : OpenerState → Demand → ℕ → List ℕ → Verdict → Type 0
 IsVerdict opener demand now frame verdict = MatchResult verdict (Carries opener demand now frame) (Fails opener demand now frame)
 
@@ -94,11 +99,12 @@ pub record AreVerdicts (opener : OpenerState) (nows : List ℕ) (demand : Demand
 abbrev pub AreJudged : ReceiverState → List ℕ → List (List ℕ) → List Verdict → Type 0
 AreJudged receiver nows took verdicts = let start = receiver.demand in AreVerdicts receiver.opener nows start 0 took verdicts
 
+-- each frame is bytes
 abbrev pub AllBytes : List (List ℕ) → Type 0
 AllBytes [] = Unit {0}
 AllBytes (frame ∷ frames) = AreBytes frame × AllBytes frames
 
--- ---- the same as a function: the law `verdict_laws` says that it gives the one such list of frames of bytes
+-- ---- the same as a function: `verdict_laws` says that it gives the one such list of frames of bytes
 
 -- what the user data delivers, if it is the bytes of a record
 abbrev pub delivery_in : List ℕ → Option Delivery

@@ -7,9 +7,11 @@ use Rattle.krb_time.specs.Time.{last_second}
 abbrev pub last_usec : ℕ
 last_usec = 999_999
 
+-- the number is one of Microseconds
 abbrev pub IsMicroseconds : ℕ → Type 0
 IsMicroseconds n = n ≤ last_usec
 
+-- the microseconds of a second
 abbrev pub micros_per_second : ℕ
 micros_per_second = 1_000_000
 
@@ -21,9 +23,10 @@ moment_of secs usec = micros_per_second * secs + usec
 abbrev pub last_moment : ℕ
 last_moment = moment_of last_second last_usec
 
--- the whole seconds of a timestamp, and the microseconds beyond them
+-- the whole seconds of a timestamp
 abbrev pub secs_of : ℕ → ℕ
 secs_of moment = moment / micros_per_second
 
+-- the microseconds beyond the whole seconds
 abbrev pub usec_of : ℕ → ℕ
 usec_of moment = moment % micros_per_second

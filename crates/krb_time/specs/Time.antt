@@ -18,13 +18,15 @@ zero_digit = 48
 abbrev pub zulu : ℕ
 zulu = 90
 
--- the last decimal digit of a number, and its last two and four
+-- the last decimal digit of a number, as a character
 abbrev pub digit : ℕ → ℕ
 digit n = zero_digit + n % 10
 
+-- the last two decimal digits
 abbrev pub two_digits : ℕ → List ℕ
 two_digits n = digit (n / 10) ∷ digit n ∷ []
 
+-- the last four decimal digits
 abbrev pub four_digits : ℕ → List ℕ
 four_digits n = digit (n / 1000) ∷ digit (n / 100) ∷ two_digits n
 

@@ -138,7 +138,7 @@ pub(crate) fn are_senders<S: Sealer>(sendings: &[Sending<S>]) -> bool
     true
 }
 
-/// Whether each receiver has a moment.
+/// Whether each receiver has a timestamp.
 pub(crate) fn have_moments(receivings: &[Receiving]) -> bool
     ensures { IsTrue result
         → All (λ receiving. 0 < length receiving.nows.items) receivings.now }

@@ -58,7 +58,7 @@ pub(crate) fn run_stepped(
     Ok((micros, finished && all_closed(stepped.log())))
 }
 
-/// Relays in threads: the microseconds that it takes, and the log where all was relayed.
+/// Relays in threads: the microseconds that it takes, and the log if all was relayed.
 pub(crate) fn run_threads<R: Threads + Wait + Sync + Clock + Alloc<A = Global>>(
     rt: &R,
     size: Size,

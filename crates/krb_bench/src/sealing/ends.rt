@@ -51,7 +51,7 @@ pub fn ends_256(alloc: Global, mode: Mode) -> Result<(Aes256Sealer, Opener), All
 }
 
 /// Seals the data so many times, and gives the last frame. Each frame is kept until the next is
-/// made, so that the allocator doesn't hand a large one back to the system between the two.
+/// made, so that the allocator doesn't give a large one back to the system between the two.
 pub fn seal_often<S: Sealer>(
     alloc: Global,
     sealer: &mut S,
@@ -88,7 +88,7 @@ pub fn open_often(
     opened
 }
 
-/// The moment of each message.
+/// The timestamp of each message.
 pub fn moment() -> Option<Moment> {
     Moment::from_micros(MICROS)
 }
