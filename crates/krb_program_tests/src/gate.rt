@@ -54,10 +54,7 @@ impl HeldGate {
     pub fn assert_passed(&self, rt: &impl Abort, expected: [u64; 2]) {
         let calls = expected.iter().zip(&self.entered).zip(&self.left);
         for ((expected, entered), left) in calls {
-            let counts = (
-                entered.load(Ordering::SeqCst),
-                left.load(Ordering::SeqCst),
-            );
+            let counts = (entered.load(Ordering::SeqCst), left.load(Ordering::SeqCst));
             assert_same_at(rt, counts, (*expected, *expected), expected);
         }
     }

@@ -22,8 +22,7 @@ const SILENT: [(&str, &str); 3] = [
 ];
 
 /// A sealer of the sender's session that refuses this call (0: none).
-fn sealer_of(alloc: Global, sender: &SenderJob, fails_at: u64) -> Result<RefusingSealer, Fail> 
-{
+fn sealer_of(alloc: Global, sender: &SenderJob, fails_at: u64) -> Result<RefusingSealer, Fail> {
     let SessionKey::Aes128(mut key) = key_of(sender) else {
         return Err(Fail::from("another type"));
     };

@@ -80,7 +80,14 @@ fn assert_run(
     output: &str,
 ) -> Result<(), Fail> {
     let mut writer = BufWriter::new(rt.alloc(), Vec::new(rt.alloc()))?;
-    let result = run(rt, rt.alloc(), command, &mut job.as_bytes(), &mut writer, &NoGate);
+    let result = run(
+        rt,
+        rt.alloc(),
+        command,
+        &mut job.as_bytes(),
+        &mut writer,
+        &NoGate,
+    );
     assert_same(rt, result, Ok(status));
     assert_same(rt, writer.get_ref().as_slice(), output.as_bytes());
     Ok(())

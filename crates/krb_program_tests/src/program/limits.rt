@@ -68,7 +68,14 @@ fn assert_relayed(
 ) -> Result<(), Fail> {
     let mut writer = BufWriter::new(rt.alloc(), Vec::new(rt.alloc()))?;
     let mut reader = job.as_bytes();
-    let outcome = run(rt, rt.alloc(), Cmd::Relay, &mut reader, &mut writer, &NoGate);
+    let outcome = run(
+        rt,
+        rt.alloc(),
+        Cmd::Relay,
+        &mut reader,
+        &mut writer,
+        &NoGate,
+    );
     assert_same(rt, outcome, Ok(0));
     assert!(rt; writer.get_ref().as_slice() == lines.as_bytes());
     Ok(())

@@ -64,7 +64,14 @@ fn assert_answers(
 ) -> Result<(), Fail> {
     let mut writer = BufWriter::new(rt.alloc(), Vec::new(rt.alloc()))?;
     let words = ["krbrelay", word];
-    let outcome = obey(rt, rt.alloc(), &words, &mut job.as_bytes(), &mut writer, &NoGate)?;
+    let outcome = obey(
+        rt,
+        rt.alloc(),
+        &words,
+        &mut job.as_bytes(),
+        &mut writer,
+        &NoGate,
+    )?;
     assert_same(rt, outcome, Ok(status));
     assert_same(rt, writer.get_ref().as_slice(), text.as_bytes());
     Ok(())

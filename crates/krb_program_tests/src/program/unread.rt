@@ -47,7 +47,12 @@ fn assert_unread(
     let outcome = obey(rt, rt.alloc(), words, &mut reader, &mut writer, &NoGate);
     assert_same_at(rt, outcome.is_ok(), !text.is_empty(), words.len());
     assert_same_at(rt, reader.was_asked, false, words.len());
-    assert_same_at(rt, writer.get_ref().as_slice(), text.as_bytes(), words.len());
+    assert_same_at(
+        rt,
+        writer.get_ref().as_slice(),
+        text.as_bytes(),
+        words.len(),
+    );
     assert_same_at(rt, writer.buffer().len(), 0, words.len());
     Ok(())
 }
