@@ -1,6 +1,6 @@
 """At which goal the prover refuses each mutant: what the edits say, and what `rt` reports.
 
-The first line of an edit is 'clause: GOAL'. GOAL is the prover's name for what it can't prove of
+The first line of an edit may be 'clause: GOAL'. GOAL is the prover's name for what it can't prove of
 the mutant, as `returns-clause-capacity`: the clause `capacity` of what the function ensures. It is
 the clause that the mutant violates, so a mutant that is refused somewhere else misses its target.
 """
@@ -45,20 +45,24 @@ def is_goal(said_goal, goal, whole):
     return said_goal == goal if whole else said_goal.startswith(goal)
 
 
+def difference(crate, name, goal, whole):
+    """How a mutant was refused otherwise than its edit says, or None."""
+    path = path_of(crate, name)
+    if path is None:
+        return "there is no such edit"
+    wanted = said(path)
+    if wanted is None or is_goal(wanted, goal, whole):
+        return None
+    return f"refused at {goal}, and not at {wanted}"
+
+
 def differences(output):
-    """How many mutants were refused at the goal that their edit names, and a line for each other."""
-    same, others = 0, []
-    for crate, name, goal, whole in reported(output):
-        path = path_of(crate, name)
-        if path is None:
-            others.append(f"{crate}/{name}: there is no such edit")
-        elif (wanted := said(path)) is None:
-            others.append(f"{crate}/{name}: its first line isn't '{KEY}GOAL'")
-        elif is_goal(wanted, goal, whole):
-            same += 1
-        else:
-            others.append(f"{crate}/{name}: refused at {goal}, and not at {wanted}")
-    return same, others
+    """How many mutants were refused at the goal that their edit names, and of each other one its
+    crate and its name, and a line."""
+    found = [((crate, name), difference(crate, name, goal, whole))
+             for crate, name, goal, whole in reported(output)]
+    others = [(mutant, line) for mutant, line in found if line is not None]
+    return len(found) - len(others), others
 
 
 def note(output):
