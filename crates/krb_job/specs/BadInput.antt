@@ -1,4 +1,4 @@
--- What is printed of a job that is not read.
+-- What is printed of a job that can't be read.
 use Rattle.std.specs.Prelude.{ℕ, List, ◌++◌, codes}
 use Rattle.std.specs.Fmt.{decimal}
 use Rattle.krb_job.specs.declared.bad_input.BadInput.{BadInput}

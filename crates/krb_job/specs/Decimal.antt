@@ -6,12 +6,12 @@ use Rattle.krb_job.specs.Steps.{◌>>=◌}
 abbrev pub digit_of : ℕ → Option ℕ
 digit_of c = if nat_le 48 c && nat_le c 57 then Some (c - 48) else None
 
--- the number that digits write behind those of n
+-- the number that digits write after those of n
 unfoldable pub digits_from : ℕ → List ℕ → Option ℕ
 digits_from n [] = Some n
 digits_from n (c ∷ cs) = digit_of c >>= λ d. digits_from (10 * n + d) cs
 
--- 0 alone, or no zero at the front
+-- 0 alone, or no leading zero
 abbrev pub is_plain : List ℕ → Bool
 is_plain [] = false
 is_plain (c ∷ []) = true

@@ -16,7 +16,7 @@ use Rattle.krb_job.specs.Values.{hex_of}
 abbrev pub mask_of : List ℕ → Option ℕ
 mask_of digits = result_ok (decode_sized digits 1) >>= λ bytes. slice_get bytes 0
 
--- a frame, a byte of it and a mask, parted by single spaces, which are 32
+-- a frame, a byte of it and a mask, separated by single spaces, which are 32
 abbrev pub flip_of : List ℕ → Option Emit
 flip_of text = do
   parts ← split_at 32 text

@@ -106,7 +106,7 @@ abbrev pub GivesJob : {X Y : Type 0} → (X → Y) → Result X JobError → Res
 GivesJob view (Ok x) checks = checks ≡ Ok (view x)
 GivesJob view (Err e) checks = FailsJob e checks
 
--- no tree, where it is no document
+-- no tree, if it isn't a document
 abbrev pub FailsTree : List ℕ → JobError → Type 0
 FailsTree bytes (errors.Bad b) = (b ≡ bad.Toml) × ((ms : Members) → ¬ IsTree bytes ms)
 FailsTree bytes errors.Memory = Unit {0}

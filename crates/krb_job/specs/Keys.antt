@@ -10,11 +10,11 @@ use Rattle.krb_job.specs.Place.{name_of}
 abbrev pub at_key : Place → Members → Option Data
 at_key place ms = get_member (name_of place) ms
 
--- a key that has to be there
+-- a key that has to be present
 abbrev pub needed : {A : Type 0} → Place → (Data → Option A) → Members → Result A Place
 needed place of ms = ok_or (at_key place ms >>= of) place
 
--- what an absent key stands for
+-- a key with a default for when it is absent
 abbrev pub if_there : {A : Type 0} → A → Place → (Data → Option A) → Option Data → Result A Place
 if_there absent place of None = Ok absent
 if_there absent place of (Some d) = ok_or (of d) place
@@ -22,7 +22,7 @@ if_there absent place of (Some d) = ok_or (of d) place
 abbrev pub optional : {A : Type 0} → A → Place → (Data → Option A) → Members → Result A Place
 optional absent place of ms = if_there absent place of (at_key place ms)
 
--- a key that may not be there
+-- a key that has to be absent
 abbrev pub barred : {A : Type 0} → A → Place → Option Data → Result A Place
 barred absent place None = Ok absent
 barred absent place (Some d) = Err place

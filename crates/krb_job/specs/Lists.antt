@@ -12,7 +12,7 @@ abbrev pub count : Items → ℕ
 count no_items = 0
 count (item d ds) = 1 + count ds
 
--- what each item stands for, where each stands for something
+-- the values that the items stand for, if each stands for one
 abbrev pub each : {A : Type 0} → (Data → Option A) → Items → Option (List A)
 each of no_items = Some []
 each of (item d ds) = do

@@ -3,7 +3,7 @@ use Rattle.std.specs.Prelude.{ℕ, List, codes}
 use Rattle.krb_job.specs.declared.place.Place.{Place}
 use Rattle.krb_job.specs.declared.place.Place.TheVariants as places
 
--- a key as it stands in the job
+-- a key as it is written in the job
 abbrev pub name_of : Place → List ℕ
 name_of places.Etype = codes "etype"
 name_of places.Key = codes "key"

@@ -23,7 +23,7 @@ pub record Protection : Type 0 where
   pub mode : ModeOf
   pub first : ℕ
 
--- who speaks to whom, and what the receiver demands
+-- the addresses of both ends, and what the receiver demands
 pub record Parties : Type 0 where
   pub from : HostAddress
   pub to : HostAddress

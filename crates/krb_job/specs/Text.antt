@@ -3,6 +3,6 @@ use Rattle.std.specs.Prelude.{ℕ, ◌+◌, ◌==◌, List, take, drop, Option, 
 use Rattle.std.specs.List.{position}
 use Rattle.krb_job.specs.Steps.{◌>>=◌}
 
--- what stands before the first such byte, and what stands behind it
+-- the text before the first such byte, and the text after it
 abbrev pub split_at : ℕ → List ℕ → Option (List ℕ × List ℕ)
 split_at byte text = position (λ b. b == byte) text >>= λ i. Some (take i text, drop (i + 1) text)

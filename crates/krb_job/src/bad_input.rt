@@ -1,4 +1,4 @@
-//! Why a job is not read.
+//! Why a job can't be read.
 
 ghost use Rattle.std.specs.Prelude.{◌≡◌, Some};
 ghost use Rattle.krb_job.specs.BadInput.{code_of, words_of, error_words};
@@ -12,11 +12,11 @@ use std::fmt;
 /// The first check of a job that fails.
 #[derive(Clone, Copy, Debug, PartialEq, Eq)]
 pub enum BadInput {
-    /// The bytes are no TOML document, or not UTF-8.
+    /// The bytes aren't a TOML document, or not UTF-8.
     Toml,
-    /// The capacity is no integer from 1 to 64.
+    /// The capacity isn't an integer from 1 to 64.
     Capacity,
-    /// There are no senders, too many for the command, or one that is no table.
+    /// There is no sender, there are too many for the command, or one isn't a table.
     Sender,
     /// A key at the top that no job has.
     UnknownKey,
@@ -25,12 +25,12 @@ pub enum BadInput {
     InSender { sender: usize, place: Place },
 }
 
-/// Why a job is not read.
+/// Why a job can't be read.
 #[derive(Clone, Copy, Debug, PartialEq, Eq)]
 pub enum JobError {
     /// A check fails.
     Bad(BadInput),
-    /// A growth was refused.
+    /// Out of memory.
     Memory,
 }
 

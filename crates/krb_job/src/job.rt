@@ -40,7 +40,7 @@ impl Command {
     }
 }
 
-/// One sender of a job. What the command does not allow is `None` or empty.
+/// One sender of a job. What the command doesn't allow is `None` or empty.
 #[derive(Debug, Drop)]
 pub struct SenderJob {
     /// The encryption type, 17 or 18 (RFC 3962 section 7).
@@ -55,27 +55,27 @@ pub struct SenderJob {
     pub from: HostAddress,
     /// The receiver's address.
     pub to: HostAddress,
-    /// Whether the messages tell the receiver's address.
+    /// Whether the messages carry the receiver's address.
     pub write_to: bool,
-    /// Whether a message must tell the receiver's address.
+    /// Whether a message must carry the receiver's address.
     pub require_to: bool,
-    /// Whether a message must tell its time.
+    /// Whether a message must carry its time.
     pub expect_time: bool,
     /// How many seconds a message's time may be off.
     pub skew: u32,
-    /// What the confounders are drawn from.
+    /// The seed from which the confounders are drawn.
     pub seed: Option<[u8; 32]>,
     /// When the frames are sealed.
     pub ats: Vec<Moment>,
     /// When the frames are opened.
     pub nows: Vec<Moment>,
-    /// What is sent.
+    /// The texts that are sealed.
     pub texts: Vec<Bytes>,
-    /// How many texts a frame carries at most, 1 to 1,000; 1 where the job does not say it.
+    /// How many texts a frame carries at most, 1 to 1,000; 1 by default.
     pub batch: usize,
-    /// What is put on the wire, if not each frame once.
+    /// What is put on the wire; by default each frame once.
     pub plan: Option<Vec<Emit>>,
-    /// What is opened.
+    /// The frames that are opened.
     pub frames: Vec<Bytes>,
     // Each limit was checked when the job was read.
     pub ghost key_fits: { IsKeyOf etype key } by { IsKeyOf-prop etype key },
@@ -92,7 +92,7 @@ pub struct SenderJob {
 /// A job.
 #[derive(Debug, Drop)]
 pub struct Job {
-    /// How many frames a lane holds, 1 to 64.
+    /// How many items a lane holds, 1 to 64.
     pub capacity: usize,
     /// The senders, 1 to 8 for `relay`, one for the other commands.
     pub senders: Vec<SenderJob>,

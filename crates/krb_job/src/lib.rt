@@ -1,4 +1,4 @@
-//! Job files: what the commands `seal`, `open` and `relay` are told, read from the tree of a TOML
+//! Job files: the input of the commands `seal`, `open` and `relay`, read from the tree of a TOML
 //! document.
 #![tactic(auto)]
 

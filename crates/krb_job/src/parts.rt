@@ -23,7 +23,7 @@ pub(crate) struct Protection {
     ghost first_fits: { first ≤ last_number },
 }
 
-/// Who speaks to whom, and what the receiver demands.
+/// The addresses of both ends, and what the receiver demands.
 #[derive(Drop)]
 pub(crate) struct Parties {
     pub(crate) from: HostAddress,

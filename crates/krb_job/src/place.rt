@@ -30,7 +30,7 @@ pub enum Place {
 }
 
 impl Place {
-    /// The key as it stands in the job, or `unknown key`.
+    /// The key as it is written in the job, or `unknown key`.
     pub fn name(self) -> &'static str
         ensures { result.now ≡ name_of self }
     {
@@ -57,12 +57,12 @@ impl Place {
     }
 }
 
-/// Why a sender is not read.
+/// Why a sender can't be read.
 #[derive(Clone, Copy, Debug, PartialEq, Eq)]
 pub(crate) enum KeyError {
-    /// What stands at the place, or is absent there, is not allowed.
+    /// The key has a value that isn't allowed, or is absent.
     Bad(Place),
-    /// A growth was refused.
+    /// Out of memory.
     Memory,
 }
 

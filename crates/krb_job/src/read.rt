@@ -20,7 +20,7 @@ use toml::{Table, Value};
 ///
 /// An error names the first check that fails: the document, `capacity`, `sender`, a top key that no
 /// job has, and then sender by sender its keys in the order of [`Place`](crate::Place). The size of
-/// the input is not tested here.
+/// the input isn't checked here.
 pub fn read_job(alloc: Global, bytes: &[u8], command: Command) -> Result<Job, JobError>
     ensures document { (ms : Members) → IsTree bytes.now ms
         → GivesJob job_view result (job_of command ms) }

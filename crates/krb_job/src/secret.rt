@@ -1,4 +1,4 @@
-//! Bytes that are overwritten before they are let go.
+//! Bytes that are overwritten before their memory is freed.
 
 ghost use Rattle.std.specs.Prelude.{◌≡◌, ◌++◌, OnOk, OnErr, Some};
 ghost use Rattle.krb_job.specs.Secret.{words};
@@ -9,7 +9,7 @@ use std::{fmt, mem};
 
 /// A key on the heap, or a text that holds keys. Contracts see it as the list of its bytes.
 ///
-/// Its drop overwrites the bytes where they lie, as does a growth with those that it leaves.
+/// The bytes are overwritten when it is dropped, and the old buffer is overwritten when it grows.
 /// `Debug` shows none of them.
 pub struct Secret {
     bytes: Vec<u8>,
@@ -53,7 +53,7 @@ impl Secret {
         self.bytes.as_slice()
     }
 
-    /// Appends bytes. Want of memory, which is the only error, changes nothing.
+    /// Appends bytes. The only error is out of memory, and then nothing is changed.
     pub fn append(&mut self, alloc: Global, more: &[u8]) -> Result<(), AllocError>
         ensures ok { OnOk result (self.new ≡ self.old ++ more.now) }
         ensures err { OnErr result (self.new ≡ self.old) }
@@ -69,7 +69,7 @@ impl Secret {
         self.bytes.extend_from_slice(more)
     }
 
-    /// The bytes as a `Vec`, which is let go as any other.
+    /// The bytes as a `Vec`, which isn't overwritten when it is dropped.
     pub fn into_vec(mut self, alloc: Global) -> Vec<u8>
         ensures { result.items ≡ self }
     {

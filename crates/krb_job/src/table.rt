@@ -38,15 +38,15 @@ fn entry(table: &Table, place: Place) -> Option<&Value>
     get(table, place.name())
 }
 
-/// The value of a key of a sender that has to be there.
+/// The value of a key that a sender must have.
 pub(crate) fn needed(table: &Table, place: Place) -> Result<&Value, KeyError>
     ensures { Gives (λ v. view v.now) result (needed place Some (table_view table.now)) }
 {
     entry(table, place).ok_or(KeyError::Bad(place))
 }
 
-/// The value of a key of some commands alone: it has to be there where it is allowed, and may not
-/// be there where it isn't.
+/// The value of a key of some commands alone: it has to be present if it is allowed, and absent if
+/// it isn't.
 fn if_allowed(table: &Table, place: Place, allowed: bool) -> Result<Option<&Value>, KeyError>
     ensures { Gives (option_map (λ v. view v.now)) result
         (only_if allowed None place (needed place (some Some) (table_view table.now))
@@ -138,7 +138,7 @@ pub(crate) fn texts(
     }
 }
 
-/// How many texts a frame carries at most: 1 where the job does not say it.
+/// How many texts a frame carries at most; by default 1.
 pub(crate) fn batch(table: &Table, place: Place, allowed: bool) -> Result<usize, KeyError>
     ensures value { Gives (λ n. n) result
         (only_if allowed 1 place (optional 1 place (number_of 1 batch_limit) (table_view table.now))

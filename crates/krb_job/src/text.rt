@@ -4,7 +4,7 @@ ghost use Rattle.std.specs.Prelude.{◌≡◌, ◌==◌, option_map};
 ghost use Rattle.std.specs.List.{position};
 ghost use Rattle.krb_job.specs.Text.{split_at};
 
-/// What stands before the first such byte, and what stands behind it.
+/// The text before the first such byte, and the text after it.
 pub(crate) fn split_at(byte: u8, text: &[u8]) -> Option<(&[u8], &[u8])>
     ensures { option_map (λ p. (p.0.now, p.1.now)) result ≡ split_at byte text.now }
 {

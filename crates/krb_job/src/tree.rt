@@ -1,4 +1,4 @@
-//! What stands at the top of a job's document.
+//! The top of a job's document.
 
 ghost use Rattle.std.specs.Prelude.{◌≡◌, nat_le, ◌&&◌, is_some};
 ghost use Rattle.std.specs.List.{list_all};
@@ -17,7 +17,7 @@ use std::alloc::Global;
 use toml::value::Array;
 use toml::{Table, Value};
 
-/// The table of the document that the bytes are.
+/// The table of the document that the bytes spell.
 pub(crate) fn read_tree(alloc: Global, bytes: &[u8]) -> Result<Table, JobError>
     ensures { ReadsTree bytes.now result }
 {
@@ -28,7 +28,7 @@ pub(crate) fn read_tree(alloc: Global, bytes: &[u8]) -> Result<Table, JobError>
     }
 }
 
-/// Lets a document go, and overwrites the texts of its senders, their keys among them.
+/// Drops a document, and first overwrites the texts of its senders, with their keys.
 pub(crate) fn wipe_tree(table: Table) {
     for (_, value) in table {
         if let Value::Array(items) = value {
@@ -53,7 +53,7 @@ fn wipe_texts(table: Table) {
     }
 }
 
-/// How many frames a lane holds: 1 where the job does not say it.
+/// How many items a lane holds; by default 1.
 pub(crate) fn capacity(table: &Table) -> Result<usize, JobError>
     ensures { GivesJob (λ n. n) result (capacity_of (table_view table.now)) }
 {

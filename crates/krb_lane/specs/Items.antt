@@ -33,7 +33,7 @@ abbrev pub IsNumbered : ℕ → List Numbered → Type 0
 IsNumbered k [] = Unit {0}
 IsNumbered k (f ∷ fs) = (f.index ≡ k) × (k < 2 ^ 63) × IsNumbered (suc k) fs
 
--- behind k frames, a frame has index k
+-- after k frames, a frame has index k
 abbrev pub IsNext : ℕ → Item → Type 0
 IsNext k (Frame i b) = (i ≡ k) × (k < 2 ^ 63)
 IsNext k End = Unit {0}

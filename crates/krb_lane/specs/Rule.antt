@@ -20,7 +20,7 @@ uncut = hand true true 0 [] []
 abbrev pub spent : Hand
 spent = hand false false 0 [] []
 
--- what a pass knows once it sent or took an item
+-- what a pass knows after it sent or took an item
 abbrev pub puts : Hand → Item → Hand
 puts v x = record v { sent = v.sent ++ x ∷ [] }
 
@@ -43,7 +43,7 @@ Fits capacity sender receiver sent got pass v =
     × (v.takes ≡ true → (pass ≡ receiver) × (v.capacity ≡ capacity) × (v.got ≡ got))
 
 -- some events of an empty lane leave what was sent, got and is queued, and frame i has index i;
--- a spent pass says nothing
+-- a spent pass knows nothing
 pub record IsLane (queue : List Item) (views : List Hand) : Type 0 where
   pub capacity : ℕ
   pub sender : ℕ

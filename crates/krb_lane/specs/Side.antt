@@ -28,7 +28,7 @@ pub record Side : Type 0 where
 abbrev pub lane_of : Pass Item Hand → LaneId
 lane_of p = record { table = p.table_id; key = p.me.0.of }
 
--- what a receive that answers an item leaves: a frame has the number of frames got before as its
+-- what a receive that gives an item leaves: a frame has the number of frames got before as its
 -- index
 abbrev pub Takes : Side → Side → Item → Type 0
 Takes old new (Frame i b) =

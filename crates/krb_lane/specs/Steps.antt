@@ -1,5 +1,5 @@
--- Each kind of step of a running lane, in any state and whoever runs when, and the event of
--- krb_base's lane that it is.
+-- Each kind of step of a running lane, in any state and any schedule, and the event of krb_base's
+-- lane that it is.
 use Rattle.std.specs.Prelude.{◌≡◌, ◌≢◌, ◌<◌, ◌^◌, ◌++◌, ℕ, true, false, List, [], ◌∷◌, length, set}
 use Rattle.krb_base.specs.Lane.{Lane, Send, Take, empty, after_event}
 use Rattle.krb_lane.specs.Items.{Numbered, item_of, frames_of, has_end}
@@ -37,19 +37,19 @@ pub record KeepsLane : Type 0 where
       → length queue < v.capacity → has_end v.sent ≡ false
       → Leaves (after_event (state_of h) (Send (item_of End)))
       (queue ++ End ∷ []) (set views pass (puts v End))
-  -- a receive takes a frame at the front: Take, and the frame's index is the number of frames got
+  -- a receive takes the first item, a frame: Take, and the frame's index is the number of frames got
   -- before
   pub take_frame :
       (queue : List Item) (views : List Hand) (pass : ℕ) (v : Hand) (i : ℕ) (b : List ℕ)
       (h : IsLane (Frame i b ∷ queue) views) → Knows views pass v → v.takes ≡ true
       → Leaves (after_event (state_of h) Take) queue (set views pass (pulls v (Frame i b)))
       × (i ≡ length (frames_of v.got))
-  -- a receive takes End: Take, and nothing is queued behind
+  -- a receive takes End: Take, and nothing is queued after it
   pub take_end :
       (queue : List Item) (views : List Hand) (pass : ℕ) (v : Hand)
       (h : IsLane (End ∷ queue) views) → Knows views pass v → v.takes ≡ true
       → Leaves (after_event (state_of h) Take) queue (set views pass (pulls v End)) × (queue ≡ [])
-  -- a send is handed back, or a receive finds the other end gone: no event
+  -- a look finds no room or no item, or the other end gone: no event
   pub refused :
       (queue : List Item) (views : List Hand) (pass : ℕ) (v : Hand) (h : IsLane queue views)
       → Knows views pass v → Leaves (state_of h) queue (set views pass v)

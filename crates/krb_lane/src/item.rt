@@ -1,10 +1,10 @@
 use krb_base::Bytes;
 
-/// What goes through a lane.
+/// An item that goes through a lane.
 #[derive(Debug, Drop)]
 pub enum Item {
     /// A frame, and how many frames went before it.
     Frame { index: u64, bytes: Bytes },
-    /// Nothing more comes.
+    /// The end of the lane: nothing follows it.
     End,
 }

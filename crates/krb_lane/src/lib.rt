@@ -1,7 +1,7 @@
 //! One bounded lane: frames from one sender to one receiver, in order, each once.
 //!
-//! [`lane`] makes both ends, which may stand in two threads. Where both came to rest, [`meet`]
-//! brings them together, and then what was got is what was sent.
+//! [`lane`] makes both ends, which may be in two threads. After both have ended, [`meet`] brings them
+//! together: what was got is a prefix of what was sent, and all of it if End was got.
 //!
 //! ```rust crates/krb_relay_tests/src/lane.rt
 //! let (mut tx, mut rx) = lane(&rt, alloc, 2)?;
@@ -20,7 +20,7 @@
 //! assert_same(&rt, (met.sent, met.got), (2, 2));
 //! ```
 //!
-//! Only `send`, `end` and `take` may wait. A call that answers `Err` has changed nothing.
+//! Only `send`, `end` and `take` may wait. A call that returns `Err` has changed nothing.
 #![tactic(auto)]
 
 mod item;

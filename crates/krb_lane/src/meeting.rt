@@ -12,10 +12,10 @@ pub struct Met {
     pub got: u64,
 }
 
-/// Brings both ends of a lane together: what was got begins what was sent, byte for byte, and is
-/// all of it where End was got. Waits for nobody.
+/// Brings both ends of one lane together: what was got is a prefix of what was sent, byte for byte,
+/// and all of it if End was got. It never waits.
 ///
-/// Both ends are of one lane. What was sent and not got is at most what the lane can queue.
+/// What was sent and not got is at most what the lane can queue.
 pub fn meet(sent: SentAll, rx: LaneRx) -> Met
     requires { sent.lane ≡ rx.lane }
     ensures sent { result.sent ≡ length sent.frames }

@@ -20,7 +20,7 @@ use std::marker::Brand;
 /// Why [`lane`] makes no lane.
 #[derive(Clone, Copy, Debug, PartialEq, Eq)]
 pub enum LaneError {
-    /// A growth was refused.
+    /// Out of memory.
     Memory,
 }
 
@@ -70,10 +70,9 @@ fn cut<B: Room>(sender: &Front, pass: &mut Pass<Item, Hand>) -> Pass<Item, Hand>
     sender.another::<Halves<B>>(pass)
 }
 
-/// Makes an empty lane, which queues at most `capacity` items, End counted. Both ends are of one
-/// lane.
+/// Makes both ends of an empty lane, which queues at most `capacity` items, End included.
 ///
-/// The capacity is 1 to 64. Nothing is waited for. Fails only where memory is refused.
+/// The capacity is 1 to 64. The call never waits, and fails only if it runs out of memory.
 pub fn lane<R>(rt: &R, alloc: Global, capacity: usize) -> Result<(LaneTx, LaneRx), LaneError>
     requires { (0 < capacity) × (capacity ≤ capacity_limit) }
     ensures one { IfOk result (λ ends. ends.0 ≡ ends.1) }

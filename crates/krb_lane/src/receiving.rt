@@ -14,7 +14,7 @@ use std::sync::Wait;
 
 pub(crate) type Back = RuledReceiver<Item, Hand, LaneRule, Global>;
 
-/// Why [`LaneRx::take`] gives no item: the sending end is gone, and has sent no End.
+/// Why [`LaneRx::take`] gives no item: the sending end is gone and has sent no End.
 #[derive(Clone, Copy, Debug, PartialEq, Eq)]
 pub struct Lost;
 
@@ -61,7 +61,7 @@ impl Model for LaneRx {
 }
 
 impl LaneRx {
-    /// Takes the item at the front. After End it answers End again.
+    /// Takes the first item of the queue. After End it returns End again.
     ///
     /// It waits if and only if nothing is queued, End wasn't taken and the sending end is there. A
     /// frame's index is the number of frames got before.
@@ -86,14 +86,14 @@ impl LaneRx {
         }
     }
 
-    /// How many frames were got. Waits for nobody.
+    /// How many frames were got. It never waits.
     pub fn count(&self) -> u64
         ensures { result ≡ length self.now.frames }
     {
         self.count
     }
 
-    /// Whether End was got. Waits for nobody.
+    /// Whether End was got. It never waits.
     pub fn ended(&self) -> bool
         ensures { result ≡ self.now.ended }
     {

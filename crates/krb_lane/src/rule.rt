@@ -25,8 +25,8 @@ impl Protocol<Item, Hand> for LaneRule {
     ghost first = { uncut };
 }
 
-/// The law of the atomic steps: each kind of step of a lane leaves a lane, whatever its state and
-/// whoever runs when, and is one event of the lane of `krb_base` or none.
+/// The law of the atomic steps: in any state and any schedule, each kind of step of a lane leaves a
+/// lane, and is one event of the lane of `krb_base` or none.
 ///
 /// The steps are `make`, `cut`, `send_frame`, `send_end`, `take_frame`, `take_end`, `refused` and
 /// `meet`.

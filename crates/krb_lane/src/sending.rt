@@ -91,7 +91,7 @@ impl LaneTx {
         }
     }
 
-    /// Sends nothing more, not even End, for a lane whose [`end`](LaneTx::end) was handed back.
+    /// Sends nothing more, not even End, for an end that [`end`](LaneTx::end) gave back.
     pub fn stop(self) -> SentAll
         ensures same { result ≡ self }
         ensures unended { result.ended ≡ false }
@@ -109,7 +109,7 @@ impl LaneTx {
         }
     }
 
-    /// How many frames were sent. Waits for nobody.
+    /// How many frames were sent. It never waits.
     pub fn count(&self) -> u64
         ensures { result ≡ length self.now.frames }
     {

@@ -6,7 +6,7 @@ use crate::sending::Front;
 use crossbeam_channel::Pass;
 use std::marker::Model;
 
-/// The sending end of a lane once it sends nothing more.
+/// The sending end of a lane after its last item.
 #[derive(Drop)]
 pub struct SentAll {
     pub(crate) sender: Front,
@@ -26,7 +26,7 @@ impl Model for SentAll {
 }
 
 impl SentAll {
-    /// How many frames were sent. Waits for nobody.
+    /// How many frames were sent. It never waits.
     pub fn count(&self) -> u64
         ensures { result ≡ length self.now.frames }
     {
