@@ -1,6 +1,6 @@
-//! Frames of 100 bytes through a lane of capacity 1, 8 and 64 in turn, from a worker to the calling
-//! thread, and a line for each. Each frame is allocated by the worker and freed by the calling
-//! thread.
+//! Frames of 100 bytes through lanes of given capacities in turn, from a worker to the calling
+//! thread, and a line for each lane. The worker allocates each frame and the calling thread frees
+//! it. The calling thread may sleep before each take, to show what a slow receiver costs.
 
 ghost use Rattle.std.specs.Prelude.{◌≡◌, ◌<◌, ◌≤◌, ◌+◌, ◌^◌, [], true, length, IfSome};
 
@@ -10,7 +10,7 @@ use std::alloc::Global;
 use std::snapshot::Snapshot;
 use std::sync::Wait;
 use std::thread::{Promise, Threads};
-use std::time::{Clock, Instant};
+use std::time::{Clock, Duration, Instant};
 use std::{io, thread};
 
 /// How many bytes a frame has.
@@ -51,13 +51,16 @@ fn send_frames(rt: &impl Wait, alloc: Global, tx: LaneTx, frames: u64) -> SentAl
     }
 }
 
-// Takes all frames up to End.
-fn take_frames(rt: &impl Wait, rx: LaneRx) -> Option<LaneRx>
+// Takes all frames up to End, and sleeps for so long before each of them.
+fn take_frames(rt: &(impl Wait + Clock), rx: LaneRx, pause: Duration) -> Option<LaneRx>
     ensures lane { IfSome result (λ taken. taken.lane ≡ rx.lane) }
     ensures ended { IfSome result (λ taken. taken.ended ≡ true) }
 {
     let mut rx = rx;
     for _ in rt.forever() {
+        if !pause.is_zero() {
+            thread::sleep(rt, pause);
+        }
         match rx.take(rt) {
             Ok(Item::Frame { .. }) => {}
             Ok(Item::End) => return Some(rx),
@@ -68,11 +71,12 @@ fn take_frames(rt: &impl Wait, rx: LaneRx) -> Option<LaneRx>
 }
 
 // How many frames came out of a lane of this capacity: all that a worker was to send.
-fn pass_frames<R: Threads + Wait + Sync>(
+fn pass_frames<R: Threads + Wait + Sync + Clock>(
     rt: &R,
     alloc: Global,
     capacity: usize,
     frames: u64,
+    pause: Duration,
 ) -> Option<u64>
     requires capacity { (0 < capacity) × (capacity ≤ 64) }
     requires frames { frames < 2 ^ 60 }
@@ -101,7 +105,7 @@ fn pass_frames<R: Threads + Wait + Sync>(
             let Ok(worker) = scope.spawn_with(promise, work) else {
                 return None;
             };
-            let taken = take_frames(rt, rx);
+            let taken = take_frames(rt, rx, pause);
             let sent = worker.join(rt);
             let met = meet(sent, taken?);
             Some(met.got)
@@ -109,21 +113,27 @@ fn pass_frames<R: Threads + Wait + Sync>(
     )
 }
 
-/// Passes so many frames through a lane of each capacity, prints how fast they went, and says whether
-/// all did.
+/// Passes so many frames through a lane of each of these capacities, where the receiver sleeps for so
+/// long before each take. Prints how fast they went, and says whether all did.
 pub(crate) fn measure(
     rt: &(impl Threads + Wait + Sync + Clock + Print + Alloc<A = Global>),
     frames: u32,
+    capacities: &[usize],
+    pause: Duration,
 ) -> io::Result<bool> {
     let mut whole = true;
-    for capacity in [1, 8, 64] {
+    for capacity in capacities.iter().copied() {
         let start = Instant::now(rt)?;
-        let passed = pass_frames(rt, rt.alloc(), capacity, u64::from(frames));
+        let passed = if 0 < capacity && capacity <= 64 {
+            pass_frames(rt, rt.alloc(), capacity, u64::from(frames), pause)
+        } else {
+            None
+        };
         let micros = start.elapsed(rt)?.as_micros();
         match passed {
             None => {
                 whole = false;
-                println!(rt; "capacity {capacity}: no memory, or no thread")?;
+                println!(rt; "capacity {capacity}: no such lane, no memory, or no thread")?;
             }
             Some(got) => {
                 let speed = rate(u128::from(got), micros);

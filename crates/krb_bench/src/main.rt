@@ -2,7 +2,8 @@
 //!
 //! - `krb_bench aes ROUNDS`: the cipher.
 //! - `krb_bench seal ROUNDS`: sealing and opening of messages.
-//! - `krb_bench lane FRAMES`: a lane between two threads.
+//! - `krb_bench lane FRAMES [CAPACITY MICROSECONDS]`: a lane between two threads, where the receiver
+//!   sleeps for so long before each take.
 //! - `krb_bench relay ROUNDS SENDERS TEXTS BYTES CAPACITY [BATCH ..]`: both relays.
 //! - `krb_bench soak JOBS`: one relay again and again.
 //!
@@ -20,10 +21,11 @@ use std::alloc::Global;
 use std::process::ExitCode;
 use std::sync::Wait;
 use std::thread::Threads;
-use std::time::Clock;
+use std::time::{Clock, Duration};
 use std::{env, io};
 
-const USAGE: &str = "usage: krb_bench aes ROUNDS | seal ROUNDS | lane FRAMES \
+const USAGE: &str = "usage: krb_bench aes ROUNDS | seal ROUNDS \
+    | lane FRAMES [CAPACITY MICROSECONDS] \
     | relay ROUNDS SENDERS TEXTS BYTES CAPACITY [BATCH ..] | soak JOBS";
 
 /// Times what the words ask for, and says whether all ended well; `None` for other words.
@@ -35,7 +37,13 @@ fn measure(
     match (part, numbers) {
         ("aes", [rounds]) => cipher::measure(rt, *rounds).map(Some),
         ("seal", [rounds]) => sealing::measure(rt, *rounds).map(Some),
-        ("lane", [frames]) => lane::measure(rt, *frames).map(Some),
+        ("lane", [frames]) => {
+            lane::measure(rt, *frames, &[1, 8, 64], Duration::ZERO).map(Some)
+        }
+        ("lane", [frames, capacity, micros]) => {
+            let pause = Duration::from_micros(u64::from(*micros));
+            lane::measure(rt, *frames, &[*capacity as usize], pause).map(Some)
+        }
         ("soak", [jobs]) => relays::soak(rt, *jobs).map(Some),
         ("relay", [rounds, senders, texts, bytes, capacity, batches @ ..]) => {
             let size = relays::Size {
