@@ -103,7 +103,7 @@ abbrev pub AllBytes : List (List ℕ) → Type 0
 AllBytes [] = Unit {0}
 AllBytes (frame ∷ frames) = AreBytes frame × AllBytes frames
 
--- ---- the same as a function: `verdict_laws` says that it gives the one such list of frames of bytes
+-- ---- the same as a function: `verdict_laws` says that it gives the one such list
 
 -- what the user data delivers, if it is the bytes of a record
 abbrev pub delivery_in : List ℕ → Option Delivery
