@@ -57,6 +57,7 @@ table { border-collapse: collapse; width: 100%; font-size: 0.9rem; }
 th, td { text-align: left; vertical-align: top; padding: 0.3rem 0.6rem;
   border-bottom: 1px solid var(--line); }
 td:last-child, th:last-child { text-align: right; }
+th:nth-child(3):not(:last-child) { min-width: 8.5rem; }
 @media (max-width: 50rem) { body { display: block; } nav { position: static; height: auto; } }
 """
 

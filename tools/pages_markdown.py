@@ -37,8 +37,12 @@ def line(parts: Iterable[Inline]) -> str:
 
 
 def cited(links: Dict[str, Target]) -> str:
-    """The words of a source text that link."""
-    return ", ".join(f"[`{word}`]({address(target)})" for word, target in links.items())
+    """The places that a source text links to, each once: under its own name, if the text has it."""
+    words: Dict[Target, str] = {}
+    for word, target in links.items():
+        if target not in words or word == target.anchor.split(".")[-1]:
+            words[target] = word
+    return ", ".join(f"[`{word}`]({address(target)})" for target, word in words.items())
 
 
 def fenced(source: Source, indent: str = "") -> Iterator[str]:

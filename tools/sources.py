@@ -543,48 +543,53 @@ def comment_of(lines: List[str]) -> str:
 SECTION = re.compile(r"^-- ----")
 
 
-def antt_module(text: str, crate: str, name: str, file: str) -> Module:
-    scope, definitions, makers = Scope(), [], {}
-    lines = text.split("\n")
-    head: List[str] = []
-    while lines and lines[0].startswith("--"):
-        head.append(lines.pop(0))
+def chunks(text: str) -> List[List[str]]:
+    """The lines between blank lines."""
+    return [it.split("\n") for it in re.split(r"\n(?:[ \t]*\n)+", text.strip("\n"))]
+
+
+def add_definition(module: Module, comment: List[str], text: str, outer: Set[str]) -> None:
+    text = outdented(text)
+    found = DEFINES.match(text)
+    assert found is not None
+    kind, word = found[1] or found[3], found[2] or found[4]
+    module.definitions.append(Definition(Ref(module.crate, module.name, word), kind,
+                                         comment_of(comment), text, module.file,
+                                         words_of(text, kind, word, outer)))
+    if kind == "data":
+        module.makers.update({it: word for it in re.findall(r"^\s+(\w+) :", text, re.M)})
+
+
+def read_chunk(module: Module, lines: List[str], outer: Set[str]) -> Set[str]:
+    """Adds the imports and the definition of a chunk. `outer` has what the enclosing module binds;
+    what binds the next chunk is returned."""
     comment: List[str] = []
-    outer: Set[str] = set()
-    at = 0
-    while at < len(lines):
-        line = lines[at]
-        nested = line.startswith("  ") and bool(outer is not None)
-        match = DEFINES.match(line[2:] if nested else line)
-        if not line.strip() or SECTION.match(line):
+    for at, line in enumerate(lines):
+        if SECTION.match(line):
             comment = []
         elif line.lstrip().startswith("--"):
             comment.append(line)
-        elif line.startswith("use ") or line.startswith("pub use "):
-            take_import(line.split("use ", 1)[1], scope)
+        elif line.startswith(("use ", "pub use ")):
+            take_import(line.split("use ", 1)[1], module.scope)
         elif line.startswith("module _"):
-            header = [line]
-            while not lines[at].rstrip().endswith("where"):
-                at += 1
-                header.append(lines[at])
-            outer = {it for found in BINDERS.finditer("\n".join(header)) for it in found[1].split()}
-        elif match:
-            if not nested:
-                outer = set()
-            end = at + 1
-            while end < len(lines) and lines[end].strip():
-                end += 1
-            body = outdented("\n".join(lines[at:end]))
-            word = match[2] or match[4]
-            ref = Ref(crate, name, word)
-            kind = match[1] or match[3]
-            definitions.append(Definition(ref, kind, comment_of(comment), body, file,
-                                          words_of(body, kind, word, outer)))
-            if kind == "data":
-                makers.update({it: word for it in re.findall(r"^\s+(\w+) :", body, re.M)})
-            comment, at = [], end - 1
-        at += 1
-    return Module(crate, name, file, comment_of(head), definitions, scope, makers)
+            header = "\n".join(lines[at:]).split("where")[0]
+            outer = {word for found in BINDERS.finditer(header) for word in found[1].split()}
+        elif DEFINES.match(line[2:] if line.startswith("  ") else line):
+            outer = outer if line.startswith("  ") else set()
+            add_definition(module, comment, "\n".join(lines[at:]), outer)
+            break
+    return outer
+
+
+def antt_module(text: str, crate: str, name: str, file: str) -> Module:
+    module = Module(crate, name, file, "", [], Scope(), {})
+    first, *others = chunks(text)
+    count = next((at for at, line in enumerate(first) if not line.startswith("--")), len(first))
+    module.comment = comment_of(first[:count])
+    outer: Set[str] = set()
+    for lines in [first[count:], *others]:
+        outer = read_chunk(module, lines, outer)
+    return module
 
 
 # ---- crates

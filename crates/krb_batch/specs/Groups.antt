@@ -27,7 +27,7 @@ AreGroups b texts (group ∷ groups) =
 
 -- ---- the same as a function: the law `group_laws` says that it gives the one such list
 
--- one more text fits into this group
+-- whether one more text fits into this group
 abbrev pub takes : ℕ → List (List ℕ) → List ℕ → Bool
 takes b group text = nat_lt (length group) b && nat_le (texts_size (group ++ text ∷ [])) batch_size_limit
 

@@ -10,7 +10,7 @@ use Rattle.krb_der.specs.Integer.{natural, IsUInt32}
 use Rattle.krb_der.specs.KerberosTime.{time}
 use Rattle.krb_der.specs.Address.{host_address, IsAddress}
 
--- its fields, each under its explicit tag
+-- the fields of a body, each under its explicit tag
 abbrev pub body_fields : Body → List (List ℕ)
 body_fields b =
     tagged (context 0) (octets b.user_data)

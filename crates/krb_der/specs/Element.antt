@@ -3,7 +3,7 @@ use Rattle.std.specs.Prelude.{ℕ, List, [], ◌∷◌, ◌++◌, length, Option
 use Rattle.krb_der.specs.Tag.{octet_string_tag, sequence_tag}
 use Rattle.krb_der.specs.Length.{length_octets}
 
--- what comes before a content of so many octets
+-- the tag and the length, before a content of so many octets
 unfoldable pub header : ℕ → ℕ → List ℕ
 header tag n = tag ∷ length_octets n
 

@@ -14,7 +14,7 @@ width n =
 abbrev pub complement : List ℕ → List ℕ
 complement bytes = map (λ b. 255 - b) bytes
 
--- the octets of -(n + 1) are the complement of those of n
+-- a number in two's complement: the octets of -(n + 1) are the complement of those of n
 unfoldable pub int_octets : ℤ → List ℕ
 int_octets (pos n) = big_endian (width n) n
 int_octets (negsuc n) = complement (big_endian (width n) n)

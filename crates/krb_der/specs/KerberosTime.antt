@@ -4,6 +4,6 @@ use Rattle.krb_time.specs.Time.{kerberos_time}
 use Rattle.krb_der.specs.Tag.{generalized_time_tag}
 use Rattle.krb_der.specs.Element.{tagged}
 
--- the element of a second
+-- the KerberosTime of a second, as an element
 abbrev pub time : ℕ → List ℕ
 time s = tagged generalized_time_tag (kerberos_time s)

@@ -2,7 +2,7 @@
 -- the number.
 use Rattle.std.specs.Prelude.{ℕ, ◌+◌}
 
--- universal tags (X.680 section 8.4)
+-- INTEGER (X.680 section 8.4 has the universal tags)
 abbrev pub integer_tag : ℕ
 integer_tag = 0x02
 
@@ -22,6 +22,6 @@ sequence_tag = 0x30
 abbrev pub context : ℕ → ℕ
 context n = 0xA0 + n
 
--- [APPLICATION n]
+-- the tag [APPLICATION n]
 abbrev pub application : ℕ → ℕ
 application n = 0x60 + n

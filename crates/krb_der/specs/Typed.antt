@@ -12,6 +12,6 @@ typed_fields kind bytes =
     ∷ tagged (context 1) (octets bytes)
     ∷ []
 
--- the sequence of both
+-- a type and bytes, as a SEQUENCE
 unfoldable pub typed_octets : ℤ → List ℕ → List ℕ
 typed_octets kind bytes = sequence (typed_fields kind bytes)

@@ -14,11 +14,12 @@ key_block key =
 unfoldable pub pad : ℕ → List ℕ → List ℕ
 pad byte key = map (λ b. bit_xor b byte) (key_block key)
 
--- H(K XOR opad, H(K XOR ipad, text)), where ipad is the byte 36 and opad the byte 5C, repeated
+-- HMAC: H(K XOR opad, H(K XOR ipad, text)), where ipad is the byte 36 and opad the byte 5C,
+-- repeated
 unfoldable pub hmac : List ℕ → List ℕ → List ℕ
 hmac key text = sha1 (pad 0x5c key ++ sha1 (pad 0x36 key ++ text))
 
--- the first 96 bits (RFC 3962, section 6)
+-- HMAC-SHA1-96: the first 96 bits (RFC 3962, section 6)
 abbrev pub hmac96 : List ℕ → List ℕ → List ℕ
 hmac96 key text = take 12 (hmac key text)
 

@@ -56,11 +56,12 @@ RefusalsDeliverNothing start verdicts events =
 
 -- ---- all of them, of a lane of a log
 
--- the log notes that the lane's End was taken
+-- whether the log notes that the lane's End was taken
 abbrev pub has_ended : ℕ → LogState → Bool
 has_ended lane log = slice_index_or log.ended lane false
 
--- The log has of the lane what the verdicts of this run bring.
+-- the headline: the seven claims, about what the log has of a lane and about the verdicts of its
+-- run
 pub record Headline (log : LogState) (lane : ℕ) (run : Run) : Type 0 where
   pub delivered_prefix :
       IsPaired run.ends → AlteredAreHonest run → DeliversPrefix run.ends.source (events_of lane log.entries)

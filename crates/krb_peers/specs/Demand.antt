@@ -1,7 +1,7 @@
 -- What an order demands.
 use Rattle.std.specs.Prelude.{ℕ, Bool}
 
--- the number that comes next, and whether a close was accepted
+-- the number that is demanded next, and whether a close was accepted
 pub record Demand : Type 0 where
   pub expected : ℕ
   pub closed : Bool

@@ -9,13 +9,13 @@ use Rattle.krb_peers.specs.ReceiverState.{ReceiverState}
 use Rattle.krb_peers.specs.Sender.{Source}
 use Rattle.krb_peers.specs.Sending.{source_of, sent_of}
 
--- its sender, its receiver, and when the receiver takes frames
+-- a lane: its sender, its receiver, and when the receiver takes frames
 pub record Ends : Type 0 where
   pub source : Source
   pub receiver : ReceiverState
   pub nows : List ℕ
 
--- as the code holds them, where `state` says what a sealer is
+-- a lane as the code holds its two ends, where `state` says what contracts see of a sealer
 abbrev pub ends_of : {S : Type 0} → (S → SealerState) → Sending S × Receiving → Ends
 ends_of state pair = record {
   source = source_of state (pair.0);
@@ -23,10 +23,10 @@ ends_of state pair = record {
   nows = (pair.1).nows.items;
 }
 
--- lane by lane: each sender with its receiver
+-- the lanes of senders and receivers: the first sender with the first receiver, and so on
 abbrev pub lanes_of : {S : Type 0} → (S → SealerState) → List (Sending S) → List Receiving → List Ends
 lanes_of state sendings receivings = map (ends_of state) (zip sendings receivings)
 
--- how much each sender seals
+-- how much the sender of each lane seals
 abbrev pub sents_of : List Ends → List Sent
 sents_of lanes = map (λ ends. sent_of ends.source) lanes

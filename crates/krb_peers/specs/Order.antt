@@ -37,7 +37,7 @@ carried_by offer (Err refusal) = []
 abbrev pub first_demand : ℕ → Demand
 first_demand first = record { expected = first; closed = false }
 
--- after these records were accepted
+-- what is demanded after these records were accepted
 abbrev pub demand_after : Demand → List Record → Demand
 demand_after demand accepted = record { expected = demand.expected + length accepted; closed = demand.closed || list_any is_close accepted }
 

@@ -15,21 +15,22 @@ contents vectors = map (λ vector. vector.items) vectors
 abbrev pub frame_at : List (List ℕ) → ℕ → List ℕ
 frame_at frames k = slice_index_or frames k []
 
--- byte `at` changed by exclusive or
+-- a frame with byte `at` changed by exclusive or with a mask
 abbrev pub flipped : List ℕ → ℕ → ℕ → List ℕ
 flipped frame at mask = slice_set frame at (bit_xor (slice_index frame at) mask)
 
--- the frame, and in it the byte, exist, and the mask changes something
+-- raw bytes are good; any other emission is if its frame, and in it its byte, exist, and its mask
+-- changes something
 abbrev pub is_good_emission : List (List ℕ) → Emit → Bool
 is_good_emission frames (Frame k) = nat_lt k (length frames)
 is_good_emission frames (Flip k at mask) = nat_lt k (length frames) && nat_lt at (length (frame_at frames k)) && not (mask == 0)
 is_good_emission frames (Raw bytes) = true
 
--- each emission is good
+-- a plan is good: each of its emissions is
 abbrev pub is_good : List (List ℕ) → List Emit → Bool
 is_good frames plan = list_all (is_good_emission frames) plan
 
--- without a plan, nothing is bad
+-- the plan is good, or there is none
 abbrev pub is_planned : List (List ℕ) → Option (List Emit) → Bool
 is_planned frames None = true
 is_planned frames (Some plan) = is_good frames plan
@@ -40,7 +41,7 @@ emission frames (Frame k) = frame_at frames k
 emission frames (Flip k at mask) = flipped (frame_at frames k) at mask
 emission frames (Raw bytes) = bytes
 
--- what the emissions put on the wire, in order
+-- what a plan puts on the wire, in order
 abbrev pub emissions : List (List ℕ) → List Emit → List (List ℕ)
 emissions frames plan = map (emission frames) plan
 

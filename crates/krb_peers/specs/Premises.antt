@@ -16,7 +16,7 @@ pub record IsPaired (ends : Ends) : Type 0 where
   pub expected : ends.receiver.demand.expected ≡ ends.source.sealer.next
   pub closed : ends.receiver.demand.closed ≡ false
 
--- the emission at a place is none of the sender's own frames
+-- whether an emission is altered: none of the sender's own frames
 abbrev pub is_altered : Emit → Bool
 is_altered (Frame k) = false
 is_altered (Flip k at mask) = true

@@ -2,7 +2,7 @@
 use Rattle.krb_seal.specs.Opens.{OpenerState}
 use Rattle.krb_peers.specs.Demand.{Demand}
 
--- its opener, and what it demands
+-- a receiver: its opener, and what it demands
 pub record ReceiverState : Type 0 where
   pub opener : OpenerState
   pub demand : Demand

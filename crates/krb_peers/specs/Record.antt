@@ -25,7 +25,7 @@ is_close (Text text) = false
 is_close (Batch texts) = false
 is_close Close = true
 
--- a text is not too long, and a batch not too large
+-- a record is within its limits: a text is not too long, and a batch not too large
 abbrev pub FitsLimits : Record → Type 0
 FitsLimits (Text text) = length text ≤ text_limit
 FitsLimits (Batch texts) = IsBatch texts

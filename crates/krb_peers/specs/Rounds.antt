@@ -6,7 +6,7 @@ use Rattle.krb_peers.specs.declared.log.Event.{Event}
 use Rattle.krb_peers.specs.declared.log.Entry.{Entry}
 use Rattle.krb_peers.specs.Log.{entries_for}
 
--- the entries of a lane, if it has a group
+-- the entries of a group of a lane, or none if there is no group
 abbrev pub named : ℕ → Option (List Event) → List Entry
 named lane None = []
 named lane (Some group) = entries_for lane group
@@ -16,7 +16,7 @@ abbrev pub round : ℕ → ℕ → List (List (List Event)) → List Entry
 round place lane [] = []
 round place lane (groups ∷ rest) = named lane (slice_get groups place) ++ round place (lane + 1) rest
 
--- so many rounds
+-- the first n rounds
 abbrev pub rounds_below : ℕ → List (List (List Event)) → List Entry
 rounds_below zero lists = []
 rounds_below (suc n) lists = rounds_below n lists ++ round n 0 lists
@@ -26,7 +26,7 @@ abbrev pub longest : List (List (List Event)) → ℕ
 longest [] = 0
 longest (groups ∷ rest) = max (length groups) (longest rest)
 
--- all rounds of the groups of each lane
+-- all rounds of the groups of the lanes
 abbrev pub rounds : List (List (List Event)) → List Entry
 rounds lists = rounds_below (longest lists) lists
 

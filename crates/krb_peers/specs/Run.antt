@@ -11,8 +11,8 @@ pub record Run : Type 0 where
   pub took : List (List ℕ)
   pub verdicts : List Verdict
 
--- so many records were sealed, so many frames of the wire that these make were taken, and these are
--- the verdicts on them
+-- for some count, so many records were sealed, the frames taken are a prefix of the wire that these
+-- make, and the verdicts are those on them
 pub record IsRun (run : Run) : Type 0 where
   pub count : ℕ
   pub frames : List (List ℕ)
@@ -21,12 +21,12 @@ pub record IsRun (run : Run) : Type 0 where
   pub taken : run.took ≡ take n (wire frames run.ends.source.plan)
   pub judged : AreJudged run.ends.receiver run.ends.nows run.took run.verdicts
 
--- one for each lane
+-- the runs are those of these lanes, one for each
 abbrev pub AreRuns : List Ends → List Run → Type 0
 AreRuns [] [] = Unit {0}
 AreRuns (ends ∷ lanes) (run ∷ runs) = (run.ends ≡ ends) × IsRun run × AreRuns lanes runs
 AreRuns lanes runs = ⊥
 
--- it holds of each lane and its run
+-- the claim holds of each lane and its run
 abbrev pub OfRuns : List Run → (ℕ → Run → Type 0) → Type 0
 OfRuns runs Claim = (lane : ℕ) (run : Run) → slice_get runs lane ≡ Some run → Claim lane run

@@ -22,16 +22,16 @@ pub record Source : Type 0 where
   pub draws : ChaCha
   pub plan : Option (List Emit)
 
--- no text is too long, and not too many go together
+-- a sender's limits: no text is too long, and not too many go together
 pub record IsWithinLimits (source : Source) : Type 0 where
   pub texts : All (λ text. length text ≤ text_limit) source.texts
   pub batch : source.batch ≤ batch_limit
 
--- the timestamp of a place: the last one serves all later places
+-- the timestamp of a place in a list of timestamps: the last one serves all later places
 abbrev pub moment_at : List ℕ → ℕ → ℕ
 moment_at moments place = slice_index moments (min place (length moments - 1))
 
--- the groups of its texts
+-- the groups of a sender's texts
 abbrev pub text_groups : Source → List (List (List ℕ))
 text_groups source = groups source.batch source.texts
 
@@ -39,7 +39,7 @@ text_groups source = groups source.batch source.texts
 abbrev pub texts_of_groups : List (List (List ℕ)) → List (List ℕ)
 texts_of_groups groups = flat_map (λ group. group) groups
 
--- so many groups of n are sealed, from this number on: the last number is kept for the close
+-- how many of n groups are sealed, from this number on: the last number is kept for the close
 abbrev pub sealed_count : ℕ → ℕ → ℕ
 sealed_count next n = min n (last_number - next)
 
@@ -59,7 +59,7 @@ group_behind passed source = slice_index_or (groups source.batch (drop passed so
 abbrev pub texts_before : ℕ → Source → ℕ
 texts_before k source = length (texts_of_groups (take k (text_groups source)))
 
--- a group of one text is a text, and a larger one a batch
+-- the record of a group: a group of one text is a text, and a larger one a batch
 abbrev pub record_for : List (List ℕ) → Record
 record_for [] = Batch []
 record_for (text ∷ []) = Text text
@@ -71,7 +71,7 @@ abbrev pub record_at : ℕ → List (List ℕ) → Record
 record_at number [] = Close
 record_at number (text ∷ texts) = if nat_lt number last_number then record_for (text ∷ texts) else Close
 
--- the records: those of the groups that are sealed, then the close
+-- the records of these groups, and then the close
 abbrev pub records_for : List (List (List ℕ)) → List Record
 records_for groups = map record_for groups ++ Close ∷ []
 
@@ -79,14 +79,14 @@ records_for groups = map record_for groups ++ Close ∷ []
 abbrev pub records : Source → List Record
 records source = records_for (sealed_groups source)
 
--- the frame is that of record k: sealed at the k-th number from the sealer's next one on, at its
--- timestamp, under confounder k
+-- the frame is that of record k: sealed at the k-th number from the sealer's next one on, at the
+-- k-th timestamp, under confounder k
 abbrev pub IsFrame : Source → ℕ → Record → List ℕ → Type 0
 IsFrame source k carried frame =
     let s = source.sealer in
     Seals s.etype s.key s.session (s.next + k) (bytes_of carried) (moment_at source.ats k) (confounder_at source.draws k) frame
 
--- one frame for each of the first records
+-- the frames are those of the first records, one for each
 pub record AreFrames (source : Source) (carried : List Record) (frames : List (List ℕ)) : Type 0 where
   pub one_each : length frames ≡ length carried
   pub each :

@@ -8,7 +8,7 @@ use Rattle.krb_peers.specs.declared.sending.Ending.TheVariants.{Done, LastNumber
 use Rattle.krb_peers.specs.Draws.{after_words}
 use Rattle.krb_peers.specs.Sender.{Source, IsWithinLimits, sealed_texts, records, AreFrames}
 
--- what it is, where `state` says what its sealer is
+-- the sender that a `Sending` is, where `state` says what contracts see of its sealer
 abbrev pub source_of : {S : Type 0} → (S → SealerState) → Sending S → Source
 source_of state sending = record {
   sealer = state sending.sealer;
@@ -19,11 +19,11 @@ source_of state sending = record {
   plan = option_map (λ plan. plan.items) sending.plan;
 }
 
--- how many texts are sealed
+-- how many texts of a sender are sealed
 abbrev pub sealed_of : Source → ℕ
 sealed_of source = length (sealed_texts source)
 
--- how much that is
+-- how many texts of how many a sender seals, and why no more
 abbrev pub sent_of : Source → Sent
 sent_of source = record {
   k = sealed_of source;

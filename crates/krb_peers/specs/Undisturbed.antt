@@ -9,7 +9,7 @@ use Rattle.krb_peers.specs.Plan.{wire}
 use Rattle.krb_peers.specs.Sender.{Source, IsWithinLimits, moment_at, records, AreFrames}
 use Rattle.krb_peers.specs.Premises.{IsPaired}
 
--- each of so many frames once: 0, 1, ..
+-- the plan that emits each of so many frames once: 0, 1, ..
 abbrev pub in_order : ℕ → List Emit
 in_order zero = []
 in_order (suc n) = in_order n ++ Frame n ∷ []
@@ -28,7 +28,7 @@ pub record Undisturbed (ends : Ends) : Type 0 where
       → Agree ends.source.sealer.session ends.receiver.opener.expect (moment_at ends.source.ats k) (moment_at ends.nows k)
   pub plan : IsInOrder ends.source.plan (length (records ends.source))
 
--- all that the wire carries was taken, of the frames of all records
+-- all frames of the wire were taken, after all records were sealed
 pub record TakesAll (source : Source) (took : List (List ℕ)) : Type 0 where
   pub frames : List (List ℕ)
   pub sealed : AreFrames source (records source) frames

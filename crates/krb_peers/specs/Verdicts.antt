@@ -22,32 +22,31 @@ use Rattle.krb_peers.specs.Record.{SpellsRecord}
 use Rattle.krb_peers.specs.Log.{texts_in}
 use Rattle.krb_peers.specs.Sender.{moment_at}
 
--- a delivery, or the refusal of the first check that the frame fails
+-- a verdict: a delivery, or the refusal of the first check that the frame fails
 abbrev pub Verdict : Type 0
 Verdict = Result Delivery Refusal
 
 -- ---- what verdicts accept and deliver
 
--- the record that a delivery is of
+-- the record that a delivery came from
 abbrev pub record_of : Delivery → Record
 record_of (Text text) = records.Text text
 record_of (Batch texts) = records.Batch texts
 record_of Closed = records.Close
 
--- the records that a verdict accepts, and the events that it brings to a log: one for each text of
--- a batch
+-- the record that a verdict accepts, if any
 abbrev pub accepted_by : Verdict → List Record
 accepted_by (Ok delivery) = record_of delivery ∷ []
 accepted_by (Err refusal) = []
 
--- the events of one verdict
+-- the events that a verdict brings to a log: one for each text of a batch
 abbrev pub events_by : Verdict → List Event
 events_by (Ok (Text text)) = events.Text text ∷ []
 events_by (Ok (Batch texts)) = map events.Text texts
 events_by (Ok Closed) = events.Closed ∷ []
 events_by (Err refusal) = events.Refused refusal ∷ []
 
--- the same of verdicts, in order
+-- the records that verdicts accept, in order
 abbrev pub records_of : List Verdict → List Record
 records_of verdicts = flat_map accepted_by verdicts
 
@@ -59,7 +58,7 @@ events_from verdicts = flat_map events_by verdicts
 abbrev pub groups_of : List Verdict → List (List Event)
 groups_of verdicts = map events_by verdicts
 
--- the texts that are delivered
+-- the texts that verdicts deliver, in order
 abbrev pub delivered : List Verdict → List (List ℕ)
 delivered verdicts = texts_in (events_from verdicts)
 
@@ -77,7 +76,7 @@ Fails opener demand now frame refusal =
     ⊎ ((demand.closed ≡ false) × (Opens opener demand.expected now frame (Err refusal)
     ⊎ ((user : List ℕ) × Opens opener demand.expected now frame (Ok user) × IsNoRecord user × (refusal ≡ refusals.BadRecord))))
 
--- the frame passes them all, and carries this
+-- the frame passes all checks, and carries this delivery
 abbrev pub Carries : OpenerState → Demand → ℕ → List ℕ → Delivery → Type 0
 Carries opener demand now frame delivery =
     (demand.closed ≡ false) × ((user : List ℕ) × Opens opener demand.expected now frame (Ok user) × SpellsRecord (record_of delivery) user)
@@ -104,7 +103,7 @@ abbrev pub AllBytes : List (List ℕ) → Type 0
 AllBytes [] = Unit {0}
 AllBytes (frame ∷ frames) = AreBytes frame × AllBytes frames
 
--- ---- the same as a function: `verdict_laws` says that it gives the one such list of frames of bytes
+-- ---- the same as a function: `verdict_laws` says that it gives the one such list
 
 -- what the user data delivers, if it is the bytes of a record
 abbrev pub delivery_in : List ℕ → Option Delivery

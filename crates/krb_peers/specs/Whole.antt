@@ -34,13 +34,13 @@ pub record IsRelayed (lanes : List Ends) (log : LogState) : Type 0 where
 
 -- ---- of lanes that ran to their ends
 
--- the sealer was not wiped, and all that the wire carries was taken
+-- one lane that ran to its end: its sealer was not wiped, and all that its wire carries was taken
 pub record IsWholeRun (run : Run) : Type 0 where
   pub live : run.ends.source.sealer.wiped ≡ false
   pub emits : IsWire run.ends.source run.took
 
--- this holds of every lane, every lane has ended, and this is reported of how much each sender
--- sealed
+-- every lane ran to its end: the log is a relayed one, all that each wire carries was taken, each
+-- lane is noted as ended, and the report says how much each sender seals
 pub record IsWhole (lanes : List Ends) (log : LogState) (sents : List Sent) : Type 0 where
   pub relayed : IsRelayed lanes log
   pub whole : OfRuns (relayed.runs) (λ lane run. IsWholeRun run)

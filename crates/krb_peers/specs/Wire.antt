@@ -4,7 +4,7 @@ use Rattle.krb_peers.specs.Plan.{is_planned, wire}
 use Rattle.krb_peers.specs.Sender.{Source, IsWithinLimits, records, AreFrames}
 use Rattle.krb_peers.specs.Verdicts.{AllBytes}
 
--- what the plan makes of the frames of all records, and these are bytes
+-- these are what the plan makes of the frames of all records, and they are bytes
 pub record IsWire (source : Source) (emitted : List (List ℕ)) : Type 0 where
   pub frames : List (List ℕ)
   pub sealed : AreFrames source (records source) frames
@@ -13,7 +13,7 @@ pub record IsWire (source : Source) (emitted : List (List ℕ)) : Type 0 where
   pub bytes : AllBytes emitted
   pub fits : IsWithinLimits source
 
--- the plan is bad for those frames
+-- the plan is bad for the frames of all records
 pub record IsBad (source : Source) : Type 0 where
   pub frames : List (List ℕ)
   pub sealed : AreFrames source (records source) frames

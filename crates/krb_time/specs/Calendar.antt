@@ -15,10 +15,10 @@ last_begun f day (suc n) = if nat_le (f (suc n)) day then suc n else last_begun 
 unfoldable pub year_of : ℕ → ℕ
 year_of day = 1970 + last_begun (λ k. day_number (1970 + k) 1 1) day (9999 - 1970)
 
--- its month: the last one of the year that has begun
+-- the month of a day: the last one of the year that has begun
 unfoldable pub month_of : ℕ → ℕ
 month_of day = 1 + last_begun (λ k. day_number (year_of day) (1 + k) 1) day (12 - 1)
 
--- its day of the month, from 1
+-- the day of the month of a day, from 1
 unfoldable pub day_of : ℕ → ℕ
 day_of day = day + 1 - day_number (year_of day) (month_of day) 1

@@ -30,7 +30,7 @@ two_digits n = digit (n / 10) ∷ digit n ∷ []
 abbrev pub four_digits : ℕ → List ℕ
 four_digits n = digit (n / 1000) ∷ digit (n / 100) ∷ two_digits n
 
--- YYYYMMDDHHMMSSZ
+-- the text YYYYMMDDHHMMSSZ of a date and a time of day
 abbrev pub time_text : ℕ → ℕ → ℕ → ℕ → ℕ → ℕ → List ℕ
 time_text year month day hour minute second =
     four_digits year ++ (two_digits month ++ (two_digits day
@@ -46,7 +46,7 @@ kerberos_time s =
 abbrev pub IsKerberosTime : ℕ → List ℕ → Type 0
 IsKerberosTime s text = (s ≤ last_second) × (text ≡ kerberos_time s)
 
--- the second has such a text
+-- the second is one that has a text: its year is at most 9999
 abbrev pub IsSecond : ℕ → Type 0
 IsSecond s = s ≤ last_second
 
