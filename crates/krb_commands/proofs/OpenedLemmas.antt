@@ -1,8 +1,12 @@
 -- What a log of one lane holds of the frames that its receiver took.
-use Rattle.std.proofs.Common.{◌≡◌, ℕ, ◌+◌, ◌<◌, ◌≤◌, Bool, true, false, List, [], ◌∷◌, ◌++◌, length, map, take, get_or, Option, Result, refl, sym, ap, subst, ◌∙◌, arith, append-nil, length-take-le, inl, inr}
+use Rattle.std.proofs.Common.{◌≡◌, ℕ, ◌+◌, ◌<◌, ◌≤◌, Bool, true, false, List, [], ◌∷◌, ◌++◌, length, map, take, get_or, Option, Result, refl, sym, ap, subst, ◌∙◌, arith, append-nil, length-take-le, inl, inr, Ok, Err, ◌⊎◌}
 use Rattle.std.specs.Io.KnownBytes.{Appends}
 use Rattle.std.proofs.KnownBytes.{Appends-trans}
 use Rattle.std.specs.List.{concat}
+use Rattle.std.specs.Result.{IsErrAnd}
+use Rattle.krb_commands.specs.declared.fault.Fault.{Fault}
+use Rattle.krb_commands.specs.declared.fault.Fault.TheVariants as fault
+use Rattle.krb_commands.specs.Fault.{IsOfPrinting}
 use Rattle.std.proofs.lemmas.List.{take_more, take_all, map-append, length-map}
 use Rattle.krb_peers.specs.declared.log.Entry.{Entry}
 use Rattle.krb_peers.specs.declared.log.Event.{Event}
@@ -17,10 +21,10 @@ use Rattle.krb_peers.specs.Verdicts.{Verdict, AreJudged, events_by, events_from}
 use Rattle.krb_peers.specs.Logged.{HasLogged, LogsNext}
 use Rattle.krb_peers.proofs.LoggedLemmas.{events_of-own, events_of-push, logged_none, logged_shut}
 use Rattle.krb_commands.specs.JobLines.{entry_line, state_line, state_by, is_closed_state, status_by}
-use Rattle.krb_commands.specs.Output.{AppendsPrefix}
+use Rattle.krb_commands.specs.Output.{AppendsPrefix, AppendsPart}
 use Rattle.krb_commands.specs.Opened.{opened_lines, opened_text, PrintsFirst, PrintsOpened, PrintsOpenedPrefix, HoldsFrames, LogsFrames}
 use Rattle.std.specs.Result.{is_err}
-use Rattle.krb_commands.proofs.OutputLemmas.{AppendsPrefix-after}
+use Rattle.krb_commands.proofs.OutputLemmas.{AppendsPrefix-after, prefix_by_part}
 use Rattle.krb_commands.proofs.ShowLemmas.{of_ok}
 
 abbrev log_of : List Event → LogState
@@ -98,6 +102,28 @@ module _ {A E : Type 0} (start : ReceiverState) (nows : List ℕ) (frames : List
   first_printed lines many p =
       let P : List ℕ → Type 0 = λ l. Appends old now l in
       (h.0, h.1.verdicts, h.1.opened, many ∙ count_is, subst P (lines_are h.1.verdicts log h.1.entries) p)
+
+  -- by the fault of their printing
+  abbrev pub HasFault : Fault → Type 0
+  HasFault told =
+      ((told ≡ fault.Stopped (length log.entries)) × Appends old now (concat (map entry_line log.entries)))
+      ⊎ (IsOfPrinting told × AppendsPart old now (concat (map entry_line log.entries)))
+
+  pub prefix_by_fault : (told : Fault) → HasFault told → PrintsOpenedPrefix start nows frames old now
+  prefix_by_fault told (inl p) = entries_alone p.1
+  prefix_by_fault told (inr p) = prefix_of_entries (prefix_by_part old now (concat (map entry_line log.entries)) p.1)
+
+  stopped_by : (told : Fault) (lines : ℕ) → told ≡ fault.Stopped lines → HasFault told → PrintsFirst start nows frames lines old now
+  stopped_by told lines is (inl p) =
+      let e : fault.Stopped lines ≡ fault.Stopped (length log.entries) = sym is ∙ p.0 in
+      first_printed lines (let f = e in cc) p.1
+  stopped_by told lines is (inr p) = absurd (subst IsOfPrinting is p.0)
+
+  pub first_by_fault : {X : Type 0} (out : Result X Fault) (told : Fault) (lines : ℕ) → IsErrAnd out (λ x. x ≡ told) → out ≡ Err (fault.Stopped lines) → HasFault told → PrintsFirst start nows frames lines old now
+  first_by_fault (Ok x) told lines same named h = absurd same
+  first_by_fault (Err x) told lines same named h =
+      let s = same in let n = named in
+      stopped_by told lines (cc) h
 
   module _ (ok : h.0 ≡ length frames) where
     all_opened : AreJudged start nows frames h.1.verdicts

@@ -1,9 +1,13 @@
 //! The command `open`.
 
-ghost use Rattle.std.specs.Prelude.{◌≡◌, ◌<◌, ℕ, length, IfOk, IfErr, OnErr};
+ghost use Rattle.std.specs.Prelude.{◌≡◌, ◌<◌, ◌⊎◌, ℕ, false, length, IfOk, IfErr, OnOk, OnErr};
+ghost use Rattle.std.specs.Result.{is_err};
+ghost use Rattle.std.specs.Io.KnownBytes.{Appends};
 ghost use Rattle.krb_peers.specs.Log.{new_log};
-ghost use Rattle.krb_commands.specs.Fault.{IsOfOpening};
+ghost use Rattle.krb_commands.specs.Fault.{IsOfOpening, IsOfPrinting};
+ghost use Rattle.krb_commands.specs.JobLines.{entry_lines};
 ghost use Rattle.krb_commands.specs.Opened.{LogsFrames, PrintsFirst, PrintsOpened, PrintsOpenedPrefix};
+ghost use Rattle.krb_commands.specs.Output.{AppendsPart};
 
 use crate::fault::Fault;
 use crate::job_lines::{StateLine, is_closed, print_log, status_of_lanes};
@@ -37,14 +41,35 @@ pub fn open_job<W: Write>(
 {
     let mut log = Log::new(alloc, 1);
     let outcome = take_all(alloc, receiving, frames, &mut log);
-    let lines = print_log(alloc, &log, writer)?;
-    if outcome.is_err() {
-        return Err(Fault::Stopped { lines });
-    }
+    print_taken(alloc, &log, outcome, writer)?;
     log.end(0);
     let status = log.status(0);
     print_line(alloc, &StateLine { lane: 0, status }, writer)?;
     Ok(status_of_lanes(is_closed(status)))
+}
+
+/// Prints the outcome of all frames that were taken, and answers the fault where not all of them
+/// could be.
+fn print_taken<W: Write>(
+    alloc: Global,
+    log: &Log,
+    outcome: Result<(), AllocError>,
+    writer: &mut W,
+) -> Result<(), Fault>
+    ensures all { OnOk result (is_err outcome ≡ false) }
+    ensures printed { OnOk result (Appends (W.contents writer.old) (W.contents writer.new)
+        (entry_lines log.now.entries)) }
+    ensures fault { IfErr result (λ fault.
+        ((fault ≡ Fault.Stopped (length log.now.entries)) × Appends
+        (W.contents writer.old) (W.contents writer.new) (entry_lines log.now.entries))
+        ⊎ (IsOfPrinting fault × AppendsPart
+        (W.contents writer.old) (W.contents writer.new) (entry_lines log.now.entries))) }
+{
+    let lines = print_log(alloc, log, writer)?;
+    match outcome {
+        Ok(()) => Ok(()),
+        Err(_) => Err(Fault::Stopped { lines }),
+    }
 }
 
 /// Gives each frame to the receiver at the moment of its place, and what became of it to a new log.
