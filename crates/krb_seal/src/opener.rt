@@ -119,6 +119,7 @@ impl Opener {
     /// checksum.
     pub fn authenticate(&self, alloc: Global, frame: &[u8]) -> Result<Body, Refusal>
         ensures answer { AuthenticOrMemory (Authenticates self.now frame.now) result }
+        ensures range { IfOk result InRange }
         // A frame over the limit is refused before any memory is taken.
         ensures memory { result ≡ Err Refusal.Memory → length frame.now ≤ frame_limit }
     {
@@ -204,7 +205,8 @@ impl Opener {
     fn authentic_safe(&self, alloc: Global, m: SafeMsg) -> Result<Body, Refusal>
         requires range { InRange m.body }
         requires short { length (safe m) ≤ frame_limit }
-        ensures { AuthenticOrMemory (AuthenticMessage self.now (messages.Safe m)) result }
+        ensures answer { AuthenticOrMemory (AuthenticMessage self.now (messages.Safe m)) result }
+        ensures range { IfOk result InRange }
     {
         self.check_authentic(alloc, &m)?;
         let SafeMsg { body, .. } = m;
