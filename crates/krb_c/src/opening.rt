@@ -144,13 +144,13 @@ fn open_into(
     }
     match open_body(alloc, opener, frame, demand, now) {
         Ok(body) => {
-            let user_data = body.user_data.as_slice();
-            if out.len() < user_data.len() {
+            let bytes = body.user_data.as_slice();
+            if out.len() < bytes.len() {
                 return Err(Fault::Room);
             }
-            put_front(out, user_data);
+            put_front(out, bytes);
             *told = carried(&body);
-            Ok(user_data.len())
+            Ok(bytes.len())
         }
         Err(refusal) => Err(Fault::Refused(refusal)),
     }

@@ -6,20 +6,20 @@ use Rattle.krb_c.specs.Demand.{OpensWith}
 use Rattle.krb_c.proofs.DemandLemmas.{with_body, with_refusal}
 use Rattle.krb_c.proofs.opening.open_into.Goals as goal
 
-pub returns-then-out-user_data-clause-why : goal.returns-then-out-user_data-clause-why
-returns-then-out-user_data-clause-why c =
+pub returns-then-out-bytes-clause-why : goal.returns-then-out-bytes-clause-why
+returns-then-out-bytes-clause-why c =
     let now_is = c.micros-now.ensures.value ∙ c.in_ok-moment.ensures.value in
     let b = c.in-Ok.body in
     let long : length c.args.out.now < length b.user_data = search rules in
     (b, with_body c.args.opener.now c.args.demand.now c.micros-now.result _ c.args.frame.now b now_is c.in-Ok.ensures.answer, long)
 
-pub returns-else-out-user_data-clause-opened : goal.returns-else-out-user_data-clause-opened
-returns-else-out-user_data-clause-opened c =
+pub returns-else-out-bytes-clause-opened : goal.returns-else-out-bytes-clause-opened
+returns-else-out-bytes-clause-opened c =
     let now_is = c.micros-now.ensures.value ∙ c.in_ok-moment.ensures.value in
     let b = c.in-Ok.body in
-    let n = length c.as_slice-user_data.result.now in
+    let n = length c.as_slice-bytes.result.now in
     let user : take n c.put_front.new.out ≡ b.user_data =
-    ap (take n) c.put_front.ensures ∙ take-append_seam c.as_slice-user_data.result.now (drop n c.args.out.now) ∙ c.as_slice-user_data.ensures in
+    ap (take n) c.put_front.ensures ∙ take-append_seam c.as_slice-bytes.result.now (drop n c.args.out.now) ∙ c.as_slice-bytes.ensures in
     (b, with_body c.args.opener.now c.args.demand.now c.micros-now.result _ c.args.frame.now b now_is c.in-Ok.ensures.answer, user, c.carried.ensures)
 
 pub returns-in-Err-clause-refused : goal.returns-in-Err-clause-refused
