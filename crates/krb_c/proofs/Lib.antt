@@ -5,3 +5,5 @@ mod Pairs
 mod Codes
 mod RoomLemmas
 mod Crossing
+mod AnswerLemmas
+mod DemandLemmas

@@ -18,11 +18,11 @@ use Rattle.krb_seal.specs.Seals.{SealsBody, body_of, sealed_safe, sealed_priv, u
 use Rattle.krb_der.specs.Safe.{safe_input}
 use Rattle.krb_c.specs.Room.{FitsFrames, frame_room}
 
-told_small : (r : Option HostAddress) → ForSome r IsShortAddress → optional_size r ≤ 32
+told_small : (r : Option HostAddress) → ForSome r IsShortAddress → optional_size r ≤ 40
 told_small None h = omega arith
 told_small (Some a) h = h a refl
 
-carried_small : (s : Session) (q at : ℕ) (user : List ℕ) → HasShortAddresses s → carried (body_of s q user at) ≤ length user + 64
+carried_small : (s : Session) (q at : ℕ) (user : List ℕ) → HasShortAddresses s → carried (body_of s q user at) ≤ length user + 80
 carried_small s q at user h = omega (arith, h.sender, told_small s.r_addr h.receiver)
 
 length-encrypted : (key text : List ℕ) → 16 ≤ length text → length (encrypted key text) ≡ length text + 12
@@ -31,12 +31,12 @@ length-encrypted key text long =
 
 -- by the mode, from what the message carries
 body_fits : SmallPart → SmallSafe → SmallPrivate → (mode : Mode) (etype : ℤ) (key conf : List ℕ) (b : Body) (frame : List ℕ) (n : ℕ)
-    → carried b ≤ n + 64 → SealsBody mode etype key conf b frame → length frame ≤ n + 400
+    → carried b ≤ n + 80 → SealsBody mode etype key conf b frame → length frame ≤ n + 416
 body_fits parts safes privates Safe etype key conf b frame n small h =
-    subst (λ (z : List ℕ). length z ≤ n + 400) (sym h.spelt.spelt)
+    subst (λ (z : List ℕ). length z ≤ n + 416) (sym h.spelt.spelt)
     (omega (arith, safes (sealed_safe etype key b), length-hmac96 (checksum_key key) (safe_input (unsigned etype b))))
 body_fits parts safes privates Priv etype key conf b frame n small h =
-    subst (λ (z : List ℕ). length z ≤ n + 400) (sym h.spelt.spelt)
+    subst (λ (z : List ℕ). length z ≤ n + 416) (sym h.spelt.spelt)
     (omega (arith, privates (sealed_priv etype key conf b), parts b, h.confounder, length-append conf (part b), length-encrypted key (conf ++ part b) (omega (arith, h.confounder, length-append conf (part b)))))
 
 pub fits_frames : SmallPart → SmallSafe → SmallPrivate → (n : ℕ) → FitsFrames n (frame_room n)

@@ -1,7 +1,14 @@
 -- What the exports answer.
-use Rattle.std.specs.Prelude.{ℕ, ◌≡◌, List, Option, Some, None}
-use Rattle.krb_seal.specs.Sealer.{SealerState, SealsNext, advanced, wiped_state}
+use Rattle.std.specs.Prelude.{ℕ, ◌≡◌, List, Option, Some, None, Ok}
+use Rattle.krb_seal.specs.Sealer.{SealerState, SealsNext, advanced, in_mode, wiped_state}
+use Rattle.krb_der.specs.declared.body.Body.{Body}
+use Rattle.krb_seal.specs.declared.session.Mode.{Mode}
 use Rattle.krb_seal.specs.Opens.{OpenerState, Outcome, Opens}
+use Rattle.krb_seal.specs.Authentic.{Authenticity}
+use Rattle.krb_c.specs.declared.demand.KrbDemand.{KrbDemand}
+use Rattle.krb_c.specs.declared.carried.KrbCarried.{KrbCarried}
+use Rattle.krb_c.specs.Demand.{OpensWith}
+use Rattle.krb_c.specs.Carried.{carried_of}
 
 -- the handle holds a sealer, and the bytes are the frame of this data at its next number
 abbrev pub SealsTo : Option SealerState → List ℕ → ℕ → List ℕ → List ℕ → Type 0
@@ -12,6 +19,11 @@ SealsTo (Some s) user at conf frame = SealsNext s user at conf frame
 abbrev pub advanced_if : Option SealerState → Option SealerState
 advanced_if None = None
 advanced_if (Some s) = Some (advanced s)
+
+-- a handle with a sealer that goes on in this mode
+abbrev pub in_mode_if : Option SealerState → Mode → Option SealerState
+in_mode_if None mode = None
+in_mode_if (Some s) mode = Some (in_mode s mode)
 
 -- a handle with a sealer whose keys are overwritten
 abbrev pub wiped_if : Option SealerState → Option SealerState
@@ -38,3 +50,19 @@ abbrev pub OpensTo : HeldOpener → ℕ → ℕ → List ℕ → Outcome → Typ
 OpensTo None number now frame outcome = ⊥
 OpensTo (Some None) number now frame outcome = ⊥
 OpensTo (Some (Some o)) number now frame outcome = Opens o number now frame outcome
+
+-- opening with demands gives a body with this user data, and what else it carried is told
+abbrev pub Gives : OpenerState → KrbDemand → ℕ → List ℕ → List ℕ → KrbCarried → Type 0
+Gives o d now frame user told =
+    (b : Body) × OpensWith o d now frame (Ok b) × (user ≡ b.user_data) × (told ≡ carried_of b)
+
+-- the same of a handle that holds a live opener
+abbrev pub GivesTo : HeldOpener → KrbDemand → ℕ → List ℕ → List ℕ → KrbCarried → Type 0
+GivesTo None d now frame user told = ⊥
+GivesTo (Some None) d now frame user told = ⊥
+GivesTo (Some (Some o)) d now frame user told = Gives o d now frame user told
+
+abbrev pub OpensWithTo : HeldOpener → KrbDemand → ℕ → List ℕ → Authenticity → Type 0
+OpensWithTo None d now frame outcome = ⊥
+OpensWithTo (Some None) d now frame outcome = ⊥
+OpensWithTo (Some (Some o)) d now frame outcome = OpensWith o d now frame outcome

@@ -22,6 +22,7 @@ header_of_safe m = record {
   number = unwrap_or m.body.seq 0;
   has_key_version = 0;
   key_version = 0;
+  reserved = 0;
 }
 
 -- KRB-PRIV tells its encryption type, and the version of its key
@@ -34,6 +35,7 @@ header_of_priv m = record {
   number = 0;
   has_key_version = is_told m.kvno;
   key_version = unwrap_or m.kvno 0;
+  reserved = 0;
 }
 
 abbrev pub header_of : Message → KrbHeader

@@ -1,9 +1,12 @@
+pub mod Answers
 pub mod AnySealer
+pub mod Carried
+pub mod Demand
 pub mod Exports
 pub mod Fault
 pub mod Header
 pub mod Held
-pub mod Names
+pub mod Moment
 pub mod Reasons
 pub mod Room
 pub mod Session

@@ -1,76 +1,122 @@
 -- When each fault comes: only where its reason holds.
-use Rattle.std.specs.Prelude.{◌≡◌, ℕ, ◌<◌, ◌≤◌, List, length, Option, Some, None, Ok, Err, true}
+use Rattle.std.specs.Prelude.{◌≡◌, ◌⊎◌, ℕ, ℤ, ◌<◌, ◌≤◌, List, length, Option, Some, None, Ok, Err, true}
 use Rattle.krb_base.specs.Limits.{frame_limit, user_data_limit}
+use Rattle.krb_der.specs.declared.body.Body.{Body}
 use Rattle.krb_der.specs.declared.message.Message.{Message}
 use Rattle.krb_der.specs.Message.{Spells}
 use Rattle.krb_der.specs.Time.{last_second}
-use Rattle.krb_der.specs.Moment.{last_usec, moment_of}
-use Rattle.krb_seal.specs.declared.seal_error.SealError.TheVariants as errors
+use Rattle.krb_der.specs.Moment.{last_usec}
 use Rattle.krb_seal.specs.declared.refusal.Refusal.TheVariants as refusals
-use Rattle.krb_seal.specs.declared.refusal.Refusal.{Refusal}
-use Rattle.krb_seal.specs.Refusal.{code_of, name_of}
 use Rattle.krb_seal.specs.Sealer.{SealerState, end_of_numbers}
 use Rattle.krb_seal.specs.Opens.{OpenerState, Opens}
+use Rattle.krb_c.specs.declared.moment.KrbMoment.{KrbMoment}
+use Rattle.krb_c.specs.declared.demand.KrbDemand.{KrbDemand}
 use Rattle.krb_c.specs.Room.{frame_room}
+use Rattle.krb_c.specs.Moment.{micros_of}
+use Rattle.krb_c.specs.Session.{IsEtype, IsKey, IsMode, address_room}
+use Rattle.krb_c.specs.Demand.{IsDemand, OpensWith}
+use Rattle.krb_c.specs.Fault.{fault_code}
+use Rattle.krb_c.specs.Answers.{IsTextOf}
 use Rattle.krb_c.specs.declared.fault.Fault.{Fault}
-use Rattle.krb_c.specs.declared.fault.Fault.TheVariants.{Sealing, Refused, Argument, Room, Empty}
+use Rattle.krb_c.specs.declared.fault.Fault.TheVariants.{Wiped, TooLong, Exhausted, Refused, Etype, Room, Empty, KeySize, Mode, Moment, Address, Argument, Record}
 
--- the seconds and microseconds are no moment of the years 1970 to 9999
-abbrev pub IsNoMoment : ℕ → ℕ → Type 0
-IsNoMoment secs usec = (secs ≤ last_second) × (usec ≤ last_usec) → ⊥
+-- it is no moment of the years 1970 to 9999
+abbrev pub IsNoMoment : KrbMoment → Type 0
+IsNoMoment m = (m.secs ≤ last_second) × (m.usec ≤ last_usec) → ⊥
 
 -- Why sealing fails. The sizes of the user data and of the buffer are n and room.
-abbrev pub SealReason : SealerState → ℕ → ℕ → ℕ → ℕ → Fault → Type 0
-SealReason s n secs usec room (Sealing errors.Wiped) = s.wiped ≡ true
-SealReason s n secs usec room (Sealing errors.TooLong) = user_data_limit < n
-SealReason s n secs usec room (Sealing errors.Exhausted) = s.next ≡ end_of_numbers
-SealReason s n secs usec room (Sealing errors.Memory) = Unit {0}
-SealReason s n secs usec room (Refused r) = ⊥
-SealReason s n secs usec room Argument = IsNoMoment secs usec
-SealReason s n secs usec room Room = room < frame_room n
-SealReason s n secs usec room Empty = ⊥
+abbrev pub SealReason : SealerState → ℕ → KrbMoment → ℕ → Fault → Type 0
+SealReason s n at room Wiped = s.wiped ≡ true
+SealReason s n at room TooLong = user_data_limit < n
+SealReason s n at room Exhausted = s.next ≡ end_of_numbers
+SealReason s n at room (Refused r) = r ≡ refusals.Memory
+SealReason s n at room Moment = IsNoMoment at
+SealReason s n at room Room = room < frame_room n
+SealReason s n at room Etype = ⊥
+SealReason s n at room Empty = ⊥
+SealReason s n at room KeySize = ⊥
+SealReason s n at room Mode = ⊥
+SealReason s n at room Address = ⊥
+SealReason s n at room Argument = ⊥
+SealReason s n at room Record = ⊥
 
 -- the handle holds nothing, or a sealer that fails
-abbrev pub SealFault : Option SealerState → ℕ → ℕ → ℕ → ℕ → Fault → Type 0
-SealFault None n secs usec room f = f ≡ Empty
-SealFault (Some s) n secs usec room f = SealReason s n secs usec room f
+abbrev pub SealFault : Option SealerState → ℕ → KrbMoment → ℕ → Fault → Type 0
+SealFault None n at room f = f ≡ Empty
+SealFault (Some s) n at room f = SealReason s n at room f
 
 -- why opening fails
-abbrev pub OpenReason : OpenerState → ℕ → ℕ → ℕ → List ℕ → ℕ → Fault → Type 0
-OpenReason o number secs usec frame room (Sealing e) = ⊥
-OpenReason o number secs usec frame room (Refused r) = (r ≡ refusals.Memory → ⊥) → Opens o number (moment_of secs usec) frame (Err r)
-OpenReason o number secs usec frame room Argument = IsNoMoment secs usec
-OpenReason o number secs usec frame room Room = (user : List ℕ) × Opens o number (moment_of secs usec) frame (Ok user) × (room < length user)
-OpenReason o number secs usec frame room Empty = ⊥
+abbrev pub OpenReason : OpenerState → ℕ → KrbMoment → List ℕ → ℕ → Fault → Type 0
+OpenReason o number at frame room (Refused r) = (r ≡ refusals.Memory → ⊥) → Opens o number (micros_of at) frame (Err r)
+OpenReason o number at frame room Moment = IsNoMoment at
+OpenReason o number at frame room Room = (user : List ℕ) × Opens o number (micros_of at) frame (Ok user) × (room < length user)
+OpenReason o number at frame room Wiped = ⊥
+OpenReason o number at frame room TooLong = ⊥
+OpenReason o number at frame room Exhausted = ⊥
+OpenReason o number at frame room Etype = ⊥
+OpenReason o number at frame room Empty = ⊥
+OpenReason o number at frame room KeySize = ⊥
+OpenReason o number at frame room Mode = ⊥
+OpenReason o number at frame room Address = ⊥
+OpenReason o number at frame room Argument = ⊥
+OpenReason o number at frame room Record = ⊥
 
 -- the handle holds nothing, or an opener that was wiped, or one that fails
-abbrev pub OpenFault : Option (Option OpenerState) → ℕ → ℕ → ℕ → List ℕ → ℕ → Fault → Type 0
-OpenFault None number secs usec frame room f = f ≡ Empty
-OpenFault (Some None) number secs usec frame room f = f ≡ Sealing errors.Wiped
-OpenFault (Some (Some o)) number secs usec frame room f = OpenReason o number secs usec frame room f
+abbrev pub OpenFault : Option (Option OpenerState) → ℕ → KrbMoment → List ℕ → ℕ → Fault → Type 0
+OpenFault None number at frame room f = f ≡ Empty
+OpenFault (Some None) number at frame room f = f ≡ Wiped
+OpenFault (Some (Some o)) number at frame room f = OpenReason o number at frame room f
 
--- why no sealer or opener is made: Fits says that the arguments are in their ranges
-abbrev pub NewReason : Type 0 → Fault → Type 0
-NewReason Fits (Sealing e) = ⊥
-NewReason Fits (Refused r) = r ≡ refusals.Memory
-NewReason Fits Argument = Fits → ⊥
-NewReason Fits Room = ⊥
-NewReason Fits Empty = ⊥
+-- why opening with demands of a caller's fails
+abbrev pub DemandReason : OpenerState → KrbDemand → KrbMoment → List ℕ → ℕ → Fault → Type 0
+DemandReason o d at frame room (Refused r) = (r ≡ refusals.Memory → ⊥) → OpensWith o d (micros_of at) frame (Err r)
+DemandReason o d at frame room Moment = IsNoMoment at
+DemandReason o d at frame room Argument = IsDemand d → ⊥
+DemandReason o d at frame room Room = (b : Body) × OpensWith o d (micros_of at) frame (Ok b) × (room < length b.user_data)
+DemandReason o d at frame room Wiped = ⊥
+DemandReason o d at frame room TooLong = ⊥
+DemandReason o d at frame room Exhausted = ⊥
+DemandReason o d at frame room Etype = ⊥
+DemandReason o d at frame room Empty = ⊥
+DemandReason o d at frame room KeySize = ⊥
+DemandReason o d at frame room Mode = ⊥
+DemandReason o d at frame room Address = ⊥
+DemandReason o d at frame room Record = ⊥
+
+abbrev pub DemandFault : Option (Option OpenerState) → KrbDemand → KrbMoment → List ℕ → ℕ → Fault → Type 0
+DemandFault None d at frame room f = f ≡ Empty
+DemandFault (Some None) d at frame room f = f ≡ Wiped
+DemandFault (Some (Some o)) d at frame room f = DemandReason o d at frame room f
+
+-- why no address is made: it has more bytes than there is room for
+abbrev pub AddressReason : ℕ → Fault → Type 0
+AddressReason n f = ((f ≡ Address) × (address_room < n)) ⊎ (f ≡ Refused refusals.Memory)
+
+-- why no session is made: its mode, or an address
+abbrev pub SessionReason : ℕ → ℕ → ℕ → Fault → Type 0
+SessionReason mode s r f =
+    ((f ≡ Mode) × (IsMode mode → ⊥)) ⊎ (((f ≡ Address) × ((address_room < s) ⊎ (address_room < r))) ⊎ (f ≡ Refused refusals.Memory))
+
+-- Why no sealer, opener or receiver is made: its encryption type, the size n of its key, its mode or
+-- an address.
+abbrev pub NewReason : ℤ → ℕ → ℕ → ℕ → ℕ → Fault → Type 0
+NewReason etype n mode s r f =
+    ((f ≡ Etype) × (IsEtype etype → ⊥)) ⊎ (((f ≡ KeySize) × (IsKey etype n → ⊥)) ⊎ SessionReason mode s r f)
+
+-- why a sealer's mode isn't changed
+abbrev pub ModeFault : Option SealerState → ℕ → Fault → Type 0
+ModeFault None mode f = f ≡ Empty
+ModeFault (Some s) mode f = (f ≡ Mode) × (IsMode mode → ⊥)
 
 -- why no header is read
 abbrev pub HeaderReason : List ℕ → Fault → Type 0
-HeaderReason frame (Sealing e) = ⊥
-HeaderReason frame (Refused refusals.FieldTooLong) = frame_limit < length frame
-HeaderReason frame (Refused refusals.Malformed) = (length frame ≤ frame_limit) × ((m : Message) → Spells m frame → ⊥)
-HeaderReason frame (Refused r) = r ≡ refusals.Memory
-HeaderReason frame Argument = ⊥
-HeaderReason frame Room = ⊥
-HeaderReason frame Empty = ⊥
+HeaderReason frame f =
+    ((f ≡ Refused refusals.FieldTooLong) × (frame_limit < length frame))
+    ⊎ (((f ≡ Refused refusals.Malformed) × (length frame ≤ frame_limit) × ((m : Message) → Spells m frame → ⊥))
+    ⊎ (f ≡ Refused refusals.Memory))
 
--- why no name is written: no refusal has the number, or its name and a zero need more room
-abbrev pub NameReason : ℕ → ℕ → Fault → Type 0
-NameReason code room (Sealing e) = ⊥
-NameReason code room (Refused r) = ⊥
-NameReason code room Argument = (r : Refusal) → code ≡ code_of r → ⊥
-NameReason code room Room = (r : Refusal) × (code ≡ code_of r) × (room ≤ length (name_of r))
-NameReason code room Empty = ⊥
+-- why no name or text is written: no answer has the number, or it and a zero need more room
+abbrev pub TextReason : (Fault → List ℕ) → List ℕ → ℕ → ℕ → Fault → Type 0
+TextReason text ok code room f =
+    ((f ≡ Argument) × ((a : Fault) → code ≡ fault_code a → ⊥))
+    ⊎ ((f ≡ Room) × ((bytes : List ℕ) × IsTextOf text ok code bytes × (room ≤ length bytes)))

@@ -6,7 +6,7 @@ use Rattle.krb_seal.specs.Sealer.{SealerState, SealsNext}
 
 -- the bytes of a sealed frame around its user data, at most
 abbrev pub frame_overhead : ℕ
-frame_overhead = 400
+frame_overhead = 416
 
 -- the room for a frame with n bytes of user data
 abbrev pub frame_room : ℕ → ℕ

@@ -5,11 +5,11 @@ ghost use Rattle.krb_base.specs.Limits.{user_data_limit};
 ghost use Rattle.krb_seal.specs.Session.{HasShortAddresses};
 ghost use Rattle.krb_c.specs.Room.{frame_room};
 ghost use Rattle.krb_c.specs.Session.{IsKey};
-ghost use Rattle.krb_seal.specs.Sealer.{SealsNext, advanced, end_of_numbers, new_state, wiped_state};
+ghost use Rattle.krb_seal.specs.Sealer.{SealsNext, advanced, end_of_numbers, in_mode, new_state, wiped_state};
 
 use crate::room::frame_size;
 use krb_der::Moment;
-use krb_seal::{Aes128Sealer, Aes256Sealer, SealError, Sealer, Session};
+use krb_seal::{Aes128Sealer, Aes256Sealer, Mode, SealError, Sealer, Session};
 use std::alloc::Global;
 use std::marker::Model;
 
@@ -22,7 +22,7 @@ pub enum SealerKind {
     Wide(Aes256Sealer),
 }
 
-/// A sealer of either encryption type, whose session's addresses have at most 32 bytes each.
+/// A sealer of either encryption type, whose session's addresses have at most 40 bytes each.
 #[derive(Drop)]
 pub struct AnySealer {
     kind: SealerKind,
@@ -106,6 +106,16 @@ impl AnySealer {
         match &mut self.kind {
             SealerKind::Narrow(sealer) => sealer.seal(alloc, bytes, at, confounder),
             SealerKind::Wide(sealer) => sealer.seal(alloc, bytes, at, confounder),
+        }
+    }
+
+    /// Seals in this mode from now on.
+    pub fn set_mode(&mut self, mode: Mode)
+        ensures { self.new ≡ in_mode self.old mode }
+    {
+        match &mut self.kind {
+            SealerKind::Narrow(sealer) => sealer.set_mode(mode),
+            SealerKind::Wide(sealer) => sealer.set_mode(mode),
         }
     }
 

@@ -27,6 +27,8 @@ pub struct KrbHeader {
     pub has_key_version: u32,
     /// The version of the key of KRB-PRIV; KRB-SAFE tells none.
     pub key_version: u32,
+    /// Zero.
+    pub reserved: u32,
 }
 
 fn safe_header(m: &SafeMsg) -> KrbHeader
@@ -40,6 +42,7 @@ fn safe_header(m: &SafeMsg) -> KrbHeader
         number: m.body.seq.unwrap_or(0),
         has_key_version: 0,
         key_version: 0,
+        reserved: 0,
     }
 }
 
@@ -54,6 +57,7 @@ fn priv_header(m: &PrivMsg) -> KrbHeader
         number: 0,
         has_key_version: u32::from(m.kvno.is_some()),
         key_version: m.kvno.unwrap_or(0),
+        reserved: 0,
     }
 }
 

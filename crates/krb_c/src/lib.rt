@@ -6,16 +6,21 @@
 //! answers comes only where the reason of that answer holds.
 #![tactic(auto)]
 
+mod answers;
 mod any_sealer;
 mod buffer;
-mod exports;
+mod carried;
+mod demand;
 mod fault;
 mod header;
-mod names;
+mod message_calls;
+mod moment;
+mod opener_calls;
 mod opener_handle;
 mod opening;
 mod parts;
 mod room;
+mod sealer_calls;
 mod sealer_handle;
 mod sealing;
 mod session;

@@ -8,7 +8,7 @@ use krb_der::size_laws;
 
 /// How many bytes a sealed frame has around its user data, at most: tags, lengths, numbers, the
 /// addresses of a session, and the checksum, or the confounder and the code.
-const FRAME_OVERHEAD: usize = 400;
+const FRAME_OVERHEAD: usize = 416;
 
 /// A size in which each frame of that many bytes of user data fits.
 pub fn frame_size(len: usize) -> usize

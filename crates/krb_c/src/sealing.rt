@@ -1,17 +1,17 @@
 //! Sealers made and used, in Rattle's types.
 
 ghost use Rattle.std.specs.Prelude.{◌≡◌, ◌≤◌, ◌++◌, drop, length, take, IfErr, IfOk, OnOk, OnErr};
-ghost use Rattle.krb_der.specs.Moment.{moment_of};
-ghost use Rattle.krb_seal.specs.Sealer.{SealsNext, advanced, new_state};
+ghost use Rattle.krb_seal.specs.Sealer.{SealsNext, advanced, in_mode, new_state};
+ghost use Rattle.krb_c.specs.Moment.{micros_of};
 ghost use Rattle.krb_c.specs.Reasons.{NewReason, SealReason};
-ghost use Rattle.krb_c.specs.Session.{IsKey, IsSession, session_of};
+ghost use Rattle.krb_c.specs.Session.{IsMode, mode_of, session_of};
 
 use crate::any_sealer::AnySealer;
 use crate::buffer::put_front;
 use crate::fault::Fault;
+use crate::moment::KrbMoment;
 use crate::room::frame_size;
-use crate::session::{KrbSession, session};
-use krb_der::Moment;
+use crate::session::{KrbSession, key_fault, mode, session};
 use krb_seal::Refusal;
 use std::alloc::Global;
 
@@ -24,9 +24,11 @@ pub fn new_sealer(
 ) -> Result<Box<AnySealer>, Fault>
     ensures made { IfOk result (λ b.
         b.value ≡ new_state etype key.now (session_of told.now)) }
-    ensures why { IfErr result (NewReason (IsKey etype (length key.now) × IsSession told.now)) }
+    ensures why { IfErr result (NewReason etype (length key.now) told.now.mode
+        told.now.s_addr.len told.now.r_addr.len) }
 {
-    let sealer = AnySealer::new(etype, key, session(alloc, told)?).ok_or(Fault::Argument)?;
+    let session = session(alloc, told)?;
+    let sealer = AnySealer::new(etype, key, session).ok_or(key_fault(etype))?;
     Box::new(alloc, sealer).map_err(|_| Fault::Refused(Refusal::Memory))
 }
 
@@ -36,25 +38,35 @@ pub fn seal_into(
     alloc: Global,
     sealer: &mut AnySealer,
     user: &[u8],
-    secs: u64,
-    usec: u32,
+    at: &KrbMoment,
     confounder: &[u8; 16],
     out: &mut [u8],
 ) -> Result<usize, Fault>
     ensures sealed { IfOk result (λ size.
-        SealsNext sealer.old user.now (moment_of secs usec) confounder.now (take size out.new)) }
+        SealsNext sealer.old user.now (micros_of at.now) confounder.now (take size out.new)) }
     ensures size { IfOk result (λ size. size ≤ length out.new) }
     ensures behind { IfOk result (λ size. drop size out.new ≡ drop size out.old) }
     ensures advanced { OnOk result (sealer.new ≡ advanced sealer.old) }
     ensures unchanged { OnErr result (sealer.new ≡ sealer.old) }
     ensures kept { OnErr result (out.new ≡ out.old) }
-    ensures why { IfErr result (SealReason sealer.old (length user.now) secs usec (length out.old)) }
+    ensures why { IfErr result (SealReason sealer.old (length user.now) at.now (length out.old)) }
 {
     if out.len() < frame_size(user.len()) {
         return Err(Fault::Room);
     }
-    let at = Moment::new(secs, usec).ok_or(Fault::Argument)?;
+    let at = at.moment()?;
     let frame = sealer.seal(alloc, user, at, *confounder)?;
     put_front(out, &frame);
     Ok(frame.len())
+}
+
+/// Seals in the mode with this number from now on.
+pub fn set_mode(sealer: &mut AnySealer, number: u32) -> Result<(), Fault>
+    ensures set { OnOk result (sealer.new ≡ in_mode sealer.old (mode_of number)) }
+    ensures unchanged { OnErr result (sealer.new ≡ sealer.old) }
+    ensures none { OnErr result (¬ IsMode number) }
+    ensures err { OnErr result (result ≡ Err Fault.Mode) }
+{
+    sealer.set_mode(mode(number)?);
+    Ok(())
 }

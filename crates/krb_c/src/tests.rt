@@ -1,13 +1,22 @@
 //! The exports, against frames of an independent sealer as `tools/frames.py` prints them. Programs
 //! in C (`tools/c_library`) try each answer, and each allocation refused.
 
-use crate::exports::{
-    krb_frame_size, krb_message_header, krb_opener_free, krb_opener_new, krb_opener_unseal,
-    krb_opener_wipe, krb_refusal_name, krb_sealer_free, krb_sealer_new, krb_sealer_next,
-    krb_sealer_seal, krb_sealer_wipe,
-};
+use crate::carried::KrbCarried;
+use crate::demand::KrbDemand;
 use crate::header::KrbHeader;
+use crate::message_calls::{
+    krbrelay_answer_name, krbrelay_answer_text, krbrelay_message_header, krbrelay_version,
+};
+use crate::moment::KrbMoment;
+use crate::opener_calls::{
+    krbrelay_opener_free, krbrelay_opener_new, krbrelay_opener_open, krbrelay_opener_unseal,
+    krbrelay_opener_unseal_in_place, krbrelay_opener_wipe,
+};
 use crate::opener_handle::KrbOpener;
+use crate::sealer_calls::{
+    krbrelay_frame_size, krbrelay_sealer_free, krbrelay_sealer_new, krbrelay_sealer_next,
+    krbrelay_sealer_seal, krbrelay_sealer_set_mode, krbrelay_sealer_wipe,
+};
 use crate::sealer_handle::KrbSealer;
 use crate::session::{KrbAddress, KrbExpect, KrbSession};
 use std::alloc::Global;
@@ -44,8 +53,14 @@ const PRIV_18: [u8; 112] = [
     0x01, 0x50, 0x42, 0x60, 0xad, 0xf1, 0x8d, 0xc9, 0xce, 0x67, 0xb8, 0x5c, 0x38, 0xa9, 0x2d, 0x99,
 ];
 
+const AT: KrbMoment = KrbMoment {
+    secs: SECS,
+    usec: 5,
+    reserved: 0,
+};
+
 fn host(last: u8) -> KrbAddress {
-    let mut bytes = [0u8; 32];
+    let mut bytes = [0u8; 40];
     bytes[0] = 10;
     bytes[3] = last;
     KrbAddress {
@@ -62,6 +77,7 @@ fn session(mode: u32) -> KrbSession {
         s_addr: host(1),
         has_r: 0,
         r_addr: host(255),
+        reserved: [0; 5],
     }
 }
 
@@ -73,6 +89,37 @@ fn expect(mode: u32) -> KrbExpect {
         require_r: 0,
         expect_time: 1,
         skew: 300,
+        reserved: [0; 4],
+    }
+}
+
+/// Demands of a number, and of nothing else.
+fn number_demand(number: u32, expected: u64) -> KrbDemand {
+    KrbDemand {
+        sender: 0,
+        receiver: 0,
+        time: 0,
+        number,
+        expected,
+        skew: 0,
+        s_addr: host(9),
+        r_addr: host(9),
+        reserved: [0; 5],
+    }
+}
+
+fn nothing_carried() -> KrbCarried {
+    KrbCarried {
+        secs: 0,
+        usec: 0,
+        has_secs: 0,
+        has_usec: 0,
+        has_number: 0,
+        number: 0,
+        has_r: 0,
+        s_addr: host(0),
+        r_addr: host(0),
+        reserved: [0; 6],
     }
 }
 
@@ -81,46 +128,30 @@ fn crosses<T: Send>(value: T) -> T {
     value
 }
 
-/// What a new sealer seals first, and the answers of its calls: making it, telling its number, and
-/// sealing. Then it is wiped, ended, and let go: handles aren't `Drop`.
+/// What a new sealer seals first, and the answers of its calls: making it, setting its mode, telling
+/// its number, and sealing. Then it is wiped, ended, and let go: handles aren't `Drop`.
 fn first_frame(
     alloc: Global,
     etype: i32,
     key: &[u8],
     mode: u32,
-) -> Result<([u32; 5], u64, Vec<u8>), Fail> {
-    let mut frame = Vec::from_elem(alloc, 0u8, krb_frame_size(3))?;
+) -> Result<([u32; 6], u64, Vec<u8>), Fail> {
+    let mut frame = Vec::from_elem(alloc, 0u8, krbrelay_frame_size(3))?;
     let (mut size, mut next, mut rest) = (0usize, 0u64, [0u8; 500]);
     let mut sealer = crosses(KrbSealer::none());
-    let made = krb_sealer_new(alloc, &mut sealer, etype, key, &session(mode));
-    let sealed = krb_sealer_seal(
-        alloc,
-        &mut sealer,
-        b"Dhi",
-        SECS,
-        5,
-        &[0; 16],
-        &mut frame,
-        &mut size,
-    );
-    let told = krb_sealer_next(alloc, &mut sealer, &mut next);
-    krb_sealer_wipe(alloc, &mut sealer);
-    let (at, nothing) = (SECS, &[0; 16]);
-    let wiped = krb_sealer_seal(
-        alloc,
-        &mut sealer,
-        b"Dhi",
-        at,
-        5,
-        nothing,
-        &mut rest,
-        &mut size,
-    );
-    krb_sealer_free(alloc, &mut sealer);
-    let empty = krb_sealer_next(alloc, &mut sealer, &mut next);
+    let s = &mut sealer;
+    let other = if mode == 20 { 21 } else { 20 };
+    let made = krbrelay_sealer_new(alloc, s, etype, key, &session(other));
+    let set = krbrelay_sealer_set_mode(alloc, s, mode);
+    let sealed = krbrelay_sealer_seal(alloc, s, b"Dhi", &AT, &[0; 16], &mut frame, &mut size);
+    let told = krbrelay_sealer_next(alloc, s, &mut next);
+    krbrelay_sealer_wipe(alloc, s);
+    let wiped = krbrelay_sealer_seal(alloc, s, b"Dhi", &AT, &[0; 16], &mut rest, &mut size);
+    krbrelay_sealer_free(alloc, s);
+    let empty = krbrelay_sealer_next(alloc, s, &mut next);
     let _ = sealer.into_box(alloc);
     frame.truncate(size);
-    Ok(([made, sealed, told, wiped, empty], next, frame))
+    Ok(([made, set, sealed, told, wiped, empty], next, frame))
 }
 
 #[test]
@@ -130,7 +161,7 @@ fn frames_are_those_of_another_sealer(rt: HostRuntime) -> Result<(), Fail> {
         (18, &KEY_256, 21, &PRIV_18),
     ] {
         let (answers, next, frame) = first_frame(rt.alloc(), etype, key, mode)?;
-        assert_eq!(rt; answers, [0, 0, 0, 1, 907]);
+        assert_eq!(rt; answers, [0, 0, 0, 0, 1, 907]);
         assert_eq!(rt; next, 8);
         assert_eq!(rt; frame.as_slice(), expected);
     }
@@ -150,13 +181,13 @@ fn opened(
     let (mut rest, mut none) = ([0u8; 4], 0usize);
     let mut opener = crosses(KrbOpener::none());
     let o = &mut opener;
-    let made = krb_opener_new(alloc, o, etype, key, &expect(mode));
-    let right = krb_opener_unseal(alloc, o, frame, 7, SECS, 5, &mut text, &mut size);
-    let later = krb_opener_unseal(alloc, o, frame, 8, SECS, 5, &mut rest, &mut none);
-    krb_opener_wipe(alloc, o);
-    let wiped = krb_opener_unseal(alloc, o, frame, 7, SECS, 5, &mut rest, &mut none);
-    krb_opener_free(alloc, o);
-    let empty = krb_opener_unseal(alloc, o, frame, 7, SECS, 5, &mut rest, &mut none);
+    let made = krbrelay_opener_new(alloc, o, etype, key, &expect(mode));
+    let right = krbrelay_opener_unseal(alloc, o, frame, 7, &AT, &mut text, &mut size);
+    let later = krbrelay_opener_unseal(alloc, o, frame, 8, &AT, &mut rest, &mut none);
+    krbrelay_opener_wipe(alloc, o);
+    let wiped = krbrelay_opener_unseal(alloc, o, frame, 7, &AT, &mut rest, &mut none);
+    krbrelay_opener_free(alloc, o);
+    let empty = krbrelay_opener_unseal(alloc, o, frame, 7, &AT, &mut rest, &mut none);
     let _ = opener.into_box(alloc);
     ([made, right, later, wiped, empty], size, text)
 }
@@ -174,6 +205,35 @@ fn frames_of_another_sealer_open(rt: HostRuntime) {
 }
 
 #[test]
+fn a_frame_opens_in_place_and_without_demands(rt: HostRuntime) {
+    let alloc = rt.alloc();
+    let (mut frame, mut size, mut text) = (PRIV_18, 0usize, [0u8; 4]);
+    let (mut told, mut opener) = (nothing_carried(), KrbOpener::none());
+    let o = &mut opener;
+    assert_eq!(rt; krbrelay_opener_new(alloc, o, 18, &KEY_256, &expect(21)), 0);
+    let any = number_demand(0, 0);
+    let answer = krbrelay_opener_open(alloc, o, &frame, &any, &AT, &mut text, &mut size, &mut told);
+    assert_eq!(rt; (answer, size, &text), (0, 3, b"Dhi\0"));
+    assert_eq!(rt;
+        (told.secs, told.usec, told.number, told.has_r),
+        (SECS, 5, 7, 0)
+    );
+    assert_eq!(rt;
+        (told.s_addr.len, told.s_addr.bytes[0], told.s_addr.bytes[3]),
+        (4, 10, 1)
+    );
+    let eight = number_demand(2, 8);
+    let late = krbrelay_opener_open(
+        alloc, o, &frame, &eight, &AT, &mut text, &mut size, &mut told,
+    );
+    assert_eq!(rt; late, 42);
+    let answer = krbrelay_opener_unseal_in_place(alloc, o, &mut frame, 7, &AT, &mut size);
+    assert_eq!(rt; (answer, size, &frame[..4]), (0, 3, b"Dhi\x6c".as_slice()));
+    krbrelay_opener_free(alloc, o);
+    let _ = opener.into_box(alloc);
+}
+
+#[test]
 fn a_header_is_read_with_no_key(rt: HostRuntime) {
     let mut told = KrbHeader {
         kind: 0,
@@ -183,21 +243,27 @@ fn a_header_is_read_with_no_key(rt: HostRuntime) {
         number: 0,
         has_key_version: 0,
         key_version: 0,
+        reserved: 0,
     };
-    assert_eq!(rt; krb_message_header(rt.alloc(), &SAFE_17, &mut told), 0);
+    let alloc = rt.alloc();
+    assert_eq!(rt; krbrelay_message_header(alloc, &SAFE_17, &mut told), 0);
     assert_eq!(rt; (told.kind, told.checksum_type, told.number), (20, 15, 7));
-    assert_eq!(rt; krb_message_header(rt.alloc(), &PRIV_18, &mut told), 0);
+    assert_eq!(rt; krbrelay_message_header(alloc, &PRIV_18, &mut told), 0);
     assert_eq!(rt; (told.kind, told.etype, told.has_number), (21, 18, 0));
     assert_eq!(rt;
-        krb_message_header(rt.alloc(), &PRIV_18[1..], &mut told),
+        krbrelay_message_header(alloc, &PRIV_18[1..], &mut told),
         901
     );
 }
 
 #[test]
-fn a_refusal_has_its_name(rt: HostRuntime) {
+fn an_answer_has_a_name_and_a_text(rt: HostRuntime) {
     let (mut name, mut size) = ([0xee_u8; 10], 0usize);
-    assert_eq!(rt; krb_refusal_name(42, &mut name, &mut size), 0);
+    assert_eq!(rt; krbrelay_answer_name(42, &mut name, &mut size), 0);
     assert_eq!(rt; (size, &name), (8, b"BADORDER\0\xee"));
-    assert_eq!(rt; krb_refusal_name(905, &mut name, &mut size), 905);
+    assert_eq!(rt; krbrelay_answer_text(42, &mut name, &mut size), 906);
+    assert_eq!(rt; krbrelay_answer_text(0, &mut name, &mut size), 0);
+    assert_eq!(rt; (size, &name[..5]), (4, b"done\0".as_slice()));
+    assert_eq!(rt; krbrelay_answer_name(5, &mut name, &mut size), 912);
+    assert_eq!(rt; krbrelay_version(), 65536);
 }

@@ -1,17 +1,21 @@
 -- From the checks that a function made to the outcome.
 use Rattle.std.proofs.Common.{◌≡◌, ℕ, ◌≤◌, length, drop, Bool, true, false, List, [], ◌∷◌, ◌++◌, Some, None, Result, Ok, Err, refl, sym, ap, subst, ◌∙◌, inl, inr}
-use Rattle.std.specs.Prelude.{IsErrAnd, IsTrue, ◌↔◌, nat_le}
+use Rattle.std.specs.Prelude.{IsErrAnd, IsTrue, ◌↔◌, ◌⊎◌, nat_le}
 use Rattle.std.specs.Global.{Vec}
 use Rattle.std.specs.Str.{bytes_eq}
 use Rattle.std.proofs.lemmas.Bool.{le-leb}
 use Rattle.std.proofs.lemmas.Slice.Eq.{bytes_eq-Decides}
 use Rattle.krb_base.specs.Limits.{frame_limit}
+use Rattle.krb_der.specs.declared.body.Body.{Body}
+use Rattle.krb_der.specs.declared.private.PrivMsg.{PrivMsg}
 use Rattle.krb_der.specs.declared.message.Message.{Message}
+use Rattle.krb_der.specs.declared.message.Message.TheVariants as messages
 use Rattle.krb_der.specs.Message.{Spells, SpellsPart}
 use Rattle.krb_seal.specs.declared.refusal.Refusal.{Refusal}
-use Rattle.krb_seal.specs.declared.refusal.Refusal.TheVariants.{FieldTooLong, BadIntegrity, Memory}
+use Rattle.krb_seal.specs.declared.refusal.Refusal.TheVariants.{FieldTooLong, Malformed, BadIntegrity, Memory}
 use Rattle.krb_seal.specs.Keys.{tag_of}
-use Rattle.krb_seal.specs.Opens.{OpenerState, Outcome, Checks, Passes, Read, Decrypt, IsEncryption, OpensPart, OpensText, OpensMessage, Opens, text_checks, frame_checks}
+use Rattle.krb_seal.specs.Opens.{OpenerState, Outcome, Checks, Passes, Read, Decrypt, IsEncryption, OpensPart, OpensText, OpensMessage, Opens, priv_header, text_checks, frame_checks}
+use Rattle.krb_seal.specs.Authentic.{Authenticity, AuthenticMessage, AuthenticText, AuthenticOrMemory, GivesBody}
 use Rattle.krb_seal.specs.Unseals.{seen, OrMemory, first_unmet, refusal_of, Checked}
 
 -- ---- the first refusal of two lists of checks
@@ -33,12 +37,12 @@ pub refused : {A B : Type 0} (checks others : Checks) (made : Result B Refusal) 
 refused checks others made r (Ok x) e is p = absurd p
 refused checks others made r (Err x) e is p = inr (unmet_first checks others x (e ∙ ap refusal_of is ∙ ap Some (sym p)))
 
-pub refused_later : {A B : Type 0} (checks more others : Checks) (made : Result B Refusal) (r : Refusal) (result : Result A Refusal)
-    → first_unmet checks ≡ None → first_unmet more ≡ refusal_of made → made ≡ Err r → IsErrAnd result (λ e. e ≡ r) → Checked (checks ++ (more ++ others)) result
-refused_later checks more others made r (Ok x) met e is p = absurd p
-refused_later checks more others made r (Err x) met e is p = inr (unmet_later checks (more ++ others) met ∙ unmet_first more others x (e ∙ ap refusal_of is ∙ ap Some (sym p)))
+-- the checks before these were passed
+pub checked_later : {A : Type 0} (checks more : Checks) (result : Result A Refusal) → first_unmet checks ≡ None → Checked more result → Checked (checks ++ more) result
+checked_later checks more result met (inl h) = inl h
+checked_later checks more result met (inr h) = inr (unmet_later checks more met ∙ h)
 
--- ---- the last check, of a code
+-- ---- a check of a code
 
 not_true : (x : Bool) → (x ≡ true → ⊥) → x ≡ false
 not_true true h = absurd (h refl)
@@ -54,78 +58,129 @@ unmet_code a b r e = rw e refl
 met_code : (a b : List ℕ) (r : Refusal) → bytes_eq a b ≡ true → first_unmet ((bytes_eq a b, r) ∷ []) ≡ None
 met_code a b r e = rw e refl
 
-pub code_refused : {A : Type 0} (checks more : Checks) (a b code : List ℕ) (equal : Bool) (r : Refusal) → first_unmet checks ≡ None → first_unmet more ≡ None
-    → (IsTrue equal ↔ (a ≡ code)) → equal ≡ false → code ≡ b → Checked {A = A} (checks ++ (more ++ (bytes_eq a b, r) ∷ [])) (Err r)
-code_refused checks more a b code equal r met also h fails is =
+pub code_refused : {A : Type 0} (a b code : List ℕ) (equal : Bool) (r : Refusal)
+    → (IsTrue equal ↔ (a ≡ code)) → equal ≡ false → code ≡ b → Checked {A = A} ((bytes_eq a b, r) ∷ []) (Err r)
+code_refused a b code equal r h fails is =
     let differs : bytes_eq a b ≡ false = sym (ap (bytes_eq a) is) ∙ eq_is equal a code h ∙ fails in
-    inr (unmet_later checks (more ++ (bytes_eq a b, r) ∷ []) met ∙ unmet_later more ((bytes_eq a b, r) ∷ []) also ∙ unmet_code a b r differs)
+    inr (unmet_code a b r differs)
 
-pub code_passed : {A : Type 0} (checks more : Checks) (a b code : List ℕ) (equal : Bool) (r : Refusal) (x : A) → first_unmet checks ≡ None → first_unmet more ≡ None
-    → (IsTrue equal ↔ (a ≡ code)) → equal ≡ true → code ≡ b → Checked (checks ++ (more ++ (bytes_eq a b, r) ∷ [])) (Ok x)
-code_passed checks more a b code equal r x met also h holds is =
+pub code_passed : {A : Type 0} (a b code : List ℕ) (equal : Bool) (r : Refusal) (x : A)
+    → (IsTrue equal ↔ (a ≡ code)) → equal ≡ true → code ≡ b → Checked ((bytes_eq a b, r) ∷ []) (Ok x)
+code_passed a b code equal r x h holds is =
     let same : bytes_eq a b ≡ true = sym (ap (bytes_eq a) is) ∙ eq_is equal a code h ∙ holds in
-    inr (unmet_later checks (more ++ (bytes_eq a b, r) ∷ []) met ∙ unmet_later more ((bytes_eq a b, r) ∷ []) also ∙ met_code a b r same)
+    inr (met_code a b r same)
 
 -- ---- the outcome
 
-outcome_refused : (checks : Checks) (Then : Outcome → Type 0) (r : Refusal) → first_unmet checks ≡ Some r → Passes checks Then (Err r)
+outcome_refused : {B : Type 0} (checks : Checks) (Then : Result B Refusal → Type 0) (r : Refusal) → first_unmet checks ≡ Some r → Passes checks Then (Err r)
 outcome_refused [] Then r e = absurd cc
 outcome_refused ((true, x) ∷ rest) Then r e = outcome_refused rest Then r e
 outcome_refused ((false, x) ∷ rest) Then r e = cc
 
-outcome_given : (checks : Checks) (Then : Outcome → Type 0) (outcome : Outcome) → first_unmet checks ≡ None → Then outcome → Passes checks Then outcome
+outcome_given : {B : Type 0} (checks : Checks) (Then : Result B Refusal → Type 0) (outcome : Result B Refusal) → first_unmet checks ≡ None → Then outcome → Passes checks Then outcome
 outcome_given [] Then outcome e p = p
 outcome_given ((true, x) ∷ rest) Then outcome e p = outcome_given rest Then outcome e p
 outcome_given ((false, x) ∷ rest) Then outcome e p = absurd cc
 
-memory_of : {A : Type 0} (r : Refusal) → ◌≡◌ {A = Result A Refusal} (Err r) (Err Memory) → ◌≡◌ {A = Result (Vec ℕ) Refusal} (Err r) (Err Memory)
+memory_of : {A B : Type 0} (r : Refusal) → ◌≡◌ {A = Result A Refusal} (Err r) (Err Memory) → ◌≡◌ {A = Result B Refusal} (Err r) (Err Memory)
 memory_of r e = cc
 
--- the checks that a function made were not passed
+-- The checks that a function made were not passed. What is seen of a result leaves its refusals as
+-- they are.
+not_passed_as : {A X B : Type 0} (see : Result X Refusal → Result B Refusal) → ((r : Refusal) → see (Err r) ≡ Err r)
+    → (checks : Checks) (Then : Result B Refusal → Type 0) (made : Result A Refusal) (r : Refusal) (result : Result X Refusal)
+    → Checked checks made → made ≡ Err r → IsErrAnd result (λ e. e ≡ r) → (result ≡ Err Memory) ⊎ Passes checks Then (see result)
+not_passed_as see same checks Then made r (Ok v) h is p = absurd p
+not_passed_as {A} {X} see same checks Then made r (Err x) (inl h) is p = inl (memory_of {A = A} {B = X} x (ap Err p ∙ sym is ∙ h))
+not_passed_as see same checks Then made r (Err x) (inr h) is p =
+    inr (subst (λ z. Passes checks Then z) (sym (same x)) (outcome_refused checks Then x (h ∙ ap refusal_of is ∙ ap Some (sym p))))
+
 pub not_passed : {A : Type 0} (checks : Checks) (Then : Outcome → Type 0) (made : Result A Refusal) (r : Refusal) (result : Result (Vec ℕ) Refusal)
     → Checked checks made → made ≡ Err r → IsErrAnd result (λ e. e ≡ r) → OrMemory (Passes checks Then) result
-not_passed checks Then made r (Ok v) h is p = absurd p
-not_passed {A} checks Then made r (Err x) (inl h) is p = inl (memory_of {A = A} x (ap Err p ∙ sym is ∙ h))
-not_passed checks Then made r (Err x) (inr h) is p = inr (outcome_refused checks Then x (h ∙ ap refusal_of is ∙ ap Some (sym p)))
+not_passed = not_passed_as seen (λ r. refl)
+
+pub body_not_passed : {A : Type 0} (checks : Checks) (Then : Authenticity → Type 0) (made : Result A Refusal) (r : Refusal) (result : Authenticity)
+    → Checked checks made → made ≡ Err r → IsErrAnd result (λ e. e ≡ r) → AuthenticOrMemory (Passes checks Then) result
+body_not_passed = not_passed_as (λ z. z) (λ r. refl)
 
 -- they were passed
-pub all_passed : {A : Type 0} (checks : Checks) (Then : Outcome → Type 0) (made : Result A Refusal) (x : A) (result : Result (Vec ℕ) Refusal)
-    → Checked checks made → made ≡ Ok x → OrMemory Then result → OrMemory (Passes checks Then) result
-all_passed checks Then made x result (inl h) is p = absurd (let e : Ok x ≡ Err Memory = sym is ∙ h in cc)
-all_passed checks Then made x result (inr h) is (inl p) = inl p
-all_passed checks Then made x result (inr h) is (inr p) = inr (outcome_given checks Then (seen result) (h ∙ ap refusal_of is) p)
+pub all_passed : {M A B : Type 0} (checks : Checks) (Then : Result B Refusal → Type 0) (made : Result A Refusal) (x : A) (outcome : Result B Refusal)
+    → Checked checks made → made ≡ Ok x → M ⊎ Then outcome → M ⊎ Passes checks Then outcome
+all_passed checks Then made x outcome (inl h) is p = absurd (let e : Ok x ≡ Err Memory = sym is ∙ h in cc)
+all_passed checks Then made x outcome (inr h) is (inl p) = inl p
+all_passed checks Then made x outcome (inr h) is (inr p) = inr (outcome_given checks Then outcome (h ∙ ap refusal_of is) p)
 
 pub gave : (user : List ℕ) (v : Vec ℕ) → v.items ≡ user → OrMemory (λ y. y ≡ Ok user) (Ok v)
 gave user v e = inr (ap Ok e)
 
--- a value was read
-pub was_read : {V : Type 0} (Spelt : V → List ℕ → Type 0) (bytes : List ℕ) (v : V) (Then : V → Outcome → Type 0) (result : Result (Vec ℕ) Refusal)
-    → Spelt v bytes → OrMemory (Then v) result → OrMemory (Read Spelt bytes Then) result
-was_read Spelt bytes v Then result s (inl h) = inl h
-was_read Spelt bytes v Then result s (inr h) = inr (inr (v, s, h))
-
 -- a cipher was deciphered
-pub was_deciphered : (key cipher text tag : List ℕ) (Then : List ℕ → List ℕ → Outcome → Type 0) (result : Result (Vec ℕ) Refusal)
-    → IsEncryption key cipher text tag → OrMemory (Then text tag) result → OrMemory (Decrypt key cipher Then) result
-was_deciphered key cipher text tag Then result e (inl h) = inl h
-was_deciphered key cipher text tag Then result e (inr h) = inr (text, tag, e, h)
+pub was_deciphered : {M B : Type 0} (key cipher text tag : List ℕ) (Then : List ℕ → List ℕ → Result B Refusal → Type 0) (outcome : Result B Refusal)
+    → IsEncryption key cipher text tag → M ⊎ Then text tag outcome → M ⊎ Decrypt key cipher Then outcome
+was_deciphered key cipher text tag Then outcome e (inl h) = inl h
+was_deciphered key cipher text tag Then outcome e (inr h) = inr (text, tag, e, h)
 
--- the code of a text was the right one, and its part was opened
-pub text_opened : (o : OpenerState) (number now : ℕ) (text tag code : List ℕ) (equal : Bool) (result : Result (Vec ℕ) Refusal)
-    → (IsTrue equal ↔ (tag ≡ code)) → equal ≡ true → code ≡ tag_of o.key text
-    → OrMemory (Read SpellsPart (drop 16 text) (OpensPart o.expect number now)) result → OrMemory (OpensText o number now text tag) result
-text_opened o number now text tag code equal result h holds is (inl p) = inl p
-text_opened o number now text tag code equal result h holds is (inr p) =
-    let same : bytes_eq tag (tag_of o.key text) ≡ true = sym (ap (bytes_eq tag) is) ∙ eq_is equal tag code h ∙ holds in
-    inr (outcome_given (text_checks o.key text tag) (Read SpellsPart (drop 16 text) (OpensPart o.expect number now)) (seen result) (met_code tag (tag_of o.key text) BadIntegrity same) p)
+-- the code of a text was the right one
+pub text_opened : {M B : Type 0} (key text tag code : List ℕ) (equal : Bool) (Then : Result B Refusal → Type 0) (outcome : Result B Refusal)
+    → (IsTrue equal ↔ (tag ≡ code)) → equal ≡ true → code ≡ tag_of key text
+    → M ⊎ Then outcome → M ⊎ Passes (text_checks key text tag) Then outcome
+text_opened key text tag code equal Then outcome h holds is (inl p) = inl p
+text_opened key text tag code equal Then outcome h holds is (inr p) =
+    let same : bytes_eq tag (tag_of key text) ≡ true = sym (ap (bytes_eq tag) is) ∙ eq_is equal tag code h ∙ holds in
+    inr (outcome_given (text_checks key text tag) Then outcome (met_code tag (tag_of key text) BadIntegrity same) p)
 
 -- a message was read, and opened
-pub frame_opened : (o : OpenerState) (number now at : ℕ) (bytes : List ℕ) (m : Message) (result : Result (Vec ℕ) Refusal) → at ≡ now → Spells m bytes
-    → OrMemory (OpensMessage o number at m) result → OrMemory (Opens o number now bytes) result
-frame_opened o number now at bytes m result is s (inl h) = inl h
-frame_opened o number now at bytes m result is s (inr h) =
-    inr (outcome_given (frame_checks bytes) (Read Spells bytes (OpensMessage o number now)) (seen result) (met_limit (length bytes) s.short)
-    (inr (m, s, subst (λ (z : ℕ). OpensMessage o number z m (seen result)) is h)))
+pub frame_passed : {M B : Type 0} (Then : Message → Result B Refusal → Type 0) (bytes : List ℕ) (m : Message) (outcome : Result B Refusal) → Spells m bytes
+    → M ⊎ Then m outcome → M ⊎ Passes (frame_checks bytes) (Read Spells bytes Then) outcome
+frame_passed Then bytes m outcome s (inl h) = inl h
+frame_passed Then bytes m outcome s (inr h) =
+    inr (outcome_given (frame_checks bytes) (Read Spells bytes Then) outcome (met_limit (length bytes) s.short) (inr (m, s, h)))
   where
     met_limit : (n : ℕ) → n ≤ frame_limit → first_unmet ((nat_le n frame_limit, FieldTooLong) ∷ []) ≡ None
     met_limit n le = rw (le-leb n frame_limit le) refl
+
+pub frame_opened : (o : OpenerState) (number now at : ℕ) (bytes : List ℕ) (m : Message) (result : Result (Vec ℕ) Refusal) → at ≡ now → Spells m bytes
+    → OrMemory (OpensMessage o number at m) result → OrMemory (Opens o number now bytes) result
+frame_opened o number now at bytes m result is s h =
+    frame_passed (OpensMessage o number now) bytes m (seen result) s (subst (λ (z : ℕ). OrMemory (OpensMessage o number z m) result) is h)
+
+-- ---- from the authentic body to the user data
+
+-- a body goes on, and a refusal stays
+abbrev pub GoesOn : Authenticity → (Body → Outcome → Type 0) → Outcome → Type 0
+GoesOn (Ok b) Then outcome = Then b outcome
+GoesOn (Err r) Then outcome = outcome ≡ Err r
+
+refusal_stays : (Then : Body → Outcome → Type 0) (made : Authenticity) (r : Refusal) (outcome : Outcome) → made ≡ Err r → GoesOn made Then outcome → outcome ≡ Err r
+refusal_stays Then made r outcome e g = subst (λ (z : Authenticity). GoesOn z Then outcome) e g
+
+passes_on : (checks : Checks) (P : Authenticity → Type 0) (Q : Outcome → Type 0) (Then : Body → Outcome → Type 0) (made : Authenticity) (outcome : Outcome)
+    → GoesOn made Then outcome → (P made → Q outcome) → Passes checks P made → Passes checks Q outcome
+passes_on [] P Q Then made outcome g h p = h p
+passes_on ((true, r) ∷ rest) P Q Then made outcome g h p = passes_on rest P Q Then made outcome g h p
+passes_on ((false, r) ∷ rest) P Q Then made outcome g h p = refusal_stays Then made r outcome p g
+
+read_on : (bytes : List ℕ) (Then : Body → Outcome → Type 0) (made : Authenticity) (outcome : Outcome)
+    → GoesOn made Then outcome → Read SpellsPart bytes GivesBody made → Read SpellsPart bytes Then outcome
+read_on bytes Then made outcome g (inl p) = inl (p.0, refusal_stays Then made Malformed outcome p.1 g)
+read_on bytes Then made outcome g (inr p) = inr (p.0, p.1, subst (λ (z : Authenticity). GoesOn z Then outcome) p.2 g)
+
+pub priv_goes_on : (o : OpenerState) (number now : ℕ) (m : PrivMsg) (made : Authenticity) (outcome : Outcome)
+    → AuthenticMessage o (messages.Priv m) made → GoesOn made (OpensPart o.expect number now) outcome → OpensMessage o number now (messages.Priv m) outcome
+priv_goes_on o number now m made outcome p g =
+    let Then = OpensPart o.expect number now in
+    passes_on (priv_header o.etype o.expect m) (Decrypt o.key m.cipher (AuthenticText o.key)) (Decrypt o.key m.cipher (OpensText o number now)) Then made outcome g
+    (λ d. (d.0, d.1, d.2, passes_on (text_checks o.key d.0 d.1) (Read SpellsPart (drop 16 d.0) GivesBody) (Read SpellsPart (drop 16 d.0) Then) Then made outcome g (read_on (drop 16 d.0) Then made outcome g) d.3)) p
+
+pub priv_refused : (o : OpenerState) (number now : ℕ) (m : PrivMsg) (made : Authenticity) (r : Refusal) (result : Result (Vec ℕ) Refusal)
+    → AuthenticOrMemory (AuthenticMessage o (messages.Priv m)) made → made ≡ Err r → IsErrAnd result (λ e. e ≡ r) → OrMemory (OpensMessage o number now (messages.Priv m)) result
+priv_refused o number now m made r (Ok v) h is p = absurd p
+priv_refused o number now m made r (Err x) (inl h) is p = inl (memory_of {A = Body} {B = Vec ℕ} x (ap Err p ∙ sym is ∙ h))
+priv_refused o number now m made r (Err x) (inr h) is p =
+    inr (priv_goes_on o number now m made (Err x) h (subst (λ (z : Authenticity). GoesOn z (OpensPart o.expect number now) (Err x)) (sym is) (ap Err p)))
+
+pub priv_opened : (o : OpenerState) (number now : ℕ) (m : PrivMsg) (made : Authenticity) (b : Body) (result : Result (Vec ℕ) Refusal)
+    → AuthenticOrMemory (AuthenticMessage o (messages.Priv m)) made → made ≡ Ok b → OrMemory (OpensPart o.expect number now b) result → OrMemory (OpensMessage o number now (messages.Priv m)) result
+priv_opened o number now m made b result (inl h) is p = absurd (let e : Ok b ≡ Err Memory = sym is ∙ h in cc)
+priv_opened o number now m made b result (inr h) is (inl p) = inl p
+priv_opened o number now m made b result (inr h) is (inr p) =
+    inr (priv_goes_on o number now m made (seen result) h (subst (λ (z : Authenticity). GoesOn z (OpensPart o.expect number now) (seen result)) (sym is) p))

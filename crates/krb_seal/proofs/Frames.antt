@@ -9,7 +9,7 @@ use Rattle.krb_keys.proofs.HmacLemmas.{length-hmac96}
 use Rattle.std.specs.Prelude.{IfOk, OnOk}
 use Rattle.std.specs.Global.{Vec}
 use Rattle.std.specs.Option.{ForSome}
-use Rattle.krb_base.specs.Limits.{frame_limit, address_limit}
+use Rattle.krb_base.specs.Limits.{frame_limit}
 use Rattle.krb_der.specs.declared.error.DerError.{DerError}
 use Rattle.krb_der.specs.declared.error.DerError.TheVariants as errors
 use Rattle.krb_der.specs.declared.address.HostAddress.{HostAddress}
@@ -26,7 +26,7 @@ use Rattle.krb_der.specs.declared.private.Draft.{Draft}
 use Rattle.krb_seal.specs.declared.session.Mode.TheVariants.{Priv}
 use Rattle.krb_seal.specs.Keys.{encryption_key, integrity_key, tag_of, encrypted}
 use Rattle.krb_seal.specs.Seals.{safe_checksum, SealsBody, unenciphered, priv_of}
-use Rattle.krb_seal.specs.Session.{IsShortAddress}
+use Rattle.krb_seal.specs.Session.{IsShortAddress, session_address_limit}
 use Rattle.krb_seal.specs.Body.{IsSmall, small_body_limit}
 use Rattle.krb_seal.specs.Checksum.{Sums}
 
@@ -38,7 +38,7 @@ memory_alone Spelt spelling v (Err errors.TooLong) h le e is = absurd (omega ari
 memory_alone Spelt spelling v (Err errors.Malformed) h le e is = absurd h
 memory_alone Spelt spelling v (Err errors.Memory) h le e is = cc
 
-optional-small : (r : Option HostAddress) → ForSome r IsShortAddress → optional_size r ≤ address_limit
+optional-small : (r : Option HostAddress) → ForSome r IsShortAddress → optional_size r ≤ session_address_limit
 optional-small None h = omega arith
 optional-small (Some a) h = h a refl
 

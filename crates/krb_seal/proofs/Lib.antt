@@ -4,3 +4,4 @@ pub mod SealedFrames
 pub mod Openings
 pub mod Frames
 pub mod Checking
+pub mod Authentics

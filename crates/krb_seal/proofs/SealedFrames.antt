@@ -1,5 +1,5 @@
 -- What opening a sealed frame gives.
-use Rattle.std.proofs.Common.{◌≡◌, ℕ, ◌*◌, ◌≤◌, ℤ, Bool, true, false, not, ◌&&◌, List, [], ◌∷◌, ◌++◌, length, drop, Option, Some, None, Ok, refl, sym, ap, subst, ◌∙◌, inl, inr, arith, length-append}
+use Rattle.std.proofs.Common.{◌≡◌, ℕ, ◌*◌, ◌≤◌, ℤ, Bool, true, false, not, ◌&&◌, List, [], ◌∷◌, ◌++◌, length, drop, Option, Some, None, Result, Ok, refl, sym, ap, subst, ◌∙◌, inl, inr, arith, length-append}
 use Rattle.std.specs.Ordering.{int_eq}
 use Rattle.std.specs.Str.{bytes_eq}
 use Rattle.std.proofs.lemmas.Bool.{eqb-true, eq-eqb, le-leb}
@@ -30,13 +30,14 @@ use Rattle.krb_seal.specs.declared.session.Mode.{Mode}
 use Rattle.krb_seal.specs.declared.session.Mode.TheVariants.{Safe, Priv}
 use Rattle.krb_seal.specs.declared.session.Session.{Session}
 use Rattle.krb_seal.specs.declared.session.Expect.{Expect}
+use Rattle.krb_seal.specs.declared.refusal.Refusal.{Refusal}
 use Rattle.krb_seal.specs.Keys.{encryption_key, tag_of, encrypted}
 use Rattle.krb_seal.specs.Seals.{safe_checksum, checksum_type, body_of, sealed_safe, sealed_priv, sealed_as, sealed_message, sealed, Seals}
 use Rattle.krb_seal.specs.Opens.{OpenerState, Outcome, Checks, Passes, Read, Decrypt, IsEncryption, OpensPart, OpensText, OpensMessage, opener_of, frame_checks, safe_checks, priv_header, text_checks, body_checks, receiver_fits, addresses_fit, is_current, is_number, is_safe, distance}
 use Rattle.krb_seal.specs.Laws.{ReceiverAgrees, Agree, OneFrame, NowhereElse, AtItsNumber}
 use Rattle.krb_seal.proofs.CipherTexts.{one_text}
 
-both_true : (a b : Bool) → a ≡ true → b ≡ true → (a && b) ≡ true
+pub both_true : (a b : Bool) → a ≡ true → b ≡ true → (a && b) ≡ true
 both_true true b p q = q
 both_true false b p q = absurd cc
 
@@ -47,19 +48,19 @@ AllMet [] = Unit {0}
 AllMet ((met, r) ∷ rest) = (met ≡ true) × AllMet rest
 
 -- where data comes out, every check is met
-pub met_all : (checks : Checks) (Then : Outcome → Type 0) (given : List ℕ) → Passes checks Then (Ok given) → AllMet checks × Then (Ok given)
+pub met_all : {A : Type 0} (checks : Checks) (Then : Result A Refusal → Type 0) (given : A) → Passes checks Then (Ok given) → AllMet checks × Then (Ok given)
 met_all [] Then given p = (tt, p)
 met_all ((true, r) ∷ rest) Then given p = let h = met_all rest Then given p in ((refl, h.0), h.1)
 met_all ((false, r) ∷ rest) Then given p = absurd cc
 
-pub all_met : (checks : Checks) (Then : Outcome → Type 0) (outcome : Outcome) → AllMet checks → Then outcome → Passes checks Then outcome
+pub all_met : {A : Type 0} (checks : Checks) (Then : Result A Refusal → Type 0) (outcome : Result A Refusal) → AllMet checks → Then outcome → Passes checks Then outcome
 all_met [] Then outcome h p = p
 all_met ((true, r) ∷ rest) Then outcome h p = all_met rest Then outcome h.1 p
 all_met ((false, r) ∷ rest) Then outcome h p = absurd (let e : false ≡ true = h.0 in cc)
 
 -- ---- what stands in a sealed message
 
-same_data : (a b : List ℕ) → ◌≡◌ {A = Outcome} (Ok a) (Ok b) → a ≡ b
+pub same_data : (a b : List ℕ) → ◌≡◌ {A = Outcome} (Ok a) (Ok b) → a ≡ b
 same_data a b e = cc
 
 -- a field is no longer than the fields joined
@@ -93,7 +94,7 @@ long_cipher m =
       length-tagged (application 21) (sequence outer),
     )
 
-encrypts : (etype : ℤ) (key : List ℕ) (s : Session) (q at : ℕ) (user conf bytes : List ℕ)
+pub encrypts : (etype : ℤ) (key : List ℕ) (s : Session) (q at : ℕ) (user conf bytes : List ℕ)
     → s.mode ≡ Priv → Seals etype key s q user at conf bytes
     → IsEncryption key (encrypted key (conf ++ part (body_of s q user at))) (conf ++ part (body_of s q user at)) (tag_of key (conf ++ part (body_of s q user at)))
 encrypts etype key s q at user conf bytes e h = record {
@@ -103,7 +104,7 @@ encrypts etype key s q at user conf bytes e h = record {
   image = refl;
 }
 
-short_part : (etype : ℤ) (key conf : List ℕ) (b : Body) (bytes : List ℕ) → length conf ≡ 16 → Spells (messages.Priv (sealed_priv etype key conf b)) bytes → length (part b) ≤ frame_limit
+pub short_part : (etype : ℤ) (key conf : List ℕ) (b : Body) (bytes : List ℕ) → length conf ≡ 16 → Spells (messages.Priv (sealed_priv etype key conf b)) bytes → length (part b) ≤ frame_limit
 short_part etype key conf b bytes size h =
     let m : PrivMsg = sealed_priv etype key conf b in
     let text : List ℕ = conf ++ part b in
@@ -172,10 +173,10 @@ nowhere_else etype key s x q at now number user conf bytes given h p =
 
 -- ---- the data at its own number
 
-int_same : (a : ℤ) → int_eq a a ≡ true
+pub int_same : (a : ℤ) → int_eq a a ≡ true
 int_same a = (Decides-int_eq a a).1 refl
 
-bytes_same : (a : List ℕ) → bytes_eq a a ≡ true
+pub bytes_same : (a : List ℕ) → bytes_eq a a ≡ true
 bytes_same a = (bytes_eq-Decides a a).1 refl
 
 address_same : (a b : HostAddress) → a ≡ b → same_address a b ≡ true

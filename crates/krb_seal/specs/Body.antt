@@ -1,9 +1,9 @@
 -- The bodies that a session's messages carry.
 use Rattle.std.specs.Prelude.{ℕ, ◌+◌, ◌*◌, ◌≤◌, length}
 use Rattle.std.specs.Option.{ForSome}
-use Rattle.krb_base.specs.Limits.{user_data_limit, address_limit}
+use Rattle.krb_base.specs.Limits.{user_data_limit}
 use Rattle.krb_der.specs.declared.body.Body.{Body}
-use Rattle.krb_seal.specs.Session.{IsShortAddress}
+use Rattle.krb_seal.specs.Session.{IsShortAddress, session_address_limit}
 
 -- the data and the addresses of a body are within the limits
 pub record IsSmall (b : Body) : Type 0 where
@@ -13,4 +13,4 @@ pub record IsSmall (b : Body) : Type 0 where
 
 -- the data and two addresses
 abbrev pub small_body_limit : ℕ
-small_body_limit = user_data_limit + 2 * address_limit
+small_body_limit = user_data_limit + 2 * session_address_limit

@@ -2,11 +2,13 @@
 use Rattle.std.specs.Prelude.{◌≡◌, ℕ, ◌*◌, ◌≤◌, ◌↔◌, ℤ, List, Option, Some, None, Ok, false}
 use Rattle.krb_aes.specs.Words.{AreBytes}
 use Rattle.krb_der.specs.declared.address.HostAddress.{HostAddress}
+use Rattle.krb_der.specs.declared.body.Body.{Body}
 use Rattle.krb_der.specs.Moment.{micros_per_second}
 use Rattle.krb_seal.specs.declared.session.Session.{Session}
 use Rattle.krb_seal.specs.declared.session.Expect.{Expect}
-use Rattle.krb_seal.specs.Seals.{Seals, sealed}
-use Rattle.krb_seal.specs.Opens.{OpenerState, Outcome, Opens, opener_of, distance}
+use Rattle.krb_seal.specs.Seals.{Seals, sealed, body_of}
+use Rattle.krb_seal.specs.Opens.{OpenerState, Outcome, Opens, OpensPart, opener_of, distance}
+use Rattle.krb_seal.specs.Authentic.{Authenticity, Authenticates}
 use Rattle.krb_seal.specs.Opening.{opens}
 
 -- each frame has one outcome at each number and moment, and `opens` is it
@@ -43,3 +45,22 @@ abbrev pub AtItsNumber : Type 0
 AtItsNumber = (etype : ℤ) (key : List ℕ) (s : Session) (x : Expect) (q at now : ℕ) (user conf bytes : List ℕ)
     → Seals etype key s q user at conf bytes → Agree s x at now
     → Opens (opener_of etype key x) q now bytes (Ok user)
+
+-- ---- opening without demands
+
+-- each frame has one outcome
+abbrev pub OneAuthenticity : Type 0
+OneAuthenticity = (o : OpenerState) (bytes : List ℕ) (a b : Authenticity) → Authenticates o bytes a → Authenticates o bytes b → a ≡ b
+
+-- unsealing gives data if and only if the frame is authentic with a body that passes the body
+-- checks, and then the data of that body
+abbrev pub OpensTheAuthentic : Type 0
+OpensTheAuthentic = (o : OpenerState) (number now : ℕ) (bytes user : List ℕ)
+    → Opens o number now bytes (Ok user) ↔ ((b : Body) × Authenticates o bytes (Ok b) × OpensPart o.expect number now b (Ok user))
+
+-- a sealed frame is authentic, with the body that was sealed, to an opener of its mode with the
+-- sealer's key, whatever else that opener expects
+abbrev pub SealedIsAuthentic : Type 0
+SealedIsAuthentic = (etype : ℤ) (key : List ℕ) (s : Session) (x : Expect) (q at : ℕ) (user conf bytes : List ℕ)
+    → Seals etype key s q user at conf bytes → s.mode ≡ x.mode
+    → Authenticates (opener_of etype key x) bytes (Ok (body_of s q user at))

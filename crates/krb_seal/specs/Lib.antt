@@ -8,6 +8,7 @@ pub mod Etype
 pub mod HeldKeys
 pub mod KeysInside
 pub mod Opens
+pub mod Authentic
 pub mod Opening
 pub mod OpenerInside
 pub mod Body

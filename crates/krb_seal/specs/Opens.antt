@@ -96,13 +96,16 @@ body_checks x number now b =
     ∷ (is_number number b.seq, BadOrder)
     ∷ []
 
+-- of the checksum of KRB-SAFE
+abbrev pub checksum_checks : List ℕ → SafeMsg → Checks
+checksum_checks key m = (bytes_eq m.checksum (safe_checksum key m), Modified) ∷ []
+
 -- of KRB-SAFE, all of them
 abbrev pub safe_checks : OpenerState → ℕ → ℕ → SafeMsg → Checks
 safe_checks o number now m =
     safe_header o.etype o.expect m
     ++ body_checks o.expect number now m.body
-    ++ (bytes_eq m.checksum (safe_checksum o.key m), Modified)
-    ∷ []
+    ++ checksum_checks o.key m
 
 -- of a deciphered text and the code that stood behind its cipher
 abbrev pub text_checks : List ℕ → List ℕ → List ℕ → Checks
@@ -111,13 +114,13 @@ text_checks key text tag = (bytes_eq tag (tag_of key text), BadIntegrity) ∷ []
 -- ---- what an outcome is
 
 -- the refusal of the first test that is not met, else as Then says
-abbrev pub Passes : Checks → (Outcome → Type 0) → Outcome → Type 0
+abbrev pub Passes : {A : Type 0} → Checks → (Result A Refusal → Type 0) → Result A Refusal → Type 0
 Passes [] Then outcome = Then outcome
 Passes ((true, r) ∷ rest) Then outcome = Passes rest Then outcome
 Passes ((false, r) ∷ rest) Then outcome = outcome ≡ Err r
 
 -- Malformed where nothing is spelt so, else as Then says of the value
-abbrev pub Read : {V : Type 0} → (V → List ℕ → Type 0) → List ℕ → (V → Outcome → Type 0) → Outcome → Type 0
+abbrev pub Read : {V A : Type 0} → (V → List ℕ → Type 0) → List ℕ → (V → Result A Refusal → Type 0) → Result A Refusal → Type 0
 Read Spelt bytes Then outcome =
     (((v : _) → Spelt v bytes → ⊥) × (outcome ≡ Err Malformed)) ⊎ ((v : _) × Spelt v bytes × Then v outcome)
 
@@ -129,7 +132,7 @@ pub record IsEncryption (key cipher text tag : List ℕ) : Type 0 where
   pub image : cipher ≡ cts_of (encryption_key key) text ++ tag
 
 -- as Then says of the one text and code of a cipher
-abbrev pub Decrypt : List ℕ → List ℕ → (List ℕ → List ℕ → Outcome → Type 0) → Outcome → Type 0
+abbrev pub Decrypt : {A : Type 0} → List ℕ → List ℕ → (List ℕ → List ℕ → Result A Refusal → Type 0) → Result A Refusal → Type 0
 Decrypt key cipher Then outcome =
     (text : List ℕ) × (tag : List ℕ) × IsEncryption key cipher text tag × Then text tag outcome
 

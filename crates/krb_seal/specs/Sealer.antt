@@ -1,6 +1,7 @@
 -- What a caller knows of a sealer.
 use Rattle.std.specs.Prelude.{ℕ, ◌+◌, ℤ, List, length, replicate, Bool, true, false}
 use Rattle.krb_base.specs.Limits.{last_number}
+use Rattle.krb_seal.specs.declared.session.Mode.{Mode}
 use Rattle.krb_seal.specs.declared.session.Session.{Session}
 use Rattle.krb_seal.specs.Seals.{Seals}
 
@@ -22,6 +23,10 @@ new_state etype key session = record { etype = etype; key = key; session = sessi
 -- after a sealed frame
 abbrev pub advanced : SealerState → SealerState
 advanced s = record s { next = s.next + 1 }
+
+-- from now on in this mode
+abbrev pub in_mode : SealerState → Mode → SealerState
+in_mode s mode = record s { session = record s.session { mode = mode } }
 
 -- after a wipe
 abbrev pub wiped_state : SealerState → SealerState

@@ -2,13 +2,13 @@
 
 ghost use Rattle.std.specs.Prelude.{◌≡◌, replicate, pos};
 ghost use Rattle.krb_seal.specs.Session.{HasShortAddresses};
-ghost use Rattle.krb_seal.specs.Sealer.{SealerState, new_state};
+ghost use Rattle.krb_seal.specs.Sealer.{SealerState, in_mode, new_state};
 
 use crate::etype::Etype;
 use crate::seal_error::SealError;
 use crate::sealer::Sealer;
 use crate::sealing::Sealing;
-use crate::session::Session;
+use crate::session::{Mode, Session};
 use krb_aes::CipherKey;
 use krb_der::Moment;
 use std::alloc::Global;
@@ -44,7 +44,7 @@ impl<E> Model for AesSealer<E> {
 
 impl AesSealer<Aes128> {
     /// Takes the key: the caller's bytes are zero afterwards. The addresses of the session have at
-    /// most 32 bytes each.
+    /// most 40 bytes each.
     pub fn new(key: &mut [u8; 16], session: Session) -> AesSealer<Aes128>
         requires { HasShortAddresses session }
         ensures made { result ≡ new_state (pos 17) key.old session }
@@ -61,7 +61,7 @@ impl AesSealer<Aes128> {
 
 impl AesSealer<Aes256> {
     /// Takes the key: the caller's bytes are zero afterwards. The addresses of the session have at
-    /// most 32 bytes each.
+    /// most 40 bytes each.
     pub fn new(key: &mut [u8; 32], session: Session) -> AesSealer<Aes256>
         requires { HasShortAddresses session }
         ensures made { result ≡ new_state (pos 18) key.old session }
@@ -73,6 +73,16 @@ impl AesSealer<Aes256> {
             sealing: Sealing::new(Etype::Aes256, held, session),
             mark: PhantomData,
         }
+    }
+}
+
+impl<E> AesSealer<E> {
+    /// Seals in this mode from now on. Key, number and addresses stay: both kinds of messages of one
+    /// sender share its sequence numbers (RFC 4120 section 3.4.1).
+    pub fn set_mode(&mut self, mode: Mode)
+        ensures { self.new ≡ in_mode self.old mode }
+    {
+        self.sealing.set_mode(mode);
     }
 }
 

@@ -1,6 +1,6 @@
 //! Laws of the definitions: what a user may rest on without reading any code.
 
-ghost use Rattle.krb_seal.specs.Laws.{OneOutcome, OneFrame, NowhereElse, AtItsNumber};
+ghost use Rattle.krb_seal.specs.Laws.{OneOutcome, OneFrame, NowhereElse, AtItsNumber, OneAuthenticity, OpensTheAuthentic, SealedIsAuthentic};
 
 /// Each frame has one outcome at each number and moment, and each message sealed has one frame.
 pub fn one_outcome()
@@ -17,4 +17,16 @@ pub fn one_outcome()
 pub fn opens_at_its_number_alone()
     ensures nothing_else { NowhereElse }
     ensures opens { AtItsNumber }
+{}
+
+/// Opening with demands and without.
+///
+/// [`Opener::unseal`](crate::Opener::unseal) answers data if and only if
+/// [`Opener::authenticate`](crate::Opener::authenticate) answers a body that passes the checks of
+/// addresses, time and number, and then the data of that body (`opens`). Each frame has one
+/// outcome (`one`), and a sealed frame has the body that was sealed (`sealed`).
+pub fn authentic_laws()
+    ensures one { OneAuthenticity }
+    ensures opens { OpensTheAuthentic }
+    ensures sealed { SealedIsAuthentic }
 {}

@@ -3,6 +3,7 @@
 //!
 //! A [`Sealer`] of one of the two kinds seals data at one sequence number after another, and an
 //! [`Opener`] answers the data of a frame at a demanded number, or the first check that it fails.
+//! [`Opener::authenticate`] demands nothing of addresses, time and number, and answers them.
 //!
 //! ```rust crates/example_seal/src/main.rt
 //! let mut sealer = Aes256Sealer::new(&mut { KEY }, session(alloc)?);
@@ -36,7 +37,7 @@ mod sealing;
 mod session;
 
 pub use kinds::{Aes128Sealer, Aes256Sealer};
-pub use laws::{one_outcome, opens_at_its_number_alone};
+pub use laws::{authentic_laws, one_outcome, opens_at_its_number_alone};
 pub use opener::Opener;
 pub use refusal::Refusal;
 pub use seal_error::SealError;

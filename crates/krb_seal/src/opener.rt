@@ -1,12 +1,13 @@
 //! What opens the frames of a session.
 
-ghost use Rattle.std.specs.Prelude.{◌≡◌, ◌≤◌, pos, drop, length, replicate, Err};
+ghost use Rattle.std.specs.Prelude.{◌≡◌, ◌≤◌, pos, drop, length, replicate, Err, IfOk};
 ghost use Rattle.krb_base.specs.Limits.{frame_limit};
 ghost use Rattle.krb_der.specs.declared.message.Message.TheVariants as messages;
 ghost use Rattle.krb_der.specs.Body.{InRange};
 ghost use Rattle.krb_der.specs.Safe.{safe};
 ghost use Rattle.krb_der.specs.Message.{SpellsPart};
-ghost use Rattle.krb_seal.specs.Opens.{Opens, OpensMessage, OpensPart, Read, opener_of, safe_checks};
+ghost use Rattle.krb_seal.specs.Opens.{Opens, OpensMessage, Read, checksum_checks, opener_of, safe_checks};
+ghost use Rattle.krb_seal.specs.Authentic.{Authenticates, AuthenticMessage, AuthenticOrMemory, GivesBody, authentic_checks};
 ghost use Rattle.krb_seal.specs.Unseals.{Checked, OrMemory};
 
 use crate::checks::{check_body, check_priv_header, check_safe_header, has_checksum};
@@ -110,6 +111,27 @@ impl Opener {
         }
     }
 
+    /// The authenticated body of a frame: its user data, time, number and addresses, each absent
+    /// where the frame leaves it out. Nothing is demanded of them: that is the caller's to do.
+    ///
+    /// The refusal is that of the first check which the frame fails: its size, its spelling, its
+    /// version, its kind, its encryption type and its integrity, or its checksum's type and its
+    /// checksum.
+    pub fn authenticate(&self, alloc: Global, frame: &[u8]) -> Result<Body, Refusal>
+        ensures answer { AuthenticOrMemory (Authenticates self.now frame.now) result }
+        ensures range { IfOk result InRange }
+        // A frame over the limit is refused before any memory is taken.
+        ensures memory { result ≡ Err Refusal.Memory → length frame.now ≤ frame_limit }
+    {
+        match decode(alloc, frame) {
+            Ok(Message::Safe(m)) => self.authentic_safe(alloc, m),
+            Ok(Message::Priv(m)) => self.authentic_priv(alloc, m),
+            Err(DerError::TooLong) => Err(Refusal::FieldTooLong),
+            Err(DerError::Malformed) => Err(Refusal::Malformed),
+            Err(DerError::Memory) => Err(Refusal::Memory),
+        }
+    }
+
     /// Overwrites all keys where they lie. What is left is the opener of a key of as many zeros,
     /// which is nobody's.
     pub fn wipe(&mut self)
@@ -127,6 +149,19 @@ impl Opener {
 }
 
 impl Opener {
+    /// The checksum of a KRB-SAFE.
+    fn check_checksum(&self, alloc: Global, m: &SafeMsg) -> Result<(), Refusal>
+        requires range { InRange m.now.body }
+        requires short { length (safe m.now) ≤ frame_limit }
+        ensures { Checked (checksum_checks self.now.key m.now) result }
+    {
+        let checksum = within_limit(checksum_of(alloc, &self.keys, &m.borrowed()))?;
+        if !has_checksum(m, &checksum) {
+            return Err(Refusal::Modified);
+        }
+        Ok(())
+    }
+
     /// All checks of a KRB-SAFE.
     fn check_safe(&self, alloc: Global, m: &SafeMsg, number: u64, now: u64) -> Result<(), Refusal>
         requires range { InRange m.now.body }
@@ -135,11 +170,17 @@ impl Opener {
     {
         check_safe_header(self.etype, &self.expect, m)?;
         check_body(&self.expect, number, now, &m.body)?;
-        let checksum = within_limit(checksum_of(alloc, &self.keys, &m.borrowed()))?;
-        if !has_checksum(m, &checksum) {
-            return Err(Refusal::Modified);
-        }
-        Ok(())
+        self.check_checksum(alloc, m)
+    }
+
+    /// The checks of a KRB-SAFE but for those of its body.
+    fn check_authentic(&self, alloc: Global, m: &SafeMsg) -> Result<(), Refusal>
+        requires range { InRange m.now.body }
+        requires short { length (safe m.now) ≤ frame_limit }
+        ensures { Checked (authentic_checks self.now m.now) result }
+    {
+        check_safe_header(self.etype, &self.expect, m)?;
+        self.check_checksum(alloc, m)
     }
 
     /// What a KRB-SAFE gives.
@@ -160,27 +201,16 @@ impl Opener {
         Ok(user_data.into_vec())
     }
 
-    /// What the encrypted part behind the confounder of a text gives. The data take the text's own
-    /// block.
-    fn open_part(
-        &self,
-        alloc: Global,
-        text: Vec<u8>,
-        number: u64,
-        now: u64,
-    ) -> Result<Vec<u8>, Refusal>
-        requires { 16 ≤ length text.items }
-        ensures { OrMemory (Read SpellsPart (drop 16 text.items)
-            (OpensPart self.now.expect number now)) result }
+    /// The body of a KRB-SAFE that is authentic.
+    fn authentic_safe(&self, alloc: Global, m: SafeMsg) -> Result<Body, Refusal>
+        requires range { InRange m.body }
+        requires short { length (safe m) ≤ frame_limit }
+        ensures answer { AuthenticOrMemory (AuthenticMessage self.now (messages.Safe m)) result }
+        ensures range { IfOk result InRange }
     {
-        let body = match decode_part_from(alloc, text, CONFOUNDER_SIZE) {
-            Ok(body) => body,
-            Err(DerError::Memory) => return Err(Refusal::Memory),
-            Err(DerError::TooLong | DerError::Malformed) => return Err(Refusal::Malformed),
-        };
-        check_body(&self.expect, number, now, &body)?;
-        let Body { user_data, .. } = body;
-        Ok(user_data.into_vec())
+        self.check_authentic(alloc, &m)?;
+        let SafeMsg { body, .. } = m;
+        Ok(body)
     }
 
     /// What a KRB-PRIV gives.
@@ -193,12 +223,36 @@ impl Opener {
     ) -> Result<Vec<u8>, Refusal>
         ensures { OrMemory (OpensMessage self.now number now (messages.Priv m)) result }
     {
+        let body = self.authentic_priv(alloc, m)?;
+        check_body(&self.expect, number, now, &body)?;
+        let Body { user_data, .. } = body;
+        Ok(user_data.into_vec())
+    }
+
+    /// The body of a KRB-PRIV that is authentic.
+    fn authentic_priv(&self, alloc: Global, m: PrivMsg) -> Result<Body, Refusal>
+        ensures answer { AuthenticOrMemory (AuthenticMessage self.now (messages.Priv m)) result }
+        ensures range { IfOk result InRange }
+    {
         check_priv_header(self.etype, &self.expect, &m)?;
         let PrivMsg { cipher, .. } = m;
         let (text, tag) = self.keys.decrypted(cipher);
         if !self.keys.is_tag(&tag, &text) {
             return Err(Refusal::BadIntegrity);
         }
-        self.open_part(alloc, text, number, now)
+        read_part(alloc, text)
+    }
+}
+
+/// The body that stands behind the confounder of a text. Its data take the text's own block.
+fn read_part(alloc: Global, text: Vec<u8>) -> Result<Body, Refusal>
+    requires { 16 ≤ length text.items }
+    ensures answer { AuthenticOrMemory (Read SpellsPart (drop 16 text.items) GivesBody) result }
+    ensures range { IfOk result InRange }
+{
+    match decode_part_from(alloc, text, CONFOUNDER_SIZE) {
+        Ok(body) => Ok(body),
+        Err(DerError::Memory) => Err(Refusal::Memory),
+        Err(DerError::TooLong | DerError::Malformed) => Err(Refusal::Malformed),
     }
 }

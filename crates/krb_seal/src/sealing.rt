@@ -4,13 +4,13 @@ ghost use Rattle.std.specs.Prelude.{◌≡◌, ◌≤◌, ◌<◌, ◌↔◌, tr
 ghost use Rattle.krb_base.specs.Limits.{user_data_limit};
 ghost use Rattle.krb_seal.specs.Etype.{number_of};
 ghost use Rattle.krb_seal.specs.Session.{HasShortAddresses};
-ghost use Rattle.krb_seal.specs.Sealer.{SealerState, SealsNext, advanced, end_of_numbers, new_state, wiped_state};
+ghost use Rattle.krb_seal.specs.Sealer.{SealerState, SealsNext, advanced, end_of_numbers, in_mode, new_state, wiped_state};
 
 use crate::etype::Etype;
 use crate::frame::frame_of;
 use crate::keys::Keys;
 use crate::seal_error::SealError;
-use crate::session::Session;
+use crate::session::{Mode, Session};
 use krb_aes::CipherKey;
 use krb_base::{LAST_NUMBER, USER_DATA_LIMIT};
 use krb_der::{BodyRef, Moment};
@@ -104,6 +104,13 @@ impl Sealing {
         let frame = frame_of(alloc, &self.keys, self.etype, mode, body, confounder)?;
         self.next += 1;
         Ok(frame)
+    }
+
+    /// Seals in this mode from now on.
+    pub fn set_mode(&mut self, mode: Mode)
+        ensures { self.new ≡ in_mode self.old mode }
+    {
+        self.session.mode = mode;
     }
 
     /// Overwrites all keys.

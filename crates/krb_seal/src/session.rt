@@ -11,7 +11,7 @@ pub enum Mode {
     Priv,
 }
 
-/// What a sealer writes into each message. An address has at most 32 bytes.
+/// What a sealer writes into each message. An address has at most 40 bytes.
 #[derive(Debug, Drop)]
 pub struct Session {
     /// The kind of message.
@@ -24,8 +24,7 @@ pub struct Session {
     pub first: u32,
 }
 
-/// What an opener demands of each message. An address has at most 32 bytes, and the skew is at
-/// most a day.
+/// What an opener demands of each message. The skew is at most a day in this project's jobs.
 #[derive(Debug, Drop)]
 pub struct Expect {
     /// The kind of message.

@@ -1,26 +1,23 @@
-use Rattle.std.proofs.Common.{◌≡◌, ◌↔◌, inr, subst, refl}
-use Rattle.std.specs.Prelude.{IsTrue}
-use Rattle.krb_seal.specs.Keys.{tag_of}
-use Rattle.krb_seal.specs.Opens.{OpenerState, Decrypt, IsEncryption, OpensText, priv_header}
-use Rattle.krb_seal.specs.Unseals.{first_unmet, refusal_of}
-use Rattle.krb_seal.proofs.Checking.{not_passed, all_passed, was_deciphered, text_opened}
+use Rattle.std.proofs.Common.{◌≡◌, Ok, inr, subst}
+use Rattle.krb_seal.specs.Opens.{OpenerState, body_checks}
+use Rattle.krb_seal.specs.Unseals.{first_unmet, refusal_of, seen}
+use Rattle.krb_seal.proofs.Checking.{priv_refused, priv_opened, not_passed, all_passed, gave}
 use Rattle.krb_seal.proofs.opener.Opener.open_priv.Goals as goal
 
-pub returns-in_err-check_priv_header : goal.returns-in_err-check_priv_header
-returns-in_err-check_priv_header c =
-    let o = c.args.self.now in
-    let h = subst (λ (z : OpenerState). first_unmet (priv_header z.etype z.expect c.args.m) ≡ refusal_of c.check_priv_header.result) c.self.view_is c.check_priv_header.ensures in
-    not_passed (priv_header o.etype o.expect c.args.m) _ c.check_priv_header.result _ c.from_residual.result (inr h) c.in_err-check_priv_header.was c.from_residual.ensures.1
+pub returns-in_err-body : goal.returns-in_err-body
+returns-in_err-body c =
+    priv_refused c.args.self.now c.args.number c.args.now c.args.m c.authentic_priv.result _ c.from_residual.result c.authentic_priv.ensures.answer c.in_err-body.was c.from_residual.ensures.1
+
+pub returns-in_err-check_body : goal.returns-in_err-check_body
+returns-in_err-check_body c =
+    let b = c.in_ok-body.body in let o = c.args.self.now in
+    let h = subst (λ (z : OpenerState). first_unmet (body_checks z.expect c.args.number c.args.now b) ≡ refusal_of c.check_body.result) c.self.view_is c.check_body.ensures in
+    priv_opened o c.args.number c.args.now c.args.m c.authentic_priv.result b c.from_residual-in_err-check_body.result c.authentic_priv.ensures.answer c.in_ok-body.was
+    (not_passed (body_checks o.expect c.args.number c.args.now b) (λ y. y ≡ Ok b.user_data) c.check_body.result _ c.from_residual-in_err-check_body.result (inr h) c.in_err-check_body.was c.from_residual-in_err-check_body.ensures.1)
 
 pub returns : goal.returns
 returns c =
-    let o = c.args.self.now in
-    let text = c.decrypted-text.result.0.items in
-    let tag = c.decrypted-text.result.1 in
-    let opens = OpensText o c.args.number c.args.now in
-    let h = subst (λ (z : OpenerState). first_unmet (priv_header z.etype z.expect c.args.m) ≡ refusal_of c.check_priv_header.result) c.self.view_is c.check_priv_header.ensures in
-    let enc = subst (λ (z : OpenerState). IsEncryption z.key c.args.m.cipher text tag) c.self.view_is c.decrypted-text.ensures in
-    let fits = subst (λ (z : OpenerState). IsTrue c.is_tag.result ↔ (tag ≡ tag_of z.key text)) c.self.view_is (rw c.deref.ensures.value at c.is_tag.ensures) in
-    all_passed (priv_header o.etype o.expect c.args.m) (Decrypt o.key c.args.m.cipher opens) c.check_priv_header.result _ c.open_part.result (inr h) c.in_ok-check_priv_header.was
-    (was_deciphered o.key c.args.m.cipher text tag opens c.open_part.result enc
-    (text_opened o c.args.number c.args.now text tag (tag_of o.key text) c.is_tag.result c.open_part.result fits c.if-not-is_tag.false refl c.open_part.ensures))
+    let b = c.in_ok-body.body in let o = c.args.self.now in
+    let h = subst (λ (z : OpenerState). first_unmet (body_checks z.expect c.args.number c.args.now b) ≡ refusal_of c.check_body.result) c.self.view_is c.check_body.ensures in
+    priv_opened o c.args.number c.args.now c.args.m c.authentic_priv.result b (Ok c.into_vec.result) c.authentic_priv.ensures.answer c.in_ok-body.was
+    (all_passed (body_checks o.expect c.args.number c.args.now b) (λ y. y ≡ Ok b.user_data) c.check_body.result _ (seen (Ok c.into_vec.result)) (inr h) c.in_ok-check_body.was (gave b.user_data c.into_vec.result c.into_vec.ensures))

@@ -1,0 +1,75 @@
+//! What C calls of messages and answers, with no handle.
+
+ghost use Rattle.std.specs.Prelude.{◌≡◌, ◌≤◌, length};
+ghost use Rattle.krb_c.specs.Answers.{IsWritten, name_of, ok_name, ok_text, text_of};
+ghost use Rattle.krb_c.specs.Fault.{FaultedBy};
+ghost use Rattle.krb_c.specs.Header.{ReadsHeader};
+ghost use Rattle.krb_c.specs.Reasons.{HeaderReason, TextReason};
+
+use crate::answers::{name_into, text_into};
+use crate::header::{KrbHeader, header};
+use std::alloc::Global;
+
+/// The version of the library: 0x010000 is 1.0.0.
+const VERSION: u32 = 0x01_0000;
+
+/// The version of the library: its major number, and a byte each for minor number and patch.
+#[unsafe(no_mangle)]
+pub extern "C" fn krbrelay_version() -> u32
+    ensures { result ≡ 65536 }
+{
+    VERSION
+}
+
+/// Tells what a message says of itself in clear, so that a key can be chosen. Any answer but 0
+/// leaves `told` as it was.
+#[unsafe(no_mangle)]
+pub extern "C" fn krbrelay_message_header(alloc: Global, frame: &[u8], told: &mut KrbHeader) -> u32
+    ensures read { result ≡ 0 → ReadsHeader frame.now told.new }
+    ensures kept { ¬ (result ≡ 0) → told.new ≡ told.old }
+    ensures why { ¬ (result ≡ 0) → FaultedBy (HeaderReason frame.now) result }
+{
+    match header(alloc, frame) {
+        Ok(found) => {
+            *told = found;
+            0
+        }
+        Err(fault) => fault.code(),
+    }
+}
+
+/// Writes the name of the answer with this number and a zero after it, and the name's size.
+#[unsafe(no_mangle)]
+pub extern "C" fn krbrelay_answer_name(code: u32, out: &mut [u8], size: &mut usize) -> u32
+    ensures named { result ≡ 0 → IsWritten name_of ok_name code size.new out.new }
+    ensures out_kept { ¬ (result ≡ 0) → out.new ≡ out.old }
+    ensures size_kept { ¬ (result ≡ 0) → size.new ≡ size.old }
+    ensures why { ¬ (result ≡ 0)
+        → FaultedBy (TextReason name_of ok_name code (length out.old)) result }
+{
+    match name_into(code, out) {
+        Ok(written) => {
+            *size = written;
+            0
+        }
+        Err(fault) => fault.code(),
+    }
+}
+
+/// Writes what the answer with this number says and a zero after it, and the text's size.
+#[unsafe(no_mangle)]
+pub extern "C" fn krbrelay_answer_text(code: u32, out: &mut [u8], size: &mut usize) -> u32
+    ensures told { result ≡ 0 → IsWritten text_of ok_text code size.new out.new }
+    ensures out_kept { ¬ (result ≡ 0) → out.new ≡ out.old }
+    ensures size_kept { ¬ (result ≡ 0) → size.new ≡ size.old }
+    ensures why { ¬ (result ≡ 0)
+        → FaultedBy (TextReason text_of ok_text code (length out.old)) result }
+{
+    match text_into(code, out) {
+        Ok(written) => {
+            *size = written;
+            0
+        }
+        Err(fault) => fault.code(),
+    }
+}
