@@ -11,20 +11,23 @@ use Rattle.krb_seal.specs.declared.refusal.Refusal.{Refusal}
 use Rattle.krb_seal.specs.declared.refusal.Refusal.TheVariants.{Memory}
 use Rattle.krb_seal.specs.Opens.{OpenerState, Checks, Passes, Read, Decrypt, frame_checks, safe_header, checksum_checks, priv_header, text_checks}
 
--- the body, or a refusal
+-- The body, or a refusal.
 abbrev pub Authenticity : Type 0
 Authenticity = Result Body Refusal
 
--- of KRB-SAFE, the checks but for those of its body
+-- The checks of KRB-SAFE, without those of its body.
 abbrev pub authentic_checks : OpenerState → SafeMsg → Checks
 authentic_checks o m = safe_header o.etype o.expect m ++ checksum_checks o.key m
 
+-- The outcome is this body.
 abbrev pub GivesBody : Body → Authenticity → Type 0
 GivesBody b outcome = outcome ≡ Ok b
 
+-- The outcome of a deciphered text and the code after its cipher.
 abbrev pub AuthenticText : List ℕ → List ℕ → List ℕ → Authenticity → Type 0
 AuthenticText key text tag outcome = Passes (text_checks key text tag) (Read SpellsPart (drop 16 text) GivesBody) outcome
 
+-- The outcome of a message.
 abbrev pub AuthenticMessage : OpenerState → Message → Authenticity → Type 0
 AuthenticMessage o (messages.Safe m) outcome = Passes (authentic_checks o m) (GivesBody m.body) outcome
 AuthenticMessage o (messages.Priv m) outcome =
@@ -34,6 +37,6 @@ AuthenticMessage o (messages.Priv m) outcome =
 abbrev pub Authenticates : OpenerState → List ℕ → Authenticity → Type 0
 Authenticates o bytes outcome = Passes (frame_checks bytes) (Read Spells bytes (AuthenticMessage o)) outcome
 
--- a growth was refused, or the answer is as Gives says
+-- The call ran out of memory, or its result is as Gives says.
 abbrev pub AuthenticOrMemory : (Authenticity → Type 0) → Authenticity → Type 0
 AuthenticOrMemory Gives result = (result ≡ Err Memory) ⊎ Gives result

@@ -5,12 +5,12 @@ use Rattle.krb_base.specs.Limits.{user_data_limit}
 use Rattle.krb_der.specs.declared.body.Body.{Body}
 use Rattle.krb_seal.specs.Session.{IsShortAddress, session_address_limit}
 
--- the data and the addresses of a body are within the limits
+-- The data and the addresses of a body are within the limits.
 pub record IsSmall (b : Body) : Type 0 where
   pub user : length b.user_data ≤ user_data_limit
   pub sender : IsShortAddress b.s_addr
   pub receiver : ForSome b.r_addr IsShortAddress
 
--- the data and two addresses
+-- The data and two addresses.
 abbrev pub small_body_limit : ℕ
 small_body_limit = user_data_limit + 2 * session_address_limit

@@ -1,4 +1,4 @@
--- What computing the checksum of a KRB-SAFE answers.
+-- What computing the checksum of a KRB-SAFE returns.
 use Rattle.std.specs.Prelude.{◌≡◌, ℕ, ◌<◌, ◌≤◌, List, length, Result, Ok, Err}
 use Rattle.krb_base.specs.Limits.{frame_limit}
 use Rattle.krb_der.specs.declared.error.DerError.{DerError}
@@ -7,7 +7,7 @@ use Rattle.krb_der.specs.declared.safe.SafeMsg.{SafeMsg}
 use Rattle.krb_der.specs.Safe.{safe_input}
 use Rattle.krb_seal.specs.Seals.{safe_checksum}
 
--- the checksum, or that what is under it would be too long
+-- The checksum, or that what it covers would be too long.
 abbrev pub Sums : List ℕ → SafeMsg → Result (List ℕ) DerError → Type 0
 Sums key m (Ok sum) = sum ≡ safe_checksum key m
 Sums key m (Err errors.TooLong) = frame_limit < length (safe_input m)

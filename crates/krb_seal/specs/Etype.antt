@@ -7,7 +7,7 @@ abbrev pub number_of : Etype → ℤ
 number_of Aes128 = pos 17
 number_of Aes256 = pos 18
 
--- how many bytes a session key has (RFC 3962 section 6)
+-- How many bytes a session key has (RFC 3962 section 6).
 abbrev pub key_size : Etype → ℕ
 key_size Aes128 = 16
 key_size Aes256 = 32

@@ -6,23 +6,23 @@ use Rattle.krb_aes.specs.Stealing.{cts_of}
 use Rattle.krb_keys.specs.Hmac.{hmac96}
 use Rattle.krb_keys.specs.Derivation.{dk}
 
--- Kc
+-- Kc, under which the checksum of KRB-SAFE is made.
 abbrev pub checksum_key : List ℕ → List ℕ
 checksum_key key = dk key 15 0x99
 
--- Ke
+-- Ke, under which the part of KRB-PRIV is enciphered.
 abbrev pub encryption_key : List ℕ → List ℕ
 encryption_key key = dk key 13 0xAA
 
--- Ki
+-- Ki, under which the code of that part is made.
 abbrev pub integrity_key : List ℕ → List ℕ
 integrity_key key = dk key 13 0x55
 
--- the code of a text that is encrypted beside it
+-- The code of a text that is encrypted beside it.
 abbrev pub tag_of : List ℕ → List ℕ → List ℕ
 tag_of key text = hmac96 (integrity_key key) text
 
--- encryption (RFC 3961 section 5.3, RFC 3962 section 6): a text that begins with its confounder,
--- enciphered from a state of zeros, and then its code
+-- Encryption (RFC 3961 section 5.3, RFC 3962 section 6): a text that begins with its confounder,
+-- enciphered from a state of zeros, and then its code.
 abbrev pub encrypted : List ℕ → List ℕ → List ℕ
 encrypted key text = cts_of (encryption_key key) text ++ tag_of key text

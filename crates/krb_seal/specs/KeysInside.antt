@@ -1,4 +1,4 @@
--- What the keys beside a session key are: those derived from it, until all of them are wiped.
+-- The keys beside a session key are those derived from it, until all of them are wiped.
 use Rattle.std.specs.Prelude.{◌≡◌, true, false}
 use Rattle.krb_aes.specs.Keys.{expanded_key, AreZero}
 use Rattle.krb_keys.specs.MacKey.{HoldsKey, IsForgotten}

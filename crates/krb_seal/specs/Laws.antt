@@ -11,36 +11,36 @@ use Rattle.krb_seal.specs.Opens.{OpenerState, Outcome, Opens, OpensPart, opener_
 use Rattle.krb_seal.specs.Authentic.{Authenticity, Authenticates}
 use Rattle.krb_seal.specs.Opening.{opens}
 
--- each frame has one outcome at each number and moment, and `opens` is it
+-- Each frame has one outcome at each number and timestamp, and `opens` gives it.
 abbrev pub OneOutcome : Type 0
 OneOutcome = (o : OpenerState) (number now : ℕ) (bytes : List ℕ) (outcome : Outcome)
     → AreBytes bytes → Opens o number now bytes outcome ↔ (outcome ≡ opens o number now bytes)
 
--- a sealed frame is one list of bytes
+-- A sealed frame is one list of bytes.
 abbrev pub OneFrame : Type 0
 OneFrame = (etype : ℤ) (key : List ℕ) (s : Session) (number : ℕ) (user : List ℕ) (at : ℕ) (conf bytes : List ℕ)
     → Seals etype key s number user at conf bytes → bytes ≡ sealed etype key s number user at conf
 
--- the receiver's address is told, or it is left out and not required
+-- The message carries the receiver's address, or leaves it out and it isn't required.
 abbrev pub ReceiverAgrees : Expect → Option HostAddress → Type 0
 ReceiverAgrees x None = x.require_r ≡ false
 ReceiverAgrees x (Some a) = a ≡ x.r_addr
 
--- both ends speak of one mode and of the same addresses, and the moments lie within the skew
+-- Both ends have one mode and the same addresses, and the timestamps are within the skew.
 pub record Agree (s : Session) (x : Expect) (at now : ℕ) : Type 0 where
   pub mode : s.mode ≡ x.mode
   pub sender : s.s_addr ≡ x.s_addr
   pub receiver : ReceiverAgrees x s.r_addr
   pub current : distance now at ≤ micros_per_second * x.skew
 
--- whatever an opener with the sealer's key expects, a sealed frame gives nothing but its data, at
--- its own number
+-- Whatever an opener with the sealer's key expects, a sealed frame gives nothing but its data, at
+-- its own number.
 abbrev pub NowhereElse : Type 0
 NowhereElse = (etype : ℤ) (key : List ℕ) (s : Session) (x : Expect) (q at now number : ℕ) (user conf bytes given : List ℕ)
     → Seals etype key s q user at conf bytes
     → Opens (opener_of etype key x) number now bytes (Ok given) → (number ≡ q) × (given ≡ user)
 
--- and it gives its data at its own number where the ends agree
+-- It gives its data at its own number if both ends agree.
 abbrev pub AtItsNumber : Type 0
 AtItsNumber = (etype : ℤ) (key : List ℕ) (s : Session) (x : Expect) (q at now : ℕ) (user conf bytes : List ℕ)
     → Seals etype key s q user at conf bytes → Agree s x at now
@@ -48,18 +48,18 @@ AtItsNumber = (etype : ℤ) (key : List ℕ) (s : Session) (x : Expect) (q at no
 
 -- ---- opening without demands
 
--- each frame has one outcome
+-- Each frame has one outcome.
 abbrev pub OneAuthenticity : Type 0
 OneAuthenticity = (o : OpenerState) (bytes : List ℕ) (a b : Authenticity) → Authenticates o bytes a → Authenticates o bytes b → a ≡ b
 
--- unsealing gives data if and only if the frame is authentic with a body that passes the body
--- checks, and then the data of that body
+-- Unsealing gives data if and only if the frame is authentic with a body that passes the body
+-- checks, and then the data of that body.
 abbrev pub OpensTheAuthentic : Type 0
 OpensTheAuthentic = (o : OpenerState) (number now : ℕ) (bytes user : List ℕ)
     → Opens o number now bytes (Ok user) ↔ ((b : Body) × Authenticates o bytes (Ok b) × OpensPart o.expect number now b (Ok user))
 
--- a sealed frame is authentic, with the body that was sealed, to an opener of its mode with the
--- sealer's key, whatever else that opener expects
+-- A sealed frame is authentic, with the body that was sealed, to an opener of its mode with the
+-- sealer's key, whatever else that opener expects.
 abbrev pub SealedIsAuthentic : Type 0
 SealedIsAuthentic = (etype : ℤ) (key : List ℕ) (s : Session) (x : Expect) (q at : ℕ) (user conf bytes : List ℕ)
     → Seals etype key s q user at conf bytes → s.mode ≡ x.mode

@@ -12,7 +12,7 @@ use Rattle.krb_seal.specs.declared.refusal.Refusal.TheVariants.{Malformed}
 use Rattle.krb_seal.specs.Keys.{encryption_key}
 use Rattle.krb_seal.specs.Opens.{OpenerState, Outcome, Checks, frame_checks, safe_checks, priv_header, text_checks, body_checks}
 
--- the refusal of the first test that is not met, else what follows
+-- The refusal of the first test that isn't met, else what follows.
 abbrev pub passed : Checks → Outcome → Outcome
 passed [] next = next
 passed ((met, r) ∷ rest) next = if met then passed rest next else Err r
@@ -21,7 +21,7 @@ abbrev pub read : {V : Type 0} → Option V → (V → Outcome) → Outcome
 read None next = Err Malformed
 read (Some v) next = next v
 
--- the text and the code of a cipher
+-- The text and the code of a cipher.
 abbrev pub text_in : List ℕ → List ℕ → List ℕ
 text_in key cipher = uncts (expanded_key (encryption_key key)) (take (length cipher - 12) cipher)
 

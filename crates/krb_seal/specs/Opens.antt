@@ -23,55 +23,64 @@ use Rattle.krb_seal.specs.declared.refusal.Refusal.TheVariants.{FieldTooLong, Ma
 use Rattle.krb_seal.specs.Keys.{encryption_key, tag_of}
 use Rattle.krb_seal.specs.Seals.{safe_checksum, checksum_type}
 
--- what contracts see of an opener
+-- What contracts see of an opener.
 pub record OpenerState : Type 0 where
   pub etype : ℤ
   pub key : List ℕ
   pub expect : Expect
 
+-- The opener of an encryption type and a key, with these expectations.
 abbrev pub opener_of : ℤ → List ℕ → Expect → OpenerState
 opener_of etype key x = record { etype = etype; key = key; expect = x }
 
--- the user data, or a refusal
+-- The user data, or a refusal.
 abbrev pub Outcome : Type 0
 Outcome = Result (List ℕ) Refusal
 
 -- ---- the tests
 
+-- The receiver's address is the expected one, or is absent and not required.
 abbrev pub receiver_fits : Expect → Option HostAddress → Bool
 receiver_fits x None = not x.require_r
 receiver_fits x (Some a) = same_address a x.r_addr
 
+-- The sender's address is the expected one, and so is the receiver's.
 abbrev pub addresses_fit : Expect → Body → Bool
 addresses_fit x b = same_address b.s_addr x.s_addr && receiver_fits x b.r_addr
 
+-- How far apart two numbers are.
 abbrev pub distance : ℕ → ℕ → ℕ
 distance a b = (a - b) + (b - a)
 
--- in whole microseconds, and both ends of the window are current
+-- The time is within the skew, both ends of it included, in microseconds; or it is absent and not
+-- expected.
 abbrev pub is_current : Expect → ℕ → Option ℕ → Option ℕ → Bool
 is_current x now (Some secs) (Some usec) = nat_le (distance now (moment_of secs usec)) (micros_per_second * x.skew)
 is_current x now None None = not x.expect_time
 is_current x now (Some secs) None = false
 is_current x now None (Some usec) = false
 
+-- The sequence number is the demanded one.
 abbrev pub is_number : ℕ → Option ℕ → Bool
 is_number number None = false
 is_number number (Some n) = nat_eq n number
 
+-- The mode is that of KRB-SAFE.
 abbrev pub is_safe : Mode → Bool
 is_safe Safe = true
 is_safe Priv = false
 
--- ---- the checks, in their order: a test, and the refusal where it is not met
+-- ---- the checks, in their order: a test, and the refusal if it isn't met
 
+-- Tests in their order, each with the refusal if it isn't met.
 abbrev pub Checks : Type 0
 Checks = List (Bool × Refusal)
 
+-- The check of the bytes, before they are read.
 abbrev pub frame_checks : List ℕ → Checks
 frame_checks bytes = (nat_le (length bytes) frame_limit, FieldTooLong) ∷ []
 
--- of KRB-SAFE, before its body
+-- The checks of KRB-SAFE before those of its body.
 abbrev pub safe_header : ℤ → Expect → SafeMsg → Checks
 safe_header etype x m =
     (int_eq m.pvno (pos 5), BadVersion)
@@ -79,7 +88,7 @@ safe_header etype x m =
     ∷ (int_eq m.cksum_type (checksum_type etype), InappCksum)
     ∷ []
 
--- of KRB-PRIV, before it is deciphered
+-- The checks of KRB-PRIV before it is deciphered.
 abbrev pub priv_header : ℤ → Expect → PrivMsg → Checks
 priv_header etype x m =
     (int_eq m.pvno (pos 5), BadVersion)
@@ -88,7 +97,7 @@ priv_header etype x m =
     ∷ (nat_le 28 (length m.cipher), BadIntegrity)
     ∷ []
 
--- of what both kinds carry
+-- The checks of a body of either kind.
 abbrev pub body_checks : Expect → ℕ → ℕ → Body → Checks
 body_checks x number now b =
     (addresses_fit x b, BadAddr)
@@ -96,60 +105,62 @@ body_checks x number now b =
     ∷ (is_number number b.seq, BadOrder)
     ∷ []
 
--- of the checksum of KRB-SAFE
+-- The check of the checksum of KRB-SAFE.
 abbrev pub checksum_checks : List ℕ → SafeMsg → Checks
 checksum_checks key m = (bytes_eq m.checksum (safe_checksum key m), Modified) ∷ []
 
--- of KRB-SAFE, all of them
+-- All checks of KRB-SAFE.
 abbrev pub safe_checks : OpenerState → ℕ → ℕ → SafeMsg → Checks
 safe_checks o number now m =
     safe_header o.etype o.expect m
     ++ body_checks o.expect number now m.body
     ++ checksum_checks o.key m
 
--- of a deciphered text and the code that stood behind its cipher
+-- The check of a deciphered text and the code after its cipher.
 abbrev pub text_checks : List ℕ → List ℕ → List ℕ → Checks
 text_checks key text tag = (bytes_eq tag (tag_of key text), BadIntegrity) ∷ []
 
 -- ---- what an outcome is
 
--- the refusal of the first test that is not met, else as Then says
+-- The refusal of the first test that isn't met, else as Then says.
 abbrev pub Passes : {A : Type 0} → Checks → (Result A Refusal → Type 0) → Result A Refusal → Type 0
 Passes [] Then outcome = Then outcome
 Passes ((true, r) ∷ rest) Then outcome = Passes rest Then outcome
 Passes ((false, r) ∷ rest) Then outcome = outcome ≡ Err r
 
--- Malformed where nothing is spelt so, else as Then says of the value
+-- Malformed if the bytes spell nothing, else as Then says of the value that they spell.
 abbrev pub Read : {V A : Type 0} → (V → List ℕ → Type 0) → List ℕ → (V → Result A Refusal → Type 0) → Result A Refusal → Type 0
 Read Spelt bytes Then outcome =
     (((v : _) → Spelt v bytes → ⊥) × (outcome ≡ Err Malformed)) ⊎ ((v : _) × Spelt v bytes × Then v outcome)
 
--- the cipher is that of a text, followed by a code of 12 bytes
+-- The cipher is that of a text, followed by a code of 12 bytes.
 pub record IsEncryption (key cipher text tag : List ℕ) : Type 0 where
   pub bytes : AreBytes text
   pub long : 16 ≤ length text
   pub twelve : length tag ≡ 12
   pub image : cipher ≡ cts_of (encryption_key key) text ++ tag
 
--- as Then says of the one text and code of a cipher
+-- As Then says of the one text and code of a cipher.
 abbrev pub Decrypt : {A : Type 0} → List ℕ → List ℕ → (List ℕ → List ℕ → Result A Refusal → Type 0) → Result A Refusal → Type 0
 Decrypt key cipher Then outcome =
     (text : List ℕ) × (tag : List ℕ) × IsEncryption key cipher text tag × Then text tag outcome
 
+-- The outcome of an authentic body.
 abbrev pub OpensPart : Expect → ℕ → ℕ → Body → Outcome → Type 0
 OpensPart x number now b outcome = Passes (body_checks x number now b) (λ y. y ≡ Ok b.user_data) outcome
 
--- a text is its confounder of 16 bytes and the encrypted part
+-- The outcome of a deciphered text: its confounder of 16 bytes, and then the encrypted part.
 abbrev pub OpensText : OpenerState → ℕ → ℕ → List ℕ → List ℕ → Outcome → Type 0
 OpensText o number now text tag outcome =
     Passes (text_checks o.key text tag) (Read SpellsPart (drop 16 text) (OpensPart o.expect number now)) outcome
 
+-- The outcome of a message.
 abbrev pub OpensMessage : OpenerState → ℕ → ℕ → Message → Outcome → Type 0
 OpensMessage o number now (messages.Safe m) outcome =
     Passes (safe_checks o number now m) (λ y. y ≡ Ok m.body.user_data) outcome
 OpensMessage o number now (messages.Priv m) outcome =
     Passes (priv_header o.etype o.expect m) (Decrypt o.key m.cipher (OpensText o number now)) outcome
 
--- The outcome of opening bytes at a demanded number and a moment.
+-- The outcome of opening bytes at a demanded number and a timestamp.
 abbrev pub Opens : OpenerState → ℕ → ℕ → List ℕ → Outcome → Type 0
 Opens o number now bytes outcome = Passes (frame_checks bytes) (Read Spells bytes (OpensMessage o number now)) outcome

@@ -5,6 +5,7 @@ use Rattle.krb_seal.specs.declared.session.Mode.{Mode}
 use Rattle.krb_seal.specs.declared.session.Session.{Session}
 use Rattle.krb_seal.specs.Seals.{Seals}
 
+-- What contracts see of a sealer.
 pub record SealerState : Type 0 where
   pub etype : ℤ
   pub key : List ℕ
@@ -12,26 +13,26 @@ pub record SealerState : Type 0 where
   pub next : ℕ
   pub wiped : Bool
 
--- one over the last number, which no message has
+-- One over the last number, which no message has.
 abbrev pub end_of_numbers : ℕ
 end_of_numbers = last_number + 1
 
--- a new sealer
+-- A new sealer.
 abbrev pub new_state : ℤ → List ℕ → Session → SealerState
 new_state etype key session = record { etype = etype; key = key; session = session; next = session.first; wiped = false }
 
--- after a sealed frame
+-- The sealer after a sealed frame.
 abbrev pub advanced : SealerState → SealerState
 advanced s = record s { next = s.next + 1 }
 
--- from now on in this mode
+-- The sealer in this mode from now on.
 abbrev pub in_mode : SealerState → Mode → SealerState
 in_mode s mode = record s { session = record s.session { mode = mode } }
 
--- after a wipe
+-- The sealer after a wipe.
 abbrev pub wiped_state : SealerState → SealerState
 wiped_state s = record s { key = replicate (length s.key) 0; wiped = true }
 
--- the bytes seal this data at the next number
+-- The bytes seal this data at the next number.
 abbrev pub SealsNext : SealerState → List ℕ → ℕ → List ℕ → List ℕ → Type 0
 SealsNext s user at conf bytes = Seals s.etype s.key s.session s.next user at conf bytes

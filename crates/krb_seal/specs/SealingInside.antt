@@ -1,4 +1,4 @@
--- What the parts of a sealer say.
+-- The state of a sealer, from its parts.
 use Rattle.std.specs.Prelude.{◌≤◌}
 use Rattle.krb_seal.specs.declared.sealing.Sealing.TheInside.{Inside}
 use Rattle.krb_seal.specs.Etype.{number_of}

@@ -17,15 +17,16 @@ use Rattle.krb_seal.specs.declared.session.Mode.TheVariants.{Safe, Priv}
 use Rattle.krb_seal.specs.declared.session.Session.{Session}
 use Rattle.krb_seal.specs.Keys.{checksum_key, encrypted}
 
--- the checksum's type (RFC 3962 section 7): 15 for encryption type 17, 16 for 18
+-- The checksum's type (RFC 3962 section 7): 15 for encryption type 17, 16 for 18.
 abbrev pub checksum_type : ℤ → ℤ
 checksum_type etype = if int_eq etype (pos 17) then pos 15 else pos 16
 
--- the checksum of KRB-SAFE, over the message with checksum type 0 and an empty checksum
+-- The checksum of KRB-SAFE, over the message with checksum type 0 and an empty checksum (RFC 4120
+-- section 5.6.1).
 abbrev pub safe_checksum : List ℕ → SafeMsg → List ℕ
 safe_checksum key m = hmac96 (checksum_key key) (safe_input m)
 
--- what a message carries: the data, its moment and number, and the session's addresses
+-- What a message carries: the data, its time and number, and the session's addresses.
 abbrev pub body_of : Session → ℕ → List ℕ → ℕ → Body
 body_of s number user at = record {
   user_data = user;
@@ -36,33 +37,36 @@ body_of s number user at = record {
   r_addr = s.r_addr;
 }
 
--- KRB-SAFE before it has its checksum
+-- KRB-SAFE before it has its checksum.
 abbrev pub unsigned : ℤ → Body → SafeMsg
 unsigned etype b = record { pvno = pos 5; msg_type = pos 20; body = b; cksum_type = checksum_type etype; checksum = [] }
 
+-- KRB-SAFE with its checksum.
 abbrev pub sealed_safe : ℤ → List ℕ → Body → SafeMsg
 sealed_safe etype key b = record (unsigned etype b) { checksum = safe_checksum key (unsigned etype b) }
 
--- KRB-PRIV before it has its cipher
+-- KRB-PRIV before it has its cipher.
 abbrev pub unenciphered : ℤ → PrivMsg
 unenciphered etype = record { pvno = pos 5; msg_type = pos 21; etype = etype; kvno = None; cipher = [] }
 
--- KRB-PRIV of a text that is enciphered
+-- KRB-PRIV of a text that is enciphered.
 abbrev pub priv_of : ℤ → List ℕ → List ℕ → PrivMsg
 priv_of etype key text = record (unenciphered etype) { cipher = encrypted key text }
 
+-- KRB-PRIV of a body, under a confounder.
 abbrev pub sealed_priv : ℤ → List ℕ → List ℕ → Body → PrivMsg
 sealed_priv etype key conf b = priv_of etype key (conf ++ part b)
 
+-- The message of a mode that carries a body.
 abbrev pub sealed_as : Mode → ℤ → List ℕ → List ℕ → Body → Message
 sealed_as Safe etype key conf b = messages.Safe (sealed_safe etype key b)
 sealed_as Priv etype key conf b = messages.Priv (sealed_priv etype key conf b)
 
--- the message that carries data at a number and a moment, under a confounder
+-- The message that carries data at a number and a timestamp, under a confounder.
 abbrev pub sealed_message : ℤ → List ℕ → Session → ℕ → List ℕ → ℕ → List ℕ → Message
 sealed_message etype key s number user at conf = sealed_as s.mode etype key conf (body_of s number user at)
 
--- its bytes
+-- The bytes of that message.
 unfoldable pub sealed : ℤ → List ℕ → Session → ℕ → List ℕ → ℕ → List ℕ → List ℕ
 sealed etype key s number user at conf = message (sealed_message etype key s number user at conf)
 
@@ -74,6 +78,6 @@ pub record SealsBody (mode : Mode) (etype : ℤ) (key conf : List ℕ) (b : Body
   pub plain : mode ≡ Priv → AreBytes (conf ++ part b)
   pub spelt : Spells (sealed_as mode etype key conf b) bytes
 
--- The bytes are the frame of this data at a number and a moment.
+-- The bytes are the frame of this data at a number and a timestamp.
 abbrev pub Seals : ℤ → List ℕ → Session → ℕ → List ℕ → ℕ → List ℕ → List ℕ → Type 0
 Seals etype key s number user at conf bytes = SealsBody s.mode etype key conf (body_of s number user at) bytes

@@ -1,4 +1,4 @@
--- What opening answers in code: an outcome, or want of memory.
+-- What opening returns: an outcome, or out of memory.
 use Rattle.std.specs.Prelude.{◌≡◌, ℕ, [], ◌∷◌, Option, Some, None, Result, Ok, Err, true, false, ◌⊎◌}
 use Rattle.std.specs.Global.{Vec}
 use Rattle.krb_seal.specs.declared.refusal.Refusal.{Refusal}
@@ -9,21 +9,21 @@ abbrev pub seen : Result (Vec ℕ) Refusal → Outcome
 seen (Ok v) = Ok v.items
 seen (Err r) = Err r
 
--- a growth was refused, or the answer is as Gives says
+-- The call ran out of memory, or its result is as Gives says.
 abbrev pub OrMemory : (Outcome → Type 0) → Result (Vec ℕ) Refusal → Type 0
 OrMemory Gives result = (result ≡ Err Memory) ⊎ Gives (seen result)
 
--- the first refusal of a list of checks
+-- The first refusal of a list of checks.
 abbrev pub first_unmet : Checks → Option Refusal
 first_unmet [] = None
 first_unmet ((true, r) ∷ rest) = first_unmet rest
 first_unmet ((false, r) ∷ rest) = Some r
 
--- what a function that makes checks answers
+-- What a function that makes checks returns.
 abbrev pub refusal_of : {A : Type 0} → Result A Refusal → Option Refusal
 refusal_of (Ok x) = None
 refusal_of (Err r) = Some r
 
--- a function made these checks, or a growth was refused
+-- A function made these checks, or ran out of memory.
 abbrev pub Checked : {A : Type 0} → Checks → Result A Refusal → Type 0
 Checked checks result = (result ≡ Err Memory) ⊎ (first_unmet checks ≡ refusal_of result)

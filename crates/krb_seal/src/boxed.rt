@@ -1,11 +1,11 @@
-//! A sealer behind a pointer.
+//! A sealer in a box.
 
 use crate::seal_error::SealError;
 use crate::sealer::Sealer;
 use krb_der::Moment;
 use std::alloc::Global;
 
-/// Each call goes to the sealer inside.
+/// Each call goes to the sealer in the box.
 impl Sealer for Box<dyn Sealer + Send> {
     ghost state = { λ b. (Sealer-box b).state b.value };
 

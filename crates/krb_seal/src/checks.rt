@@ -12,7 +12,7 @@ use crate::session::{Expect, Mode};
 use krb_der::{Body, HostAddress, MICROS_PER_SECOND, PrivMsg, SafeMsg};
 use krb_keys::mac_equal;
 
-/// The fewest bytes of a cipher: a confounder, and the code behind it.
+/// The fewest bytes of a cipher: a confounder and the code after it.
 const LEAST_CIPHER: usize = 28;
 
 fn receiver_fits(expect: &Expect, r_addr: &Option<HostAddress>) -> bool
@@ -105,7 +105,7 @@ pub fn has_checksum(m: &SafeMsg, checksum: &[u8; 12]) -> bool
     mac_equal(m.checksum.as_slice(), checksum)
 }
 
-/// The addresses, the time and the number of what both kinds carry.
+/// The addresses, the time and the number of a body of either kind.
 pub fn check_body(expect: &Expect, number: u64, now: u64, body: &Body) -> Result<(), Refusal>
     requires { InRange body.now }
     ensures { first_unmet (body_checks expect.now number now body.now) ≡ refusal_of result }

@@ -8,10 +8,10 @@ use crate::keys::Keys;
 use krb_der::{DerError, SafeRef, safe_input_around};
 use std::alloc::Global;
 
-/// The checksum that the message must have (RFC 4120 section 5.6.1). The data are not copied to be
+/// The checksum that the message must have (RFC 4120 section 5.6.1). The data aren't copied to be
 /// hashed.
 ///
-/// [`DerError::TooLong`] is answered exactly where what is under the checksum is longer than a
+/// [`DerError::TooLong`] is returned if and only if what the checksum covers is longer than a
 /// message may be.
 pub fn checksum_of(alloc: Global, keys: &Keys, m: &SafeRef<'_>) -> Result<[u8; 12], DerError>
     requires live { keys.now.wiped ≡ false }

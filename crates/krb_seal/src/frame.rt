@@ -49,7 +49,7 @@ fn known_bytes(bytes: &[u8])
     ensures { AreBytes bytes.now }
 {}
 
-/// Enciphers a text where it stands, and gives the code to put behind it.
+/// Enciphers a text in place, and gives the code that follows it.
 fn encipher(keys: &Keys, text: &mut [u8]) -> [u8; TAG_SIZE]
     requires live { keys.now.wiped ≡ false }
     requires long { 16 ≤ length text.old }
@@ -91,7 +91,7 @@ fn unenciphered(alloc: Global, etype: Etype) -> PrivMsg
     }
 }
 
-/// The KRB-PRIV that carries a body. The part is written, and enciphered, where it stands in the
+/// The KRB-PRIV that carries a body. The part is written and enciphered in its place in the
 /// frame.
 fn priv_frame(
     alloc: Global,

@@ -22,7 +22,7 @@ pub struct Aes128;
 #[derive(Clone, Copy)]
 pub struct Aes256;
 
-/// A sealer of the encryption type that `E` marks. Its drop overwrites all its keys.
+/// A sealer of the encryption type that `E` marks. Dropping it overwrites all its keys.
 pub struct AesSealer<E> {
     sealing: Sealing,
     mark: PhantomData<E>,

@@ -1,9 +1,9 @@
 //! Sealing and opening of KRB-SAFE and KRB-PRIV messages (RFC 4120 sections 3.4 and 3.5) under
 //! encryption types 17 and 18 (RFC 3962).
 //!
-//! A [`Sealer`] of one of the two kinds seals data at one sequence number after another, and an
-//! [`Opener`] answers the data of a frame at a demanded number, or the first check that it fails.
-//! [`Opener::authenticate`] demands nothing of addresses, time and number, and answers them.
+//! A [`Sealer`] of one of the two kinds seals data at one sequence number after another. An
+//! [`Opener`] returns the data of a frame at a demanded number, or the first check that it fails.
+//! [`Opener::authenticate`] demands nothing of addresses, time and number, and returns them.
 //!
 //! ```rust crates/example_seal/src/main.rt
 //! let mut sealer = Aes256Sealer::new(&mut { KEY }, session(alloc)?);

@@ -7,7 +7,7 @@ ghost use Rattle.krb_der.specs.declared.error.DerError.TheVariants as errors;
 use krb_der::DerError;
 use std::alloc::AllocError;
 
-/// A spelling within the limit fails for want of memory alone.
+/// An encoding within the limit fails only if it runs out of memory.
 pub fn within_limit<T>(spelling: Result<T, DerError>) -> Result<T, AllocError>
     requires { ForErr spelling (λ e. e ≡ errors.Memory) }
     ensures { IfOk result (λ v. spelling ≡ Ok v) }

@@ -1,4 +1,4 @@
-//! What opens the frames of a session.
+//! The opener of a session's frames.
 
 ghost use Rattle.std.specs.Prelude.{◌≡◌, ◌≤◌, pos, drop, length, replicate, Err, IfOk};
 ghost use Rattle.krb_base.specs.Limits.{frame_limit};
@@ -23,10 +23,10 @@ use std::alloc::Global;
 use std::marker::Model;
 use std::mem;
 
-/// How many bytes stand before an encrypted part (RFC 3961 section 5.3).
+/// How many bytes come before an encrypted part (RFC 3961 section 5.3).
 const CONFOUNDER_SIZE: usize = 16;
 
-/// Opens the frames of one sender. Its drop overwrites all its keys.
+/// Opens the frames of one sender. Dropping it overwrites all its keys.
 pub struct Opener {
     etype: Etype,
     keys: Keys,
@@ -86,7 +86,7 @@ impl Opener {
         }
     }
 
-    /// The user data of a frame that carries the sequence number `number`, at the moment `now`.
+    /// The user data of a frame that carries the sequence number `number`, opened at `now`.
     ///
     /// The refusal is that of the first check which the frame fails. No frame carries a number
     /// over [`LAST_NUMBER`](krb_base::LAST_NUMBER).
@@ -98,7 +98,7 @@ impl Opener {
         now: Moment,
     ) -> Result<Vec<u8>, Refusal>
         ensures answer { OrMemory (Opens self.now number now frame.now) result }
-        // A frame over the limit is refused before any memory is taken.
+        // A frame over the limit is refused before anything is allocated.
         ensures memory { result ≡ Err Refusal.Memory → length frame.now ≤ frame_limit }
     {
         let now = now.micros();
@@ -111,8 +111,8 @@ impl Opener {
         }
     }
 
-    /// The authenticated body of a frame: its user data, time, number and addresses, each absent
-    /// where the frame leaves it out. Nothing is demanded of them: that is the caller's to do.
+    /// The authenticated body of a frame: its user data, time, number and addresses, each absent if
+    /// the frame leaves it out. Nothing is demanded of them: that is left to the caller.
     ///
     /// The refusal is that of the first check which the frame fails: its size, its spelling, its
     /// version, its kind, its encryption type and its integrity, or its checksum's type and its
@@ -120,7 +120,7 @@ impl Opener {
     pub fn authenticate(&self, alloc: Global, frame: &[u8]) -> Result<Body, Refusal>
         ensures answer { AuthenticOrMemory (Authenticates self.now frame.now) result }
         ensures range { IfOk result InRange }
-        // A frame over the limit is refused before any memory is taken.
+        // A frame over the limit is refused before anything is allocated.
         ensures memory { result ≡ Err Refusal.Memory → length frame.now ≤ frame_limit }
     {
         match decode(alloc, frame) {
@@ -132,8 +132,8 @@ impl Opener {
         }
     }
 
-    /// Overwrites all keys where they lie. What is left is the opener of a key of as many zeros,
-    /// which is nobody's.
+    /// Overwrites all keys in place. What is left is the opener of a key of as many zeros, which
+    /// nobody uses.
     pub fn wipe(&mut self)
         ensures key { self.new.key ≡ replicate (length self.old.key) 0 }
         ensures etype { self.new.etype ≡ self.old.etype }
@@ -244,7 +244,7 @@ impl Opener {
     }
 }
 
-/// The body that stands behind the confounder of a text. Its data take the text's own block.
+/// The body after the confounder of a text. Its data take the text's own block.
 fn read_part(alloc: Global, text: Vec<u8>) -> Result<Body, Refusal>
     requires { 16 ≤ length text.items }
     ensures answer { AuthenticOrMemory (Read SpellsPart (drop 16 text.items) GivesBody) result }

@@ -13,7 +13,7 @@ use std::fmt;
 pub enum Refusal {
     /// 61: the frame is longer than a message may be.
     FieldTooLong,
-    /// 901: no message is spelt so.
+    /// 901: the bytes aren't the encoding of a message.
     Malformed,
     /// 39: the protocol version isn't 5.
     BadVersion,
@@ -33,11 +33,11 @@ pub enum Refusal {
     BadOrder,
     /// 41: the checksum differs.
     Modified,
-    /// 902: the user data is no record.
+    /// 902: the user data isn't a record.
     BadRecord,
     /// 903: a close was accepted before.
     AfterClose,
-    /// 904: a growth was refused.
+    /// 904: out of memory.
     Memory,
 }
 

@@ -7,7 +7,7 @@ use std::alloc::AllocError;
 use std::error::Error;
 use std::fmt;
 
-/// Why a sealer seals nothing. The first that fits is answered, and the sealer stays as it was.
+/// Why a sealer seals nothing. The first that applies is returned, and the sealer is unchanged.
 #[derive(Clone, Copy, Debug, PartialEq, Eq)]
 pub enum SealError {
     /// The sealer was wiped.
@@ -16,7 +16,7 @@ pub enum SealError {
     TooLong,
     /// No sequence number is left.
     Exhausted,
-    /// A growth was refused.
+    /// Out of memory.
     Memory,
 }
 

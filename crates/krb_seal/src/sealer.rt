@@ -1,4 +1,4 @@
-//! What seals the texts of a session.
+//! Sealers of a session's texts.
 
 ghost use Rattle.std.specs.Prelude.{◌≡◌, ◌≤◌, ◌<◌, ◌↔◌, true, false, length, IfOk, OnOk, OnErr};
 ghost use Rattle.krb_base.specs.Limits.{user_data_limit};
@@ -9,7 +9,7 @@ use krb_der::Moment;
 use std::alloc::Global;
 
 /// Seals data as messages with rising sequence numbers, each under the same key and for the same
-/// session. Its drop overwrites its keys.
+/// session. Dropping it overwrites its keys.
 pub trait Sealer: Drop {
     /// What contracts see of a sealer: its encryption type, key and session, the next sequence
     /// number, and whether it was wiped.
@@ -24,10 +24,10 @@ pub trait Sealer: Drop {
         ensures value { result ≡ (state self.now).next }
         ensures in_range { (state self.now).next ≤ end_of_numbers };
 
-    /// The message that carries `bytes` at the next sequence number and the moment `at`. KRB-PRIV
-    /// is encrypted under the confounder, KRB-SAFE doesn't use it.
+    /// The message that carries `bytes` at the next sequence number and the timestamp `at`.
+    /// KRB-PRIV is encrypted under the confounder, KRB-SAFE doesn't use it.
     ///
-    /// The errors come in their order, and each leaves the sealer as it was.
+    /// The errors are checked in their order, and each leaves the sealer unchanged.
     fn seal(
         &mut self,
         alloc: Global,
@@ -47,7 +47,7 @@ pub trait Sealer: Drop {
             × ((state self.old).next ≡ end_of_numbers)) }
         ensures unchanged { OnErr result (state self.new ≡ state self.old) };
 
-    /// Overwrites all keys. Nothing is sealed from then on.
+    /// Overwrites all keys. After that nothing is sealed.
     fn wipe(&mut self)
         ensures { state self.new ≡ wiped_state (state self.old) };
 }

@@ -18,7 +18,7 @@ pub struct Session {
     pub mode: Mode,
     /// The sender's address.
     pub s_addr: HostAddress,
-    /// The receiver's address, if the messages tell it.
+    /// The receiver's address, if the messages carry it.
     pub r_addr: Option<HostAddress>,
     /// The first sequence number.
     pub first: u32,
@@ -33,9 +33,9 @@ pub struct Expect {
     pub s_addr: HostAddress,
     /// The receiver's address.
     pub r_addr: HostAddress,
-    /// Whether a message must tell the receiver's address.
+    /// Whether a message must carry the receiver's address.
     pub require_r: bool,
-    /// Whether a message must tell its time.
+    /// Whether a message must carry its time.
     pub expect_time: bool,
     /// How many seconds a message's time may be off.
     pub skew: u32,
