@@ -8,7 +8,7 @@ use Rattle.krb_relay.specs.declared.cause.Cause.TheVariants.{Memory, Spawn, Lost
 use Rattle.krb_relay.specs.declared.cause.OwnCause.{OwnCause}
 use Rattle.krb_relay.specs.declared.cause.OwnCause.TheVariants as own
 
--- the number of a cause
+-- The number of a cause.
 abbrev pub code_of : Cause → ℕ
 code_of Memory = 1
 code_of Spawn = 2
@@ -16,7 +16,7 @@ code_of Lost = 3
 code_of BadPlan = 4
 code_of Wiped = 5
 
--- what is printed of it
+-- The words that are printed of it.
 abbrev pub words_of : Cause → List ℕ
 words_of Memory = codes "out of memory"
 words_of Spawn = codes "no thread could be started"
@@ -24,17 +24,17 @@ words_of Lost = codes "the other end of the lane is gone"
 words_of BadPlan = codes "the plan names what the frames don't have"
 words_of Wiped = codes "the sealer was wiped"
 
--- and of a fault
+-- The words that are printed of a fault.
 abbrev pub words_at : ℕ → Cause → List ℕ
 words_at lane cause = codes "lane " ++ decimal lane ++ codes ": " ++ words_of cause
 
--- what the calling thread meets, among all causes
+-- A cause of the calling thread, as one of all causes.
 abbrev pub cause_of : OwnCause → Cause
 cause_of own.Memory = Memory
 cause_of own.Spawn = Spawn
 cause_of own.Lost = Lost
 
--- why a plan's frames could not be made, among all causes
+-- Why a plan's frames couldn't be made, as one of all causes.
 abbrev pub cause_of_emission : EmitError → Cause
 cause_of_emission emission.BadPlan = BadPlan
 cause_of_emission emission.Memory = Memory

@@ -18,7 +18,7 @@ lane_of rx = rx.lane
 abbrev pub IsEnded : Side → Type 0
 IsEnded rx = rx.ended ≡ true
 
--- nothing came yet
+-- nothing has come yet
 pub record IsFresh (rx : Side) : Type 0 where
   pub frames : rx.frames ≡ []
   pub ended : rx.ended ≡ false
@@ -27,8 +27,8 @@ pub record IsFresh (rx : Side) : Type 0 where
 abbrev pub NotesAll : LogState → ℕ → Type 0
 NotesAll log lanes = (lane : ℕ) → lane < lanes → has_ended lane log ≡ true
 
--- The log is that of the rounds of the verdicts on first frames of each lane, and on all of them
--- where the thread met no fault of its own.
+-- The log is that of the rounds of the verdicts on the first frames of each lane, and on all of
+-- them unless the thread had a fault of its own.
 pub record Finished (starts : List Receiving) (ends now : List Side) (log : LogState) (own : Option OwnFault) : Type 0 where
   pub seen : List Heard
   pub judged : All AreAnswers seen
@@ -54,8 +54,8 @@ pub record EndsWith (ends : List Side) (tx : Side) : Type 0 where
   pub empty : tx.frames ≡ []
   pub same : mine.lane ≡ tx.lane
 
--- a worker that was started, with its part and its end of the lane, what it handed back, and what
--- came through the lane
+-- a worker that was started, with its part and its end of the lane, what it returned, and what came
+-- through the lane
 pub record Started (S : Type 0) : Type 0 where
   pub part : S
   pub tx : Side
@@ -81,15 +81,15 @@ least lane [] = None
 least lane (worker ∷ workers) = first_of worker.handed.cause lane (least (lane + 1) workers)
 
 module _ {S : Type 0} (gives : S → Side → Handed → Type 0) where
-  -- the worker kept its promise, and its lane handed over what it sent
+  -- the worker kept its promise, and its lane delivered what it sent
   pub record IsServed (worker : Started S) : Type 0 where
     pub fresh : worker.tx.frames ≡ []
     pub kept : gives worker.part worker.tx worker.handed
     pub prefix : IsPrefix worker.got.frames worker.handed.all.frames
     pub whole : worker.got.ended ≡ true → worker.got.frames ≡ worker.handed.all.frames
 
-  -- workers for the first of the parts, last part first, behind these ends; what they handed back,
-  -- and the log that their lanes leave
+  -- workers for the first of the parts, last part first, after these ends; what they returned, and
+  -- the log that their lanes leave
   pub record Gathers (parts : List S) (starts : List Receiving) (ends now : List Side) (log : LogState) (own : Option OwnFault) (fault : Option WorkerFault) : Type 0 where
     pub inner : List (Started S)
     pub unstarted : List S

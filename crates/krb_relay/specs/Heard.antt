@@ -1,4 +1,4 @@
--- What the calling thread hears of each lane.
+-- What the calling thread receives of each lane.
 use Rattle.std.specs.Prelude.{◌≡◌, ℕ, List, [], ◌∷◌, map}
 use Rattle.krb_base.specs.Prefix.{IsPrefix}
 use Rattle.krb_lane.specs.Side.{Side}
@@ -8,7 +8,7 @@ use Rattle.krb_peers.specs.declared.receiver.Receiving.{Receiving}
 use Rattle.krb_peers.specs.Rounds.{rounds}
 use Rattle.krb_peers.specs.Verdicts.{Verdict, AreJudged, verdicts, groups_of}
 
--- a receiver as it stood at first, and the frames that came to it since
+-- a receiver as it was at first, and the frames that have come to it since
 pub record Heard : Type 0 where
   pub start : Receiving
   pub frames : List (List ℕ)
@@ -37,7 +37,7 @@ rounds_heard all = rounds (map groups_in all)
 abbrev pub BeginsAt : Heard → Heard → Type 0
 BeginsAt h g = (h.start ≡ g.start) × IsPrefix h.frames g.frames
 
--- what came through these ends, lane by lane: nothing where there is no end yet
+-- what came through these ends, lane by lane: nothing if there is no end yet
 abbrev pub all_heard : List Receiving → List Side → List Heard
 all_heard [] ends = []
 all_heard (start ∷ starts) [] = heard start [] ∷ all_heard starts []

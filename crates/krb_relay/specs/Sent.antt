@@ -26,28 +26,28 @@ pub record IsAll (source : Source) (sent : List (List ℕ)) : Type 0 where
   pub live : source.sealer.wiped ≡ false
   pub emits : IsWire source sent
 
--- the truth of a cause that names its sender: then nothing is sent
+-- a cause that names its sender is true of it, and then nothing is sent
 abbrev pub IsTrueOf : Source → List (List ℕ) → Cause → Type 0
 IsTrueOf source sent Wiped = (source.sealer.wiped ≡ true) × (sent ≡ [])
 IsTrueOf source sent BadPlan = (source.sealer.wiped ≡ false) × IsBad source × (sent ≡ [])
 IsTrueOf source sent cause = Unit {0}
 
--- a front of the wire was sent, and the cause tells why no more
+-- a prefix of the wire was sent, and the cause says why no more was
 pub record IsCut (source : Source) (sent : List (List ℕ)) (cause : Cause) : Type 0 where
   pub front : IsFront source sent
   pub reason : IsTrueOf source sent cause
 
--- all was sent, where there is no cause
+-- all was sent if there is no cause
 abbrev pub Sends : Source → List (List ℕ) → Option Cause → Type 0
 Sends source sent None = IsAll source sent
 Sends source sent (Some cause) = IsCut source sent cause
 
--- what a worker hands back of its sender and its lane
+-- what a worker returns of its sender and its lane
 pub record Served (source : Source) (tx : Side) (handed : Handed) : Type 0 where
   pub lane : handed.all.lane ≡ tx.lane
   pub sends : Sends source handed.all.frames handed.cause
 
--- a seal call fails where the sealer was wiped, or for want of memory
+-- a seal call fails if the sealer was wiped or memory ran out
 abbrev pub IsOfSealing : Bool → Cause → Type 0
 IsOfSealing wiped Wiped = wiped ≡ true
 IsOfSealing wiped Memory = Unit {0}

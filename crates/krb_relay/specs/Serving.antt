@@ -14,7 +14,7 @@ use Rattle.krb_peers.specs.Sender.{moment_at}
 use Rattle.krb_peers.specs.Verdicts.{Verdict}
 use Rattle.krb_relay.specs.Heard.{Heard, heard, answers, AreAnswers, rounds_heard, all_heard}
 
--- one lane at the calling thread: its end, its receiver as it stood at first, and as it stands
+-- one lane at the calling thread: its end, its receiver as it was at first, and as it is
 pub record Post : Type 0 where
   pub start : Receiving
   pub rx : Side
@@ -30,8 +30,8 @@ posts starts ends receivings = []
 abbrev pub heard_at : Post → Heard
 heard_at p = heard p.start p.rx.frames
 
--- the receiver stands behind the lane's frames, the log has what its verdicts on them bring, and
--- notes the lane's End where that was taken
+-- the receiver is as the lane's frames leave it, and the log has what its verdicts on them bring and
+-- notes the lane's End if that was taken
 pub record IsTied (log : LogState) (lane : ℕ) (p : Post) : Type 0 where
   pub logged : HasLogged p.start.receiver p.start.nows.items lane p.rx.frames log p.receiving.receiver (answers (heard_at p))
   pub nows : p.receiving.nows ≡ p.start.nows
@@ -42,7 +42,7 @@ pub record IsTied (log : LogState) (lane : ℕ) (p : Post) : Type 0 where
 abbrev pub AreTied : LogState → List Post → Type 0
 AreTied log all = (lane : ℕ) (none : Post) → lane < length all → IsTied log lane (get_or all lane none)
 
--- no more than so many frames came, and as many where the lane goes on
+-- at most so many frames came, and as many if the lane goes on
 pub record IsLevel (round : ℕ) (p : Post) : Type 0 where
   pub most : length p.rx.frames ≤ round
   pub least : p.rx.ended ≡ false → round ≤ length p.rx.frames
@@ -57,7 +57,7 @@ pub record InRound (number : ℕ) (all : List Post) (log : LogState) : Type 0 wh
   pub lanes : log.lanes ≡ length all
   pub few : length all ≤ lane_limit
 
--- of the ends and receivers that the thread holds, as many as lanes
+-- the thread holds an end and a receiver of each lane, and stands in such a round
 pub record Stands (number : ℕ) (starts : List Receiving) (ends : List Side) (receivings : List Receiving) (log : LogState) : Type 0 where
   pub each_end : length ends ≡ length starts
   pub each_receiver : length receivings ≡ length starts
@@ -65,7 +65,7 @@ pub record Stands (number : ℕ) (starts : List Receiving) (ends : List Side) (r
 
 -- ---- one turn: the next item of a lane whose End wasn't taken
 
--- an end behind a frame, and behind End
+-- an end after a frame, and after End
 abbrev pub passed : Side → List ℕ → Side
 passed rx frame = record rx { frames = rx.frames ++ frame ∷ [] }
 
@@ -87,7 +87,7 @@ pub record Ends (lane : ℕ) (p : Post) (log : LogState) (q : Post) (log-now : L
 abbrev pub verdict_next : Post → List ℕ → Verdict
 verdict_next p frame = verdict_by p.receiving.receiver (moment_at p.receiving.nows.items (length p.rx.frames)) frame
 
--- a frame was taken, and what became of it is logged
+-- a frame was taken, and its outcome is logged
 pub record Judges (lane : ℕ) (p : Post) (log : LogState) (q : Post) (log-now : LogState) : Type 0 where
   pub frame : List ℕ
   pub live : p.rx.ended ≡ false

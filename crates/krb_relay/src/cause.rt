@@ -12,13 +12,13 @@ use std::fmt;
 /// Why a relay on threads stops.
 #[derive(Clone, Copy, Debug, PartialEq, Eq)]
 pub enum Cause {
-    /// A growth was refused.
+    /// Out of memory.
     Memory,
     /// No thread could be started.
     Spawn,
-    /// The other end of a lane is gone, and has sent no End.
+    /// The other end of a lane is gone and has sent no End.
     Lost,
-    /// The plan names what its frames don't have, or a mask of 0.
+    /// The plan names a frame or a byte that isn't there, or a mask of 0.
     BadPlan,
     /// The sealer was wiped.
     Wiped,
@@ -69,23 +69,23 @@ impl From<EmitError> for Cause {
     }
 }
 
-/// A thread could not be started.
+/// A thread couldn't be started.
 #[derive(Clone, Copy)]
 pub(crate) struct NoThread;
 
 /// Why the calling thread stops: it seals nothing and follows no plan.
 #[derive(Clone, Copy)]
 pub(crate) enum OwnCause {
-    /// A growth was refused.
+    /// Out of memory.
     Memory,
     /// No thread could be started.
     Spawn,
-    /// A worker is gone without an End.
+    /// A worker ended without sending End.
     Lost,
 }
 
 impl OwnCause {
-    /// The same among all causes.
+    /// The same cause as one of all causes.
     pub(crate) fn cause(self) -> Cause
         ensures { result ≡ cause_of self }
     {

@@ -1,4 +1,4 @@
-//! What is answered where a relay stops.
+//! The error of a relay that stops.
 
 ghost use Rattle.std.specs.Prelude.{◌≡◌, Some};
 ghost use Rattle.krb_relay.specs.Cause.{code_of, words_at};
@@ -14,11 +14,11 @@ use std::fmt;
 /// least lane is named.
 #[derive(Drop)]
 pub struct Fault {
-    /// What was met.
+    /// Why it stopped.
     pub cause: Cause,
     /// At which lane, from 0 on.
     pub lane: u32,
-    /// What became of the frames until then.
+    /// The outcome of each frame that was taken until then.
     pub log: Log,
 }
 
@@ -47,14 +47,14 @@ impl fmt::Debug for Fault {
 
 impl Error for Fault {}
 
-/// What the calling thread met, with the lane that was being made, started or served.
+/// Why the calling thread stopped, with the lane that was being made, started or served.
 #[derive(Clone, Copy)]
 pub(crate) struct OwnFault {
     pub(crate) cause: OwnCause,
     pub(crate) lane: u32,
 }
 
-/// What the worker of a lane met.
+/// Why the worker of a lane stopped.
 #[derive(Clone, Copy)]
 pub(crate) struct WorkerFault {
     pub(crate) cause: Cause,

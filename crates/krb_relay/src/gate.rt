@@ -1,13 +1,14 @@
-//! What stands round the seal calls.
+//! Calls around each seal call.
 
-/// Is told of each seal call of a relay's workers, and may hold it back. All workers share it.
+/// Is called before and after each seal call of a relay's workers, and may delay it. All workers
+/// share it.
 ///
-/// Its calls owe only that they return.
+/// Its calls have to return. Nothing else is asked of them.
 pub trait Gate {
-    /// Comes before a seal call of the worker of `lane`.
+    /// Is called before each seal call of the worker of `lane`.
     fn enter(&self, lane: u32);
 
-    /// Comes behind it.
+    /// Is called after it.
     fn leave(&self, lane: u32);
 }
 

@@ -18,7 +18,7 @@ use std::alloc::Global;
 use std::sync::Wait;
 use std::thread::{Scope, Threads};
 
-/// What came of the lanes inside a level: the ends outside it, the log, and what was met.
+/// The result of the lanes inside a level: the ends outside it, the log, and the faults.
 #[derive(Drop)]
 pub(crate) struct Gathered {
     pub(crate) ends: Vec<LaneRx>,
@@ -27,7 +27,8 @@ pub(crate) struct Gathered {
     pub(crate) fault: Option<WorkerFault>,
 }
 
-/// Starts a worker for the last part, goes on with the others inside, joins it, and meets its lane.
+/// Starts a worker for the last part, goes on with the others inside, then joins the worker and meets
+/// its lane.
 ///
 /// The innermost level, which has no part, serves all lanes.
 pub(crate) fn level<'s, 'e, R: Threads + Wait, S: Send + Drop + 's, W: Work<S> + Sync>(

@@ -3,8 +3,8 @@
 //!
 //! [`relay`] starts a worker for each sender, which seals its texts and sends the frames, and
 //! receives in rounds on the calling thread: in each round one item of each lane whose end wasn't
-//! taken, by the lane's number. The log is one list, whatever runs when: that of the stepped relay
-//! of `krb_core` when it runs to its end. A [`Gate`] stands round each seal call.
+//! taken, by the lane's number. The log is the same in every schedule: that of the stepped relay of
+//! `krb_core` when it runs to its end. A [`Gate`] is called before and after each seal call.
 //!
 //! ```rust crates/example_relay/src/main.rt
 //! let sendings = vec![in alloc; first, second]?;
@@ -12,7 +12,7 @@
 //! Ok(relay(rt, alloc, sendings, receivings, 8, &NoGate)?)
 //! ```
 //!
-//! [`relay`] waits for its workers. What it answers holds if it answers.
+//! [`relay`] waits for its workers. Its contract holds if it returns.
 #![tactic(auto)]
 
 mod cause;

@@ -1,4 +1,4 @@
-//! The calling thread receives in rounds: in each one item of each lane whose End wasn't taken.
+//! The calling thread receives in rounds: each takes one item of each lane whose End wasn't taken.
 
 ghost use Rattle.std.specs.Prelude.{◌≡◌, ◌↔◌, ◌<◌, ◌+◌, length, map, All, IsTrue, IfNone, IfSome, OnOk, OnErr};
 ghost use Rattle.std.specs.List.{AllZip};
@@ -103,8 +103,8 @@ fn turn_at<R: Wait>(
     )
 }
 
-/// Takes the next item of a lane, where its End wasn't taken: a frame is judged, and what became of
-/// it goes to the log; an End is noted there.
+/// Takes the next item of a lane, unless its End was taken: a frame is judged and its outcome
+/// logged; an End is noted in the log.
 fn turn<R: Wait>(
     rt: &R,
     alloc: Global,
@@ -142,7 +142,7 @@ fn turn<R: Wait>(
     }
 }
 
-/// Takes what comes through each end up to End or to its loss, and drops it.
+/// Takes and drops what comes through each end, until End or until its sender is gone.
 pub(crate) fn drain<R: Wait>(rt: &R, ends: &mut [LaneRx])
     ensures { AllZip Drains ends.old ends.new }
 {

@@ -26,10 +26,10 @@ use std::sync::Wait;
 use std::thread;
 use std::thread::Threads;
 
-/// What came of a relay that took every lane to its End.
+/// The result of a relay that took every lane to its End.
 #[derive(Drop)]
 pub struct Report {
-    /// What became of the frames.
+    /// The outcome of each frame.
     pub log: Log,
     /// How much each sender sealed.
     pub sent: Vec<Sent>,
@@ -37,13 +37,13 @@ pub struct Report {
 
 /// Seals the texts of each sender in a thread of its own, and relays them to its receiver.
 ///
-/// There are one to eight senders, within their limits, and as many receivers, each with a moment;
-/// a lane queues `capacity` items, 1 to 64, End counted. The log of an Ok is that of the verdicts
-/// on all that the wires carry, in rounds: the same for every schedule and capacity, with the
-/// headline of each lane. A [`Fault`] has the log of a front of each lane's wire, of which the
-/// headline holds too. `BadPlan` and `Wiped` name the least lane whose plan is bad or whose sealer
-/// was wiped: the lanes below have their whole logs, and the lane itself no entry. Waits for the
-/// workers.
+/// There are one to eight senders, within their limits, and as many receivers, each with a
+/// timestamp. A lane queues `capacity` items, 1 to 64, End included. The log of an Ok is that of the
+/// verdicts on all that the wires carry, in rounds: the same for every schedule and capacity, and
+/// the headline holds of each lane. A [`Fault`] has the log of a prefix of each lane's wire, and the
+/// headline holds of it too. `BadPlan` and `Wiped` name the least lane whose plan is bad or whose
+/// sealer was wiped: the lanes below it have their whole logs, and the lane itself no entry. The
+/// call waits for the workers.
 pub fn relay<R: Threads + Wait + Sync, G: Gate + Sync, S: Sealer + Send>(
     rt: &R,
     alloc: Global,
@@ -95,8 +95,8 @@ pub fn relay<R: Threads + Wait + Sync, G: Gate + Sync, S: Sealer + Send>(
     }
 }
 
-/// The fault of a relay that ran out of memory before it made a lane. The receivers are wiped where
-/// they lie.
+/// The fault of a relay that ran out of memory before it made a lane. The receivers are wiped in
+/// place.
 fn unstarted(receivings: &mut [Receiving], log: Log) -> Fault
     ensures cause { result.cause ≡ Cause.Memory }
     ensures lane { result.lane ≡ 0 }
@@ -145,7 +145,7 @@ impl<'e, R: Wait, G: Gate, S: Sealer> Work<Sending<S>> for Serve<'e, R, G> {
     }
 }
 
-/// Runs a worker for each part, last part first, and gathers what came of the lanes.
+/// Runs a worker for each part, last part first, and gathers the results of the lanes.
 fn run_all<R: Threads + Wait + Sync, S: Send + Drop, W: Work<S> + Sync>(
     rt: &R,
     alloc: Global,

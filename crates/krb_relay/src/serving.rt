@@ -1,4 +1,4 @@
-//! What the calling thread does once the workers run, or where not all of them could be started.
+//! What the calling thread does after the workers were started, or if one of them couldn't be.
 
 ghost use Rattle.std.specs.Prelude.{◌≡◌, ◌<◌, ◌≤◌, length, All, Some};
 ghost use Rattle.krb_base.specs.Limits.{lane_limit};
@@ -14,8 +14,8 @@ use std::alloc::Global;
 use std::snapshot::Snapshot;
 use std::sync::Wait;
 
-/// Serves all lanes to their Ends, and wipes the receivers where they lie. After a fault of its own
-/// it takes what comes, and drops it.
+/// Serves all lanes to their Ends, and wipes the receivers in place. After a fault of its own it
+/// takes what comes, and drops it.
 pub(crate) fn finish<R: Wait>(
     rt: &R,
     alloc: Global,
@@ -43,8 +43,8 @@ pub(crate) fn finish<R: Wait>(
     }
 }
 
-/// Takes what comes from the workers that were started, and drops it. The receivers are wiped where
-/// they lie.
+/// Takes what comes from the workers that were started, and drops it. The receivers are wiped in
+/// place.
 pub(crate) fn give_up<R: Wait>(
     rt: &R,
     ends: &mut [LaneRx],

@@ -1,4 +1,4 @@
-//! A worker in a thread of its own, whose join tells what its work gives.
+//! A worker in a thread of its own; joining it gives the result of its work.
 
 ghost use Rattle.std.specs.Prelude.{◌≡◌, IfOk};
 ghost use Rattle.krb_lane.specs.Side.{Side};
@@ -21,7 +21,7 @@ pub(crate) trait Work<S> {
         ensures { gives self.now part tx result };
 }
 
-/// The promise that a worker hands back what its work gives.
+/// The promise that a worker returns the result of its work.
 #[derive(Drop)]
 pub(crate) struct Kept<S, W> {
     pub(crate) work: Snapshot<W>,
@@ -35,7 +35,7 @@ impl<S, W: Work<S>> Promise<Handed> for Kept<S, W> {
 
 pub(crate) type Worker<S, W> = PromisedHandle<Handed, Kept<S, W>>;
 
-/// Starts a worker. Where no thread can be made, its part and its end of the lane are dropped.
+/// Starts a worker. If no thread can be made, its part and its end of the lane are dropped.
 pub(crate) fn start<'s, 'e, S: Send + Drop + 's, W: Work<S> + Sync>(
     scope: &Scope<'s, &'e ()>,
     work: &'e W,

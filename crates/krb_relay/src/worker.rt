@@ -16,7 +16,7 @@ use krb_seal::{SealError, Sealer};
 use std::alloc::Global;
 use std::sync::Wait;
 
-/// What a worker hands back: its end of the lane, and why it stopped, where it didn't send all.
+/// What a worker returns: its end of the lane, and why it stopped if it didn't send all.
 #[derive(Drop)]
 pub(crate) struct Handed {
     pub(crate) all: SentAll,
@@ -25,8 +25,8 @@ pub(crate) struct Handed {
 
 /// Seals and sends what a sender has for its lane, and then End.
 ///
-/// Without a plan each frame is sent before the next record is sealed. With one all is sealed and
-/// emitted first.
+/// Without a plan each frame is sent before the next record is sealed. With a plan all records are
+/// sealed and emitted first.
 pub(crate) fn serve<R: Wait, G: Gate, S: Sealer>(
     rt: &R,
     alloc: Global,
@@ -49,8 +49,8 @@ pub(crate) fn serve<R: Wait, G: Gate, S: Sealer>(
     }
 }
 
-/// Seals and sends what a sender has for its lane: why no more, where that isn't all. The sealer is
-/// wiped then, where it lies.
+/// Seals and sends what a sender has for its lane, and says why if that isn't all. After that the
+/// sealer is wiped in place.
 fn send_all<R: Wait, G: Gate, S: Sealer>(
     rt: &R,
     alloc: Global,
@@ -182,8 +182,8 @@ fn seal_each<G: Gate, S: Sealer>(
     Ok(frames)
 }
 
-/// The frame of record `k`, sealed within the gate. The records before it passed so many texts as
-/// `passed` says, and its own are added.
+/// The frame of record `k`, sealed within the gate. `passed` is how many texts the records before it
+/// have, and its own are added.
 fn seal_one<G: Gate, S: Sealer>(
     alloc: Global,
     gate: &G,
