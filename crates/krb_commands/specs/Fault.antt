@@ -94,7 +94,7 @@ IsOfSealing (fault.Thread lines) = ⊥
 IsOfSealing fault.Read = ⊥
 IsOfSealing fault.Write = Unit {0}
 
--- want of memory while frames were taken, or a fault of printing
+-- out of memory while frames were taken, or a fault of printing
 abbrev pub IsOfOpening : Fault → Type 0
 IsOfOpening fault.TooLong = ⊥
 IsOfOpening (fault.BadInput b) = ⊥

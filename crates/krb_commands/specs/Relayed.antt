@@ -32,8 +32,8 @@ PrintsStopped lanes lines old new =
     × Appends old new (entry_lines log.entries)
 
 -- A prefix of what is printed of all, or of the lines of the first entries alone, or nothing. The
--- first entries are what becomes of the frames that were taken of each lane, and the headline holds
--- of each.
+-- first entries are the outcome of the frames that were taken of each lane, and the headline holds of
+-- each lane.
 abbrev pub PrintsRelayedPrefix : List Ends → Option (List ℕ) → Option (List ℕ) → Type 0
 PrintsRelayedPrefix lanes old new =
     Keeps old new

@@ -1,4 +1,4 @@
--- What the commands that read a job do, by what they are told.
+-- What the commands that read a job do, for each input.
 use Rattle.std.specs.Prelude.{◌≡◌, ◌⊎◌, List, ℕ, map, Option, Some, Ok, Err}
 use Rattle.std.specs.Io.KnownBytes.{Keeps}
 use Rattle.krb_peers.specs.Sender.{Source}
@@ -41,7 +41,7 @@ IsBadToSeal told bad =
     (told ≡ Err bad)
     ⊎ ((bad ≡ bad_plan 0) × ((sender : Sender) × TellsOne told sender × IsBadSender sender))
 
--- what becomes of the frames of the job's one sender is printed, and this is the status
+-- the outcome of each frame of the job's one sender is printed, and this is the status
 abbrev pub Opens : Told → Option (List ℕ) → Option (List ℕ) → ℕ → Type 0
 Opens told old new status =
     (sender : Sender) × TellsOne told sender

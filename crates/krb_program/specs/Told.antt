@@ -1,4 +1,4 @@
--- What a command is told by its input: a job, or the first check that the input doesn't pass.
+-- What an input tells a command: a job, or the first check that the input doesn't pass.
 use Rattle.std.specs.Prelude.{◌≡◌, Bool, true, false, List, ℕ, [], ◌∷◌, Option, Some, None, Result, Ok, Err}
 use Rattle.std.specs.Str.{is_utf8}
 use Rattle.toml.specs.Data.{Members}
@@ -27,7 +27,7 @@ abbrev pub IsTold : Command → Option (List ℕ) → Told → Type 0
 IsTold command None told = ⊥
 IsTold command (Some bytes) told = told ≡ told_of command bytes
 
--- a job of one sender is told
+-- the input is a job of one sender
 pub record TellsOne (told : Told) (sender : Sender) : Type 0 where
   pub job : Job
   pub told_is : told ≡ Ok job

@@ -1,4 +1,4 @@
-//! How the program ends: what is told on standard error, and the exit code.
+//! How the program ends: what it reports on standard error, and the exit code.
 
 ghost use Rattle.std.specs.Prelude.{◌≡◌, ◌≢◌};
 ghost use Rattle.std.specs.Process.{exit_status};
@@ -12,7 +12,7 @@ use krb_commands::Fault;
 use std::io;
 use std::process::ExitCode;
 
-/// The exit code of a run. A fault is told in one line on standard error.
+/// The exit code of a run. A fault is reported in one line on standard error.
 pub fn finish(rt: &impl Eprint, outcome: Result<u8, Fault>) -> ExitCode
     ensures { exit_status result ≡ status_of outcome }
 {

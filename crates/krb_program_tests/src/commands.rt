@@ -1,5 +1,5 @@
 //! What no clause says of the commands: that a call succeeds, what the printed lines look like, and
-//! that a fault is told only where the reader or the writer failed. The messages and their lines
+//! that a fault is reported only if the reader or the writer failed. The messages and their lines
 //! were written by hand from the grammar of RFC 4120; the sealed frames are those of an independent
 //! sealer.
 

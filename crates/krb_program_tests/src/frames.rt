@@ -1,5 +1,5 @@
 //! Frames as the sealer of `tools/frames.py` makes them, in digits: the text 68 69 and the close of
-//! the job of these tests, under encryption type 17 but where another is told. The confounders of
+//! the job of these tests, under encryption type 17 unless another is named. The confounders of
 //! KRB-PRIV are the first 32 bytes that ChaCha20 gives for the seed of zeros (RFC 8439 appendix
 //! A.1).
 
@@ -67,7 +67,7 @@ pub const EMPTY_CHECKSUM: &str =
 pub const BATCH: &str =
     "74663064a003020105a103020114a23f303da00d040b4200000001610000000162a111180f32303233313131343232313332305aa203020105a303020107a40f300da003020102a10604040a000001a3173015a00302010fa10e040c34bfe85cb025148f49575c3e";
 
-/// The text 63 behind it.
+/// The text 63 after it.
 pub const TEXT_BEHIND: &str =
     "745d305ba003020105a103020114a2363034a00404024463a111180f32303233313131343232313332305aa203020105a303020108a40f300da003020102a10604040a000001a3173015a00302010fa10e040cf83d06a22f2fc09edce61e87";
 

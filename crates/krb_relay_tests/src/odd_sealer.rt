@@ -1,4 +1,4 @@
-//! A sealer that refuses one of its calls, and counts its drops behind a wipe.
+//! A sealer that refuses one of its calls, and counts its drops after a wipe.
 
 ghost use Rattle.std.specs.Prelude.{◌≡◌};
 

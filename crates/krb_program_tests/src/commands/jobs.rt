@@ -356,7 +356,7 @@ pub fn assert_bad(
     assert_told(rt, outcome.err(), line)
 }
 
-/// Asserts that a fault of the input is told by this line.
+/// Asserts that a fault of the input is reported by this line.
 fn assert_told(
     rt: &(impl Abort + Alloc<A = Global>),
     fault: Option<Fault>,

@@ -1,6 +1,6 @@
-//! The commands, where each growth in turn may be refused: the known output, or want of memory (of
-//! `relay` also of a thread), and then a front of the known lines, of `relay` of each lane's.
-//! `tools/sweep` refuses the growths, and counts the lines that tell of a refusal.
+//! The commands, where each allocation in turn may fail: they print the known output, or run out of
+//! memory (`relay` also out of threads) and print a prefix of the known lines, `relay` a prefix of
+//! each lane's. `tools/sweep` makes the allocations fail, and counts the lines that report it.
 
 use super::jobs::{run, sender};
 use super::opens::receiver;
@@ -26,7 +26,7 @@ fn is_front(output: &[u8], text: &str) -> bool {
     ends && text.as_bytes().starts_with(output)
 }
 
-/// Asserts that as many lines are printed as the fault says, and tells of a call that wanted memory.
+/// Asserts that as many lines are printed as the fault says, and reports a call without memory.
 fn tell(rt: &(impl Abort + Print), call: &str, fault: Fault, output: &[u8]) -> Result<(), Fail> {
     let printed = output.iter().filter(|byte| **byte == b'\n').count();
     match fault {
@@ -39,8 +39,8 @@ fn tell(rt: &(impl Abort + Print), call: &str, fault: Fault, output: &[u8]) -> R
     Ok(())
 }
 
-/// Asserts that a command wrote this text, or wanted memory and wrote some of its first lines, and
-/// tells of a call that wanted memory.
+/// Asserts that a command wrote this text, or ran out of memory and wrote some of its first lines,
+/// and reports a call that ran out of memory.
 fn assert_ends(
     rt: &(impl Abort + Print),
     call: &str,
@@ -99,8 +99,8 @@ fn has_front(text: &str, whole: &str, lane: &str) -> bool {
     true
 }
 
-/// Asserts that the relay of two lanes wrote all of its lines, or wanted memory or a thread and
-/// wrote some of the first lines of each lane, and tells of a relay that wanted either.
+/// Asserts that the relay of two lanes wrote all of its lines, or ran out of memory or threads and
+/// wrote some of the first lines of each lane, and reports a relay that did.
 fn assert_relay_ends(
     rt: &(impl Abort + Print + Alloc<A = Global>),
     outcome: Result<u8, Fault>,

@@ -55,7 +55,7 @@ fn capacities(rt: HostRuntime) -> Result<(), Fail> {
     Ok(())
 }
 
-/// The checks of the top in their order: each document fails the one told and all behind it.
+/// The checks of the top in their order: each document fails the one named and all after it.
 #[test]
 fn tops(rt: HostRuntime) -> Result<(), Fail> {
     let in_sender = BadInput::InSender {

@@ -48,7 +48,7 @@ fn push_lines(alloc: Global, text: &mut String, words: &str) -> Result<(), Alloc
     Ok(())
 }
 
-/// What becomes of the frames: each frame of the text behind the first is refused.
+/// The outcome of the frames: each frame of the text after the first is refused.
 fn lines(alloc: Global) -> Result<String, AllocError> {
     let mut text = String::new(alloc);
     push_lines(alloc, &mut text, "text 6869")?;

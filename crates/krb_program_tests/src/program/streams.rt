@@ -1,5 +1,5 @@
-//! What is told on the two streams, and by the exit code: each fault in its one line, and help on
-//! standard output.
+//! What the two streams and the exit code report: each fault in one line, and help on standard
+//! output.
 
 use crate::asserts::{assert_same, assert_same_at};
 use krb_commands::Fault;
@@ -13,7 +13,7 @@ use std::io::{ErrorKind, Print};
 use std::process::ExitCode;
 use std::test::Fail;
 
-/// Standard output and standard error that keep what they are told.
+/// Standard output and standard error that keep what is written to them.
 #[derive(Drop)]
 struct Streams {
     alloc: Global,
@@ -168,7 +168,7 @@ fn words_that_could_not_be_had_are_told(rt: HostRuntime) {
     }
 }
 
-/// What the two streams are told of words that name no command, and the exit code.
+/// What is written to the two streams for words that name no command, and the exit code.
 fn told_of(alloc: Global, words: &[&str]) -> Result<(Streams, ExitCode), Fail> {
     let error = command_of(alloc, words).err().ok_or("a command")?;
     let streams = Streams::new(alloc);

@@ -1,6 +1,6 @@
-//! Making a lane, where each growth in turn may be refused: there is a lane that works, or want of
-//! memory, and then a lane with memory. Its other calls take none. `tools/sweep` refuses the
-//! growths, and counts the lines that tell of a refusal.
+//! Making a lane, where each allocation in turn may fail: there is a lane that works, or out of
+//! memory, and then a lane with memory. Its other calls allocate nothing. `tools/sweep` makes the
+//! allocations fail, and counts the lines that report it.
 
 ghost use Rattle.std.specs.Prelude.{◌≡◌, []};
 

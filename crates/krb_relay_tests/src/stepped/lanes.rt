@@ -73,7 +73,7 @@ fn frames_after_the_close(rt: HostRuntime) -> Result<(), Fail> {
 }
 
 /// Whether the first frame with a bit of a byte turned is refused so: without the unchanged frame
-/// nothing is delivered behind it, and with it all is.
+/// nothing is delivered after it, and with it all is.
 fn changed_is_refused(
     rt: &impl Abort,
     alloc: Global,

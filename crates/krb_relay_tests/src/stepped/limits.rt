@@ -65,7 +65,7 @@ fn eight_lanes_of_2_000_emissions(rt: HostRuntime) -> Result<(), Fail> {
     Ok(())
 }
 
-/// No want of memory is told where there is memory.
+/// Out of memory isn't reported while memory is available.
 #[test]
 fn wiped_sealer_of_eight_is_named(rt: HostRuntime) -> Result<(), Fail> {
     for lane in [0, 7] {

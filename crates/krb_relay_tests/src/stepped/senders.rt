@@ -151,7 +151,7 @@ fn frames_by_twos(rt: &impl Abort, alloc: Global) -> Result<Vec<Vec<u8>>, Fail> 
 }
 
 /// Asserts of the frames of `by_twos` that the first one carries the batch: up to the data, which
-/// is 42, and each text behind its length.
+/// is 42, and each text after its length.
 fn assert_batch(rt: &impl Abort, frames: &[Vec<u8>]) {
     assert!(rt; frames.len() == 3);
     assert_same(rt, frames[0].len(), 104);

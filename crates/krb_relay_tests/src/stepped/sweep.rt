@@ -1,7 +1,6 @@
-//! A receiver's answers and a relay's turns, where each growth in turn may be refused: each answer
-//! is the known one, or want of memory with nothing changed, and then the same call with memory
-//! gives the known one. `tools/sweep` refuses the growths, and counts the lines that tell of a
-//! refusal.
+//! A receiver's answers and a relay's turns, where each allocation in turn may fail: each answer is
+//! the known one, or out of memory with nothing changed, and then the same call with memory gives
+//! the known one. `tools/sweep` makes the allocations fail, and counts the lines that report it.
 
 ghost use Rattle.std.specs.Prelude.{◌≡◌, ◌<◌, length, IfOk};
 ghost use Rattle.krb_core.specs.Stepped.{lane_of};

@@ -179,7 +179,7 @@ const TWO_ROUNDS: [(u32, &str); 14] = [
     (6, "closed"),
 ];
 
-/// No want of memory is told where there is memory, and the lanes below are served whole.
+/// Out of memory isn't reported while memory is available, and the lanes below are served whole.
 #[test]
 fn wiped_sealer_of_the_last_lane_is_named(rt: HostRuntime) -> Result<(), Fail> {
     let drops = Arc::new(rt.alloc(), AtomicU64::new(0))?;

@@ -1,6 +1,6 @@
-//! A relay of two senders, where each growth in turn may be refused: it reports as known, or stops
-//! for want of memory or of a thread, and then its log has of each lane a front of the known
-//! entries. `tools/sweep` refuses the growths, and counts the lines that tell of a refusal.
+//! A relay of two senders, where each allocation in turn may fail: it reports as known, or runs out
+//! of memory or threads, and then its log has of each lane a prefix of the known entries.
+//! `tools/sweep` makes the allocations fail, and counts the lines that report it.
 
 use super::lanes::{assert_sent, run, two_lanes};
 use crate::asserts::assert_same;
@@ -10,7 +10,7 @@ use krb_relay::{Cause, Fault, NoGate, Report};
 use std::process::Abort;
 use std::test::Fail;
 
-/// What becomes of the frames of each lane.
+/// The outcome of the frames of each lane.
 const FIRST: [&str; 3] = ["a", "b", "closed"];
 
 const SECOND: [&str; 1] = ["closed"];
@@ -39,7 +39,7 @@ fn assert_whole(rt: &impl Abort, report: &Report) {
     assert_sent(rt, report, &[(2, 2, Ending::Done), (0, 0, Ending::Done)]);
 }
 
-/// Asserts that the relay stopped for want of memory or of a thread, behind a front of each lane.
+/// Asserts that the relay ran out of memory or threads, after a prefix of each lane.
 fn assert_stopped(rt: &impl Abort, fault: &Fault) {
     assert!(rt; matches!(fault.cause, Cause::Memory | Cause::Spawn));
     assert!(rt; fault.lane < 2);

@@ -18,7 +18,7 @@ fn without_cipher(alloc: Global) -> PrivMsg {
     }
 }
 
-/// The draft with a body's part behind 16 bytes, and with room for 12 bytes behind it.
+/// The draft with a body's part after 16 bytes, and with room for 12 bytes after it.
 fn draft(rt: &(impl Abort + Alloc<A = Global>), body: &Body) -> Result<Draft, DerError> {
     assert!(rt; body.in_range());
     let message = without_cipher(rt.alloc());

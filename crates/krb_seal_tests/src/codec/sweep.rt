@@ -1,6 +1,6 @@
-//! Reading, where each growth in turn may be refused: the answer is the message, or want of memory,
-//! and then the same call with memory gives the message. `tools/sweep` refuses the growths, and
-//! counts the lines that tell of a refusal.
+//! Reading, where each allocation in turn may fail: the answer is the message, or out of memory, and
+//! then the same call with memory gives the message. `tools/sweep` makes the allocations fail, and
+//! counts the lines that report it.
 
 use super::{SAFE, priv_spelling, safe_spelling};
 use crate::asserts::assert_same_at;

@@ -42,7 +42,7 @@ fn are_entries(entries: &[Entry], expected: &[(u32, Option<&[u8]>)]) -> bool {
             .all(|(entry, (lane, bytes))| is_entry(entry, *lane, *bytes))
 }
 
-/// Whether the texts of a lane are these: so many, each at its place, and none behind them.
+/// Whether the texts of a lane are these: so many, each at its place, and none after them.
 fn are_texts(log: &Log, lane: u32, expected: &[&[u8]]) -> bool
     requires { lane < log.now.lanes }
 {

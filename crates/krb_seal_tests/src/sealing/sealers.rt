@@ -93,7 +93,7 @@ fn errors_come_in_their_order(rt: HostRuntime) {
     assert_same(&rt, answered(rt.alloc(), &mut sealer, 1_000_002), wiped);
 }
 
-/// A sealer of the last number behind a pointer.
+/// A sealer of the last number in a box.
 fn boxed_sealer(alloc: Global) -> Result<Box<dyn Sealer + Send>, AllocError> {
     let session = session(alloc, Mode::Safe, 4_294_967_295)?;
     Ok(Box::new(alloc, Aes128Sealer::new(&mut { KEY_128 }, session))?)

@@ -1,6 +1,6 @@
-//! Sealing and opening, where each growth in turn may be refused: the answer is the known frame or
-//! its data, or want of memory, and then the same call with memory gives the answer. `tools/sweep`
-//! refuses the growths, and counts the lines that tell of a refusal.
+//! Sealing and opening, where each allocation in turn may fail: the answer is the known frame or its
+//! data, or out of memory, and then the same call with memory gives the answer. `tools/sweep` makes
+//! the allocations fail, and counts the lines that report it.
 
 use super::frames::{PRIV_17, PRIV_18, SAFE_17, SAFE_18};
 use super::{KEY_128, KEY_256, MICROS, answer, opener, sealed, session, wide_opener};
