@@ -114,8 +114,8 @@ pub fn sending_of<S: Sealer>(sender: SenderJob, sealer: S) -> Sending<S>
 /// Adds the ends of a job's lane to those of the lanes before it, around a sealer of its session.
 ///
 /// The job is one of a command that seals, so it has a seed. The sealer wasn't wiped, and has a
-/// number left for the close. Out of memory is the only error; after it one of the lists may be longer
-/// than the other.
+/// number left for the close. Out of memory is the only error; after it one of the lists may be
+/// longer than the other.
 pub fn push_lane<S: Sealer>(
     alloc: Global,
     sendings: &mut Vec<Sending<S>>,
