@@ -22,7 +22,7 @@ abbrev pub told_address : Option HostAddress → KrbAddress
 told_address None = no_address
 told_address (Some a) = c_address a
 
--- 1 where an address is told, else 0
+-- 1 if an address is present, else 0
 abbrev pub has_address : Option HostAddress → ℕ
 has_address None = 0
 has_address (Some a) = 1

@@ -62,7 +62,7 @@ OpensTo None number now frame outcome = ⊥
 OpensTo (Some None) number now frame outcome = ⊥
 OpensTo (Some (Some o)) number now frame outcome = Opens o number now frame outcome
 
--- opening with demands gives a body with this user data, and what else it carried is told
+-- opening with demands gives a body with this user data, and what else it carried is reported
 abbrev pub Gives : OpenerState → KrbDemand → ℕ → List ℕ → List ℕ → KrbCarried → Type 0
 Gives o d now frame user told =
     (b : Body) × OpensWith o d now frame (Ok b) × (user ≡ b.user_data) × (told ≡ carried_of b)

@@ -7,7 +7,7 @@ use Rattle.krb_der.specs.declared.message.Message.TheVariants.{Safe, Priv}
 use Rattle.krb_der.specs.Message.{Spells}
 use Rattle.krb_c.specs.declared.header.KrbHeader.{KrbHeader}
 
--- 1 where a number is told, else 0
+-- 1 if a number is present, else 0
 abbrev pub is_told : Option ℕ → ℕ
 is_told None = 0
 is_told (Some n) = 1

@@ -2,7 +2,7 @@
 
 ghost use Rattle.std.specs.Prelude.{◌≡◌, ◌≤◌, ◌++◌, length, drop};
 
-/// Puts bytes at the front of a buffer that has room for them, and leaves what is behind them.
+/// Writes bytes to the start of a buffer that has room for them, and leaves what follows them.
 pub fn put_front(out: &mut [u8], bytes: &[u8])
     requires { length bytes.now ≤ length out.old }
     ensures { out.new ≡ bytes.now ++ drop (length bytes.now) out.old }

@@ -18,15 +18,15 @@ pub struct KrbCarried {
     pub secs: u64,
     /// The microseconds of its time.
     pub usec: u32,
-    /// Whether `secs` is told: 0 if it isn't.
+    /// Whether `secs` is present: 0 if it isn't.
     pub has_secs: u32,
-    /// Whether `usec` is told: 0 if it isn't.
+    /// Whether `usec` is present: 0 if it isn't.
     pub has_usec: u32,
-    /// Whether `number` is told: 0 if it isn't.
+    /// Whether `number` is present: 0 if it isn't.
     pub has_number: u32,
     /// The sequence number.
     pub number: u32,
-    /// Whether `r_addr` is told: 0 if it isn't.
+    /// Whether `r_addr` is present: 0 if it isn't.
     pub has_r: u32,
     /// The sender's address.
     pub s_addr: KrbAddress,

@@ -19,11 +19,11 @@ pub struct KrbHeader {
     pub etype: i32,
     /// The checksum type of KRB-SAFE, 15 under encryption type 17 and 16 under 18; 0 for KRB-PRIV.
     pub checksum_type: i32,
-    /// Whether `number` is told: 0 if it isn't.
+    /// Whether `number` is present: 0 if it isn't.
     pub has_number: u32,
     /// The sequence number of KRB-SAFE; that of KRB-PRIV is encrypted.
     pub number: u32,
-    /// Whether `key_version` is told: 0 if it isn't.
+    /// Whether `key_version` is present: 0 if it isn't.
     pub has_key_version: u32,
     /// The version of the key of KRB-PRIV; KRB-SAFE tells none.
     pub key_version: u32,

@@ -88,7 +88,7 @@ pub extern "C" fn krbrelay_opener_unseal(
 }
 
 /// Opens a frame that carries the sequence number, at this moment, into its own bytes: its user data
-/// are written over its beginning, and their size is told. Any answer but 0 leaves all as it was.
+/// are written over its beginning, and their size is reported. Any answer but 0 leaves all as it was.
 #[unsafe(no_mangle)]
 pub extern "C" fn krbrelay_opener_unseal_in_place(
     alloc: Global,

@@ -58,8 +58,8 @@ pub fn opener_under(etype: i32, key: &[u8], expect: Expect) -> Option<Opener>
     }
 }
 
-/// Opens into a buffer, and answers the size of the user data. What is behind them stays, and the
-/// buffer as a whole where nothing is opened.
+/// Opens into a buffer, and returns the size of the user data. What follows them stays, and so does
+/// the whole buffer if nothing is opened.
 fn unseal_into(
     alloc: Global,
     opener: &Opener,

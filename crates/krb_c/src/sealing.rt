@@ -34,8 +34,8 @@ pub fn new_sealer(
     Box::new(alloc, sealer).map_err(|_| Fault::Refused(Refusal::Memory))
 }
 
-/// Seals into a buffer that has room for the frame of so much user data, and answers the frame's
-/// size. What is behind the frame stays, and the buffer as a whole where nothing is sealed.
+/// Seals into a buffer that has room for the frame of so much user data, and returns the frame's
+/// size. What follows the frame stays, and so does the whole buffer if nothing is sealed.
 pub fn seal_into(
     alloc: Global,
     sealer: &mut AnySealer,
