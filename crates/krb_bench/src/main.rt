@@ -37,9 +37,7 @@ fn measure(
     match (part, numbers) {
         ("aes", [rounds]) => cipher::measure(rt, *rounds).map(Some),
         ("seal", [rounds]) => sealing::measure(rt, *rounds).map(Some),
-        ("lane", [frames]) => {
-            lane::measure(rt, *frames, &[1, 8, 64], Duration::ZERO).map(Some)
-        }
+        ("lane", [frames]) => { lane::measure(rt, *frames, &[1, 8, 64], Duration::ZERO).map(Some) }
         ("lane", [frames, capacity, micros]) => {
             let pause = Duration::from_micros(u64::from(*micros));
             lane::measure(rt, *frames, &[*capacity as usize], pause).map(Some)
