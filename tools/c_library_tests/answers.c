@@ -7,8 +7,13 @@
 
 #include <string.h>
 
-_Static_assert(sizeof(struct krbrelay_address) == 40, "an address has no padding");
-_Static_assert(sizeof(struct krbrelay_header) == 28, "a header has no padding");
+_Static_assert(sizeof(struct krbrelay_address) == 48, "an address has no padding");
+_Static_assert(sizeof(struct krbrelay_header) == 32, "a header has no padding");
+_Static_assert(sizeof(struct krbrelay_moment) == 16, "a moment has no padding");
+_Static_assert(sizeof(struct krbrelay_session) == 128, "a session has no padding");
+_Static_assert(sizeof(struct krbrelay_expect) == 128, "an expectation has no padding");
+_Static_assert(sizeof(struct krbrelay_demand) == 144, "a demand has no padding");
+_Static_assert(sizeof(struct krbrelay_carried) == 152, "what is carried has no padding");
 
 static uint8_t frame[KRBRELAY_FRAME_LIMIT + 1], text[KRBRELAY_FRAME_LIMIT];
 static const uint8_t zeros[16];
@@ -37,13 +42,15 @@ static uint32_t new_opener(struct krbrelay_opener *o, int etype, uint32_t mode)
 
 static uint32_t seal(struct krbrelay_sealer *s, const void *data, size_t len, size_t room, size_t *size)
 {
-    return krbrelay_sealer_seal(s, data, len, SECS, USEC, zeros, frame, room, size);
+    struct krbrelay_moment at = moment(SECS, USEC);
+    return krbrelay_sealer_seal(s, data, len, &at, zeros, frame, room, size);
 }
 
 static uint32_t unseal(struct krbrelay_opener *o, const uint8_t *f, size_t len, uint64_t number)
 {
+    struct krbrelay_moment at = moment(SECS, USEC);
     size_t size = 99;
-    uint32_t answer = krbrelay_opener_unseal(o, f, len, number, SECS, USEC, text, sizeof text, &size);
+    uint32_t answer = krbrelay_opener_unseal(o, f, len, number, &at, text, sizeof text, &size);
     CHECK(answer == 0 || size == 99);
     return answer;
 }
@@ -62,6 +69,7 @@ static void frames_of_another_sealer(void)
         const struct known *k = &known_frames[i];
         struct krbrelay_sealer s = { 0 };
         struct krbrelay_opener o = { 0 };
+        struct krbrelay_moment at = moment(SECS, USEC);
         size_t size = 0;
         uint64_t next = 0;
         CHECK(new_sealer(&s, k->etype, k->mode, 7) == KRBRELAY_OK);
@@ -72,7 +80,8 @@ static void frames_of_another_sealer(void)
         CHECK(frame[size] == 0xee && frame[krbrelay_frame_size(3) - 1] == 0xee);
         CHECK(krbrelay_sealer_next(&s, &next) == KRBRELAY_OK && next == 8);
         memset(text, 0xee, sizeof text);
-        CHECK(krbrelay_opener_unseal(&o, k->frame, k->len, 7, SECS, USEC, text, 3, &size) == KRBRELAY_OK);
+        CHECK(krbrelay_opener_unseal(&o, k->frame, k->len, 7, &at, text, 3, &size)
+              == KRBRELAY_OK);
         CHECK(size == 3 && memcmp(text, "Dhi\xee", 4) == 0);
         krbrelay_sealer_free(&s);
         krbrelay_opener_free(&o);
@@ -94,9 +103,10 @@ static void round_trips(void)
                 struct krbrelay_expect expect = expect_of(mode);
                 struct krbrelay_sealer s = { 0 };
                 struct krbrelay_opener o = { 0 };
+                struct krbrelay_moment later = moment(SECS + 1, USEC);
                 session.has_receiver = expect.require_receiver = told;
-                session.receiver.len = expect.receiver.len = 32;
-                session.sender.len = expect.sender.len = 32;
+                session.receiver.len = expect.receiver.len = 40;
+                session.sender.len = expect.sender.len = 40;
                 CHECK(krbrelay_sealer_new(&s, etype, key_of(etype), key_size(etype), &session) == 0);
                 CHECK(krbrelay_opener_new(&o, etype, key_of(etype), key_size(etype), &expect) == 0);
                 for (size_t i = 0; i < sizeof sizes / sizeof sizes[0]; i++) {
@@ -106,8 +116,8 @@ static void round_trips(void)
                     CHECK(number == UINT32_MAX - 14 + i);
                     CHECK(seal(&s, data, n, krbrelay_frame_size(n), &size) == KRBRELAY_OK);
                     CHECK(size <= krbrelay_frame_size(n));
-                    CHECK(krbrelay_opener_unseal(&o, frame, size, number, SECS + 1, USEC, text, n,
-                                            &back) == KRBRELAY_OK);
+                    CHECK(krbrelay_opener_unseal(&o, frame, size, number, &later, text, n,
+                                                 &back) == KRBRELAY_OK);
                     CHECK(back == n && memcmp(text, data, n) == 0);
                     CHECK(unseal(&o, frame, size, number + 1) == KRBRELAY_BADORDER);
                 }
@@ -129,6 +139,7 @@ static void answers_of_a_sealer(void)
 {
     struct krbrelay_sealer s = { 0 };
     struct krbrelay_session session = session_of(KRBRELAY_PRIV, UINT32_MAX);
+    struct krbrelay_moment usec = moment(SECS, 1000000), year = moment(253402300800, 0);
     size_t size = 99;
     uint64_t next = 99;
     CHECK(krbrelay_sealer_next(&s, &next) == KRBRELAY_EMPTY && next == 99);
@@ -137,9 +148,8 @@ static void answers_of_a_sealer(void)
     memset(frame, 0xee, sizeof frame);
     CHECK(seal(&s, "hi", 2, krbrelay_frame_size(2) - 1, &size) == KRBRELAY_ROOM);
     CHECK(seal(&s, text, 1000002, krbrelay_frame_size(1000002), &size) == KRBRELAY_TOO_LONG);
-    CHECK(krbrelay_sealer_seal(&s, text, 2, SECS, 1000000, zeros, frame, 1000, &size) == KRBRELAY_ARGUMENT);
-    CHECK(krbrelay_sealer_seal(&s, text, 2, 253402300800, 0, zeros, frame, 1000, &size)
-          == KRBRELAY_ARGUMENT);
+    CHECK(krbrelay_sealer_seal(&s, text, 2, &usec, zeros, frame, 1000, &size) == KRBRELAY_MOMENT);
+    CHECK(krbrelay_sealer_seal(&s, text, 2, &year, zeros, frame, 1000, &size) == KRBRELAY_MOMENT);
     CHECK(krbrelay_sealer_next(&s, &next) == KRBRELAY_OK && next == UINT32_MAX);
     CHECK(size == 99 && frame[0] == 0xee);
     CHECK(seal(&s, "hi", 2, 1000, &size) == KRBRELAY_OK);
@@ -168,25 +178,27 @@ static void arguments(void)
         { 17, 15 }, { 17, 32 }, { 18, 16 }, { 18, 33 }, { 16, 16 }, { 19, 16 }, { 0, 0 }
     };
     for (size_t i = 0; i < sizeof wrong / sizeof wrong[0]; i++) {
+        int known = wrong[i].etype == 17 || wrong[i].etype == 18;
+        enum krbrelay_answer answer = known ? KRBRELAY_KEY_SIZE : KRBRELAY_ETYPE;
         CHECK(krbrelay_sealer_new(&s, 17, keys[0], 16, &session) == KRBRELAY_OK);
-        CHECK(krbrelay_sealer_new(&s, wrong[i].etype, text, wrong[i].len, &session) == KRBRELAY_ARGUMENT);
+        CHECK(krbrelay_sealer_new(&s, wrong[i].etype, text, wrong[i].len, &session) == answer);
         CHECK(krbrelay_sealer_next(&s, &next) == KRBRELAY_EMPTY);
-        CHECK(krbrelay_opener_new(&o, wrong[i].etype, text, wrong[i].len, &expect) == KRBRELAY_ARGUMENT);
+        CHECK(krbrelay_opener_new(&o, wrong[i].etype, text, wrong[i].len, &expect) == answer);
     }
     session.mode = expect.mode = 22;
-    CHECK(krbrelay_sealer_new(&s, 17, keys[0], 16, &session) == KRBRELAY_ARGUMENT);
-    CHECK(krbrelay_opener_new(&o, 17, keys[0], 16, &expect) == KRBRELAY_ARGUMENT);
+    CHECK(krbrelay_sealer_new(&s, 17, keys[0], 16, &session) == KRBRELAY_MODE);
+    CHECK(krbrelay_opener_new(&o, 17, keys[0], 16, &expect) == KRBRELAY_MODE);
     session = session_of(KRBRELAY_SAFE, 7);
     expect = expect_of(KRBRELAY_SAFE);
-    session.sender.len = expect.sender.len = 33;
-    CHECK(krbrelay_sealer_new(&s, 17, keys[0], 16, &session) == KRBRELAY_ARGUMENT);
-    CHECK(krbrelay_opener_new(&o, 17, keys[0], 16, &expect) == KRBRELAY_ARGUMENT);
+    session.sender.len = expect.sender.len = 41;
+    CHECK(krbrelay_sealer_new(&s, 17, keys[0], 16, &session) == KRBRELAY_ADDRESS);
+    CHECK(krbrelay_opener_new(&o, 17, keys[0], 16, &expect) == KRBRELAY_ADDRESS);
     session = session_of(KRBRELAY_SAFE, 7);
     expect = expect_of(KRBRELAY_SAFE);
     session.has_receiver = 1;
-    session.receiver.len = expect.receiver.len = 33;
-    CHECK(krbrelay_sealer_new(&s, 17, keys[0], 16, &session) == KRBRELAY_ARGUMENT);
-    CHECK(krbrelay_opener_new(&o, 17, keys[0], 16, &expect) == KRBRELAY_ARGUMENT);
+    session.receiver.len = expect.receiver.len = 41;
+    CHECK(krbrelay_sealer_new(&s, 17, keys[0], 16, &session) == KRBRELAY_ADDRESS);
+    CHECK(krbrelay_opener_new(&o, 17, keys[0], 16, &expect) == KRBRELAY_ADDRESS);
 }
 
 /* The safe frame with one byte changed, and what its opener answers. */
@@ -197,11 +209,20 @@ static uint32_t changed(struct krbrelay_opener *o, const struct known *k, size_t
     return unseal(o, frame, k->len, 7);
 }
 
+/* What opening a known frame at a moment, into so much room, answers. */
+static uint32_t unseal_at(struct krbrelay_opener *o, const struct known *k,
+                          struct krbrelay_moment at, size_t room)
+{
+    size_t size = 99;
+    uint32_t answer = krbrelay_opener_unseal(o, k->frame, k->len, 7, &at, text, room, &size);
+    CHECK(size == (answer == KRBRELAY_OK ? 3 : 99));
+    return answer;
+}
+
 static void refusals_of_safe(void)
 {
     struct krbrelay_opener o = { 0 };
     const struct known *k = &known_frames[0];
-    size_t size;
     CHECK(new_opener(&o, 17, KRBRELAY_SAFE) == KRBRELAY_OK);
     CHECK(changed(&o, k, 8, 3) == KRBRELAY_BADVERSION);      /* protocol version 6 */
     CHECK(changed(&o, k, 13, 1) == KRBRELAY_MSG_TYPE);       /* message type 21 */
@@ -216,14 +237,12 @@ static void refusals_of_safe(void)
     CHECK(unseal(&o, k->frame, 0, 7) == KRBRELAY_MALFORMED);
     CHECK(unseal(&o, frame, KRBRELAY_FRAME_LIMIT + 1, 7) == KRBRELAY_FIELD_TOOLONG);
     CHECK(unseal(&o, priv_17, sizeof priv_17, 7) == KRBRELAY_MSG_TYPE);
-    CHECK(krbrelay_opener_unseal(&o, k->frame, k->len, 7, SECS + 301, 0, text, 9, &size) == KRBRELAY_SKEW);
-    CHECK(krbrelay_opener_unseal(&o, k->frame, k->len, 7, SECS + 300, USEC, text, 9, &size) == KRBRELAY_OK);
-    CHECK(krbrelay_opener_unseal(&o, k->frame, k->len, 7, SECS, 1000000, text, 9, &size)
-          == KRBRELAY_ARGUMENT);
-    size = 99;
+    CHECK(unseal_at(&o, k, moment(SECS + 301, 0), 9) == KRBRELAY_SKEW);
+    CHECK(unseal_at(&o, k, moment(SECS + 300, USEC), 9) == KRBRELAY_OK);
+    CHECK(unseal_at(&o, k, moment(SECS, 1000000), 9) == KRBRELAY_MOMENT);
     text[0] = 0xee;
-    CHECK(krbrelay_opener_unseal(&o, k->frame, k->len, 7, SECS, USEC, text, 2, &size) == KRBRELAY_ROOM);
-    CHECK(size == 99 && text[0] == 0xee);
+    CHECK(unseal_at(&o, k, moment(SECS, USEC), 2) == KRBRELAY_ROOM);
+    CHECK(text[0] == 0xee);
     krbrelay_opener_free(&o);
 }
 
@@ -274,31 +293,72 @@ static void headers(void)
     CHECK(h.kind == KRBRELAY_PRIV && h.etype == 17 && h.has_key_version == 0 && h.key_version == 0);
 }
 
-/* The names of RFC 4120 section 7.5.9, without KRB_AP_ERR_ and the like. */
+struct named { uint32_t answer; const char *name, *text; };
+
+/* Each answer of the header; names are those of RFC 4120 section 7.5.9, without KRB_AP_ERR_ and the
+ * like, where it has one. */
+static const struct named known_answers[] = {
+    { KRBRELAY_OK, "OK", "done" },
+    { KRBRELAY_WIPED, "WIPED", "the keys were overwritten" },
+    { KRBRELAY_TOO_LONG, "TOO_LONG", "the user data are longer than a message may carry" },
+    { KRBRELAY_EXHAUSTED, "EXHAUSTED", "no sequence number is left" },
+    { KRBRELAY_ETYPE_NOSUPP, "ETYPE_NOSUPP", "the encryption type isn't the opener's" },
+    { KRBRELAY_BAD_INTEGRITY, "BAD_INTEGRITY",
+      "the encrypted part is too short, or its code differs" },
+    { KRBRELAY_SKEW, "SKEW", "the time is off by more than the skew, or is missing" },
+    { KRBRELAY_BADADDR, "BADADDR", "an address isn't the expected one, or is missing" },
+    { KRBRELAY_BADVERSION, "BADVERSION", "the protocol version isn't 5" },
+    { KRBRELAY_MSG_TYPE, "MSG_TYPE", "the message is of the other kind" },
+    { KRBRELAY_MODIFIED, "MODIFIED", "the checksum differs" },
+    { KRBRELAY_BADORDER, "BADORDER", "the sequence number isn't the expected one" },
+    { KRBRELAY_INAPP_CKSUM, "INAPP_CKSUM", "the checksum's type isn't the opener's" },
+    { KRBRELAY_FIELD_TOOLONG, "FIELD_TOOLONG", "the message is longer than a message may be" },
+    { KRBRELAY_MALFORMED, "MALFORMED", "no message is spelt so" },
+    { KRBRELAY_BAD_RECORD, "BAD_RECORD", "the user data are no record" },
+    { KRBRELAY_AFTER_CLOSE, "AFTER_CLOSE", "a close was accepted before" },
+    { KRBRELAY_MEMORY, "MEMORY", "out of memory" },
+    { KRBRELAY_ETYPE, "ETYPE", "the encryption type is neither 17 nor 18" },
+    { KRBRELAY_ROOM, "ROOM", "a buffer is too small" },
+    { KRBRELAY_EMPTY, "EMPTY", "the handle holds nothing" },
+    { KRBRELAY_KEY_SIZE, "KEY_SIZE", "the key hasn't the size of its encryption type" },
+    { KRBRELAY_MODE, "MODE", "the mode is neither KRB-SAFE nor KRB-PRIV" },
+    { KRBRELAY_MOMENT, "MOMENT", "no moment of the years 1970 to 9999" },
+    { KRBRELAY_ADDRESS, "ADDRESS", "an address has over 40 bytes" },
+    { KRBRELAY_ARGUMENT, "ARGUMENT", "an argument is out of its range" },
+    { KRBRELAY_RECORD, "RECORD", "the texts are no record" },
+};
+
+typedef enum krbrelay_answer written_call(uint32_t, char *, size_t, size_t *);
+
+/* A name or a text is written into as much room as it takes with its zero, and no less. */
+static void is_written(written_call *write, uint32_t answer, const char *expected)
+{
+    char buffer[KRBRELAY_TEXT_SIZE];
+    size_t size = 99, len = strlen(expected);
+    memset(buffer, 'x', sizeof buffer);
+    CHECK(write(answer, buffer, len, &size) == KRBRELAY_ROOM);
+    CHECK(size == 99 && buffer[0] == 'x');
+    CHECK(write(answer, buffer, sizeof buffer, &size) == KRBRELAY_OK);
+    CHECK(size == len && strcmp(buffer, expected) == 0);
+    CHECK(write(answer, buffer, len + 1, &size) == KRBRELAY_OK);
+}
+
 static void names(void)
 {
-    static const struct { uint32_t refusal; const char *name; } known[] = {
-        { KRBRELAY_ETYPE_NOSUPP, "ETYPE_NOSUPP" }, { KRBRELAY_BAD_INTEGRITY, "BAD_INTEGRITY" },
-        { KRBRELAY_SKEW, "SKEW" }, { KRBRELAY_BADADDR, "BADADDR" }, { KRBRELAY_BADVERSION, "BADVERSION" },
-        { KRBRELAY_MSG_TYPE, "MSG_TYPE" }, { KRBRELAY_MODIFIED, "MODIFIED" }, { KRBRELAY_BADORDER, "BADORDER" },
-        { KRBRELAY_INAPP_CKSUM, "INAPP_CKSUM" }, { KRBRELAY_FIELD_TOOLONG, "FIELD_TOOLONG" },
-        { KRBRELAY_MALFORMED, "MALFORMED" }, { KRBRELAY_MEMORY, "MEMORY" },
-    };
-    char name[16];
-    size_t size;
-    for (size_t i = 0; i < sizeof known / sizeof known[0]; i++) {
-        size_t len = strlen(known[i].name);
-        size = 99;
-        memset(name, 'x', sizeof name);
-        CHECK(krbrelay_answer_name(known[i].refusal, name, len, &size) == KRBRELAY_ROOM);
-        CHECK(size == 99 && name[0] == 'x');
-        CHECK(krbrelay_answer_name(known[i].refusal, name, len + 1, &size) == KRBRELAY_OK);
-        CHECK(size == len && strcmp(name, known[i].name) == 0 && name[len + 1] == 'x');
+    uint32_t told = 0;
+    for (size_t i = 0; i < sizeof known_answers / sizeof known_answers[0]; i++) {
+        is_written(krbrelay_answer_name, known_answers[i].answer, known_answers[i].name);
+        is_written(krbrelay_answer_text, known_answers[i].answer, known_answers[i].text);
     }
-    size = 99;
-    CHECK(krbrelay_answer_name(KRBRELAY_OK, name, sizeof name, &size) == KRBRELAY_ARGUMENT);
-    CHECK(krbrelay_answer_name(KRBRELAY_EXHAUSTED, name, sizeof name, &size) == KRBRELAY_ARGUMENT);
-    CHECK(krbrelay_answer_name(KRBRELAY_EMPTY, name, sizeof name, &size) == KRBRELAY_ARGUMENT && size == 99);
+    for (uint32_t answer = 0; answer < 2000; answer++) {
+        char buffer[KRBRELAY_TEXT_SIZE];
+        size_t size = 99;
+        enum krbrelay_answer found = krbrelay_answer_name(answer, buffer, sizeof buffer, &size);
+        CHECK(found == KRBRELAY_OK || (found == KRBRELAY_ARGUMENT && size == 99));
+        told += found == KRBRELAY_OK;
+    }
+    CHECK(told == sizeof known_answers / sizeof known_answers[0]);
+    CHECK(krbrelay_version() == KRBRELAY_VERSION);
 }
 
 int main(void)

@@ -33,6 +33,7 @@ void *__wrap_realloc(void *block, size_t size)
 }
 
 static uint8_t frame[KRBRELAY_FRAME_LIMIT], text[64];
+static const struct krbrelay_moment now = { SECS, USEC, 0 };
 static const uint8_t confounder[16], key[32] = { 1, 2, 3 };
 static int refused;
 
@@ -60,22 +61,22 @@ static int session_with_refusal(uint32_t mode, int etype, long at)
         CHECK(answer == KRBRELAY_MEMORY);
         CHECK(krbrelay_opener_new(&o, etype, key, len, &expect) == KRBRELAY_OK);
     }
-    answer = krbrelay_sealer_seal(&s, key, 20, SECS, USEC, confounder, frame, sizeof frame, &n);
+    answer = krbrelay_sealer_seal(&s, key, 20, &now, confounder, frame, sizeof frame, &n);
     if (answer != KRBRELAY_OK) {
         refused++;
         CHECK(answer == KRBRELAY_MEMORY && n == 0);
         CHECK(krbrelay_sealer_next(&s, &next) == KRBRELAY_OK && next == 7);
-        CHECK(krbrelay_sealer_seal(&s, key, 20, SECS, USEC, confounder, frame, sizeof frame, &n) == 0);
+        CHECK(krbrelay_sealer_seal(&s, key, 20, &now, confounder, frame, sizeof frame, &n) == 0);
     }
     if ((answer = krbrelay_message_header(frame, n, &header)) != KRBRELAY_OK) {
         refused++;
         CHECK(answer == KRBRELAY_MEMORY && krbrelay_message_header(frame, n, &header) == KRBRELAY_OK);
     }
-    answer = krbrelay_opener_unseal(&o, frame, n, 7, SECS, USEC, text, sizeof text, &m);
+    answer = krbrelay_opener_unseal(&o, frame, n, 7, &now, text, sizeof text, &m);
     if (answer != KRBRELAY_OK) {
         refused++;
         CHECK(answer == KRBRELAY_MEMORY && m == 0);
-        CHECK(krbrelay_opener_unseal(&o, frame, n, 7, SECS, USEC, text, sizeof text, &m) == KRBRELAY_OK);
+        CHECK(krbrelay_opener_unseal(&o, frame, n, 7, &now, text, sizeof text, &m) == KRBRELAY_OK);
     }
     CHECK(m == 20 && memcmp(text, key, 20) == 0);
     before_refusal = -1;
@@ -92,7 +93,7 @@ static long asked_by_seal(int etype, const uint8_t *bytes, size_t size)
     size_t n = 0;
     CHECK(krbrelay_sealer_new(&s, etype, key, key_size(etype), &session) == KRBRELAY_OK);
     long before = asked;
-    CHECK(krbrelay_sealer_seal(&s, bytes, size, SECS, USEC, confounder, frame, sizeof frame, &n) == KRBRELAY_OK);
+    CHECK(krbrelay_sealer_seal(&s, bytes, size, &now, confounder, frame, sizeof frame, &n) == KRBRELAY_OK);
     long took = asked - before;
     krbrelay_sealer_free(&s);
     return took;

@@ -188,35 +188,34 @@ static void ours_of(struct end *e, uint32_t mode)
 
 static uint8_t frame[KRBRELAY_FRAME_LIMIT], text[KRBRELAY_FRAME_LIMIT], sent[60000];
 
-static void read_clock(uint64_t *secs, uint32_t *usec)
+static struct krbrelay_moment read_clock(void)
 {
+    struct krbrelay_moment at = { 0 };
     struct timespec now;
     clock_gettime(CLOCK_REALTIME, &now);
-    *secs = (uint64_t)now.tv_sec;
-    *usec = (uint32_t)(now.tv_nsec / 1000);
+    at.seconds = (uint64_t)now.tv_sec;
+    at.microseconds = (uint32_t)(now.tv_nsec / 1000);
+    return at;
 }
 
 static size_t our_frame(struct end *e, size_t len)
 {
     uint8_t confounder[16];
     krb5_data random = { KV5M_DATA, sizeof confounder, (char *)confounder };
-    uint64_t secs;
-    uint32_t usec;
+    struct krbrelay_moment at;
     size_t size = 0;
     must(krb5_c_random_make_octets(ctx, &random), "random");
-    read_clock(&secs, &usec);
-    CHECK(krbrelay_sealer_seal(&e->sealer, sent, len, secs, usec, confounder, frame,
-                          krbrelay_frame_size(len), &size) == KRBRELAY_OK);
+    at = read_clock();
+    CHECK(krbrelay_sealer_seal(&e->sealer, sent, len, &at, confounder, frame,
+                               krbrelay_frame_size(len), &size) == KRBRELAY_OK);
     return size;
 }
 
 static uint32_t open_ours(struct end *e, size_t len, size_t *size)
 {
-    uint64_t secs;
-    uint32_t usec;
-    read_clock(&secs, &usec);
-    return krbrelay_opener_unseal(&e->opener, frame, len, e->expected, secs, usec, text, sizeof text,
-                             size);
+    struct krbrelay_moment at = read_clock();
+    return krbrelay_opener_unseal(&e->opener, frame, len, e->expected, &at, text, sizeof text,
+                                  size);
 }
 
 /* Ours reads the frame, at its own number alone, and unchanged alone. */

@@ -15,6 +15,8 @@
 
 enum { RUN = 8 };
 
+static const struct krbrelay_moment now = { SECS, USEC, 0 };
+
 static uint8_t key[32];
 /* The block of a handle in use, and how many runs of its bytes stood in it when it was freed. */
 struct watched { const void *block; uint8_t bytes[2048]; size_t size; int freed, runs; };
@@ -86,8 +88,8 @@ static void end_both(struct krbrelay_sealer *s, struct krbrelay_opener *o, enum 
         CHECK(watch[0].freed == 1 && watch[1].freed == 1);
     }
     if (how == REFUSED_NEW) {
-        CHECK(krbrelay_sealer_new(s, 17, other, 17, &session) == KRBRELAY_ARGUMENT);
-        CHECK(krbrelay_opener_new(o, 17, other, 17, &expect) == KRBRELAY_ARGUMENT);
+        CHECK(krbrelay_sealer_new(s, 17, other, 17, &session) == KRBRELAY_KEY_SIZE);
+        CHECK(krbrelay_opener_new(o, 17, other, 17, &expect) == KRBRELAY_KEY_SIZE);
         CHECK(watch[0].freed == 1 && watch[1].freed == 1);
     }
     krbrelay_sealer_free(s);
@@ -107,8 +109,8 @@ static void no_residue(uint32_t mode, int etype, enum ending how)
     CHECK(krbrelay_opener_new(&o, etype, key, key_size(etype), &expect) == KRBRELAY_OK);
     watch_block(0, s.at);
     watch_block(1, o.at);
-    CHECK(krbrelay_sealer_seal(&s, frame, 50, SECS, USEC, confounder, frame + 100, 60000, &n) == 0);
-    CHECK(krbrelay_opener_unseal(&o, frame + 100, n, 7, SECS, USEC, text, sizeof text, &m) == 0);
+    CHECK(krbrelay_sealer_seal(&s, frame, 50, &now, confounder, frame + 100, 60000, &n) == 0);
+    CHECK(krbrelay_opener_unseal(&o, frame + 100, n, 7, &now, text, sizeof text, &m) == 0);
     end_both(&s, &o, how, mode);
     for (int i = 0; i < 2; i++) {
         CHECK(watch[i].freed >= 1);
