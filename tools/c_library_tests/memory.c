@@ -1,4 +1,4 @@
-/* Each allocation refused in turn: a call answers want of memory and leaves its handle usable, and
+/* Each allocation refused in turn: a call answers that it is out of memory and leaves its handle usable, and
  * the next call succeeds. And a KRB-PRIV message takes all its memory at once, so no block that held
  * a text in the clear is left behind. Built with -Wl,--wrap=malloc -Wl,--wrap=realloc. */
 #include "check.h"
