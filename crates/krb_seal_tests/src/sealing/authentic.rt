@@ -63,7 +63,11 @@ fn an_encrypted_body_is_authentic(rt: HostRuntime) {
 #[test]
 fn another_checksum_is_modified(rt: HostRuntime) {
     let safe = opener(rt.alloc(), Mode::Safe).expect(&rt, "memory");
-    assert_same(&rt, carried(rt.alloc(), &safe, &SAFE_LONG_CHECKSUM), Err(41));
+    assert_same(
+        &rt,
+        carried(rt.alloc(), &safe, &SAFE_LONG_CHECKSUM),
+        Err(41),
+    );
     assert_same(&rt, carried(rt.alloc(), &safe, &SAFE_17[1..]), Err(901));
 }
 
