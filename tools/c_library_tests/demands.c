@@ -68,7 +68,7 @@ static void no_remote_address(void)
     krbrelay_opener_free(&o);
 }
 
-/* A message without a number: unsealing refuses it at each number, opening reads it as it is told
+/* A message without a number: unsealing refuses it at each number, opening reads it as it is asked
  * to. */
 static void no_number(void)
 {

@@ -89,7 +89,7 @@ static int ours_to_mit(uint32_t mode, int etype, int flags)
     return read == MESSAGES;
 }
 
-/* What is told of MIT's message is what its flags have it write. */
+/* What is reported of MIT's message is what its flags have it write. */
 static int is_told(const struct krbrelay_carried *c, int flags, uint32_t number)
 {
     int timed = (flags & (DO_TIME | RET_TIME)) != 0;
