@@ -146,8 +146,9 @@ def places() -> Iterator[str]:
 
 def find() -> str:
     """The path of the shared object, or its name alone, for the system's loader to find."""
-    if VARIABLE in os.environ:
-        return os.environ[VARIABLE]
+    named = os.environ.get(VARIABLE)
+    if named:
+        return named
     return next((place for place in places() if os.path.exists(place)), NAME)
 
 
