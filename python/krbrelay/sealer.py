@@ -9,7 +9,7 @@ from krbrelay.handle import Handle, Key
 from krbrelay.library import CONFOUNDER_SIZE, SessionStruct
 from krbrelay.values import (
     LAST_NUMBER, Address, Bytes, Mode, Moment, Record, address_struct, bytes_of, moment_struct,
-    ranged, record_bytes)
+    optional_struct, ranged, record_bytes)
 
 
 class Sealer(Handle):
@@ -32,7 +32,7 @@ class Sealer(Handle):
             ranged("the first number", first, 0, LAST_NUMBER),
             address_struct("the sender", sender),
             receiver is not None,
-            address_struct("the receiver", receiver),
+            optional_struct("the receiver", receiver),
         )
         super().__init__(etype, key, session)
 

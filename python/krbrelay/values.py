@@ -106,16 +106,18 @@ class Address:
         return f"{self.kind}:{self.data.hex()}"
 
 
-def address_struct(name: str, address: Optional[Address]) -> AddressStruct:
-    """The address as C has it, or zeros."""
-    struct = AddressStruct()
-    if address is None:
-        return struct
+def address_struct(name: str, address: Address) -> AddressStruct:
+    """The address as C has it, or TypeError."""
     if not isinstance(address, Address):
         raise TypeError(f"{name} is {type(address).__name__}: it has to be an Address")
-    struct.kind, struct.len = address.kind, len(address.data)
+    struct = AddressStruct(address.kind, len(address.data))
     struct.bytes[:len(address.data)] = address.data
     return struct
+
+
+def optional_struct(name: str, address: Optional[Address]) -> AddressStruct:
+    """The address as C has it, or zeros for none."""
+    return AddressStruct() if address is None else address_struct(name, address)
 
 
 def address_of(struct: AddressStruct) -> Address:
@@ -209,8 +211,8 @@ def demand_struct(demand: Demand) -> DemandStruct:
         how_of(demand.how_number, demand.number),
         ranged("the number", demand.number or 0, 0, 2**64 - 1),
         ranged("the skew", demand.skew or 0, 0, 2**32 - 1),
-        address_struct("the sender", demand.sender),
-        address_struct("the receiver", demand.receiver),
+        optional_struct("the sender", demand.sender),
+        optional_struct("the receiver", demand.receiver),
     )
 
 
