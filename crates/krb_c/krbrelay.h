@@ -1,14 +1,17 @@
 /* Sealing and opening of KRB-SAFE and KRB-PRIV messages (RFC 4120) under encryption types 17 and 18
- * (RFC 3962). docs/C.md has a whole program.
+ * (RFC 3962). docs/C.md has a whole program, and each call has a page in section 3 of the manual.
  *
- * A handle is a struct of the caller's, made of zeros: struct krb_sealer s = { 0 };
- * It holds nothing, or one sealer or opener on the heap. End it by krb_sealer_free or
- * krb_opener_free, which overwrite all keys; freeing twice is harmless.
+ * A handle is a struct of the caller's, made of zeros: struct krbrelay_sealer s = { 0 };
+ * It holds nothing, or one sealer, opener or receiver on the heap. End it by its krbrelay_*_free,
+ * which overwrites all keys; freeing twice is harmless.
+ *
+ * Each call that answers an enum answers KRBRELAY_OK, or why it did nothing: what it would have
+ * written is as it was.
  *
  * What the caller owes, which nothing checks:
- *  - Each pointer is valid for its length, and is never null, also where the length is 0. Each
- *    pointer to a single value is valid and aligned. Handles, and the structs that a call reads,
- *    have no byte unwritten.
+ *  - Each pointer is valid for its length. It may be NULL where the length is 0. Each pointer to a
+ *    single value is valid, aligned and never NULL. Handles, and the structs that a call reads, have
+ *    no byte unwritten, and their reserved fields are zeros.
  *  - What a call writes (a handle, a buffer, a size) overlaps nothing else that the call is given.
  *    All that a call is given stays unchanged, but for what the call writes, until it returns.
  *  - A handle that holds something is never copied, nor written but by these functions. It belongs
@@ -30,142 +33,343 @@
 extern "C" {
 #endif
 
-/* The most bytes of user data that are sealed, and of a message that is opened. */
-#define KRB_USER_DATA_LIMIT 1000001
-#define KRB_FRAME_LIMIT 1005000
+#if defined(__GNUC__)
+#define KRBRELAY_NONNULL(...) __attribute__((nonnull(__VA_ARGS__)))
+#define KRBRELAY_CHECKED __attribute__((warn_unused_result))
+#else
+#define KRBRELAY_NONNULL(...)
+#define KRBRELAY_CHECKED
+#endif
 
-/* The room for the message of len bytes of user data, for arrays: krb_frame_size(len) where len is
- * at most KRB_USER_DATA_LIMIT. */
-#define KRB_FRAME_SIZE(len) ((len) + 400)
+/* The version of this header: a major number, and a byte each for minor number and patch. */
+#define KRBRELAY_VERSION_MAJOR 1
+#define KRBRELAY_VERSION_MINOR 0
+#define KRBRELAY_VERSION_PATCH 0
+#define KRBRELAY_VERSION 0x010000u
+
+/* The most bytes of user data that are sealed, of a message that is opened, and of an address. */
+#define KRBRELAY_USER_DATA_LIMIT 1000001
+#define KRBRELAY_FRAME_LIMIT 1005000
+#define KRBRELAY_ADDRESS_LIMIT 40
+
+/* The room for the message of len bytes of user data, for arrays: krbrelay_frame_size(len) where len
+ * is at most KRBRELAY_USER_DATA_LIMIT. */
+#define KRBRELAY_FRAME_SIZE(len) ((len) + 416)
+
+/* The room for the name or the text of any answer, with its zero. */
+#define KRBRELAY_TEXT_SIZE 64
 
 /* The modes, and the kinds of messages (RFC 4120 section 5.10). */
-#define KRB_SAFE 20
-#define KRB_PRIV 21
-
-/* What a call answers: 0, or why it did nothing. Each answer comes only where its reason holds. */
-enum krb_answer {
-    KRB_OK = 0,
-
-    /* The keys of the handle were overwritten. */
-    KRB_WIPED = 1,
-    /* Of krb_sealer_seal: over KRB_USER_DATA_LIMIT bytes; no number is left; no memory. */
-    KRB_SEAL_TOO_LONG = 2,
-    KRB_SEAL_EXHAUSTED = 3,
-    KRB_SEAL_MEMORY = 4,
-
-    /* Refusals of a message: the first check that it fails. The numbers up to 127 are those of RFC
-     * 4120 section 7.5.9. */
-    KRB_ETYPE_NOSUPP = 14,  /* another encryption type */
-    KRB_BAD_INTEGRITY = 31, /* the encrypted part is too short, or its code differs */
-    KRB_SKEW = 37,          /* the time is off by more than the skew, or is missing */
-    KRB_BADADDR = 38,       /* an address isn't the expected one, or is missing */
-    KRB_BADVERSION = 39,    /* the protocol version isn't 5 */
-    KRB_MSG_TYPE = 40,      /* a message of the other kind */
-    KRB_MODIFIED = 41,      /* the checksum differs */
-    KRB_BADORDER = 42,      /* another sequence number */
-    KRB_INAPP_CKSUM = 50,   /* another type of checksum */
-    KRB_FIELD_TOOLONG = 61, /* over KRB_FRAME_LIMIT bytes */
-    KRB_MALFORMED = 901,    /* no message is spelt so */
-
-    KRB_MEMORY = 904,   /* no memory */
-    KRB_ARGUMENT = 905, /* an argument is out of its range */
-    KRB_ROOM = 906,     /* a buffer is too small */
-    KRB_EMPTY = 907     /* the handle holds nothing */
+enum krbrelay_mode {
+    KRBRELAY_SAFE = 20,
+    KRBRELAY_PRIV = 21
 };
 
-struct krb_sealer { void *at; size_t count; };
-struct krb_opener { void *at; size_t count; };
+/* What a call answers: 0, or why it did nothing. Each answer comes only where its reason holds. The
+ * numbers from 14 to 61 are those of RFC 4120 section 7.5.9. */
+enum krbrelay_answer {
+    KRBRELAY_OK = 0,
 
-/* The first len bytes, 32 at most, in network order; kind 2 is IPv4 (RFC 4120 section 7.5.3). */
-struct krb_address { int32_t kind; uint32_t len; uint8_t bytes[32]; };
+    KRBRELAY_WIPED = 1,          /* the keys of the handle were overwritten */
+    KRBRELAY_TOO_LONG = 2,       /* over KRBRELAY_USER_DATA_LIMIT bytes of user data */
+    KRBRELAY_EXHAUSTED = 3,      /* no sequence number is left */
+
+    /* Refusals of a message: the first check that it fails. */
+    KRBRELAY_ETYPE_NOSUPP = 14,  /* another encryption type */
+    KRBRELAY_BAD_INTEGRITY = 31, /* the encrypted part is too short, or its code differs */
+    KRBRELAY_SKEW = 37,          /* the time is off by more than the skew, or is missing */
+    KRBRELAY_BADADDR = 38,       /* an address isn't the expected one, or is missing */
+    KRBRELAY_BADVERSION = 39,    /* the protocol version isn't 5 */
+    KRBRELAY_MSG_TYPE = 40,      /* a message of the other kind */
+    KRBRELAY_MODIFIED = 41,      /* the checksum differs */
+    KRBRELAY_BADORDER = 42,      /* another sequence number */
+    KRBRELAY_INAPP_CKSUM = 50,   /* another type of checksum */
+    KRBRELAY_FIELD_TOOLONG = 61, /* over KRBRELAY_FRAME_LIMIT bytes */
+    KRBRELAY_MALFORMED = 901,    /* no message is spelt so */
+    KRBRELAY_BAD_RECORD = 902,   /* of receivers: the user data are no record */
+    KRBRELAY_AFTER_CLOSE = 903,  /* of receivers: a close was accepted before */
+
+    KRBRELAY_MEMORY = 904,       /* out of memory */
+    KRBRELAY_ETYPE = 905,        /* an encryption type that is neither 17 nor 18 */
+    KRBRELAY_ROOM = 906,         /* a buffer is too small */
+    KRBRELAY_EMPTY = 907,        /* the handle holds nothing */
+    KRBRELAY_KEY_SIZE = 908,     /* the key hasn't the size of its encryption type */
+    KRBRELAY_MODE = 909,         /* a mode that is neither KRBRELAY_SAFE nor KRBRELAY_PRIV */
+    KRBRELAY_MOMENT = 910,       /* no moment of the years 1970 to 9999 */
+    KRBRELAY_ADDRESS = 911,      /* an address has over KRBRELAY_ADDRESS_LIMIT bytes */
+    KRBRELAY_ARGUMENT = 912,     /* another argument is out of its range */
+    KRBRELAY_RECORD = 913        /* no record of this kind has these bytes */
+};
+
+/* What is demanded of an address, the time or the number of a message. */
+enum krbrelay_how {
+    KRBRELAY_IGNORE = 0,         /* nothing */
+    KRBRELAY_IF_PRESENT = 1,     /* where the message tells it, that it fits */
+    KRBRELAY_REQUIRED = 2,       /* that the message tells it, and it fits */
+    KRBRELAY_ABSENT_IS_0 = 3     /* of the number: that it fits, and that none is the number 0 */
+};
+
+/* The kinds of records (docs/C.md). */
+enum krbrelay_record {
+    KRBRELAY_TEXT = 1,
+    KRBRELAY_BATCH = 2,
+    KRBRELAY_CLOSE = 3
+};
+
+struct krbrelay_sealer { void *at; size_t count; };
+struct krbrelay_opener { void *at; size_t count; };
+struct krbrelay_receiver { void *at; size_t count; };
+
+/* A moment of the years 1970 to 9999: seconds since 1970-01-01T00:00:00Z, and microseconds after
+ * that second, below a million. */
+struct krbrelay_moment { uint64_t seconds; uint32_t microseconds; uint32_t reserved; };
+
+/* The first len bytes, 40 at most, in network order; kind 2 is IPv4 (RFC 4120 section 7.5.3). */
+struct krbrelay_address { int32_t kind; uint32_t len; uint8_t bytes[40]; };
 
 /* What a sealer writes into each message. */
-struct krb_session {
-    uint32_t mode;              /* KRB_SAFE or KRB_PRIV */
-    uint32_t first;             /* the first sequence number */
-    struct krb_address s_addr;  /* the sender's address */
-    uint32_t has_r;             /* 0: the messages don't tell the receiver's address */
-    struct krb_address r_addr;  /* its len is 32 at most also where it isn't told */
+struct krbrelay_session {
+    uint32_t mode;                      /* KRBRELAY_SAFE or KRBRELAY_PRIV */
+    uint32_t first;                     /* the first sequence number */
+    struct krbrelay_address sender;     /* the sender's address */
+    uint32_t has_receiver;              /* 0: the messages don't tell the receiver's address */
+    struct krbrelay_address receiver;   /* not read where has_receiver is 0 */
+    uint32_t reserved[5];
 };
 
-/* What an opener demands of each message. */
-struct krb_expect {
-    uint32_t mode;              /* KRB_SAFE or KRB_PRIV */
-    struct krb_address s_addr;  /* the sender's address */
-    struct krb_address r_addr;  /* the receiver's address */
-    uint32_t require_r;         /* 0: a message may leave the receiver's address out */
-    uint32_t expect_time;       /* 0: a message may leave its time out */
-    uint32_t skew;              /* how many seconds a message's time may be off */
+/* What krbrelay_opener_unseal and receivers demand of each message. Other calls of an opener read
+ * the mode alone. */
+struct krbrelay_expect {
+    uint32_t mode;                      /* KRBRELAY_SAFE or KRBRELAY_PRIV */
+    struct krbrelay_address sender;     /* the sender's address */
+    struct krbrelay_address receiver;   /* the receiver's address */
+    uint32_t require_receiver;          /* 0: a message may leave the receiver's address out */
+    uint32_t require_time;              /* 0: a message may leave its time out */
+    uint32_t skew;                      /* how many seconds a message's time may be off */
+    uint32_t reserved[4];
+};
+
+/* What krbrelay_opener_open demands of a message, each by an enum krbrelay_how: zeros demand
+ * nothing. A message's sender is never absent. */
+struct krbrelay_demand {
+    uint32_t how_sender;                /* up to KRBRELAY_REQUIRED: sender */
+    uint32_t how_receiver;              /* up to KRBRELAY_REQUIRED: receiver */
+    uint32_t how_time;                  /* up to KRBRELAY_REQUIRED: off by at most the skew */
+    uint32_t how_number;                /* up to KRBRELAY_ABSENT_IS_0: number */
+    uint64_t number;                    /* the sequence number */
+    uint32_t skew;                      /* seconds */
+    struct krbrelay_address sender;     /* its len is 40 at most also where it isn't demanded */
+    struct krbrelay_address receiver;   /* its len too */
+    uint32_t reserved[5];
+};
+
+/* What an authentic message carried beside its user data. What it doesn't tell is zeros. */
+struct krbrelay_carried {
+    uint64_t seconds;                   /* of its time */
+    uint32_t microseconds;              /* of its time */
+    uint32_t has_seconds;               /* 0: seconds isn't told */
+    uint32_t has_microseconds;          /* 0: microseconds isn't told */
+    uint32_t has_number;                /* 0: number isn't told */
+    uint32_t number;                    /* the sequence number */
+    uint32_t has_receiver;              /* 0: receiver isn't told */
+    struct krbrelay_address sender;
+    struct krbrelay_address receiver;
+    uint32_t reserved[6];
 };
 
 /* What a message says of itself in clear. None of it is authentic until the message is opened. */
-struct krb_header {
-    uint32_t kind;              /* KRB_SAFE or KRB_PRIV */
-    int32_t etype;              /* the encryption type of KRB-PRIV; of KRB-SAFE 0 */
-    int32_t checksum_type;      /* of KRB-SAFE, 15 for encryption type 17 and 16 for 18; else 0 */
-    uint32_t has_number;        /* 0: number isn't told, as by each KRB-PRIV, which encrypts it */
-    uint32_t number;            /* the sequence number */
-    uint32_t has_key_version;   /* 0: key_version isn't told, as by each KRB-SAFE */
-    uint32_t key_version;       /* the version of the key (RFC 4120 section 5.2.9, kvno) */
+struct krbrelay_header {
+    uint32_t kind;                      /* KRBRELAY_SAFE or KRBRELAY_PRIV */
+    int32_t etype;                      /* the encryption type of KRB-PRIV; of KRB-SAFE 0 */
+    int32_t checksum_type;              /* of KRB-SAFE, 15 for encryption type 17, 16 for 18; else 0 */
+    uint32_t has_number;                /* 0: number isn't told, as by each KRB-PRIV */
+    uint32_t number;                    /* the sequence number */
+    uint32_t has_key_version;           /* 0: key_version isn't told, as by each KRB-SAFE */
+    uint32_t key_version;               /* the version of the key (RFC 4120 section 5.2.9, kvno) */
+    uint32_t reserved;
 };
 
 /* ---- Sealing */
 
-/* Makes a sealer: encryption type 17 takes a key of 16 bytes, 18 one of 32. What the handle held
- * ends. After any answer but 0 it holds nothing: KRB_ARGUMENT, KRB_MEMORY. */
-uint32_t krb_sealer_new(struct krb_sealer *handle, int32_t etype, const uint8_t *key,
-                        size_t key_len, const struct krb_session *session);
+/* Makes a sealer: encryption type 17 takes a key of 16 bytes, 18 one of 32. The caller's bytes of
+ * the key stay. What the handle held ends. After any answer but KRBRELAY_OK it holds nothing:
+ * KRBRELAY_ETYPE, KRBRELAY_KEY_SIZE, KRBRELAY_MODE, KRBRELAY_ADDRESS, KRBRELAY_MEMORY. */
+enum krbrelay_answer krbrelay_sealer_new(struct krbrelay_sealer *handle, int32_t etype,
+                                         const uint8_t *key, size_t key_len,
+                                         const struct krbrelay_session *session)
+    KRBRELAY_NONNULL(1, 5) KRBRELAY_CHECKED;
 
 /* A room in which each frame with len bytes of user data fits. */
-size_t krb_frame_size(size_t len);
+size_t krbrelay_frame_size(size_t len);
 
 /* Writes the frame of the user data at the next sequence number and this moment, and its size.
- * room is krb_frame_size(len) at least. KRB-SAFE doesn't use the confounder.
- * The number rises by one where the answer is 0; any other answer leaves sealer, buffer and size as
- * they were: KRB_WIPED, KRB_SEAL_TOO_LONG, KRB_SEAL_EXHAUSTED, KRB_SEAL_MEMORY, KRB_ARGUMENT where
- * this is no moment of the years 1970 to 9999, KRB_ROOM, KRB_EMPTY. */
-uint32_t krb_sealer_seal(struct krb_sealer *handle, const uint8_t *user_data, size_t len,
-                         uint64_t secs, uint32_t usec, const uint8_t confounder[16],
-                         uint8_t *frame, size_t room, size_t *size);
+ * room is krbrelay_frame_size(len) at least. KRB-SAFE doesn't use the confounder.
+ * The number rises by one where the answer is KRBRELAY_OK; any other leaves sealer, buffer and size
+ * as they were: KRBRELAY_WIPED, KRBRELAY_TOO_LONG, KRBRELAY_EXHAUSTED, KRBRELAY_MEMORY,
+ * KRBRELAY_MOMENT, KRBRELAY_ROOM, KRBRELAY_EMPTY. */
+enum krbrelay_answer krbrelay_sealer_seal(struct krbrelay_sealer *handle, const uint8_t *user_data,
+                                          size_t len, const struct krbrelay_moment *at,
+                                          const uint8_t confounder[16],
+                                          uint8_t *frame, size_t room, size_t *size)
+    KRBRELAY_NONNULL(1, 4, 5, 8) KRBRELAY_CHECKED;
 
-/* Tells the next sequence number, 4294967296 where none is left. KRB_EMPTY. */
-uint32_t krb_sealer_next(struct krb_sealer *handle, uint64_t *next);
+/* The same of a record, which a receiver takes: of a text or a batch, whose bytes are given, or of
+ * the close, which has none. room is krbrelay_frame_size(len + 1) at least. It also answers
+ * KRBRELAY_RECORD: the kind is none, a text has over 1,000,000 bytes, a batch isn't 2 to 1,000 texts
+ * as krbrelay_batch_add writes them or has over 1,000,000 bytes, or a close has bytes. */
+enum krbrelay_answer krbrelay_sealer_seal_record(struct krbrelay_sealer *handle, uint32_t kind,
+                                                 const uint8_t *bytes, size_t len,
+                                                 const struct krbrelay_moment *at,
+                                                 const uint8_t confounder[16],
+                                                 uint8_t *frame, size_t room, size_t *size)
+    KRBRELAY_NONNULL(1, 5, 6, 9) KRBRELAY_CHECKED;
 
-/* Overwrites the keys where they lie: from then on the sealer answers KRB_WIPED. */
-void krb_sealer_wipe(struct krb_sealer *handle);
+/* Tells the next sequence number, 4294967296 where none is left. KRBRELAY_EMPTY. */
+enum krbrelay_answer krbrelay_sealer_next(struct krbrelay_sealer *handle, uint64_t *next)
+    KRBRELAY_NONNULL(1, 2) KRBRELAY_CHECKED;
+
+/* Seals in this mode from now on. Key, number and addresses stay. KRBRELAY_MODE, KRBRELAY_EMPTY. */
+enum krbrelay_answer krbrelay_sealer_set_mode(struct krbrelay_sealer *handle, uint32_t mode)
+    KRBRELAY_NONNULL(1) KRBRELAY_CHECKED;
+
+/* Overwrites the keys where they lie: from then on the sealer answers KRBRELAY_WIPED. */
+void krbrelay_sealer_wipe(struct krbrelay_sealer *handle) KRBRELAY_NONNULL(1);
 
 /* Overwrites the keys and frees the sealer. The handle holds nothing then. */
-void krb_sealer_free(struct krb_sealer *handle);
+void krbrelay_sealer_free(struct krbrelay_sealer *handle) KRBRELAY_NONNULL(1);
 
 /* ---- Opening */
 
-/* Makes an opener, as krb_sealer_new makes a sealer. */
-uint32_t krb_opener_new(struct krb_opener *handle, int32_t etype, const uint8_t *key,
-                        size_t key_len, const struct krb_expect *expect);
+/* Makes an opener, as krbrelay_sealer_new makes a sealer. */
+enum krbrelay_answer krbrelay_opener_new(struct krbrelay_opener *handle, int32_t etype,
+                                         const uint8_t *key, size_t key_len,
+                                         const struct krbrelay_expect *expect)
+    KRBRELAY_NONNULL(1, 5) KRBRELAY_CHECKED;
 
 /* Writes the user data of a frame that has this sequence number, at this moment, and their size.
- * They are fewer than the frame's bytes. Any answer but 0 leaves buffer and size as they were:
- * KRB_WIPED, a refusal, KRB_MEMORY, KRB_ARGUMENT where this is no moment of the years 1970 to 9999,
- * KRB_ROOM, KRB_EMPTY. The opener keeps no number: the caller demands each one. */
-uint32_t krb_opener_unseal(struct krb_opener *handle, const uint8_t *frame, size_t len,
-                           uint64_t number, uint64_t secs, uint32_t usec,
-                           uint8_t *user_data, size_t room, size_t *size);
+ * They are fewer than the frame's bytes. Any answer but KRBRELAY_OK leaves buffer and size as they
+ * were: KRBRELAY_WIPED, a refusal, KRBRELAY_MEMORY, KRBRELAY_MOMENT, KRBRELAY_ROOM, KRBRELAY_EMPTY.
+ * The opener keeps no number: the caller demands each one. */
+enum krbrelay_answer krbrelay_opener_unseal(struct krbrelay_opener *handle, const uint8_t *frame,
+                                            size_t len, uint64_t number,
+                                            const struct krbrelay_moment *at,
+                                            uint8_t *user_data, size_t room, size_t *size)
+    KRBRELAY_NONNULL(1, 5, 8) KRBRELAY_CHECKED;
 
-/* Overwrites the keys where they lie: from then on the opener answers KRB_WIPED. */
-void krb_opener_wipe(struct krb_opener *handle);
+/* The same, with the frame's own bytes as the buffer: the user data are written over its beginning,
+ * and what is after them stays. Any answer but KRBRELAY_OK leaves the frame as it was. */
+enum krbrelay_answer krbrelay_opener_unseal_in_place(struct krbrelay_opener *handle, uint8_t *frame,
+                                                     size_t len, uint64_t number,
+                                                     const struct krbrelay_moment *at, size_t *size)
+    KRBRELAY_NONNULL(1, 5, 6) KRBRELAY_CHECKED;
+
+/* Opens a frame with the caller's demands: first what makes it authentic is checked, and then that
+ * its addresses have at most 40 bytes, and the demands in the order of addresses, time and number.
+ * Writes its user data and their size, and what else it carried. Any answer but KRBRELAY_OK leaves
+ * these as they were: KRBRELAY_WIPED, a refusal, KRBRELAY_MEMORY, KRBRELAY_MOMENT, KRBRELAY_ROOM,
+ * KRBRELAY_EMPTY, and KRBRELAY_ARGUMENT of a demand that there isn't. */
+enum krbrelay_answer krbrelay_opener_open(struct krbrelay_opener *handle, const uint8_t *frame,
+                                          size_t len, const struct krbrelay_demand *demand,
+                                          const struct krbrelay_moment *at,
+                                          uint8_t *user_data, size_t room, size_t *size,
+                                          struct krbrelay_carried *carried)
+    KRBRELAY_NONNULL(1, 4, 5, 8, 9) KRBRELAY_CHECKED;
+
+/* Overwrites the keys where they lie: from then on the opener answers KRBRELAY_WIPED. */
+void krbrelay_opener_wipe(struct krbrelay_opener *handle) KRBRELAY_NONNULL(1);
 
 /* Overwrites the keys and frees the opener. The handle holds nothing then. */
-void krb_opener_free(struct krb_opener *handle);
+void krbrelay_opener_free(struct krbrelay_opener *handle) KRBRELAY_NONNULL(1);
 
-/* ---- Messages and answers */
+/* ---- Receiving */
 
-/* Tells what a message says of itself in clear, so that a key can be chosen. Any answer but 0
- * leaves the header as it was: KRB_FIELD_TOOLONG, KRB_MALFORMED, KRB_MEMORY. */
-uint32_t krb_message_header(const uint8_t *frame, size_t len, struct krb_header *header);
+/* Makes a receiver, as krbrelay_opener_new makes an opener. It demands the number `expected` next,
+ * 4294967296 at most, else KRBRELAY_ARGUMENT; with `closed` not 0 it begins as after a close. */
+enum krbrelay_answer krbrelay_receiver_new(struct krbrelay_receiver *handle, int32_t etype,
+                                           const uint8_t *key, size_t key_len,
+                                           const struct krbrelay_expect *expect,
+                                           uint64_t expected, uint32_t closed)
+    KRBRELAY_NONNULL(1, 5) KRBRELAY_CHECKED;
 
-/* Writes the name of a refusal, at most 13 bytes, and a zero behind it, and the name's size.
- * KRB_ARGUMENT where no refusal has this number; KRB_ROOM, which 14 bytes never meet. */
-uint32_t krb_refusal_name(uint32_t refusal, char *name, size_t room, size_t *size);
+/* Takes a frame at this moment: tells the kind of the record that it carries, an enum
+ * krbrelay_record, and writes the record's bytes, those of a text or a batch, and their size. They
+ * are fewer than the frame's. The next number is demanded then, and nothing after a close. Any other
+ * answer leaves receiver, buffer, kind and size as they were: a refusal, KRBRELAY_MEMORY,
+ * KRBRELAY_MOMENT, KRBRELAY_ROOM, KRBRELAY_EMPTY. */
+enum krbrelay_answer krbrelay_receiver_take(struct krbrelay_receiver *handle, const uint8_t *frame,
+                                            size_t len, const struct krbrelay_moment *at,
+                                            uint32_t *kind,
+                                            uint8_t *bytes, size_t room, size_t *size)
+    KRBRELAY_NONNULL(1, 4, 5, 8) KRBRELAY_CHECKED;
+
+/* Tells the number that is demanded next, 4294967296 where none is left, and 1 where a close was
+ * accepted, else 0. KRBRELAY_EMPTY. */
+enum krbrelay_answer krbrelay_receiver_state(struct krbrelay_receiver *handle, uint64_t *expected,
+                                             uint32_t *closed)
+    KRBRELAY_NONNULL(1, 2, 3) KRBRELAY_CHECKED;
+
+/* Overwrites the keys and frees the receiver. The handle holds nothing then. */
+void krbrelay_receiver_free(struct krbrelay_receiver *handle) KRBRELAY_NONNULL(1);
+
+/* ---- Batches: each text is four bytes of its length, the most significant first, and its bytes */
+
+/* Adds a text after the *size bytes that a batch has so far. KRBRELAY_ROOM, which changes nothing. */
+static inline enum krbrelay_answer krbrelay_batch_add(uint8_t *batch, size_t room, size_t *size,
+                                                      const uint8_t *text, size_t len)
+{
+    size_t at = *size, i;
+    if (at > room || room - at < 4 || room - at - 4 < len || len > 0xffffffffu)
+        return KRBRELAY_ROOM;
+    for (i = 0; i < 4; i++)
+        batch[at + i] = (uint8_t)(len >> (24 - 8 * i));
+    for (i = 0; i < len; i++)
+        batch[at + 4 + i] = text[i];
+    *size = at + 4 + len;
+    return KRBRELAY_OK;
+}
+
+/* Tells where the text begins that follows *at in a batch, and its length, and moves *at past it.
+ * KRBRELAY_EMPTY after the last text, and KRBRELAY_RECORD where no text stands there: neither
+ * changes anything. Of a batch that a receiver took only the last text is followed by none. */
+static inline enum krbrelay_answer krbrelay_batch_next(const uint8_t *batch, size_t size, size_t *at,
+                                                       const uint8_t **text, size_t *len)
+{
+    size_t from = *at, n = 0, i;
+    if (from >= size)
+        return KRBRELAY_EMPTY;
+    if (size - from < 4)
+        return KRBRELAY_RECORD;
+    for (i = 0; i < 4; i++)
+        n = n << 8 | batch[from + i];
+    if (size - from - 4 < n)
+        return KRBRELAY_RECORD;
+    *text = batch + from + 4;
+    *len = n;
+    *at = from + 4 + n;
+    return KRBRELAY_OK;
+}
+
+/* ---- Messages, answers and the version */
+
+/* Tells what a message says of itself in clear, so that a key can be chosen. Any answer but
+ * KRBRELAY_OK leaves the header as it was: KRBRELAY_FIELD_TOOLONG, KRBRELAY_MALFORMED,
+ * KRBRELAY_MEMORY. */
+enum krbrelay_answer krbrelay_message_header(const uint8_t *frame, size_t len,
+                                             struct krbrelay_header *header)
+    KRBRELAY_NONNULL(3) KRBRELAY_CHECKED;
+
+/* Writes the name of an answer ("BADORDER") and a zero after it, and the name's size. KRBRELAY_TEXT_
+ * SIZE is room for each. KRBRELAY_ARGUMENT where no answer has this number; KRBRELAY_ROOM. */
+enum krbrelay_answer krbrelay_answer_name(uint32_t answer, char *name, size_t room, size_t *size)
+    KRBRELAY_NONNULL(4) KRBRELAY_CHECKED;
+
+/* Writes what an answer says ("the sequence number isn't the expected one"), as
+ * krbrelay_answer_name does. */
+enum krbrelay_answer krbrelay_answer_text(uint32_t answer, char *text, size_t room, size_t *size)
+    KRBRELAY_NONNULL(4) KRBRELAY_CHECKED;
+
+/* The version of the library, spelt as KRBRELAY_VERSION. */
+uint32_t krbrelay_version(void);
 
 #ifdef __cplusplus
 }

@@ -7,47 +7,39 @@
 
 /* The key of the session, of encryption type 17, comes from the exchange before it. */
 static const uint8_t key[16] = "chicken teriyaki";
+static const struct krbrelay_address alice = { .kind = 2, .len = 4, .bytes = { 10, 0, 0, 1 } };
+static const struct krbrelay_address bob = { .kind = 2, .len = 4, .bytes = { 10, 0, 0, 255 } };
 
-static const struct krb_address alice = { .kind = 2, .len = 4, .bytes = { 10, 0, 0, 1 } };
-static const struct krb_address bob = { .kind = 2, .len = 4, .bytes = { 10, 0, 0, 255 } };
-
-static int failed(const char *what, uint32_t answer)
+static int failed(const char *what, enum krbrelay_answer answer)
 {
-    char name[16];
+    char text[KRBRELAY_TEXT_SIZE] = "";
     size_t size;
-    if (krb_refusal_name(answer, name, sizeof name, &size) == KRB_OK)
-        fprintf(stderr, "%s: %u %s\n", what, (unsigned)answer, name);
-    else
-        fprintf(stderr, "%s: %u\n", what, (unsigned)answer);
+    if (krbrelay_answer_text(answer, text, sizeof text, &size) == KRBRELAY_OK)
+        fprintf(stderr, "%s: %d: %s\n", what, (int)answer, text);
     return 1;
 }
 
-/* The moment of now, in seconds and microseconds. */
-static void read_clock(uint64_t *secs, uint32_t *usec)
+static struct krbrelay_moment read_clock(void)
 {
     struct timespec now;
     clock_gettime(CLOCK_REALTIME, &now);
-    *secs = (uint64_t)now.tv_sec;
-    *usec = (uint32_t)(now.tv_nsec / 1000);
+    return (struct krbrelay_moment){ (uint64_t)now.tv_sec, (uint32_t)(now.tv_nsec / 1000), 0 };
 }
 
 /* Seals the text as message 7, and answers the size of the frame, 0 where it failed. */
 static size_t send_text(const char *text, size_t len, uint8_t *frame, size_t room)
 {
-    struct krb_session session = { .mode = KRB_PRIV, .first = 7, .s_addr = alice };
-    struct krb_sealer sealer = { 0 };
+    struct krbrelay_session session = { .mode = KRBRELAY_PRIV, .first = 7, .sender = alice };
+    struct krbrelay_sealer sealer = { 0 };
+    struct krbrelay_moment now = read_clock();
     uint8_t confounder[16];
-    uint64_t secs;
-    uint32_t usec;
     size_t size = 0;
-    uint32_t answer = krb_sealer_new(&sealer, 17, key, sizeof key, &session);
-    if (answer == KRB_OK && getrandom(confounder, sizeof confounder, 0) == sizeof confounder) {
-        read_clock(&secs, &usec);
-        answer = krb_sealer_seal(&sealer, (const uint8_t *)text, len, secs, usec, confounder,
-                                 frame, room, &size);
-    }
-    krb_sealer_free(&sealer);
-    if (answer != KRB_OK)
+    enum krbrelay_answer answer = krbrelay_sealer_new(&sealer, 17, key, sizeof key, &session);
+    if (answer == KRBRELAY_OK && getrandom(confounder, sizeof confounder, 0) == sizeof confounder)
+        answer = krbrelay_sealer_seal(&sealer, (const uint8_t *)text, len, &now, confounder, frame,
+                                      room, &size);
+    krbrelay_sealer_free(&sealer);
+    if (answer != KRBRELAY_OK)
         failed("seal", answer);
     return size;
 }
@@ -55,22 +47,17 @@ static size_t send_text(const char *text, size_t len, uint8_t *frame, size_t roo
 /* Opens the frame as message `number`, and prints its text. */
 static int receive_text(const uint8_t *frame, size_t len, uint64_t number)
 {
-    struct krb_expect expect = {
-        .mode = KRB_PRIV, .s_addr = alice, .r_addr = bob, .expect_time = 1, .skew = 300
-    };
-    struct krb_opener opener = { 0 };
-    uint8_t text[KRB_FRAME_LIMIT];
-    uint64_t secs;
-    uint32_t usec;
+    struct krbrelay_expect expect = { .mode = KRBRELAY_PRIV, .sender = alice, .receiver = bob,
+                                      .require_time = 1, .skew = 300 };
+    struct krbrelay_opener opener = { 0 };
+    struct krbrelay_moment now = read_clock();
+    uint8_t text[KRBRELAY_FRAME_SIZE(5)];
     size_t size = 0;
-    uint32_t answer = krb_opener_new(&opener, 17, key, sizeof key, &expect);
-    if (answer == KRB_OK) {
-        read_clock(&secs, &usec);
-        answer = krb_opener_unseal(&opener, frame, len, number, secs, usec, text, sizeof text,
-                                   &size);
-    }
-    krb_opener_free(&opener);
-    if (answer != KRB_OK)
+    enum krbrelay_answer answer = krbrelay_opener_new(&opener, 17, key, sizeof key, &expect);
+    if (answer == KRBRELAY_OK)
+        answer = krbrelay_opener_unseal(&opener, frame, len, number, &now, text, sizeof text, &size);
+    krbrelay_opener_free(&opener);
+    if (answer != KRBRELAY_OK)
         return failed("open", answer);
     printf("message %u: %.*s\n", (unsigned)number, (int)size, (const char *)text);
     return 0;
@@ -78,11 +65,9 @@ static int receive_text(const uint8_t *frame, size_t len, uint64_t number)
 
 int main(void)
 {
-    uint8_t frame[KRB_FRAME_SIZE(5)];
+    uint8_t frame[KRBRELAY_FRAME_SIZE(5)];
     size_t len = send_text("hello", 5, frame, sizeof frame);
-    if (len == 0)
-        return 1;
-    if (receive_text(frame, len, 7) != 0)
+    if (len == 0 || receive_text(frame, len, 7) != 0)
         return 1;
     /* The same frame isn't message 8. */
     return receive_text(frame, len, 8) == 0;

@@ -7,10 +7,15 @@
 
 #include <string.h>
 
-_Static_assert(sizeof(struct krb_address) == 40, "an address has no padding");
-_Static_assert(sizeof(struct krb_header) == 28, "a header has no padding");
+_Static_assert(sizeof(struct krbrelay_address) == 48, "an address has no padding");
+_Static_assert(sizeof(struct krbrelay_header) == 32, "a header has no padding");
+_Static_assert(sizeof(struct krbrelay_moment) == 16, "a moment has no padding");
+_Static_assert(sizeof(struct krbrelay_session) == 128, "a session has no padding");
+_Static_assert(sizeof(struct krbrelay_expect) == 128, "an expectation has no padding");
+_Static_assert(sizeof(struct krbrelay_demand) == 144, "a demand has no padding");
+_Static_assert(sizeof(struct krbrelay_carried) == 152, "what is carried has no padding");
 
-static uint8_t frame[KRB_FRAME_LIMIT + 1], text[KRB_FRAME_LIMIT];
+static uint8_t frame[KRBRELAY_FRAME_LIMIT + 1], text[KRBRELAY_FRAME_LIMIT];
 static const uint8_t zeros[16];
 static uint8_t keys[2][32];
 
@@ -23,27 +28,29 @@ static void make_keys(void)
     memset(keys[1], 0x11, 32);
 }
 
-static uint32_t new_sealer(struct krb_sealer *s, int etype, uint32_t mode, uint32_t first)
+static uint32_t new_sealer(struct krbrelay_sealer *s, int etype, uint32_t mode, uint32_t first)
 {
-    struct krb_session session = session_of(mode, first);
-    return krb_sealer_new(s, etype, key_of(etype), key_size(etype), &session);
+    struct krbrelay_session session = session_of(mode, first);
+    return krbrelay_sealer_new(s, etype, key_of(etype), key_size(etype), &session);
 }
 
-static uint32_t new_opener(struct krb_opener *o, int etype, uint32_t mode)
+static uint32_t new_opener(struct krbrelay_opener *o, int etype, uint32_t mode)
 {
-    struct krb_expect expect = expect_of(mode);
-    return krb_opener_new(o, etype, key_of(etype), key_size(etype), &expect);
+    struct krbrelay_expect expect = expect_of(mode);
+    return krbrelay_opener_new(o, etype, key_of(etype), key_size(etype), &expect);
 }
 
-static uint32_t seal(struct krb_sealer *s, const void *data, size_t len, size_t room, size_t *size)
+static uint32_t seal(struct krbrelay_sealer *s, const void *data, size_t len, size_t room, size_t *size)
 {
-    return krb_sealer_seal(s, data, len, SECS, USEC, zeros, frame, room, size);
+    struct krbrelay_moment at = moment(SECS, USEC);
+    return krbrelay_sealer_seal(s, data, len, &at, zeros, frame, room, size);
 }
 
-static uint32_t unseal(struct krb_opener *o, const uint8_t *f, size_t len, uint64_t number)
+static uint32_t unseal(struct krbrelay_opener *o, const uint8_t *f, size_t len, uint64_t number)
 {
+    struct krbrelay_moment at = moment(SECS, USEC);
     size_t size = 99;
-    uint32_t answer = krb_opener_unseal(o, f, len, number, SECS, USEC, text, sizeof text, &size);
+    uint32_t answer = krbrelay_opener_unseal(o, f, len, number, &at, text, sizeof text, &size);
     CHECK(answer == 0 || size == 99);
     return answer;
 }
@@ -51,8 +58,8 @@ static uint32_t unseal(struct krb_opener *o, const uint8_t *f, size_t len, uint6
 struct known { int etype; uint32_t mode; const uint8_t *frame; size_t len; };
 
 static const struct known known_frames[] = {
-    { 17, KRB_SAFE, safe_17, sizeof safe_17 }, { 18, KRB_SAFE, safe_18, sizeof safe_18 },
-    { 17, KRB_PRIV, priv_17, sizeof priv_17 }, { 18, KRB_PRIV, priv_18, sizeof priv_18 },
+    { 17, KRBRELAY_SAFE, safe_17, sizeof safe_17 }, { 18, KRBRELAY_SAFE, safe_18, sizeof safe_18 },
+    { 17, KRBRELAY_PRIV, priv_17, sizeof priv_17 }, { 18, KRBRELAY_PRIV, priv_18, sizeof priv_18 },
 };
 
 /* What is sealed is the frame of another sealer, and that frame opens. */
@@ -60,195 +67,207 @@ static void frames_of_another_sealer(void)
 {
     for (size_t i = 0; i < sizeof known_frames / sizeof known_frames[0]; i++) {
         const struct known *k = &known_frames[i];
-        struct krb_sealer s = { 0 };
-        struct krb_opener o = { 0 };
+        struct krbrelay_sealer s = { 0 };
+        struct krbrelay_opener o = { 0 };
+        struct krbrelay_moment at = moment(SECS, USEC);
         size_t size = 0;
         uint64_t next = 0;
-        CHECK(new_sealer(&s, k->etype, k->mode, 7) == KRB_OK);
-        CHECK(new_opener(&o, k->etype, k->mode) == KRB_OK);
+        CHECK(new_sealer(&s, k->etype, k->mode, 7) == KRBRELAY_OK);
+        CHECK(new_opener(&o, k->etype, k->mode) == KRBRELAY_OK);
         memset(frame, 0xee, sizeof frame);
-        CHECK(seal(&s, "Dhi", 3, krb_frame_size(3), &size) == KRB_OK);
+        CHECK(seal(&s, "Dhi", 3, krbrelay_frame_size(3), &size) == KRBRELAY_OK);
         CHECK(size == k->len && memcmp(frame, k->frame, size) == 0);
-        CHECK(frame[size] == 0xee && frame[krb_frame_size(3) - 1] == 0xee);
-        CHECK(krb_sealer_next(&s, &next) == KRB_OK && next == 8);
+        CHECK(frame[size] == 0xee && frame[krbrelay_frame_size(3) - 1] == 0xee);
+        CHECK(krbrelay_sealer_next(&s, &next) == KRBRELAY_OK && next == 8);
         memset(text, 0xee, sizeof text);
-        CHECK(krb_opener_unseal(&o, k->frame, k->len, 7, SECS, USEC, text, 3, &size) == KRB_OK);
+        CHECK(krbrelay_opener_unseal(&o, k->frame, k->len, 7, &at, text, 3, &size)
+              == KRBRELAY_OK);
         CHECK(size == 3 && memcmp(text, "Dhi\xee", 4) == 0);
-        krb_sealer_free(&s);
-        krb_opener_free(&o);
+        krbrelay_sealer_free(&s);
+        krbrelay_opener_free(&o);
     }
 }
 
 /* Texts of each size come back, at their own numbers alone, into buffers as small as may be. */
 static void round_trips(void)
 {
-    static uint8_t data[KRB_USER_DATA_LIMIT];
+    static uint8_t data[KRBRELAY_USER_DATA_LIMIT];
     static const size_t sizes[] = { 0, 1, 15, 16, 17, 100, 255, 256, 1024, 60000, 65535, 65536,
                                     1000000, 1000001 };
     for (size_t i = 0; i < sizeof data; i++)
         data[i] = (uint8_t)(i * 7);
     for (int etype = 17; etype <= 18; etype++)
-        for (uint32_t mode = KRB_SAFE; mode <= KRB_PRIV; mode++)
+        for (uint32_t mode = KRBRELAY_SAFE; mode <= KRBRELAY_PRIV; mode++)
             for (uint32_t told = 0; told < 2; told++) {
-                struct krb_session session = session_of(mode, UINT32_MAX - 14);
-                struct krb_expect expect = expect_of(mode);
-                struct krb_sealer s = { 0 };
-                struct krb_opener o = { 0 };
-                session.has_r = expect.require_r = told;
-                session.r_addr.len = expect.r_addr.len = 32;
-                session.s_addr.len = expect.s_addr.len = 32;
-                CHECK(krb_sealer_new(&s, etype, key_of(etype), key_size(etype), &session) == 0);
-                CHECK(krb_opener_new(&o, etype, key_of(etype), key_size(etype), &expect) == 0);
+                struct krbrelay_session session = session_of(mode, UINT32_MAX - 14);
+                struct krbrelay_expect expect = expect_of(mode);
+                struct krbrelay_sealer s = { 0 };
+                struct krbrelay_opener o = { 0 };
+                struct krbrelay_moment later = moment(SECS + 1, USEC);
+                session.has_receiver = expect.require_receiver = told;
+                session.receiver.len = expect.receiver.len = 40;
+                session.sender.len = expect.sender.len = 40;
+                CHECK(krbrelay_sealer_new(&s, etype, key_of(etype), key_size(etype), &session) == 0);
+                CHECK(krbrelay_opener_new(&o, etype, key_of(etype), key_size(etype), &expect) == 0);
                 for (size_t i = 0; i < sizeof sizes / sizeof sizes[0]; i++) {
                     size_t n = sizes[i], size = 0, back = 0;
                     uint64_t number = 0;
-                    CHECK(krb_sealer_next(&s, &number) == KRB_OK);
+                    CHECK(krbrelay_sealer_next(&s, &number) == KRBRELAY_OK);
                     CHECK(number == UINT32_MAX - 14 + i);
-                    CHECK(seal(&s, data, n, krb_frame_size(n), &size) == KRB_OK);
-                    CHECK(size <= krb_frame_size(n));
-                    CHECK(krb_opener_unseal(&o, frame, size, number, SECS + 1, USEC, text, n,
-                                            &back) == KRB_OK);
+                    CHECK(seal(&s, data, n, krbrelay_frame_size(n), &size) == KRBRELAY_OK);
+                    CHECK(size <= krbrelay_frame_size(n));
+                    CHECK(krbrelay_opener_unseal(&o, frame, size, number, &later, text, n,
+                                                 &back) == KRBRELAY_OK);
                     CHECK(back == n && memcmp(text, data, n) == 0);
-                    CHECK(unseal(&o, frame, size, number + 1) == KRB_BADORDER);
+                    CHECK(unseal(&o, frame, size, number + 1) == KRBRELAY_BADORDER);
                 }
-                krb_sealer_free(&s);
-                krb_opener_free(&o);
+                krbrelay_sealer_free(&s);
+                krbrelay_opener_free(&o);
             }
 }
 
 static void sizes_of_frames(void)
 {
-    CHECK(krb_frame_size(0) == KRB_FRAME_SIZE(0));
-    CHECK(krb_frame_size(KRB_USER_DATA_LIMIT) == KRB_FRAME_SIZE(KRB_USER_DATA_LIMIT));
-    CHECK(krb_frame_size(KRB_USER_DATA_LIMIT) <= KRB_FRAME_LIMIT);
-    CHECK(krb_frame_size(SIZE_MAX) == KRB_FRAME_LIMIT);
+    CHECK(krbrelay_frame_size(0) == KRBRELAY_FRAME_SIZE(0));
+    CHECK(krbrelay_frame_size(KRBRELAY_USER_DATA_LIMIT) == KRBRELAY_FRAME_SIZE(KRBRELAY_USER_DATA_LIMIT));
+    CHECK(krbrelay_frame_size(KRBRELAY_USER_DATA_LIMIT) <= KRBRELAY_FRAME_LIMIT);
+    CHECK(krbrelay_frame_size(SIZE_MAX) == KRBRELAY_FRAME_LIMIT);
 }
 
 /* A sealer's answers, each with nothing changed. */
 static void answers_of_a_sealer(void)
 {
-    struct krb_sealer s = { 0 };
-    struct krb_session session = session_of(KRB_PRIV, UINT32_MAX);
+    struct krbrelay_sealer s = { 0 };
+    struct krbrelay_session session = session_of(KRBRELAY_PRIV, UINT32_MAX);
+    struct krbrelay_moment usec = moment(SECS, 1000000), year = moment(253402300800, 0);
     size_t size = 99;
     uint64_t next = 99;
-    CHECK(krb_sealer_next(&s, &next) == KRB_EMPTY && next == 99);
-    CHECK(seal(&s, "hi", 2, 1000, &size) == KRB_EMPTY && size == 99);
-    CHECK(new_sealer(&s, 17, KRB_PRIV, UINT32_MAX) == KRB_OK);
+    CHECK(krbrelay_sealer_next(&s, &next) == KRBRELAY_EMPTY && next == 99);
+    CHECK(seal(&s, "hi", 2, 1000, &size) == KRBRELAY_EMPTY && size == 99);
+    CHECK(new_sealer(&s, 17, KRBRELAY_PRIV, UINT32_MAX) == KRBRELAY_OK);
     memset(frame, 0xee, sizeof frame);
-    CHECK(seal(&s, "hi", 2, krb_frame_size(2) - 1, &size) == KRB_ROOM);
-    CHECK(seal(&s, text, 1000002, krb_frame_size(1000002), &size) == KRB_SEAL_TOO_LONG);
-    CHECK(krb_sealer_seal(&s, text, 2, SECS, 1000000, zeros, frame, 1000, &size) == KRB_ARGUMENT);
-    CHECK(krb_sealer_seal(&s, text, 2, 253402300800, 0, zeros, frame, 1000, &size)
-          == KRB_ARGUMENT);
-    CHECK(krb_sealer_next(&s, &next) == KRB_OK && next == UINT32_MAX);
+    CHECK(seal(&s, "hi", 2, krbrelay_frame_size(2) - 1, &size) == KRBRELAY_ROOM);
+    CHECK(seal(&s, text, 1000002, krbrelay_frame_size(1000002), &size) == KRBRELAY_TOO_LONG);
+    CHECK(krbrelay_sealer_seal(&s, text, 2, &usec, zeros, frame, 1000, &size) == KRBRELAY_MOMENT);
+    CHECK(krbrelay_sealer_seal(&s, text, 2, &year, zeros, frame, 1000, &size) == KRBRELAY_MOMENT);
+    CHECK(krbrelay_sealer_next(&s, &next) == KRBRELAY_OK && next == UINT32_MAX);
     CHECK(size == 99 && frame[0] == 0xee);
-    CHECK(seal(&s, "hi", 2, 1000, &size) == KRB_OK);
-    CHECK(krb_sealer_next(&s, &next) == KRB_OK && next == 4294967296);
-    CHECK(seal(&s, "hi", 2, 1000, &size) == KRB_SEAL_EXHAUSTED);
-    krb_sealer_wipe(&s);
-    CHECK(seal(&s, "hi", 2, 1000, &size) == KRB_WIPED);
-    CHECK(krb_sealer_next(&s, &next) == KRB_OK && next == 4294967296);
-    CHECK(krb_sealer_new(&s, 17, keys[0], 16, &session) == KRB_OK);
-    CHECK(seal(&s, "hi", 2, 1000, &size) == KRB_OK);
-    krb_sealer_free(&s);
-    krb_sealer_free(&s);
-    krb_sealer_wipe(&s);
+    CHECK(seal(&s, "hi", 2, 1000, &size) == KRBRELAY_OK);
+    CHECK(krbrelay_sealer_next(&s, &next) == KRBRELAY_OK && next == 4294967296);
+    CHECK(seal(&s, "hi", 2, 1000, &size) == KRBRELAY_EXHAUSTED);
+    krbrelay_sealer_wipe(&s);
+    CHECK(seal(&s, "hi", 2, 1000, &size) == KRBRELAY_WIPED);
+    CHECK(krbrelay_sealer_next(&s, &next) == KRBRELAY_OK && next == 4294967296);
+    CHECK(krbrelay_sealer_new(&s, 17, keys[0], 16, &session) == KRBRELAY_OK);
+    CHECK(seal(&s, "hi", 2, 1000, &size) == KRBRELAY_OK);
+    krbrelay_sealer_free(&s);
+    krbrelay_sealer_free(&s);
+    krbrelay_sealer_wipe(&s);
     CHECK(s.at == NULL && s.count == 0);
 }
 
 /* Arguments out of their ranges; the handle holds nothing then. */
 static void arguments(void)
 {
-    struct krb_sealer s = { 0 };
-    struct krb_opener o = { 0 };
-    struct krb_session session = session_of(KRB_SAFE, 7);
-    struct krb_expect expect = expect_of(KRB_SAFE);
+    struct krbrelay_sealer s = { 0 };
+    struct krbrelay_opener o = { 0 };
+    struct krbrelay_session session = session_of(KRBRELAY_SAFE, 7);
+    struct krbrelay_expect expect = expect_of(KRBRELAY_SAFE);
     uint64_t next;
     static const struct { int32_t etype; size_t len; } wrong[] = {
         { 17, 15 }, { 17, 32 }, { 18, 16 }, { 18, 33 }, { 16, 16 }, { 19, 16 }, { 0, 0 }
     };
     for (size_t i = 0; i < sizeof wrong / sizeof wrong[0]; i++) {
-        CHECK(krb_sealer_new(&s, 17, keys[0], 16, &session) == KRB_OK);
-        CHECK(krb_sealer_new(&s, wrong[i].etype, text, wrong[i].len, &session) == KRB_ARGUMENT);
-        CHECK(krb_sealer_next(&s, &next) == KRB_EMPTY);
-        CHECK(krb_opener_new(&o, wrong[i].etype, text, wrong[i].len, &expect) == KRB_ARGUMENT);
+        int known = wrong[i].etype == 17 || wrong[i].etype == 18;
+        enum krbrelay_answer answer = known ? KRBRELAY_KEY_SIZE : KRBRELAY_ETYPE;
+        CHECK(krbrelay_sealer_new(&s, 17, keys[0], 16, &session) == KRBRELAY_OK);
+        CHECK(krbrelay_sealer_new(&s, wrong[i].etype, text, wrong[i].len, &session) == answer);
+        CHECK(krbrelay_sealer_next(&s, &next) == KRBRELAY_EMPTY);
+        CHECK(krbrelay_opener_new(&o, wrong[i].etype, text, wrong[i].len, &expect) == answer);
     }
     session.mode = expect.mode = 22;
-    CHECK(krb_sealer_new(&s, 17, keys[0], 16, &session) == KRB_ARGUMENT);
-    CHECK(krb_opener_new(&o, 17, keys[0], 16, &expect) == KRB_ARGUMENT);
-    session = session_of(KRB_SAFE, 7);
-    expect = expect_of(KRB_SAFE);
-    session.s_addr.len = expect.s_addr.len = 33;
-    CHECK(krb_sealer_new(&s, 17, keys[0], 16, &session) == KRB_ARGUMENT);
-    CHECK(krb_opener_new(&o, 17, keys[0], 16, &expect) == KRB_ARGUMENT);
-    session = session_of(KRB_SAFE, 7);
-    expect = expect_of(KRB_SAFE);
-    session.has_r = 1;
-    session.r_addr.len = expect.r_addr.len = 33;
-    CHECK(krb_sealer_new(&s, 17, keys[0], 16, &session) == KRB_ARGUMENT);
-    CHECK(krb_opener_new(&o, 17, keys[0], 16, &expect) == KRB_ARGUMENT);
+    CHECK(krbrelay_sealer_new(&s, 17, keys[0], 16, &session) == KRBRELAY_MODE);
+    CHECK(krbrelay_opener_new(&o, 17, keys[0], 16, &expect) == KRBRELAY_MODE);
+    session = session_of(KRBRELAY_SAFE, 7);
+    expect = expect_of(KRBRELAY_SAFE);
+    session.sender.len = expect.sender.len = 41;
+    CHECK(krbrelay_sealer_new(&s, 17, keys[0], 16, &session) == KRBRELAY_ADDRESS);
+    CHECK(krbrelay_opener_new(&o, 17, keys[0], 16, &expect) == KRBRELAY_ADDRESS);
+    session = session_of(KRBRELAY_SAFE, 7);
+    expect = expect_of(KRBRELAY_SAFE);
+    session.has_receiver = 1;
+    session.receiver.len = expect.receiver.len = 41;
+    CHECK(krbrelay_sealer_new(&s, 17, keys[0], 16, &session) == KRBRELAY_ADDRESS);
+    CHECK(krbrelay_opener_new(&o, 17, keys[0], 16, &expect) == KRBRELAY_ADDRESS);
 }
 
 /* The safe frame with one byte changed, and what its opener answers. */
-static uint32_t changed(struct krb_opener *o, const struct known *k, size_t at, uint8_t by)
+static uint32_t changed(struct krbrelay_opener *o, const struct known *k, size_t at, uint8_t by)
 {
     memcpy(frame, k->frame, k->len);
     frame[at] ^= by;
     return unseal(o, frame, k->len, 7);
 }
 
+/* What opening a known frame at a moment, into so much room, answers. */
+static uint32_t unseal_at(struct krbrelay_opener *o, const struct known *k,
+                          struct krbrelay_moment at, size_t room)
+{
+    size_t size = 99;
+    uint32_t answer = krbrelay_opener_unseal(o, k->frame, k->len, 7, &at, text, room, &size);
+    CHECK(size == (answer == KRBRELAY_OK ? 3 : 99));
+    return answer;
+}
+
 static void refusals_of_safe(void)
 {
-    struct krb_opener o = { 0 };
+    struct krbrelay_opener o = { 0 };
     const struct known *k = &known_frames[0];
-    size_t size;
-    CHECK(new_opener(&o, 17, KRB_SAFE) == KRB_OK);
-    CHECK(changed(&o, k, 8, 3) == KRB_BADVERSION);      /* protocol version 6 */
-    CHECK(changed(&o, k, 13, 1) == KRB_MSG_TYPE);       /* message type 21 */
-    CHECK(changed(&o, k, 79, 31) == KRB_INAPP_CKSUM);   /* checksum type 16 */
-    CHECK(changed(&o, k, 70, 2) == KRB_BADADDR);        /* 10.0.0.3 */
-    CHECK(changed(&o, k, 43, 8) == KRB_MALFORMED);      /* no 'Z' behind the time */
-    CHECK(changed(&o, k, 22, 1) == KRB_MODIFIED);       /* the text */
-    CHECK(changed(&o, k, 95, 1) == KRB_MODIFIED);       /* the checksum */
-    CHECK(changed(&o, k, 0, 1) == KRB_MALFORMED);       /* the tag of KRB-PRIV */
-    CHECK(unseal(&o, k->frame, k->len, 8) == KRB_BADORDER);
-    CHECK(unseal(&o, k->frame, k->len - 1, 7) == KRB_MALFORMED);
-    CHECK(unseal(&o, k->frame, 0, 7) == KRB_MALFORMED);
-    CHECK(unseal(&o, frame, KRB_FRAME_LIMIT + 1, 7) == KRB_FIELD_TOOLONG);
-    CHECK(unseal(&o, priv_17, sizeof priv_17, 7) == KRB_MSG_TYPE);
-    CHECK(krb_opener_unseal(&o, k->frame, k->len, 7, SECS + 301, 0, text, 9, &size) == KRB_SKEW);
-    CHECK(krb_opener_unseal(&o, k->frame, k->len, 7, SECS + 300, USEC, text, 9, &size) == KRB_OK);
-    CHECK(krb_opener_unseal(&o, k->frame, k->len, 7, SECS, 1000000, text, 9, &size)
-          == KRB_ARGUMENT);
-    size = 99;
+    CHECK(new_opener(&o, 17, KRBRELAY_SAFE) == KRBRELAY_OK);
+    CHECK(changed(&o, k, 8, 3) == KRBRELAY_BADVERSION);      /* protocol version 6 */
+    CHECK(changed(&o, k, 13, 1) == KRBRELAY_MSG_TYPE);       /* message type 21 */
+    CHECK(changed(&o, k, 79, 31) == KRBRELAY_INAPP_CKSUM);   /* checksum type 16 */
+    CHECK(changed(&o, k, 70, 2) == KRBRELAY_BADADDR);        /* 10.0.0.3 */
+    CHECK(changed(&o, k, 43, 8) == KRBRELAY_MALFORMED);      /* no 'Z' behind the time */
+    CHECK(changed(&o, k, 22, 1) == KRBRELAY_MODIFIED);       /* the text */
+    CHECK(changed(&o, k, 95, 1) == KRBRELAY_MODIFIED);       /* the checksum */
+    CHECK(changed(&o, k, 0, 1) == KRBRELAY_MALFORMED);       /* the tag of KRB-PRIV */
+    CHECK(unseal(&o, k->frame, k->len, 8) == KRBRELAY_BADORDER);
+    CHECK(unseal(&o, k->frame, k->len - 1, 7) == KRBRELAY_MALFORMED);
+    CHECK(unseal(&o, k->frame, 0, 7) == KRBRELAY_MALFORMED);
+    CHECK(unseal(&o, frame, KRBRELAY_FRAME_LIMIT + 1, 7) == KRBRELAY_FIELD_TOOLONG);
+    CHECK(unseal(&o, priv_17, sizeof priv_17, 7) == KRBRELAY_MSG_TYPE);
+    CHECK(unseal_at(&o, k, moment(SECS + 301, 0), 9) == KRBRELAY_SKEW);
+    CHECK(unseal_at(&o, k, moment(SECS + 300, USEC), 9) == KRBRELAY_OK);
+    CHECK(unseal_at(&o, k, moment(SECS, 1000000), 9) == KRBRELAY_MOMENT);
     text[0] = 0xee;
-    CHECK(krb_opener_unseal(&o, k->frame, k->len, 7, SECS, USEC, text, 2, &size) == KRB_ROOM);
-    CHECK(size == 99 && text[0] == 0xee);
-    krb_opener_free(&o);
+    CHECK(unseal_at(&o, k, moment(SECS, USEC), 2) == KRBRELAY_ROOM);
+    CHECK(text[0] == 0xee);
+    krbrelay_opener_free(&o);
 }
 
 static void refusals_of_priv(void)
 {
-    struct krb_opener o = { 0 };
+    struct krbrelay_opener o = { 0 };
     const struct known *k = &known_frames[2];
-    CHECK(unseal(&o, k->frame, k->len, 7) == KRB_EMPTY);
-    CHECK(new_opener(&o, 17, KRB_PRIV) == KRB_OK);
-    CHECK(changed(&o, k, 22, 3) == KRB_ETYPE_NOSUPP);   /* encryption type 18 */
-    CHECK(changed(&o, k, 60, 1) == KRB_BAD_INTEGRITY);  /* a byte of the cipher */
-    CHECK(changed(&o, k, 111, 1) == KRB_BAD_INTEGRITY); /* the last of the code */
-    CHECK(unseal(&o, k->frame, k->len, 6) == KRB_BADORDER);
-    CHECK(unseal(&o, safe_17, sizeof safe_17, 7) == KRB_MSG_TYPE);
-    CHECK(unseal(&o, k->frame, k->len, 7) == KRB_OK);
-    krb_opener_wipe(&o);
-    CHECK(unseal(&o, k->frame, k->len, 7) == KRB_WIPED);
-    krb_opener_wipe(&o);
-    CHECK(unseal(&o, k->frame, k->len, 7) == KRB_WIPED);
-    CHECK(new_opener(&o, 18, KRB_PRIV) == KRB_OK);
-    CHECK(unseal(&o, priv_18, sizeof priv_18, 7) == KRB_OK);
-    krb_opener_free(&o);
-    krb_opener_free(&o);
-    krb_opener_wipe(&o);
-    CHECK(unseal(&o, k->frame, k->len, 7) == KRB_EMPTY);
+    CHECK(unseal(&o, k->frame, k->len, 7) == KRBRELAY_EMPTY);
+    CHECK(new_opener(&o, 17, KRBRELAY_PRIV) == KRBRELAY_OK);
+    CHECK(changed(&o, k, 22, 3) == KRBRELAY_ETYPE_NOSUPP);   /* encryption type 18 */
+    CHECK(changed(&o, k, 60, 1) == KRBRELAY_BAD_INTEGRITY);  /* a byte of the cipher */
+    CHECK(changed(&o, k, 111, 1) == KRBRELAY_BAD_INTEGRITY); /* the last of the code */
+    CHECK(unseal(&o, k->frame, k->len, 6) == KRBRELAY_BADORDER);
+    CHECK(unseal(&o, safe_17, sizeof safe_17, 7) == KRBRELAY_MSG_TYPE);
+    CHECK(unseal(&o, k->frame, k->len, 7) == KRBRELAY_OK);
+    krbrelay_opener_wipe(&o);
+    CHECK(unseal(&o, k->frame, k->len, 7) == KRBRELAY_WIPED);
+    krbrelay_opener_wipe(&o);
+    CHECK(unseal(&o, k->frame, k->len, 7) == KRBRELAY_WIPED);
+    CHECK(new_opener(&o, 18, KRBRELAY_PRIV) == KRBRELAY_OK);
+    CHECK(unseal(&o, priv_18, sizeof priv_18, 7) == KRBRELAY_OK);
+    krbrelay_opener_free(&o);
+    krbrelay_opener_free(&o);
+    krbrelay_opener_wipe(&o);
+    CHECK(unseal(&o, k->frame, k->len, 7) == KRBRELAY_EMPTY);
 }
 
 /* KRB-PRIV with a key version: SEQUENCE { etype 18, kvno 3, cipher of no bytes }. */
@@ -259,46 +278,87 @@ static const uint8_t priv_of_version_3[] = {
 
 static void headers(void)
 {
-    struct krb_header h;
+    struct krbrelay_header h;
     memset(&h, 0xee, sizeof h);
-    CHECK(krb_message_header(safe_18, sizeof safe_18 - 1, &h) == KRB_MALFORMED);
-    CHECK(krb_message_header(frame, KRB_FRAME_LIMIT + 1, &h) == KRB_FIELD_TOOLONG);
+    CHECK(krbrelay_message_header(safe_18, sizeof safe_18 - 1, &h) == KRBRELAY_MALFORMED);
+    CHECK(krbrelay_message_header(frame, KRBRELAY_FRAME_LIMIT + 1, &h) == KRBRELAY_FIELD_TOOLONG);
     CHECK(h.kind == 0xeeeeeeee && h.key_version == 0xeeeeeeee);
-    CHECK(krb_message_header(safe_18, sizeof safe_18, &h) == KRB_OK);
-    CHECK(h.kind == KRB_SAFE && h.etype == 0 && h.checksum_type == 16);
+    CHECK(krbrelay_message_header(safe_18, sizeof safe_18, &h) == KRBRELAY_OK);
+    CHECK(h.kind == KRBRELAY_SAFE && h.etype == 0 && h.checksum_type == 16);
     CHECK(h.has_number == 1 && h.number == 7 && h.has_key_version == 0 && h.key_version == 0);
-    CHECK(krb_message_header(priv_of_version_3, sizeof priv_of_version_3, &h) == KRB_OK);
-    CHECK(h.kind == KRB_PRIV && h.etype == 18 && h.checksum_type == 0);
+    CHECK(krbrelay_message_header(priv_of_version_3, sizeof priv_of_version_3, &h) == KRBRELAY_OK);
+    CHECK(h.kind == KRBRELAY_PRIV && h.etype == 18 && h.checksum_type == 0);
     CHECK(h.has_number == 0 && h.number == 0 && h.has_key_version == 1 && h.key_version == 3);
-    CHECK(krb_message_header(priv_17, sizeof priv_17, &h) == KRB_OK);
-    CHECK(h.kind == KRB_PRIV && h.etype == 17 && h.has_key_version == 0 && h.key_version == 0);
+    CHECK(krbrelay_message_header(priv_17, sizeof priv_17, &h) == KRBRELAY_OK);
+    CHECK(h.kind == KRBRELAY_PRIV && h.etype == 17 && h.has_key_version == 0 && h.key_version == 0);
 }
 
-/* The names of RFC 4120 section 7.5.9, without KRB_AP_ERR_ and the like. */
+struct named { uint32_t answer; const char *name, *text; };
+
+/* Each answer of the header; names are those of RFC 4120 section 7.5.9, without KRB_AP_ERR_ and the
+ * like, where it has one. */
+static const struct named known_answers[] = {
+    { KRBRELAY_OK, "OK", "done" },
+    { KRBRELAY_WIPED, "WIPED", "the keys were overwritten" },
+    { KRBRELAY_TOO_LONG, "TOO_LONG", "the user data are longer than a message may carry" },
+    { KRBRELAY_EXHAUSTED, "EXHAUSTED", "no sequence number is left" },
+    { KRBRELAY_ETYPE_NOSUPP, "ETYPE_NOSUPP", "the encryption type isn't the opener's" },
+    { KRBRELAY_BAD_INTEGRITY, "BAD_INTEGRITY",
+      "the encrypted part is too short, or its code differs" },
+    { KRBRELAY_SKEW, "SKEW", "the time is off by more than the skew, or is missing" },
+    { KRBRELAY_BADADDR, "BADADDR", "an address isn't the expected one, or is missing" },
+    { KRBRELAY_BADVERSION, "BADVERSION", "the protocol version isn't 5" },
+    { KRBRELAY_MSG_TYPE, "MSG_TYPE", "the message is of the other kind" },
+    { KRBRELAY_MODIFIED, "MODIFIED", "the checksum differs" },
+    { KRBRELAY_BADORDER, "BADORDER", "the sequence number isn't the expected one" },
+    { KRBRELAY_INAPP_CKSUM, "INAPP_CKSUM", "the checksum's type isn't the opener's" },
+    { KRBRELAY_FIELD_TOOLONG, "FIELD_TOOLONG", "the message is longer than a message may be" },
+    { KRBRELAY_MALFORMED, "MALFORMED", "no message is spelt so" },
+    { KRBRELAY_BAD_RECORD, "BAD_RECORD", "the user data are no record" },
+    { KRBRELAY_AFTER_CLOSE, "AFTER_CLOSE", "a close was accepted before" },
+    { KRBRELAY_MEMORY, "MEMORY", "out of memory" },
+    { KRBRELAY_ETYPE, "ETYPE", "the encryption type is neither 17 nor 18" },
+    { KRBRELAY_ROOM, "ROOM", "a buffer is too small" },
+    { KRBRELAY_EMPTY, "EMPTY", "the handle holds nothing" },
+    { KRBRELAY_KEY_SIZE, "KEY_SIZE", "the key hasn't the size of its encryption type" },
+    { KRBRELAY_MODE, "MODE", "the mode is neither KRB-SAFE nor KRB-PRIV" },
+    { KRBRELAY_MOMENT, "MOMENT", "no moment of the years 1970 to 9999" },
+    { KRBRELAY_ADDRESS, "ADDRESS", "an address has over 40 bytes" },
+    { KRBRELAY_ARGUMENT, "ARGUMENT", "an argument is out of its range" },
+    { KRBRELAY_RECORD, "RECORD", "the texts are no record" },
+};
+
+typedef enum krbrelay_answer written_call(uint32_t, char *, size_t, size_t *);
+
+/* A name or a text is written into as much room as it takes with its zero, and no less. */
+static void is_written(written_call *write, uint32_t answer, const char *expected)
+{
+    char buffer[KRBRELAY_TEXT_SIZE];
+    size_t size = 99, len = strlen(expected);
+    memset(buffer, 'x', sizeof buffer);
+    CHECK(write(answer, buffer, len, &size) == KRBRELAY_ROOM);
+    CHECK(size == 99 && buffer[0] == 'x');
+    CHECK(write(answer, buffer, sizeof buffer, &size) == KRBRELAY_OK);
+    CHECK(size == len && strcmp(buffer, expected) == 0);
+    CHECK(write(answer, buffer, len + 1, &size) == KRBRELAY_OK);
+}
+
 static void names(void)
 {
-    static const struct { uint32_t refusal; const char *name; } known[] = {
-        { KRB_ETYPE_NOSUPP, "ETYPE_NOSUPP" }, { KRB_BAD_INTEGRITY, "BAD_INTEGRITY" },
-        { KRB_SKEW, "SKEW" }, { KRB_BADADDR, "BADADDR" }, { KRB_BADVERSION, "BADVERSION" },
-        { KRB_MSG_TYPE, "MSG_TYPE" }, { KRB_MODIFIED, "MODIFIED" }, { KRB_BADORDER, "BADORDER" },
-        { KRB_INAPP_CKSUM, "INAPP_CKSUM" }, { KRB_FIELD_TOOLONG, "FIELD_TOOLONG" },
-        { KRB_MALFORMED, "MALFORMED" }, { KRB_MEMORY, "MEMORY" },
-    };
-    char name[16];
-    size_t size;
-    for (size_t i = 0; i < sizeof known / sizeof known[0]; i++) {
-        size_t len = strlen(known[i].name);
-        size = 99;
-        memset(name, 'x', sizeof name);
-        CHECK(krb_refusal_name(known[i].refusal, name, len, &size) == KRB_ROOM);
-        CHECK(size == 99 && name[0] == 'x');
-        CHECK(krb_refusal_name(known[i].refusal, name, len + 1, &size) == KRB_OK);
-        CHECK(size == len && strcmp(name, known[i].name) == 0 && name[len + 1] == 'x');
+    uint32_t told = 0;
+    for (size_t i = 0; i < sizeof known_answers / sizeof known_answers[0]; i++) {
+        is_written(krbrelay_answer_name, known_answers[i].answer, known_answers[i].name);
+        is_written(krbrelay_answer_text, known_answers[i].answer, known_answers[i].text);
     }
-    size = 99;
-    CHECK(krb_refusal_name(KRB_OK, name, sizeof name, &size) == KRB_ARGUMENT);
-    CHECK(krb_refusal_name(KRB_SEAL_EXHAUSTED, name, sizeof name, &size) == KRB_ARGUMENT);
-    CHECK(krb_refusal_name(KRB_EMPTY, name, sizeof name, &size) == KRB_ARGUMENT && size == 99);
+    for (uint32_t answer = 0; answer < 2000; answer++) {
+        char buffer[KRBRELAY_TEXT_SIZE];
+        size_t size = 99;
+        enum krbrelay_answer found = krbrelay_answer_name(answer, buffer, sizeof buffer, &size);
+        CHECK(found == KRBRELAY_OK || (found == KRBRELAY_ARGUMENT && size == 99));
+        told += found == KRBRELAY_OK;
+    }
+    CHECK(told == sizeof known_answers / sizeof known_answers[0]);
+    CHECK(krbrelay_version() == KRBRELAY_VERSION);
 }
 
 int main(void)

@@ -16,7 +16,7 @@
 enum { BATCH = 32, LONGEST = 60000 };
 
 static krb5_context ctx;
-static uint8_t text[LONGEST], frames[BATCH][KRB_FRAME_LIMIT], got[KRB_FRAME_LIMIT];
+static uint8_t text[LONGEST], frames[BATCH][KRBRELAY_FRAME_LIMIT], got[KRBRELAY_FRAME_LIMIT];
 static size_t sizes[BATCH];
 static krb5_data mit_frames[BATCH], mit_texts[BATCH];
 
@@ -24,13 +24,13 @@ struct ends {
     uint32_t mode;
     int etype;
     size_t len;
-    struct krb_sealer sealer;
-    struct krb_opener opener;
+    struct krbrelay_sealer sealer;
+    struct krbrelay_opener opener;
     krb5_auth_context sender, receiver;
 };
 
 /* The seconds of a batch, the best so far. */
-struct best { double made, read, mit_made, mit_read, handles; };
+struct best { double made, read, in_place, mit_made, mit_read, handles; };
 
 static void must(long answer, const char *what)
 {
@@ -57,18 +57,24 @@ static void measure(double *least, void (*work)(struct ends *), struct ends *e)
         *least = taken;
 }
 
+static struct krbrelay_moment moment_of_now(void)
+{
+    struct timespec now;
+    clock_gettime(CLOCK_REALTIME, &now);
+    return moment((uint64_t)now.tv_sec, (uint32_t)(now.tv_nsec / 1000));
+}
+
 static void make_ours(struct ends *e)
 {
     for (int i = 0; i < BATCH; i++) {
         uint8_t confounder[16] = { 0 };
         krb5_data random = { KV5M_DATA, sizeof confounder, (char *)confounder };
-        struct timespec now;
-        if (e->mode == KRB_PRIV)
+        struct krbrelay_moment at;
+        if (e->mode == KRBRELAY_PRIV)
             must(krb5_c_random_make_octets(ctx, &random), "random");
-        clock_gettime(CLOCK_REALTIME, &now);
-        must(krb_sealer_seal(&e->sealer, text, e->len, (uint64_t)now.tv_sec,
-                             (uint32_t)(now.tv_nsec / 1000), confounder, frames[i],
-                             KRB_FRAME_LIMIT, &sizes[i]), "seal");
+        at = moment_of_now();
+        must(krbrelay_sealer_seal(&e->sealer, text, e->len, &at, confounder, frames[i],
+                                  KRBRELAY_FRAME_LIMIT, &sizes[i]), "seal");
     }
 }
 
@@ -76,15 +82,27 @@ static void read_ours(struct ends *e)
 {
     uint64_t next = 0;
     size_t size = 0;
-    must(krb_sealer_next(&e->sealer, &next), "next");
+    must(krbrelay_sealer_next(&e->sealer, &next), "next");
     for (unsigned i = 0; i < BATCH; i++) {
-        struct timespec now;
-        clock_gettime(CLOCK_REALTIME, &now);
-        must(krb_opener_unseal(&e->opener, frames[i], sizes[i], next - BATCH + i,
-                               (uint64_t)now.tv_sec, (uint32_t)(now.tv_nsec / 1000), got,
-                               sizeof got, &size), "unseal");
+        struct krbrelay_moment at = moment_of_now();
+        must(krbrelay_opener_unseal(&e->opener, frames[i], sizes[i], next - BATCH + i, &at, got,
+                                    sizeof got, &size), "unseal");
     }
     must(size != e->len || memcmp(got, text, size) != 0, "the text that was read");
+}
+
+/* After read_ours: the frames are overwritten. */
+static void read_in_place(struct ends *e)
+{
+    uint64_t next = 0;
+    size_t size = 0;
+    must(krbrelay_sealer_next(&e->sealer, &next), "next");
+    for (unsigned i = 0; i < BATCH; i++) {
+        struct krbrelay_moment at = moment_of_now();
+        must(krbrelay_opener_unseal_in_place(&e->opener, frames[i], sizes[i], next - BATCH + i,
+                                             &at, &size), "unseal_in_place");
+    }
+    must(size != e->len || memcmp(frames[0], text, size) != 0, "the text that was read in place");
 }
 
 static void make_mit(struct ends *e)
@@ -92,8 +110,9 @@ static void make_mit(struct ends *e)
     krb5_data in = { KV5M_DATA, (unsigned)e->len, (char *)text };
     krb5_replay_data replay;
     for (int i = 0; i < BATCH; i++)
-        must(e->mode == KRB_SAFE ? krb5_mk_safe(ctx, e->sender, &in, &mit_frames[i], &replay)
-                                 : krb5_mk_priv(ctx, e->sender, &in, &mit_frames[i], &replay),
+        must(e->mode == KRBRELAY_SAFE
+                 ? krb5_mk_safe(ctx, e->sender, &in, &mit_frames[i], &replay)
+                 : krb5_mk_priv(ctx, e->sender, &in, &mit_frames[i], &replay),
              "mk");
 }
 
@@ -101,7 +120,7 @@ static void read_mit(struct ends *e)
 {
     krb5_replay_data replay;
     for (int i = 0; i < BATCH; i++)
-        must(e->mode == KRB_SAFE
+        must(e->mode == KRBRELAY_SAFE
                  ? krb5_rd_safe(ctx, e->receiver, &mit_frames[i], &mit_texts[i], &replay)
                  : krb5_rd_priv(ctx, e->receiver, &mit_frames[i], &mit_texts[i], &replay),
              "rd");
@@ -120,11 +139,11 @@ static uint8_t key[32];
 
 static void make_handles(struct ends *e)
 {
-    struct krb_session session = session_of(e->mode, 0);
+    struct krbrelay_session session = session_of(e->mode, 0);
     for (int i = 0; i < BATCH; i++) {
-        struct krb_sealer once = { 0 };
-        must(krb_sealer_new(&once, e->etype, key, key_size(e->etype), &session), "new");
-        krb_sealer_free(&once);
+        struct krbrelay_sealer once = { 0 };
+        must(krbrelay_sealer_new(&once, e->etype, key, key_size(e->etype), &session), "new");
+        krbrelay_sealer_free(&once);
     }
 }
 
@@ -146,10 +165,10 @@ static krb5_auth_context mit_end(int etype, uint8_t from, uint8_t to)
 static struct ends ends_of(uint32_t mode, int etype, size_t len)
 {
     struct ends e = { .mode = mode, .etype = etype, .len = len };
-    struct krb_session session = session_of(mode, 0);
-    struct krb_expect expect = expect_of(mode);
-    must(krb_sealer_new(&e.sealer, etype, key, key_size(etype), &session), "sealer");
-    must(krb_opener_new(&e.opener, etype, key, key_size(etype), &expect), "opener");
+    struct krbrelay_session session = session_of(mode, 0);
+    struct krbrelay_expect expect = expect_of(mode);
+    must(krbrelay_sealer_new(&e.sealer, etype, key, key_size(etype), &session), "sealer");
+    must(krbrelay_opener_new(&e.opener, etype, key, key_size(etype), &expect), "opener");
     e.sender = mit_end(etype, 1, 255);
     e.receiver = mit_end(etype, 255, 1);
     return e;
@@ -157,8 +176,8 @@ static struct ends ends_of(uint32_t mode, int etype, size_t len)
 
 static void end_all(struct ends *e)
 {
-    krb_sealer_free(&e->sealer);
-    krb_opener_free(&e->opener);
+    krbrelay_sealer_free(&e->sealer);
+    krbrelay_opener_free(&e->opener);
     krb5_auth_con_free(ctx, e->sender);
     krb5_auth_con_free(ctx, e->receiver);
 }
@@ -166,20 +185,21 @@ static void end_all(struct ends *e)
 static void row(uint32_t mode, int etype, size_t len, double seconds)
 {
     struct ends e = ends_of(mode, etype, len);
-    struct best b = { 1e9, 1e9, 1e9, 1e9, 1e9 };
+    struct best b = { 1e9, 1e9, 1e9, 1e9, 1e9, 1e9 };
     double start = clock_at(CLOCK_MONOTONIC);
     while (clock_at(CLOCK_MONOTONIC) - start < seconds) {
         measure(&b.made, make_ours, &e);
         measure(&b.read, read_ours, &e);
+        measure(&b.in_place, read_in_place, &e);
         measure(&b.mit_made, make_mit, &e);
         measure(&b.mit_read, read_mit, &e);
         free_mit(&e);
         measure(&b.handles, make_handles, &e);
     }
-    printf("%s %d %6zu  %9.0f %9.0f  %9.0f %9.0f  %5.2f %5.2f  %9.0f\n",
-           mode == KRB_SAFE ? "safe" : "priv", etype, len, BATCH / b.made, BATCH / b.read,
-           BATCH / b.mit_made, BATCH / b.mit_read, b.mit_made / b.made, b.mit_read / b.read,
-           BATCH / b.handles);
+    printf("%s %d %6zu  %9.0f %9.0f %9.0f  %9.0f %9.0f  %5.2f %5.2f  %9.0f\n",
+           mode == KRBRELAY_SAFE ? "safe" : "priv", etype, len, BATCH / b.made, BATCH / b.read,
+           BATCH / b.in_place, BATCH / b.mit_made, BATCH / b.mit_read, b.mit_made / b.made,
+           b.mit_read / b.read, BATCH / b.handles);
     fflush(stdout);
     end_all(&e);
 }
@@ -194,8 +214,8 @@ int main(int argc, char **argv)
     for (int i = 0; i < 32; i++)
         key[i] = (uint8_t)i;
     puts("Messages a second of one thread: ours, MIT's, and ours over MIT's.");
-    puts("mode ty  bytes       made      read   MIT made  MIT read   made  read  new+free");
-    for (uint32_t mode = KRB_SAFE; mode <= KRB_PRIV; mode++)
+    puts("mode ty  bytes       made      read  in place   MIT made  MIT read   made  read  new+free");
+    for (uint32_t mode = KRBRELAY_SAFE; mode <= KRBRELAY_PRIV; mode++)
         for (int etype = 17; etype <= 18; etype++)
             for (int i = 0; i < 3; i++)
                 row(mode, etype, lengths[i], seconds);

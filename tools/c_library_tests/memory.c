@@ -32,81 +32,82 @@ void *__wrap_realloc(void *block, size_t size)
     return is_refused() ? NULL : __real_realloc(block, size);
 }
 
-static uint8_t frame[KRB_FRAME_LIMIT], text[64];
+static uint8_t frame[KRBRELAY_FRAME_LIMIT], text[64];
+static const struct krbrelay_moment now = { SECS, USEC, 0 };
 static const uint8_t confounder[16], key[32] = { 1, 2, 3 };
 static int refused;
 
 /* One session whose allocation number `at` is refused. Answers whether one was. */
 static int session_with_refusal(uint32_t mode, int etype, long at)
 {
-    struct krb_session session = session_of(mode, 7);
-    struct krb_expect expect = expect_of(mode);
-    struct krb_sealer s = { 0 };
-    struct krb_opener o = { 0 };
-    struct krb_header header;
+    struct krbrelay_session session = session_of(mode, 7);
+    struct krbrelay_expect expect = expect_of(mode);
+    struct krbrelay_sealer s = { 0 };
+    struct krbrelay_opener o = { 0 };
+    struct krbrelay_header header;
     size_t n = 0, m = 0, len = key_size(etype);
     uint64_t next = 0;
     int met = refused;
     uint32_t answer;
-    session.has_r = 1;
+    session.has_receiver = 1;
     before_refusal = at;
-    if ((answer = krb_sealer_new(&s, etype, key, len, &session)) != KRB_OK) {
+    if ((answer = krbrelay_sealer_new(&s, etype, key, len, &session)) != KRBRELAY_OK) {
         refused++;
-        CHECK(answer == KRB_MEMORY && krb_sealer_next(&s, &next) == KRB_EMPTY);
-        CHECK(krb_sealer_new(&s, etype, key, len, &session) == KRB_OK);
+        CHECK(answer == KRBRELAY_MEMORY && krbrelay_sealer_next(&s, &next) == KRBRELAY_EMPTY);
+        CHECK(krbrelay_sealer_new(&s, etype, key, len, &session) == KRBRELAY_OK);
     }
-    if ((answer = krb_opener_new(&o, etype, key, len, &expect)) != KRB_OK) {
+    if ((answer = krbrelay_opener_new(&o, etype, key, len, &expect)) != KRBRELAY_OK) {
         refused++;
-        CHECK(answer == KRB_MEMORY);
-        CHECK(krb_opener_new(&o, etype, key, len, &expect) == KRB_OK);
+        CHECK(answer == KRBRELAY_MEMORY);
+        CHECK(krbrelay_opener_new(&o, etype, key, len, &expect) == KRBRELAY_OK);
     }
-    answer = krb_sealer_seal(&s, key, 20, SECS, USEC, confounder, frame, sizeof frame, &n);
-    if (answer != KRB_OK) {
+    answer = krbrelay_sealer_seal(&s, key, 20, &now, confounder, frame, sizeof frame, &n);
+    if (answer != KRBRELAY_OK) {
         refused++;
-        CHECK(answer == KRB_SEAL_MEMORY && n == 0);
-        CHECK(krb_sealer_next(&s, &next) == KRB_OK && next == 7);
-        CHECK(krb_sealer_seal(&s, key, 20, SECS, USEC, confounder, frame, sizeof frame, &n) == 0);
+        CHECK(answer == KRBRELAY_MEMORY && n == 0);
+        CHECK(krbrelay_sealer_next(&s, &next) == KRBRELAY_OK && next == 7);
+        CHECK(krbrelay_sealer_seal(&s, key, 20, &now, confounder, frame, sizeof frame, &n) == 0);
     }
-    if ((answer = krb_message_header(frame, n, &header)) != KRB_OK) {
+    if ((answer = krbrelay_message_header(frame, n, &header)) != KRBRELAY_OK) {
         refused++;
-        CHECK(answer == KRB_MEMORY && krb_message_header(frame, n, &header) == KRB_OK);
+        CHECK(answer == KRBRELAY_MEMORY && krbrelay_message_header(frame, n, &header) == KRBRELAY_OK);
     }
-    answer = krb_opener_unseal(&o, frame, n, 7, SECS, USEC, text, sizeof text, &m);
-    if (answer != KRB_OK) {
+    answer = krbrelay_opener_unseal(&o, frame, n, 7, &now, text, sizeof text, &m);
+    if (answer != KRBRELAY_OK) {
         refused++;
-        CHECK(answer == KRB_MEMORY && m == 0);
-        CHECK(krb_opener_unseal(&o, frame, n, 7, SECS, USEC, text, sizeof text, &m) == KRB_OK);
+        CHECK(answer == KRBRELAY_MEMORY && m == 0);
+        CHECK(krbrelay_opener_unseal(&o, frame, n, 7, &now, text, sizeof text, &m) == KRBRELAY_OK);
     }
     CHECK(m == 20 && memcmp(text, key, 20) == 0);
     before_refusal = -1;
-    krb_sealer_free(&s);
-    krb_opener_free(&o);
+    krbrelay_sealer_free(&s);
+    krbrelay_opener_free(&o);
     return refused > met;
 }
 
 /* How many allocations sealing a KRB-PRIV message of so many bytes takes. */
 static long asked_by_seal(int etype, const uint8_t *bytes, size_t size)
 {
-    struct krb_session session = session_of(KRB_PRIV, 7);
-    struct krb_sealer s = { 0 };
+    struct krbrelay_session session = session_of(KRBRELAY_PRIV, 7);
+    struct krbrelay_sealer s = { 0 };
     size_t n = 0;
-    CHECK(krb_sealer_new(&s, etype, key, key_size(etype), &session) == KRB_OK);
+    CHECK(krbrelay_sealer_new(&s, etype, key, key_size(etype), &session) == KRBRELAY_OK);
     long before = asked;
-    CHECK(krb_sealer_seal(&s, bytes, size, SECS, USEC, confounder, frame, sizeof frame, &n) == KRB_OK);
+    CHECK(krbrelay_sealer_seal(&s, bytes, size, &now, confounder, frame, sizeof frame, &n) == KRBRELAY_OK);
     long took = asked - before;
-    krb_sealer_free(&s);
+    krbrelay_sealer_free(&s);
     return took;
 }
 
 int main(void)
 {
-    static const uint8_t bytes[KRB_USER_DATA_LIMIT];
+    static const uint8_t bytes[KRBRELAY_USER_DATA_LIMIT];
     for (int etype = 17; etype <= 18; etype++) {
         CHECK(asked_by_seal(etype, bytes, 1) == 1);
         CHECK(asked_by_seal(etype, bytes, sizeof bytes) == 1);
     }
     for (int etype = 17; etype <= 18; etype++)
-        for (uint32_t mode = KRB_SAFE; mode <= KRB_PRIV; mode++) {
+        for (uint32_t mode = KRBRELAY_SAFE; mode <= KRBRELAY_PRIV; mode++) {
             long at = 0;
             while (session_with_refusal(mode, etype, at))
                 at++;

@@ -29,8 +29,8 @@ static void must(krb5_error_code error, const char *what)
 /* One end: MIT's auth context, and ours made of it. */
 struct end {
     krb5_auth_context mit;
-    struct krb_sealer sealer;
-    struct krb_opener opener;
+    struct krbrelay_sealer sealer;
+    struct krbrelay_opener opener;
     uint64_t expected;
 };
 
@@ -119,16 +119,16 @@ static void exchange(krb5_enctype etype, krb5_auth_context *client, krb5_auth_co
 
 /* ---- ours, of MIT's auth context */
 
-static struct krb_address address_of(const krb5_address *mit)
+static struct krbrelay_address address_of(const krb5_address *mit)
 {
-    struct krb_address a = { .kind = mit->addrtype, .len = mit->length };
+    struct krbrelay_address a = { .kind = mit->addrtype, .len = mit->length };
     CHECK(mit->length <= sizeof a.bytes);
     memcpy(a.bytes, mit->contents, mit->length);
     return a;
 }
 
 /* What MIT's end has for the messages of one direction. The key is the caller's to free. */
-struct direction { struct krb_address local, remote; uint32_t number; krb5_keyblock *key; };
+struct direction { struct krbrelay_address local, remote; uint32_t number; krb5_keyblock *key; };
 
 typedef krb5_error_code number_call(krb5_context, krb5_auth_context, krb5_int32 *);
 typedef krb5_error_code key_call(krb5_context, krb5_auth_context, krb5_keyblock **);
@@ -156,11 +156,11 @@ static void sealer_of(struct end *e, uint32_t mode)
 {
     struct direction d = direction_of(e, krb5_auth_con_getlocalseqnumber,
                                       krb5_auth_con_getsendsubkey);
-    struct krb_session session = {
-        .mode = mode, .first = d.number, .s_addr = d.local, .r_addr = d.remote
+    struct krbrelay_session session = {
+        .mode = mode, .first = d.number, .sender = d.local, .receiver = d.remote
     };
-    CHECK(krb_sealer_new(&e->sealer, d.key->enctype, d.key->contents, d.key->length,
-                         &session) == KRB_OK);
+    CHECK(krbrelay_sealer_new(&e->sealer, d.key->enctype, d.key->contents, d.key->length,
+                         &session) == KRBRELAY_OK);
     krb5_free_keyblock(ctx, d.key);
 }
 
@@ -169,12 +169,12 @@ static void opener_of(struct end *e, uint32_t mode)
 {
     struct direction d = direction_of(e, krb5_auth_con_getremoteseqnumber,
                                       krb5_auth_con_getrecvsubkey);
-    struct krb_expect expect = {
-        .mode = mode, .s_addr = d.remote, .r_addr = d.local, .expect_time = 1, .skew = 300
+    struct krbrelay_expect expect = {
+        .mode = mode, .sender = d.remote, .receiver = d.local, .require_time = 1, .skew = 300
     };
     e->expected = d.number;
-    CHECK(krb_opener_new(&e->opener, d.key->enctype, d.key->contents, d.key->length,
-                         &expect) == KRB_OK);
+    CHECK(krbrelay_opener_new(&e->opener, d.key->enctype, d.key->contents, d.key->length,
+                         &expect) == KRBRELAY_OK);
     krb5_free_keyblock(ctx, d.key);
 }
 
@@ -186,51 +186,50 @@ static void ours_of(struct end *e, uint32_t mode)
 
 /* ---- messages */
 
-static uint8_t frame[KRB_FRAME_LIMIT], text[KRB_FRAME_LIMIT], sent[60000];
+static uint8_t frame[KRBRELAY_FRAME_LIMIT], text[KRBRELAY_FRAME_LIMIT], sent[60000];
 
-static void read_clock(uint64_t *secs, uint32_t *usec)
+static struct krbrelay_moment read_clock(void)
 {
+    struct krbrelay_moment at = { 0 };
     struct timespec now;
     clock_gettime(CLOCK_REALTIME, &now);
-    *secs = (uint64_t)now.tv_sec;
-    *usec = (uint32_t)(now.tv_nsec / 1000);
+    at.seconds = (uint64_t)now.tv_sec;
+    at.microseconds = (uint32_t)(now.tv_nsec / 1000);
+    return at;
 }
 
 static size_t our_frame(struct end *e, size_t len)
 {
     uint8_t confounder[16];
     krb5_data random = { KV5M_DATA, sizeof confounder, (char *)confounder };
-    uint64_t secs;
-    uint32_t usec;
+    struct krbrelay_moment at;
     size_t size = 0;
     must(krb5_c_random_make_octets(ctx, &random), "random");
-    read_clock(&secs, &usec);
-    CHECK(krb_sealer_seal(&e->sealer, sent, len, secs, usec, confounder, frame,
-                          krb_frame_size(len), &size) == KRB_OK);
+    at = read_clock();
+    CHECK(krbrelay_sealer_seal(&e->sealer, sent, len, &at, confounder, frame,
+                               krbrelay_frame_size(len), &size) == KRBRELAY_OK);
     return size;
 }
 
 static uint32_t open_ours(struct end *e, size_t len, size_t *size)
 {
-    uint64_t secs;
-    uint32_t usec;
-    read_clock(&secs, &usec);
-    return krb_opener_unseal(&e->opener, frame, len, e->expected, secs, usec, text, sizeof text,
-                             size);
+    struct krbrelay_moment at = read_clock();
+    return krbrelay_opener_unseal(&e->opener, frame, len, e->expected, &at, text, sizeof text,
+                                  size);
 }
 
 /* Ours reads the frame, at its own number alone, and unchanged alone. */
 static void ours_reads(struct end *to, uint32_t mode, size_t size, size_t len)
 {
-    uint32_t changed = mode == KRB_SAFE ? KRB_MODIFIED : KRB_BAD_INTEGRITY;
+    uint32_t changed = mode == KRBRELAY_SAFE ? KRBRELAY_MODIFIED : KRBRELAY_BAD_INTEGRITY;
     size_t back = 0;
     to->expected++;
-    CHECK(open_ours(to, size, &back) == KRB_BADORDER);
+    CHECK(open_ours(to, size, &back) == KRBRELAY_BADORDER);
     to->expected--;
     frame[size - 1] ^= 1;
     CHECK(open_ours(to, size, &back) == changed);
     frame[size - 1] ^= 1;
-    CHECK(open_ours(to, size, &back) == KRB_OK);
+    CHECK(open_ours(to, size, &back) == KRBRELAY_OK);
     CHECK(back == len && memcmp(text, sent, len) == 0);
     to->expected++;
 }
@@ -240,7 +239,7 @@ static void ours_to_mit(struct end *from, struct end *to, uint32_t mode, size_t 
     size_t size = our_frame(from, len);
     krb5_data in = { KV5M_DATA, (unsigned)size, (char *)frame }, out = { 0 };
     krb5_replay_data replay;
-    krb5_error_code error = mode == KRB_SAFE ? krb5_rd_safe(ctx, to->mit, &in, &out, &replay)
+    krb5_error_code error = mode == KRBRELAY_SAFE ? krb5_rd_safe(ctx, to->mit, &in, &out, &replay)
                                              : krb5_rd_priv(ctx, to->mit, &in, &out, &replay);
     CHECK(error == 0);
     CHECK(error != 0 || (out.length == len && memcmp(out.data, sent, len) == 0));
@@ -251,15 +250,15 @@ static void mit_to_ours(struct end *from, struct end *to, uint32_t mode, size_t 
 {
     krb5_data in = { KV5M_DATA, (unsigned)len, (char *)sent }, out = { 0 };
     krb5_replay_data replay;
-    struct krb_header header;
+    struct krbrelay_header header;
     size_t size;
-    must(mode == KRB_SAFE ? krb5_mk_safe(ctx, from->mit, &in, &out, &replay)
+    must(mode == KRBRELAY_SAFE ? krb5_mk_safe(ctx, from->mit, &in, &out, &replay)
                           : krb5_mk_priv(ctx, from->mit, &in, &out, &replay), "mk");
     size = out.length;
     memcpy(frame, out.data, size);
     krb5_free_data_contents(ctx, &out);
-    CHECK(krb_message_header(frame, size, &header) == KRB_OK && header.kind == mode);
-    CHECK(mode == KRB_PRIV || (header.has_number && header.number == to->expected));
+    CHECK(krbrelay_message_header(frame, size, &header) == KRBRELAY_OK && header.kind == mode);
+    CHECK(mode == KRBRELAY_PRIV || (header.has_number && header.number == to->expected));
     ours_reads(to, mode, size, len);
 }
 
@@ -285,10 +284,10 @@ static void one_way(krb5_enctype etype, uint32_t mode, int from_server, int who)
         else
             ours_to_ours(from, to, mode, sizes[i]);
     }
-    krb_sealer_free(&client.sealer);
-    krb_opener_free(&client.opener);
-    krb_sealer_free(&server.sealer);
-    krb_opener_free(&server.opener);
+    krbrelay_sealer_free(&client.sealer);
+    krbrelay_opener_free(&client.opener);
+    krbrelay_sealer_free(&server.sealer);
+    krbrelay_opener_free(&server.opener);
     krb5_auth_con_free(ctx, client.mit);
     krb5_auth_con_free(ctx, server.mit);
 }
@@ -303,7 +302,7 @@ int main(void)
     for (size_t i = 0; i < sizeof sent; i++)
         sent[i] = (uint8_t)(i * 7 + i / 256);
     for (krb5_enctype etype = 17; etype <= 18; etype++)
-        for (uint32_t mode = KRB_SAFE; mode <= KRB_PRIV; mode++)
+        for (uint32_t mode = KRBRELAY_SAFE; mode <= KRBRELAY_PRIV; mode++)
             for (int from_server = 0; from_server < 2; from_server++)
                 for (int who = 0; who < 3; who++)
                     one_way(etype, mode, from_server, who);

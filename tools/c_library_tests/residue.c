@@ -15,6 +15,8 @@
 
 enum { RUN = 8 };
 
+static const struct krbrelay_moment now = { SECS, USEC, 0 };
+
 static uint8_t key[32];
 /* The block of a handle in use, and how many runs of its bytes stood in it when it was freed. */
 struct watched { const void *block; uint8_t bytes[2048]; size_t size; int freed, runs; };
@@ -64,51 +66,51 @@ enum ending {
     FREE_SEALER_FIRST, FREE_OPENER_FIRST, WIPE_BEFORE_FREE, NEW_KEY, REFUSED_NEW, ENDINGS
 };
 
-static void end_both(struct krb_sealer *s, struct krb_opener *o, enum ending how, uint32_t mode)
+static void end_both(struct krbrelay_sealer *s, struct krbrelay_opener *o, enum ending how, uint32_t mode)
 {
     static const uint8_t other[32] = { 9, 8, 7, 6, 5, 4, 3, 2, 1 };
-    struct krb_session session = session_of(mode, 7);
-    struct krb_expect expect = expect_of(mode);
+    struct krbrelay_session session = session_of(mode, 7);
+    struct krbrelay_expect expect = expect_of(mode);
     if (how == FREE_OPENER_FIRST) {
-        krb_opener_free(o);
+        krbrelay_opener_free(o);
         CHECK(watch[1].freed == 1 && watch[0].freed == 0);
     }
     if (how == WIPE_BEFORE_FREE) {
-        krb_sealer_wipe(s);
-        krb_opener_wipe(o);
+        krbrelay_sealer_wipe(s);
+        krbrelay_opener_wipe(o);
         for (int i = 0; i < 2; i++)
             CHECK(same_runs(watch[i].bytes, watch[i].block, watch[i].size) == 0);
         CHECK(watch[0].freed == 0 && watch[1].freed == 0);
     }
     if (how == NEW_KEY) {
-        CHECK(krb_sealer_new(s, 17, other, 16, &session) == KRB_OK);
-        CHECK(krb_opener_new(o, 17, other, 16, &expect) == KRB_OK);
+        CHECK(krbrelay_sealer_new(s, 17, other, 16, &session) == KRBRELAY_OK);
+        CHECK(krbrelay_opener_new(o, 17, other, 16, &expect) == KRBRELAY_OK);
         CHECK(watch[0].freed == 1 && watch[1].freed == 1);
     }
     if (how == REFUSED_NEW) {
-        CHECK(krb_sealer_new(s, 17, other, 17, &session) == KRB_ARGUMENT);
-        CHECK(krb_opener_new(o, 17, other, 17, &expect) == KRB_ARGUMENT);
+        CHECK(krbrelay_sealer_new(s, 17, other, 17, &session) == KRBRELAY_KEY_SIZE);
+        CHECK(krbrelay_opener_new(o, 17, other, 17, &expect) == KRBRELAY_KEY_SIZE);
         CHECK(watch[0].freed == 1 && watch[1].freed == 1);
     }
-    krb_sealer_free(s);
-    krb_opener_free(o);
+    krbrelay_sealer_free(s);
+    krbrelay_opener_free(o);
 }
 
 static void no_residue(uint32_t mode, int etype, enum ending how)
 {
-    static uint8_t frame[KRB_FRAME_LIMIT], text[KRB_FRAME_LIMIT];
+    static uint8_t frame[KRBRELAY_FRAME_LIMIT], text[KRBRELAY_FRAME_LIMIT];
     static const uint8_t confounder[16];
-    struct krb_session session = session_of(mode, 7);
-    struct krb_expect expect = expect_of(mode);
-    struct krb_sealer s = { 0 };
-    struct krb_opener o = { 0 };
+    struct krbrelay_session session = session_of(mode, 7);
+    struct krbrelay_expect expect = expect_of(mode);
+    struct krbrelay_sealer s = { 0 };
+    struct krbrelay_opener o = { 0 };
     size_t n = 0, m = 0;
-    CHECK(krb_sealer_new(&s, etype, key, key_size(etype), &session) == KRB_OK);
-    CHECK(krb_opener_new(&o, etype, key, key_size(etype), &expect) == KRB_OK);
+    CHECK(krbrelay_sealer_new(&s, etype, key, key_size(etype), &session) == KRBRELAY_OK);
+    CHECK(krbrelay_opener_new(&o, etype, key, key_size(etype), &expect) == KRBRELAY_OK);
     watch_block(0, s.at);
     watch_block(1, o.at);
-    CHECK(krb_sealer_seal(&s, frame, 50, SECS, USEC, confounder, frame + 100, 60000, &n) == 0);
-    CHECK(krb_opener_unseal(&o, frame + 100, n, 7, SECS, USEC, text, sizeof text, &m) == 0);
+    CHECK(krbrelay_sealer_seal(&s, frame, 50, &now, confounder, frame + 100, 60000, &n) == 0);
+    CHECK(krbrelay_opener_unseal(&o, frame + 100, n, 7, &now, text, sizeof text, &m) == 0);
     end_both(&s, &o, how, mode);
     for (int i = 0; i < 2; i++) {
         CHECK(watch[i].freed >= 1);
@@ -132,7 +134,7 @@ static void leave_key(void)
 
 static void end_in_each_way(void)
 {
-    for (uint32_t mode = KRB_SAFE; mode <= KRB_PRIV; mode++)
+    for (uint32_t mode = KRBRELAY_SAFE; mode <= KRBRELAY_PRIV; mode++)
         for (int etype = 17; etype <= 18; etype++)
             for (unsigned how = 0; how < ENDINGS; how++)
                 no_residue(mode, etype, (enum ending)how);

@@ -7,27 +7,33 @@
 #define SECS 1700000000u
 #define USEC 5u
 
+static inline struct krbrelay_moment moment(uint64_t seconds, uint32_t microseconds)
+{
+    struct krbrelay_moment m = { .seconds = seconds, .microseconds = microseconds };
+    return m;
+}
+
 static inline size_t key_size(int etype) { return etype == 17 ? 16 : 32; }
 
-static inline struct krb_address host(uint8_t last)
+static inline struct krbrelay_address host(uint8_t last)
 {
-    struct krb_address a = { .kind = 2, .len = 4, .bytes = { 10, 0, 0, last } };
+    struct krbrelay_address a = { .kind = 2, .len = 4, .bytes = { 10, 0, 0, last } };
     return a;
 }
 
-static inline struct krb_session session_of(uint32_t mode, uint32_t first)
+static inline struct krbrelay_session session_of(uint32_t mode, uint32_t first)
 {
-    struct krb_session s = {
-        .mode = mode, .first = first, .s_addr = host(1), .has_r = 0, .r_addr = host(255)
+    struct krbrelay_session s = {
+        .mode = mode, .first = first, .sender = host(1), .has_receiver = 0, .receiver = host(255)
     };
     return s;
 }
 
-static inline struct krb_expect expect_of(uint32_t mode)
+static inline struct krbrelay_expect expect_of(uint32_t mode)
 {
-    struct krb_expect e = {
-        .mode = mode, .s_addr = host(1), .r_addr = host(255),
-        .require_r = 0, .expect_time = 1, .skew = 300
+    struct krbrelay_expect e = {
+        .mode = mode, .sender = host(1), .receiver = host(255),
+        .require_receiver = 0, .require_time = 1, .skew = 300
     };
     return e;
 }

@@ -1,6 +1,9 @@
 mod Values
 mod SealerBox
 mod OpenerBox
+mod ReceiverBox
+mod RecordLemmas
+mod ReceiverLemmas
 mod Pairs
 mod Codes
 mod RoomLemmas

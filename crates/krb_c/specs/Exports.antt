@@ -1,5 +1,5 @@
 -- What the exports answer.
-use Rattle.std.specs.Prelude.{ℕ, ◌≡◌, List, Option, Some, None, Ok}
+use Rattle.std.specs.Prelude.{ℕ, ◌≡◌, List, Option, Some, None, Ok, Bool, if◌then◌else◌}
 use Rattle.krb_seal.specs.Sealer.{SealerState, SealsNext, advanced, in_mode, wiped_state}
 use Rattle.krb_der.specs.declared.body.Body.{Body}
 use Rattle.krb_seal.specs.declared.session.Mode.{Mode}
@@ -7,6 +7,7 @@ use Rattle.krb_seal.specs.Opens.{OpenerState, Outcome, Opens}
 use Rattle.krb_seal.specs.Authentic.{Authenticity}
 use Rattle.krb_c.specs.declared.demand.KrbDemand.{KrbDemand}
 use Rattle.krb_c.specs.declared.carried.KrbCarried.{KrbCarried}
+use Rattle.krb_peers.specs.ReceiverState.{ReceiverState}
 use Rattle.krb_c.specs.Demand.{OpensWith}
 use Rattle.krb_c.specs.Carried.{carried_of}
 
@@ -34,6 +35,16 @@ wiped_if (Some s) = Some (wiped_state s)
 abbrev pub IsNext : Option SealerState → ℕ → Type 0
 IsNext None n = ⊥
 IsNext (Some s) n = s.next ≡ n
+
+-- a handle with a receiver that demands this number, or none after a close
+abbrev pub Demands : Option ReceiverState → OpenerState → ℕ → Bool → Type 0
+Demands None o expected closed = ⊥
+Demands (Some s) o expected closed = (s.opener ≡ o) × (s.demand.expected ≡ expected) × (s.demand.closed ≡ closed)
+
+-- the handle holds a receiver in this state
+abbrev pub IsDemanding : Option ReceiverState → ℕ → ℕ → Type 0
+IsDemanding None expected closed = ⊥
+IsDemanding (Some s) expected closed = (s.demand.expected ≡ expected) × (closed ≡ (if s.demand.closed then 1 else 0))
 
 -- What a handle of an opener holds: nothing, or an opener, of which nothing is left once it was
 -- wiped.

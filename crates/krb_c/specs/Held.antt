@@ -10,6 +10,8 @@ use Rattle.std.specs.Global.{Global}
 use Rattle.std.specs.contracts.impls.GlobalAllocator.TheImpl.{ghosts}
 use Rattle.krb_seal.specs.Sealer.{SealerState}
 use Rattle.krb_seal.specs.Opens.{OpenerState}
+use Rattle.krb_peers.specs.ReceiverState.{ReceiverState}
+use Rattle.krb_c.specs.contracts.lane_receiver.LaneReceiver.{the_row as receiver_row}
 use Rattle.krb_c.specs.contracts.any_sealer.AnySealer.{the_row as sealer_row}
 use Rattle.krb_c.specs.contracts.wipeable_opener.WipeableOpener.{the_row as opener_row}
 
@@ -35,3 +37,10 @@ owns_opener at count (Some o) = fsep (feq ℕ count 1) (box_owns freeing opener_
 
 abbrev pub opener_coded : Coded (Option (Option OpenerState))
 opener_coded = coded_option opener_row.coded
+
+abbrev pub owns_receiver : Ptr → ℕ → Option ReceiverState → Fml
+owns_receiver at count None = feq ℕ count 0
+owns_receiver at count (Some r) = fsep (feq ℕ count 1) (box_owns freeing receiver_row at r)
+
+abbrev pub receiver_coded : Coded (Option ReceiverState)
+receiver_coded = coded_option receiver_row.coded

@@ -8,6 +8,7 @@ pub mod Header
 pub mod Held
 pub mod Moment
 pub mod Reasons
+pub mod Record
 pub mod Room
 pub mod Session
 pub mod Wipeable

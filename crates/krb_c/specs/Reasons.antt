@@ -1,5 +1,5 @@
 -- When each fault comes: only where its reason holds.
-use Rattle.std.specs.Prelude.{◌≡◌, ◌⊎◌, ℕ, ℤ, ◌<◌, ◌≤◌, List, length, Option, Some, None, Ok, Err, true}
+use Rattle.std.specs.Prelude.{◌≡◌, ◌⊎◌, ℕ, ℤ, ◌+◌, ◌<◌, ◌≤◌, List, length, Option, Some, None, Ok, Err, true}
 use Rattle.krb_base.specs.Limits.{frame_limit, user_data_limit}
 use Rattle.krb_der.specs.declared.body.Body.{Body}
 use Rattle.krb_der.specs.declared.message.Message.{Message}
@@ -11,6 +11,10 @@ use Rattle.krb_seal.specs.Sealer.{SealerState, end_of_numbers}
 use Rattle.krb_seal.specs.Opens.{OpenerState, Opens}
 use Rattle.krb_c.specs.declared.moment.KrbMoment.{KrbMoment}
 use Rattle.krb_c.specs.declared.demand.KrbDemand.{KrbDemand}
+use Rattle.krb_seal.specs.declared.refusal.Refusal.{Refusal}
+use Rattle.krb_peers.specs.ReceiverState.{ReceiverState}
+use Rattle.krb_peers.specs.Verdicts.{Fails}
+use Rattle.krb_c.specs.Record.{Accepts, IsNoRecordOf}
 use Rattle.krb_c.specs.Room.{frame_room}
 use Rattle.krb_c.specs.Moment.{micros_of}
 use Rattle.krb_c.specs.Session.{IsEtype, IsKey, IsMode, address_room}
@@ -44,6 +48,16 @@ SealReason s n at room Record = ⊥
 abbrev pub SealFault : Option SealerState → ℕ → KrbMoment → ℕ → Fault → Type 0
 SealFault None n at room f = f ≡ Empty
 SealFault (Some s) n at room f = SealReason s n at room f
+
+-- why sealing a record fails: there is none of this kind with these bytes after its first, or sealing
+-- its user data fails
+abbrev pub RecordReason : SealerState → ℕ → List ℕ → KrbMoment → ℕ → Fault → Type 0
+RecordReason s kind body at room f =
+    ((f ≡ Record) × IsNoRecordOf kind body) ⊎ SealReason s (length body + 1) at room f
+
+abbrev pub RecordFault : Option SealerState → ℕ → List ℕ → KrbMoment → ℕ → Fault → Type 0
+RecordFault None kind body at room f = f ≡ Empty
+RecordFault (Some s) kind body at room f = RecordReason s kind body at room f
 
 -- why opening fails
 abbrev pub OpenReason : OpenerState → ℕ → KrbMoment → List ℕ → ℕ → Fault → Type 0
@@ -102,6 +116,21 @@ SessionReason mode s r f =
 abbrev pub NewReason : ℤ → ℕ → ℕ → ℕ → ℕ → Fault → Type 0
 NewReason etype n mode s r f =
     ((f ≡ Etype) × (IsEtype etype → ⊥)) ⊎ (((f ≡ KeySize) × (IsKey etype n → ⊥)) ⊎ SessionReason mode s r f)
+
+-- Why a receiver takes no frame: it fails a check, or the body of its record needs more room.
+abbrev pub TakeReason : ReceiverState → ℕ → List ℕ → ℕ → Fault → Type 0
+TakeReason s now frame room f =
+    ((r : Refusal) × (f ≡ Refused r) × ((r ≡ refusals.Memory) ⊎ Fails s.opener s.demand now frame r))
+    ⊎ ((f ≡ Room) × ((kind : ℕ) × ((body : List ℕ) × ((new : ReceiverState) × Accepts s now frame kind body new × (room < length body)))))
+
+abbrev pub TakeFault : Option ReceiverState → KrbMoment → List ℕ → ℕ → Fault → Type 0
+TakeFault None at frame room f = f ≡ Empty
+TakeFault (Some s) at frame room f = ((f ≡ Moment) × IsNoMoment at) ⊎ TakeReason s (micros_of at) frame room f
+
+-- why no receiver is made: as no opener is, or its number is over the end of all
+abbrev pub ReceiverReason : ℤ → ℕ → ℕ → ℕ → ℕ → ℕ → Fault → Type 0
+ReceiverReason etype n mode s r expected f =
+    ((f ≡ Argument) × (end_of_numbers < expected)) ⊎ NewReason etype n mode s r f
 
 -- why a sealer's mode isn't changed
 abbrev pub ModeFault : Option SealerState → ℕ → Fault → Type 0

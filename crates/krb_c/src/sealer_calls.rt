@@ -5,7 +5,8 @@ ghost use Rattle.krb_seal.specs.Sealer.{new_state};
 ghost use Rattle.krb_c.specs.Exports.{IsNext, SealsTo, advanced_if, in_mode_if, wiped_if};
 ghost use Rattle.krb_c.specs.Fault.{FaultedBy};
 ghost use Rattle.krb_c.specs.Moment.{micros_of};
-ghost use Rattle.krb_c.specs.Reasons.{ModeFault, NewReason, SealFault};
+ghost use Rattle.krb_c.specs.Reasons.{ModeFault, NewReason, RecordFault, SealFault};
+ghost use Rattle.krb_c.specs.Record.{SealsRecordTo};
 ghost use Rattle.krb_c.specs.Room.{FitsFrames, frame_room};
 ghost use Rattle.krb_c.specs.Session.{mode_of, session_of};
 
@@ -13,7 +14,7 @@ use crate::fault::Fault;
 use crate::moment::KrbMoment;
 use crate::room::frame_size;
 use crate::sealer_handle::KrbSealer;
-use crate::sealing::{new_sealer, seal_into, set_mode};
+use crate::sealing::{new_sealer, seal_into, seal_record, set_mode};
 use crate::session::KrbSession;
 use std::alloc::Global;
 
@@ -82,6 +83,46 @@ pub extern "C" fn krbrelay_sealer_seal(
         return Fault::Empty.code();
     };
     let sealed = seal_into(alloc, &mut sealer, user, at, confounder, out);
+    handle.put(alloc, sealer);
+    match sealed {
+        Ok(written) => {
+            *size = written;
+            0
+        }
+        Err(fault) => fault.code(),
+    }
+}
+
+/// Writes the frame of a record at the next sequence number, and its size: of a text (kind 1), a
+/// batch (2) or the close (3), whose bytes after the first are `body`. Any answer but 0 leaves all as
+/// it was.
+#[unsafe(no_mangle)]
+pub extern "C" fn krbrelay_sealer_seal_record(
+    alloc: Global,
+    handle: &mut KrbSealer,
+    kind: u32,
+    body: &[u8],
+    at: &KrbMoment,
+    confounder: &[u8; 16],
+    out: &mut [u8],
+    size: &mut usize,
+) -> u32
+    ensures sealed { result ≡ 0 → SealsRecordTo handle.old.sealer kind body.now (micros_of at.now)
+        confounder.now (take size.new out.new) }
+    ensures size { result ≡ 0 → size.new ≤ length out.new }
+    ensures behind { result ≡ 0 → drop size.new out.new ≡ drop size.new out.old }
+    ensures advanced { result ≡ 0 → handle.new.sealer ≡ advanced_if handle.old.sealer }
+
+    ensures unchanged { ¬ (result ≡ 0) → handle.new.sealer ≡ handle.old.sealer }
+    ensures out_kept { ¬ (result ≡ 0) → out.new ≡ out.old }
+    ensures size_kept { ¬ (result ≡ 0) → size.new ≡ size.old }
+    ensures why { ¬ (result ≡ 0) → FaultedBy (RecordFault handle.old.sealer kind body.now
+        at.now (length out.old)) result }
+{
+    let Some(mut sealer) = handle.take(alloc) else {
+        return Fault::Empty.code();
+    };
+    let sealed = seal_record(alloc, &mut sealer, kind, body, at, confounder, out);
     handle.put(alloc, sealer);
     match sealed {
         Ok(written) => {

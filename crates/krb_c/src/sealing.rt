@@ -3,13 +3,15 @@
 ghost use Rattle.std.specs.Prelude.{◌≡◌, ◌≤◌, ◌++◌, drop, length, take, IfErr, IfOk, OnOk, OnErr};
 ghost use Rattle.krb_seal.specs.Sealer.{SealsNext, advanced, in_mode, new_state};
 ghost use Rattle.krb_c.specs.Moment.{micros_of};
-ghost use Rattle.krb_c.specs.Reasons.{NewReason, SealReason};
+ghost use Rattle.krb_c.specs.Reasons.{NewReason, RecordReason, SealReason};
+ghost use Rattle.krb_c.specs.Record.{SealsRecord};
 ghost use Rattle.krb_c.specs.Session.{IsMode, mode_of, session_of};
 
 use crate::any_sealer::AnySealer;
 use crate::buffer::put_front;
 use crate::fault::Fault;
 use crate::moment::KrbMoment;
+use crate::record::record_of;
 use crate::room::frame_size;
 use crate::session::{KrbSession, key_fault, mode, session};
 use krb_seal::Refusal;
@@ -69,4 +71,28 @@ pub fn set_mode(sealer: &mut AnySealer, number: u32) -> Result<(), Fault>
 {
     sealer.set_mode(mode(number)?);
     Ok(())
+}
+
+/// Seals the record of this kind whose bytes after the first are `body`, as [`seal_into`] does.
+pub fn seal_record(
+    alloc: Global,
+    sealer: &mut AnySealer,
+    kind: u32,
+    body: &[u8],
+    at: &KrbMoment,
+    confounder: &[u8; 16],
+    out: &mut [u8],
+) -> Result<usize, Fault>
+    ensures sealed { IfOk result (λ size. SealsRecord sealer.old kind body.now (micros_of at.now)
+        confounder.now (take size out.new)) }
+    ensures size { IfOk result (λ size. size ≤ length out.new) }
+    ensures behind { IfOk result (λ size. drop size out.new ≡ drop size out.old) }
+    ensures advanced { OnOk result (sealer.new ≡ advanced sealer.old) }
+    ensures unchanged { OnErr result (sealer.new ≡ sealer.old) }
+    ensures kept { OnErr result (out.new ≡ out.old) }
+    ensures why { IfErr result
+        (RecordReason sealer.old kind body.now at.now (length out.old)) }
+{
+    let user = record_of(alloc, kind, body)?;
+    seal_into(alloc, sealer, &user, at, confounder, out)
 }

@@ -13,9 +13,14 @@ use crate::opener_calls::{
     krbrelay_opener_unseal_in_place, krbrelay_opener_wipe,
 };
 use crate::opener_handle::KrbOpener;
+use crate::receiver_calls::{
+    krbrelay_receiver_free, krbrelay_receiver_new, krbrelay_receiver_state, krbrelay_receiver_take,
+};
+use crate::receiver_handle::KrbReceiver;
 use crate::sealer_calls::{
     krbrelay_frame_size, krbrelay_sealer_free, krbrelay_sealer_new, krbrelay_sealer_next,
-    krbrelay_sealer_seal, krbrelay_sealer_set_mode, krbrelay_sealer_wipe,
+    krbrelay_sealer_seal, krbrelay_sealer_seal_record, krbrelay_sealer_set_mode,
+    krbrelay_sealer_wipe,
 };
 use crate::sealer_handle::KrbSealer;
 use crate::session::{KrbAddress, KrbExpect, KrbSession};
@@ -231,6 +236,55 @@ fn a_frame_opens_in_place_and_without_demands(rt: HostRuntime) {
     assert_eq!(rt; (answer, size, &frame[..4]), (0, 3, b"Dhi\x6c".as_slice()));
     krbrelay_opener_free(alloc, o);
     let _ = opener.into_box(alloc);
+}
+
+/// What sealing a record as the first message of a session answers, and its frame.
+fn record_frame(alloc: Global, kind: u32, body: &[u8]) -> Result<(u32, Vec<u8>), Fail> {
+    let mut frame = Vec::from_elem(alloc, 0u8, 500)?;
+    let (mut size, mut sealer) = (0usize, KrbSealer::none());
+    let s = &mut sealer;
+    let made = krbrelay_sealer_new(alloc, s, 17, &KEY_128, &session(20));
+    let sealed = krbrelay_sealer_seal_record(
+        alloc, s, kind, body, &AT, &[0; 16], &mut frame, &mut size,
+    );
+    krbrelay_sealer_free(alloc, s);
+    let _ = sealer.into_box(alloc);
+    frame.truncate(size);
+    Ok((if made == 0 { sealed } else { made }, frame))
+}
+
+#[test]
+fn a_record_is_a_frame_of_another_sealer(rt: HostRuntime) -> Result<(), Fail> {
+    let (answer, frame) = record_frame(rt.alloc(), 1, b"hi")?;
+    assert_eq!(rt; (answer, frame.as_slice()), (0, SAFE_17.as_slice()));
+    let (answer, frame) = record_frame(rt.alloc(), 3, b"hi")?;
+    assert_eq!(rt; (answer, frame.len()), (913, 0));
+    Ok(())
+}
+
+#[test]
+fn a_receiver_takes_each_number_once(rt: HostRuntime) {
+    let alloc = rt.alloc();
+    let (mut kind, mut text, mut size) = (0u32, [0u8; 4], 0usize);
+    let (mut expected, mut closed, mut receiver) = (0u64, 9u32, crosses(KrbReceiver::none()));
+    let r = &mut receiver;
+    assert_eq!(rt;
+        krbrelay_receiver_new(alloc, r, 18, &KEY_256, &expect(21), 7, 0),
+        0
+    );
+    let took = krbrelay_receiver_take(alloc, r, &PRIV_18, &AT, &mut kind, &mut text, &mut size);
+    assert_eq!(rt; (took, kind, size, &text), (0, 1, 2, b"hi\0\0"));
+    let again = krbrelay_receiver_take(alloc, r, &PRIV_18, &AT, &mut kind, &mut text, &mut size);
+    let state = krbrelay_receiver_state(alloc, r, &mut expected, &mut closed);
+    assert_eq!(rt; (again, state, expected, closed), (42, 0, 8, 0));
+    assert_eq!(rt;
+        krbrelay_receiver_new(alloc, r, 18, &KEY_256, &expect(21), 7, 1),
+        0
+    );
+    let after = krbrelay_receiver_take(alloc, r, &PRIV_18, &AT, &mut kind, &mut text, &mut size);
+    assert_eq!(rt; after, 903);
+    krbrelay_receiver_free(alloc, r);
+    let _ = receiver.into_box(alloc);
 }
 
 #[test]

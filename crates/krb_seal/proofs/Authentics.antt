@@ -1,5 +1,5 @@
 -- Opening with demands and without.
-use Rattle.std.proofs.Common.{◌≡◌, ℕ, ◌≤◌, ℤ, List, [], ◌∷◌, ◌++◌, length, drop, Ok, true, false, not, refl, sym, ap, subst, ◌∙◌, inl, inr, arith, length-append}
+use Rattle.std.proofs.Common.{◌≡◌, ℕ, ◌≤◌, ℤ, List, ◌++◌, length, drop, Ok, true, false, not, refl, sym, ap, subst, ◌∙◌, inl, inr, arith, length-append}
 use Rattle.std.proofs.lemmas.Bool.{le-leb}
 use Rattle.std.proofs.lemmas.List.{drop_at}
 use Rattle.krb_aes.specs.Stealing.{cts}
@@ -19,7 +19,7 @@ use Rattle.krb_seal.specs.declared.session.Session.{Session}
 use Rattle.krb_seal.specs.declared.session.Expect.{Expect}
 use Rattle.krb_seal.specs.Keys.{encryption_key, tag_of}
 use Rattle.krb_seal.specs.Seals.{Seals, body_of, checksum_type, safe_checksum, sealed_as, sealed_message, sealed_priv, sealed_safe}
-use Rattle.krb_seal.specs.Opens.{OpenerState, Outcome, Read, Decrypt, OpensPart, OpensText, OpensMessage, opener_of, frame_checks, safe_checks, priv_header, text_checks, body_checks, is_safe}
+use Rattle.krb_seal.specs.Opens.{OpenerState, Read, Decrypt, OpensPart, OpensText, OpensMessage, opener_of, frame_checks, safe_checks, priv_header, text_checks, body_checks, is_safe}
 use Rattle.krb_seal.specs.Authentic.{Authenticity, GivesBody, AuthenticText, AuthenticMessage, authentic_checks}
 use Rattle.krb_seal.specs.Laws.{OpensTheAuthentic, SealedIsAuthentic}
 use Rattle.krb_seal.proofs.SealedFrames.{met_all, all_met, encrypts, short_part, both_true, int_same, bytes_same}

@@ -1,6 +1,7 @@
 //! Frames of an independent sealer (`tools/frames.py`), and what an opener makes of them, of others
 //! worked out by hand, and of each cut and each flipped bit.
 
+mod authentic;
 mod flipped;
 mod frames;
 mod opening;

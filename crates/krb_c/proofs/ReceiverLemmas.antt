@@ -1,0 +1,59 @@
+-- What taking a frame gives, from what opening it and reading its record give.
+use Rattle.std.proofs.Common.{◌≡◌, ℕ, ◌+◌, ◌<◌, Bool, false, nat_eq, List, length, Result, Ok, Err, refl, sym, ap, subst, inl, inr}
+use Rattle.std.specs.Prelude.{◌⊎◌, IfErr, IsErrAnd}
+use Rattle.std.specs.Global.{Vec}
+use Rattle.krb_seal.specs.declared.refusal.Refusal.{Refusal}
+use Rattle.krb_seal.specs.declared.refusal.Refusal.TheVariants.{BadRecord, Memory}
+use Rattle.krb_seal.specs.Opens.{Outcome, Opens}
+use Rattle.krb_seal.specs.Unseals.{OrMemory, seen}
+use Rattle.krb_peers.specs.declared.record.Record.{Record}
+use Rattle.krb_peers.specs.declared.record.Record.TheVariants.{Text, Batch, Close}
+use Rattle.krb_peers.specs.Record.{is_close}
+use Rattle.krb_peers.specs.ReceiverState.{ReceiverState}
+use Rattle.krb_peers.specs.Receiver.{advanced}
+use Rattle.krb_peers.specs.Verdicts.{IsNoRecord}
+use Rattle.krb_c.specs.declared.fault.Fault.{Fault}
+use Rattle.krb_c.specs.declared.fault.Fault.TheVariants.{Refused, Room}
+use Rattle.krb_c.specs.Reasons.{TakeReason}
+use Rattle.krb_c.specs.Record.{Accepts, IsRecordOf, kind_of}
+
+is_memory : (r : Refusal) → ◌≡◌ {A = Result (Vec ℕ) Refusal} (Err r) (Err Memory) → r ≡ Memory
+is_memory r e = cc
+
+pub opened : (Gives : Outcome → Type 0) (v : Vec ℕ) → OrMemory Gives (Ok v) → Gives (Ok v.items)
+opened Gives v (inl e) = absurd cc
+opened Gives v (inr h) = h
+
+pub take_refused : {X : Type 0} (s : ReceiverState) (now : ℕ) (frame : List ℕ) (room : ℕ) (r : Refusal) (result : Result X Fault) → s.demand.closed ≡ false
+    → OrMemory (Opens s.opener s.demand.expected now frame) (Err r) → IsErrAnd result (λ f. f ≡ Refused r) → IfErr result (TakeReason s now frame room)
+take_refused s now frame room r (Ok x) live h p = absurd p
+take_refused s now frame room r (Err f) live (inl h) p = inl (r, p, inl (is_memory r h))
+take_refused s now frame room r (Err f) live (inr h) p = inl (r, p, inr (inr (live, inl h)))
+
+pub take_no_record : {X : Type 0} (s : ReceiverState) (now : ℕ) (frame : List ℕ) (room : ℕ) (user : List ℕ) (r : Refusal) (result : Result X Fault) → s.demand.closed ≡ false
+    → Opens s.opener s.demand.expected now frame (Ok user) → ((r ≡ BadRecord) × IsNoRecord user) ⊎ (r ≡ Memory) → IsErrAnd result (λ f. f ≡ Refused r)
+    → IfErr result (TakeReason s now frame room)
+take_no_record s now frame room user r (Ok x) live h n p = absurd p
+take_no_record s now frame room user r (Err f) live h (inl n) p = inl (r, p, inr (inr (live, inr (user, h, n.1, n.0))))
+take_no_record s now frame room user r (Err f) live h (inr n) p = inl (r, p, inl n)
+
+is_closing : (kind : ℕ) (r : Record) → kind ≡ kind_of r → nat_eq kind 3 ≡ is_close r
+is_closing kind (Text text) e = ap (λ (k : ℕ). nat_eq k 3) e
+is_closing kind (Batch texts) e = ap (λ (k : ℕ). nat_eq k 3) e
+is_closing kind Close e = ap (λ (k : ℕ). nat_eq k 3) e
+
+abbrev pub taken : ReceiverState → ℕ → ReceiverState
+taken s kind = record { opener = s.opener; demand = record { expected = s.demand.expected + 1; closed = nat_eq kind 3 } }
+
+advanced_is : (s : ReceiverState) (a b : Bool) → a ≡ b → ◌≡◌ {A = ReceiverState} (record { opener = s.opener; demand = record { expected = s.demand.expected + 1; closed = a } }) (advanced s b)
+advanced_is s a b e = ap (λ (z : Bool). advanced s z) e
+
+pub accepts_of : (s : ReceiverState) (now : ℕ) (frame : List ℕ) (kind : ℕ) (body written user : List ℕ) (r : Record) → s.demand.closed ≡ false
+    → Opens s.opener s.demand.expected now frame (Ok user) → IsRecordOf kind body r user → written ≡ body → Accepts s now frame kind written (taken s kind)
+accepts_of s now frame kind body written user r live h is same =
+    (live, (r, (user, h, subst (λ (z : List ℕ). IsRecordOf kind z r user) (sym same) is, advanced_is s (nat_eq kind 3) (is_close r) (is_closing kind r is.kind_is))))
+
+pub take_no_room : (s : ReceiverState) (now : ℕ) (frame : List ℕ) (room kind : ℕ) (body user : List ℕ) (r : Record) → s.demand.closed ≡ false
+    → Opens s.opener s.demand.expected now frame (Ok user) → IsRecordOf kind body r user → room < length body → TakeReason s now frame room Room
+take_no_room s now frame room kind body user r live h is short =
+    inr (refl, (kind, (body, (taken s kind, accepts_of s now frame kind body body user r live h is refl, short))))

@@ -1,0 +1,54 @@
+-- Records as C sees them: the kind of one, and its bytes after the first.
+use Rattle.std.specs.Prelude.{◌≡◌, ℕ, ◌+◌, false, List, ◌∷◌, ◌++◌, length, take, drop, Option, Some, None, Ok, nat_eq, if◌then◌else◌}
+use Rattle.krb_seal.specs.Opens.{OpenerState, Opens}
+use Rattle.krb_seal.specs.Sealer.{SealerState, SealsNext}
+use Rattle.krb_peers.specs.declared.record.Record.{Record}
+use Rattle.krb_peers.specs.declared.record.Record.TheVariants.{Text, Batch, Close}
+use Rattle.krb_peers.specs.Record.{SpellsRecord, is_close}
+use Rattle.krb_peers.specs.ReceiverState.{ReceiverState}
+use Rattle.krb_peers.specs.Receiver.{advanced}
+
+abbrev pub kind_of : Record → ℕ
+kind_of (Text text) = 1
+kind_of (Batch texts) = 2
+kind_of Close = 3
+
+-- the first byte of a record of this kind
+abbrev pub tag_of : Record → ℕ
+tag_of (Text text) = 0x44
+tag_of (Batch texts) = 0x42
+tag_of Close = 0x43
+
+-- the user data are those of a record of this kind, and the body is what follows their first byte
+pub record IsRecordOf (kind : ℕ) (body : List ℕ) (r : Record) (user : List ℕ) : Type 0 where
+  pub spelt : SpellsRecord r user
+  pub kind_is : kind ≡ kind_of r
+  pub body_is : user ≡ tag_of r ∷ body
+
+-- nothing is such a record
+abbrev pub IsNoRecordOf : ℕ → List ℕ → Type 0
+IsNoRecordOf kind body = (r : Record) (user : List ℕ) → IsRecordOf kind body r user → ⊥
+
+-- the first byte of the records of a kind
+abbrev pub tag_at : ℕ → Option ℕ
+tag_at kind =
+    if nat_eq kind 1 then Some 0x44 else if nat_eq kind 2 then Some 0x42 else if nat_eq kind 3 then Some 0x43 else None
+
+-- the bytes seal such a record at the sealer's next number
+abbrev pub SealsRecord : SealerState → ℕ → List ℕ → ℕ → List ℕ → List ℕ → Type 0
+SealsRecord s kind body at conf frame = (r : Record) × ((user : List ℕ) × IsRecordOf kind body r user × SealsNext s user at conf frame)
+
+abbrev pub SealsRecordTo : Option SealerState → ℕ → List ℕ → ℕ → List ℕ → List ℕ → Type 0
+SealsRecordTo None kind body at conf frame = ⊥
+SealsRecordTo (Some s) kind body at conf frame = SealsRecord s kind body at conf frame
+
+-- A receiver accepts a frame: no close was accepted before, the frame opens at the demanded number
+-- and carries such a record, and the next number is demanded from then on, or none after a close.
+abbrev pub Accepts : ReceiverState → ℕ → List ℕ → ℕ → List ℕ → ReceiverState → Type 0
+Accepts old now frame kind body new = (old.demand.closed ≡ false) × ((r : Record) × ((user : List ℕ)
+    × Opens old.opener old.demand.expected now frame (Ok user) × IsRecordOf kind body r user × (new ≡ advanced old (is_close r))))
+
+abbrev pub AcceptsTo : Option ReceiverState → ℕ → List ℕ → ℕ → List ℕ → Option ReceiverState → Type 0
+AcceptsTo None now frame kind body new = ⊥
+AcceptsTo (Some old) now frame kind body None = ⊥
+AcceptsTo (Some old) now frame kind body (Some new) = Accepts old now frame kind body new

@@ -1,0 +1,108 @@
+//! What opens the frames of one sender, one number after another.
+
+ghost use Rattle.std.specs.Prelude.{◌≡◌, ◌+◌, ◌≤◌, ◌++◌, length, drop, take, true, IfErr, IfOk, OnErr};
+ghost use Rattle.krb_base.specs.Limits.{last_number};
+ghost use Rattle.krb_peers.specs.ReceiverState.{ReceiverState};
+ghost use Rattle.krb_c.specs.Reasons.{TakeReason};
+ghost use Rattle.krb_c.specs.Record.{Accepts};
+
+use crate::buffer::put_front;
+use crate::fault::Fault;
+use crate::record::{CLOSE, record_kind};
+use krb_der::Moment;
+use krb_seal::{Opener, Refusal};
+use std::alloc::Global;
+use std::marker::Model;
+
+/// An opener, the number that it demands next, and whether a close was accepted: a receiver of
+/// `krb_peers` that goes on from any state, and gives the bytes of a record where they lie.
+#[derive(Drop)]
+pub struct LaneReceiver {
+    opener: Opener,
+    expected: u64,
+    closed: bool,
+}
+
+impl Model for LaneReceiver {
+    ghost use Rattle.std.specs.Prelude.{◌+◌, ◌≤◌};
+    ghost use Rattle.krb_base.specs.Limits.{last_number};
+    ghost use Rattle.krb_peers.specs.ReceiverState.{ReceiverState};
+
+    ghost Value = { ReceiverState };
+
+    ghost view = { λ a. record {
+      opener = a.opener;
+      demand = record { expected = a.expected; closed = a.closed };
+    } };
+
+    ghost invariant = { λ a. a.expected ≤ last_number + 1 };
+}
+
+impl LaneReceiver {
+    /// A receiver that demands this number next, or nothing after a close.
+    pub fn new(opener: Opener, expected: u64, closed: bool) -> LaneReceiver
+        requires { expected ≤ last_number + 1 }
+        ensures opener { result.opener ≡ opener }
+        ensures expected { result.demand.expected ≡ expected }
+        ensures closed { result.demand.closed ≡ closed }
+    {
+        LaneReceiver {
+            opener,
+            expected,
+            closed,
+        }
+    }
+
+    /// The number that is demanded next: at most one over the last, which no message has.
+    pub fn expected(&self) -> u64
+        ensures { result ≡ self.now.demand.expected }
+    {
+        self.expected
+    }
+
+    /// Whether a close was accepted.
+    pub fn closed(&self) -> bool
+        ensures { result ≡ self.now.demand.closed }
+    {
+        self.closed
+    }
+
+    /// Takes a frame, and writes the bytes of its record after the first: answers the record's kind
+    /// and their number. Each fault leaves all as it was.
+    pub fn take(
+        &mut self,
+        alloc: Global,
+        frame: &[u8],
+        now: Moment,
+        out: &mut [u8],
+    ) -> Result<(u32, usize), Fault>
+        ensures accepted { IfOk result (λ taken.
+            Accepts self.old now frame.now taken.0 (take taken.1 out.new) self.new) }
+        ensures size { IfOk result (λ taken. taken.1 ≤ length out.new) }
+        ensures behind { IfOk result (λ taken. drop taken.1 out.new ≡ drop taken.1 out.old) }
+        ensures unchanged { OnErr result (self.new ≡ self.old) }
+        ensures kept { OnErr result (out.new ≡ out.old) }
+        ensures why { IfErr result (TakeReason self.old now frame.now (length out.old)) }
+    {
+        if self.closed {
+            return Err(Fault::Refused(Refusal::AfterClose));
+        }
+        let user_data = self.opener.unseal(alloc, frame, self.expected, now)?;
+        let (kind, body) = record_kind(alloc, &user_data)?;
+        if out.len() < body.len() {
+            return Err(Fault::Room);
+        }
+        put_front(out, body);
+        self.expected += 1;
+        self.closed = kind == CLOSE;
+        Ok((kind, body.len()))
+    }
+
+    /// Overwrites the keys where they lie. Each frame is refused from then on, as after a close.
+    pub fn wipe(&mut self)
+        ensures { self.new.demand.closed ≡ true }
+    {
+        self.opener.wipe();
+        self.closed = true;
+    }
+}
