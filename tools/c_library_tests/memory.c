@@ -1,4 +1,4 @@
-/* Each allocation refused in turn: a call answers want of memory and leaves its handle usable, and
+/* Each allocation refused in turn: a call answers that it is out of memory and leaves its handle usable, and
  * the next call succeeds. And a KRB-PRIV message takes all its memory at once, so no block that held
  * a text in the clear is left behind. Built with -Wl,--wrap=malloc -Wl,--wrap=realloc. */
 #include "check.h"
@@ -85,6 +85,68 @@ static int session_with_refusal(uint32_t mode, int etype, long at)
     return refused > met;
 }
 
+/* The same of a record that a receiver takes, and of opening with demands and in place. */
+static int record_with_refusal(uint32_t mode, int etype, long at)
+{
+    static const struct krbrelay_demand any;
+    struct krbrelay_session session = session_of(mode, 7);
+    struct krbrelay_expect expect = expect_of(mode);
+    struct krbrelay_sealer s = { 0 };
+    struct krbrelay_opener o = { 0 };
+    struct krbrelay_receiver r = { 0 };
+    struct krbrelay_carried carried;
+    size_t n = 0, m = 0, len = key_size(etype);
+    uint64_t number = 0;
+    uint32_t kind = 0, closed = 0;
+    int met = refused;
+    enum krbrelay_answer answer;
+    CHECK(krbrelay_sealer_new(&s, etype, key, len, &session) == KRBRELAY_OK);
+    CHECK(krbrelay_opener_new(&o, etype, key, len, &expect) == KRBRELAY_OK);
+    before_refusal = at;
+    answer = krbrelay_sealer_seal_record(&s, KRBRELAY_TEXT, key, 20, &now, confounder, frame,
+                                         sizeof frame, &n);
+    if (answer != KRBRELAY_OK) {
+        refused++;
+        CHECK(answer == KRBRELAY_MEMORY && n == 0);
+        CHECK(krbrelay_sealer_next(&s, &number) == KRBRELAY_OK && number == 7);
+        CHECK(krbrelay_sealer_seal_record(&s, KRBRELAY_TEXT, key, 20, &now, confounder, frame,
+                                          sizeof frame, &n) == KRBRELAY_OK);
+    }
+    if ((answer = krbrelay_receiver_new(&r, etype, key, len, &expect, 7, 0)) != KRBRELAY_OK) {
+        refused++;
+        CHECK(answer == KRBRELAY_MEMORY);
+        CHECK(krbrelay_receiver_state(&r, &number, &closed) == KRBRELAY_EMPTY);
+        CHECK(krbrelay_receiver_new(&r, etype, key, len, &expect, 7, 0) == KRBRELAY_OK);
+    }
+    answer = krbrelay_receiver_take(&r, frame, n, &now, &kind, text, sizeof text, &m);
+    if (answer != KRBRELAY_OK) {
+        refused++;
+        CHECK(answer == KRBRELAY_MEMORY && m == 0 && kind == 0);
+        CHECK(krbrelay_receiver_state(&r, &number, &closed) == KRBRELAY_OK && number == 7);
+        CHECK(krbrelay_receiver_take(&r, frame, n, &now, &kind, text, sizeof text, &m) == 0);
+    }
+    CHECK(kind == KRBRELAY_TEXT && m == 20 && memcmp(text, key, 20) == 0);
+    answer = krbrelay_opener_open(&o, frame, n, &any, &now, text, sizeof text, &m, &carried);
+    if (answer != KRBRELAY_OK) {
+        refused++;
+        CHECK(answer == KRBRELAY_MEMORY);
+        CHECK(krbrelay_opener_open(&o, frame, n, &any, &now, text, sizeof text, &m, &carried) == 0);
+    }
+    CHECK(m == 21 && memcmp(text + 1, key, 20) == 0 && carried.number == 7);
+    answer = krbrelay_opener_unseal_in_place(&o, frame, n, 7, &now, &m);
+    if (answer != KRBRELAY_OK) {
+        refused++;
+        CHECK(answer == KRBRELAY_MEMORY);
+        CHECK(krbrelay_opener_unseal_in_place(&o, frame, n, 7, &now, &m) == KRBRELAY_OK);
+    }
+    CHECK(m == 21 && memcmp(frame + 1, key, 20) == 0);
+    before_refusal = -1;
+    krbrelay_sealer_free(&s);
+    krbrelay_opener_free(&o);
+    krbrelay_receiver_free(&r);
+    return refused > met;
+}
+
 /* How many allocations sealing a KRB-PRIV message of so many bytes takes. */
 static long asked_by_seal(int etype, const uint8_t *bytes, size_t size)
 {
@@ -111,6 +173,8 @@ int main(void)
             long at = 0;
             while (session_with_refusal(mode, etype, at))
                 at++;
+            CHECK(at >= 8);
+            for (at = 0; record_with_refusal(mode, etype, at); at++) { }
             CHECK(at >= 8);
         }
     printf("memory: %d refused allocations, each answered\n", refused);

@@ -3,7 +3,7 @@
  * with -Wl,--wrap=free, and run by tools/residue, which looks for keys in all blocks that are freed.
  *
  *   residue         ends handles in each way
- *   residue left    frees a block with the key in it, which is to be told */
+ *   residue left    frees a block with the key in it, which is to be reported */
 #define _GNU_SOURCE
 #include "check.h"
 #include "krbrelay.h"
@@ -118,7 +118,21 @@ static void no_residue(uint32_t mode, int etype, enum ending how)
     }
 }
 
-/* A block that is freed with its key in it is told. */
+/* The same of a receiver, ended by free or by a new key in its place. */
+static void no_residue_of_receiver(uint32_t mode, int etype, int new_key)
+{
+    static const uint8_t other[32] = { 9, 8, 7, 6, 5, 4, 3, 2, 1 };
+    struct krbrelay_expect expect = expect_of(mode);
+    struct krbrelay_receiver r = { 0 };
+    CHECK(krbrelay_receiver_new(&r, etype, key, key_size(etype), &expect, 7, 0) == KRBRELAY_OK);
+    watch_block(0, r.at);
+    if (new_key)
+        CHECK(krbrelay_receiver_new(&r, 17, other, 16, &expect, 7, 0) == KRBRELAY_OK);
+    krbrelay_receiver_free(&r);
+    CHECK(watch[0].freed >= 1 && watch[0].runs == 0);
+}
+
+/* A block that is freed with its key in it is reported. */
 static void leave_key(void)
 {
     uint8_t *block = malloc(200);
@@ -135,9 +149,12 @@ static void leave_key(void)
 static void end_in_each_way(void)
 {
     for (uint32_t mode = KRBRELAY_SAFE; mode <= KRBRELAY_PRIV; mode++)
-        for (int etype = 17; etype <= 18; etype++)
+        for (int etype = 17; etype <= 18; etype++) {
             for (unsigned how = 0; how < ENDINGS; how++)
                 no_residue(mode, etype, (enum ending)how);
+            no_residue_of_receiver(mode, etype, 0);
+            no_residue_of_receiver(mode, etype, 1);
+        }
     CHECK(blocks_freed > 0);
 }
 

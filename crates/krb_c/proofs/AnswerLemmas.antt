@@ -1,5 +1,5 @@
 -- What writing the text of an answer gives.
-use Rattle.std.proofs.Common.{◌≡◌, ℕ, ◌+◌, ◌≤◌, List, [], ◌∷◌, ◌++◌, length, take, Result, Ok, Err, inl, inr}
+use Rattle.std.proofs.Common.{◌≡◌, ℕ, ◌+◌, ◌≤◌, List, [], ◌∷◌, ◌++◌, length, take, Result, Ok, Err, inr}
 use Rattle.std.specs.Prelude.{IfOk, IfErr, OnErr}
 use Rattle.krb_c.specs.declared.fault.Fault.{Fault}
 use Rattle.krb_c.specs.declared.fault.Fault.TheVariants.{Room}

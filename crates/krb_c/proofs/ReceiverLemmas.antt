@@ -5,7 +5,7 @@ use Rattle.std.specs.Global.{Vec}
 use Rattle.krb_seal.specs.declared.refusal.Refusal.{Refusal}
 use Rattle.krb_seal.specs.declared.refusal.Refusal.TheVariants.{BadRecord, Memory}
 use Rattle.krb_seal.specs.Opens.{Outcome, Opens}
-use Rattle.krb_seal.specs.Unseals.{OrMemory, seen}
+use Rattle.krb_seal.specs.Unseals.{OrMemory}
 use Rattle.krb_peers.specs.declared.record.Record.{Record}
 use Rattle.krb_peers.specs.declared.record.Record.TheVariants.{Text, Batch, Close}
 use Rattle.krb_peers.specs.Record.{is_close}

@@ -1,6 +1,6 @@
 -- Records as C sees them: the kind of one, and its bytes after the first.
-use Rattle.std.specs.Prelude.{◌≡◌, ℕ, ◌+◌, false, List, ◌∷◌, ◌++◌, length, take, drop, Option, Some, None, Ok, nat_eq, if◌then◌else◌}
-use Rattle.krb_seal.specs.Opens.{OpenerState, Opens}
+use Rattle.std.specs.Prelude.{◌≡◌, ℕ, false, List, ◌∷◌, Option, Some, None, Ok, nat_eq, if◌then◌else◌}
+use Rattle.krb_seal.specs.Opens.{Opens}
 use Rattle.krb_seal.specs.Sealer.{SealerState, SealsNext}
 use Rattle.krb_peers.specs.declared.record.Record.{Record}
 use Rattle.krb_peers.specs.declared.record.Record.TheVariants.{Text, Batch, Close}

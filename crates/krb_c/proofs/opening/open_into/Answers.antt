@@ -1,4 +1,4 @@
-use Rattle.std.proofs.Common.{rules, ◌≡◌, ◌<◌, ℕ, length, take, drop, Err, ap, subst, ◌∙◌}
+use Rattle.std.proofs.Common.{rules, ◌≡◌, ◌<◌, length, take, drop, Err, ap, subst, ◌∙◌}
 use Rattle.std.proofs.Math.Seq.{take-append_seam}
 use Rattle.krb_seal.specs.declared.refusal.Refusal.{Refusal}
 use Rattle.krb_seal.specs.Authentic.{AuthenticOrMemory}

@@ -1,4 +1,4 @@
-use Rattle.std.proofs.Common.{◌≡◌, ℕ, length, take, Result, Ok, Err, subst, inl, inr}
+use Rattle.std.proofs.Common.{ℕ, length, take, Result, Ok, Err, subst, inr}
 use Rattle.std.specs.Prelude.{◌⊎◌, IfOk, IfErr}
 use Rattle.krb_c.specs.declared.fault.Fault.{Fault}
 use Rattle.krb_c.specs.Reasons.{TakeReason}

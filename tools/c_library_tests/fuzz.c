@@ -1,0 +1,227 @@
+/* A fuzzer of the calls that read messages. Each message is given to openers of both modes and both
+ * encryption types, by all calls that open: these must agree with one another, and write nothing
+ * where they refuse. Messages are those of frames.h with bytes changed, cut, added and copied.
+ *
+ *   fuzz [COUNT [SEED]]        tries so many messages
+ *   fuzz lines COUNT SEED      prints each with what krbrelay_opener_unseal answers, which
+ *                              fuzz_answers.py holds against tools/opener.py
+ *
+ * With -DLIBFUZZER it is a target of libFuzzer and AFL++ in place of a program. */
+#include "frames.h"
+#include "krbrelay.h"
+#include "session.h"
+
+#include <stdio.h>
+#include <stdlib.h>
+#include <string.h>
+
+enum { LONGEST = 4096, NUMBER = 7 };
+
+static const struct krbrelay_moment now = { SECS + 1, USEC, 0 };
+static uint8_t keys[2][32];
+static struct krbrelay_opener openers[2][2];
+static int print_lines;
+
+#define HOLDS(fact) \
+    do { \
+        if (!(fact)) { \
+            fprintf(stderr, "%s:%d: not so: %s\n", __FILE__, __LINE__, #fact); \
+            abort(); \
+        } \
+    } while (0)
+
+static void begin(void)
+{
+    if (openers[0][0].count != 0)
+        return;
+    for (int i = 0; i < 16; i++)
+        keys[0][i] = (uint8_t)i;
+    memset(keys[1], 0x11, 32);
+    for (uint32_t mode = KRBRELAY_SAFE; mode <= KRBRELAY_PRIV; mode++)
+        for (int wide = 0; wide < 2; wide++) {
+            struct krbrelay_expect expect = expect_of(mode);
+            HOLDS(krbrelay_opener_new(&openers[mode - KRBRELAY_SAFE][wide], 17 + wide, keys[wide],
+                                      wide ? 32 : 16, &expect) == KRBRELAY_OK);
+        }
+}
+
+/* What a call answered, and the user data that it gave. */
+struct outcome { enum krbrelay_answer answer; size_t size; uint8_t data[LONGEST]; };
+
+static void is_whole(const struct outcome *o)
+{
+    if (o->answer == KRBRELAY_OK)
+        HOLDS(o->size < LONGEST);
+    else
+        HOLDS(o->size == 12345 && o->data[0] == 0xee);
+    HOLDS(o->answer != KRBRELAY_EMPTY && o->answer != KRBRELAY_WIPED && o->answer != KRBRELAY_ROOM);
+}
+
+static void clear(struct outcome *o)
+{
+    o->size = 12345;
+    memset(o->data, 0xee, sizeof o->data);
+}
+
+static void unseal(struct krbrelay_opener *o, const uint8_t *frame, size_t len, struct outcome *to)
+{
+    clear(to);
+    to->answer = krbrelay_opener_unseal(o, frame, len, NUMBER, &now, to->data, LONGEST, &to->size);
+    is_whole(to);
+}
+
+static void unseal_in_place(struct krbrelay_opener *o, const uint8_t *frame, size_t len,
+                            const struct outcome *same)
+{
+    uint8_t *copy = malloc(len + 1);
+    size_t size = 12345;
+    enum krbrelay_answer answer;
+    HOLDS(copy != NULL);
+    memcpy(copy, frame, len);
+    answer = krbrelay_opener_unseal_in_place(o, copy, len, NUMBER, &now, &size);
+    HOLDS(answer == same->answer && size == same->size);
+    if (answer == KRBRELAY_OK)
+        HOLDS(memcmp(copy, same->data, size) == 0 && memcmp(copy + size, frame + size, len - size) == 0);
+    else
+        HOLDS(memcmp(copy, frame, len) == 0);
+    free(copy);
+}
+
+static void open_with(struct krbrelay_opener *o, const uint8_t *frame, size_t len, int strict,
+                      struct outcome *to)
+{
+    struct krbrelay_demand none = { 0 }, all = {
+        .how_sender = KRBRELAY_REQUIRED, .how_receiver = KRBRELAY_IF_PRESENT,
+        .how_time = KRBRELAY_REQUIRED, .how_number = KRBRELAY_REQUIRED,
+        .number = NUMBER, .skew = 300, .sender = host(1), .receiver = host(255)
+    };
+    struct krbrelay_carried carried;
+    memset(&carried, 0xee, sizeof carried);
+    clear(to);
+    to->answer = krbrelay_opener_open(o, frame, len, strict ? &all : &none, &now, to->data, LONGEST,
+                                      &to->size, &carried);
+    is_whole(to);
+    if (to->answer == KRBRELAY_OK)
+        HOLDS(carried.sender.len <= 40 && carried.receiver.len <= 40 && carried.reserved[5] == 0);
+    else
+        HOLDS(carried.number == 0xeeeeeeee);
+}
+
+static int same(const struct outcome *a, const struct outcome *b)
+{
+    return a->answer == b->answer && a->size == b->size && memcmp(a->data, b->data, LONGEST) == 0;
+}
+
+/* Unsealing is opening with the same demands, but that KRB-SAFE has its checksum compared last. */
+static void agree(uint32_t mode, const struct outcome *unsealed, const struct outcome *authentic,
+                  const struct outcome *demanded)
+{
+    if (mode == KRBRELAY_PRIV || unsealed->answer == KRBRELAY_OK || demanded->answer == KRBRELAY_OK)
+        HOLDS(same(unsealed, demanded));
+    if (authentic->answer != KRBRELAY_OK)
+        HOLDS(same(authentic, demanded) || authentic->answer == KRBRELAY_BADADDR);
+    if (demanded->answer == KRBRELAY_OK)
+        HOLDS(same(authentic, demanded));
+}
+
+static void print_line(uint32_t mode, int etype, const uint8_t *frame, size_t len,
+                       const struct outcome *o)
+{
+    printf("%s %d %u ", mode == KRBRELAY_SAFE ? "safe" : "priv", etype, (unsigned)o->answer);
+    for (size_t i = 0; o->answer == KRBRELAY_OK && i < o->size; i++)
+        printf("%02x", o->data[i]);
+    printf("- ");
+    for (size_t i = 0; i < len; i++)
+        printf("%02x", frame[i]);
+    printf("\n");
+}
+
+static void try_message(const uint8_t *frame, size_t len)
+{
+    static struct outcome unsealed, authentic, demanded;
+    struct krbrelay_header header;
+    enum krbrelay_answer read;
+    begin();
+    if (len >= LONGEST)
+        return;
+    read = krbrelay_message_header(frame, len, &header);
+    HOLDS(read == KRBRELAY_OK || read == KRBRELAY_MALFORMED);
+    for (uint32_t mode = KRBRELAY_SAFE; mode <= KRBRELAY_PRIV; mode++)
+        for (int wide = 0; wide < 2; wide++) {
+            struct krbrelay_opener *o = &openers[mode - KRBRELAY_SAFE][wide];
+            unseal(o, frame, len, &unsealed);
+            unseal_in_place(o, frame, len, &unsealed);
+            open_with(o, frame, len, 0, &authentic);
+            open_with(o, frame, len, 1, &demanded);
+            agree(mode, &unsealed, &authentic, &demanded);
+            HOLDS((read == KRBRELAY_MALFORMED) == (unsealed.answer == KRBRELAY_MALFORMED)
+                  || unsealed.answer == KRBRELAY_MALFORMED);
+            if (print_lines)
+                print_line(mode, 17 + wide, frame, len, &unsealed);
+        }
+}
+
+#ifdef LIBFUZZER
+int LLVMFuzzerTestOneInput(const uint8_t *bytes, size_t len);
+
+int LLVMFuzzerTestOneInput(const uint8_t *bytes, size_t len)
+{
+    try_message(bytes, len);
+    return 0;
+}
+#else
+static uint64_t state;
+
+/* A generator of 64 bits (Marsaglia, Xorshift RNGs, 2003). */
+static size_t draw(size_t below)
+{
+    state ^= state << 13;
+    state ^= state >> 7;
+    state ^= state << 17;
+    return (size_t)(state >> 11) % below;
+}
+
+static const struct { const uint8_t *bytes; size_t len; } known[] = {
+    { safe_17, sizeof safe_17 }, { safe_18, sizeof safe_18 }, { priv_17, sizeof priv_17 },
+    { priv_18, sizeof priv_18 }, { safe_17_no_number, sizeof safe_17_no_number },
+    { safe_17_timeless, sizeof safe_17_timeless }, { safe_17_no_usec, sizeof safe_17_no_usec },
+    { safe_17_to_receiver, sizeof safe_17_to_receiver }
+};
+
+static size_t change(uint8_t *frame, size_t len)
+{
+    size_t at = len == 0 ? 0 : draw(len), count = draw(8);
+    switch (len == 0 ? 4 : draw(6)) {
+    case 0: frame[at] ^= (uint8_t)(1u << draw(8)); return len;
+    case 1: frame[at] = (uint8_t)draw(256); return len;
+    case 2: return at;
+    case 3: memmove(frame, frame + at, len - at); return len - at;
+    case 4:
+        for (size_t i = 0; i < count; i++)
+            frame[len + i] = (uint8_t)draw(256);
+        return len + count;
+    default: frame[at] = frame[draw(len)]; return len;
+    }
+}
+
+int main(int argc, char **argv)
+{
+    int first = argc > 1 && strcmp(argv[1], "lines") == 0;
+    long count = argc > 1 + first ? atol(argv[1 + first]) : 20000;
+    print_lines = first;
+    state = argc > 2 + first ? strtoull(argv[2 + first], NULL, 10) * 2 + 1 : 88172645463325252u;
+    for (long i = 0; i < count; i++) {
+        static uint8_t frame[LONGEST];
+        size_t which = draw(sizeof known / sizeof known[0]), len = known[which].len;
+        memcpy(frame, known[which].bytes, len);
+        for (size_t changes = draw(4); changes > 0; changes--)
+            len = change(frame, len);
+        try_message(frame, len);
+    }
+    for (int i = 0; i < 4; i++)
+        krbrelay_opener_free(&openers[i / 2][i % 2]);
+    if (!print_lines)
+        printf("fuzz: %ld messages, to four openers each\n", count);
+    return 0;
+}
+#endif
