@@ -1,4 +1,4 @@
-"""What `pip install` calls (PEP 517) to make the wheel (PEP 427): it needs the interpreter alone, so
+"""What `pip install` calls (PEP 517) to make the wheel (PEP 427). It needs the interpreter alone, so
 an install needs no network."""
 import base64
 import hashlib
