@@ -1,5 +1,5 @@
-"""What `pip install` calls (PEP 517) to make the wheel (PEP 427). It needs the interpreter alone, so
-an install needs no network."""
+"""What `pip install` calls (PEP 517) to make the wheel (PEP 427). It needs the interpreter alone,
+so an install needs no network."""
 import base64
 import hashlib
 import os

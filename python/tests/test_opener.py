@@ -27,7 +27,8 @@ class Unsealing(unittest.TestCase):
     def test_any_bytes(self):
         frame = frame_of(KEYS[0], Mode.PRIV, b"Dhi")
         with opener_of(KEYS[0], Mode.PRIV) as opener:
-            for content in (frame, bytearray(frame), memoryview(frame), memoryview(bytearray(frame))):
+            for content in (frame, bytearray(frame), memoryview(frame),
+                            memoryview(bytearray(frame))):
                 self.assertEqual(opener.unseal(content, 7, MICROS), b"Dhi")
             self.assertEqual(opener.unseal(memoryview(frame * 2)[:len(frame)], 7, MICROS), b"Dhi")
 
