@@ -1,0 +1,86 @@
+"""What sealers, openers and receivers have in common: keys on the library's heap, and a lock."""
+from __future__ import annotations
+
+import ctypes
+import os
+import threading
+import weakref
+from ctypes import byref, c_size_t, c_uint8
+from typing import Any, Callable, NoReturn, Tuple, TypeVar, Union
+
+from krbrelay.errors import check
+from krbrelay.library import HandleStruct, library
+from krbrelay.values import ranged
+
+Self = TypeVar("Self", bound="Handle")
+Key = Union[bytes, bytearray]
+
+
+class Handle:
+    """Keys that the library holds, until `free`, the end of the `with`, or the handle's end.
+
+    Threads may share a handle: a lock lets one call in at a time. A handle can't be copied or
+    pickled (TypeError), and a forked child can't use those of its parent (RuntimeError).
+    """
+
+    _kind: str
+
+    def __init__(self, etype: int, key: Key, *arguments: object) -> None:
+        self._library = library()
+        self._struct, self._lock, self._process = HandleStruct(), threading.RLock(), os.getpid()
+        self._end = weakref.finalize(self, _end, self._function("free"), self._struct, self._lock,
+                                     self._process)
+        etype = ranged("the encryption type", etype, -2**31, 2**31 - 1)
+        copy = _copy_of(key)
+        try:
+            self._call("new", etype, copy, len(copy), *arguments)
+        finally:
+            ctypes.memset(copy, 0, len(copy))
+
+    def _function(self, name: str) -> Callable[..., Any]:
+        found: Callable[..., Any] = getattr(self._library, f"krbrelay_{self._kind}_{name}")
+        return found
+
+    def _call(self, name: str, *arguments: object) -> None:
+        """Makes a call that has the handle for itself, and raises the exception of its answer."""
+        if os.getpid() != self._process:
+            raise RuntimeError("the handle was made before a fork, by the parent process")
+        with self._lock:
+            answer = self._function(name)(byref(self._struct), *arguments)
+        check(answer or 0)
+
+    def _write(self, name: str, room: int, *before: object, after: Tuple[object, ...] = ()
+               ) -> bytes:
+        """What a call writes into a buffer of `room` bytes. The buffer, its size and the place of
+        the size of what is written come between the other parameters."""
+        buffer, size = bytearray(room + 1), c_size_t()
+        self._call(name, *before, c_uint8.from_buffer(buffer), room, byref(size), *after)
+        return bytes(memoryview(buffer)[:size.value])
+
+    def free(self) -> None:
+        """Overwrites the keys and frees what the handle holds: its calls raise Freed from then on.
+        Freeing twice is harmless."""
+        self._end()
+
+    def __enter__(self: Self) -> Self:
+        return self
+
+    def __exit__(self, *_: object) -> None:
+        self.free()
+
+    def __reduce_ex__(self, _: object) -> NoReturn:
+        raise TypeError(f"a {type(self).__name__} can't be copied or pickled: it holds keys")
+
+
+def _copy_of(key: Key) -> ctypes.Array[c_uint8]:
+    """A copy of the key that can be overwritten."""
+    if not isinstance(key, (bytes, bytearray)):
+        raise TypeError(f"the key is {type(key).__name__}: it has to be bytes or bytearray")
+    return (c_uint8 * len(key)).from_buffer_copy(key)
+
+
+def _end(free: Callable[..., Any], struct: HandleStruct, lock: Any, process: int) -> None:
+    """Frees what a handle holds, in the process that made it."""
+    if os.getpid() == process:
+        with lock:
+            free(byref(struct))

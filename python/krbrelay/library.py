@@ -1,0 +1,189 @@
+"""The shared object of libkrbrelay: where it is found, and its structs and calls (krbrelay.h)."""
+from __future__ import annotations
+
+import ctypes
+import functools
+import os
+import pathlib
+import shutil
+import subprocess
+from ctypes import POINTER, c_char_p, c_int32, c_size_t, c_uint8, c_uint32, c_uint64
+from typing import Any, Dict, Iterator, List, Optional, Tuple
+
+MAJOR = 1
+NAME = f"libkrbrelay.so.{MAJOR}"
+VARIABLE = "KRBRELAY_LIBRARY"
+
+USER_DATA_LIMIT = 1_000_001
+"""The most bytes of user data that are sealed."""
+FRAME_LIMIT = 1_005_000
+"""The most bytes of a message that is opened."""
+ADDRESS_LIMIT = 40
+"""The most bytes of an address."""
+CONFOUNDER_SIZE = 16
+TEXT_SIZE = 64
+
+
+class LibraryError(OSError):
+    """libkrbrelay isn't there, or isn't of the major version that this package calls."""
+
+
+# ---- the structs of krbrelay.h
+
+class HandleStruct(ctypes.Structure):
+    """struct krbrelay_sealer, krbrelay_opener and krbrelay_receiver, which are alike."""
+    _fields_ = [("at", ctypes.c_void_p), ("count", c_size_t)]
+
+
+class MomentStruct(ctypes.Structure):
+    """struct krbrelay_moment."""
+    _fields_ = [("seconds", c_uint64), ("microseconds", c_uint32), ("reserved", c_uint32)]
+
+
+class AddressStruct(ctypes.Structure):
+    """struct krbrelay_address."""
+    _fields_ = [("kind", c_int32), ("len", c_uint32), ("bytes", c_uint8 * ADDRESS_LIMIT)]
+
+
+class SessionStruct(ctypes.Structure):
+    """struct krbrelay_session."""
+    _fields_ = [("mode", c_uint32), ("first", c_uint32), ("sender", AddressStruct),
+                ("has_receiver", c_uint32), ("receiver", AddressStruct),
+                ("reserved", c_uint32 * 5)]
+
+
+class ExpectStruct(ctypes.Structure):
+    """struct krbrelay_expect."""
+    _fields_ = [("mode", c_uint32), ("sender", AddressStruct), ("receiver", AddressStruct),
+                ("require_receiver", c_uint32), ("require_time", c_uint32), ("skew", c_uint32),
+                ("reserved", c_uint32 * 4)]
+
+
+class DemandStruct(ctypes.Structure):
+    """struct krbrelay_demand."""
+    _fields_ = [("how_sender", c_uint32), ("how_receiver", c_uint32), ("how_time", c_uint32),
+                ("how_number", c_uint32), ("number", c_uint64), ("skew", c_uint32),
+                ("sender", AddressStruct), ("receiver", AddressStruct),
+                ("reserved", c_uint32 * 5)]
+
+
+class CarriedStruct(ctypes.Structure):
+    """struct krbrelay_carried."""
+    _fields_ = [("seconds", c_uint64), ("microseconds", c_uint32), ("has_seconds", c_uint32),
+                ("has_microseconds", c_uint32), ("has_number", c_uint32), ("number", c_uint32),
+                ("has_receiver", c_uint32), ("sender", AddressStruct),
+                ("receiver", AddressStruct), ("reserved", c_uint32 * 6)]
+
+
+class HeaderStruct(ctypes.Structure):
+    """struct krbrelay_header."""
+    _fields_ = [("kind", c_uint32), ("etype", c_int32), ("checksum_type", c_int32),
+                ("has_number", c_uint32), ("number", c_uint32), ("has_key_version", c_uint32),
+                ("key_version", c_uint32), ("reserved", c_uint32)]
+
+
+# ---- the calls of krbrelay.h: what each returns, and its parameters
+
+_HANDLE = POINTER(HandleStruct)
+_MOMENT = POINTER(MomentStruct)
+_KEY = [c_int32, POINTER(c_uint8), c_size_t]     # the encryption type, the key and its size
+_BYTES = [c_char_p, c_size_t]                   # what is read
+_ROOM = [POINTER(c_uint8), c_size_t]             # what is written
+_SIZE = POINTER(c_size_t)
+
+CALLS: Dict[str, Tuple[Any, List[Any]]] = {
+    "krbrelay_version": (c_uint32, []),
+    "krbrelay_sealer_new": (c_uint32, [_HANDLE, *_KEY, POINTER(SessionStruct)]),
+    "krbrelay_frame_size": (c_size_t, [c_size_t]),
+    "krbrelay_sealer_seal":
+        (c_uint32, [_HANDLE, *_BYTES, _MOMENT, c_char_p, *_ROOM, _SIZE]),
+    "krbrelay_sealer_seal_record":
+        (c_uint32, [_HANDLE, c_uint32, *_BYTES, _MOMENT, c_char_p, *_ROOM, _SIZE]),
+    "krbrelay_sealer_next": (c_uint32, [_HANDLE, POINTER(c_uint64)]),
+    "krbrelay_sealer_set_mode": (c_uint32, [_HANDLE, c_uint32]),
+    "krbrelay_sealer_wipe": (None, [_HANDLE]),
+    "krbrelay_sealer_free": (None, [_HANDLE]),
+    "krbrelay_opener_new": (c_uint32, [_HANDLE, *_KEY, POINTER(ExpectStruct)]),
+    "krbrelay_opener_unseal": (c_uint32, [_HANDLE, *_BYTES, c_uint64, _MOMENT, *_ROOM, _SIZE]),
+    "krbrelay_opener_open":
+        (c_uint32, [_HANDLE, *_BYTES, POINTER(DemandStruct), _MOMENT, *_ROOM, _SIZE,
+                    POINTER(CarriedStruct)]),
+    "krbrelay_opener_wipe": (None, [_HANDLE]),
+    "krbrelay_opener_free": (None, [_HANDLE]),
+    "krbrelay_receiver_new":
+        (c_uint32, [_HANDLE, *_KEY, POINTER(ExpectStruct), c_uint64, c_uint32]),
+    "krbrelay_receiver_take":
+        (c_uint32, [_HANDLE, *_BYTES, _MOMENT, POINTER(c_uint32), *_ROOM, _SIZE]),
+    "krbrelay_receiver_state": (c_uint32, [_HANDLE, POINTER(c_uint64), POINTER(c_uint32)]),
+    "krbrelay_receiver_free": (None, [_HANDLE]),
+    "krbrelay_message_header": (c_uint32, [*_BYTES, POINTER(HeaderStruct)]),
+    "krbrelay_answer_name": (c_uint32, [c_uint32, *_ROOM, _SIZE]),
+    "krbrelay_answer_text": (c_uint32, [c_uint32, *_ROOM, _SIZE]),
+}
+
+
+# ---- finding and loading
+
+def pkg_config_folder() -> Optional[str]:
+    """The folder of libraries that `pkg-config` names for krbrelay, or None."""
+    command = shutil.which("pkg-config")
+    if command is None:
+        return None
+    ran = subprocess.run([command, "--variable=libdir", "krbrelay"], check=False,
+                         stdin=subprocess.DEVNULL, capture_output=True, text=True)
+    return ran.stdout.strip() or None if ran.returncode == 0 else None
+
+
+def places() -> Iterator[str]:
+    """Where the shared object may be, the first place first."""
+    package = pathlib.Path(__file__).resolve().parent
+    yield str(package / NAME)
+    yield str(package.parents[1] / "crates" / "krb_c" / "out" / "c_library" / NAME)
+    folder = pkg_config_folder()
+    if folder is not None:
+        yield os.path.join(folder, NAME)
+
+
+def find() -> str:
+    """The path of the shared object, or its name alone, for the system's loader to find."""
+    named = os.environ.get(VARIABLE)
+    if named:
+        return named
+    return next((place for place in places() if os.path.exists(place)), NAME)
+
+
+def load(path: str) -> ctypes.CDLL:
+    """The shared object at the path, with the types of its calls. LibraryError."""
+    try:
+        library = ctypes.CDLL(path)
+    except OSError as fault:
+        raise LibraryError(
+            f"libkrbrelay can't be loaded: {fault}. `tools/c_library --install PREFIX` builds it; "
+            f"then set {VARIABLE}=PREFIX/lib/{NAME}, or PKG_CONFIG_PATH=PREFIX/lib/pkgconfig."
+        ) from fault
+    for name, (result, parameters) in CALLS.items():
+        if not hasattr(library, name):
+            raise LibraryError(f"{path} has no call {name}: it isn't libkrbrelay {MAJOR}")
+        call = getattr(library, name)
+        call.restype, call.argtypes = result, parameters
+    found = version_of(library)
+    if found[0] != MAJOR:
+        raise LibraryError(f"{path} is libkrbrelay {'.'.join(map(str, found))}: this package calls "
+                           f"version {MAJOR}")
+    return library
+
+
+@functools.lru_cache(maxsize=None)
+def library() -> ctypes.CDLL:
+    """libkrbrelay, which is found and loaded at the first call. LibraryError."""
+    return load(find())
+
+
+def version_of(loaded: ctypes.CDLL) -> Tuple[int, int, int]:
+    number: int = loaded.krbrelay_version()
+    return number >> 16, number >> 8 & 0xFF, number & 0xFF
+
+
+def library_version() -> Tuple[int, int, int]:
+    """The version of libkrbrelay: major number, minor number and patch. LibraryError."""
+    return version_of(library())

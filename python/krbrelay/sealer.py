@@ -1,0 +1,87 @@
+"""Sealing."""
+from __future__ import annotations
+
+import os
+from ctypes import c_uint64
+from typing import Optional
+
+from krbrelay.handle import Handle, Key
+from krbrelay.library import CONFOUNDER_SIZE, SessionStruct
+from krbrelay.values import (
+    LAST_NUMBER, Address, Bytes, Mode, Moment, Record, address_struct, bytes_of, moment_struct,
+    optional_struct, ranged, record_bytes)
+
+
+class Sealer(Handle):
+    """Seals messages under a session key, with one sequence number after another.
+
+    `etype` is 17 with a `key` of 16 bytes, or 18 with one of 32 (RFC 3962). The key is copied: the
+    caller's stays, and is the caller's to overwrite. `first` is the first sequence number. The
+    messages carry the address of the `sender`, and that of the `receiver` if there is one. A
+    session key seals each sequence number once in each direction.
+
+    ValueError, TypeError, MemoryError, LibraryError.
+    """
+
+    _kind = "sealer"
+
+    def __init__(self, etype: int, key: Key, *, mode: Mode, sender: Address, first: int,
+                 receiver: Optional[Address] = None) -> None:
+        session = SessionStruct(
+            Mode(mode),
+            ranged("the first number", first, 0, LAST_NUMBER),
+            address_struct("the sender", sender),
+            receiver is not None,
+            optional_struct("the receiver", receiver),
+        )
+        super().__init__(etype, key, session)
+
+    def seal(self, user_data: Bytes, at: Optional[Moment] = None,
+             confounder: Optional[Bytes] = None) -> bytes:
+        """The message of the user data, 1,000,001 bytes at most, at the next sequence number: a
+        KRB-SAFE or KRB-PRIV (RFC 4120 sections 3.4.1 and 3.5.1), in DER.
+
+        `at` is the message's time, now if it isn't given. The confounder of a KRB-PRIV (RFC 3961
+        section 5.3) is 16 bytes that nobody can foresee, from os.urandom if they aren't given; a
+        KRB-SAFE has none. The number rises by one, unless there is an exception: Wiped, Exhausted,
+        Freed, ValueError, TypeError, MemoryError.
+        """
+        content = bytes_of("the user data", user_data)
+        return self._sealed("seal", len(content), content, at, confounder)
+
+    def seal_record(self, record: Record, at: Optional[Moment] = None,
+                    confounder: Optional[Bytes] = None) -> bytes:
+        """The message of a record, which a Receiver takes, as `seal` seals user data. ValueError
+        where the record is too long, or a batch hasn't 2 to 1,000 texts."""
+        kind, content = record_bytes(record)
+        return self._sealed("seal_record", len(content) + 1, content, at, confounder, kind)
+
+    def _sealed(self, name: str, size: int, content: bytes, at: Optional[Moment],
+                confounder: Optional[Bytes], *kind: int) -> bytes:
+        """What a call seals of the content, which becomes user data of this size."""
+        return self._write(name, self._library.krbrelay_frame_size(size), *kind,
+                           content, len(content), moment_struct(at), _confounder(confounder))
+
+    @property
+    def next(self) -> int:
+        """The next sequence number, 2**32 where none is left. Freed."""
+        number = c_uint64()
+        self._call("next", number)
+        return number.value
+
+    def set_mode(self, mode: Mode) -> None:
+        """Seals in this mode from now on. Key, number and addresses stay. ValueError, Freed."""
+        self._call("set_mode", Mode(mode))
+
+    def wipe(self) -> None:
+        """Overwrites the keys: sealing raises Wiped from then on."""
+        self._call("wipe")
+
+
+def _confounder(given: Optional[Bytes]) -> bytes:
+    if given is None:
+        return os.urandom(CONFOUNDER_SIZE)
+    confounder = bytes_of("the confounder", given)
+    if len(confounder) != CONFOUNDER_SIZE:
+        raise ValueError(f"the confounder has {len(confounder)} bytes: it has to have 16")
+    return confounder

@@ -1,0 +1,119 @@
+import random
+import unittest
+
+from support import (
+    ALL, KEYS, KINDS, MICROS, OTHER, RECEIVER, frame_of, frames, opener, outcome, receiver_of,
+    sealer_of, session_of)
+
+import krbrelay
+from krbrelay import Batch, Closed, Code, Mode, Receiver, State, Text
+
+
+def lines_of(found):
+    """What the independent receiver logs of an outcome."""
+    if isinstance(found, int):
+        return [f"refused {found} {opener.NAMES[found]}"]
+    if isinstance(found, Closed):
+        return ["closed"]
+    texts = [found.data] if isinstance(found, Text) else found.texts
+    return [f"text {text.hex()}" for text in texts]
+
+
+class Taking(unittest.TestCase):
+    def test_records_of_the_independent_sender(self):
+        for key, mode in KINDS:
+            texts = [b"a", b"", b"c" * 1000, b"d"]
+            sender = opener.Sender(session_of(key, mode), texts, [MICROS], batch=2)
+            frames_sent = [sender.sealed(record, place, bytes(16)) for place, record in enumerate(
+                [frames.record(group) for group in sender.groups()] + [b"C"])]
+            with receiver_of(key, mode) as receiver:
+                self.assertEqual(
+                    [receiver.take(frame, MICROS) for frame in frames_sent],
+                    [Batch((b"a", b"")), Batch((b"c" * 1000, b"d")), Closed()])
+                self.assertEqual(receiver.state, State(10, True))
+
+    def test_drawn_wires(self):
+        """Frames repeated, dropped, changed and of other records: each outcome is that of the
+        independent receiver."""
+        for place in range(200 if ALL else 40):
+            dice = random.Random(f"wire {place}")
+            key, mode = dice.choice(KINDS)
+            demands = dict(skew=3, require_receiver=dice.random() < 0.3,
+                           require_time=dice.random() < 0.7)
+            with receiver_of(key, mode, **demands) as receiver, sealer_of(key, mode) as sealer:
+                other = opener.Receiver(session_of(key, mode, **demands), [MICROS])
+                for frame in drawn_frames(dice, key, mode, sealer):
+                    self.assertEqual(lines_of(outcome(receiver.take, frame, MICROS)),
+                                     other.take(frame))
+                    self.assertEqual(receiver.state, (other.expected, other.closed))
+
+    def test_records_of_our_sealer(self):
+        records = [Text(b""), Batch((b"a", b"b" * 300)), Text(bytes(10**6)), Closed()]
+        for key, mode in KINDS:
+            with sealer_of(key, mode) as sealer, receiver_of(key, mode) as receiver:
+                for record in records:
+                    self.assertEqual(receiver.take(sealer.seal_record(record)), record)
+
+    def test_what_is_no_record(self):
+        for data in (b"", b"X", b"Cx", b"B", frames.batch([b"a"]), frames.batch([b""] * 1001),
+                     frames.batch([b"a", b"b"])[:-1]):
+            with receiver_of(KEYS[0], Mode.PRIV) as receiver:
+                frame = frame_of(KEYS[0], Mode.PRIV, data)
+                self.assertEqual(outcome(receiver.take, frame, MICROS), Code.BAD_RECORD)
+                self.assertEqual(receiver.state, State(7, False))
+
+    def test_going_on(self):
+        frame = frame_of(KEYS[0], Mode.PRIV, b"Dhi", 1_000_000)
+        with receiver_of(KEYS[0], Mode.PRIV, 999_999) as receiver:
+            self.assertEqual(outcome(receiver.take, frame, MICROS), Code.BADORDER)
+        with receiver_of(KEYS[0], Mode.PRIV, 1_000_000) as receiver:
+            self.assertEqual(receiver.take(frame, MICROS), Text(b"hi"))
+            state = receiver.state
+        with receiver_of(KEYS[0], Mode.PRIV, *state[:1], closed=state.closed) as receiver:
+            self.assertEqual(receiver.state, State(1_000_001, False))
+        with receiver_of(KEYS[0], Mode.PRIV, 1_000_000, closed=True) as receiver:
+            self.assertEqual(outcome(receiver.take, frame, MICROS), Code.AFTER_CLOSE)
+            self.assertEqual(receiver.state, State(1_000_000, True))
+
+    def test_the_last_number(self):
+        frame = frame_of(KEYS[0], Mode.SAFE, b"D", 2**32 - 1)
+        with receiver_of(KEYS[0], Mode.SAFE, 2**32 - 1) as receiver:
+            self.assertEqual(receiver.take(frame, MICROS), Text(b""))
+            self.assertEqual(receiver.state, State(2**32, False))
+            self.assertEqual(outcome(receiver.take, frame, MICROS), Code.BADORDER)
+        with receiver_of(KEYS[0], Mode.SAFE, 2**32) as receiver:
+            self.assertEqual(receiver.state, State(2**32, False))
+        for expected in (2**32 + 1, 2**64 - 1, 2**64, -1):
+            with self.assertRaises(ValueError):
+                receiver_of(KEYS[0], Mode.SAFE, expected)
+
+    def test_addresses_are_demanded(self):
+        for addresses in ((OTHER, None), (None, RECEIVER), (None, None)):
+            with self.assertRaises(TypeError):
+                Receiver(17, KEYS[0], mode=Mode.SAFE, sender=addresses[0], receiver=addresses[1],
+                         expected=7)
+        frame = frame_of(KEYS[0], Mode.SAFE, b"D", sender=OTHER)
+        with receiver_of(KEYS[0], Mode.SAFE) as receiver:
+            with self.assertRaises(krbrelay.Refusal):
+                receiver.take(frame, MICROS)
+
+
+def drawn_frames(dice, key, mode, sealer):
+    """Frames of a sealer at its numbers, with frames again, changed, early, and of no record."""
+    records = [Text(b"t"), Text(b""), Batch((b"a", b"bb")), Batch((b"",) * 3), Closed()]
+    sent = []
+    for _ in range(dice.randrange(1, 8)):
+        at = MICROS + dice.choice([0, 0, 0, 3_000_000, 3_000_001])
+        if dice.random() < 0.2:
+            sent.append(sealer.seal(dice.choice([b"X", b"", b"B", b"CC"]), at))
+        else:
+            sent.append(sealer.seal_record(dice.choice(records), at))
+    wire = []
+    for frame in sent:
+        wire += [frame] * dice.choice([0, 1, 1, 1, 1, 2])
+        if dice.random() < 0.3:
+            at = dice.randrange(len(frame))
+            wire.append(frame[:at] + bytes([frame[at] ^ 1 << dice.randrange(8)]) + frame[at + 1:])
+        if dice.random() < 0.2:
+            wire.append(frame_of(key, mode, b"D", sealer.next, left_out=(0xA3,)))
+    return wire + [dice.choice(sent)]
