@@ -59,6 +59,9 @@ static krb5_error_code serve(enum call call, krb5_context ctx, krb5_auth_context
     return m.error;
 }
 
+/* The library's only names: it is built with -fvisibility=hidden. */
+#pragma GCC visibility push(default)
+
 krb5_error_code krb5_mk_safe(krb5_context ctx, krb5_auth_context ac, const krb5_data *in,
                              krb5_data *out, krb5_replay_data *replay)
 {
@@ -82,3 +85,5 @@ krb5_error_code krb5_rd_priv(krb5_context ctx, krb5_auth_context ac, const krb5_
 {
     return serve(RD_PRIV, ctx, ac, in, out, replay);
 }
+
+#pragma GCC visibility pop
