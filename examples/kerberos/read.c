@@ -1,0 +1,155 @@
+#include "cipher_state.h"
+#include "message.h"
+
+#include <errno.h>
+#include <stdlib.h>
+#include <string.h>
+
+/* What krbrelay reports of a message that it opened. */
+struct opened {
+    size_t size;
+    struct krbrelay_carried carried;
+};
+
+/* Why MIT's code has to read it, or NULL. */
+static const char *passes_on(const struct message *m, const struct end *end)
+{
+    const krb5_int32 timed = KRB5_AUTH_CONTEXT_DO_TIME | KRB5_AUTH_CONTEXT_DO_SEQUENCE;
+    if (lacks_replay(m, end))
+        return "no_replay_data";        /* MIT answers KRB5_RC_REQUIRED */
+    if ((end->flags & timed) == KRB5_AUTH_CONTEXT_DO_TIME)
+        return "replay_cache";          /* nothing but MIT's cache tells a repeated message */
+    if (m->call == RD_PRIV && !is_first_state(end->cipher_state))
+        return "chained_cipher_state";
+    return m->in->length > KRBRELAY_FRAME_LIMIT ? "long_message" : NULL;
+}
+
+/* MIT's demands: the sender's address where the context has one; the receiver's where message and
+ * context have one; and the number, of which none means 0. */
+static void demand_of(struct krbrelay_demand *demand, const struct end *end)
+{
+    memset(demand, 0, sizeof *demand);
+    demand->how_sender = end->has_remote ? KRBRELAY_REQUIRED : KRBRELAY_IGNORE;
+    demand->sender = end->remote;
+    demand->how_receiver = end->has_local ? KRBRELAY_IF_PRESENT : KRBRELAY_IGNORE;
+    demand->receiver = end->local;
+    if ((end->flags & KRB5_AUTH_CONTEXT_DO_SEQUENCE) != 0)
+        demand->how_number = KRBRELAY_ABSENT_IS_0;
+    demand->number = end->number;
+}
+
+static enum krbrelay_answer open_frame(struct message *m, const struct end *end, uint8_t *room,
+                                       struct opened *opened)
+{
+    const struct krbrelay_moment unused = { 0 };    /* no time is demanded of krbrelay */
+    struct krbrelay_opener opener = { 0 };
+    struct krbrelay_expect expect = { 0 };
+    struct krbrelay_demand demand;
+    enum krbrelay_answer answer;
+    expect.mode = mode_of(m->call);
+    demand_of(&demand, end);
+    answer = krbrelay_opener_new(&opener, end->key->enctype, end->key->contents, end->key->length,
+                                 &expect);
+    if (answer == KRBRELAY_OK)
+        answer = krbrelay_opener_open(&opener, (const uint8_t *)m->in->data, m->in->length, &demand,
+                                      &unused, room, m->in->length, &opened->size,
+                                      &opened->carried);
+    krbrelay_opener_free(&opener);
+    return answer;
+}
+
+/* Without a local address MIT finds the message's receiver among the addresses of the host. */
+static krb5_error_code check_host(krb5_context ctx, const struct krbrelay_carried *carried)
+{
+    krb5_address **ours = NULL, theirs = { 0 };
+    uint8_t bytes[sizeof carried->receiver.bytes];
+    krb5_error_code error = krb5_os_localaddr(ctx, &ours);
+    if (error != 0)
+        return error;
+    memcpy(bytes, carried->receiver.bytes, sizeof bytes);
+    theirs.magic = KV5M_ADDRESS;
+    theirs.addrtype = carried->receiver.kind;
+    theirs.length = carried->receiver.len;
+    theirs.contents = bytes;
+    if (!krb5_address_search(ctx, &theirs, ours))
+        error = KRB5KRB_AP_ERR_BADADDR;
+    krb5_free_addresses(ctx, ours);
+    return error;
+}
+
+/* What MIT demands of host and clock, by its own calls. A message without a time has the time 0. */
+static krb5_error_code check_carried(struct message *m, const struct end *end,
+                                     const struct krbrelay_carried *carried)
+{
+    krb5_error_code error = 0;
+    if (!end->has_local && carried->has_receiver)
+        error = check_host(m->ctx, carried);
+    if (error == 0 && (end->flags & KRB5_AUTH_CONTEXT_DO_TIME) != 0)
+        error = krb5_check_clockskew(m->ctx, (krb5_timestamp)carried->seconds);
+    if (error != 0)
+        m->refusal = error == KRB5KRB_AP_ERR_SKEW ? "SKEW" : "BADADDR";
+    return error;
+}
+
+/* What MIT's call leaves: user data, replay data, and the next number. */
+static void leave(struct message *m, const struct end *end, uint8_t *user_data,
+                  const struct opened *opened)
+{
+    const krb5_int32 told = KRB5_AUTH_CONTEXT_RET_TIME | KRB5_AUTH_CONTEXT_RET_SEQUENCE;
+    m->out->data = (char *)user_data;
+    m->out->length = (unsigned)opened->size;
+    if ((end->flags & told) != 0) {
+        m->replay->timestamp = (krb5_timestamp)opened->carried.seconds;
+        m->replay->usec = (krb5_int32)opened->carried.microseconds;
+        m->replay->seq = opened->carried.number;
+    }
+    if ((end->flags & KRB5_AUTH_CONTEXT_DO_SEQUENCE) != 0)
+        set_number(m->ac, RECEIVING, end->number + 1);
+}
+
+/* MIT looks at the first byte before all else. */
+static int is_of_kind(const struct message *m)
+{
+    const uint8_t tag = mode_of(m->call) == KRBRELAY_SAFE ? 0x74 : 0x75;
+    return m->in->length > 0 && (uint8_t)m->in->data[0] == tag;
+}
+
+static krb5_error_code read_into(struct message *m, const struct end *end, uint8_t *room)
+{
+    struct opened opened = { 0 };
+    uint8_t state[CIPHER_STATE_SIZE];
+    krb5_error_code error;
+    enum krbrelay_answer answer = open_frame(m, end, room, &opened);
+    int chains = m->call == RD_PRIV && end->cipher_state != NULL;
+    if (answer == KRBRELAY_OK && chains &&
+        !read_next_state((const uint8_t *)m->in->data, m->in->length, state))
+        answer = KRBRELAY_MALFORMED;
+    if (answer != KRBRELAY_OK)
+        return refuse(m, answer);
+    error = check_carried(m, end, &opened.carried);
+    if (error != 0)
+        return error;
+    if (chains)
+        memcpy(end->cipher_state, state, sizeof state);
+    leave(m, end, room, &opened);
+    return 0;
+}
+
+const char *read_message(struct message *m, struct end *end)
+{
+    uint8_t *room;
+    const char *reason = passes_on(m, end);
+    if (reason != NULL)
+        return reason;
+    memset(m->out, 0, sizeof *m->out);
+    m->out->magic = KV5M_DATA;
+    if (!is_of_kind(m)) {
+        m->error = refuse(m, KRBRELAY_MSG_TYPE);
+        return NULL;
+    }
+    room = malloc(m->in->length);
+    m->error = room == NULL ? ENOMEM : read_into(m, end, room);
+    if (m->error != 0)
+        free(room);
+    return NULL;
+}
