@@ -1,13 +1,16 @@
 //! A sealer that refuses one of its calls.
 
-ghost use Rattle.std.specs.Prelude.{◌≡◌, ◌≤◌, false};
+ghost use Rattle.std.specs.Prelude.{◌≡◌, ◌≤◌, false, IfOk};
 ghost use Rattle.krb_base.specs.Limits.{last_number};
 ghost use Rattle.krb_seal.specs.Session.{HasShortAddresses};
 
 use krb_base::{LAST_NUMBER, USER_DATA_LIMIT};
+use krb_commands::{SessionKey, key_of, session_of};
 use krb_der::Moment;
+use krb_job::SenderJob;
 use krb_seal::{Aes128Sealer, SealError, Sealer, Session};
 use std::alloc::Global;
+use std::test::Fail;
 
 /// A sealer of type 17 that answers `Memory` at one of its calls.
 #[derive(Drop)]
@@ -32,6 +35,22 @@ impl RefusingSealer {
             calls: 0,
             fails_at,
         }
+    }
+
+    /// A sealer of the session of a job's sender, of type 17, that refuses this call.
+    pub fn of_sender(
+        alloc: Global,
+        sender: &SenderJob,
+        fails_at: u64,
+    ) -> Result<RefusingSealer, Fail>
+        ensures live { IfOk result (λ sealer. sealer.inner.wiped ≡ false) }
+        ensures next { IfOk result (λ sealer. sealer.inner.next ≤ last_number) }
+    {
+        let SessionKey::Aes128(mut key) = key_of(sender) else {
+            return Err(Fail::from("another type"));
+        };
+        let session = session_of(alloc, sender)?;
+        Ok(RefusingSealer::new(&mut key, session, fails_at))
     }
 }
 

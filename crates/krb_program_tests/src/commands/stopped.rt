@@ -5,8 +5,8 @@ use super::refusing_sealer::RefusingSealer;
 use super::relays::two_senders;
 use crate::asserts::assert_same_at;
 use crate::relayed::TWO_LANES;
-use krb_commands::{Fault, SessionKey, key_of, session_of};
-use krb_job::{Command, SenderJob, read_job};
+use krb_commands::Fault;
+use krb_job::{Command, read_job};
 use krb_relay::NoGate;
 use std::alloc::Global;
 use std::process::Abort;
@@ -21,15 +21,6 @@ const SILENT: [(&str, &str); 3] = [
     ("texts", "[]"),
 ];
 
-/// A sealer of the sender's session that refuses this call (0: none).
-fn sealer_of(alloc: Global, sender: &SenderJob, fails_at: u64) -> Result<RefusingSealer, Fail> {
-    let SessionKey::Aes128(mut key) = key_of(sender) else {
-        return Err(Fail::from("another type"));
-    };
-    let session = session_of(alloc, sender)?;
-    Ok(RefusingSealer::new(&mut key, session, fails_at))
-}
-
 /// Relays a job of two senders. The sealer of the first refuses this call.
 fn relayed(
     rt: &(impl Threads + Wait + Sync + Abort + Alloc<A = Global>),
@@ -40,8 +31,8 @@ fn relayed(
     let alloc = rt.alloc();
     let mut job = read_job(alloc, job.as_bytes(), Command::Relay)?;
     let (first, second) = take_two(rt, &mut job.senders);
-    let sealer = sealer_of(alloc, &first, fails_at)?;
-    let other = sealer_of(alloc, &second, 0)?;
+    let sealer = RefusingSealer::of_sender(alloc, &first, fails_at)?;
+    let other = RefusingSealer::of_sender(alloc, &second, 0)?;
     assert!(rt; 0 < capacity && capacity <= 64);
     let mut output = Vec::new(alloc);
     let outcome = relay_sealed(
