@@ -4,4 +4,5 @@ pub mod EndsLemmas
 pub mod StandsLemmas
 pub mod SentLemmas
 pub mod GatheringLemmas
+pub mod SealedLemmas
 pub mod RelayedLemmas

@@ -1,5 +1,5 @@
 -- What a relay knows whose levels have all returned.
-use Rattle.std.proofs.Common.{◌≡◌, ℕ, ◌+◌, ◌<◌, true, false, zero, suc, List, [], ◌∷◌, ◌++◌, length, map, reverse, slice_get, refl, sym, ap, ap₂, subst, ◌∙◌, arith, Option, None, Some}
+use Rattle.std.proofs.Common.{◌≡◌, ℕ, ◌+◌, ◌<◌, ◌≤◌, replicate, true, false, zero, suc, List, [], ◌∷◌, ◌++◌, length, map, reverse, slice_get, refl, sym, ap, ap₂, subst, ◌∙◌, arith, Option, None, Some}
 use Rattle.std.specs.Prelude.{All}
 use Rattle.std.specs.List.{AllZip, zip}
 use Rattle.std.proofs.lemmas.List.{append-nil, length-map, reverse-reverse}
@@ -15,7 +15,7 @@ use Rattle.krb_peers.specs.Run.{Run, IsRun, AreRuns, OfRuns}
 use Rattle.krb_peers.specs.Sender.{Source}
 use Rattle.krb_peers.specs.Sending.{sent_of}
 use Rattle.krb_peers.specs.Undisturbed.{TakesAll}
-use Rattle.krb_peers.specs.Verdicts.{groups_of}
+use Rattle.krb_peers.specs.Verdicts.{AreJudged, groups_of}
 use Rattle.krb_peers.specs.Whole.{rounds_of, EndsWhole, IsWholeRun, IsWhole}
 use Rattle.krb_peers.proofs.WholeLemmas.{relayed_of}
 use Rattle.krb_relay.specs.declared.cause.Cause.{Cause}
@@ -26,12 +26,14 @@ use Rattle.krb_relay.specs.declared.fault.OwnFault.{OwnFault}
 use Rattle.krb_relay.specs.declared.fault.WorkerFault.{WorkerFault}
 use Rattle.krb_relay.specs.declared.worker.Handed.{Handed}
 use Rattle.krb_relay.specs.Cause.{cause_of}
-use Rattle.krb_relay.specs.Gathering.{Started, part_of, got_by, HasEnded, first_of, least, IsServed, Gathers}
+use Rattle.krb_relay.specs.Gathering.{Started, Counts, part_of, got_by, HasEnded, first_of, least, IsServed, Gathers}
 use Rattle.krb_relay.specs.Heard.{Heard, heard, answers, groups_in, AreAnswers, BeginsAt, all_heard}
 use Rattle.krb_relay.specs.Relayed.{unended, IsLeast, NamesLeast, StopsRelay}
+use Rattle.krb_relay.specs.Sealed.{StopsSealing, sealed_on}
 use Rattle.krb_relay.specs.Sent.{IsFront, IsAll, IsTrueOf, IsCut, Sends, Served}
-use Rattle.krb_relay.proofs.GatheringLemmas.{no_ends}
+use Rattle.krb_relay.proofs.GatheringLemmas.{no_ends, zeros_on}
 use Rattle.krb_relay.proofs.HeardLemmas.{rounds_none, none_answered, begins_selves}
+use Rattle.krb_relay.proofs.SealedLemmas.{delivers_sealed, events_are}
 use Rattle.krb_relay.proofs.SentLemmas.{front_nothing, front_shorter, front_sent}
 
 length_heard : (starts : List Receiving) (ends : List Side) → length (all_heard starts ends) ≡ length starts
@@ -64,8 +66,8 @@ module _ {P : Type 0} (gives : P → Side → Handed → Type 0) (src : P → So
   abbrev runs_by : List P → List Heard → List Run
   runs_by parts seen = map run_by (zip parts seen)
 
-  run_is : (part : P) (h : Heard) → IsFront (src part) h.frames → AreAnswers h → IsRun (run_by (part, h))
-  run_is part h f are = record { count = f.count; frames = f.frames; sealed = f.sealed; n = f.n; taken = f.taken; judged = are }
+  run_is : (part : P) (count : ℕ) (h : Heard) → IsFront (src part) count h.frames → AreAnswers h → IsRun (run_by (part, h))
+  run_is part count h f are = record { count = count; frames = f.some.frames; sealed = f.some.are; n = f.n; taken = f.taken; judged = are }
 
   -- the rounds of the runs are those of what was heard
   runs_groups : (parts : List P) (seen : List Heard) → length parts ≡ length seen → map (λ (run : Run). groups_of run.verdicts) (runs_by parts seen) ≡ map groups_in seen
@@ -82,16 +84,16 @@ module _ {P : Type 0} (gives : P → Side → Handed → Type 0) (src : P → So
   unmade_runs (p ∷ parts) [] seen same judged begins = absurd (omega (arith, same))
   unmade_runs (p ∷ parts) (s ∷ starts) [] same judged begins = absurd begins
   unmade_runs (p ∷ parts) (s ∷ starts) (h ∷ seen) same judged begins =
-      let front : IsFront (src p) h.frames = front_shorter (src p) h.frames [] begins.0.1 (front_nothing (src p)) in (
+      let front : IsFront (src p) 0 h.frames = front_shorter (src p) 0 h.frames [] begins.0.1 (front_nothing (src p)) in (
         ap (λ (x : Receiving). ends_by (p, x)) begins.0.0,
-        run_is p h front (All-head AreAnswers h seen judged),
+        run_is p 0 h front (All-head AreAnswers h seen judged),
         unmade_runs parts starts seen (omega (arith, same)) (All-tail AreAnswers h seen judged) begins.1,
       )
 
-  got_front : (x : Started P) → IsServed gives x → IsFront (src x.part) x.got.frames
+  got_front : (x : Started P) → IsServed gives x → IsFront (src x.part) x.handed.sealed x.got.frames
   got_front x h =
       let k = keeps x.part x.tx x.handed h.kept in
-      front_shorter (src x.part) x.got.frames x.handed.all.frames h.prefix (front_sent (src x.part) x.handed.all.frames x.handed.cause k.sends)
+      front_shorter (src x.part) x.handed.sealed x.got.frames x.handed.all.frames h.prefix (front_sent (src x.part) x.handed.sealed x.handed.all.frames x.handed.cause k.sends)
 
   are_runs : (inner : List (Started P)) (unstarted : List P) (starts : List Receiving) (seen : List Heard) → length (map part_of inner ++ unstarted) ≡ length starts
       → All (IsServed gives) inner → All AreAnswers seen → AllZip BeginsAt seen (all_heard starts (map got_by inner))
@@ -101,20 +103,57 @@ module _ {P : Type 0} (gives : P → Side → Handed → Type 0) (src : P → So
   are_runs (x ∷ inner) unstarted (s ∷ starts) [] same served judged begins = absurd begins
   are_runs (x ∷ inner) unstarted (s ∷ starts) (h ∷ seen) same served judged begins =
       let mine = got_front x (All-head (IsServed gives) x inner served) in
-      let front : IsFront (src x.part) h.frames = front_shorter (src x.part) h.frames x.got.frames begins.0.1 mine in (
+      let front : IsFront (src x.part) x.handed.sealed h.frames = front_shorter (src x.part) x.handed.sealed h.frames x.got.frames begins.0.1 mine in (
         ap (λ (y : Receiving). ends_by (x.part, y)) begins.0.0,
-        run_is x.part h front (All-head AreAnswers h seen judged),
+        run_is x.part x.handed.sealed h front (All-head AreAnswers h seen judged),
         are_runs inner unstarted starts seen (omega (arith, same)) (All-tail (IsServed gives) x inner served) (All-tail AreAnswers h seen judged) begins.1,
       )
+
+  -- ---- how many records were sealed
+
+  -- the frames that were taken are a prefix of the wire of so many records, and the verdicts are
+  -- those on them
+  abbrev FrontOn : Run → ℕ → Type 0
+  FrontOn run count = IsFront run.ends.source count run.took × AreJudged run.ends.receiver run.ends.nows run.took run.verdicts
+
+  fronts_are : (inner : List (Started P)) (unstarted : List P) (starts : List Receiving) (seen : List Heard) (sealed : List ℕ) (from : ℕ) → Counts sealed from inner
+      → All (IsServed gives) inner → All AreAnswers seen → AllZip BeginsAt seen (all_heard starts (map got_by inner))
+      → (lane : ℕ) (run : Run) → slice_get (runs_by (map part_of inner ++ unstarted) seen) lane ≡ Some run → FrontOn run (sealed_on (from + lane) sealed)
+  fronts_are [] [] starts seen sealed from counts served judged begins lane run at = absurd (let e = at in cc)
+  fronts_are [] (p ∷ unstarted) starts [] sealed from counts served judged begins lane run at = absurd (let e = at in cc)
+  fronts_are [] (p ∷ unstarted) [] (h ∷ seen) sealed from counts served judged begins lane run at = absurd begins
+  fronts_are [] (p ∷ unstarted) (s ∷ starts) (h ∷ seen) sealed from counts served judged begins zero run at =
+      let e : run_by (p, h) ≡ run = cc in
+      let none : sealed_on (from + 0) sealed ≡ 0 = counts (from + 0) (omega arith) in
+      let C : ℕ → Type 0 = λ n. FrontOn (run_by (p, h)) n in
+      let Q : Run → Type 0 = λ r. FrontOn r (sealed_on (from + 0) sealed) in
+      subst Q e (subst C (sym none) (front_shorter (src p) 0 h.frames [] begins.0.1 (front_nothing (src p)), All-head AreAnswers h seen judged))
+  fronts_are [] (p ∷ unstarted) (s ∷ starts) (h ∷ seen) sealed from counts served judged begins (suc lane) run at =
+      let n : suc from + lane ≡ from + suc lane = omega arith in
+      let C : ℕ → Type 0 = λ k. FrontOn run (sealed_on k sealed) in
+      subst C n (fronts_are [] unstarted starts seen sealed (suc from) (λ later within. counts later (omega (arith, within))) (All-nil (IsServed gives)) (All-tail AreAnswers h seen judged) begins.1 lane run at)
+  fronts_are (x ∷ inner) unstarted starts [] sealed from counts served judged begins lane run at = absurd (let e = at in cc)
+  fronts_are (x ∷ inner) unstarted [] (h ∷ seen) sealed from counts served judged begins lane run at = absurd begins
+  fronts_are (x ∷ inner) unstarted (s ∷ starts) (h ∷ seen) sealed from counts served judged begins zero run at =
+      let e : run_by (x.part, h) ≡ run = cc in
+      let here : sealed_on (from + 0) sealed ≡ x.handed.sealed = let n : from + 0 ≡ from = omega arith in ap (λ k. sealed_on k sealed) n ∙ counts.0 in
+      let C : ℕ → Type 0 = λ n. FrontOn (run_by (x.part, h)) n in
+      let Q : Run → Type 0 = λ r. FrontOn r (sealed_on (from + 0) sealed) in
+      let mine = got_front x (All-head (IsServed gives) x inner served) in
+      subst Q e (subst C (sym here) (front_shorter (src x.part) x.handed.sealed h.frames x.got.frames begins.0.1 mine, All-head AreAnswers h seen judged))
+  fronts_are (x ∷ inner) unstarted (s ∷ starts) (h ∷ seen) sealed from counts served judged begins (suc lane) run at =
+      let n : from + 1 + lane ≡ from + suc lane = omega arith in
+      let C : ℕ → Type 0 = λ k. FrontOn run (sealed_on k sealed) in
+      subst C n (fronts_are inner unstarted starts seen sealed (from + 1) counts.1 (All-tail (IsServed gives) x inner served) (All-tail AreAnswers h seen judged) begins.1 lane run at)
 
   -- ---- lanes that ran to their ends
 
   whole_run : (x : Started P) (s : Receiving) → IsServed gives x → x.got.ended ≡ true → x.handed.cause ≡ None → IsWholeRun (run_by (x.part, heard s x.got.frames))
   whole_run x s h ended clean =
       let k = keeps x.part x.tx x.handed h.kept in
-      let C : Option Cause → Type 0 = λ c. Sends (src x.part) x.handed.all.frames c in
+      let C : Option Cause → Type 0 = λ c. Sends (src x.part) x.handed.sealed x.handed.all.frames c in
       let F : List (List ℕ) → Type 0 = λ fs. IsAll (src x.part) fs in
-      let all : IsAll (src x.part) x.got.frames = subst F (sym (h.whole ended)) (subst C clean k.sends) in
+      let all : IsAll (src x.part) x.got.frames = subst F (sym (h.whole ended)) (subst C clean k.sends).1 in
       record { live = all.live; emits = all.emits }
 
   whole_runs : (inner : List (Started P)) (starts : List Receiving) → length inner ≡ length starts → All (IsServed gives) inner → All (HasEnded {S = P}) inner → All (λ (x : Started P). x.handed.cause ≡ None) inner
@@ -151,9 +190,9 @@ module _ {P : Type 0} (gives : P → Side → Handed → Type 0) (src : P → So
   true_of : (x : Started P) → IsServed gives x → x.got.ended ≡ true → (cause : Cause) → x.handed.cause ≡ Some cause → IsTrueOf (src x.part) x.got.frames cause
   true_of x h ended cause is =
       let k = keeps x.part x.tx x.handed h.kept in
-      let C : Option Cause → Type 0 = λ c. Sends (src x.part) x.handed.all.frames c in
-      let F : List (List ℕ) → Type 0 = λ fs. IsCut (src x.part) fs cause in
-      let cut : IsCut (src x.part) x.got.frames cause = subst F (sym (h.whole ended)) (subst C is k.sends) in
+      let C : Option Cause → Type 0 = λ c. Sends (src x.part) x.handed.sealed x.handed.all.frames c in
+      let F : List (List ℕ) → Type 0 = λ fs. IsCut (src x.part) x.handed.sealed fs cause in
+      let cut : IsCut (src x.part) x.handed.sealed x.got.frames cause = subst F (sym (h.whole ended)) (subst C is k.sends) in
       cut.reason
 
   named_by : (n : ℕ) (x : Started P) (inner : List (Started P)) (s : Receiving) (starts : List Receiving) (fault : WorkerFault) (cause : Option Cause) → cause ≡ x.handed.cause
@@ -219,8 +258,8 @@ module _ {P : Type 0} (gives : P → Side → Handed → Type 0) (src : P → So
 
   -- ---- from what was gathered
 
-  module _ (parts backward : List P) (starts : List Receiving) (now : List Side) (log : LogState) (mine : Option OwnFault) (fault : Option WorkerFault)
-      (turned : backward ≡ reverse parts) (same : length parts ≡ length starts) (g : Gathers gives backward starts [] now log mine fault) where
+  module _ (parts backward : List P) (starts : List Receiving) (now : List Side) (log : LogState) (sealed : List ℕ) (mine : Option OwnFault) (fault : Option WorkerFault)
+      (turned : backward ≡ reverse parts) (same : length parts ≡ length starts) (g : Gathers gives backward starts [] now log sealed mine fault) where
     no_now : now ≡ []
     no_now = no_ends now g.same
 
@@ -291,6 +330,21 @@ module _ {P : Type 0} (gives : P → Side → Handed → Type 0) (src : P → So
       names = told;
     }
 
+    -- and each lane delivers a prefix of what was sealed on it
+    pub seals_of : StopsSealing (lanes_by parts starts) log sealed
+    seals_of = record {
+      runs = runs_by parts g.seen;
+      are = are;
+      entries = logged;
+      each = λ lane run at.
+          let front : FrontOn run (sealed_on lane sealed) =
+          let Q : List P → Type 0 = λ ps. (l : ℕ) (r : Run) → slice_get (runs_by ps g.seen) l ≡ Some r → FrontOn r (sealed_on l sealed) in
+          subst Q (sym parts_split) (λ l r is. let n : 0 + l ≡ l = omega arith in
+          let R : ℕ → Type 0 = λ k. FrontOn r (sealed_on k sealed) in
+          subst R n (fronts_are g.inner g.unstarted starts g.seen sealed 0 g.counted g.served g.judged begun l r is)) lane run at in
+          delivers_sealed log lane (sealed_on lane sealed) run front.0 front.1 (events_are (lanes_by parts starts) (runs_by parts g.seen) log logged lane run at);
+    }
+
     -- a fault of the thread, and one of a worker
     pub stopped_own : (met : OwnFault) → StopsRelay (lanes_by parts starts) log met.lane (cause_of met.cause)
     stopped_own met = stops_of met.lane (cause_of met.cause) (own_names (runs_by parts g.seen) met.lane met.cause)
@@ -318,4 +372,26 @@ module _ {P : Type 0} (gives : P → Side → Handed → Type 0) (src : P → So
             (unmade_runs parts starts seen same (none_answered starts [] empty) (begins_selves seen)) entries
             (λ lane run at ended. absurd (let e : false ≡ true = ended in cc));
         names = tt;
+      }
+
+  -- and nothing was sealed
+  pub unstarted_seals : (parts : List P) (starts : List Receiving) (log : LogState) (sealed : List ℕ) → length parts ≡ length starts → log ≡ new_log (length starts) → sealed ≡ replicate 8 0
+      → StopsSealing (lanes_by parts starts) log sealed
+  unstarted_seals parts starts log sealed same is zeros =
+      let seen : List Heard = all_heard starts [] in
+      let empty : All (λ (rx : Side). rx.frames ≡ []) [] = All-nil (λ (rx : Side). rx.frames ≡ []) in
+      let entries : log.entries ≡ rounds_of (runs_by parts seen) =
+      ap (λ (l : LogState). l.entries) is ∙ (rounds_none starts [] empty ∙ ap rounds (sym (runs_groups parts seen (same ∙ sym (length_heard starts []))))) in
+      record {
+        runs = runs_by parts seen;
+        are = unmade_runs parts starts seen same (none_answered starts [] empty) (begins_selves seen);
+        entries = entries;
+        each = λ lane run at.
+            let none : (later : ℕ) → sealed_on later sealed ≡ 0 = λ later. ap (sealed_on later) zeros ∙ zeros_on later in
+            let front : FrontOn run (sealed_on (0 + lane) sealed) =
+            fronts_are [] parts starts seen sealed 0 (λ later within. none later) (All-nil (IsServed gives)) (none_answered starts [] empty) (begins_selves seen) lane run at in
+            let n : 0 + lane ≡ lane = omega arith in
+            let C : ℕ → Type 0 = λ k. FrontOn run (sealed_on k sealed) in
+            let mine = subst C n front in
+            delivers_sealed log lane (sealed_on lane sealed) run mine.0 mine.1 (events_are (lanes_by parts starts) (runs_by parts seen) log entries lane run at);
       }

@@ -1,6 +1,7 @@
 -- What fork and join over the lanes gathers.
-use Rattle.std.specs.Prelude.{◌≡◌, ℕ, ◌+◌, ◌<◌, true, false, List, [], ◌∷◌, ◌++◌, map, reverse, length, All, Option, None, Some}
+use Rattle.std.specs.Prelude.{◌≡◌, ℕ, ◌+◌, ◌<◌, ◌≤◌, true, false, List, [], ◌∷◌, ◌++◌, map, reverse, length, All, Option, None, Some}
 use Rattle.std.specs.List.{AllZip}
+use Rattle.krb_base.specs.Limits.{lane_limit}
 use Rattle.krb_base.specs.Prefix.{IsPrefix}
 use Rattle.krb_lane.specs.Side.{Side, LaneId}
 use Rattle.krb_peers.specs.declared.receiver.Receiving.{Receiving}
@@ -11,6 +12,7 @@ use Rattle.krb_relay.specs.declared.fault.OwnFault.{OwnFault}
 use Rattle.krb_relay.specs.declared.fault.WorkerFault.{WorkerFault}
 use Rattle.krb_relay.specs.declared.worker.Handed.{Handed}
 use Rattle.krb_relay.specs.Heard.{Heard, BeginsAt, AreAnswers, rounds_heard, all_heard}
+use Rattle.krb_relay.specs.Sealed.{sealed_on}
 
 abbrev pub lane_of : Side → LaneId
 lane_of rx = rx.lane
@@ -80,6 +82,12 @@ abbrev pub least : {S : Type 0} → ℕ → List (Started S) → Option WorkerFa
 least lane [] = None
 least lane (worker ∷ workers) = first_of worker.handed.cause lane (least (lane + 1) workers)
 
+-- from this lane on, each worker sealed as many records as the list says, and nothing was sealed on
+-- later lanes
+abbrev pub Counts : {S : Type 0} → List ℕ → ℕ → List (Started S) → Type 0
+Counts sealed lane [] = (later : ℕ) → lane ≤ later → sealed_on later sealed ≡ 0
+Counts sealed lane (worker ∷ workers) = (sealed_on lane sealed ≡ worker.handed.sealed) × Counts sealed (lane + 1) workers
+
 module _ {S : Type 0} (gives : S → Side → Handed → Type 0) where
   -- the worker kept its promise, and its lane delivered what it sent
   pub record IsServed (worker : Started S) : Type 0 where
@@ -88,9 +96,9 @@ module _ {S : Type 0} (gives : S → Side → Handed → Type 0) where
     pub prefix : IsPrefix worker.got.frames worker.handed.all.frames
     pub whole : worker.got.ended ≡ true → worker.got.frames ≡ worker.handed.all.frames
 
-  -- workers for the first of the parts, last part first, after these ends; what they returned, and
-  -- the log that their lanes leave
-  pub record Gathers (parts : List S) (starts : List Receiving) (ends now : List Side) (log : LogState) (own : Option OwnFault) (fault : Option WorkerFault) : Type 0 where
+  -- workers for the first of the parts, last part first, after these ends; what they returned, the
+  -- log that their lanes leave, and how many records each sealed
+  pub record Gathers (parts : List S) (starts : List Receiving) (ends now : List Side) (log : LogState) (sealed : List ℕ) (own : Option OwnFault) (fault : Option WorkerFault) : Type 0 where
     pub inner : List (Started S)
     pub unstarted : List S
     pub parts_are : reverse parts ≡ map part_of inner ++ unstarted
@@ -101,6 +109,8 @@ module _ {S : Type 0} (gives : S → Side → Handed → Type 0) where
     pub begins : AllZip BeginsAt seen (all_heard starts (now ++ map got_by inner))
     pub lanes : log.lanes ≡ length starts
     pub same : map lane_of now ≡ map lane_of ends
+    pub counted : Counts sealed (length ends) inner
+    pub long : length sealed ≡ lane_limit
     pub named : fault ≡ least (length ends) inner
     pub whole :
         own ≡ None
@@ -108,9 +118,10 @@ module _ {S : Type 0} (gives : S → Side → Handed → Type 0) where
         × NotesAll log (length starts)
 
   -- the last lane was met, and its worker kept its promise
-  pub record Leaves (ends now : List Side) (part : S) (tx : Side) (cause : Option Cause) : Type 0 where
+  pub record Leaves (ends now : List Side) (part : S) (tx : Side) (sealed : ℕ) (cause : Option Cause) : Type 0 where
     pub mine : Side
     pub handed : Handed
     pub split : ends ≡ now ++ mine ∷ []
+    pub sealed_is : sealed ≡ handed.sealed
     pub cause_is : cause ≡ handed.cause
     pub served : IsServed (record { part = part; tx = tx; handed = handed; got = mine })

@@ -4,6 +4,7 @@ ghost use Rattle.std.specs.Prelude.{◌≡◌, Some};
 ghost use Rattle.krb_relay.specs.Cause.{code_of, words_at};
 
 use crate::cause::{Cause, OwnCause};
+use krb_base::LANE_LIMIT;
 use krb_peers::Log;
 use std::error::Error;
 use std::fmt;
@@ -20,6 +21,8 @@ pub struct Fault {
     pub lane: u32,
     /// The outcome of each frame that was taken until then.
     pub log: Log,
+    /// How many records each sender sealed, by its lane: 0 where none was started.
+    pub sealed: [usize; LANE_LIMIT],
 }
 
 impl Fault {

@@ -7,22 +7,25 @@ ghost use Rattle.krb_peers.specs.Log.{new_log};
 ghost use Rattle.krb_relay.specs.Gathering.{Begun, EndsWith, Gathers, IsFresh, Leaves};
 ghost use Rattle.krb_relay.specs.declared.worker.Handed.{Handed};
 
-use crate::cause::{Cause, OwnCause};
+use crate::cause::OwnCause;
 use crate::fault::{OwnFault, WorkerFault};
 use crate::serving::{finish, give_up};
 use crate::work::{Work, Worker, start};
-use crate::worker::Handed;
+use crate::worker::{Ended, Handed};
+use krb_base::LANE_LIMIT;
 use krb_lane::{LaneRx, lane, meet};
 use krb_peers::{Log, Receiving};
 use std::alloc::Global;
 use std::sync::Wait;
 use std::thread::{Scope, Threads};
 
-/// The result of the lanes inside a level: the ends outside it, the log, and the faults.
+/// The result of the lanes inside a level: the ends outside it, the log, how many records each
+/// worker sealed, and the faults.
 #[derive(Drop)]
 pub(crate) struct Gathered {
     pub(crate) ends: Vec<LaneRx>,
     pub(crate) log: Log,
+    pub(crate) sealed: [usize; LANE_LIMIT],
     pub(crate) own: Option<OwnFault>,
     pub(crate) fault: Option<WorkerFault>,
 }
@@ -53,7 +56,7 @@ pub(crate) fn level<'s, 'e, R: Threads + Wait, S: Send + Drop + 's, W: Work<S> +
     requires fresh { All IsFresh ends.items }
     requires log { log ≡ new_log (length receivings.items) }
     ensures { Gathers (W.gives work.now) parts.items receivings.items ends.items
-        result.ends.items result.log result.own result.fault }
+        result.ends.items result.log result.sealed result.own result.fault }
 {
     let number = ends.len() as u32;
     let Some(part) = parts.pop() else {
@@ -61,6 +64,7 @@ pub(crate) fn level<'s, 'e, R: Threads + Wait, S: Send + Drop + 's, W: Work<S> +
         return Gathered {
             ends,
             log,
+            sealed: [0; LANE_LIMIT],
             own,
             fault: None,
         };
@@ -75,6 +79,7 @@ pub(crate) fn level<'s, 'e, R: Threads + Wait, S: Send + Drop + 's, W: Work<S> +
             Gathered {
                 ends,
                 log,
+                sealed: [0; LANE_LIMIT],
                 own,
                 fault: None,
             }
@@ -83,7 +88,9 @@ pub(crate) fn level<'s, 'e, R: Threads + Wait, S: Send + Drop + 's, W: Work<S> +
             let mut inner = level(
                 scope, rt, alloc, capacity, work, parts, receivings, ends, log,
             );
-            if let Some(cause) = leave(rt, worker, &mut inner.ends) {
+            let ended = leave(rt, worker, &mut inner.ends);
+            inner.sealed[number as usize] = ended.sealed;
+            if let Some(cause) = ended.cause {
                 inner.fault = Some(WorkerFault {
                     cause,
                     lane: number,
@@ -126,18 +133,18 @@ fn leave<R: Threads + Wait, S: Send + Drop, W: Work<S>>(
     rt: &R,
     worker: Worker<S, W>,
     ends: &mut Vec<LaneRx>,
-) -> Option<Cause>
+) -> Ended
     requires lane { (tx : Side) (handed : Handed)
         → W.gives worker.promise.work.value worker.promise.part.value tx handed
         → handed.all.lane ≡ tx.lane }
     requires last { EndsWith ends.old.items worker.promise.tx.value }
     ensures { Leaves (W.gives worker.promise.work.value) ends.old.items ends.new.items
-        worker.promise.part.value worker.promise.tx.value result }
+        worker.promise.part.value worker.promise.tx.value result.sealed result.cause }
 {
-    let Handed { all, cause } = worker.join(rt);
+    let Handed { all, sealed, cause } = worker.join(rt);
     let Some(mine) = ends.pop() else {
         unreachable!()
     };
     let _ = meet(all, mine);
-    cause
+    Ended { sealed, cause }
 }

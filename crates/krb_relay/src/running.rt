@@ -1,6 +1,6 @@
 //! The relay of one to eight senders to their receivers.
 
-ghost use Rattle.std.specs.Prelude.{◌≡◌, ◌<◌, ◌≤◌, ℕ, [], All, IfOk, IfErr, map, length, vec_len};
+ghost use Rattle.std.specs.Prelude.{◌≡◌, ◌<◌, ◌≤◌, ℕ, [], All, IfOk, IfErr, map, length, replicate, vec_len};
 ghost use Rattle.krb_base.specs.Limits.{lane_limit, capacity_limit};
 ghost use Rattle.krb_lane.specs.Side.{Side};
 ghost use Rattle.krb_peers.specs.Ends.{lanes_of};
@@ -10,6 +10,7 @@ ghost use Rattle.krb_peers.specs.Sending.{source_of, sent_of, IsSender};
 ghost use Rattle.krb_peers.specs.Whole.{IsWhole};
 ghost use Rattle.krb_relay.specs.Gathering.{Gathers};
 ghost use Rattle.krb_relay.specs.Relayed.{StopsRelay};
+ghost use Rattle.krb_relay.specs.Sealed.{StopsSealing};
 ghost use Rattle.krb_relay.specs.declared.worker.Handed.{Handed};
 
 use crate::cause::Cause;
@@ -18,6 +19,7 @@ use crate::gate::Gate;
 use crate::levels::{Gathered, level};
 use crate::work::Work;
 use crate::worker::{Handed, serve};
+use krb_base::LANE_LIMIT;
 use krb_lane::LaneTx;
 use krb_peers::{Log, Receiving, Sending, Sent, wipe_receivers};
 use krb_seal::Sealer;
@@ -41,7 +43,8 @@ pub struct Report {
 /// timestamp. A lane queues `capacity` items, 1 to 64, End included. The log of an Ok is that of the
 /// verdicts on all that the wires carry, in rounds: the same for every schedule and capacity, and
 /// the headline holds of each lane. A [`Fault`] has the log of a prefix of each lane's wire, and the
-/// headline holds of it too. `BadPlan` and `Wiped` name the least lane whose plan is bad or whose
+/// headline holds of it too: what is delivered is a prefix even of the texts that were sealed until
+/// then. `BadPlan` and `Wiped` name the least lane whose plan is bad or whose
 /// sealer was wiped: the lanes below it have their whole logs, and the lane itself no entry. The
 /// call waits for the workers.
 pub fn relay<R: Threads + Wait + Sync, G: Gate + Sync, S: Sealer + Send>(
@@ -64,6 +67,8 @@ pub fn relay<R: Threads + Wait + Sync, G: Gate + Sync, S: Sealer + Send>(
     ensures stopped { IfErr result (λ fault. StopsRelay
         (lanes_of S.state sendings.items receivings.items) fault.log fault.lane fault.cause) }
     ensures stopped_lanes { IfErr result (λ fault. fault.log.lanes ≡ length sendings.items) }
+    ensures sealed { IfErr result (λ fault. StopsSealing
+        (lanes_of S.state sendings.items receivings.items) fault.log fault.sealed) }
 {
     let log = Log::new(alloc, sendings.len() as u32);
     let Ok(sent) = sents(alloc, sendings.as_slice()) else {
@@ -75,6 +80,7 @@ pub fn relay<R: Threads + Wait + Sync, G: Gate + Sync, S: Sealer + Send>(
     let Gathered {
         ends: _,
         log,
+        sealed,
         own,
         fault,
     } = run_all(rt, alloc, capacity, &work, sendings, receivings, log);
@@ -83,6 +89,7 @@ pub fn relay<R: Threads + Wait + Sync, G: Gate + Sync, S: Sealer + Send>(
             cause: own.cause.cause(),
             lane: own.lane,
             log,
+            sealed,
         });
     }
     match fault {
@@ -90,6 +97,7 @@ pub fn relay<R: Threads + Wait + Sync, G: Gate + Sync, S: Sealer + Send>(
             cause: fault.cause,
             lane: fault.lane,
             log,
+            sealed,
         }),
         None => Ok(Report { log, sent }),
     }
@@ -101,6 +109,7 @@ fn unstarted(receivings: &mut [Receiving], log: Log) -> Fault
     ensures cause { result.cause ≡ Cause.Memory }
     ensures lane { result.lane ≡ 0 }
     ensures log { result.log ≡ log }
+    ensures sealed { result.sealed ≡ replicate 8 0 }
     ensures wiped { All IsWiped receivings.new }
 {
     wipe_receivers(receivings);
@@ -108,6 +117,7 @@ fn unstarted(receivings: &mut [Receiving], log: Log) -> Fault
         cause: Cause::Memory,
         lane: 0,
         log,
+        sealed: [0; LANE_LIMIT],
     }
 }
 
@@ -165,7 +175,7 @@ fn run_all<R: Threads + Wait + Sync, S: Send + Drop, W: Work<S> + Sync>(
         → W.gives work.now part tx handed → handed.all.lane ≡ tx.lane }
     requires log { log ≡ new_log (length receivings.items) }
     ensures { Gathers (W.gives work.now) parts.items receivings.items []
-        result.ends.items result.log result.own result.fault }
+        result.ends.items result.log result.sealed result.own result.fault }
 {
     thread::scope(
         thread::scope_env(),
@@ -180,7 +190,7 @@ fn run_all<R: Threads + Wait + Sync, S: Send + Drop, W: Work<S> + Sync>(
                 → W.gives work.now part tx handed → handed.all.lane ≡ tx.lane)
                 × (log ≡ new_log (length receivings.items)) }
             ensures { Gathers (W.gives work.entry.now) parts.items receivings.items []
-                result.ends.items result.log result.own result.fault }
+                result.ends.items result.log result.sealed result.own result.fault }
         {
             level(
                 scope,

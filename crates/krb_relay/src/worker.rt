@@ -1,12 +1,12 @@
 //! What a worker does: it seals its sender's records, and sends the frames.
 
-ghost use Rattle.std.specs.Prelude.{◌≡◌, ◌+◌, ◌<◌, ◌≤◌, ◌++◌, ◌∷◌, [], ℕ, List, length, false, true, Some, None, IfOk, IfErr, OnOk};
+ghost use Rattle.std.specs.Prelude.{◌≡◌, ◌+◌, ◌<◌, ◌≤◌, ◌++◌, ◌∷◌, [], ℕ, List, length, false, true, Some, None, IfOk, IfErr, OnOk, OnErr};
 ghost use Rattle.krb_aes.specs.Words.{AreBytes};
 ghost use Rattle.krb_base.specs.Prefix.{IsPrefix};
 ghost use Rattle.krb_peers.specs.Plan.{contents};
 ghost use Rattle.krb_peers.specs.Sender.{Source, AreFrames, records, texts_before};
 ghost use Rattle.krb_peers.specs.Sending.{source_of, before, IsSender, HasSealed};
-ghost use Rattle.krb_relay.specs.Sent.{IsAll, IsCut, IsOfSealing, IsTrueOf, Sends, Served, with_plan};
+ghost use Rattle.krb_relay.specs.Sent.{HasSealedSome, IsAll, IsCut, IsOfSealing, IsTrueOf, Sends, Served, sealed_since, with_plan};
 
 use crate::cause::Cause;
 use crate::gate::Gate;
@@ -16,10 +16,19 @@ use krb_seal::{SealError, Sealer};
 use std::alloc::Global;
 use std::sync::Wait;
 
-/// What a worker returns: its end of the lane, and why it stopped if it didn't send all.
+/// What a worker returns: its end of the lane, how many records it sealed, and why it stopped if it
+/// didn't send all.
 #[derive(Drop)]
 pub(crate) struct Handed {
     pub(crate) all: SentAll,
+    pub(crate) sealed: usize,
+    pub(crate) cause: Option<Cause>,
+}
+
+/// How a worker ended: how many records it sealed, and why it stopped if it didn't send all.
+#[derive(Drop)]
+pub(crate) struct Ended {
+    pub(crate) sealed: usize,
     pub(crate) cause: Option<Cause>,
 }
 
@@ -39,18 +48,19 @@ pub(crate) fn serve<R: Wait, G: Gate, S: Sealer>(
     requires sender { IsSender (source_of S.state sending) }
     ensures { Served (source_of S.state sending) tx result }
 {
-    let cause = send_all(rt, alloc, gate, lane, &mut sending, &mut tx);
+    let Ended { sealed, cause } = send_all(rt, alloc, gate, lane, &mut sending, &mut tx);
     match tx.end(rt) {
-        Ok(all) => Handed { all, cause },
+        Ok(all) => Handed { all, sealed, cause },
         Err(tx) => Handed {
             all: tx.stop(),
+            sealed,
             cause: Some(cause.unwrap_or(Cause::Lost)),
         },
     }
 }
 
-/// Seals and sends what a sender has for its lane, and says why if that isn't all. After that the
-/// sealer is wiped in place.
+/// Seals and sends what a sender has for its lane, and says how many records it sealed, and why it
+/// stopped if that isn't all. After that the sealer is wiped in place.
 fn send_all<R: Wait, G: Gate, S: Sealer>(
     rt: &R,
     alloc: Global,
@@ -58,19 +68,26 @@ fn send_all<R: Wait, G: Gate, S: Sealer>(
     lane: u32,
     sending: &mut Sending<S>,
     tx: &mut LaneTx,
-) -> Option<Cause>
+) -> Ended
     requires fresh { tx.old.frames ≡ [] }
     requires sender { IsSender (source_of S.state sending.old) }
-    ensures sends { Sends (source_of S.state sending.old) tx.new.frames result }
+    ensures sends { Sends (source_of S.state sending.old) result.sealed tx.new.frames result.cause }
+    ensures sealed { (S.state sending.new.sealer).next
+        ≡ (S.state sending.old.sealer).next + result.sealed }
     ensures lane { tx.new.lane ≡ tx.old.lane }
     ensures wiped { (S.state sending.new.sealer).wiped ≡ true }
 {
+    let first = sending.sealer.next();
     let sent = match sending.plan.take() {
         None => seal_and_send(rt, alloc, gate, lane, sending, tx),
         Some(plan) => send_planned(rt, alloc, gate, lane, sending, plan.as_slice(), tx),
     };
+    let sealed = (sending.sealer.next() - first) as usize;
     sending.sealer.wipe();
-    sent.err()
+    Ended {
+        sealed,
+        cause: sent.err(),
+    }
 }
 
 /// Seals the records and sends their frames in turn.
@@ -86,7 +103,12 @@ fn seal_and_send<R: Wait, G: Gate, S: Sealer>(
     requires sender { IsSender (source_of S.state sending.old) }
     requires unplanned { (source_of S.state sending.old).plan ≡ None }
     ensures all { OnOk result (IsAll (source_of S.state sending.old) tx.new.frames) }
-    ensures cut { IfErr result (IsCut (source_of S.state sending.old) tx.new.frames) }
+    ensures sealed { OnOk result (sealed_since (source_of S.state sending.old)
+        (source_of S.state sending.new) ≡ length (records (source_of S.state sending.old))) }
+    ensures cut { IfErr result (IsCut (source_of S.state sending.old)
+        (sealed_since (source_of S.state sending.old) (source_of S.state sending.new))
+        tx.new.frames) }
+    ensures later { (S.state sending.old.sealer).next ≤ (S.state sending.new.sealer).next }
     ensures lane { tx.new.lane ≡ tx.old.lane }
 {
     let mut passed = 0;
@@ -113,8 +135,12 @@ fn send_planned<R: Wait, G: Gate, S: Sealer>(
     requires sender { IsSender (source_of S.state sending.old) }
     ensures all { OnOk result
         (IsAll (with_plan (Some plan.now) (source_of S.state sending.old)) tx.new.frames) }
-    ensures cut { IfErr result
-        (IsCut (with_plan (Some plan.now) (source_of S.state sending.old)) tx.new.frames) }
+    ensures sealed { OnOk result (sealed_since (source_of S.state sending.old)
+        (source_of S.state sending.new) ≡ length (records (source_of S.state sending.old))) }
+    ensures cut { IfErr result (IsCut (with_plan (Some plan.now) (source_of S.state sending.old))
+        (sealed_since (source_of S.state sending.old) (source_of S.state sending.new))
+        tx.new.frames) }
+    ensures later { (S.state sending.old.sealer).next ≤ (S.state sending.new.sealer).next }
     ensures lane { tx.new.lane ≡ tx.old.lane }
 {
     let wire = seal_planned(alloc, gate, lane, sending, plan)?;
@@ -150,6 +176,11 @@ fn seal_planned<G: Gate, S: Sealer>(
         IsAll (with_plan (Some plan.now) (source_of S.state sending.old)) (contents wire.items)) }
     ensures none { IfErr result
         (IsTrueOf (with_plan (Some plan.now) (source_of S.state sending.old)) []) }
+    ensures sealed { OnOk result (sealed_since (source_of S.state sending.old)
+        (source_of S.state sending.new) ≡ length (records (source_of S.state sending.old))) }
+    ensures some { OnErr result (HasSealedSome (source_of S.state sending.old)
+        (sealed_since (source_of S.state sending.old) (source_of S.state sending.new))) }
+    ensures later { (S.state sending.old.sealer).next ≤ (S.state sending.new.sealer).next }
 {
     let frames = seal_each(alloc, gate, lane, sending)?;
     Ok(emit(alloc, frames.as_slice(), plan)?)
@@ -167,6 +198,11 @@ fn seal_each<G: Gate, S: Sealer>(
         (records (source_of S.state sending.old)) (contents frames.items)) }
     ensures live { OnOk result ((S.state sending.old.sealer).wiped ≡ false) }
     ensures cause { IfErr result (IsOfSealing (S.state sending.old.sealer).wiped) }
+    ensures sealed { OnOk result (sealed_since (source_of S.state sending.old)
+        (source_of S.state sending.new) ≡ length (records (source_of S.state sending.old))) }
+    ensures some { OnErr result (HasSealedSome (source_of S.state sending.old)
+        (sealed_since (source_of S.state sending.old) (source_of S.state sending.new))) }
+    ensures later { (S.state sending.old.sealer).next ≤ (S.state sending.new.sealer).next }
 {
     let count = sending.records();
     let Ok(mut frames) = Vec::with_capacity(alloc, count) else {
@@ -204,6 +240,8 @@ fn seal_one<G: Gate, S: Sealer>(
     ensures bytes { IfOk result (λ frame. AreBytes frame.items) }
     ensures live { OnOk result ((S.state sending.old.sealer).wiped ≡ false) }
     ensures cause { IfErr result (IsOfSealing (S.state sending.old.sealer).wiped) }
+    ensures unchanged { OnErr result
+        (S.state sending.new.sealer ≡ S.state sending.old.sealer) }
 {
     gate.enter(lane);
     let sealed = sending.seal_record(alloc, k, passed);

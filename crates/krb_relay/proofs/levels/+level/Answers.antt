@@ -1,10 +1,10 @@
 -- A level around the levels inside.
-use Rattle.std.proofs.Common.{◌≡◌, ◌∷◌, [], List, length, drop, refl, sym, subst, ◌∙◌, arith, None}
+use Rattle.std.proofs.Common.{◌≡◌, ◌∷◌, [], List, length, drop, replicate, slice_set, ap, ◌<◌, refl, sym, subst, ◌∙◌, arith, None}
 use Rattle.std.specs.Prelude.{All}
-use Rattle.std.proofs.lemmas.List.{nil_from_length, take_at}
+use Rattle.std.proofs.lemmas.List.{nil_from_length, length_push, take_at}
 use Rattle.krb_lane.specs.Side.{Side}
 use Rattle.krb_relay.specs.Gathering.{Finished}
-use Rattle.krb_relay.proofs.GatheringLemmas.{all_front, all_last, begun_fresh, begun_ends, gathers_none, gathers_leave, gathers_fault, least_here, least_later}
+use Rattle.krb_relay.proofs.GatheringLemmas.{set_on, all_front, all_last, begun_fresh, begun_ends, gathers_none, gathers_leave, gathers_fault, least_here, least_later}
 use Rattle.krb_relay.proofs.levels.+level.Goals as goal
 
 pub returns-in_default : goal.returns-in_default
@@ -13,7 +13,7 @@ returns-in_default g t c =
     let P : List Side → Type 0 = λ x. Finished c.args.receivings.items x c.finish-own.new.ends c.finish-own.new.log c.finish-own.result in
     let len : length c.finish-own.new.ends ≡ c.args.ends.len = omega arith in
     rw (take_at c.finish-own.new.ends (drop (length c.finish-own.new.ends) c.args.ends.items) c.args.ends.len len)
-    (gathers_none {S = g.row.S.Denot} (g.W.Work.gives c.args.work.now) c.args.parts.items c.args.receivings.items c.args.ends.items c.finish-own.new.ends c.finish-own.new.log c.finish-own.result None refl (λ none. empty)
+    (gathers_none {S = g.row.S.Denot} (g.W.Work.gives c.args.work.now) c.args.parts.items c.args.receivings.items c.args.ends.items c.finish-own.new.ends c.finish-own.new.log (replicate 8 0) c.finish-own.result None refl refl (λ none. empty)
     (subst P c.as_mut_slice.ensures.value c.finish-own.ensures.finished))
 
 pub begin-requires-clause-callable : goal.begin-requires-clause-callable
@@ -31,26 +31,26 @@ level-inner-requires-clause-callable g t c κs within =
 pub level-inner-requires-clause-fresh : goal.level-inner-requires-clause-fresh
 level-inner-requires-clause-fresh g t c κs within = begun_fresh _ _ _ c.in-Ok.ensures.lane c.requires.fresh
 
-pub leave-requires-clause-last : goal.leave-requires-clause-last
-leave-requires-clause-last g t c κs within =
-    begun_ends {S = g.row.S.Denot} (g.W.Work.gives c.args.work.now) c.pop.new.self.items c.args.receivings.items c.args.ends.items _ _ _ _ _ _ c.in-Ok.ensures.lane c.level-inner.ensures
+pub leave-ended-requires-clause-last : goal.leave-ended-requires-clause-last
+leave-ended-requires-clause-last g t c κs within =
+    begun_ends {S = g.row.S.Denot} (g.W.Work.gives c.args.work.now) c.pop.new.self.items c.args.receivings.items c.args.ends.items _ _ _ _ _ _ _ c.in-Ok.ensures.lane c.level-inner.ensures
 
 pub returns-in-Err : goal.returns-in-Err
 returns-in-Err g t c =
     let Q : List Side → Type 0 = λ x. Finished c.args.receivings.items x c.give_up-own.new.ends c.args.log c.give_up-own.result in
     let len : length c.give_up-own.new.ends ≡ c.begin.new.ends.len = omega arith in
     rw (take_at c.give_up-own.new.ends (drop (length c.give_up-own.new.ends) c.begin.new.ends.items) c.begin.new.ends.len len)
-    (gathers_fault {S = g.row.S.Denot} (g.W.Work.gives c.args.work.now) c.args.parts.items c.args.receivings.items c.args.ends.items c.begin.new.ends.items c.give_up-own.new.ends c.args.log c.give_up-own.result _ c.in-Err.ensures.err c.give_up-own.ensures.fault
+    (gathers_fault {S = g.row.S.Denot} (g.W.Work.gives c.args.work.now) c.args.parts.items c.args.receivings.items c.args.ends.items c.begin.new.ends.items c.give_up-own.new.ends c.args.log (replicate 8 0) c.give_up-own.result _ refl c.in-Err.ensures.err c.give_up-own.ensures.fault
     (subst Q c.as_mut_slice-in-Err.ensures.value c.give_up-own.ensures.finished))
 
-pub returns-in-Some-leave : goal.returns-in-Some-leave
-returns-in-Some-leave g t c =
-    gathers_leave {S = g.row.S.Denot} {W = g.row.W.Denot} g.W.Work.gives c.args.work.now c.in-Ok.worker.promise.work.value c.args.parts.items c.pop.new.self.items c.in-Some.part c.in-Ok.worker.promise.part.value c.args.receivings.items c.args.ends.items c.begin.new.ends.items c.level-inner.result.ends.items c.leave.new.ends.items c.in-Ok.worker.promise.tx.value c.level-inner.result.log c.level-inner.result.own c.level-inner.result.fault _ c.leave.result
-    (λ handed inner got is named. least_here _ _ c.in-Some.part c.in-Ok.worker.promise.tx.value handed got inner c.in-Some-leave.cause (omega arith) (sym c.in-Some-leave.is ∙ is))
-    c.in-Ok.ensures.worker.0 c.in-Ok.ensures.worker.1 c.in-Some.ensures.items c.in-Ok.ensures.lane c.leave.ensures c.level-inner.ensures
+pub returns-in-Some-cause : goal.returns-in-Some-cause
+returns-in-Some-cause g t c =
+    gathers_leave {S = g.row.S.Denot} {W = g.row.W.Denot} g.W.Work.gives c.args.work.now c.in-Ok.worker.promise.work.value c.args.parts.items c.pop.new.self.items c.in-Some.part c.in-Ok.worker.promise.part.value c.args.receivings.items c.args.ends.items c.begin.new.ends.items c.level-inner.result.ends.items c.leave-ended.new.ends.items c.in-Ok.worker.promise.tx.value c.level-inner.result.log c.level-inner.result.sealed _ c.level-inner.result.own c.level-inner.result.fault _ c.leave-ended.result.sealed c.leave-ended.result.cause (set_on c.level-inner.result.sealed _ _ _ (omega arith)) (let long = c.level-inner.ensures.long in let one = ap length c.in-Some.ensures.items ∙ length_push c.pop.new.self.items c.in-Some.part in omega (arith, long, one))
+    (λ handed inner got is named. least_here _ _ c.in-Some.part c.in-Ok.worker.promise.tx.value handed got inner c.in-Some-cause.cause (omega arith) (sym c.in-Some-cause.is ∙ is))
+    c.in-Ok.ensures.worker.0 c.in-Ok.ensures.worker.1 c.in-Some.ensures.items c.in-Ok.ensures.lane c.leave-ended.ensures c.level-inner.ensures
 
-pub returns-in_default-leave : goal.returns-in_default-leave
-returns-in_default-leave g t c =
-    gathers_leave {S = g.row.S.Denot} {W = g.row.W.Denot} g.W.Work.gives c.args.work.now c.in-Ok.worker.promise.work.value c.args.parts.items c.pop.new.self.items c.in-Some.part c.in-Ok.worker.promise.part.value c.args.receivings.items c.args.ends.items c.begin.new.ends.items c.level-inner.result.ends.items c.leave.new.ends.items c.in-Ok.worker.promise.tx.value c.level-inner.result.log c.level-inner.result.own c.level-inner.result.fault c.level-inner.result.fault c.leave.result
-    (λ handed inner got is named. least_later _ c.in-Some.part c.in-Ok.worker.promise.tx.value handed got inner _ _ c.in_default-leave.is is named)
-    c.in-Ok.ensures.worker.0 c.in-Ok.ensures.worker.1 c.in-Some.ensures.items c.in-Ok.ensures.lane c.leave.ensures c.level-inner.ensures
+pub returns-in_default-cause : goal.returns-in_default-cause
+returns-in_default-cause g t c =
+    gathers_leave {S = g.row.S.Denot} {W = g.row.W.Denot} g.W.Work.gives c.args.work.now c.in-Ok.worker.promise.work.value c.args.parts.items c.pop.new.self.items c.in-Some.part c.in-Ok.worker.promise.part.value c.args.receivings.items c.args.ends.items c.begin.new.ends.items c.level-inner.result.ends.items c.leave-ended.new.ends.items c.in-Ok.worker.promise.tx.value c.level-inner.result.log c.level-inner.result.sealed _ c.level-inner.result.own c.level-inner.result.fault c.level-inner.result.fault c.leave-ended.result.sealed c.leave-ended.result.cause (set_on c.level-inner.result.sealed _ _ _ (omega arith)) (let long = c.level-inner.ensures.long in let one = ap length c.in-Some.ensures.items ∙ length_push c.pop.new.self.items c.in-Some.part in omega (arith, long, one))
+    (λ handed inner got is named. least_later _ c.in-Some.part c.in-Ok.worker.promise.tx.value handed got inner _ _ c.in_default-cause.is is named)
+    c.in-Ok.ensures.worker.0 c.in-Ok.ensures.worker.1 c.in-Some.ensures.items c.in-Ok.ensures.lane c.leave-ended.ensures c.level-inner.ensures
