@@ -55,9 +55,9 @@ accepted_sealed count run front judged paired honest =
     elim front.waits [
       | inl unplanned ↦ sealed_prefix run is paired unplanned
       | inr later ↦ elim later [
-          | inl all ↦ subst P (sym (take_all count rs (omega (arith, all)))) (records_prefix run is paired honest)
-          | inr unsent ↦ subst V (sym (nothing_delivered run judged unsent)) (take count rs, refl)
-        ]
+        | inl all ↦ subst P (sym (take_all count rs (omega (arith, all)))) (records_prefix run is paired honest)
+        | inr unsent ↦ subst V (sym (nothing_delivered run judged unsent)) (take count rs, refl)
+      ]
     ]
 
 pub delivers_sealed : (log : LogState) (lane count : ℕ) (run : Run) → IsFront run.ends.source count run.took → AreJudged run.ends.receiver run.ends.nows run.took run.verdicts

@@ -47,7 +47,7 @@ front_shorter source count front sent p f =
       taken = sym (take_at front p.0 m refl) ∙ (ap (take m) (sym p.1 ∙ f.taken) ∙ take-take m f.n w short);
       waits = elim f.waits [
         | inl none ↦ inl none
-        | inr later ↦ inr (elim later [ | inl all ↦ inl all | inr unsent ↦ inr (prefix_nothing front sent p unsent) ])
+        | inr later ↦ inr (elim later [ inl all ↦ inl all | inr unsent ↦ inr (prefix_nothing front sent p unsent) ])
       ];
     }
 

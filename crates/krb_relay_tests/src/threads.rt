@@ -56,6 +56,7 @@ fn code_of(alloc: Global, cause: Cause, words: &str) -> Result<Option<u32>, Fail
         cause,
         lane: 3,
         log: Log::new(alloc, 4),
+        sealed: [0; 8],
     };
     let shown = format!(in alloc; "{fault}")?;
     Ok(if shown.as_str() == words {

@@ -13,19 +13,29 @@ use std::sync::{Arc, Wait};
 use std::test::Fail;
 use std::thread::Threads;
 
-/// Asserts which fault the relay of these lanes comes to and of which lane, and the log.
+/// How a relay of two senders stops: why and at which lane, and how many records each sealed.
+#[derive(Clone, Copy)]
+struct Stop {
+    cause: Cause,
+    lane: u32,
+    sealed: (usize, usize),
+}
+
+/// Asserts which fault the relay of these lanes comes to and of which lane, how many records the
+/// first two senders sealed, and the log.
 fn assert_stops<R: Threads + Wait + Abort + Sync>(
     rt: &R,
     alloc: Global,
     lanes: Lanes,
     capacity: usize,
-    stop: (Cause, u32),
+    stop: Stop,
     expected: &[(u32, &str)],
 ) -> Result<(), Fail> {
     let Err(fault) = run(rt, alloc, lanes, capacity, &NoGate) else {
         return Err(Fail::from("no fault"));
     };
-    assert_same(rt, (fault.cause, fault.lane), stop);
+    assert_same(rt, (fault.cause, fault.lane), (stop.cause, stop.lane));
+    assert_same(rt, (fault.sealed[0], fault.sealed[1]), stop.sealed);
     assert_log(rt, &fault.log, expected);
     Ok(())
 }
@@ -46,7 +56,7 @@ fn assert_wrong_stops<R: Threads + Wait + Abort + Sync>(
     rt: &R,
     alloc: Global,
     wrong: Wrong,
-    stop: (Cause, u32),
+    stop: Stop,
     expected: &[(u32, &str)],
 ) -> Result<(), Fail> {
     for capacity in [1, 64] {
@@ -67,11 +77,15 @@ fn sealers_that_refuse(rt: HostRuntime) -> Result<(), Fail> {
         wiped: false,
         bad_plan: false,
     };
-    let memory = (Cause::Memory, 0);
+    let memory = |sealed: (usize, usize)| Stop {
+        cause: Cause::Memory,
+        lane: 0,
+        sealed,
+    };
     let close = [(1, "closed")];
-    assert_wrong_stops(&rt, rt.alloc(), at(1), memory, &close)?;
+    assert_wrong_stops(&rt, rt.alloc(), at(1), memory((0, 1)), &close)?;
     let two = [(0, "a"), (1, "closed"), (0, "b")];
-    assert_wrong_stops(&rt, rt.alloc(), at(3), memory, &two)
+    assert_wrong_stops(&rt, rt.alloc(), at(3), memory((2, 1)), &two)
 }
 
 #[test]
@@ -81,15 +95,28 @@ fn least_lane_is_named(rt: HostRuntime) -> Result<(), Fail> {
         wiped,
         bad_plan,
     };
+    let stop = |cause: Cause, lane: u32, sealed: (usize, usize)| Stop {
+        cause,
+        lane,
+        sealed,
+    };
     for (wrong, stop, expected) in [
         (
             wrong(0, true, false),
-            (Cause::Wiped, 1),
+            stop(Cause::Wiped, 1, (3, 0)),
             FIRST_LANE.as_slice(),
         ),
-        (wrong(0, false, true), (Cause::BadPlan, 1), &FIRST_LANE),
-        (wrong(0, true, true), (Cause::Wiped, 1), &FIRST_LANE),
-        (wrong(1, true, false), (Cause::Memory, 0), &[]),
+        (
+            wrong(0, false, true),
+            stop(Cause::BadPlan, 1, (3, 1)),
+            &FIRST_LANE,
+        ),
+        (
+            wrong(0, true, true),
+            stop(Cause::Wiped, 1, (3, 0)),
+            &FIRST_LANE,
+        ),
+        (wrong(1, true, false), stop(Cause::Memory, 0, (0, 0)), &[]),
     ] {
         assert_wrong_stops(&rt, rt.alloc(), wrong, stop, expected)?;
     }
@@ -115,7 +142,12 @@ fn a_worker_that_stops_is_drained(rt: HostRuntime) -> Result<(), Fail> {
     let drops = Arc::new(rt.alloc(), AtomicU64::new(0))?;
     let lanes = stopping_lanes(rt.alloc(), &drops)?;
     let expected = [(0, "x"), (1, "closed"), (0, "x")];
-    assert_stops(&rt, rt.alloc(), lanes, 1, (Cause::Memory, 0), &expected)?;
+    let stop = Stop {
+        cause: Cause::Memory,
+        lane: 0,
+        sealed: (2, 1),
+    };
+    assert_stops(&rt, rt.alloc(), lanes, 1, stop, &expected)?;
     assert_same(&rt, drops.load(Ordering::SeqCst), 2);
     Ok(())
 }
@@ -184,7 +216,12 @@ const TWO_ROUNDS: [(u32, &str); 14] = [
 fn wiped_sealer_of_the_last_lane_is_named(rt: HostRuntime) -> Result<(), Fail> {
     let drops = Arc::new(rt.alloc(), AtomicU64::new(0))?;
     let lanes = eight_lanes(rt.alloc(), &drops)?;
-    assert_stops(&rt, rt.alloc(), lanes, 64, (Cause::Wiped, 7), &TWO_ROUNDS)?;
+    let stop = Stop {
+        cause: Cause::Wiped,
+        lane: 7,
+        sealed: (2, 2),
+    };
+    assert_stops(&rt, rt.alloc(), lanes, 64, stop, &TWO_ROUNDS)?;
     assert_same(&rt, drops.load(Ordering::SeqCst), 8);
     Ok(())
 }
