@@ -26,9 +26,6 @@ pub record HasPrinted (old now : Option (List ℕ)) (sents : List Sent) (log : L
   pub lines : end_lines 0 sents log ≡ done ++ end_lines lane (drop lane sents) log
   pub states : are_closed 0 sents log ≡ (closed && are_closed lane (drop lane sents) log)
 
-pub printed_none : (old : Option (List ℕ)) (sents : List Sent) (log : LogState) → HasPrinted old old sents log 0 true
-printed_none old sents log = record { done = []; written = Appends-nil old; lines = refl; states = refl }
-
 and_assoc : (a b c : Bool) → (a && (b && c)) ≡ ((a && b) && c)
 and_assoc true b c = refl
 and_assoc false b c = refl

@@ -20,9 +20,6 @@ pub record Printed (old new : Option (List ℕ)) (input rest : List ℕ) (all : 
   pub others : (readings : List Reading) → AreReadings rest readings
       → (whole : List Reading) × AreReadings input whole × (output_of whole ≡ done ++ output_of readings) × (list_all is_message whole ≡ (all && list_all is_message readings))
 
-pub printed_none : (a : Option (List ℕ)) (input : List ℕ) → Printed a a input input true
-printed_none a input = record { done = []; written = Appends-nil a; others = λ readings are. (readings, are, refl, refl) }
-
 and_assoc : (all first rest : Bool) → (all && (first && rest)) ≡ ((all && first) && rest)
 and_assoc true first rest = refl
 and_assoc false first rest = refl

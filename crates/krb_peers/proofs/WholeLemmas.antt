@@ -5,7 +5,7 @@ use Rattle.krb_peers.specs.Log.{events_of as events_in}
 use Rattle.krb_peers.specs.LogState.{LogState}
 use Rattle.krb_peers.specs.Plan.{wire}
 use Rattle.krb_peers.specs.Sender.{AreFrames, records}
-use Rattle.krb_peers.specs.Verdicts.{Verdict, groups_of, verdicts}
+use Rattle.krb_peers.specs.Verdicts.{Verdict, events_from, groups_of, verdicts}
 use Rattle.krb_peers.specs.Claims.{Headline}
 use Rattle.krb_peers.specs.Ends.{Ends}
 use Rattle.krb_peers.specs.Rounds.{joined, list_of}
@@ -29,11 +29,14 @@ run_at [] (r ∷ runs) are lane run at = absurd are
 run_at (ends ∷ lanes) (r ∷ runs) are zero run at = let e : r ≡ run = cc in let P : Run → Type 0 = λ x. IsRun x in subst P e are.1
 run_at (ends ∷ lanes) (r ∷ runs) are (suc lane) run at = run_at lanes runs are.2 lane run at
 
+-- what the log has of a lane is what the verdicts of its run bring
+pub events_of_run : (runs : List Run) (log : LogState) → log.entries ≡ rounds_of runs → (lane : ℕ) (run : Run) → slice_get runs lane ≡ Some run → events_in lane log.entries ≡ events_from run.verdicts
+events_of_run runs log entries lane run at =
+    ap (events_in lane) entries ∙ of_lane (map (λ r. groups_of r.verdicts) runs) lane ∙ ap joined (list_of-runs runs lane run at) ∙ joined-groups run.verdicts
+
 pub claims_of : (lanes : List Ends) (runs : List Run) (log : LogState) → AreRuns lanes runs → log.entries ≡ rounds_of runs → OfRuns runs (EndsWhole log) → OfRuns runs (Headline log)
 claims_of lanes runs log are entries all_taken lane run at =
-    headline_of run lane log (run_at lanes runs are lane run at)
-    (ap (events_in lane) entries ∙ of_lane (map (λ r. groups_of r.verdicts) runs) lane ∙ ap joined (list_of-runs runs lane run at) ∙ joined-groups run.verdicts)
-    (all_taken lane run at)
+    headline_of run lane log (run_at lanes runs are lane run at) (events_of_run runs log entries lane run at) (all_taken lane run at)
 
 -- it follows from what was taken of each lane, and from the order of what became of it
 abbrev pub relayed_of : (lanes : List Ends) (runs : List Run) (log : LogState) → AreRuns lanes runs → log.entries ≡ rounds_of runs → OfRuns runs (EndsWhole log) → IsRelayed lanes log

@@ -17,7 +17,7 @@ use Rattle.krb_peers.specs.Sending.{sent_of}
 use Rattle.krb_peers.specs.Undisturbed.{TakesAll}
 use Rattle.krb_peers.specs.Verdicts.{AreJudged, groups_of}
 use Rattle.krb_peers.specs.Whole.{rounds_of, EndsWhole, IsWholeRun, IsWhole}
-use Rattle.krb_peers.proofs.WholeLemmas.{relayed_of}
+use Rattle.krb_peers.proofs.WholeLemmas.{events_of_run, relayed_of}
 use Rattle.krb_relay.specs.declared.cause.Cause.{Cause}
 use Rattle.krb_relay.specs.declared.cause.Cause.TheVariants.{Memory, Spawn, Lost, BadPlan, Wiped}
 use Rattle.krb_relay.specs.declared.cause.OwnCause.{OwnCause}
@@ -33,7 +33,7 @@ use Rattle.krb_relay.specs.Sealed.{StopsSealing, sealed_on}
 use Rattle.krb_relay.specs.Sent.{IsFront, IsAll, IsTrueOf, IsCut, Sends, Served}
 use Rattle.krb_relay.proofs.GatheringLemmas.{no_ends, zeros_on}
 use Rattle.krb_relay.proofs.HeardLemmas.{rounds_none, none_answered, begins_selves}
-use Rattle.krb_relay.proofs.SealedLemmas.{delivers_sealed, events_are}
+use Rattle.krb_relay.proofs.SealedLemmas.{delivers_sealed}
 use Rattle.krb_relay.proofs.SentLemmas.{front_nothing, front_shorter, front_sent}
 
 length_heard : (starts : List Receiving) (ends : List Side) → length (all_heard starts ends) ≡ length starts
@@ -342,7 +342,7 @@ module _ {P : Type 0} (gives : P → Side → Handed → Type 0) (src : P → So
           subst Q (sym parts_split) (λ l r is. let n : 0 + l ≡ l = omega arith in
           let R : ℕ → Type 0 = λ k. FrontOn r (sealed_on k sealed) in
           subst R n (fronts_are g.inner g.unstarted starts g.seen sealed 0 g.counted g.served g.judged begun l r is)) lane run at in
-          delivers_sealed log lane (sealed_on lane sealed) run front.0 front.1 (events_are (lanes_by parts starts) (runs_by parts g.seen) log logged lane run at);
+          delivers_sealed log lane (sealed_on lane sealed) run front.0 front.1 (events_of_run (runs_by parts g.seen) log logged lane run at);
     }
 
     -- a fault of the thread, and one of a worker
@@ -393,5 +393,5 @@ module _ {P : Type 0} (gives : P → Side → Handed → Type 0) (src : P → So
             let n : 0 + lane ≡ lane = omega arith in
             let C : ℕ → Type 0 = λ k. FrontOn run (sealed_on k sealed) in
             let mine = subst C n front in
-            delivers_sealed log lane (sealed_on lane sealed) run mine.0 mine.1 (events_are (lanes_by parts starts) (runs_by parts seen) log entries lane run at);
+            delivers_sealed log lane (sealed_on lane sealed) run mine.0 mine.1 (events_of_run (runs_by parts seen) log entries lane run at);
       }

@@ -1,36 +1,22 @@
 -- What is delivered of the records that were sealed.
-use Rattle.std.proofs.Common.{◌≡◌, ℕ, zero, suc, List, [], ◌∷◌, ◌++◌, length, map, take, drop, slice_get, Some, inl, inr, refl, sym, ap, subst, ◌∙◌, arith}
+use Rattle.std.proofs.Common.{◌≡◌, ℕ, List, [], ◌∷◌, ◌++◌, length, take, drop, inl, inr, refl, sym, ap, subst, ◌∙◌, arith}
 use Rattle.std.specs.List.{flat_map}
 use Rattle.std.proofs.lemmas.List.{take_all, take-append-drop}
 use Rattle.krb_base.specs.Prefix.{IsPrefix}
 use Rattle.krb_peers.specs.declared.log.Event.{Event}
-use Rattle.krb_peers.specs.Ends.{Ends}
 use Rattle.krb_peers.specs.Log.{events_of, texts_in}
 use Rattle.krb_peers.specs.LogState.{LogState}
 use Rattle.krb_peers.specs.Plan.{wire}
 use Rattle.krb_peers.specs.Premises.{IsPaired, AlteredAreHonest}
 use Rattle.krb_peers.specs.Record.{texts_of}
-use Rattle.krb_peers.specs.Rounds.{joined, list_of}
-use Rattle.krb_peers.specs.Run.{Run, IsRun, AreRuns}
+use Rattle.krb_peers.specs.Run.{Run, IsRun}
 use Rattle.krb_peers.specs.Sender.{records}
 use Rattle.krb_peers.specs.declared.record.Record.{Record}
-use Rattle.krb_peers.specs.Verdicts.{Verdict, AreJudged, events_from, groups_of, records_of}
-use Rattle.krb_peers.specs.Whole.{rounds_of}
+use Rattle.krb_peers.specs.Verdicts.{Verdict, AreJudged, events_from, records_of}
 use Rattle.krb_peers.proofs.AcceptedPrefix.{texts_prefix}
 use Rattle.krb_peers.proofs.HeadlineLemmas.{delivered_texts, records_prefix, sealed_prefix}
-use Rattle.krb_peers.proofs.RoundsLemmas.{of_lane, joined-groups}
 use Rattle.krb_relay.specs.Sealed.{DeliversSealed, first_texts}
 use Rattle.krb_relay.specs.Sent.{IsFront}
-
-list_of-runs : (runs : List Run) (lane : ℕ) (run : Run) → slice_get runs lane ≡ Some run → list_of (map (λ r. groups_of r.verdicts) runs) lane ≡ groups_of run.verdicts
-list_of-runs [] lane run at = absurd (let e = at in cc)
-list_of-runs (r ∷ runs) zero run at = let e : r ≡ run = cc in ap (λ x. groups_of x.verdicts) e
-list_of-runs (r ∷ runs) (suc lane) run at = list_of-runs runs lane run at
-
--- what the log has of a lane is what the verdicts of its run bring
-pub events_are : (lanes : List Ends) (runs : List Run) (log : LogState) → log.entries ≡ rounds_of runs → (lane : ℕ) (run : Run) → slice_get runs lane ≡ Some run → events_of lane log.entries ≡ events_from run.verdicts
-events_are lanes runs log entries lane run at =
-    ap (events_of lane) entries ∙ of_lane (map (λ r. groups_of r.verdicts) runs) lane ∙ ap joined (list_of-runs runs lane run at) ∙ joined-groups run.verdicts
 
 -- the texts of a prefix of records are a prefix of their texts
 texts_of_prefix : (vs : List Verdict) (carried : List Record) → IsPrefix (records_of vs) carried → IsPrefix (texts_in (events_from vs)) (flat_map texts_of carried)
