@@ -7,22 +7,21 @@ ghost use Rattle.krb_aes.specs.Words.{AreBytes};
 ghost use Rattle.krb_seal.specs.Etype.{number_of};
 ghost use Rattle.krb_seal.specs.Keys.{encrypted};
 ghost use Rattle.krb_seal.specs.Seals.{SealsBody, unsigned, unenciphered};
-ghost use Rattle.krb_base.specs.Limits.{user_data_limit};
+ghost use Rattle.krb_base.specs.Limits.{frame_limit, user_data_limit};
+ghost use Rattle.krb_der.specs.Size.{HasPrivateSize};
 ghost use Rattle.krb_seal.specs.Body.{HasSizeOf, HasSmallAddresses, IsSmall};
 
 use crate::checksum::checksum_of;
 use crate::etype::Etype;
 use crate::keys::{Keys, TAG_SIZE};
 use crate::limit::within_limit;
+use crate::opener::CONFOUNDER_SIZE;
 use crate::session::Mode;
 use krb_der::{BodyRef, Bytes, Draft, PrivMsg, SafeRef, draft_priv, priv_size};
 use std::alloc::{AllocError, Global};
 
 /// How many bytes a checksum of KRB-SAFE has.
 const CHECKSUM_SIZE: usize = 12;
-
-/// How many bytes a confounder has.
-const CONFOUNDER_SIZE: usize = 16;
 
 /// The KRB-SAFE that carries a body, before it has its checksum.
 fn unsigned<'a>(etype: Etype, body: BodyRef<'a>) -> SafeRef<'a>
@@ -150,6 +149,14 @@ fn safe_frame_size(draft: &SafeRef<'_>, etype: Etype, len: usize) -> usize
     draft.size_with(CHECKSUM_SIZE, len)
 }
 
+/// How many bytes a KRB-PRIV has with a cipher of so many bytes.
+fn enciphered_size(etype: Etype, cipher: usize) -> usize
+    requires { cipher ≤ frame_limit }
+    ensures { HasPrivateSize (unenciphered (number_of etype)) cipher result }
+{
+    priv_size(5, 21, etype.number(), None, cipher)
+}
+
 /// How many bytes the KRB-PRIV of a body has with so many bytes of user data.
 fn priv_frame_size(etype: Etype, body: &BodyRef<'_>, len: usize) -> usize
     requires limit { len ≤ user_data_limit }
@@ -158,7 +165,7 @@ fn priv_frame_size(etype: Etype, body: &BodyRef<'_>, len: usize) -> usize
     ensures { HasSizeOf Priv (number_of etype) body.now len result }
 {
     let text = CONFOUNDER_SIZE + body.part_size_with(len);
-    priv_size(5, 21, etype.number(), None, text + TAG_SIZE)
+    enciphered_size(etype, text + TAG_SIZE)
 }
 
 /// How many bytes the message that carries a body in a mode has with so many bytes of user data.
