@@ -6,6 +6,7 @@ pub mod Grammar
 pub mod Places
 pub mod Lengths
 pub mod Writers
+pub mod ExactSizes
 pub mod Drafts
 pub mod Sizes
 pub mod Earlier

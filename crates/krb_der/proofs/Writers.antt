@@ -61,7 +61,7 @@ length-optional : (tag : ℕ) (n : Option ℕ) → length (optional tag natural 
 length-optional tag None = refl
 length-optional tag (Some n) = size-tagged tag (natural n) ∙ sym (size-tagged 0 (natural n))
 
-length-octets : (bytes : List ℕ) → length (octets bytes) ≡ element_size (length bytes)
+pub length-octets : (bytes : List ℕ) → length (octets bytes) ≡ element_size (length bytes)
 length-octets bytes = size-tagged octet_string_tag bytes
 
 length-encrypted_fields : (etype : ℤ) (kvno : Option ℕ) (cipher : List ℕ)

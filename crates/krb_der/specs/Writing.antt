@@ -28,6 +28,34 @@ IsShort bytes = length bytes ≤ frame_limit
 abbrev pub IsShortBody : Body → Type 0
 IsShortBody b = IsShort b.user_data × IsShort b.s_addr.bytes × IfSome b.r_addr (λ a. IsShort a.bytes)
 
+-- how many octets a type with n bytes takes
+abbrev pub typed_fields_size : ℤ → ℕ → ℕ
+typed_fields_size kind n = element_size (length (integer kind)) + element_size (element_size n)
+
+abbrev pub typed_size : ℤ → ℕ → ℕ
+typed_size kind n = element_size (typed_fields_size kind n)
+
+-- how many octets a body takes with n octets as its user data
+abbrev pub body_fields_size : Body → ℕ → ℕ
+body_fields_size b n =
+    element_size (element_size n)
+    + length (optional 0 time b.time)
+    + length (optional 0 natural b.usec)
+    + length (optional 0 natural b.seq)
+    + element_size (length (host_address b.s_addr))
+    + length (optional 0 host_address b.r_addr)
+
+abbrev pub body_size : Body → ℕ → ℕ
+body_size b n = element_size (body_fields_size b n)
+
+-- how many octets KRB-SAFE takes with n octets as its user data and k as its checksum
+abbrev pub safe_fields_size : SafeMsg → ℤ → ℕ → ℕ → ℕ
+safe_fields_size m kind k n =
+    element_size (length (integer m.pvno))
+    + element_size (length (integer m.msg_type))
+    + element_size (body_size m.body n)
+    + element_size (typed_size kind k)
+
 -- ---- a body, around its data
 
 abbrev pub before_data : Body → List ℕ

@@ -8,7 +8,8 @@ ghost use Rattle.krb_der.specs.KerberosTime;
 ghost use Rattle.krb_der.specs.Address.{host_address, IsAddress};
 ghost use Rattle.krb_der.specs.Body.{InRange, IsBody, body, body_fields};
 ghost use Rattle.krb_der.specs.Reading.{EndsWith, Fails, Gives, Takes, time_element_of, optional_at, address_of, behind_of, body_of, body_with};
-ghost use Rattle.krb_der.specs.Writing.{IsShort, IsShortBody, before_data, fields_behind_data};
+ghost use Rattle.krb_der.specs.Size.{HasAddressesWithinLimit};
+ghost use Rattle.krb_der.specs.Writing.{IsShort, IsShortBody, before_data, body_fields_size, body_size, fields_behind_data};
 
 use crate::address::{HostAddress, known_address, read_address};
 use crate::error::DerError;
@@ -18,7 +19,7 @@ use crate::integer::{
 use crate::reader::{Reader, only_element};
 use crate::tag;
 use crate::typed::{typed_size, write_typed_field};
-use crate::writer::{Writer, octets_field_size, size_around};
+use crate::writer::{Writer, size_around};
 use krb_base::{Bytes, FRAME_LIMIT};
 use krb_time::{LAST_SECOND, LAST_USEC, Moment, kerberos_time, read_kerberos_time};
 use std::alloc::{AllocError, Global};
@@ -336,18 +337,39 @@ impl<'a> BodyRef<'a> {
         known_optional_address(self.r_addr);
     }
 
+    fn fields_size_with(&self, len: usize) -> usize
+        requires limit { len ≤ frame_limit }
+        requires addresses { HasAddressesWithinLimit self.now }
+        requires time { IfSome self.now.time IsSecond }
+        ensures value { result ≡ body_fields_size self.now len }
+        ensures bound { result ≤ 3 * frame_limit + 200 }
+    {
+        size_around(size_around(len))
+            + optional_time_size(self.time)
+            + natural_field_size(self.usec)
+            + natural_field_size(self.seq)
+            + size_around(typed_size(&self.s_addr.kind, self.s_addr.bytes.as_slice()))
+            + optional_address_size(self.r_addr)
+    }
+
+    /// How many bytes it has with so many bytes of data in place of its own.
+    pub(crate) fn size_with(&self, len: usize) -> usize
+        requires limit { len ≤ frame_limit }
+        requires addresses { HasAddressesWithinLimit self.now }
+        requires time { IfSome self.now.time IsSecond }
+        ensures value { result ≡ body_size self.now len }
+        ensures bound { result ≤ 3 * frame_limit + 210 }
+    {
+        size_around(self.fields_size_with(len))
+    }
+
     fn fields_size(&self) -> usize
         requires short { IsShortBody self.now }
         requires time { IfSome self.now.time IsSecond }
         ensures value { result ≡ length (joined (body_fields self.now)) }
         ensures bound { result ≤ 3 * frame_limit + 200 }
     {
-        octets_field_size(self.user_data)
-            + optional_time_size(self.time)
-            + natural_field_size(self.usec)
-            + natural_field_size(self.seq)
-            + size_around(typed_size(&self.s_addr.kind, self.s_addr.bytes.as_slice()))
-            + optional_address_size(self.r_addr)
+        self.fields_size_with(self.user_data.len())
     }
 
     /// How many bytes it has.

@@ -8,6 +8,7 @@ ghost use Rattle.krb_der.specs.declared.error.DerError.TheVariants.{Memory};
 ghost use Rattle.krb_der.specs.Body.{InRange, IsBody, part};
 ghost use Rattle.krb_der.specs.Message.{Decodes, Encodes, SpellsPart};
 ghost use Rattle.krb_der.specs.Reading.{EndsWith, Fails, Gives, behind_of, part_of};
+ghost use Rattle.krb_der.specs.Size.{HasAddressesWithinLimit, HasPartSize};
 ghost use Rattle.krb_der.specs.Writing.{IsShortBody};
 
 use crate::body::{Body, BodyRef, read_body, read_details, split_data};
@@ -20,6 +21,17 @@ use std::alloc::{AllocError, Global};
 use std::collections::VecDeque;
 
 impl<'a> BodyRef<'a> {
+    /// How many bytes its spelling as an encrypted part has with so many bytes of data in place of
+    /// its own: so a size is known before there are data.
+    pub fn part_size_with(&self, len: usize) -> usize
+        requires limit { len ≤ frame_limit }
+        requires addresses { HasAddressesWithinLimit self.now }
+        requires range { InRange self.now }
+        ensures { HasPartSize self.now len result }
+    {
+        size_around(self.size_with(len))
+    }
+
     /// How many bytes its spelling as an encrypted part has.
     fn part_size(&self) -> usize
         requires short { IsShortBody self.now }

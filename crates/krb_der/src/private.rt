@@ -1,7 +1,9 @@
-ghost use Rattle.std.specs.Prelude.{◌≡◌, ◌<◌, ◌≤◌, ◌+◌, ◌++◌, length, Err, IfOk, IfSome, OnOk, OnErr};
+ghost use Rattle.std.specs.Prelude.{◌≡◌, ◌<◌, ◌≤◌, ◌+◌, ◌++◌, [], length, Err, IfOk, IfSome, OnOk, OnErr};
 ghost use Rattle.krb_base.specs.Limits.{frame_limit};
 ghost use Rattle.krb_der.specs.declared.message.Message.TheVariants.{Priv};
-ghost use Rattle.krb_der.specs.Writing.{IsShort, IsShortBody, encrypted_fields_size, encrypted_before_cipher, private_fields_size, private_size, private_before_cipher};
+ghost use Rattle.krb_der.specs.Size.{HasPrivateSize};
+ghost use Rattle.krb_der.specs.Writing.{IsShort, IsShortBody, element_size, encrypted_fields_size, encrypted_before_cipher, private_fields_size, private_size, private_before_cipher};
+ghost use Rattle.krb_der.specs.Integer.{integer};
 ghost use Rattle.krb_time.specs.Time.{IsSecond};
 ghost use Rattle.krb_der.specs.Body.{InRange, part};
 ghost use Rattle.krb_der.specs.Private.{IsPrivate, private};
@@ -64,6 +66,25 @@ pub fn read_private(alloc: Global, bytes: &[u8]) -> Result<PrivMsg, DerError>
     })
 }
 
+fn encrypted_fields_size(etype: &i32, kvno: Option<u32>, cipher: usize) -> usize
+    requires { cipher ≤ frame_limit }
+    ensures value { result ≡ encrypted_fields_size etype.now kvno cipher }
+    ensures bound { result ≤ frame_limit + 40 }
+{
+    int32_field_size(etype) + natural_field_size(kvno) + size_around(size_around(cipher))
+}
+
+/// How many bytes the fields have around the fields of the encrypted data.
+fn fields_size_around(pvno: &i32, msg_type: &i32, encrypted: usize) -> usize
+    requires { encrypted ≤ frame_limit + 40 }
+    ensures value { result ≡ element_size (length (integer pvno.now))
+        + element_size (length (integer msg_type.now))
+        + element_size (element_size encrypted) }
+    ensures bound { result ≤ encrypted + 40 }
+{
+    int32_field_size(pvno) + int32_field_size(msg_type) + size_around(size_around(encrypted))
+}
+
 impl PrivMsg {
     /// What the types of its numbers say.
     fn known(&self)
@@ -80,9 +101,7 @@ impl PrivMsg {
         ensures value { result ≡ encrypted_fields_size self.now.etype self.now.kvno cipher }
         ensures bound { result ≤ frame_limit + 40 }
     {
-        int32_field_size(&self.etype)
-            + natural_field_size(self.kvno)
-            + size_around(size_around(cipher))
+        encrypted_fields_size(&self.etype, self.kvno, cipher)
     }
 
     /// Adds the encrypted data up to a cipher of so many bytes.
@@ -104,9 +123,11 @@ impl PrivMsg {
         ensures value { result ≡ private_fields_size self.now cipher }
         ensures bound { result ≤ frame_limit + 100 }
     {
-        int32_field_size(&self.pvno)
-            + int32_field_size(&self.msg_type)
-            + size_around(size_around(self.encrypted_fields_size(cipher)))
+        fields_size_around(
+            &self.pvno,
+            &self.msg_type,
+            self.encrypted_fields_size(cipher),
+        )
     }
 
     /// How many bytes its spelling has with a cipher of so many bytes.
@@ -204,6 +225,35 @@ pub fn encode_priv(alloc: Global, m: &PrivMsg) -> Result<Vec<u8>, DerError>
     m.known();
     let size = m.limited_size(m.cipher.as_slice().len())?;
     Ok(m.spelling(alloc, size)?)
+}
+
+fn size_of(pvno: &i32, msg_type: &i32, etype: &i32, kvno: Option<u32>, cipher: usize) -> usize
+    requires { cipher ≤ frame_limit }
+    ensures { HasPrivateSize (record {
+      pvno = pvno.now;
+      msg_type = msg_type.now;
+      etype = etype.now;
+      kvno = kvno;
+      cipher = [];
+    }) cipher result }
+{
+    let encrypted = encrypted_fields_size(etype, kvno, cipher);
+    size_around(size_around(fields_size_around(pvno, msg_type, encrypted)))
+}
+
+/// How many bytes the spelling of a KRB-PRIV has with a cipher of so many bytes: so a size is known
+/// before there is a cipher.
+pub fn priv_size(pvno: i32, msg_type: i32, etype: i32, kvno: Option<u32>, cipher: usize) -> usize
+    requires { cipher ≤ frame_limit }
+    ensures { HasPrivateSize (record {
+      pvno = pvno;
+      msg_type = msg_type;
+      etype = etype;
+      kvno = kvno;
+      cipher = [];
+    }) cipher result }
+{
+    size_of(&pvno, &msg_type, &etype, kvno, cipher)
 }
 
 /// A KRB-PRIV whose cipher isn't encrypted yet: from `start` on it has the plaintext, with room for

@@ -8,14 +8,15 @@ ghost use Rattle.krb_der.specs.Body.{InRange, IsBody};
 ghost use Rattle.krb_der.specs.Safe.{safe, safe_fields, safe_input, with_checksum, without_checksum};
 ghost use Rattle.krb_der.specs.Message.{Covers, Encodes, Spells, message};
 ghost use Rattle.krb_der.specs.Reading.{Gives, safe_of};
-ghost use Rattle.krb_der.specs.Writing.{IsShort, IsShortBody, safe_before_data, safe_behind_data};
+ghost use Rattle.krb_der.specs.Size.{HasAddressesWithinLimit, HasSafeSize};
+ghost use Rattle.krb_der.specs.Writing.{IsShort, IsShortBody, safe_before_data, safe_behind_data, safe_fields_size};
 
 use crate::body::{Body, BodyRef, is_short, read_body};
 use crate::error::DerError;
 use crate::integer::{int32_field_size, known_int32, read_int32_field, write_int32_field};
 use crate::reader::Reader;
 use crate::tag;
-use crate::typed::{read_typed_field, typed_size, write_typed_field};
+use crate::typed::{read_typed_field, typed_size_of, write_typed_field};
 use crate::writer::{Writer, size_around};
 use krb_base::{Bytes, FRAME_LIMIT};
 use std::alloc::{AllocError, Global};
@@ -136,6 +137,32 @@ impl<'a> SafeRef<'a> {
 }
 
 impl<'a> SafeRef<'a> {
+    fn fields_size_with(&self, kind: &i32, checksum: usize, len: usize) -> usize
+        requires checksum_limit { checksum ≤ frame_limit }
+        requires data_limit { len ≤ frame_limit }
+        requires addresses { HasAddressesWithinLimit self.now.body }
+        requires time { IfSome self.now.body.time IsSecond }
+        ensures value { result ≡ safe_fields_size self.now kind.now checksum len }
+        ensures bound { result ≤ 4 * frame_limit + 300 }
+    {
+        int32_field_size(&self.pvno)
+            + int32_field_size(&self.msg_type)
+            + size_around(self.body.size_with(len))
+            + size_around(typed_size_of(kind, checksum))
+    }
+
+    /// How many bytes its spelling has with a checksum and data of so many bytes in place of its own:
+    /// so a size is known before there are data.
+    pub fn size_with(&self, checksum: usize, len: usize) -> usize
+        requires checksum_limit { checksum ≤ frame_limit }
+        requires data_limit { len ≤ frame_limit }
+        requires addresses { HasAddressesWithinLimit self.now.body }
+        requires range { InRange self.now.body }
+        ensures { HasSafeSize self.now checksum len result }
+    {
+        size_around(size_around(self.fields_size_with(&self.cksum_type, checksum, len)))
+    }
+
     fn fields_size(&self, kind: &i32, checksum: &[u8]) -> usize
         requires short { IsShortBody self.now.body }
         requires short_checksum { IsShort checksum.now }
@@ -144,10 +171,7 @@ impl<'a> SafeRef<'a> {
             ≡ length (joined (safe_fields (with_checksum self.now kind.now checksum.now))) }
         ensures bound { result ≤ 4 * frame_limit + 300 }
     {
-        int32_field_size(&self.pvno)
-            + int32_field_size(&self.msg_type)
-            + size_around(self.body.size())
-            + size_around(typed_size(kind, checksum))
+        self.fields_size_with(kind, checksum.len(), self.body.user_data().len())
     }
 
     /// How many bytes its spelling with this checksum has.

@@ -4,14 +4,15 @@
 ghost use Rattle.std.specs.Prelude.{◌≡◌, ◌<◌, ◌≤◌, ◌+◌, ◌++◌, length, OnOk};
 ghost use Rattle.krb_der.specs.Element.{joined, tagged};
 ghost use Rattle.krb_der.specs.Typed.{typed_fields, typed_octets};
-ghost use Rattle.krb_der.specs.Writing.{IsShort};
+ghost use Rattle.krb_base.specs.Limits.{frame_limit};
+ghost use Rattle.krb_der.specs.Writing.{IsShort, typed_fields_size, typed_size};
 ghost use Rattle.krb_der.specs.Reading.{Gives, Takes, field_at, typed_of};
 
 use crate::error::DerError;
 use crate::integer::{int32_field_size, read_int32_field, write_int32_field};
 use crate::reader::{Reader, read_octets_field};
 use crate::tag;
-use crate::writer::{Writer, octets_field_size, size_around};
+use crate::writer::{Writer, size_around};
 use krb_base::Bytes;
 use std::alloc::{AllocError, Global};
 
@@ -38,12 +39,29 @@ pub fn read_typed_field(
     read_typed(alloc, fields.element(tag)?)
 }
 
+fn fields_size_of(kind: &i32, count: usize) -> usize
+    requires { count ≤ frame_limit }
+    ensures value { result ≡ typed_fields_size kind.now count }
+    ensures bound { result < count + 24 }
+{
+    int32_field_size(kind) + size_around(size_around(count))
+}
+
+/// How many bytes the spelling of a type and so many bytes has.
+pub fn typed_size_of(kind: &i32, count: usize) -> usize
+    requires { count ≤ frame_limit }
+    ensures value { result ≡ typed_size kind.now count }
+    ensures bound { result < count + 30 }
+{
+    size_around(fields_size_of(kind, count))
+}
+
 fn fields_size(kind: &i32, bytes: &[u8]) -> usize
     requires { IsShort bytes.now }
     ensures value { result ≡ length (joined (typed_fields kind.now bytes.now)) }
     ensures bound { result < length bytes.now + 24 }
 {
-    int32_field_size(kind) + octets_field_size(bytes)
+    fields_size_of(kind, bytes.len())
 }
 
 /// How many bytes the spelling of a type and bytes has.

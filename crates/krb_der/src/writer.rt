@@ -90,12 +90,3 @@ pub fn size_around(content: usize) -> usize
 {
     1 + length_size(content) + content
 }
-
-/// How many bytes a field with so many bytes as its OCTET STRING has.
-pub fn octets_field_size(bytes: &[u8]) -> usize
-    requires { IsShort bytes.now }
-    ensures value { result ≡ element_size (length (octets bytes.now)) }
-    ensures bound { result < length bytes.now + 12 }
-{
-    size_around(size_around(bytes.len()))
-}

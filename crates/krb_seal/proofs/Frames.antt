@@ -38,7 +38,7 @@ memory_alone Spelt spelling v (Err errors.TooLong) h le e is = absurd (omega ari
 memory_alone Spelt spelling v (Err errors.Malformed) h le e is = absurd h
 memory_alone Spelt spelling v (Err errors.Memory) h le e is = cc
 
-optional-small : (r : Option HostAddress) → ForSome r IsShortAddress → optional_size r ≤ session_address_limit
+pub optional-small : (r : Option HostAddress) → ForSome r IsShortAddress → optional_size r ≤ session_address_limit
 optional-small None h = omega arith
 optional-small (Some a) h = h a refl
 
@@ -64,7 +64,7 @@ small_cipher b h = omega (arith, small_part b, carried-small b h)
 
 -- ---- KRB-PRIV from a draft
 
-length-encrypted : (key text : List ℕ) → 16 ≤ length text → length (encrypted key text) ≡ length text + 12
+pub length-encrypted : (key text : List ℕ) → 16 ≤ length text → length (encrypted key text) ≡ length text + 12
 length-encrypted key text long =
     let w : List ℕ = expanded_key (encryption_key key) in
     omega (arith, length-append (cts w text) (tag_of key text), length-cts w text long, length-hmac96 (integrity_key key) text)

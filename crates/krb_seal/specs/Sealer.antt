@@ -1,5 +1,5 @@
 -- What a caller knows of a sealer.
-use Rattle.std.specs.Prelude.{ℕ, ◌+◌, ℤ, List, length, replicate, Bool, true, false}
+use Rattle.std.specs.Prelude.{◌≡◌, ℕ, ◌+◌, ℤ, List, length, replicate, Bool, true, false}
 use Rattle.krb_base.specs.Limits.{last_number}
 use Rattle.krb_seal.specs.declared.session.Mode.{Mode}
 use Rattle.krb_seal.specs.declared.session.Session.{Session}
@@ -36,3 +36,8 @@ wiped_state s = record s { key = replicate (length s.key) 0; wiped = true }
 -- The bytes seal this data at the next number.
 abbrev pub SealsNext : SealerState → List ℕ → ℕ → List ℕ → List ℕ → Type 0
 SealsNext s user at conf bytes = Seals s.etype s.key s.session s.next user at conf bytes
+
+-- Each frame that seals n bytes of user data at the next number and this timestamp has this size.
+abbrev pub HasFrameSize : SealerState → ℕ → ℕ → ℕ → Type 0
+HasFrameSize s n at size =
+    (user conf frame : List ℕ) → length user ≡ n → SealsNext s user at conf frame → length frame ≡ size

@@ -7,15 +7,21 @@ ghost use Rattle.krb_aes.specs.Words.{AreBytes};
 ghost use Rattle.krb_seal.specs.Etype.{number_of};
 ghost use Rattle.krb_seal.specs.Keys.{encrypted};
 ghost use Rattle.krb_seal.specs.Seals.{SealsBody, unsigned, unenciphered};
-ghost use Rattle.krb_seal.specs.Body.{IsSmall};
+ghost use Rattle.krb_base.specs.Limits.{frame_limit, user_data_limit};
+ghost use Rattle.krb_der.specs.Size.{HasPrivateSize};
+ghost use Rattle.krb_seal.specs.Body.{HasSizeOf, HasSmallAddresses, IsSmall};
 
 use crate::checksum::checksum_of;
 use crate::etype::Etype;
 use crate::keys::{Keys, TAG_SIZE};
 use crate::limit::within_limit;
+use crate::opener::CONFOUNDER_SIZE;
 use crate::session::Mode;
-use krb_der::{BodyRef, Bytes, Draft, PrivMsg, SafeRef, draft_priv};
+use krb_der::{BodyRef, Bytes, Draft, PrivMsg, SafeRef, draft_priv, priv_size};
 use std::alloc::{AllocError, Global};
+
+/// How many bytes a checksum of KRB-SAFE has.
+const CHECKSUM_SIZE: usize = 12;
 
 /// The KRB-SAFE that carries a body, before it has its checksum.
 fn unsigned<'a>(etype: Etype, body: BodyRef<'a>) -> SafeRef<'a>
@@ -129,5 +135,48 @@ pub fn frame_of(
     match mode {
         Mode::Safe => safe_frame(alloc, keys, etype, &unsigned(etype, body), confounder),
         Mode::Priv => priv_frame(alloc, keys, etype, &body, confounder),
+    }
+}
+
+/// How many bytes the KRB-SAFE of a body has with so many bytes of user data.
+fn safe_frame_size(draft: &SafeRef<'_>, etype: Etype, len: usize) -> usize
+    requires limit { len ≤ user_data_limit }
+    requires draft { draft.now ≡ unsigned (number_of etype) draft.now.body }
+    requires range { InRange draft.now.body }
+    requires small { HasSmallAddresses draft.now.body }
+    ensures { HasSizeOf Safe (number_of etype) draft.now.body len result }
+{
+    draft.size_with(CHECKSUM_SIZE, len)
+}
+
+/// How many bytes a KRB-PRIV has with a cipher of so many bytes.
+fn enciphered_size(etype: Etype, cipher: usize) -> usize
+    requires { cipher ≤ frame_limit }
+    ensures { HasPrivateSize (unenciphered (number_of etype)) cipher result }
+{
+    priv_size(5, 21, etype.number(), None, cipher)
+}
+
+/// How many bytes the KRB-PRIV of a body has with so many bytes of user data.
+fn priv_frame_size(etype: Etype, body: &BodyRef<'_>, len: usize) -> usize
+    requires limit { len ≤ user_data_limit }
+    requires range { InRange body.now }
+    requires small { HasSmallAddresses body.now }
+    ensures { HasSizeOf Priv (number_of etype) body.now len result }
+{
+    let text = CONFOUNDER_SIZE + body.part_size_with(len);
+    enciphered_size(etype, text + TAG_SIZE)
+}
+
+/// How many bytes the message that carries a body in a mode has with so many bytes of user data.
+pub fn frame_size(etype: Etype, mode: Mode, body: BodyRef<'_>, len: usize) -> usize
+    requires limit { len ≤ user_data_limit }
+    requires range { InRange body }
+    requires small { HasSmallAddresses body }
+    ensures { HasSizeOf mode (number_of etype) body.entry len result }
+{
+    match mode {
+        Mode::Safe => safe_frame_size(&unsigned(etype, body), etype, len),
+        Mode::Priv => priv_frame_size(etype, &body, len),
     }
 }

@@ -1,8 +1,9 @@
 //! The sealers of both encryption types.
 
-ghost use Rattle.std.specs.Prelude.{◌≡◌, replicate, pos};
+ghost use Rattle.std.specs.Prelude.{◌≡◌, ◌≤◌, replicate, pos};
+ghost use Rattle.krb_base.specs.Limits.{user_data_limit};
 ghost use Rattle.krb_seal.specs.Session.{HasShortAddresses};
-ghost use Rattle.krb_seal.specs.Sealer.{SealerState, in_mode, new_state};
+ghost use Rattle.krb_seal.specs.Sealer.{HasFrameSize, SealerState, in_mode, new_state};
 
 use crate::etype::Etype;
 use crate::seal_error::SealError;
@@ -83,6 +84,16 @@ impl<E> AesSealer<E> {
         ensures { self.new ≡ in_mode self.old mode }
     {
         self.sealing.set_mode(mode);
+    }
+
+    /// The size of the next frame with so many bytes of user data at a moment: exactly that of what
+    /// [`Sealer::seal`] then gives. Once all numbers are used there is no such frame, and it is the
+    /// size of the last.
+    pub fn frame_size(&self, len: usize, at: Moment) -> usize
+        requires { len ≤ user_data_limit }
+        ensures { HasFrameSize self.now len at result }
+    {
+        self.sealing.frame_size(len, at)
     }
 }
 

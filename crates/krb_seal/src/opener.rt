@@ -24,7 +24,7 @@ use std::marker::Model;
 use std::mem;
 
 /// How many bytes come before an encrypted part (RFC 3961 section 5.3).
-const CONFOUNDER_SIZE: usize = 16;
+pub const CONFOUNDER_SIZE: usize = 16;
 
 /// Opens the frames of one sender. Dropping it overwrites all its keys.
 pub struct Opener {

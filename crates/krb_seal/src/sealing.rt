@@ -4,10 +4,10 @@ ghost use Rattle.std.specs.Prelude.{◌≡◌, ◌≤◌, ◌<◌, ◌↔◌, tr
 ghost use Rattle.krb_base.specs.Limits.{user_data_limit};
 ghost use Rattle.krb_seal.specs.Etype.{number_of};
 ghost use Rattle.krb_seal.specs.Session.{HasShortAddresses};
-ghost use Rattle.krb_seal.specs.Sealer.{SealerState, SealsNext, advanced, end_of_numbers, in_mode, new_state, wiped_state};
+ghost use Rattle.krb_seal.specs.Sealer.{HasFrameSize, SealerState, SealsNext, advanced, end_of_numbers, in_mode, new_state, wiped_state};
 
 use crate::etype::Etype;
-use crate::frame::frame_of;
+use crate::frame::{frame_of, frame_size};
 use crate::keys::Keys;
 use crate::seal_error::SealError;
 use crate::session::{Mode, Session};
@@ -104,6 +104,17 @@ impl Sealing {
         let frame = frame_of(alloc, &self.keys, self.etype, mode, body, confounder)?;
         self.next += 1;
         Ok(frame)
+    }
+
+    /// As [`AesSealer::frame_size`](crate::AesSealer::frame_size).
+    pub fn frame_size(&self, len: usize, at: Moment) -> usize
+        requires { len ≤ user_data_limit }
+        ensures { HasFrameSize self.now len at result }
+    {
+        let session = &self.session;
+        let number = self.next.min(LAST_NUMBER) as u32;
+        let body = BodyRef::new(&[], at, number, &session.s_addr, &session.r_addr);
+        frame_size(self.etype, session.mode, body, len)
     }
 
     /// Seals in this mode from now on.

@@ -1,6 +1,6 @@
-use Rattle.std.proofs.Common.{arith, length-append}
-use Rattle.krb_der.proofs.Readers.{size-tagged}
+use Rattle.std.proofs.Common.{arith}
+use Rattle.krb_der.proofs.ExactSizes.{length-typed_fields}
 use Rattle.krb_der.proofs.typed.fields_size.Goals as goal
 
 pub returns-clause-value : goal.returns-clause-value
-returns-clause-value c = grind (arith, size-tagged, length-append)
+returns-clause-value c = grind (arith, length-typed_fields c.args.kind.now c.args.bytes.now)

@@ -1,6 +1,6 @@
 use Rattle.std.proofs.Common.{arith}
-use Rattle.krb_der.proofs.Writers.{sizes}
+use Rattle.krb_der.proofs.ExactSizes.{length-body_fields}
 use Rattle.krb_der.proofs.body.BodyRef.fields_size.Goals as goal
 
 pub returns-clause-value : goal.returns-clause-value
-returns-clause-value c = grind (arith, sizes)
+returns-clause-value c = grind (arith, length-body_fields c.args.self.now)
