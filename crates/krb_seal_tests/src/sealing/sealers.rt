@@ -1,6 +1,7 @@
 use super::frames::{PRIV_17, PRIV_17_OTHER, PRIV_18, SAFE_17, SAFE_18, SAFE_LAST};
 use super::{KEY_128, KEY_256, MICROS, answer, opener, sealed, session};
 use crate::asserts::assert_same;
+use krb_der::Moment;
 use krb_seal::{Aes128Sealer, Aes256Sealer, Mode, SealError, Sealer};
 use std::alloc::{AllocError, Global};
 
@@ -31,6 +32,26 @@ fn frames_are_those_of_another_sealer(rt: HostRuntime) {
     ] {
         let frame = first_frame(rt.alloc(), wide, mode, [byte; 16]).expect(&rt, "a frame");
         assert_same(&rt, frame.as_slice(), expected);
+    }
+}
+
+/// The size of the first frame with so many bytes of user data, of a new sealer of encryption type
+/// 17.
+fn first_size(alloc: Global, mode: Mode, first: u32, len: usize) -> Result<usize, SealError> {
+    let sealer = Aes128Sealer::new(&mut { KEY_128 }, session(alloc, mode, first)?);
+    let at = Moment::from_micros(MICROS).ok_or(SealError::Memory)?;
+    Ok(sealer.frame_size(len, at))
+}
+
+#[test]
+fn sizes_are_those_of_another_sealers_frames(rt: HostRuntime) {
+    for (mode, first, len, expected) in [
+        (Mode::Safe, 7, 3, SAFE_17.as_slice()),
+        (Mode::Safe, 4_294_967_295, 1, &SAFE_LAST),
+        (Mode::Priv, 7, 3, &PRIV_17),
+    ] {
+        let size = first_size(rt.alloc(), mode, first, len).expect(&rt, "memory");
+        assert_same(&rt, size, expected.len());
     }
 }
 
