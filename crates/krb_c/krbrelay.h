@@ -228,6 +228,14 @@ enum krbrelay_answer krbrelay_sealer_seal_record(struct krbrelay_sealer *handle,
 enum krbrelay_answer krbrelay_sealer_next(struct krbrelay_sealer *handle, uint64_t *next)
     KRBRELAY_NONNULL(1, 2) KRBRELAY_CHECKED;
 
+/* Tells the exact size of the frame of len bytes of user data at the next sequence number and this
+ * moment: what krbrelay_sealer_seal then writes, whose room is krbrelay_frame_size(len) all the same.
+ * A record's user data are its bytes and one more. Where no number is left, it is the size that the
+ * last number's frame has. Nothing is sealed. KRBRELAY_TOO_LONG, KRBRELAY_MOMENT, KRBRELAY_EMPTY. */
+enum krbrelay_answer krbrelay_sealer_frame_size(struct krbrelay_sealer *handle, size_t len,
+                                                const struct krbrelay_moment *at, size_t *size)
+    KRBRELAY_NONNULL(1, 3, 4) KRBRELAY_CHECKED;
+
 /* Seals in this mode from now on. Key, number and addresses stay. KRBRELAY_MODE, KRBRELAY_EMPTY. */
 enum krbrelay_answer krbrelay_sealer_set_mode(struct krbrelay_sealer *handle, uint32_t mode)
     KRBRELAY_NONNULL(1) KRBRELAY_CHECKED;

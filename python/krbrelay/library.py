@@ -100,6 +100,7 @@ CALLS: Dict[str, Tuple[Any, List[Any]]] = {
     "krbrelay_sealer_seal_record":
         (c_uint32, [_HANDLE, c_uint32, *_BYTES, _MOMENT, c_char_p, *_ROOM, _SIZE]),
     "krbrelay_sealer_next": (c_uint32, [_HANDLE, POINTER(c_uint64)]),
+    "krbrelay_sealer_frame_size": (c_uint32, [_HANDLE, c_size_t, _MOMENT, _SIZE]),
     "krbrelay_sealer_set_mode": (c_uint32, [_HANDLE, c_uint32]),
     "krbrelay_sealer_wipe": (None, [_HANDLE]),
     "krbrelay_sealer_free": (None, [_HANDLE]),

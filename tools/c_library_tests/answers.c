@@ -75,6 +75,7 @@ static void frames_of_another_sealer(void)
         CHECK(new_sealer(&s, k->etype, k->mode, 7) == KRBRELAY_OK);
         CHECK(new_opener(&o, k->etype, k->mode) == KRBRELAY_OK);
         memset(frame, 0xee, sizeof frame);
+        CHECK(krbrelay_sealer_frame_size(&s, 3, &at, &size) == KRBRELAY_OK && size == k->len);
         CHECK(seal(&s, "Dhi", 3, krbrelay_frame_size(3), &size) == KRBRELAY_OK);
         CHECK(size == k->len && memcmp(frame, k->frame, size) == 0);
         CHECK(frame[size] == 0xee && frame[krbrelay_frame_size(3) - 1] == 0xee);
@@ -132,6 +133,59 @@ static void sizes_of_frames(void)
     CHECK(krbrelay_frame_size(KRBRELAY_USER_DATA_LIMIT) == KRBRELAY_FRAME_SIZE(KRBRELAY_USER_DATA_LIMIT));
     CHECK(krbrelay_frame_size(KRBRELAY_USER_DATA_LIMIT) <= KRBRELAY_FRAME_LIMIT);
     CHECK(krbrelay_frame_size(SIZE_MAX) == KRBRELAY_FRAME_LIMIT);
+}
+
+/* The size that a sealer tells is that of what it then seals: one case of each bit of `variant`, at
+ * this number and with so many bytes of user data. */
+static void size_before_sealing(unsigned variant, uint32_t number, size_t n)
+{
+    int etype = 17 + (int)(variant & 1);
+    struct krbrelay_session session = session_of(KRBRELAY_SAFE + (variant >> 1 & 1), number);
+    struct krbrelay_moment at = moment(SECS, variant >> 2 & 1 ? 999999 : 0);
+    struct krbrelay_sealer s = { 0 };
+    size_t told = 0, size = 1;
+    session.has_receiver = variant >> 3 & 1;
+    CHECK(krbrelay_sealer_new(&s, etype, key_of(etype), key_size(etype), &session) == KRBRELAY_OK);
+    CHECK(krbrelay_sealer_frame_size(&s, n, &at, &told) == KRBRELAY_OK);
+    CHECK(krbrelay_sealer_seal(&s, text, n, &at, zeros, frame, krbrelay_frame_size(n), &size)
+          == KRBRELAY_OK);
+    CHECK(told == size);
+    krbrelay_sealer_free(&s);
+}
+
+static void sizes_before_sealing(void)
+{
+    static const uint32_t numbers[] = { 0, 127, 128, 0x80000000, UINT32_MAX };
+    static const size_t sizes[] = { 0, 1, 127, 128, 255, 256, 65535, 65536,
+                                    KRBRELAY_USER_DATA_LIMIT };
+    for (size_t i = 0; i < sizeof sizes / sizeof sizes[0]; i++)
+        for (size_t j = 0; j < sizeof numbers / sizeof numbers[0]; j++)
+            for (unsigned variant = 0; variant < 16; variant++)
+                size_before_sealing(variant, numbers[j], sizes[i]);
+}
+
+/* What a sealer answers that tells no size, and at its end. */
+static void answers_of_a_size(void)
+{
+    struct krbrelay_sealer s = { 0 };
+    struct krbrelay_moment at = moment(SECS, USEC), usec = moment(SECS, 1000000);
+    struct krbrelay_moment year = moment(253402300800, 0);
+    size_t told = 99, size = 0;
+    uint64_t next = 0;
+    CHECK(krbrelay_sealer_frame_size(&s, 3, &at, &told) == KRBRELAY_EMPTY);
+    CHECK(new_sealer(&s, 17, KRBRELAY_PRIV, UINT32_MAX) == KRBRELAY_OK);
+    CHECK(krbrelay_sealer_frame_size(&s, KRBRELAY_USER_DATA_LIMIT + 1, &at, &told)
+          == KRBRELAY_TOO_LONG);
+    CHECK(krbrelay_sealer_frame_size(&s, SIZE_MAX, &at, &told) == KRBRELAY_TOO_LONG);
+    CHECK(krbrelay_sealer_frame_size(&s, 3, &usec, &told) == KRBRELAY_MOMENT);
+    CHECK(krbrelay_sealer_frame_size(&s, 3, &year, &told) == KRBRELAY_MOMENT);
+    CHECK(told == 99 && krbrelay_sealer_next(&s, &next) == KRBRELAY_OK && next == UINT32_MAX);
+    CHECK(seal(&s, "Dhi", 3, krbrelay_frame_size(3), &size) == KRBRELAY_OK);
+    CHECK(krbrelay_sealer_frame_size(&s, 3, &at, &told) == KRBRELAY_OK && told == size);
+    krbrelay_sealer_wipe(&s);
+    told = 99;
+    CHECK(krbrelay_sealer_frame_size(&s, 3, &at, &told) == KRBRELAY_OK && told == size);
+    krbrelay_sealer_free(&s);
 }
 
 /* A sealer's answers, each with nothing changed. */
@@ -367,6 +421,8 @@ int main(void)
     frames_of_another_sealer();
     round_trips();
     sizes_of_frames();
+    sizes_before_sealing();
+    answers_of_a_size();
     answers_of_a_sealer();
     arguments();
     refusals_of_safe();

@@ -1,12 +1,15 @@
 -- What the exports answer.
-use Rattle.std.specs.Prelude.{ℕ, ◌≡◌, List, Option, Some, None, Ok, Bool, if◌then◌else◌}
-use Rattle.krb_seal.specs.Sealer.{SealerState, SealsNext, advanced, in_mode, wiped_state}
+use Rattle.std.specs.Prelude.{ℕ, ◌≡◌, ◌≤◌, List, Option, Some, None, Ok, Bool, if◌then◌else◌}
+use Rattle.krb_base.specs.Limits.{user_data_limit}
+use Rattle.krb_seal.specs.Sealer.{HasFrameSize, SealerState, SealsNext, advanced, in_mode, wiped_state}
 use Rattle.krb_der.specs.declared.body.Body.{Body}
 use Rattle.krb_seal.specs.declared.session.Mode.{Mode}
 use Rattle.krb_seal.specs.Opens.{OpenerState, Outcome, Opens}
 use Rattle.krb_seal.specs.Authentic.{Authenticity}
 use Rattle.krb_c.specs.declared.demand.KrbDemand.{KrbDemand}
 use Rattle.krb_c.specs.declared.carried.KrbCarried.{KrbCarried}
+use Rattle.krb_c.specs.declared.moment.KrbMoment.{KrbMoment}
+use Rattle.krb_c.specs.Moment.{IsMoment, micros_of}
 use Rattle.krb_peers.specs.ReceiverState.{ReceiverState}
 use Rattle.krb_c.specs.Demand.{OpensWith}
 use Rattle.krb_c.specs.Carried.{carried_of}
@@ -35,6 +38,16 @@ wiped_if (Some s) = Some (wiped_state s)
 abbrev pub IsNext : Option SealerState → ℕ → Type 0
 IsNext None n = ⊥
 IsNext (Some s) n = s.next ≡ n
+
+-- n bytes of user data can be sealed at this moment, and each frame of so many that the sealer makes
+-- next at it has this size
+abbrev pub SizesNext : SealerState → ℕ → KrbMoment → ℕ → Type 0
+SizesNext s n at size = (n ≤ user_data_limit) × IsMoment at × HasFrameSize s n (micros_of at) size
+
+-- the handle holds a sealer, and this is the size of its next frame
+abbrev pub IsNextSize : Option SealerState → ℕ → KrbMoment → ℕ → Type 0
+IsNextSize None n at size = ⊥
+IsNextSize (Some s) n at size = SizesNext s n at size
 
 -- a handle with a receiver that demands this number, or none after a close
 abbrev pub Demands : Option ReceiverState → OpenerState → ℕ → Bool → Type 0

@@ -4,8 +4,6 @@ use Rattle.krb_base.specs.Limits.{frame_limit, user_data_limit}
 use Rattle.krb_der.specs.declared.body.Body.{Body}
 use Rattle.krb_der.specs.declared.message.Message.{Message}
 use Rattle.krb_der.specs.Message.{Spells}
-use Rattle.krb_der.specs.Time.{last_second}
-use Rattle.krb_der.specs.Moment.{last_usec}
 use Rattle.krb_seal.specs.declared.refusal.Refusal.TheVariants as refusals
 use Rattle.krb_seal.specs.Sealer.{SealerState, end_of_numbers}
 use Rattle.krb_seal.specs.Opens.{OpenerState, Opens}
@@ -16,7 +14,7 @@ use Rattle.krb_peers.specs.ReceiverState.{ReceiverState}
 use Rattle.krb_peers.specs.Verdicts.{Fails}
 use Rattle.krb_c.specs.Record.{Accepts, IsNoRecordOf}
 use Rattle.krb_c.specs.Room.{frame_room}
-use Rattle.krb_c.specs.Moment.{micros_of}
+use Rattle.krb_c.specs.Moment.{IsMoment, micros_of}
 use Rattle.krb_c.specs.Session.{IsEtype, IsKey, IsMode, address_room}
 use Rattle.krb_c.specs.Demand.{IsDemand, OpensWith}
 use Rattle.krb_c.specs.Fault.{fault_code}
@@ -26,7 +24,7 @@ use Rattle.krb_c.specs.declared.fault.Fault.TheVariants.{Wiped, TooLong, Exhaust
 
 -- it is no moment of the years 1970 to 9999
 abbrev pub IsNoMoment : KrbMoment → Type 0
-IsNoMoment m = (m.secs ≤ last_second) × (m.usec ≤ last_usec) → ⊥
+IsNoMoment m = IsMoment m → ⊥
 
 -- Why sealing fails. The sizes of the user data and of the buffer are n and room.
 abbrev pub SealReason : SealerState → ℕ → KrbMoment → ℕ → Fault → Type 0
@@ -58,6 +56,14 @@ RecordReason s kind body at room f =
 abbrev pub RecordFault : Option SealerState → ℕ → List ℕ → KrbMoment → ℕ → Fault → Type 0
 RecordFault None kind body at room f = f ≡ Empty
 RecordFault (Some s) kind body at room f = RecordReason s kind body at room f
+
+-- why a sealer reports no size of the frame of n bytes of user data
+abbrev pub SizeReason : ℕ → KrbMoment → Fault → Type 0
+SizeReason n at f = ((f ≡ Moment) × IsNoMoment at) ⊎ ((f ≡ TooLong) × (user_data_limit < n))
+
+abbrev pub SizeFault : Option SealerState → ℕ → KrbMoment → Fault → Type 0
+SizeFault None n at f = f ≡ Empty
+SizeFault (Some s) n at f = SizeReason n at f
 
 -- why opening fails
 abbrev pub OpenReason : OpenerState → ℕ → KrbMoment → List ℕ → ℕ → Fault → Type 0

@@ -5,7 +5,7 @@ ghost use Rattle.krb_base.specs.Limits.{user_data_limit};
 ghost use Rattle.krb_seal.specs.Session.{HasShortAddresses};
 ghost use Rattle.krb_c.specs.Room.{frame_room};
 ghost use Rattle.krb_c.specs.Session.{IsKey};
-ghost use Rattle.krb_seal.specs.Sealer.{SealsNext, advanced, end_of_numbers, in_mode, new_state, wiped_state};
+ghost use Rattle.krb_seal.specs.Sealer.{HasFrameSize, SealsNext, advanced, end_of_numbers, in_mode, new_state, wiped_state};
 
 use crate::room::frame_size;
 use krb_der::Moment;
@@ -76,6 +76,17 @@ impl AnySealer {
         match &self.kind {
             SealerKind::Narrow(sealer) => sealer.next(),
             SealerKind::Wide(sealer) => sealer.next(),
+        }
+    }
+
+    /// The size of the next frame with so many bytes of user data at a moment.
+    pub fn frame_size(&self, len: usize, at: Moment) -> usize
+        requires { len ≤ user_data_limit }
+        ensures { HasFrameSize self.now len at result }
+    {
+        match &self.kind {
+            SealerKind::Narrow(sealer) => sealer.frame_size(len, at),
+            SealerKind::Wide(sealer) => sealer.frame_size(len, at),
         }
     }
 

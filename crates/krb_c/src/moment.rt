@@ -1,7 +1,7 @@
 //! Moments as C writes them.
 
-ghost use Rattle.std.specs.Prelude.{◌≡◌, IfOk, OnErr};
-ghost use Rattle.krb_c.specs.Moment.{micros_of};
+ghost use Rattle.std.specs.Prelude.{◌≡◌, IfOk, OnErr, OnOk};
+ghost use Rattle.krb_c.specs.Moment.{IsMoment, micros_of};
 ghost use Rattle.krb_c.specs.Reasons.{IsNoMoment};
 
 use crate::fault::Fault;
@@ -23,6 +23,7 @@ impl KrbMoment {
     /// The moment in Rattle's type.
     pub fn moment(&self) -> Result<Moment, Fault>
         ensures value { IfOk result (λ m. m ≡ micros_of self.now) }
+        ensures some { OnOk result (IsMoment self.now) }
         ensures none { OnErr result (IsNoMoment self.now) }
         ensures err { OnErr result (result ≡ Err Fault.Moment) }
     {

@@ -2,10 +2,10 @@
 
 ghost use Rattle.std.specs.Prelude.{◌≡◌, ◌≤◌, drop, length, take, None, Some};
 ghost use Rattle.krb_seal.specs.Sealer.{new_state};
-ghost use Rattle.krb_c.specs.Exports.{IsNext, SealsTo, advanced_if, in_mode_if, wiped_if};
+ghost use Rattle.krb_c.specs.Exports.{IsNext, IsNextSize, SealsTo, advanced_if, in_mode_if, wiped_if};
 ghost use Rattle.krb_c.specs.Fault.{FaultedBy};
 ghost use Rattle.krb_c.specs.Moment.{micros_of};
-ghost use Rattle.krb_c.specs.Reasons.{ModeFault, NewReason, RecordFault, SealFault};
+ghost use Rattle.krb_c.specs.Reasons.{ModeFault, NewReason, RecordFault, SealFault, SizeFault};
 ghost use Rattle.krb_c.specs.Record.{SealsRecordTo};
 ghost use Rattle.krb_c.specs.Room.{FitsFrames, frame_room};
 ghost use Rattle.krb_c.specs.Session.{mode_of, session_of};
@@ -14,7 +14,7 @@ use crate::fault::Fault;
 use crate::moment::KrbMoment;
 use crate::room::frame_size;
 use crate::sealer_handle::KrbSealer;
-use crate::sealing::{new_sealer, seal_into, seal_record, set_mode};
+use crate::sealing::{new_sealer, next_size, seal_into, seal_record, set_mode};
 use crate::session::KrbSession;
 use std::alloc::Global;
 
@@ -147,6 +147,35 @@ pub extern "C" fn krbrelay_sealer_next(alloc: Global, handle: &mut KrbSealer, ne
     *next = sealer.next();
     handle.put(alloc, sealer);
     0
+}
+
+/// Tells the exact size of the frame of so many bytes of user data at the next sequence number and
+/// this moment. Where no number is left, no frame has it.
+#[unsafe(no_mangle)]
+pub extern "C" fn krbrelay_sealer_frame_size(
+    alloc: Global,
+    handle: &mut KrbSealer,
+    len: usize,
+    at: &KrbMoment,
+    size: &mut usize,
+) -> u32
+    ensures size { result ≡ 0 → IsNextSize handle.old.sealer len at.now size.new }
+    ensures why { ¬ (result ≡ 0) → FaultedBy (SizeFault handle.old.sealer len at.now) result }
+    ensures untold { ¬ (result ≡ 0) → size.new ≡ size.old }
+    ensures kept { handle.new.sealer ≡ handle.old.sealer }
+{
+    let Some(sealer) = handle.take(alloc) else {
+        return Fault::Empty.code();
+    };
+    let told = next_size(&sealer, len, at);
+    handle.put(alloc, sealer);
+    match told {
+        Ok(told) => {
+            *size = told;
+            0
+        }
+        Err(fault) => fault.code(),
+    }
 }
 
 /// Seals in this mode from now on: 20 for KRB-SAFE, 21 for KRB-PRIV. Key, number and addresses stay.

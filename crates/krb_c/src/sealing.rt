@@ -3,7 +3,8 @@
 ghost use Rattle.std.specs.Prelude.{◌≡◌, ◌≤◌, ◌++◌, drop, length, take, IfErr, IfOk, OnOk, OnErr};
 ghost use Rattle.krb_seal.specs.Sealer.{SealsNext, advanced, in_mode, new_state};
 ghost use Rattle.krb_c.specs.Moment.{micros_of};
-ghost use Rattle.krb_c.specs.Reasons.{NewReason, RecordReason, SealReason};
+ghost use Rattle.krb_c.specs.Exports.{SizesNext};
+ghost use Rattle.krb_c.specs.Reasons.{NewReason, RecordReason, SealReason, SizeReason};
 ghost use Rattle.krb_c.specs.Record.{SealsRecord};
 ghost use Rattle.krb_c.specs.Session.{IsMode, mode_of, session_of};
 
@@ -14,6 +15,7 @@ use crate::moment::KrbMoment;
 use crate::record::record_of;
 use crate::room::frame_size;
 use crate::session::{KrbSession, key_fault, mode, session};
+use krb_base::USER_DATA_LIMIT;
 use krb_seal::Refusal;
 use std::alloc::Global;
 
@@ -60,6 +62,18 @@ pub fn seal_into(
     let frame = sealer.seal(alloc, user, at, *confounder)?;
     put_front(out, &frame);
     Ok(frame.len())
+}
+
+/// The size of the next frame with so many bytes of user data at a moment.
+pub fn next_size(sealer: &AnySealer, len: usize, at: &KrbMoment) -> Result<usize, Fault>
+    ensures size { IfOk result (SizesNext sealer.now len at.now) }
+    ensures why { IfErr result (SizeReason len at.now) }
+{
+    let at = at.moment()?;
+    if len > USER_DATA_LIMIT {
+        return Err(Fault::TooLong);
+    }
+    Ok(sealer.frame_size(len, at))
 }
 
 /// Seals in the mode with this number from now on.

@@ -18,9 +18,9 @@ use crate::receiver_calls::{
 };
 use crate::receiver_handle::KrbReceiver;
 use crate::sealer_calls::{
-    krbrelay_frame_size, krbrelay_sealer_free, krbrelay_sealer_new, krbrelay_sealer_next,
-    krbrelay_sealer_seal, krbrelay_sealer_seal_record, krbrelay_sealer_set_mode,
-    krbrelay_sealer_wipe,
+    krbrelay_frame_size, krbrelay_sealer_frame_size, krbrelay_sealer_free, krbrelay_sealer_new,
+    krbrelay_sealer_next, krbrelay_sealer_seal, krbrelay_sealer_seal_record,
+    krbrelay_sealer_set_mode, krbrelay_sealer_wipe,
 };
 use crate::sealer_handle::KrbSealer;
 use crate::session::{KrbAddress, KrbExpect, KrbSession};
@@ -58,9 +58,24 @@ const PRIV_18: [u8; 112] = [
     0x01, 0x50, 0x42, 0x60, 0xad, 0xf1, 0x8d, 0xc9, 0xce, 0x67, 0xb8, 0x5c, 0x38, 0xa9, 0x2d, 0x99,
 ];
 
+/// The first bytes of a KRB-PRIV of encryption type 18 that has the most bytes of a message, 1,005,000: of
+/// these 1,004,955 are its cipher.
+const START_OF_THE_LONGEST: [u8; 45] = [
+    0x75, 0x83, 0x0f, 0x55, 0xc3, 0x30, 0x83, 0x0f, 0x55, 0xbe, 0xa0, 0x03, 0x02, 0x01, 0x05, 0xa1,
+    0x03, 0x02, 0x01, 0x15, 0xa3, 0x83, 0x0f, 0x55, 0xaf, 0x30, 0x83, 0x0f, 0x55, 0xaa, 0xa0, 0x03,
+    0x02, 0x01, 0x12, 0xa2, 0x83, 0x0f, 0x55, 0xa0, 0x04, 0x83, 0x0f, 0x55, 0x9b,
+];
+
 const AT: KrbMoment = KrbMoment {
     secs: SECS,
     usec: 5,
+    reserved: 0,
+};
+
+/// A second has no millionth microsecond.
+const NO_MOMENT: KrbMoment = KrbMoment {
+    secs: SECS,
+    usec: 1_000_000,
     reserved: 0,
 };
 
@@ -171,6 +186,34 @@ fn frames_are_those_of_another_sealer(rt: HostRuntime) -> Result<(), Fail> {
         assert_eq!(rt; frame.as_slice(), expected);
     }
     Ok(())
+}
+
+/// What the size of the first frame with three bytes of user data is, and the answers: making the
+/// sealer, telling the size, of too much user data, at no moment, and after the sealer's end.
+fn first_size(alloc: Global, etype: i32, key: &[u8], mode: u32) -> ([u32; 5], usize) {
+    let mut size = 0usize;
+    let mut sealer = crosses(KrbSealer::none());
+    let s = &mut sealer;
+    let made = krbrelay_sealer_new(alloc, s, etype, key, &session(mode));
+    let told = krbrelay_sealer_frame_size(alloc, s, 3, &AT, &mut size);
+    let long = krbrelay_sealer_frame_size(alloc, s, 1_000_002, &AT, &mut size);
+    let never = krbrelay_sealer_frame_size(alloc, s, 3, &NO_MOMENT, &mut size);
+    krbrelay_sealer_free(alloc, s);
+    let empty = krbrelay_sealer_frame_size(alloc, s, 3, &AT, &mut size);
+    let _ = sealer.into_box(alloc);
+    ([made, told, long, never, empty], size)
+}
+
+#[test]
+fn a_size_is_that_of_the_frame_of_another_sealer(rt: HostRuntime) {
+    for (etype, key, mode, frame) in [
+        (17, KEY_128.as_slice(), 20, SAFE_17.as_slice()),
+        (18, &KEY_256, 21, &PRIV_18),
+    ] {
+        let (answers, size) = first_size(rt.alloc(), etype, key, mode);
+        assert_eq!(rt; answers, [0, 0, 2, 910, 907]);
+        assert_eq!(rt; size, frame.len());
+    }
 }
 
 /// What opening a frame of another sealer answers, at its number, at the next, after a wipe and
@@ -287,9 +330,8 @@ fn a_receiver_takes_each_number_once(rt: HostRuntime) {
     let _ = receiver.into_box(alloc);
 }
 
-#[test]
-fn a_header_is_read_with_no_key(rt: HostRuntime) {
-    let mut told = KrbHeader {
+fn no_header() -> KrbHeader {
+    KrbHeader {
         kind: 0,
         etype: 0,
         checksum_type: 0,
@@ -298,7 +340,24 @@ fn a_header_is_read_with_no_key(rt: HostRuntime) {
         has_key_version: 0,
         key_version: 0,
         reserved: 0,
-    };
+    }
+}
+
+#[test]
+fn a_header_of_the_longest_message_is_read(rt: HostRuntime) -> Result<(), Fail> {
+    let (alloc, mut told) = (rt.alloc(), no_header());
+    let mut frame = Vec::from_slice(alloc, &START_OF_THE_LONGEST)?;
+    frame.resize(1_005_000, 0)?;
+    assert_eq!(rt; krbrelay_message_header(alloc, &frame, &mut told), 0);
+    assert_eq!(rt; (told.kind, told.etype, told.has_number), (21, 18, 0));
+    frame.push(0)?;
+    assert_eq!(rt; krbrelay_message_header(alloc, &frame, &mut told), 61);
+    Ok(())
+}
+
+#[test]
+fn a_header_is_read_with_no_key(rt: HostRuntime) {
+    let mut told = no_header();
     let alloc = rt.alloc();
     assert_eq!(rt; krbrelay_message_header(alloc, &SAFE_17, &mut told), 0);
     assert_eq!(rt; (told.kind, told.checksum_type, told.number), (20, 15, 7));

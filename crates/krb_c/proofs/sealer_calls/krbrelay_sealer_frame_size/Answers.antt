@@ -1,0 +1,9 @@
+use Rattle.std.proofs.Common.{Option, sym, subst, refl}
+use Rattle.krb_seal.specs.Sealer.{SealerState}
+use Rattle.krb_c.specs.declared.fault.Fault.TheVariants.{Empty}
+use Rattle.krb_c.specs.Reasons.{SizeFault}
+use Rattle.krb_c.proofs.sealer_calls.krbrelay_sealer_frame_size.Goals as goal
+
+pub returns-in_default-clause-why : goal.returns-in_default-clause-why
+returns-in_default-clause-why c = λ _.
+    (Empty, c.code.ensures.value, subst (λ (s : Option SealerState). SizeFault s c.args.len c.args.at.now Empty) (sym c.in_default.ensures.taken) refl)
