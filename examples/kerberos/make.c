@@ -56,7 +56,7 @@ static enum krbrelay_answer seal(struct message *m, const struct end *end,
 /* What MIT's call leaves: the replay data, the next number, and the cipher state. */
 static void leave(struct message *m, const struct end *end, const struct krbrelay_moment *at)
 {
-    if (m->replay != NULL)
+    if ((end->flags & (KRB5_AUTH_CONTEXT_RET_TIME | KRB5_AUTH_CONTEXT_RET_SEQUENCE)) != 0)
         memset(m->replay, 0, sizeof *m->replay);
     if ((end->flags & KRB5_AUTH_CONTEXT_RET_TIME) != 0) {
         m->replay->timestamp = (krb5_timestamp)at->seconds;

@@ -18,6 +18,10 @@ krb5_error_code refuse(struct message *m, enum krbrelay_answer answer)
     m->refusal = "UNKNOWN";
     if (krbrelay_answer_name(answer, m->name, sizeof m->name, &size) == KRBRELAY_OK)
         m->refusal = m->name;
+    if (answer == KRBRELAY_ETYPE_NOSUPP)
+        return KRB5_BAD_ENCTYPE;            /* MIT's own number for it, and */
+    if (answer == KRBRELAY_BADVERSION)
+        return KRB5KDC_ERR_BAD_PVNO;        /* for this; else RFC 4120's */
     if (answer >= KRBRELAY_ETYPE_NOSUPP && answer <= KRBRELAY_FIELD_TOOLONG)
         return ERROR_TABLE_BASE_krb5 + (krb5_error_code)answer;
     if (answer == KRBRELAY_MALFORMED)

@@ -5,12 +5,14 @@ of kprop's messages: the size as KRB-SAFE, the blocks of 32 KiB as KRB-PRIV, and
 loaded the database, the size as KRB-SAFE back, the confirmation."""
 import dataclasses
 
-from proxy import (Add, Alteration, Cut, Drop, Exchange, Flip, FlipHead, Length, Repeat, Replace)
+from proxy import (Add, Alteration, Border, Cut, Drop, Exchange, Flip, FlipHead, Length, Repeat,
+                   Replace)
 
 # The outcome: what the database or the password is afterwards, and how the sender ends.
 OLD = "the old one stays, an error"
 NEW = "the new one is there, an error"
 WELL = "the new one is there, well"
+EARLIER = "the one of the earlier session is there, an error"
 
 PASSED = "passed on"        # the library passes the message on: a chained cipher state
 NONE = ""                   # no message that is wrong comes to the library
@@ -177,25 +179,30 @@ KPROP = [*safe_flips("size", OLD), *priv_flips("block 1", OLD), *chained_flips()
 # ---- kpasswd's messages
 
 def kpasswd_others():
-    """kadmind answers a request that it refuses, and kpasswd ends with its error."""
-    def cut(message, what, kept, outcome, refusal):
-        return Case(message, f"cut {what}", Cut(kept), outcome, refusal)
+    """kadmind answers a request that it refuses, and kpasswd ends with its error. It doesn't
+    answer one whose length or version is wrong."""
+    def cut(message, what, kept, outcome, **more):
+        return Case(message, f"cut {what}", Cut(kept), outcome, NONE, **more)
     return [
-        cut("request", "in its head", lambda _: 5, OLD, NONE),
-        cut("request", "in the middle", lambda size: size // 2, OLD, NONE),
-        cut("request", "before its last byte", lambda size: size - 1, OLD, NONE),
-        cut("reply", "in the middle", lambda size: size // 2, NEW, NONE),
-        cut("reply", "before its last byte", lambda size: size - 1, NEW, NONE),
-        Case("request", "its length", FlipHead(1, 1), OLD, NONE),
-        Case("request", "its version", FlipHead(3, 4), OLD, NONE),
-        Case("request", "length of AP-REQ", FlipHead(5, 1), OLD, NONE),
+        cut("request", "in its head", lambda _: 5, OLD, stalls=True),
+        cut("request", "in the middle", lambda size: size // 2, OLD, stalls=True),
+        cut("request", "before its last byte", lambda size: size - 1, OLD, stalls=True),
+        cut("reply", "in the middle", lambda size: size // 2, NEW),
+        cut("reply", "before its last byte", lambda size: size - 1, NEW),
+        Case("request", "its length", FlipHead(1, 1), OLD, NONE, stalls=True),
+        Case("request", "its version", FlipHead(3, 4), OLD, NONE, stalls=True),
+        # MIT's code doesn't look at what comes after AP-REQ or AP-REP.
+        Case("request", "AP-REQ a byte longer by its length", Border(1), OLD, "MSG_TYPE"),
+        Case("request", "AP-REQ a byte shorter by its length", Border(-1), OLD, NONE),
         Case("reply", "its length", FlipHead(1, 1), NEW, NONE),
         Case("reply", "its version", FlipHead(3, 4), NEW, NONE),
-        Case("reply", "length of AP-REP", FlipHead(5, 1), NEW, NONE),
+        Case("reply", "AP-REP a byte longer by its length", Border(1), NEW, "MSG_TYPE"),
+        Case("reply", "AP-REP a byte shorter by its length", Border(-1), NEW, NONE),
         Case("request", "repeated", Repeat(), WELL, NONE),
         Case("request", "dropped once, and sent again", Drop(), WELL, NONE),
-        Case("request", "replaced by that of an earlier session", Replace("earlier request"), OLD,
-             NONE),
+        # kadmind keeps no cache of AP-REQ, so this is the earlier session once more, unaltered.
+        Case("request", "replaced by that of an earlier session", Replace("earlier request"),
+             EARLIER, NONE),
         Case("request", "its KRB-PRIV replaced by that of an earlier session",
              Replace("earlier request", whole=False), OLD, "BAD_INTEGRITY"),
         Case("request", "its KRB-PRIV replaced by an earlier reply's",

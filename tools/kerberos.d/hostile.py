@@ -35,7 +35,9 @@ def logged(log, wanted):
 def outcome_of(stays, is_well):
     """The outcome, from whether the old one stays, and whether the sender ended well."""
     if stays == "other":
-        return "ANOTHER DATABASE OR PASSWORD"
+        return "ANOTHER DATABASE"
+    if stays == "earlier":
+        return "THE EARLIER ONE, BUT THE SENDER ENDS WELL" if is_well else cases.EARLIER
     if stays == "old":
         return "THE OLD ONE STAYS, BUT THE SENDER ENDS WELL" if is_well else cases.OLD
     return cases.WELL if is_well else cases.NEW
@@ -45,6 +47,7 @@ class Hostile:
     def __init__(self, realm, library, count):
         self.realm, self.library, self.count = realm, library, count
         self.differ, self.runs = [], 0
+        self.last, self.earlier, self.earlier_password = {}, {}, "none yet"
         self.blocks = -(-os.path.getsize(realm.path("new")) // BLOCK)
         self.address = socket.gethostbyname(realm.host)
 
@@ -100,16 +103,23 @@ class Hostile:
             return "AN ERROR WITHOUT STATUS OR TEXT"
         return outcome_of(database, is_well)
 
-    def kpasswd(self, case, client, proxy, ends):
+    def kpasswd(self, case, etype, ends):
         realm = self.realm
         sender, receiver = self.sides(ends)
-        proxy.begin(case)
-        old = realm.password
+        proxy = proxies.UdpProxy(realm.ports["kpasswd"], case, dict(self.earlier))
+        client, old = f"krb5-{etype}-proxy", realm.password
+        realm.write_client(client, realms.CIPHERS[etype], kpasswd=proxy.port)
+        proxy.start()
         try:
             done, new = realm.kpasswd(client, *sender, limit=BOUND)
             outcome = self.kpasswd_outcome(case, proxy, done, old, new)
         except subprocess.TimeoutExpired:
             outcome = "NO END WITHIN THE BOUND"
+        finally:
+            proxy.close()
+        if outcome == cases.EARLIER:
+            self.change_password(etype)
+        self.last = proxy.seen
         return self.seen(case, outcome, (sender, receiver))
 
     def kpasswd_outcome(self, case, proxy, done, old, new):
@@ -118,17 +128,27 @@ class Hostile:
             return f"ENDED BY A SIGNAL: kpasswd {done.returncode}"
         if case.message and not proxy.met:
             return "THE MESSAGE DIDN'T COME"
-        takes_new, takes_old = realm.takes(new), realm.takes(old)
-        realm.password = new if takes_new else old
-        if takes_new == takes_old:
-            return outcome_of("other", False)
+        names = {self.earlier_password: "earlier", old: "old", new: "new"}
+        taken = [it for it in names if realm.takes(it)]
+        if len(taken) != 1:
+            return f"{len(taken)} PASSWORDS ARE TAKEN"
+        realm.password = taken[0]
         is_well = done.returncode == 0 and "Password changed" in done.stdout
-        return outcome_of("new" if takes_new else "old", is_well)
+        return outcome_of(names[taken[0]], is_well)
+
+    def change_password(self, etype):
+        """By MIT's code and no proxy."""
+        done, new = self.realm.kpasswd(f"krb5-{etype}")
+        if done.returncode or not self.realm.takes(new):
+            raise RuntimeError(f"kpasswd without a proxy: {done.stdout}")
+        self.realm.password = new
 
     # ---- a case at several ends
 
     def ends_of(self, case):
-        """Where a message needs a time, its maker has the library."""
+        """Where a message needs a time, its maker has the library. A stall takes seconds."""
+        if case.stalls:
+            return [(0, 0), (1, 1)]
         if case.timed:
             return [(0, 1) if case.message in BACK else (1, 0), (1, 1)]
         reader_alone = (1, 0) if case.message in BACK else (0, 1)
@@ -165,32 +185,27 @@ class Hostile:
                                                cache="file2:" + self.realm.path("replays"))
             for etype in etypes:
                 self.kpasswd_cases(etype, receives, seen)
-            self.count.told(kadmind.poll() is None, "kadmind, "
-                            f"{NAMES[0, receives] if receives else NAMES[0, 0]}: it runs on")
+            self.count.told(kadmind.poll() is None,
+                            f"kadmind, {NAMES[receives, receives]}: it runs on after all cases")
             self.realm.stop(kadmind)
         for (etype, number), it in seen.items():
             self.tell(f"kpasswd, type {etype}", cases.KPASSWD[number], it)
 
     def kpasswd_cases(self, etype, receives, seen):
-        proxy = proxies.UdpProxy(self.realm.ports["kpasswd"])
-        client = f"krb5-{etype}-proxy"
-        self.realm.write_client(client, realms.CIPHERS[etype], kpasswd=proxy.port)
-        proxy.begin(UNTOUCHED)
-        proxy.start()
-        try:
-            self.earlier_session(client, proxy)
-            for number, case in enumerate(cases.KPASSWD):
-                for ends in self.ends_of(case):
-                    if ends[1] == receives:
-                        seen[etype, number][ends] = self.kpasswd(case, client, proxy, ends)
-        finally:
-            proxy.close()
+        self.earlier_session(etype)
+        for number, case in enumerate(cases.KPASSWD):
+            for ends in self.ends_of(case):
+                if ends[1] == receives:
+                    seen[etype, number][ends] = self.kpasswd(case, etype, ends)
 
-    def earlier_session(self, client, proxy):
-        done = self.kpasswd(UNTOUCHED, client, proxy, (0, 0))
+    def earlier_session(self, etype):
+        """Keeps the messages and the password of a session, after which comes another password."""
+        done = self.kpasswd(UNTOUCHED, etype, (0, 0))
         if done.outcome != cases.WELL:
             raise RuntimeError(f"kpasswd through the proxy: {done.outcome}")
-        proxy.remember()
+        self.earlier = {"earlier " + name: self.last[name] for name in ("request", "reply")}
+        self.earlier_password = self.realm.password
+        self.change_password(etype)
 
 
 def run_all(realm, library, count, etypes):

@@ -122,6 +122,17 @@ class Length(Alteration):
         return [self.other(len(frame) - 4).to_bytes(4, "big") + frame[4:]]
 
 
+class Border(Alteration):
+    """Gives kpasswd's AP-REQ or AP-REP another length before it, so that KRB-PRIV starts there."""
+
+    def __init__(self, more):
+        self.more = more
+
+    def applied(self, _name, frame, _wire, _seen):
+        size = int.from_bytes(frame[4:6], "big") + self.more
+        return [frame[:4] + size.to_bytes(2, "big") + frame[6:]]
+
+
 class Add(Alteration):
     """Adds a byte after the message, with lengths that are right."""
 
@@ -278,11 +289,11 @@ class TcpProxy(threading.Thread):
 
 
 class UdpProxy(threading.Thread):
-    """Between kpasswd and kadmind, for one case after another."""
+    """Between one kpasswd and kadmind. `seen` has the messages of an earlier session."""
 
-    def __init__(self, server_port):
+    def __init__(self, server_port, case, seen):
         super().__init__(daemon=True)
-        self.case, self.seen, self.held, self.met, self.ended = None, {}, {}, 0, False
+        self.case, self.seen, self.held, self.met, self.ended = case, seen, {}, 0, False
         self.listening = socket.socket(type=socket.SOCK_DGRAM)
         self.listening.bind(("127.0.0.1", 0))
         self.port = self.listening.getsockname()[1]
@@ -291,23 +302,18 @@ class UdpProxy(threading.Thread):
         self.client = None
         self.back = threading.Thread(target=self.pump_back, daemon=True)
 
-    def begin(self, case):
-        self.case, self.held, self.met = case, {}, 0
-
-    def remember(self):
-        """The messages that passed are those of an earlier session from now on."""
-        self.seen = {"earlier " + name: self.seen[name] for name in ("request", "reply")}
-
     def start(self):
         super().start()
         self.back.start()
 
     def run(self):
         while not self.ended:
-            frame, client = self.listening.recvfrom(65535)
-            self.client = client
+            frame, self.client = self.listening.recvfrom(65535)
             for piece in self.altered("request", frame):
                 quietly(self.server.send, piece)
+            if self.case.stalls and self.met:
+                self.listening.close()      # kpasswd, which sends again, learns that nobody is there
+                return
 
     def pump_back(self):
         while not self.ended:

@@ -10,6 +10,7 @@ import time
 REALM = "KRBRELAY.TEST"
 CIPHERS = {17: "aes128-cts-hmac-sha1-96", 18: "aes256-cts-hmac-sha1-96"}
 PRINCIPALS = 2000
+GIVEN = ("K", "krbtgt", "kadmin", "kiprop")     # the first parts of a realm's own principals
 FOLDERS = ["/usr/sbin", "/usr/bin", "/sbin", "/bin"]
 
 CLIENT = """[libdefaults]
@@ -181,6 +182,20 @@ class Realm:
             if filecmp.cmp(self.path(name), self.path("arrived"), False):
                 return name
         return "other"
+
+    def principals(self, name):
+        """The names of the principals in a dump, without the realm."""
+        lines = [line.split("\t") for line in read(self.path(name)).splitlines()]
+        return [line[6].removesuffix("@" + REALM) for line in lines if line[0] == "princ"]
+
+    def is_whole(self, name, more):
+        """Whether a dump has each of the 2,000 principals and those of the programs once, these
+        further ones, and no others but those that kdb5_util gives each realm."""
+        names = self.principals(name)
+        ours = {f"user{i}" for i in range(PRINCIPALS)} | {f"host/{self.host}", "kuser", *more}
+        others = set(names) - ours
+        return (len(names) == len(set(names)) and ours <= set(names) and "K/M" in others
+                and all(it.split("/")[0] in GIVEN for it in others))
 
     # ---- kprop and kpasswd
 
