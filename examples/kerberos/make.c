@@ -53,11 +53,9 @@ static enum krbrelay_answer seal(struct message *m, const struct end *end,
     return answer;
 }
 
-/* What MIT's call leaves: the replay data, the next number, and the cipher state. */
+/* What MIT's call leaves: of the replay data what is asked for, and the next number. */
 static void leave(struct message *m, const struct end *end, const struct krbrelay_moment *at)
 {
-    if ((end->flags & (KRB5_AUTH_CONTEXT_RET_TIME | KRB5_AUTH_CONTEXT_RET_SEQUENCE)) != 0)
-        memset(m->replay, 0, sizeof *m->replay);
     if ((end->flags & KRB5_AUTH_CONTEXT_RET_TIME) != 0) {
         m->replay->timestamp = (krb5_timestamp)at->seconds;
         m->replay->usec = (krb5_int32)at->microseconds;
