@@ -15,6 +15,8 @@ static const char *passes_on(const struct message *m, const struct end *end)
         return "no_local_address";      /* MIT answers KRB5_LOCAL_ADDR_REQUIRED */
     if (lacks_replay(m, end))
         return "no_replay_data";        /* MIT answers KRB5_RC_REQUIRED */
+    if (has_replay_cache(end))
+        return "replay_cache";
     if (m->call == MK_PRIV && !is_first_state(end->cipher_state))
         return "chained_cipher_state";
     return m->in->length > KRBRELAY_USER_DATA_LIMIT ? "long_user_data" : NULL;

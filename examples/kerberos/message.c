@@ -34,3 +34,8 @@ int lacks_replay(const struct message *m, const struct end *end)
     const krb5_int32 wanted = KRB5_AUTH_CONTEXT_RET_TIME | KRB5_AUTH_CONTEXT_RET_SEQUENCE;
     return (end->flags & wanted) != 0 && m->replay == NULL;
 }
+
+int has_replay_cache(const struct end *end)
+{
+    return (end->flags & KRB5_AUTH_CONTEXT_DO_TIME) != 0;
+}

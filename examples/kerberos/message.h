@@ -33,4 +33,8 @@ krb5_error_code refuse(struct message *m, enum krbrelay_answer answer);
 /* Whether the caller asked for the replay data, and gave no room for them. */
 int lacks_replay(const struct message *m, const struct end *end);
 
+/* Whether MIT keeps a cache of what this context makes and reads, which refuses a message that comes
+ * again, or comes back to its maker. No call reaches the cache, so MIT's code does both then. */
+int has_replay_cache(const struct end *end);
+
 #endif

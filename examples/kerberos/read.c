@@ -14,11 +14,10 @@ struct opened {
 /* Why MIT's code has to read it, or NULL. */
 static const char *passes_on(const struct message *m, const struct end *end)
 {
-    const krb5_int32 timed = KRB5_AUTH_CONTEXT_DO_TIME | KRB5_AUTH_CONTEXT_DO_SEQUENCE;
     if (lacks_replay(m, end))
         return "no_replay_data";        /* MIT answers KRB5_RC_REQUIRED */
-    if ((end->flags & timed) == KRB5_AUTH_CONTEXT_DO_TIME)
-        return "replay_cache";          /* nothing but MIT's cache tells a repeated message */
+    if (has_replay_cache(end))
+        return "replay_cache";
     if (m->call == RD_PRIV && !is_first_state(end->cipher_state))
         return "chained_cipher_state";
     return m->in->length > KRBRELAY_FRAME_LIMIT ? "long_message" : NULL;
@@ -77,21 +76,19 @@ static krb5_error_code check_host(krb5_context ctx, const struct krbrelay_carrie
     return error;
 }
 
-/* What MIT demands of host and clock, by its own calls. A message without a time has the time 0. */
+/* What MIT demands of the host, by its own calls. */
 static krb5_error_code check_carried(struct message *m, const struct end *end,
                                      const struct krbrelay_carried *carried)
 {
     krb5_error_code error = 0;
     if (!end->has_local && carried->has_receiver)
         error = check_host(m->ctx, carried);
-    if (error == 0 && (end->flags & KRB5_AUTH_CONTEXT_DO_TIME) != 0)
-        error = krb5_check_clockskew(m->ctx, (krb5_timestamp)carried->seconds);
     if (error != 0)
-        m->refusal = error == KRB5KRB_AP_ERR_SKEW ? "SKEW" : "BADADDR";
+        m->refusal = "BADADDR";
     return error;
 }
 
-/* Another number came: MIT looks at host and clock before it. */
+/* Another number came: MIT looks at the host before it. */
 static krb5_error_code refuse_number(struct message *m, const struct end *end, uint8_t *room)
 {
     struct opened opened = { 0 };

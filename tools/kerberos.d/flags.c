@@ -45,7 +45,7 @@ struct layout {
 };
 
 enum input { GOOD, LAST_BYTE, CUT, EMPTY, ADDED, OTHER_KIND, PVNO, MSG_TYPE,
-             REPEATED, OURS };
+             REPEATED, OURS, OWN };
 
 /* How the call is made, and of reading: how the message was made. */
 struct situation {
@@ -118,6 +118,7 @@ static const struct situation situations[] = {
       .remote = 1 },
     { .name = "no remote address", .number = 5, .sent = 5, .sent_flags = FULL, .local = 255 },
     { .name = "no local address", .number = 5, .sent = 5, .sent_flags = FULL, .remote = 1 },
+    { .name = "own message", .number = 5, .sent = 5, .local = 1, .input = OWN },
     { .name = "another sender, old, the next number", .number = 5, .sent = 6, .sent_flags = FULL,
       .local = 255, .remote = 2, .shift = -3600 },
     { .name = "old, the next number", .number = 5, .sent = 6, .sent_flags = FULL,
@@ -361,6 +362,20 @@ static void make_all(char *to, enum call call, const struct situation *s, int fl
     krb5_auth_con_free(ctx, reader);
 }
 
+/* Messages of the context itself, which come back to it. */
+static void make_own(struct frame *frames, krb5_auth_context ac, enum call call,
+                     const struct situation *s, enum side side)
+{
+    krb5_data in = { KV5M_DATA, (unsigned)text_size(s), (char *)text };
+    krb5_replay_data replay;
+    int i;
+    for (i = 0; i < TURNS; i++) {
+        krb5_data out = { 0 };
+        must((side == MIT ? mit : here)[call - 1](ctx, ac, &in, &out, &replay), "mk");
+        keep(&frames[i], &out);
+    }
+}
+
 static void read_turn(char *to, krb5_auth_context ac, enum call call, const struct situation *s,
                       enum side side, struct frame *frame)
 {
@@ -372,8 +387,8 @@ static void read_turn(char *to, krb5_auth_context ac, enum call call, const stru
     error = (side == MIT ? mit : here)[call](ctx, ac, &in, &out, s->without_replay ? NULL : &replay);
     say_error(to, "|| error", error);
     say_data(to, &out, &before, text, text_size(s));
-    say_replay(to, &replay, 0);
-    say_context(to, ac, 0);
+    say_replay(to, &replay, s->input == OWN);
+    say_context(to, ac, s->input == OWN);
     if (error == 0)
         krb5_free_data_contents(ctx, &out);
 }
@@ -383,7 +398,9 @@ static void read_all(char *to, enum call call, const struct situation *s, int fl
 {
     krb5_auth_context ac = context_of(etype, flags, s->local, s->remote, s->chained, 0);
     int i;
-    set_numbers(ac, 0, s->number);
+    set_numbers(ac, s->input == OWN ? s->sent : 0, s->number);
+    if (s->input == OWN)
+        make_own(frames, ac, call, s, side);
     for (i = 0; i < TURNS; i++)
         read_turn(to, ac, call, s, side, &frames[i]);
     krb5_auth_con_free(ctx, ac);

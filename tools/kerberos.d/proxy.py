@@ -246,7 +246,7 @@ class TcpProxy(threading.Thread):
         back.join()
 
     def pump(self, source, target, names, before):
-        """Passes messages on to the end of the connection; what nobody takes is read all the same,
+        """Passes messages on until the connection ends. What nobody takes is read all the same,
         so that the sender isn't ended by a signal."""
         try:
             quietly(target.sendall, read_exactly(source, before))
