@@ -51,7 +51,7 @@ enum input { GOOD, LAST_BYTE, CUT, EMPTY, ADDED, OTHER_KIND, PVNO, MSG_TYPE,
 struct situation {
     const char *name;
     int makes;                          /* of making, else of reading */
-    uint32_t number;                    /* the next one: local where it makes, remote where it reads */
+    uint32_t number;                    /* the next one: making, of its own; reading, of the peer */
     uint32_t sent;                      /* of reading: the number of the message */
     int sent_flags;                     /* of reading: the flags of its maker */
     int local, remote;                  /* hosts of 10.0.0.0/24, 0 for none */
@@ -201,7 +201,8 @@ static void say_data(char *to, const krb5_data *out, const krb5_data *before, co
     else if (wanted == NULL)
         say(to, "data", 1);
     else
-        say(to, "data right", out->length == len && (len == 0 || memcmp(out->data, wanted, len) == 0));
+        say(to, "data right",
+            out->length == len && (len == 0 || memcmp(out->data, wanted, len) == 0));
 }
 
 /* A moment by its kind where it was made now, by its value where it was read. */
@@ -337,7 +338,8 @@ static void make_turn(char *to, krb5_auth_context ac, krb5_auth_context reader, 
     krb5_replay_data replay;
     krb5_error_code error;
     memset(&replay, 0x55, sizeof replay);
-    error = (side == MIT ? mit : here)[call](ctx, ac, &in, &out, s->without_replay ? NULL : &replay);
+    error = (side == MIT ? mit : here)[call](ctx, ac, &in, &out,
+                                             s->without_replay ? NULL : &replay);
     say_error(to, "|| error", error);
     say_data(to, &out, &before, NULL, 0);
     say_replay(to, &replay, 1);
@@ -384,7 +386,8 @@ static void read_turn(char *to, krb5_auth_context ac, enum call call, const stru
     krb5_replay_data replay;
     krb5_error_code error;
     memset(&replay, 0x55, sizeof replay);
-    error = (side == MIT ? mit : here)[call](ctx, ac, &in, &out, s->without_replay ? NULL : &replay);
+    error = (side == MIT ? mit : here)[call](ctx, ac, &in, &out,
+                                             s->without_replay ? NULL : &replay);
     say_error(to, "|| error", error);
     say_data(to, &out, &before, text, text_size(s));
     say_replay(to, &replay, s->input == OWN);

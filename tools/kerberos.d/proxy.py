@@ -299,6 +299,8 @@ class UdpProxy(threading.Thread):
         self.port = self.listening.getsockname()[1]
         self.server = socket.socket(type=socket.SOCK_DGRAM)
         self.server.connect(("127.0.0.1", server_port))
+        for it in (self.listening, self.server):
+            it.settimeout(1)
         self.client = None
         self.back = threading.Thread(target=self.pump_back, daemon=True)
 
@@ -308,18 +310,21 @@ class UdpProxy(threading.Thread):
 
     def run(self):
         while not self.ended:
-            frame, self.client = self.listening.recvfrom(65535)
+            try:
+                frame, self.client = self.listening.recvfrom(65535)
+            except TimeoutError:
+                continue
             for piece in self.altered("request", frame):
                 quietly(self.server.send, piece)
             if self.case.stalls and self.met:
-                self.listening.close()      # kpasswd, which sends again, learns that nobody is there
+                self.listening.close()      # kpasswd sends again, and learns that nobody is there
                 return
 
     def pump_back(self):
         while not self.ended:
             try:
                 frame = self.server.recv(65535)
-            except ConnectionError:
+            except (ConnectionError, TimeoutError):
                 continue
             for piece in self.altered("reply", frame):
                 quietly(self.listening.sendto, piece, self.client)

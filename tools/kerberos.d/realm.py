@@ -72,7 +72,7 @@ def read(path):
 
 
 class Realm:
-    """The realm. Its senders' library is preloaded where a path is given, likewise the receivers'."""
+    """The realm. The library of a sender or receiver is preloaded where its path is given."""
 
     def __init__(self, folder):
         self.folder = folder
