@@ -200,7 +200,7 @@ def kpasswd_others():
         Case("reply", "AP-REP a byte shorter by its length", Border(-1), NEW, NONE),
         Case("request", "repeated", Repeat(), WELL, NONE),
         Case("request", "dropped once, and sent again", Drop(), WELL, NONE),
-        # kadmind keeps no cache of AP-REQ, so this is the earlier session once more, unaltered.
+        # kadmind accepts an AP-REQ twice, so this is the earlier session once more, unaltered.
         Case("request", "replaced by that of an earlier session", Replace("earlier request"),
              EARLIER, NONE),
         Case("request", "its KRB-PRIV replaced by that of an earlier session",
