@@ -11,9 +11,9 @@ enum { CIPHER_STATE_SIZE = 16 };
 /* Whether the state, or NULL, is that before any message. */
 int is_first_state(const uint8_t *state);
 
-/* Writes the state after a KRB-PRIV message of type 17 or 18 (RFC 3962 section 6): the last block of
- * the cipher that is whole, which is the last but one that is sent. Answers 0 where the bytes are no
- * such message. */
+/* Writes the state after a KRB-PRIV message of type 17 or 18 (RFC 3962 section 6): the last block
+ * of the cipher that is whole, which is the last but one that is sent. Answers 0 where the bytes
+ * are no such message. */
 int read_next_state(const uint8_t *frame, size_t len, uint8_t state[CIPHER_STATE_SIZE]);
 
 #endif

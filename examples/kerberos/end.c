@@ -7,8 +7,8 @@
 krb5_error_code krb5_auth_con_getivector(krb5_context, krb5_auth_context, krb5_pointer *);
 krb5_error_code krb5_make_fulladdr(krb5_context, krb5_address *, krb5_address *, krb5_address *);
 
-/* The first members of MIT's struct _krb5_auth_context, in version 1.20.1. No call sets a number or
- * tells a port, so these are reached here, and only where what the public calls tell is the same. */
+/* The first members of MIT's struct _krb5_auth_context, in version 1.20.1. No call sets a number
+ * or tells a port, so these are reached here, and only where the public calls tell the same. */
 struct layout {
     krb5_magic magic;
     krb5_address *remote_addr, *remote_port, *local_addr, *local_port;

@@ -15,6 +15,8 @@ static const char *passes_on(const struct message *m, const struct end *end)
         return "no_local_address";      /* MIT answers KRB5_LOCAL_ADDR_REQUIRED */
     if (lacks_replay(m, end))
         return "no_replay_data";        /* MIT answers KRB5_RC_REQUIRED */
+    if (has_replay_cache(end))
+        return "replay_cache";
     if (m->call == MK_PRIV && !is_first_state(end->cipher_state))
         return "chained_cipher_state";
     return m->in->length > KRBRELAY_USER_DATA_LIMIT ? "long_user_data" : NULL;
@@ -53,11 +55,9 @@ static enum krbrelay_answer seal(struct message *m, const struct end *end,
     return answer;
 }
 
-/* What MIT's call leaves: the replay data, the next number, and the cipher state. */
+/* What MIT's call leaves: of the replay data what is asked for, and the next number. */
 static void leave(struct message *m, const struct end *end, const struct krbrelay_moment *at)
 {
-    if (m->replay != NULL)
-        memset(m->replay, 0, sizeof *m->replay);
     if ((end->flags & KRB5_AUTH_CONTEXT_RET_TIME) != 0) {
         m->replay->timestamp = (krb5_timestamp)at->seconds;
         m->replay->usec = (krb5_int32)at->microseconds;

@@ -18,8 +18,8 @@ struct message {
     char name[KRBRELAY_TEXT_SIZE];
 };
 
-/* Each answers NULL, and the call is done: its error is in the message; or the reason why MIT's code
- * has to do it, and then nothing has changed. */
+/* Each answers NULL, and the call is done: its error is in the message; or the reason why MIT's
+ * code has to do it, and then nothing has changed. */
 const char *make_message(struct message *m, struct end *end);
 const char *read_message(struct message *m, struct end *end);
 
@@ -32,5 +32,9 @@ krb5_error_code refuse(struct message *m, enum krbrelay_answer answer);
 
 /* Whether the caller asked for the replay data, and gave no room for them. */
 int lacks_replay(const struct message *m, const struct end *end);
+
+/* Whether MIT keeps a cache of what this context makes and reads, which refuses a message that
+ * comes again, or comes back to its maker. No call reaches it, so MIT's code does both then. */
+int has_replay_cache(const struct end *end);
 
 #endif

@@ -14,32 +14,31 @@ struct opened {
 /* Why MIT's code has to read it, or NULL. */
 static const char *passes_on(const struct message *m, const struct end *end)
 {
-    const krb5_int32 timed = KRB5_AUTH_CONTEXT_DO_TIME | KRB5_AUTH_CONTEXT_DO_SEQUENCE;
     if (lacks_replay(m, end))
         return "no_replay_data";        /* MIT answers KRB5_RC_REQUIRED */
-    if ((end->flags & timed) == KRB5_AUTH_CONTEXT_DO_TIME)
-        return "replay_cache";          /* nothing but MIT's cache tells a repeated message */
+    if (has_replay_cache(end))
+        return "replay_cache";
     if (m->call == RD_PRIV && !is_first_state(end->cipher_state))
         return "chained_cipher_state";
     return m->in->length > KRBRELAY_FRAME_LIMIT ? "long_message" : NULL;
 }
 
 /* MIT's demands: the sender's address where the context has one; the receiver's where message and
- * context have one; and the number, of which none means 0. */
-static void demand_of(struct krbrelay_demand *demand, const struct end *end)
+ * context have one; and the number, of which none means 0, if it is demanded now. */
+static void demand_of(struct krbrelay_demand *demand, const struct end *end, int numbered)
 {
     memset(demand, 0, sizeof *demand);
     demand->how_sender = end->has_remote ? KRBRELAY_REQUIRED : KRBRELAY_IGNORE;
     demand->sender = end->remote;
     demand->how_receiver = end->has_local ? KRBRELAY_IF_PRESENT : KRBRELAY_IGNORE;
     demand->receiver = end->local;
-    if ((end->flags & KRB5_AUTH_CONTEXT_DO_SEQUENCE) != 0)
+    if (numbered)
         demand->how_number = KRBRELAY_ABSENT_IS_0;
     demand->number = end->number;
 }
 
-static enum krbrelay_answer open_frame(struct message *m, const struct end *end, uint8_t *room,
-                                       struct opened *opened)
+static enum krbrelay_answer open_frame(struct message *m, const struct end *end, int numbered,
+                                       uint8_t *room, struct opened *opened)
 {
     const struct krbrelay_moment unused = { 0 };    /* no time is demanded of krbrelay */
     struct krbrelay_opener opener = { 0 };
@@ -47,7 +46,7 @@ static enum krbrelay_answer open_frame(struct message *m, const struct end *end,
     struct krbrelay_demand demand;
     enum krbrelay_answer answer;
     expect.mode = mode_of(m->call);
-    demand_of(&demand, end);
+    demand_of(&demand, end, numbered);
     answer = krbrelay_opener_new(&opener, end->key->enctype, end->key->contents, end->key->length,
                                  &expect);
     if (answer == KRBRELAY_OK)
@@ -77,26 +76,55 @@ static krb5_error_code check_host(krb5_context ctx, const struct krbrelay_carrie
     return error;
 }
 
-/* What MIT demands of host and clock, by its own calls. A message without a time has the time 0. */
+/* What MIT demands of the host, by its own calls. */
 static krb5_error_code check_carried(struct message *m, const struct end *end,
                                      const struct krbrelay_carried *carried)
 {
     krb5_error_code error = 0;
     if (!end->has_local && carried->has_receiver)
         error = check_host(m->ctx, carried);
-    if (error == 0 && (end->flags & KRB5_AUTH_CONTEXT_DO_TIME) != 0)
-        error = krb5_check_clockskew(m->ctx, (krb5_timestamp)carried->seconds);
     if (error != 0)
-        m->refusal = error == KRB5KRB_AP_ERR_SKEW ? "SKEW" : "BADADDR";
+        m->refusal = "BADADDR";
     return error;
 }
 
+/* Another number came: MIT looks at the host before it. */
+static krb5_error_code refuse_number(struct message *m, const struct end *end, uint8_t *room)
+{
+    struct opened opened = { 0 };
+    krb5_error_code error = 0;
+    if (open_frame(m, end, 0, room, &opened) == KRBRELAY_OK)
+        error = check_carried(m, end, &opened.carried);
+    return error != 0 ? error : refuse(m, KRBRELAY_BADORDER);
+}
+
+/* MIT's mark in the flags of a sender that writes its numbers as RFC 4120 says: it is set by a
+ * number whose highest bit stands where other encoders take it for a sign. */
+static krb5_error_code mark_sender(struct message *m, const struct end *end)
+{
+    const krb5_int32 mark = 0x00080000;
+    const uint32_t n = end->number;
+    int shows = (n & 0xffffff80u) == 0x80 || (n & 0xffff8000u) == 0x8000 ||
+                (n & 0xff800000u) == 0x800000;
+    if (!shows || (end->flags & mark) != 0)
+        return 0;
+    return krb5_auth_con_setflags(m->ctx, m->ac, end->flags | mark);
+}
+
 /* What MIT's call leaves: user data, replay data, and the next number. */
-static void leave(struct message *m, const struct end *end, uint8_t *user_data,
-                  const struct opened *opened)
+static krb5_error_code leave(struct message *m, const struct end *end, uint8_t *user_data,
+                             const struct opened *opened)
 {
     const krb5_int32 told = KRB5_AUTH_CONTEXT_RET_TIME | KRB5_AUTH_CONTEXT_RET_SEQUENCE;
-    m->out->data = (char *)user_data;
+    krb5_error_code error = 0;
+    if ((end->flags & KRB5_AUTH_CONTEXT_DO_SEQUENCE) != 0)
+        error = mark_sender(m, end);
+    if (error != 0)
+        return error;
+    if (opened->size == 0)
+        free(user_data);
+    else
+        m->out->data = (char *)user_data;
     m->out->length = (unsigned)opened->size;
     if ((end->flags & told) != 0) {
         m->replay->timestamp = (krb5_timestamp)opened->carried.seconds;
@@ -105,6 +133,7 @@ static void leave(struct message *m, const struct end *end, uint8_t *user_data,
     }
     if ((end->flags & KRB5_AUTH_CONTEXT_DO_SEQUENCE) != 0)
         set_number(m->ac, RECEIVING, end->number + 1);
+    return 0;
 }
 
 /* MIT looks at the first byte before all else. */
@@ -119,20 +148,22 @@ static krb5_error_code read_into(struct message *m, const struct end *end, uint8
     struct opened opened = { 0 };
     uint8_t state[CIPHER_STATE_SIZE];
     krb5_error_code error;
-    enum krbrelay_answer answer = open_frame(m, end, room, &opened);
+    int numbered = (end->flags & KRB5_AUTH_CONTEXT_DO_SEQUENCE) != 0;
+    enum krbrelay_answer answer = open_frame(m, end, numbered, room, &opened);
     int chains = m->call == RD_PRIV && end->cipher_state != NULL;
+    if (answer == KRBRELAY_BADORDER)
+        return refuse_number(m, end, room);
     if (answer == KRBRELAY_OK && chains &&
         !read_next_state((const uint8_t *)m->in->data, m->in->length, state))
         answer = KRBRELAY_MALFORMED;
     if (answer != KRBRELAY_OK)
         return refuse(m, answer);
     error = check_carried(m, end, &opened.carried);
-    if (error != 0)
-        return error;
-    if (chains)
+    if (error == 0)
+        error = leave(m, end, room, &opened);
+    if (error == 0 && chains)
         memcpy(end->cipher_state, state, sizeof state);
-    leave(m, end, room, &opened);
-    return 0;
+    return error;
 }
 
 const char *read_message(struct message *m, struct end *end)

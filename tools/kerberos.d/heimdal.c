@@ -113,7 +113,8 @@ int main(void)
     for (uint32_t mode = KRBRELAY_SAFE; mode <= KRBRELAY_PRIV; mode++)
         for (int etype = 17; etype <= 18; etype++) {
             int read = to_heimdal(mode, etype), opened = to_ours(mode, etype);
-            printf("%s, type %d: Heimdal read %d of %d of ours, ours opened %d of %d of Heimdal's\n",
+            printf("%s, type %d: Heimdal read %d of %d of ours, "
+                   "ours opened %d of %d of Heimdal's\n",
                    mode == KRBRELAY_SAFE ? "KRB-SAFE" : "KRB-PRIV", etype, read, MESSAGES, opened,
                    MESSAGES);
             failed += read != MESSAGES || opened != MESSAGES;

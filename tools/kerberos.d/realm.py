@@ -10,6 +10,7 @@ import time
 REALM = "KRBRELAY.TEST"
 CIPHERS = {17: "aes128-cts-hmac-sha1-96", 18: "aes256-cts-hmac-sha1-96"}
 PRINCIPALS = 2000
+GIVEN = ("K", "krbtgt", "kadmin", "kiprop")     # the first parts of a realm's own principals
 FOLDERS = ["/usr/sbin", "/usr/bin", "/sbin", "/bin"]
 
 CLIENT = """[libdefaults]
@@ -71,7 +72,7 @@ def read(path):
 
 
 class Realm:
-    """The realm. Its senders' library is preloaded where a path is given, likewise the receivers'."""
+    """The realm. The library of a sender or receiver is preloaded where its path is given."""
 
     def __init__(self, folder):
         self.folder = folder
@@ -99,9 +100,10 @@ class Realm:
         write(self.path("kadm5.acl"), f"*/admin@{REALM} *\n")
         write(self.path("kpropd.acl"), f"host/{self.host}@{REALM}\n")
 
-    def environment(self, client="krb5-server", server="kdc-master", library=None, log=None):
+    def environment(self, client="krb5-server", server="kdc-master", library=None, log=None,
+                    cache="none:"):
         env = {"PATH": ":".join(FOLDERS), "KRB5_CONFIG": self.path(client), "LC_ALL": "C",
-               "KRB5_KDC_PROFILE": self.path(server), "KRB5RCACHENAME": "none:",
+               "KRB5_KDC_PROFILE": self.path(server), "KRB5RCACHENAME": cache,
                "KRB5CCNAME": "FILE:" + self.path("cc")}
         if library:
             env.update(LD_PRELOAD=library, KRBRELAY_LOG=log)
@@ -181,6 +183,20 @@ class Realm:
                 return name
         return "other"
 
+    def principals(self, name):
+        """The names of the principals in a dump, without the realm."""
+        lines = [line.split("\t") for line in read(self.path(name)).splitlines()]
+        return [line[6].removesuffix("@" + REALM) for line in lines if line[0] == "princ"]
+
+    def is_whole(self, name, more):
+        """Whether a dump has each of the 2,000 principals and those of the programs once, these
+        further ones, and no others but those that kdb5_util gives each realm."""
+        names = self.principals(name)
+        ours = {f"user{i}" for i in range(PRINCIPALS)} | {f"host/{self.host}", "kuser", *more}
+        others = set(names) - ours
+        return (len(names) == len(set(names)) and ours <= set(names) and "K/M" in others
+                and all(it.split("/")[0] in GIVEN for it in others))
+
     # ---- kprop and kpasswd
 
     def start_kpropd(self, name, library=None, log=None):
@@ -190,21 +206,33 @@ class Realm:
                  "-p", "/usr/sbin/kdb5_util"]
         return self.start(words, name, "ready", server="kdc-replica", library=library, log=log)
 
-    def kprop(self, etype, port, library=None, log=None):
+    def kpropd_of(self, connection, name, library=None, log=None):
+        """A kpropd for one connection, as inetd starts it: its standard input is the socket."""
+        words = ["kpropd", "-r", REALM, "-s", self.path("keytab"), "-f", self.path("incoming"),
+                 "-F", self.path("replica/principal"), "-a", self.path("kpropd.acl"),
+                 "-p", "/usr/sbin/kdb5_util"]
+        env = self.environment(server="kdc-replica", library=library, log=log)
+        with open(self.path(name), "wb") as output:
+            process = subprocess.Popen(words, env=env, stdin=connection, stdout=output,
+                                       stderr=subprocess.STDOUT)
+        self.started.append(process)
+        return process
+
+    def kprop(self, etype, port, library=None, log=None, limit=60):
         words = ["kprop", "-r", REALM, "-f", self.path("new"), "-P", str(port),
                  "-s", self.path("keytab"), self.host]
-        return self.run(words, client=f"krb5-{etype}", library=library, log=log)
+        return self.run(words, client=f"krb5-{etype}", library=library, log=log, limit=limit)
 
-    def start_kadmind(self, name, library=None, log=None):
+    def start_kadmind(self, name, library=None, log=None, cache="none:"):
         return self.start(["kadmind", "-r", REALM, "-nofork"], name, "starting",
-                          library=library, log=log)
+                          library=library, log=log, cache=cache)
 
-    def kpasswd(self, client, library=None, log=None):
+    def kpasswd(self, client, library=None, log=None, limit=60):
         """Changes the password, and answers the run and the new one."""
         self.runs += 1
         new = f"password{self.runs}"
         return self.run(["kpasswd", f"kuser@{REALM}"], client=client, library=library, log=log,
-                        given=f"{self.password}\n{new}\n{new}\n"), new
+                        given=f"{self.password}\n{new}\n{new}\n", limit=limit), new
 
     def takes(self, password):
         """Whether the KDC gives a ticket for this password."""
