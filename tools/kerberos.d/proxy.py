@@ -5,7 +5,7 @@ import threading
 
 CUT = None          # among the bytes that an alteration passes on: here the connection ends
 LIMIT = 20          # seconds in which something has to move
-STALL = 0.7         # seconds after which a stalled connection is ended, where a case says it stalls
+STALL = 0.7         # the same after a message after which both ends wait, as its case says
 
 
 # ---- values in DER
@@ -237,8 +237,8 @@ class TcpProxy(threading.Thread):
         except OSError:
             self.hung = True
             return
-        self.client.settimeout(STALL if self.case.stalls else LIMIT)
-        self.server.settimeout(STALL if self.case.stalls else LIMIT)
+        self.client.settimeout(LIMIT)
+        self.server.settimeout(LIMIT)
         back = threading.Thread(target=self.pump, daemon=True,
                                 args=(self.server, self.client, {2: "confirmation"}, 1))
         back.start()
@@ -255,7 +255,7 @@ class TcpProxy(threading.Thread):
                 self.pass_on(names.get(index), frame, target)
                 index += 1
         except TimeoutError:
-            self.hung = not self.case.stalls
+            self.hung = not (self.case.stalls and self.met)
             self.cut()
         except OSError:
             pass
@@ -268,6 +268,8 @@ class TcpProxy(threading.Thread):
     def pass_on(self, name, frame, target):
         is_meant = name == self.case.message
         self.met += is_meant
+        if is_meant and self.case.stalls:
+            self.client.settimeout(STALL)
         if name:
             self.seen[name] = frame
         for piece in self.case.alteration.pieces(name, is_meant, frame, Stream, self.seen,
