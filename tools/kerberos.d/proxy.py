@@ -4,7 +4,8 @@ import socket
 import threading
 
 CUT = None          # among the bytes that an alteration passes on: here the connection ends
-LIMIT = 20          # seconds in which something has to move
+LIMIT = 30          # seconds in which something has to move
+POLL = 0.05         # seconds after which a thread looks whether the proxy has ended
 STALL = 0.7         # the same after a message after which both ends wait, as its case says
 
 
@@ -302,7 +303,7 @@ class UdpProxy(threading.Thread):
         self.server = socket.socket(type=socket.SOCK_DGRAM)
         self.server.connect(("127.0.0.1", server_port))
         for it in (self.listening, self.server):
-            it.settimeout(1)
+            it.settimeout(POLL)
         self.client = None
         self.back = threading.Thread(target=self.pump_back, daemon=True)
 
@@ -342,8 +343,6 @@ class UdpProxy(threading.Thread):
 
     def close(self):
         self.ended = True
-        for it in (self.listening, self.server):
-            quietly(it.shutdown, socket.SHUT_RDWR)
         for thread in (self, self.back):
             thread.join(2)
         self.listening.close()
