@@ -11,7 +11,7 @@ import proxy as proxies
 import realm as realms
 
 BLOCK = 32768               # kprop's
-BOUND = 30                  # seconds in which the programs have to end
+BOUND = 60                  # seconds in which the programs have to end
 NAMES = {(0, 0): "MIT's code", (1, 1): "library", (1, 0): "library at the sender",
          (0, 1): "library at the receiver"}
 BACK = ("confirmation", "reply")

@@ -4,8 +4,9 @@ import socket
 import threading
 
 CUT = None          # among the bytes that an alteration passes on: here the connection ends
-LIMIT = 20          # seconds in which something has to move
-STALL = 0.7         # seconds after which a stalled connection is ended, where a case says it stalls
+LIMIT = 30          # seconds in which something has to move
+POLL = 0.05         # seconds after which a thread looks whether the proxy has ended
+STALL = 0.7         # the same after a message after which both ends wait, as its case says
 
 
 # ---- values in DER
@@ -237,8 +238,8 @@ class TcpProxy(threading.Thread):
         except OSError:
             self.hung = True
             return
-        self.client.settimeout(STALL if self.case.stalls else LIMIT)
-        self.server.settimeout(STALL if self.case.stalls else LIMIT)
+        self.client.settimeout(LIMIT)
+        self.server.settimeout(LIMIT)
         back = threading.Thread(target=self.pump, daemon=True,
                                 args=(self.server, self.client, {2: "confirmation"}, 1))
         back.start()
@@ -255,7 +256,7 @@ class TcpProxy(threading.Thread):
                 self.pass_on(names.get(index), frame, target)
                 index += 1
         except TimeoutError:
-            self.hung = not self.case.stalls
+            self.hung = not (self.case.stalls and self.met)
             self.cut()
         except OSError:
             pass
@@ -268,6 +269,8 @@ class TcpProxy(threading.Thread):
     def pass_on(self, name, frame, target):
         is_meant = name == self.case.message
         self.met += is_meant
+        if is_meant and self.case.stalls:
+            self.client.settimeout(STALL)
         if name:
             self.seen[name] = frame
         for piece in self.case.alteration.pieces(name, is_meant, frame, Stream, self.seen,
@@ -300,7 +303,7 @@ class UdpProxy(threading.Thread):
         self.server = socket.socket(type=socket.SOCK_DGRAM)
         self.server.connect(("127.0.0.1", server_port))
         for it in (self.listening, self.server):
-            it.settimeout(1)
+            it.settimeout(POLL)
         self.client = None
         self.back = threading.Thread(target=self.pump_back, daemon=True)
 
@@ -340,8 +343,6 @@ class UdpProxy(threading.Thread):
 
     def close(self):
         self.ended = True
-        for it in (self.listening, self.server):
-            quietly(it.shutdown, socket.SHUT_RDWR)
         for thread in (self, self.back):
             thread.join(2)
         self.listening.close()
