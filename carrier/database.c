@@ -24,7 +24,8 @@ static int report(sqlite3 *db, const char *what)
 /* If another process does the same at the same time, SQLite doesn't wait here by itself. */
 static int set_journal(sqlite3 *db)
 {
-    static const char sql[] = "PRAGMA journal_mode = WAL; PRAGMA synchronous = FULL";
+    static const char sql[] = "PRAGMA journal_mode = WAL; PRAGMA synchronous = FULL;"
+                              " PRAGMA wal_autocheckpoint = 4000";
     int tries, answer = SQLITE_BUSY;
     for (tries = 0; tries < PATIENCE / RETRY && answer == SQLITE_BUSY; tries++) {
         answer = sqlite3_exec(db, sql, NULL, NULL, NULL);

@@ -142,7 +142,7 @@ int main(int count, char **words)
 {
     struct session *sessions;
     size_t session_count;
-    options.shard = (struct shard_options){ .replicas = 1, .batch = 256, .skew = 86400 };
+    options.shard = (struct shard_options){ .replicas = 1, .batch = 1024, .skew = 86400 };
     if (!read_options(&options, count, words)) {
         fprintf(stderr, "receiver --sessions FILE --store WHERE --carrier WHERE --shards N[,N..]"
                         " [--replicas N] [--batch N] [--skew SECONDS] [--until-closed]\n");

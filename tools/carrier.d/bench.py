@@ -3,7 +3,7 @@ frame, in four shards with 16 sessions each, beside the rate of the carrier alon
 same size.
 
 Four senders bring the texts into the shards. Then 1, 2 and 4 receivers, a process each with one
-shard, take them, 256 frames a transaction: `shards` is a SQLite file for each receiver.
+shard, take them, 1,024 frames a transaction: `shards` is a SQLite file for each receiver.
 """
 import glob
 import os
@@ -19,7 +19,7 @@ import engines
 
 SHARDS, SESSIONS, TEXTS, BYTES, FRAME = 4, 64, 120_000, 1000, 1110
 LIMIT = 300
-BATCHES = (1, 16, 1024)
+BATCHES = (1, 16, 256)
 
 
 def write_sessions(folder):
@@ -80,7 +80,7 @@ def send(programs, folder, carrier, replicas, name):
           f" {sums[3] / sums[0]:.0%}", flush=True)
 
 
-def receive(programs, folder, carrier, name, store, receivers, batch=256):
+def receive(programs, folder, carrier, name, store, receivers, batch=1024):
     """One row: so many receivers, each of one shard."""
     for path in glob.glob(f"{folder}/receiver*"):
         os.unlink(path)

@@ -29,8 +29,10 @@ import engines
 import jobs
 
 FAULTS = 5          # of 1,000 frames: what the carrier without a server loses and repeats
+ENDING = threading.Event()          # set where the tool ends before its tests
 KINDS = (["receiver"] * 4 + ["sender"] * 3 + ["stop receiver", "stop sender", "second sender"]
          + ["node"] * 2)
+TAKEN = "200"       # frames of one transaction: few, so that many are under way when one is killed
 DUMPED = 120        # seconds for one look at all shards
 FRAMES, BYTES = 2000, 7_000_000     # the most frames of a job, and of their bytes
 
@@ -127,7 +129,7 @@ class Processes:
         mine = [it for it in range(self.given.shards)
                 if place in (it % count, (it + 1) % count)]
         return ["--sessions", f"{self.folder}/sessions", "--store", self.store, "--until-closed",
-                "--shards", ",".join(map(str, mine))]
+                "--batch", TAKEN, "--shards", ",".join(map(str, mine))]
 
     def start(self, name):
         kind, place = name.split("-")[:2]
@@ -160,6 +162,8 @@ class Processes:
     def tend(self, counts):
         """Starts again what has ended by itself with a fault. Returns whether all receivers have
         done their work."""
+        if ENDING.is_set():
+            raise RuntimeError("the tool ends")
         for name, process in list(self.running.items()):
             if process.poll() not in (None, 0, 3, -signal.SIGKILL) and name.count("-") == 1:
                 counts[f"{name.split('-')[0]} ended by a fault"] += 1
@@ -231,7 +235,7 @@ class Disturber:
         self.down, self.node_moment, self.spares = None, 0, 0
 
     def run(self, until):
-        while time.monotonic() < until:
+        while time.monotonic() < until and not ENDING.is_set():
             time.sleep(self.dice.uniform(0.1, 0.8))
             now = time.monotonic()
             self.wake(now)
