@@ -52,7 +52,8 @@ class Setting:
     shards: int = 4
     batch: int = 7
     seconds: float = 20
-    patience: float = 90        # seconds until all has to be whole after the last disturbance
+    patience: float = 90        # seconds until all has to be carried after the last disturbance
+    settle: float = 60          # and until all has to be closed after that
 
 
 class Session:
@@ -159,16 +160,18 @@ class Processes:
     def of_kind(self, kind):
         return [name for name in list(self.running) if name.startswith(kind)]
 
+    def have_closed(self):
+        """Whether all receivers have done their work."""
+        return all(map(self.has_ended, self.of_kind("receiver")))
+
     def tend(self, counts):
-        """Starts again what has ended by itself with a fault. Returns whether all receivers have
-        done their work."""
+        """Starts again what has ended by itself with a fault."""
         if ENDING.is_set():
             raise RuntimeError("the tool ends")
         for name, process in list(self.running.items()):
             if process.poll() not in (None, 0, 3, -signal.SIGKILL) and name.count("-") == 1:
                 counts[f"{name.split('-')[0]} ended by a fault"] += 1
                 self.start(name)
-        return all(map(self.has_ended, self.of_kind("receiver")))
 
     def stop(self):
         for number in (signal.SIGCONT, signal.SIGTERM):
@@ -294,6 +297,17 @@ class Disturber:
 
 # ---- the trial
 
+def wait(is_so, processes, counts, seconds):
+    """Waits until it is so, at most so many seconds. Returns whether it is."""
+    until = time.monotonic() + seconds
+    while not is_so():
+        processes.tend(counts)
+        if time.monotonic() > until:
+            return False
+        time.sleep(0.2)
+    return True
+
+
 class Trial:
     """One run. `counts` has what it counted, `faults` what went wrong."""
 
@@ -375,12 +389,10 @@ class Trial:
         for name in self.processes.of_kind("sender"):
             if name.count("-") == 1 and self.processes.has_ended(name):
                 self.processes.start(name)
-        until = time.monotonic() + self.given.patience
-        while not (self.processes.tend(self.counts) and feeder.is_empty()):
-            if time.monotonic() > until:
-                self.faults.append("not all is carried and closed")
-                break
-            time.sleep(0.2)
+        if not wait(feeder.is_empty, self.processes, self.counts, self.given.patience):
+            self.faults.append("not all is carried")
+        elif not wait(self.processes.have_closed, self.processes, self.counts, self.given.settle):
+            self.faults.append("not all is closed, though all counts as carried")
         self.processes.stop()
 
     # ---- what became of the texts
@@ -487,4 +499,5 @@ class Trial:
 def told(had, wanted):
     same = next((k for k, (one, other) in enumerate(zip(had, wanted)) if one != other),
                 min(len(had), len(wanted)))
-    return f"{len(had)} texts of {len(wanted)}, the first {same} right"
+    doubled = "doubled, " if len(had) > len(set(had)) else ""
+    return f"{doubled}{len(had)} texts of {len(wanted)}, the first {same} right"

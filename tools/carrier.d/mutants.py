@@ -1,8 +1,14 @@
-"""Mutants of carrier/, each with a planted bug that chaos has to find: a name, the file, the text that
-stands there once, and what takes its place."""
+"""Mutants of carrier/, each with a planted bug that chaos has to find: its name, the file, the text
+that stands there once, and what takes its place."""
 import os
 import shutil
 
+# What chaos has to say of each: that it fails for another reason isn't enough.
+FOUND = {
+    "confirmations counted singly": "not all is closed, though all counts as carried",
+    "no compare-and-set": "doubled",
+    "deduplication on": "not all is carried",
+}
 EDITS = {
     "confirmations counted singly": ("progress.c", """\
     if (number != it->carried || it->carried >= it->next || offset <= it->at)
