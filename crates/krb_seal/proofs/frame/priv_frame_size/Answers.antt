@@ -15,9 +15,7 @@ overflow_add-text-2 c =
     omega (arith, small)
 
 pub enciphered_size-requires : goal.enciphered_size-requires
-enciphered_size-requires c =
-    let small : 16 + c.part_size_with-text.result + 12 ≤ frame_limit = part_within c.args.body.now c.args.len _ c.requires.small c.requires.limit c.part_size_with-text.ensures in
-    omega (arith, small)
+enciphered_size-requires c = part_within c.args.body.now c.args.len _ c.requires.small c.requires.limit c.part_size_with-text.ensures
 
 pub returns : goal.returns
 returns c =

@@ -1,0 +1,48 @@
+/* Which carrier it is. */
+#include "carrier.h"
+
+#include <stdio.h>
+#include <string.h>
+
+struct carrier *carrier_open(const char *where, unsigned replicas)
+{
+    if (strncmp(where, "sqlite:", 7) == 0)
+        return sqlite_carrier_open(where + 7);
+    if (strncmp(where, "nats://", 7) == 0) {
+#ifdef WITH_NATS
+        return nats_carrier_open(where, replicas);
+#else
+        fprintf(stderr, "this program was built without NATS: install libnats-dev, and run make\n");
+        return NULL;
+#endif
+    }
+    (void)replicas;
+    fprintf(stderr, "%s is no carrier: name nats://HOST:PORT or sqlite:FILE\n", where);
+    return NULL;
+}
+
+int carrier_publish(struct carrier *carrier, unsigned shard, const char *session, uint32_t tag,
+                    uint64_t number, const uint8_t *frame, size_t len)
+{
+    return carrier->publish(carrier, shard, session, tag, number, frame, len);
+}
+
+int carrier_confirmed(struct carrier *carrier, struct confirmed *list, size_t room, int milliseconds)
+{
+    return carrier->confirmed(carrier, list, room, milliseconds);
+}
+
+void carrier_seek(struct carrier *carrier, unsigned shard, uint64_t offset)
+{
+    carrier->seek(carrier, shard, offset);
+}
+
+int carrier_fetch(struct carrier *carrier, struct carried *list, size_t room, int milliseconds)
+{
+    return carrier->fetch(carrier, list, room, milliseconds);
+}
+
+void carrier_close(struct carrier *carrier)
+{
+    carrier->close(carrier);
+}

@@ -1,0 +1,108 @@
+#include "database.h"
+
+#include <stdio.h>
+
+#ifndef DATABASE_PATIENCE
+#define DATABASE_PATIENCE 10000 /* milliseconds to wait for other processes */
+#endif
+
+enum { PATIENCE = DATABASE_PATIENCE, RETRY = 20 };
+
+static int report(sqlite3 *db, const char *what)
+{
+    const char *path = sqlite3_db_filename(db, "main");
+    const char *name = path != NULL && *path != 0 ? path : "a database in memory";
+    int code = sqlite3_errcode(db);
+    if (code == SQLITE_BUSY || code == SQLITE_LOCKED)
+        fprintf(stderr, "%s is locked: another process has been writing for %d s; end it, or wait."
+                        " Nothing is lost: this is tried again\n", name, PATIENCE / 1000);
+    else
+        fprintf(stderr, "%s: %s, at %.60s\n", name, sqlite3_errmsg(db), what);
+    return -1;
+}
+
+/* If another process does the same at the same time, SQLite doesn't wait here by itself. */
+static int set_journal(sqlite3 *db)
+{
+    static const char sql[] = "PRAGMA journal_mode = WAL; PRAGMA synchronous = FULL;"
+                              " PRAGMA wal_autocheckpoint = 4000";
+    int tries, answer = SQLITE_BUSY;
+    for (tries = 0; tries < PATIENCE / RETRY && answer == SQLITE_BUSY; tries++) {
+        answer = sqlite3_exec(db, sql, NULL, NULL, NULL);
+        if (answer == SQLITE_BUSY)
+            sqlite3_sleep(RETRY);
+    }
+    return answer == SQLITE_OK ? 0 : report(db, sql);
+}
+
+/* In one transaction, so that two processes may make the tables at once. */
+static int make_tables(sqlite3 *db, const char *tables)
+{
+    if (begin_writing(db) != 0)
+        return -1;
+    if (run(db, tables) == 0 && run(db, "COMMIT") == 0)
+        return 0;
+    run(db, "ROLLBACK");
+    return -1;
+}
+
+sqlite3 *open_database(const char *path, const char *tables)
+{
+    sqlite3 *db = NULL;
+    if (sqlite3_open(path, &db) != SQLITE_OK) {
+        fprintf(stderr, "%s: %s: is there such a folder, and may this user write there?\n", path,
+                db != NULL ? sqlite3_errmsg(db) : "out of memory");
+        sqlite3_close(db);
+        return NULL;
+    }
+    sqlite3_busy_timeout(db, PATIENCE);
+    if (set_journal(db) == 0 && make_tables(db, tables) == 0)
+        return db;
+    sqlite3_close(db);
+    return NULL;
+}
+
+int run(sqlite3 *db, const char *sql)
+{
+    return sqlite3_exec(db, sql, NULL, NULL, NULL) == SQLITE_OK ? 0 : report(db, sql);
+}
+
+int begin_writing(sqlite3 *db)
+{
+    return run(db, "BEGIN IMMEDIATE");
+}
+
+sqlite3_stmt *prepare(sqlite3 *db, const char *sql)
+{
+    sqlite3_stmt *statement = NULL;
+    if (sqlite3_prepare_v2(db, sql, -1, &statement, NULL) != SQLITE_OK)
+        report(db, sql);
+    return statement;
+}
+
+int prepare_all(sqlite3 *db, sqlite3_stmt **statements, const char *const *sql, int count)
+{
+    int i;
+    for (i = 0; i < count; i++)
+        if ((statements[i] = prepare(db, sql[i])) == NULL)
+            return -1;
+    return 0;
+}
+
+int step_once(sqlite3_stmt *statement)
+{
+    int answer = sqlite3_step(statement);
+    sqlite3_reset(statement);
+    if (answer == SQLITE_DONE || answer == SQLITE_ROW)
+        return 0;
+    return report(sqlite3_db_handle(statement), sqlite3_sql(statement));
+}
+
+int step_row(sqlite3_stmt *statement)
+{
+    int answer = sqlite3_step(statement);
+    if (answer == SQLITE_ROW)
+        return 1;
+    return answer == SQLITE_DONE ? 0
+                                 : report(sqlite3_db_handle(statement), sqlite3_sql(statement));
+}

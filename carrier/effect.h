@@ -1,0 +1,24 @@
+/* The place where an application puts its own effect. */
+#ifndef EFFECT_H
+#define EFFECT_H
+
+#include "store.h"
+
+/* A text of a session that arrived: the part'th of the frame with this number. */
+struct arrived {
+    const char *session;
+    uint64_t number;
+    unsigned part;
+    const uint8_t *text;
+    size_t len;
+};
+
+/* The effect of one text. It is called within the transaction that moves the session's number and
+ * the shard's offset: what it asks of the store takes effect with them, once, or not at all. What it
+ * does elsewhere may be done twice. 0, or -1 for the transaction to be given up and tried again. */
+int take_effect(struct store *store, const struct arrived *it);
+
+/* Its tables, unless they exist. */
+extern const char effect_tables_sqlite[], effect_tables_postgresql[];
+
+#endif

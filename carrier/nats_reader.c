@@ -1,0 +1,148 @@
+/* Reading over NATS JetStream.
+ *
+ * A reader is an ephemeral consumer that acknowledges nothing and begins after an offset. It counts
+ * what it delivers: if one is missing, or it falls silent, another consumer is made that begins after
+ * the last frame that was fetched. */
+#include "nats_carrier.h"
+
+#include <stdio.h>
+#include <string.h>
+
+enum { PATIENCE = 40, RETRY = 100, HEARTBEAT = 500, PENDING = 256 << 20 };
+
+static void let_go(struct nats_carrier *c)
+{
+    while (c->held_count > 0)
+        natsMsg_Destroy(c->held[--c->held_count]);
+}
+
+void nats_stop_reading(struct nats_carrier *c)
+{
+    let_go(c);
+    natsSubscription_Unsubscribe(c->reader);
+    natsSubscription_Destroy(c->reader);
+    c->reader = NULL;
+}
+
+void nats_seek(struct carrier *base, unsigned shard, uint64_t offset)
+{
+    struct nats_carrier *c = (struct nats_carrier *)base;
+    nats_stop_reading(c);
+    c->shard = shard;
+    c->after = offset;
+    c->tries = 0;
+}
+
+/* A stream that ends before the offset has lost what it had confirmed. What it has now is read from
+ * the beginning then: repeats are refused. It is asked again some times before that, since a server
+ * that has just started may not have caught up. */
+static int check_end(struct nats_carrier *c, const char *name)
+{
+    jsStreamInfo *info = NULL;
+    natsStatus status = js_GetStreamInfo(&info, c->js, name, NULL, NULL);
+    uint64_t last = status == NATS_OK ? info->State.LastSeq : 0;
+    jsStreamInfo_Destroy(info);
+    if (status != NATS_OK)
+        return nats_report(name, status);
+    if (last >= c->after)
+        return 0;
+    if (++c->tries < PATIENCE)
+        return -1;
+    fprintf(stderr, "nats: %s ends at %llu, and was read up to %llu: it lost frames, and is read"
+                    " again from the beginning\n", name, (unsigned long long)last,
+            (unsigned long long)c->after);
+    c->after = 0;
+    return 0;
+}
+
+static int begin_reading(struct nats_carrier *c)
+{
+    char name[32], subject[32];
+    jsSubOptions options;
+    jsErrCode code = 0;
+    natsStatus status;
+    snprintf(name, sizeof name, "KRB_%u", c->shard);
+    snprintf(subject, sizeof subject, "krb.%u.*", c->shard);
+    if (nats_make_stream(c, c->shard) != 0 || check_end(c, name) != 0)
+        return -1;
+    jsSubOptions_Init(&options);
+    options.Stream = name;
+    options.Config.DeliverPolicy = js_DeliverByStartSequence;
+    options.Config.OptStartSeq = c->after + 1;
+    options.Config.AckPolicy = js_AckNone;
+    options.Config.FlowControl = true;
+    options.Config.Heartbeat = (int64_t)HEARTBEAT * 1000000;
+    options.Config.MemoryStorage = true;
+    options.Config.Replicas = 1;
+    status = js_SubscribeSync(&c->reader, c->js, subject, NULL, &options, &code);
+    if (status != NATS_OK) {
+        c->reader = NULL;
+        return nats_report(name, status);
+    }
+    natsSubscription_SetPendingLimits(c->reader, -1, PENDING);
+    c->delivered = 0;
+    c->tries = 0;
+    return 0;
+}
+
+/* Reads what the consumer says of a message; 0 if it isn't the next one. */
+static int read_message(struct nats_carrier *c, natsMsg *message, struct carried *it)
+{
+    jsMsgMetaData *meta = NULL;
+    const char *name = strrchr(natsMsg_GetSubject(message), '.');
+    int is_next;
+    if (natsMsg_GetMetaData(&meta, message) != NATS_OK)
+        return 0;
+    is_next = meta->Sequence.Consumer == c->delivered + 1 && meta->Sequence.Stream > c->after;
+    it->offset = meta->Sequence.Stream;
+    jsMsgMetaData_Destroy(meta);
+    if (!is_next)
+        return 0;
+    snprintf(it->session, sizeof it->session, "%s", name != NULL ? name + 1 : "");
+    it->frame = (const uint8_t *)natsMsg_GetData(message);
+    it->len = (size_t)natsMsg_GetDataLength(message);
+    if (it->frame == NULL)
+        it->frame = (const uint8_t *)""; /* no bytes, and no null pointer either */
+    c->delivered++;
+    c->after = it->offset;
+    return 1;
+}
+
+/* The next message, which stays held; a status that isn't NATS_OK ends a fetch. */
+static natsStatus fetch_one(struct nats_carrier *c, struct carried *it, int milliseconds)
+{
+    natsMsg *message = NULL;
+    natsStatus status = natsSubscription_NextMsg(&message, c->reader, milliseconds);
+    if (status != NATS_OK)
+        return status;
+    if (!read_message(c, message, it)) {
+        natsMsg_Destroy(message);
+        return NATS_MISMATCH;
+    }
+    c->held[c->held_count++] = message;
+    return NATS_OK;
+}
+
+int nats_fetch(struct carrier *base, struct carried *list, size_t room, int milliseconds)
+{
+    struct nats_carrier *c = (struct nats_carrier *)base;
+    natsStatus status = NATS_OK;
+    int count = 0;
+    let_go(c);
+    if (c->reader == NULL && begin_reading(c) != 0) {
+        nats_Sleep(RETRY);
+        return -1;
+    }
+    while ((size_t)count < room && count < NATS_HELD && status == NATS_OK) {
+        status = fetch_one(c, &list[count], count == 0 ? milliseconds : 0);
+        count += status == NATS_OK;
+    }
+    if (status != NATS_OK && status != NATS_TIMEOUT) {
+        natsSubscription *reader = c->reader;
+        c->reader = NULL; /* what was fetched stays held */
+        natsSubscription_Unsubscribe(reader);
+        natsSubscription_Destroy(reader);
+        nats_report("a reader begins again after what it had", status);
+    }
+    return count;
+}

@@ -1,0 +1,219 @@
+#include "outbox.h"
+#include "database.h"
+
+#include <stdio.h>
+#include <string.h>
+
+static const char tables[] =
+    "CREATE TABLE IF NOT EXISTS session (name TEXT PRIMARY KEY, next INTEGER NOT NULL,"
+    " carried INTEGER NOT NULL, at INTEGER NOT NULL) WITHOUT ROWID;"
+    "CREATE TABLE IF NOT EXISTS text (id INTEGER PRIMARY KEY AUTOINCREMENT, session TEXT NOT NULL,"
+    " body BLOB);"
+    "CREATE TABLE IF NOT EXISTS closed (session TEXT PRIMARY KEY) WITHOUT ROWID;"
+    "CREATE TRIGGER IF NOT EXISTS nothing_after_the_close BEFORE INSERT ON text"
+    " WHEN EXISTS (SELECT 1 FROM closed WHERE session = NEW.session)"
+    " BEGIN SELECT RAISE(ABORT, 'this session was closed: it takes no text'); END;"
+    "CREATE TRIGGER IF NOT EXISTS the_close AFTER INSERT ON text WHEN NEW.body IS NULL"
+    " BEGIN INSERT INTO closed VALUES (NEW.session); END;"
+    "CREATE TABLE IF NOT EXISTS frame (session TEXT NOT NULL, number INTEGER NOT NULL,"
+    " frame BLOB NOT NULL, PRIMARY KEY (session, number));"
+    "CREATE TABLE IF NOT EXISTS owner (one INTEGER PRIMARY KEY CHECK (one = 1),"
+    " turn INTEGER NOT NULL);"
+    "INSERT OR IGNORE INTO owner VALUES (1, 0)";
+
+/* A text of a session that isn't known yet waits. */
+#define KNOWN " WHERE session IN (SELECT name FROM session)"
+
+static const char *const sql[OUTBOX_STATEMENTS] = {
+    [LOAD_SESSION] = "SELECT next, carried, at FROM session WHERE name = ?",
+    [SELECT_TEXTS] = "SELECT id, session, body FROM text" KNOWN " ORDER BY id LIMIT ?",
+    [HAS_TEXT] = "SELECT 1 FROM text" KNOWN " LIMIT 1",
+    [DROP_TEXTS] = "DELETE FROM text" KNOWN " AND id <= ?",
+    [ADD_FRAME] = "INSERT INTO frame VALUES (?, ?, ?)",
+    [SELECT_FRAMES] = ("SELECT number, frame FROM frame WHERE session = ? AND number >= ?"
+                       " ORDER BY number LIMIT ?"),
+    [DROP_FRAMES] = "DELETE FROM frame WHERE session = ? AND number < ?",
+    [SET_NEXT] = "UPDATE session SET next = ?1 WHERE name = ?2 AND next = ?3",
+    [SET_CARRIED] = "UPDATE session SET carried = ?1, at = ?2 WHERE name = ?3 AND carried < ?1",
+    [SELECT_OWNER] = "SELECT turn FROM owner",
+    [ADD_SESSION] = "INSERT OR IGNORE INTO session VALUES (?1, ?2, ?2, 0)",
+};
+
+static sqlite3_int64 owner(struct outbox *o)
+{
+    sqlite3_stmt *select = o->statements[SELECT_OWNER];
+    sqlite3_int64 turn = step_row(select) == 1 ? sqlite3_column_int64(select, 0) : -1;
+    sqlite3_reset(select);
+    return turn;
+}
+
+static int add_sessions(struct outbox *o, const struct session *sessions, size_t count)
+{
+    sqlite3_stmt *add = o->statements[ADD_SESSION];
+    size_t i;
+    for (i = 0; i < count; i++) {
+        sqlite3_bind_text(add, 1, sessions[i].name, -1, SQLITE_STATIC);
+        sqlite3_bind_int64(add, 2, sessions[i].first);
+        if (step_once(add) != 0)
+            return -1;
+    }
+    return 0;
+}
+
+int outbox_open(struct outbox *o, const char *path, const struct session *sessions, size_t count)
+{
+    memset(o, 0, sizeof *o);
+    o->db = open_database(path, tables);
+    if (o->db == NULL || prepare_all(o->db, o->statements, sql, OUTBOX_STATEMENTS) != 0)
+        return -1;
+    if (begin_writing(o->db) != 0 || run(o->db, "UPDATE owner SET turn = turn + 1") != 0)
+        return -1;
+    o->turn = owner(o);
+    return o->turn > 0 && add_sessions(o, sessions, count) == 0 ? run(o->db, "COMMIT") : -1;
+}
+
+void outbox_close(struct outbox *o)
+{
+    int i;
+    for (i = 0; i < OUTBOX_STATEMENTS; i++)
+        sqlite3_finalize(o->statements[i]);
+    sqlite3_close(o->db);
+}
+
+int outbox_load(struct outbox *o, const char *session, struct progress *it)
+{
+    sqlite3_stmt *select = o->statements[LOAD_SESSION];
+    int row;
+    sqlite3_bind_text(select, 1, session, -1, SQLITE_STATIC);
+    row = step_row(select);
+    if (row == 1) {
+        it->next = (uint64_t)sqlite3_column_int64(select, 0);
+        it->carried = it->sent = (uint64_t)sqlite3_column_int64(select, 1);
+        it->at = (uint64_t)sqlite3_column_int64(select, 2);
+    }
+    sqlite3_reset(select);
+    return row == 1 ? 0 : -1;
+}
+
+int outbox_has_text(struct outbox *o)
+{
+    int row = step_row(o->statements[HAS_TEXT]) == 1;
+    sqlite3_reset(o->statements[HAS_TEXT]);
+    return row;
+}
+
+int outbox_is_owned(struct outbox *o)
+{
+    return owner(o) == o->turn;
+}
+
+/* ---- A transaction */
+
+enum outbox_answer outbox_begin(struct outbox *o)
+{
+    if (begin_writing(o->db) != 0)
+        return OUTBOX_AGAIN;
+    if (outbox_is_owned(o))
+        return OUTBOX_OK;
+    outbox_rollback(o);
+    return OUTBOX_TAKEN;
+}
+
+void outbox_select_texts(struct outbox *o, size_t limit)
+{
+    sqlite3_bind_int64(o->statements[SELECT_TEXTS], 1, (sqlite3_int64)limit);
+}
+
+int outbox_next_text(struct outbox *o, struct waiting_text *text)
+{
+    sqlite3_stmt *select = o->statements[SELECT_TEXTS];
+    int row = step_row(select);
+    if (row != 1)
+        return row;
+    text->id = sqlite3_column_int64(select, 0);
+    text->session = (const char *)sqlite3_column_text(select, 1);
+    text->body = sqlite3_column_blob(select, 2);
+    text->len = (size_t)sqlite3_column_bytes(select, 2);
+    if (text->body == NULL && sqlite3_column_type(select, 2) != SQLITE_NULL)
+        text->body = (const uint8_t *)""; /* a text of no bytes isn't the close */
+    return text->session != NULL ? 1 : -1;
+}
+
+void outbox_end_texts(struct outbox *o)
+{
+    sqlite3_reset(o->statements[SELECT_TEXTS]);
+}
+
+int outbox_drop_texts(struct outbox *o, sqlite3_int64 last)
+{
+    sqlite3_bind_int64(o->statements[DROP_TEXTS], 1, last);
+    return step_once(o->statements[DROP_TEXTS]);
+}
+
+int outbox_add_frame(struct outbox *o, const char *session, uint64_t number, const uint8_t *frame,
+                     size_t len)
+{
+    sqlite3_stmt *add = o->statements[ADD_FRAME];
+    sqlite3_bind_text(add, 1, session, -1, SQLITE_STATIC);
+    sqlite3_bind_int64(add, 2, (sqlite3_int64)number);
+    sqlite3_bind_blob64(add, 3, frame, len, SQLITE_STATIC);
+    return step_once(add);
+}
+
+int outbox_set_next(struct outbox *o, const char *session, uint64_t from, uint64_t to)
+{
+    sqlite3_stmt *set = o->statements[SET_NEXT];
+    sqlite3_bind_int64(set, 1, (sqlite3_int64)to);
+    sqlite3_bind_text(set, 2, session, -1, SQLITE_STATIC);
+    sqlite3_bind_int64(set, 3, (sqlite3_int64)from);
+    return step_once(set) == 0 && sqlite3_changes(o->db) == 1 ? 0 : -1;
+}
+
+int outbox_set_carried(struct outbox *o, const char *session, const struct progress *it)
+{
+    sqlite3_stmt *set = o->statements[SET_CARRIED], *drop = o->statements[DROP_FRAMES];
+    sqlite3_bind_int64(set, 1, (sqlite3_int64)it->carried);
+    sqlite3_bind_int64(set, 2, (sqlite3_int64)it->at);
+    sqlite3_bind_text(set, 3, session, -1, SQLITE_STATIC);
+    sqlite3_bind_text(drop, 1, session, -1, SQLITE_STATIC);
+    sqlite3_bind_int64(drop, 2, (sqlite3_int64)it->carried);
+    return step_once(set) == 0 && step_once(drop) == 0 ? 0 : -1;
+}
+
+int outbox_commit(struct outbox *o)
+{
+    return run(o->db, "COMMIT");
+}
+
+void outbox_rollback(struct outbox *o)
+{
+    if (!sqlite3_get_autocommit(o->db))
+        run(o->db, "ROLLBACK");
+}
+
+/* ---- Frames */
+
+void outbox_select_frames(struct outbox *o, const char *session, uint64_t from, unsigned limit)
+{
+    sqlite3_stmt *select = o->statements[SELECT_FRAMES];
+    sqlite3_bind_text(select, 1, session, -1, SQLITE_STATIC);
+    sqlite3_bind_int64(select, 2, (sqlite3_int64)from);
+    sqlite3_bind_int64(select, 3, limit);
+}
+
+int outbox_next_frame(struct outbox *o, uint64_t *number, const uint8_t **frame, size_t *len)
+{
+    sqlite3_stmt *select = o->statements[SELECT_FRAMES];
+    int row = step_row(select);
+    if (row != 1)
+        return row;
+    *number = (uint64_t)sqlite3_column_int64(select, 0);
+    *frame = sqlite3_column_blob(select, 1);
+    *len = (size_t)sqlite3_column_bytes(select, 1);
+    return 1;
+}
+
+void outbox_end_frames(struct outbox *o)
+{
+    sqlite3_reset(o->statements[SELECT_FRAMES]);
+}

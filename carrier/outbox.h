@@ -1,0 +1,78 @@
+/* The outbox of a sender: one SQLite file with the texts that wait, the frames that aren't carried,
+ * and how far each session is.
+ *
+ * An application puts texts into the table `text`, in transactions of its own:
+ *     INSERT INTO text (session, body) VALUES ('tom-7', 'hello')
+ * A body that is NULL is the close; a text after it is refused at its insertion.
+ *
+ * One transaction takes texts, stores their frames and the sessions' next numbers, and deletes the
+ * texts. (session, number) is the key of the frames, which are never replaced, and a frame leaves
+ * only from there: so no frame leaves under a number under which another one left.
+ *
+ * One process at a time seals from an outbox. Whoever opens it last owns it: each transaction checks
+ * that, and a process that isn't the owner any more ends. */
+#ifndef OUTBOX_H
+#define OUTBOX_H
+
+#include "progress.h"
+#include "sessions.h"
+
+#include <sqlite3.h>
+
+enum outbox_statement {
+    LOAD_SESSION, SELECT_TEXTS, HAS_TEXT, DROP_TEXTS, ADD_FRAME, SELECT_FRAMES, DROP_FRAMES,
+    SET_NEXT, SET_CARRIED, SELECT_OWNER, ADD_SESSION, OUTBOX_STATEMENTS
+};
+
+struct outbox {
+    sqlite3 *db;
+    sqlite3_stmt *statements[OUTBOX_STATEMENTS];
+    sqlite3_int64 turn; /* those who opened this outbox are counted: this is the turn'th */
+};
+
+enum outbox_answer { OUTBOX_OK = 0, OUTBOX_AGAIN = 1, OUTBOX_FAULT = -1, OUTBOX_TAKEN = -2 };
+
+/* What waits: body is NULL for the close. Valid until the next call. */
+struct waiting_text { sqlite3_int64 id; const char *session; const uint8_t *body; size_t len; };
+
+/* Opens it, makes its tables, and becomes its owner. 0, or -1 after a fault. */
+int outbox_open(struct outbox *outbox, const char *path, const struct session *sessions,
+                size_t count);
+void outbox_close(struct outbox *outbox);
+
+/* How far a session is; all that isn't carried counts as not published. */
+int outbox_load(struct outbox *outbox, const char *session, struct progress *it);
+
+/* Whether a text of a known session waits, and whether this process is the owner. */
+int outbox_has_text(struct outbox *outbox);
+int outbox_is_owned(struct outbox *outbox);
+
+/* ---- Within a transaction. OUTBOX_AGAIN: another process's transaction took long. OUTBOX_TAKEN:
+ * another process is the owner. */
+enum outbox_answer outbox_begin(struct outbox *outbox);
+
+/* Begins with the oldest texts of known sessions; each call of outbox_next_text gives one: 1, 0 after
+ * the last, -1 after a fault. */
+void outbox_select_texts(struct outbox *outbox, size_t limit);
+int outbox_next_text(struct outbox *outbox, struct waiting_text *text);
+void outbox_end_texts(struct outbox *outbox);
+int outbox_drop_texts(struct outbox *outbox, sqlite3_int64 last);
+
+int outbox_add_frame(struct outbox *outbox, const char *session, uint64_t number,
+                     const uint8_t *frame, size_t len);
+
+/* Moves a session's next number, by compare-and-set. */
+int outbox_set_next(struct outbox *outbox, const char *session, uint64_t from, uint64_t to);
+
+/* Stores how far a session is carried, and deletes the frames below. */
+int outbox_set_carried(struct outbox *outbox, const char *session, const struct progress *it);
+
+int outbox_commit(struct outbox *outbox);
+void outbox_rollback(struct outbox *outbox);
+
+/* ---- The frames of a session from a number on, as outbox_select_texts gives texts. */
+void outbox_select_frames(struct outbox *outbox, const char *session, uint64_t from, unsigned limit);
+int outbox_next_frame(struct outbox *outbox, uint64_t *number, const uint8_t **frame, size_t *len);
+void outbox_end_frames(struct outbox *outbox);
+
+#endif

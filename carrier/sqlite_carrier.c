@@ -1,0 +1,185 @@
+/* A carrier of one SQLite file, which needs no server: for one machine, and to begin with. */
+#include "carrier.h"
+#include "database.h"
+
+#include <stdio.h>
+#include <stdlib.h>
+#include <string.h>
+
+enum { PENDING = 4096, POLL = 5 };
+enum { INSERT, SELECT, STATEMENTS };
+
+struct sqlite_carrier {
+    struct carrier base;
+    sqlite3 *db;
+    sqlite3_stmt *statements[STATEMENTS];
+    /* What was published since the last confirmations, in one transaction. */
+    struct confirmed pending[PENDING];
+    size_t stored, confirmed; /* so many of them are pending, so many of these are confirmed */
+    int is_committed;
+    /* Where the reader stands, and the frames of its last fetch. */
+    unsigned shard;
+    uint64_t after;
+    uint8_t *frames;
+    size_t room;
+};
+
+static const char tables[] =
+    "CREATE TABLE IF NOT EXISTS carried (offset INTEGER PRIMARY KEY AUTOINCREMENT,"
+    " shard INTEGER NOT NULL, session TEXT NOT NULL, frame BLOB NOT NULL);"
+    "CREATE INDEX IF NOT EXISTS of_shard ON carried (shard, offset)";
+
+static const char *const sql[STATEMENTS] = {
+    [INSERT] = "INSERT INTO carried (shard, session, frame) VALUES (?, ?, ?)",
+    [SELECT] = "SELECT offset, session, frame FROM carried WHERE shard = ? AND offset > ?"
+               " ORDER BY offset LIMIT ?",
+};
+
+/* ---- Publishing */
+
+/* Begins a transaction, unless one is open. */
+static int begin_publishing(struct sqlite_carrier *c)
+{
+    if (c->is_committed && c->confirmed == c->stored) {
+        c->stored = c->confirmed = 0;
+        c->is_committed = 0;
+    }
+    if (c->is_committed || c->stored == PENDING)
+        return -1; /* first the confirmations are to be taken */
+    return c->stored == 0 ? begin_writing(c->db) : 0;
+}
+
+static int publish(struct carrier *base, unsigned shard, const char *session, uint32_t tag,
+                   uint64_t number, const uint8_t *frame, size_t len)
+{
+    struct sqlite_carrier *c = (struct sqlite_carrier *)base;
+    sqlite3_stmt *insert = c->statements[INSERT];
+    if (begin_publishing(c) != 0)
+        return -1;
+    sqlite3_bind_int64(insert, 1, shard);
+    sqlite3_bind_text(insert, 2, session, -1, SQLITE_STATIC);
+    sqlite3_bind_blob64(insert, 3, frame, len, SQLITE_STATIC);
+    if (step_once(insert) != 0) {
+        run(c->db, "ROLLBACK");
+        c->stored = 0;
+        return -1;
+    }
+    c->pending[c->stored].tag = tag;
+    c->pending[c->stored].number = number;
+    c->pending[c->stored++].offset = (uint64_t)sqlite3_last_insert_rowid(c->db);
+    return 0;
+}
+
+static int confirmed(struct carrier *base, struct confirmed *list, size_t room, int milliseconds)
+{
+    struct sqlite_carrier *c = (struct sqlite_carrier *)base;
+    int count = 0;
+    (void)milliseconds;
+    if (!c->is_committed && c->stored > 0) {
+        if (run(c->db, "COMMIT") != 0) {
+            run(c->db, "ROLLBACK");
+            c->stored = 0;
+            return -1;
+        }
+        c->is_committed = 1;
+    }
+    while ((size_t)count < room && c->confirmed < c->stored)
+        list[count++] = c->pending[c->confirmed++];
+    return count;
+}
+
+/* ---- Reading */
+
+static void seek(struct carrier *base, unsigned shard, uint64_t offset)
+{
+    struct sqlite_carrier *c = (struct sqlite_carrier *)base;
+    c->shard = shard;
+    c->after = offset;
+}
+
+/* Copies the frame of a row after the first `used` bytes; -1 where there is no room. A fetch's first
+ * frame has room unless memory is out. */
+static int copy_row(struct sqlite_carrier *c, struct carried *it, size_t used)
+{
+    sqlite3_stmt *select = c->statements[SELECT];
+    const void *frame = sqlite3_column_blob(select, 2);
+    const unsigned char *session = sqlite3_column_text(select, 1);
+    it->len = (size_t)sqlite3_column_bytes(select, 2);
+    if (it->len > c->room - used) {
+        uint8_t *more = used > 0 ? NULL : realloc(c->frames, it->len);
+        if (more == NULL)
+            return -1;
+        c->frames = more;
+        c->room = it->len;
+    }
+    it->offset = (uint64_t)sqlite3_column_int64(select, 0);
+    snprintf(it->session, sizeof it->session, "%s", session != NULL ? (const char *)session : "");
+    it->frame = c->frames + used;
+    if (it->len > 0)
+        memcpy(c->frames + used, frame, it->len);
+    return 0;
+}
+
+/* What stands after the reader now. */
+static int fetch_now(struct sqlite_carrier *c, struct carried *list, size_t limit)
+{
+    sqlite3_stmt *select = c->statements[SELECT];
+    size_t used = 0;
+    int count = 0, row = 0;
+    sqlite3_bind_int64(select, 1, c->shard);
+    sqlite3_bind_int64(select, 2, (sqlite3_int64)c->after);
+    sqlite3_bind_int64(select, 3, (sqlite3_int64)limit);
+    while ((size_t)count < limit && (row = step_row(select)) == 1) {
+        if (copy_row(c, &list[count], used) != 0)
+            break; /* the rest comes with the next fetch */
+        used += list[count++].len;
+    }
+    sqlite3_reset(select);
+    if (count > 0)
+        c->after = list[count - 1].offset;
+    return count > 0 || row >= 0 ? count : -1;
+}
+
+static int fetch(struct carrier *base, struct carried *list, size_t room, int milliseconds)
+{
+    struct sqlite_carrier *c = (struct sqlite_carrier *)base;
+    int count = fetch_now(c, list, room);
+    while (count == 0 && milliseconds > 0) {
+        sqlite3_sleep(POLL);
+        milliseconds -= POLL;
+        count = fetch_now(c, list, room);
+    }
+    return count;
+}
+
+/* ---- */
+
+static void close_it(struct carrier *base)
+{
+    struct sqlite_carrier *c = (struct sqlite_carrier *)base;
+    int i;
+    for (i = 0; i < STATEMENTS; i++)
+        sqlite3_finalize(c->statements[i]);
+    sqlite3_close(c->db);
+    free(c->frames);
+    free(c);
+}
+
+struct carrier *sqlite_carrier_open(const char *path)
+{
+    struct sqlite_carrier *c = calloc(1, sizeof *c);
+    if (c == NULL)
+        return NULL;
+    c->base.publish = publish;
+    c->base.confirmed = confirmed;
+    c->base.seek = seek;
+    c->base.fetch = fetch;
+    c->base.close = close_it;
+    c->room = 1 << 20;
+    c->frames = malloc(c->room);
+    c->db = open_database(path, tables);
+    if (c->frames != NULL && c->db != NULL && prepare_all(c->db, c->statements, sql, STATEMENTS) == 0)
+        return &c->base;
+    close_it(&c->base);
+    return NULL;
+}

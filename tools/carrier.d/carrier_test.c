@@ -1,0 +1,109 @@
+/* Tests a carrier by what carrier.h says of it:  carrier_test WHERE [REPLICAS]
+ * It needs shards 900 and 901 that are empty. The last line is 'passed' or 'FAILED ..'. */
+#include "carrier.h"
+#include "check.h"
+
+#include <string.h>
+
+enum { FRAMES = 500, PATIENCE = 100, SHARD = 900 };
+
+static uint64_t offsets[FRAMES]; /* of each frame */
+
+static size_t len_of(unsigned i)
+{
+    return i * 37 % 1500;
+}
+
+static const char *session_of(unsigned i)
+{
+    return i % 3 ? "tom-7" : "ann_1";
+}
+
+static void fill(uint8_t *frame, unsigned shard, unsigned i)
+{
+    size_t at;
+    for (at = 0; at < len_of(i); at++)
+        frame[at] = (uint8_t)(shard + i * 7 + at);
+}
+
+static void publish_all(struct carrier *c)
+{
+    uint8_t frame[1500];
+    unsigned i;
+    for (i = 0; i < FRAMES; i++) {
+        unsigned shard = SHARD + i % 2;
+        fill(frame, shard, i);
+        check(carrier_publish(c, shard, session_of(i), i, 10 * i, frame, len_of(i)) == 0, "publish");
+    }
+}
+
+static void note_confirmed(const struct confirmed *list, int count)
+{
+    int i;
+    for (i = 0; i < count; i++) {
+        check(list[i].tag < FRAMES && list[i].number == 10 * (uint64_t)list[i].tag, "its tag");
+        check(list[i].offset > 0 && offsets[list[i].tag] == 0, "once");
+        offsets[list[i].tag] = list[i].offset;
+    }
+}
+
+static void await_confirmed(struct carrier *c)
+{
+    static struct confirmed list[FRAMES];
+    int had = 0, tries;
+    for (tries = 0; had < FRAMES && tries < PATIENCE; tries++) {
+        int now = carrier_confirmed(c, list, FRAMES, 100);
+        if (now > 0) {
+            note_confirmed(list, now);
+            had += now;
+        }
+    }
+    check(had == FRAMES, "each frame is confirmed");
+}
+
+static void check_fetched(const struct carried *it, unsigned shard, unsigned i)
+{
+    uint8_t frame[1500];
+    fill(frame, shard, i);
+    check(it->offset == offsets[i], "nothing is left out");
+    check(strcmp(it->session, session_of(i)) == 0, "session");
+    check(it->len == len_of(i) && memcmp(it->frame, frame, len_of(i)) == 0, "frame");
+}
+
+/* Reads a shard from frame i on, after this offset, to its end. */
+static void read_from(struct carrier *reader, unsigned i, uint64_t offset)
+{
+    static struct carried list[64];
+    unsigned shard = SHARD + i % 2;
+    int at, had, tries;
+    carrier_seek(reader, shard, offset);
+    for (tries = 0; i < FRAMES && tries < PATIENCE; tries++) {
+        had = carrier_fetch(reader, list, 64, 100);
+        for (at = 0; at < had; at++, i += 2)
+            check_fetched(&list[at], shard, i);
+    }
+    check(i >= FRAMES, "all are fetched");
+    check(carrier_fetch(reader, list, 64, 100) == 0, "and no more");
+}
+
+int main(int count, char **words)
+{
+    struct carrier *c, *reader;
+    unsigned i, replicas = count > 2 ? (unsigned)atoi(words[2]) : 1;
+    check(count >= 2, "usage: carrier_test WHERE [REPLICAS]");
+    c = carrier_open(words[1], replicas);
+    reader = carrier_open(words[1], replicas);
+    check(c != NULL && reader != NULL, "open");
+    publish_all(c);
+    await_confirmed(c);
+    for (i = 2; i < FRAMES; i++)
+        check(offsets[i] > offsets[i - 2], "offsets rise");
+    read_from(reader, 0, 0);
+    read_from(reader, 1, 0);
+    for (i = 101; i + 2 < FRAMES; i += 101)
+        read_from(reader, i + 2, offsets[i]);
+    carrier_close(c);
+    carrier_close(reader);
+    puts("passed");
+    return 0;
+}

@@ -1,0 +1,503 @@
+"""Kills senders, receivers and nodes of the carrier at drawn moments, publishes frames again, and
+looks whether each text of each session took effect once and in order.
+
+An application puts texts into the outboxes. Each shard is served by two receivers at once, which
+both believe that it is theirs. Meanwhile a receiver or a sender is killed (SIGKILL) and started
+again, or stopped for a while so that it wakes beside its successor; a second sender takes an outbox
+over; of three nodes of JetStream one is killed and started again; `noise` publishes frames of the
+shards again, whole or altered, and bytes that are no frame. At last all runs undisturbed until each
+session's close took effect. Then
+
+- the effects of each session have to be its texts in order, each once, and its close;
+- a receiver that begins with nothing has to read the same from the carrier (`replay`);
+- no number of a session may have left with two frames (`audit`);
+- what each shard holds of a session, passed to `krbrelay open`, has to give its texts and its close.
+"""
+import collections
+import dataclasses
+import glob
+import os
+import random
+import re
+import signal
+import sqlite3
+import subprocess
+import threading
+import time
+
+import engines
+import jobs
+
+FAULTS = 5          # of 1,000 frames: what the carrier without a server loses and repeats
+ENDING = threading.Event()          # set where the tool ends before its tests
+KINDS = (["receiver"] * 4 + ["sender"] * 3 + ["stop receiver", "stop sender", "second sender"]
+         + ["node"] * 2)
+TAKEN = "200"       # frames of one transaction: few, so that many are under way when one is killed
+DUMPED = 120        # seconds for one look at all shards
+FRAMES, BYTES = 2000, 7_000_000     # the most frames of a job, and of their bytes
+
+
+@dataclasses.dataclass
+class Setting:
+    folder: str
+    programs: str
+    krbrelay: str = None    # the program, whose `open` is compared if it is named
+    seed: int = 1
+    carrier: str = "sqlite"     # or "nats1" or "nats3", of so many nodes and replicas
+    store: str = "sqlite"       # or "shards", a file for each shard, or "postgresql"
+    sessions: int = 24
+    texts: int = 400
+    senders: int = 3
+    receivers: int = 3
+    shards: int = 4
+    batch: int = 7
+    seconds: float = 20
+    patience: float = 90        # seconds until all has to be carried after the last disturbance
+    settle: float = 60          # and until all has to be closed after that
+
+
+class Session:
+    """A session with its texts, all drawn."""
+
+    def __init__(self, dice, place, given):
+        self.name = f"s{place:04}"
+        self.shard, self.sender = place % given.shards, place % given.senders
+        self.etype, self.mode = dice.choice((17, 18)), dice.choice(("safe", "priv"))
+        self.key = dice.randbytes(16 if self.etype == 17 else 32)
+        self.first = dice.choice((0, 1, 127, 255, 2**31 - 3, 2**32 - given.texts - 1,
+                                  dice.randrange(2**31)))
+        self.origin = bytes([10, 0, place // 250, 1 + place % 250])
+        self.to = bytes([10, 1, 0, 1])
+        self.texts = [self.text(dice, it) for it in range(given.texts)]
+
+    def text(self, dice, place):
+        size = dice.choice((0, 10, 100, 1000, dice.randrange(4000)))
+        return f"{self.name} {place} ".encode() + dice.randbytes(size)
+
+    def line(self):
+        origin, to = (".".join(map(str, it)) for it in (self.origin, self.to))
+        return (f"{self.name} {self.shard} {self.etype} {self.mode} {self.key.hex()} {self.first}"
+                f" {origin} {to}\n")
+
+    def job(self, first, frames):
+        """The job that opens these frames now, of which this number is demanded first."""
+        now = int(time.time()) * 1_000_000
+        return jobs.job([jobs.sender(
+            etype=self.etype, mode=self.mode, key=self.key, first=first, now=now,
+            origin=(2, self.origin), to=(2, self.to), skew=86400, frames=frames)])
+
+    def jobs(self, held):
+        """The jobs for what a shard holds, pairs of a number and a frame: as many as their limits
+        ask for. Each begins at the number that the one before it leaves."""
+        first = demanded = self.first
+        frames, size = [], 0
+        for number, frame in held:
+            if len(frames) == FRAMES or size + len(frame) > BYTES:
+                yield self.job(first, frames)
+                first, frames, size = demanded, [], 0
+            frames.append(frame)
+            size += len(frame)
+            demanded += number == str(demanded)
+        yield self.job(first, frames)
+
+    def lines(self):
+        """What `krbrelay open` has to print beside refusals."""
+        return [f"lane 0 text {text.hex()}" for text in self.texts] + ["lane 0 closed"]
+
+
+def write_sessions(path, sessions):
+    with open(os.open(path, os.O_WRONLY | os.O_CREAT, 0o600), "w", encoding="ascii") as file:
+        file.writelines(it.line() for it in sessions)
+
+
+# ---- the programs
+
+class Processes:
+    """Senders and receivers by name, such as `sender-0`; a second sender is `sender-0-1`."""
+
+    def __init__(self, given, where, replicas, store, folder):
+        self.given, self.store, self.folder = given, store, folder
+        self.running, self.lock, self.logs = {}, threading.Lock(), 0
+        self.common = ["--carrier", where, "--replicas", str(replicas)]
+        self.environment = dict(os.environ, CARRIER_FAULTS=str(FAULTS))
+
+    def words(self, kind, place):
+        if kind == "sender":
+            return ["--sessions", f"{self.folder}/sessions{place}", "--outbox",
+                    f"{self.folder}/outbox{place}.db", "--retry", "500", "--batch",
+                    str(self.given.batch if place % 2 else 1)]
+        count = self.given.receivers
+        mine = [it for it in range(self.given.shards)
+                if place in (it % count, (it + 1) % count)]
+        return ["--sessions", f"{self.folder}/sessions", "--store", self.store, "--until-closed",
+                "--batch", TAKEN, "--shards", ",".join(map(str, mine))]
+
+    def start(self, name):
+        kind, place = name.split("-")[:2]
+        command = [f"{self.given.programs}/{kind}", *self.common, *self.words(kind, int(place))]
+        with self.lock:
+            self.logs += 1
+            with open(f"{self.folder}/{name}.{self.logs:04}.log", "wb") as log:
+                self.running[name] = subprocess.Popen(command, stdout=log, stderr=log,
+                                                      env=self.environment)
+
+    def signal(self, name, number):
+        process = self.running[name]
+        if process.poll() is None:
+            process.send_signal(number)
+            return True
+        return False
+
+    def kill(self, name):
+        if self.signal(name, signal.SIGKILL):
+            self.running[name].wait()
+            return True
+        return False
+
+    def has_ended(self, name):
+        return self.running[name].poll() is not None
+
+    def of_kind(self, kind):
+        return [name for name in list(self.running) if name.startswith(kind)]
+
+    def have_closed(self):
+        """Whether all receivers have done their work."""
+        return all(map(self.has_ended, self.of_kind("receiver")))
+
+    def tend(self, counts):
+        """Starts again what has ended by itself with a fault."""
+        if ENDING.is_set():
+            raise RuntimeError("the tool ends")
+        for name, process in list(self.running.items()):
+            if process.poll() not in (None, 0, 3, -signal.SIGKILL) and name.count("-") == 1:
+                counts[f"{name.split('-')[0]} ended by a fault"] += 1
+                self.start(name)
+
+    def stop(self):
+        for number in (signal.SIGCONT, signal.SIGTERM):
+            for name in list(self.running):
+                self.signal(name, number)
+        until = time.monotonic() + 10
+        for process in self.running.values():
+            try:
+                process.wait(max(0, until - time.monotonic()))
+            except subprocess.TimeoutExpired:
+                process.kill()
+                process.wait()
+
+
+# ---- the application
+
+class Feeder:
+    """Puts all texts into the outboxes, some at a time, within the seconds given."""
+
+    def __init__(self, given, sessions, folder):
+        self.given, self.sessions = given, sessions
+        self.paths = [f"{folder}/outbox{it}.db" for it in range(given.senders)]
+
+    def rows(self, step, steps):
+        """What comes at a step: for each outbox its rows, and at the last step the closes."""
+        low, high = (self.given.texts * it // steps for it in (step, step + 1))
+        rows = [[] for _ in self.paths]
+        for it in self.sessions:
+            rows[it.sender] += [(it.name, text) for text in it.texts[low:high]]
+            if step == steps - 1:
+                rows[it.sender].append((it.name, None))
+        return rows
+
+    def run(self):
+        files = [sqlite3.connect(path, timeout=30) for path in self.paths]
+        steps, began = max(1, int(self.given.seconds * 10)), time.monotonic()
+        for step in range(steps):
+            for file, mine in zip(files, self.rows(step, steps)):
+                file.executemany("INSERT INTO text (session, body) VALUES (?, ?)", mine)
+                file.commit()
+            time.sleep(max(0, began + (step + 1) / 10 - time.monotonic()))
+        for file in files:
+            file.close()
+
+    def is_empty(self):
+        """Whether all texts of all outboxes are carried."""
+        left = 0
+        for path in self.paths:
+            file = sqlite3.connect(path, timeout=30)
+            for rows in ("text", "frame", "session WHERE carried != next"):
+                left += file.execute(f"SELECT count(*) FROM {rows}").fetchone()[0]
+            file.close()
+        return left == 0
+
+
+# ---- the disturbances
+
+class Disturber:
+    def __init__(self, given, processes, nats):
+        self.given, self.processes, self.nats = given, processes, nats
+        self.dice = random.Random(given.seed + 1)
+        self.counts = collections.Counter()
+        self.asleep = {}                            # when each process wakes
+        self.down, self.node_moment, self.spares = None, 0, 0
+
+    def run(self, until):
+        while time.monotonic() < until and not ENDING.is_set():
+            time.sleep(self.dice.uniform(0.1, 0.8))
+            now = time.monotonic()
+            self.wake(now)
+            kind = self.dice.choice(KINDS)
+            if kind == "node":
+                self.kill_node(now)
+            elif kind == "second sender":
+                self.start_second()
+            else:
+                self.disturb(kind, now)
+        self.wake(float("inf"))
+
+    def wake(self, now):
+        """Has what slept long enough wake, and a node that was down long enough start."""
+        for name in [it for it, moment in self.asleep.items() if moment < now]:
+            del self.asleep[name]
+            self.processes.signal(name, signal.SIGCONT)
+        if self.down is not None and now > self.node_moment:
+            self.nats.start(self.down)
+            self.down, self.node_moment = None, now + 6
+
+    def kill_node(self, now):
+        """One node at a time, and none before the one before has caught up."""
+        if self.nats and self.nats.nodes > 1 and self.down is None and now > self.node_moment:
+            self.down = self.dice.randrange(self.nats.nodes)
+            self.node_moment = now + self.dice.uniform(0.5, 4)
+            self.nats.kill(self.down)
+            self.counts["node killed"] += 1
+
+    def start_second(self):
+        """A sender beside the one that is there, on the same outbox."""
+        self.spares += 1
+        self.processes.start(f"sender-{self.dice.randrange(self.given.senders)}-{self.spares}")
+        self.counts["second sender"] += 1
+
+    def disturb(self, kind, now):
+        names = [it for it in self.processes.of_kind(kind.split()[-1]) if it not in self.asleep]
+        if not names:
+            return
+        name = self.dice.choice(names)
+        if not kind.startswith("stop"):
+            self.kill(kind, name)
+        elif self.processes.signal(name, signal.SIGSTOP):
+            self.asleep[name] = now + self.dice.uniform(1, 4)
+            self.counts[kind] += 1
+
+    def kill(self, kind, name):
+        if self.processes.kill(name):
+            self.counts[f"{kind} killed"] += 1
+        time.sleep(self.dice.choice((0, 0, 0.3)))
+        if name.count("-") == 2:    # a second sender: the first takes over again
+            name = name.rpartition("-")[0]
+        if name not in self.asleep and self.processes.has_ended(name):
+            self.processes.start(name)
+
+
+# ---- the trial
+
+def wait(is_so, processes, counts, seconds):
+    """Waits until it is so, at most so many seconds. Returns whether it is."""
+    until = time.monotonic() + seconds
+    while not is_so():
+        processes.tend(counts)
+        if time.monotonic() > until:
+            return False
+        time.sleep(0.2)
+    return True
+
+
+class Trial:
+    """One run. `counts` has what it counted, `faults` what went wrong."""
+
+    def __init__(self, given):
+        self.given, self.folder = given, given.folder
+        dice = random.Random(given.seed)
+        self.sessions = [Session(dice, it, given) for it in range(given.sessions)]
+        self.counts, self.faults = collections.Counter(), []
+        self.nats = self.postgres = None
+        self.where, self.replicas = f"sqlite:{self.folder}/carrier.db", 1
+        self.store = {"sqlite": f"sqlite:{self.folder}/receiver.db",
+                      "shards": f"sqlite:{self.folder}/receiver%.db"}.get(given.store)
+        write_sessions(f"{self.folder}/sessions", self.sessions)
+        for sender in range(given.senders):
+            write_sessions(f"{self.folder}/sessions{sender}",
+                           [it for it in self.sessions if it.sender == sender])
+
+    def start_engines(self):
+        if self.given.carrier != "sqlite":
+            self.replicas = int(self.given.carrier[-1])
+            self.nats = engines.Nats(self.folder, self.replicas)
+            self.where = self.nats.where
+        if self.given.store == "postgresql":
+            self.postgres = engines.Postgres(self.folder)
+            self.store = self.postgres.where
+        self.processes = Processes(self.given, self.where, self.replicas, self.store, self.folder)
+
+    def options(self):
+        return ["--carrier", self.where, "--sessions", f"{self.folder}/sessions", "--shards",
+                str(self.given.shards), "--replicas", str(self.replicas)]
+
+    def run(self):
+        """Returns whether all went right."""
+        try:
+            self.start_engines()
+            self.disturb_all()
+            self.check_all()
+        finally:
+            self.processes.stop()
+            for engine in (self.nats, self.postgres):
+                if engine:
+                    engine.stop()
+        return not self.faults
+
+    def start_processes(self):
+        """Each outbox is made before the first text: a sender with nothing to do ends."""
+        for it in range(self.given.senders):
+            subprocess.run([f"{self.given.programs}/sender", *self.processes.common,
+                            *self.processes.words("sender", it), "--drain"], check=True,
+                           stdout=subprocess.DEVNULL, timeout=60)
+        for kind, count in (("sender", self.given.senders), ("receiver", self.given.receivers)):
+            for it in range(count):
+                self.processes.start(f"{kind}-{it}")
+
+    def disturb_all(self):
+        given = self.given
+        self.start_processes()
+        feeder = Feeder(given, self.sessions, self.folder)
+        disturber = Disturber(given, self.processes, self.nats)
+        until = time.monotonic() + given.seconds + 1
+        threads = [threading.Thread(target=feeder.run),
+                   threading.Thread(target=disturber.run, args=(until,))]
+        noise = subprocess.Popen([f"{given.programs}/noise", *self.options(), "--seed",
+                                  str(given.seed), "--seconds", str(given.seconds)],
+                                 stdout=subprocess.PIPE, stderr=subprocess.DEVNULL, text=True)
+        for thread in threads:
+            thread.start()
+        while any(thread.is_alive() for thread in threads):
+            self.processes.tend(self.counts)
+            time.sleep(0.2)
+        self.counts += disturber.counts
+        found = re.search(r"(\d+) repeats, (\d+) altered", noise.communicate(timeout=60)[0] or "")
+        if found:
+            self.counts["repeated by noise"] = int(found[1])
+            self.counts["altered by noise"] = int(found[2])
+        self.await_whole(feeder)
+
+    def await_whole(self, feeder):
+        for name in self.processes.of_kind("sender"):
+            if name.count("-") == 1 and self.processes.has_ended(name):
+                self.processes.start(name)
+        if not wait(feeder.is_empty, self.processes, self.counts, self.given.patience):
+            self.faults.append("not all is carried")
+        elif not wait(self.processes.have_closed, self.processes, self.counts, self.given.settle):
+            self.faults.append("not all is closed, though all counts as carried")
+        self.processes.stop()
+
+    # ---- what became of the texts
+
+    def check_all(self):
+        self.check_effects(self.store, "effects")
+        self.tally()
+        replay = f"sqlite:{self.folder}/replay.db"
+        if not self.faults:
+            self.replay(replay)
+            self.check_effects(replay, "replay")
+            self.check_shards()
+
+    def rows(self, store):
+        """Of each session its effects, number and text, and what it demands with its close."""
+        if store.startswith("postgresql"):
+            rows = [(name, int(number), bytes.fromhex(text)) for name, number, text in
+                    self.postgres.ask("SELECT session, number, encode(text, 'hex') FROM effect"
+                                      " ORDER BY id")]
+            ends = self.postgres.ask("SELECT name, next, closed FROM session")
+            return rows, {name: (int(number), int(closed)) for name, number, closed in ends}
+        rows, ends = [], {}
+        for path in glob.glob(store[len("sqlite:"):].replace("%", "*")):
+            file = sqlite3.connect(path)
+            rows += file.execute("SELECT session, number, text FROM effect ORDER BY id")
+            ends |= {name: (number, closed) for name, number, closed in
+                     file.execute("SELECT name, next, closed FROM session")}
+            file.close()
+        return rows, ends
+
+    def check_effects(self, store, what):
+        rows, ends = self.rows(store)
+        effects = collections.defaultdict(list)
+        for name, number, text in rows:
+            effects[name].append((number, bytes(text)))
+        for it in self.sessions:
+            had, numbers = [text for _, text in effects[it.name]], [n for n, _ in effects[it.name]]
+            end, closed = ends.get(it.name, (it.first, 0))
+            if had != it.texts or not closed or numbers != sorted(numbers) \
+                    or sorted(set(numbers)) != list(range(it.first, end - 1)):
+                self.faults.append(f"{what}: {it.name}: {told(had, it.texts)}, closed {closed}")
+        self.counts["texts"] = sum(map(len, effects.values()))
+
+    def replay(self, store):
+        command = [f"{self.given.programs}/receiver", "--sessions", f"{self.folder}/sessions",
+                   "--store", store, *self.processes.common, "--until-closed", "--shards",
+                   ",".join(map(str, range(self.given.shards)))]
+        try:
+            subprocess.run(command, check=False, timeout=DUMPED, stdout=subprocess.DEVNULL,
+                           stderr=subprocess.DEVNULL)
+        except subprocess.TimeoutExpired:
+            self.faults.append("replay hasn't ended")
+
+    def check_shards(self):
+        """Looks at all frames that the shards have."""
+        done = subprocess.run([f"{self.given.programs}/dump", *self.options()], check=True,
+                              stdout=subprocess.PIPE, text=True, timeout=DUMPED)
+        frames, seen = collections.defaultdict(list), {}
+        for line in done.stdout.splitlines():
+            _, _, name, number, digits = (line + " ").split(" ")[:5]
+            frames[name].append((number, bytes.fromhex(digits)))
+            if number != "-" and seen.setdefault((name, number), digits) != digits:
+                self.faults.append(f"audit: {name}: two frames left as number {number}")
+        self.counts["frames"] = len(seen)
+        self.counts["frames in the shards"] = sum(map(len, frames.values()))
+        if self.given.krbrelay:
+            for it in self.sessions:
+                self.check_open(it, frames[it.name])
+
+    def check_open(self, session, held):
+        """The texts are those of all jobs, up to the close; what follows it are repeats."""
+        lines = []
+        for job in session.jobs(held):
+            done = subprocess.run([self.given.krbrelay, "open"], input=job, text=True, check=False,
+                                  stdout=subprocess.PIPE, timeout=DUMPED)
+            lines += [line for line in done.stdout.splitlines()[:-1] if " refused " not in line]
+            if lines[-1:] == ["lane 0 closed"]:
+                break
+        if lines != session.lines():
+            self.faults.append(f"krbrelay open: {session.name}: {len(lines)} lines of"
+                               f" {len(session.lines())}")
+        self.counts["sessions opened by krbrelay"] += 1
+
+    def tally(self):
+        """The sums of what all processes reported last."""
+        for path in glob.glob(f"{self.folder}/receiver-*.log"):
+            with open(path, encoding="utf-8", errors="replace") as file:
+                last = {line.split()[1]: line for line in file if line.startswith("shard ")
+                        and "commits" in line}
+            for line in last.values():
+                for word in ("repeats", "early", "refused"):
+                    self.counts[word] += int(re.search(rf"{word} (\d+)", line)[1])
+                self.counts["fenced"] += int(re.search(r"(\d+) fenced", line)[1])
+                self.counts["commits"] += int(re.search(r"(\d+) commits", line)[1])
+        for path in glob.glob(f"{self.folder}/sender-*.log"):
+            with open(path, encoding="utf-8", errors="replace") as file:
+                for found in re.findall(r"(\d+) of them again", file.read()):
+                    self.counts["published again, by senders that ended"] += int(found)
+
+    def told(self):
+        return ", ".join(f"{word} {count}" for word, count in sorted(self.counts.items()))
+
+
+def told(had, wanted):
+    same = next((k for k, (one, other) in enumerate(zip(had, wanted)) if one != other),
+                min(len(had), len(wanted)))
+    doubled = "doubled, " if len(had) > len(set(had)) else ""
+    return f"{doubled}{len(had)} texts of {len(wanted)}, the first {same} right"

@@ -1,0 +1,119 @@
+"""The servers of tools/carrier, on the loopback: JetStream of one or three nodes, and PostgreSQL."""
+import glob
+import os
+import shutil
+import signal
+import socket
+import subprocess
+import time
+
+PATIENCE = 30       # seconds for a server to answer
+
+
+def free_ports(count):
+    """So many ports of the loopback at which nothing listens."""
+    sockets = [socket.socket() for _ in range(count)]
+    for it in sockets:
+        it.bind(("127.0.0.1", 0))
+    ports = [it.getsockname()[1] for it in sockets]
+    for it in sockets:
+        it.close()
+    return ports
+
+
+def await_port(port):
+    until = time.monotonic() + PATIENCE
+    while time.monotonic() < until:
+        try:
+            socket.create_connection(("127.0.0.1", port), 1).close()
+            return
+        except OSError:
+            time.sleep(0.05)
+    raise RuntimeError(f"nothing listens at port {port}")
+
+
+class Nats:
+    """JetStream; its nodes may be killed and started again."""
+
+    def __init__(self, folder, nodes):
+        self.folder, self.nodes, self.running = folder, nodes, {}
+        ports = free_ports(2 * nodes)
+        self.ports, self.routes = ports[:nodes], ports[nodes:]
+        self.where = ",".join(f"nats://127.0.0.1:{port}" for port in self.ports)
+        for node in range(nodes):
+            self.write(node)
+            self.start(node)
+        for port in self.ports:
+            await_port(port)
+        time.sleep(3 if nodes > 1 else 0.3)    # until a leader is elected
+
+    def write(self, node):
+        path = f"{self.folder}/nats{node}"
+        text = (f'server_name: n{node}\nlisten: "127.0.0.1:{self.ports[node]}"\n'
+                f'jetstream {{ store_dir: "{path}", max_file: 20GB, max_mem: 1GB }}\n')
+        if self.nodes > 1:
+            routes = ", ".join(f'"nats://127.0.0.1:{port}"' for port in self.routes)
+            text += (f'cluster {{ name: test, listen: "127.0.0.1:{self.routes[node]}",'
+                     f' routes: [{routes}] }}\n')
+        with open(path + ".conf", "w", encoding="utf-8") as file:
+            file.write(text)
+
+    def start(self, node):
+        path = f"{self.folder}/nats{node}"
+        self.running[node] = subprocess.Popen(
+            ["nats-server", "-c", path + ".conf", "-l", path + ".log"],
+            stdout=subprocess.DEVNULL, stderr=subprocess.DEVNULL)
+
+    def kill(self, node):
+        self.running[node].kill()
+        self.running[node].wait()
+
+    def stop(self):
+        for node in self.running:
+            self.kill(node)
+
+
+class Postgres:
+    """One server, which is a child of this process under the user `postgres` where that is root."""
+
+    def __init__(self, folder):
+        self.data, self.port = f"{folder}/postgresql", free_ports(1)[0]
+        self.bin = max(glob.glob("/usr/lib/postgresql/*/bin"))
+        self.user = {"user": "postgres", "group": "postgres", "extra_groups": []}
+        os.makedirs(self.data, 0o700)
+        if os.geteuid() == 0:
+            shutil.chown(self.data, "postgres", "postgres")
+        else:
+            self.user = {}
+        how = {"cwd": "/", "stdin": subprocess.DEVNULL, "stdout": subprocess.DEVNULL, **self.user}
+        subprocess.run([f"{self.bin}/initdb", "-D", self.data, "-U", "postgres", "-A", "trust",
+                        "--no-sync"], check=True, **how)
+        self.server = subprocess.Popen(
+            [f"{self.bin}/postgres", "-D", self.data, "-p", str(self.port),
+             "-c", "listen_addresses=127.0.0.1", "-c", "unix_socket_directories=",
+             "-c", "shared_buffers=256MB", "-c", "max_wal_size=2GB"],
+            stderr=subprocess.DEVNULL, **how)
+        await_port(self.port)
+        self.where = f"postgresql://postgres@127.0.0.1:{self.port}/postgres"
+        self.await_query()
+
+    def await_query(self):
+        until = time.monotonic() + PATIENCE
+        while True:
+            try:
+                return self.ask("SELECT 1")
+            except subprocess.CalledProcessError:
+                if time.monotonic() > until:
+                    raise
+                time.sleep(0.1)
+
+    def ask(self, sql):
+        """The rows of an answer, of columns without tabs."""
+        done = subprocess.run(["psql", "-qAtF", "\t", self.where, "-c", sql], check=True,
+                              stdout=subprocess.PIPE, stderr=subprocess.DEVNULL, text=True)
+        return [line.split("\t") for line in done.stdout.splitlines()]
+
+    def stop(self):
+        if self.server.poll() is None:
+            self.server.send_signal(signal.SIGQUIT)     # at once
+            self.server.wait()

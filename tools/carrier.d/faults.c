@@ -1,0 +1,84 @@
+/* A carrier for tests, over the one of SQLite, whose nodes fail: it loses frames that it was given,
+ * stores others twice, and loses confirmations. The linker puts it in the place of
+ * sqlite_carrier_open (--wrap).
+ *
+ * CARRIER_FAULTS is one number: so many of 1,000 frames are lost, as many stored twice, and so many
+ * confirmations lost. */
+#include "carrier.h"
+
+#include <stdio.h>
+#include <stdlib.h>
+#include <time.h>
+#include <unistd.h>
+
+struct faulty {
+    struct carrier base;
+    struct carrier *real;
+    long faults;   /* of 1,000 */
+    unsigned lost; /* so many of the next frames are lost too */
+};
+
+struct carrier *__real_sqlite_carrier_open(const char *path);
+struct carrier *__wrap_sqlite_carrier_open(const char *path);
+
+static int happens(const struct faulty *c)
+{
+    return rand() % 1000 < c->faults;
+}
+
+static int publish(struct carrier *base, unsigned shard, const char *session, uint32_t tag,
+                   uint64_t number, const uint8_t *frame, size_t len)
+{
+    struct faulty *c = (struct faulty *)base;
+    if (c->lost == 0 && happens(c))
+        c->lost = 1 + (unsigned)rand() % 3;
+    if (c->lost > 0) {
+        c->lost--;
+        return 0;
+    }
+    if (happens(c)) /* the first copy is confirmed to nobody */
+        carrier_publish(c->real, shard, session, UINT32_MAX, number, frame, len);
+    return carrier_publish(c->real, shard, session, tag, number, frame, len);
+}
+
+static int confirmed(struct carrier *base, struct confirmed *list, size_t room, int milliseconds)
+{
+    struct faulty *c = (struct faulty *)base;
+    int i, kept = 0, count = carrier_confirmed(c->real, list, room, milliseconds);
+    for (i = 0; i < count; i++)
+        if (!happens(c))
+            list[kept++] = list[i];
+    return count < 0 ? count : kept;
+}
+
+static void seek(struct carrier *base, unsigned shard, uint64_t offset)
+{
+    carrier_seek(((struct faulty *)base)->real, shard, offset);
+}
+
+static int fetch(struct carrier *base, struct carried *list, size_t room, int milliseconds)
+{
+    return carrier_fetch(((struct faulty *)base)->real, list, room, milliseconds);
+}
+
+static void close_it(struct carrier *base)
+{
+    carrier_close(((struct faulty *)base)->real);
+    free(base);
+}
+
+struct carrier *__wrap_sqlite_carrier_open(const char *path)
+{
+    struct carrier *real = __real_sqlite_carrier_open(path);
+    const char *faults = getenv("CARRIER_FAULTS");
+    struct faulty *c = calloc(1, sizeof *c);
+    if (real == NULL || c == NULL || faults == NULL) {
+        free(c);
+        return real;
+    }
+    c->base = (struct carrier){ seek, publish, confirmed, fetch, close_it };
+    c->real = real;
+    c->faults = atol(faults);
+    srand((unsigned)(getpid() + time(NULL)));
+    return &c->base;
+}

@@ -1,0 +1,53 @@
+"""Mutants of carrier/, each with a planted bug that chaos has to find: its name, the file, the text
+that stands there once, and what takes its place."""
+import os
+import shutil
+
+# What chaos has to say of each: that it fails for another reason isn't enough.
+FOUND = {
+    "confirmations counted singly": "not all is closed, though all counts as carried",
+    "no compare-and-set": "doubled",
+    "deduplication on": "not all is carried",
+}
+EDITS = {
+    "confirmations counted singly": ("progress.c", """\
+    if (number != it->carried || it->carried >= it->next || offset <= it->at)
+        return 0;
+    it->carried++;
+""", """\
+    if (number < it->carried || number >= it->next)
+        return 0;
+    it->carried = number + 1;
+"""),
+    "no compare-and-set": ("sqlite_store.c", """\
+    s->is_fenced |= sqlite3_changes(s->db) != 1;
+""", """\
+    s->is_fenced = 0;
+"""),
+    "deduplication on": ("nats_carrier.c", """\
+    status = natsConnection_PublishRequest(c->connection, subject, reply, frame, (int)len);
+""", """\
+    natsMsg *message = NULL;
+    char id[64];
+    snprintf(id, sizeof id, "%s-%llu", session, (unsigned long long)number);
+    status = natsMsg_Create(&message, subject, reply, (const char *)frame, (int)len);
+    if (status == NATS_OK)
+        status = natsMsgHeader_Set(message, "Nats-Msg-Id", id);
+    if (status == NATS_OK)
+        status = natsConnection_PublishMsg(c->connection, message);
+    natsMsg_Destroy(message);
+"""),
+}
+
+
+def write(name, sources, folder):
+    """Writes a copy of the sources with the bug. The text has to stand there once."""
+    path, old, new = EDITS[name]
+    shutil.copytree(sources, folder, ignore=shutil.ignore_patterns("out"))
+    path = os.path.join(folder, path)
+    with open(path, encoding="utf-8") as file:
+        text = file.read()
+    if text.count(old) != 1:
+        raise ValueError(f"{name}: the text to be changed stands {text.count(old)} times in {path}")
+    with open(path, "w", encoding="utf-8") as file:
+        file.write(text.replace(old, new))

@@ -1,0 +1,52 @@
+/* The rate of a carrier alone, with no session: publishes frames into a shard, and reads them again.
+ *     raw --carrier WHERE --replicas N --shard N --frames N --bytes N */
+#include "carrier.h"
+#include "clock.h"
+
+#include <stdio.h>
+#include <stdlib.h>
+
+enum { WINDOW = 2048, TAKEN = 256, WAIT = 20 };
+
+static double publish_all(struct carrier *c, unsigned shard, int frames, size_t len)
+{
+    static uint8_t frame[1 << 20];
+    static struct confirmed list[WINDOW];
+    uint64_t began = nanoseconds();
+    int sent = 0, confirmed = 0;
+    while (confirmed < frames) {
+        int now, batch = sent + TAKEN;
+        while (sent < frames && sent < batch && sent - confirmed < WINDOW
+               && carrier_publish(c, shard, "raw", 0, (uint64_t)sent, frame, len) == 0)
+            sent++;
+        now = carrier_confirmed(c, list, WINDOW, sent - confirmed < WINDOW ? 0 : WAIT);
+        confirmed += now > 0 ? now : 0;
+    }
+    return frames / ((double)(nanoseconds() - began) / 1e9);
+}
+
+static double read_all(struct carrier *c, unsigned shard, int frames)
+{
+    static struct carried list[TAKEN];
+    uint64_t began = nanoseconds();
+    int had = 0;
+    carrier_seek(c, shard, 0);
+    while (had < frames) {
+        int now = carrier_fetch(c, list, TAKEN, WAIT);
+        had += now > 0 ? now : 0;
+    }
+    return frames / ((double)(nanoseconds() - began) / 1e9);
+}
+
+int main(int count, char **words)
+{
+    struct carrier *c = count == 11 ? carrier_open(words[2], (unsigned)atoi(words[4])) : NULL;
+    double published;
+    if (c == NULL)
+        return 2;
+    published = publish_all(c, (unsigned)atoi(words[6]), atoi(words[8]), (size_t)atoi(words[10]));
+    printf("published %.0f a second, read %.0f a second\n", published,
+           read_all(c, (unsigned)atoi(words[6]), atoi(words[8])));
+    carrier_close(c);
+    return 0;
+}
