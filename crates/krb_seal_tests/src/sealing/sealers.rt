@@ -1,6 +1,7 @@
 use super::frames::{PRIV_17, PRIV_17_OTHER, PRIV_18, SAFE_17, SAFE_18, SAFE_LAST};
 use super::{KEY_128, KEY_256, MICROS, answer, opener, sealed, session};
 use crate::asserts::assert_same;
+use krb_base::USER_DATA_LIMIT;
 use krb_der::Moment;
 use krb_seal::{Aes128Sealer, Aes256Sealer, Mode, SealError, Sealer};
 use std::alloc::{AllocError, Global};
@@ -38,6 +39,9 @@ fn frames_are_those_of_another_sealer(rt: HostRuntime) {
 /// The size of the first frame with so many bytes of user data, of a new sealer of encryption type
 /// 17.
 fn first_size(alloc: Global, mode: Mode, first: u32, len: usize) -> Result<usize, SealError> {
+    if len > USER_DATA_LIMIT {
+        return Err(SealError::TooLong);
+    }
     let sealer = Aes128Sealer::new(&mut { KEY_128 }, session(alloc, mode, first)?);
     let at = Moment::from_micros(MICROS).ok_or(SealError::Memory)?;
     Ok(sealer.frame_size(len, at))
