@@ -11,7 +11,7 @@ session's close took effect. Then
 - the effects of each session have to be its texts in order, each once, and its close;
 - a receiver that begins with nothing has to read the same from the carrier (`replay`);
 - no number of a session may have left with two frames (`audit`);
-- what each shard holds of a session, passed to `krbrelay open`, has to give its texts and its close.
+- what each shard holds of a session, passed to `krbrelay open`, has to give its texts and close.
 """
 import collections
 import dataclasses

@@ -1,4 +1,4 @@
-"""The servers of tools/carrier, on the loopback: JetStream of one or three nodes, and PostgreSQL."""
+"""The servers of tools/carrier, on the loopback: JetStream of one or three nodes, PostgreSQL."""
 import glob
 import os
 import shutil
