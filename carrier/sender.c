@@ -4,9 +4,10 @@
  *            [--retry MILLISECONDS] [--drain]
  *
  * It takes texts from the outbox, seals them into frames, which the outbox stores, and publishes
- * these until they are carried (outbox.h, progress.h). It ends by SIGTERM; with --drain once all
- * is carried; or with status 3 if another sender has taken the outbox over. It may be killed at
- * any time: start it again. */
+ * these until they are carried (outbox.h, progress.h): again after the time of --retry, by
+ * default 2,000, which is to be above that in which the carrier confirms. It ends by SIGTERM;
+ * with --drain once all is carried; or with status 3 if another sender has taken the outbox over.
+ * It may be killed at any time: start it again. */
 #include "carrier.h"
 #include "clock.h"
 #include "seal.h"
