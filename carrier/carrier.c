@@ -27,7 +27,8 @@ int carrier_publish(struct carrier *carrier, unsigned shard, const char *session
     return carrier->publish(carrier, shard, session, tag, number, frame, len);
 }
 
-int carrier_confirmed(struct carrier *carrier, struct confirmed *list, size_t room, int milliseconds)
+int carrier_confirmed(struct carrier *carrier, struct confirmed *list, size_t room,
+                      int milliseconds)
 {
     return carrier->confirmed(carrier, list, room, milliseconds);
 }

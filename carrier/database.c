@@ -15,7 +15,7 @@ static int report(sqlite3 *db, const char *what)
     int code = sqlite3_errcode(db);
     if (code == SQLITE_BUSY || code == SQLITE_LOCKED)
         fprintf(stderr, "%s is locked: another process has been writing for %d s; end it, or wait."
-                        " Nothing is lost: this is tried again\n", name, PATIENCE / 1000);
+                        " Nothing is lost\n", name, PATIENCE / 1000);
     else
         fprintf(stderr, "%s: %s, at %.60s\n", name, sqlite3_errmsg(db), what);
     return -1;

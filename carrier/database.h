@@ -4,8 +4,8 @@
 
 #include <sqlite3.h>
 
-/* Opens the file, which is made if it doesn't exist, and runs the statements of its tables, each of
- * which may be run again. What is committed survives a loss of power. NULL after a fault. */
+/* Opens the file, which is made if it doesn't exist, and runs the statements of its tables, each
+ * of which may be run again. What is committed survives a loss of power. NULL after a fault. */
 sqlite3 *open_database(const char *path, const char *tables);
 
 /* Runs statements that give no rows; 0 if all were run. */

@@ -14,8 +14,9 @@ struct arrived {
 };
 
 /* The effect of one text. It is called within the transaction that moves the session's number and
- * the shard's offset: what it asks of the store takes effect with them, once, or not at all. What it
- * does elsewhere may be done twice. 0, or -1 for the transaction to be given up and tried again. */
+ * the shard's offset: what it asks of the store takes effect with them, once, or not at all. What
+ * it does elsewhere may be done twice. 0, or -1 for the transaction to be given up and tried
+ * again. */
 int take_effect(struct store *store, const struct arrived *it);
 
 /* Its tables, unless they exist. */

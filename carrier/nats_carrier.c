@@ -1,15 +1,20 @@
 /* Publishing over NATS JetStream.
  *
- * A frame is published with a reply subject of its own, INBOX.TAG.NUMBER, to which the stream answers
- * with the sequence number at which it stored the message. No Nats-Msg-Id is set: a stream that drops
- * what it has seen would drop what is sent again to come after its predecessor (progress.h). */
+ * A frame is published with a reply subject of its own, INBOX.TAG.NUMBER, to which the stream
+ * answers with the sequence number at which it stored the message. No Nats-Msg-Id is set: a
+ * stream that drops what it has seen would drop what is sent again to come after its predecessor
+ * (progress.h). */
 #include "nats_carrier.h"
 
 #include <stdio.h>
 #include <stdlib.h>
 #include <string.h>
 
-enum { RECONNECT = 200, SERVERS = 16 }; /* milliseconds between tries; the most servers of a name */
+enum {
+    RECONNECT = 200, /* milliseconds between tries */
+    SILENT = 2000,   /* milliseconds after which a server that doesn't answer or read is left */
+    SERVERS = 16     /* the most servers of a name */
+};
 
 int nats_report(const char *what, natsStatus status)
 {
@@ -71,8 +76,8 @@ static int publish(struct carrier *base, unsigned shard, const char *session, ui
     return status == NATS_OK ? 0 : nats_report("publish", status);
 }
 
-/* Reads the answer to one frame: {"stream":"KRB_0","seq":7}, or an error, which isn't counted. What
- * anyone writes to the inbox can at most make a session stand still. */
+/* Reads the answer to one frame: {"stream":"KRB_0","seq":7}, or an error, which isn't counted.
+ * What anyone writes to the inbox can at most make a session stand still. */
 static int read_answer(natsMsg *message, size_t inbox_len, struct confirmed *it)
 {
     char text[256];
@@ -146,6 +151,10 @@ static natsStatus connect_to(struct nats_carrier *c, const char *where)
         status = natsOptions_SetMaxReconnect(c->options, -1);
     if (status == NATS_OK)
         status = natsOptions_SetReconnectWait(c->options, RECONNECT);
+    if (status == NATS_OK)
+        status = natsOptions_SetPingInterval(c->options, SILENT / 2);
+    if (status == NATS_OK)
+        status = natsOptions_SetWriteDeadline(c->options, SILENT);
     if (status == NATS_OK)
         status = natsConnection_Connect(&c->connection, c->options);
     if (status == NATS_OK)

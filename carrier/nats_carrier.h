@@ -18,8 +18,8 @@ struct nats_carrier {
     unsigned char is_made[NATS_SHARDS]; /* 1: this shard's stream exists */
     natsInbox *inbox;                   /* confirmations */
     natsSubscription *answers;
-    /* The reader: where it stands, how many frames its consumer has delivered, how often it was tried
-     * to begin, and the frames of the last fetch. */
+    /* The reader: where it stands, how many frames its consumer has delivered, how often it was
+     * tried to begin, and the frames of the last fetch. */
     unsigned shard;
     uint64_t after, delivered;
     unsigned tries;

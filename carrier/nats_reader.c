@@ -1,8 +1,8 @@
 /* Reading over NATS JetStream.
  *
- * A reader is an ephemeral consumer that acknowledges nothing and begins after an offset. It counts
- * what it delivers: if one is missing, or it falls silent, another consumer is made that begins after
- * the last frame that was fetched. */
+ * A reader is an ephemeral consumer that acknowledges nothing and begins after an offset. It
+ * counts what it delivers: if one is missing, or it falls silent, another consumer is made that
+ * begins after the last frame that was fetched. */
 #include "nats_carrier.h"
 
 #include <stdio.h>
@@ -33,9 +33,9 @@ void nats_seek(struct carrier *base, unsigned shard, uint64_t offset)
     c->tries = 0;
 }
 
-/* A stream that ends before the offset has lost what it had confirmed. What it has now is read from
- * the beginning then: repeats are refused. It is asked again some times before that, since a server
- * that has just started may not have caught up. */
+/* A stream that ends before the offset has lost what it had confirmed. What it has now is read
+ * from the beginning then: repeats are refused. It is asked again some times before that, since a
+ * server that has just started may not have caught up. */
 static int check_end(struct nats_carrier *c, const char *name)
 {
     jsStreamInfo *info = NULL;

@@ -193,7 +193,8 @@ void outbox_rollback(struct outbox *o)
 
 /* ---- Frames */
 
-void outbox_select_frames(struct outbox *o, const char *session, uint64_t from, unsigned limit)
+void outbox_select_frames(struct outbox *o, const char *session, uint64_t from,
+                          unsigned limit)
 {
     sqlite3_stmt *select = o->statements[SELECT_FRAMES];
     sqlite3_bind_text(select, 1, session, -1, SQLITE_STATIC);

@@ -1,5 +1,5 @@
-/* The outbox of a sender: one SQLite file with the texts that wait, the frames that aren't carried,
- * and how far each session is.
+/* The outbox of a sender: one SQLite file with the texts that wait, the frames that aren't
+ * carried, and how far each session is.
  *
  * An application puts texts into the table `text`, in transactions of its own:
  *     INSERT INTO text (session, body) VALUES ('tom-7', 'hello')
@@ -9,8 +9,8 @@
  * texts. (session, number) is the key of the frames, which are never replaced, and a frame leaves
  * only from there: so no frame leaves under a number under which another one left.
  *
- * One process at a time seals from an outbox. Whoever opens it last owns it: each transaction checks
- * that, and a process that isn't the owner any more ends. */
+ * One process at a time seals from an outbox. Whoever opens it last owns it: each transaction
+ * checks that, and a process that isn't the owner any more ends. */
 #ifndef OUTBOX_H
 #define OUTBOX_H
 
@@ -51,8 +51,8 @@ int outbox_is_owned(struct outbox *outbox);
  * another process is the owner. */
 enum outbox_answer outbox_begin(struct outbox *outbox);
 
-/* Begins with the oldest texts of known sessions; each call of outbox_next_text gives one: 1, 0 after
- * the last, -1 after a fault. */
+/* Begins with the oldest texts of known sessions; each call of outbox_next_text gives one: 1, 0
+ * after the last, -1 after a fault. */
 void outbox_select_texts(struct outbox *outbox, size_t limit);
 int outbox_next_text(struct outbox *outbox, struct waiting_text *text);
 void outbox_end_texts(struct outbox *outbox);
@@ -71,7 +71,8 @@ int outbox_commit(struct outbox *outbox);
 void outbox_rollback(struct outbox *outbox);
 
 /* ---- The frames of a session from a number on, as outbox_select_texts gives texts. */
-void outbox_select_frames(struct outbox *outbox, const char *session, uint64_t from, unsigned limit);
+void outbox_select_frames(struct outbox *outbox, const char *session, uint64_t from,
+                          unsigned limit);
 int outbox_next_frame(struct outbox *outbox, uint64_t *number, const uint8_t **frame, size_t *len);
 void outbox_end_frames(struct outbox *outbox);
 

@@ -1,5 +1,6 @@
 /* A store in PostgreSQL: for receivers on several machines. What a transaction asks for is sent
- * without waiting for answers, and they are read before it is committed: two waits a transaction. */
+ * without waiting for answers, and they are read before it is committed: two waits a transaction.
+ * */
 #include "effect.h"
 #include "store.h"
 
@@ -51,7 +52,8 @@ static int ask(struct postgresql_store *s, const char *name, int count, const ch
                                                                              : report(s, name);
 }
 
-/* The first answer that isn't as it has to be decides: 0, 1 if no row was moved, -1 after a fault. */
+/* The first answer that isn't as it has to be decides: 0, 1 if no row was moved, -1 after a
+ * fault. */
 static int judge(struct postgresql_store *s, const PGresult *result, enum expected expected)
 {
     ExecStatusType status = PQresultStatus(result);
@@ -258,8 +260,8 @@ static int is_done(struct postgresql_store *s, PGresult *result, const char *sql
     return 0;
 }
 
-/* In one transaction under a lock, so that two processes may make the tables at once: IF NOT EXISTS
- * alone fails then. */
+/* In one transaction under a lock, so that two processes may make the tables at once: IF NOT
+ * EXISTS alone fails then. */
 static int make_tables(struct postgresql_store *s)
 {
     char sql[2048];

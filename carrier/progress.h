@@ -1,15 +1,16 @@
 /* The rule of carried frames, on which it rests that all texts arrive.
  *
- * Publishing doesn't wait for confirmations, so a carrier may fail to store frame k and store frame
- * k+1. The receiver refuses that one and passes it by, so k+1 has to come again after k. Hence:
+ * Publishing doesn't wait for confirmations, so a carrier may fail to store frame k and store
+ * frame k+1. The receiver refuses that one and passes it by, so k+1 has to come again after k.
+ * Hence:
  *
  *     Frame k counts as carried only when a copy of it stands after the counted copy of frame k-1.
  *     What isn't carried in time is published again, with all frames that follow it.
  *
- * By induction the counted copies stand in the shard in their order. Whatever stands between them, a
- * receiver that takes the frames one by one reaches the end, though it passes by all that it refuses.
- * A carrier that drops what it has stored before would break this: the copy that is to come after its
- * predecessor would be dropped as a repeat. */
+ * By induction the counted copies stand in the shard in their order. Whatever stands between
+ * them, a receiver that takes the frames one by one reaches the end, though it passes by all that
+ * it refuses. A carrier that drops what it has stored before would break this: the copy that is
+ * to come after its predecessor would be dropped as a repeat. */
 #ifndef PROGRESS_H
 #define PROGRESS_H
 
@@ -27,8 +28,9 @@ struct progress {
 /* A copy of this frame stands at this offset. Answers 1 if it counts: then one more is carried. */
 int progress_confirm(struct progress *it, uint64_t number, uint64_t offset, uint64_t now);
 
-/* If nothing was carried for so long though frames were published, all that isn't carried is to be
- * published again: answers how many frames were published and don't count. Times in nanoseconds. */
+/* If nothing was carried for so long though frames were published, all that isn't carried is to
+ * be published again: answers how many frames were published and don't count. Times in
+ * nanoseconds. */
 uint64_t progress_rewind(struct progress *it, uint64_t now, uint64_t patience);
 
 #endif

@@ -4,10 +4,10 @@
  *     receiver --sessions FILE --store WHERE --carrier WHERE --shards N[,N..]
  *              [--replicas N] [--batch N] [--skew SECONDS] [--until-closed]
  *
- * A thread for each shard does what shard.h says. The skew has to be above the time that the carrier
- * keeps frames, 86,400 by default: a frame that is older is refused, and its session stands still.
- * It ends by SIGTERM, or with --until-closed once all sessions are closed. It may be killed at any
- * time: start it again. */
+ * A thread for each shard does what shard.h says. The skew has to be above the time that the
+ * carrier keeps frames, 86,400 by default: a frame that is older is refused, and its session
+ * stands still. It ends by SIGTERM, or with --until-closed once all sessions are closed. It may
+ * be killed at any time: start it again. */
 #include "clock.h"
 #include "shard.h"
 
@@ -71,24 +71,29 @@ static void *work(void *given)
     return NULL;
 }
 
-static int work_all(const struct session *sessions, size_t count)
+static pthread_t start_thread(struct shard *shard, unsigned number,
+                              const struct session *sessions, size_t count)
+{
+    pthread_t thread;
+    shard->options = &options.shard;
+    shard->sessions = sessions;
+    shard->count = count;
+    shard->number = number;
+    if (pthread_create(&thread, NULL, work, shard) == 0)
+        return thread;
+    perror("a thread");
+    exit(1);
+}
+
+static void work_all(const struct session *sessions, size_t count)
 {
     static struct shard shards[SHARDS];
     pthread_t threads[SHARDS];
     unsigned i;
-    for (i = 0; i < options.shard_count; i++) {
-        shards[i].options = &options.shard;
-        shards[i].sessions = sessions;
-        shards[i].count = count;
-        shards[i].number = options.shards[i];
-        if (pthread_create(&threads[i], NULL, work, &shards[i]) != 0) {
-            perror("a thread");
-            exit(1);
-        }
-    }
+    for (i = 0; i < options.shard_count; i++)
+        threads[i] = start_thread(&shards[i], options.shards[i], sessions, count);
     for (i = 0; i < options.shard_count; i++)
         pthread_join(threads[i], NULL);
-    return 0;
 }
 
 /* ---- Options */

@@ -115,7 +115,8 @@ int seal_load(struct sealing *s, struct sending *it)
     if (it->progress.next > UINT32_MAX)
         return 0; /* the close was sealed with the last number */
     session.first = (uint32_t)it->progress.next;
-    answer = krbrelay_sealer_new(&it->sealer, it->of->etype, it->of->key, it->of->key_len, &session);
+    answer = krbrelay_sealer_new(&it->sealer, it->of->etype, it->of->key, it->of->key_len,
+                                 &session);
     if (answer == KRBRELAY_OK)
         return 0;
     report_answer("no sealer", it->of->name, it->progress.next, answer);

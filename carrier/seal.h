@@ -1,6 +1,6 @@
-/* Seals the texts of one session into records, whose frames the outbox stores. All of this is done
- * within a transaction of the outbox: what answers -1 wants it to be given up, and the session to be
- * loaded again. The records and the numbers are libkrbrelay's. */
+/* Seals the texts of one session into records, whose frames the outbox stores. All of this is
+ * done within a transaction of the outbox: what answers -1 wants it to be given up, and the
+ * session to be loaded again. The records and the numbers are libkrbrelay's. */
 #ifndef SEAL_H
 #define SEAL_H
 
@@ -14,7 +14,7 @@ struct sending {
     struct krbrelay_sealer sealer;
     struct progress progress;
     uint64_t kept;          /* what the outbox has of `carried` */
-    uint64_t sealed;        /* the next number of the sealer: above progress.next in a transaction */
+    uint64_t sealed;        /* the sealer's next number, which is progress.next once stored */
     uint8_t *batch;         /* the texts that wait for being sealed together */
     size_t size, room;
     unsigned texts;

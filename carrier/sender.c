@@ -4,9 +4,10 @@
  *            [--retry MILLISECONDS] [--drain]
  *
  * It takes texts from the outbox, seals them into frames, which the outbox stores, and publishes
- * these until they are carried (outbox.h, progress.h). It ends by SIGTERM; with --drain once all is
- * carried; or with status 3 if another sender has taken the outbox over. It may be killed at any
- * time: start it again. */
+ * these until they are carried (outbox.h, progress.h): again after the time of --retry, by
+ * default 2,000, which is to be above that in which the carrier confirms. It ends by SIGTERM;
+ * with --drain once all is carried; or with status 3 if another sender has taken the outbox over.
+ * It may be killed at any time: start it again. */
 #include "carrier.h"
 #include "clock.h"
 #include "seal.h"
@@ -22,6 +23,9 @@ enum {
     IDLE = 20,      /* milliseconds to wait for confirmations, or texts */
     PAUSE = 100     /* milliseconds after a fault */
 };
+
+#define SECOND UINT64_C(1000000000) /* in nanoseconds */
+#define SILENCE (10 * SECOND)
 
 struct options {
     const char *sessions, *outbox, *carrier;
@@ -39,6 +43,7 @@ struct sender {
     struct sealing sealing;
     unsigned long published, again;
     uint64_t storing, carrying; /* nanoseconds */
+    uint64_t rose;              /* when a frame was carried last, or there was none to be carried */
 };
 
 static volatile sig_atomic_t ending;
@@ -94,7 +99,9 @@ static int keep(struct sender *s, struct sending *it)
     if (it->sealed > it->progress.next
         && outbox_set_next(&s->outbox, name, it->progress.next, it->sealed) != 0)
         return -1;
-    return it->progress.carried > it->kept ? outbox_set_carried(&s->outbox, name, &it->progress) : 0;
+    if (it->progress.carried > it->kept)
+        return outbox_set_carried(&s->outbox, name, &it->progress);
+    return 0;
 }
 
 static int keep_all(struct sender *s)
@@ -195,9 +202,24 @@ static size_t limit_of(size_t backlog)
     return limit >= TAKEN / 4 ? limit : 0;
 }
 
+/* Reports, each ten seconds, that nothing is carried though frames wait. */
+static void report_silence(struct sender *s, size_t rose)
+{
+    size_t backlog = backlog_of(s);
+    if (rose > 0 || backlog == 0)
+        s->rose = nanoseconds();
+    if (nanoseconds() - s->rose < SILENCE)
+        return;
+    fprintf(stderr, "none of %zu frames was confirmed for %llu s: are most nodes of %s up? They are"
+                    " published again until they are\n", backlog,
+            (unsigned long long)(SILENCE / SECOND), s->options.carrier);
+    s->rose = nanoseconds();
+}
+
 static enum outbox_answer serve(struct sender *s)
 {
     size_t rose = 0;
+    s->rose = nanoseconds();
     while (!ending) {
         size_t backlog = backlog_of(s);
         int texts = outbox_has_text(&s->outbox);
@@ -212,6 +234,7 @@ static enum outbox_answer serve(struct sender *s)
         began = nanoseconds();
         publish_all(s);
         rose = count_carried(s, backlog_of(s) > 0 && !(texts && backlog < WINDOW / 2) ? IDLE : 0);
+        report_silence(s, rose);
         if (!texts && rose == 0)
             pause_milliseconds(1);
         s->carrying += nanoseconds() - began;
@@ -233,10 +256,12 @@ static int start(struct sender *s)
         return -1;
     for (i = 0; i < s->count; i++)
         s->sendings[i].of = &s->sessions[i];
-    if (outbox_open(&s->outbox, s->options.outbox, s->sessions, s->count) != 0 || load_all(s) != 0)
-        return -1;
     s->carrier = carrier_open(s->options.carrier, s->options.replicas);
-    return s->carrier != NULL ? 0 : -1;
+    if (s->carrier == NULL) /* the outbox stays with whoever has it */
+        return -1;
+    if (outbox_open(&s->outbox, s->options.outbox, s->sessions, s->count) != 0)
+        return -1;
+    return load_all(s);
 }
 
 static void stop(struct sender *s)

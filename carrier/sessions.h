@@ -22,7 +22,8 @@ struct session {
     struct krbrelay_address from, to;
 };
 
-/* Reads them, sorted by name. NULL, with a report, if the file can't be read or isn't of that form. */
+/* Reads them, sorted by name. NULL, with a report, if the file can't be read or isn't of that
+ * form. */
 struct session *read_sessions(const char *path, size_t *count);
 
 /* The place of the session with this name, or count. */

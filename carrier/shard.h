@@ -1,11 +1,11 @@
 /* What a receiver does for one shard: it takes what the carrier has after the stored offset, some
  * frames at a time, and passes each to the receiver of its session, which libkrbrelay keeps. One
- * transaction has the effects of their texts, the numbers that the sessions demand next, and the new
- * offset. The offset is the acknowledgement: whoever continues begins after it. Nothing is
+ * transaction has the effects of their texts, the numbers that the sessions demand next, and the
+ * new offset. The offset is the acknowledgement: whoever continues begins after it. Nothing is
  * acknowledged singly.
  *
- * All that is refused is passed by: a repeat has taken its effect, and a frame that came early comes
- * again after those before it (progress.h). */
+ * All that is refused is passed by: a repeat has taken its effect, and a frame that came early
+ * comes again after those before it (progress.h). */
 #ifndef SHARD_H
 #define SHARD_H
 
@@ -54,8 +54,8 @@ struct shard {
 /* Opens store and carrier, and begins at what is stored. 0, or -1 after a fault. */
 int shard_start(struct shard *shard);
 
-/* Fetches frames, and takes them in one transaction. Answers how many there were, or -1 after a fault
- * that doesn't pass. */
+/* Fetches frames, and takes them in one transaction. Answers how many there were, or -1 after a
+ * fault that doesn't pass. */
 int shard_step(struct shard *shard, int milliseconds);
 
 /* Prints what was counted. */

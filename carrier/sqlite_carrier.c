@@ -97,8 +97,8 @@ static void seek(struct carrier *base, unsigned shard, uint64_t offset)
     c->after = offset;
 }
 
-/* Copies the frame of a row after the first `used` bytes; -1 where there is no room. A fetch's first
- * frame has room unless memory is out. */
+/* Copies the frame of a row after the first `used` bytes; -1 where there is no room. A fetch's
+ * first frame has room unless memory is out. */
 static int copy_row(struct sqlite_carrier *c, struct carried *it, size_t used)
 {
     sqlite3_stmt *select = c->statements[SELECT];
@@ -178,7 +178,8 @@ struct carrier *sqlite_carrier_open(const char *path)
     c->room = 1 << 20;
     c->frames = malloc(c->room);
     c->db = open_database(path, tables);
-    if (c->frames != NULL && c->db != NULL && prepare_all(c->db, c->statements, sql, STATEMENTS) == 0)
+    if (c->frames != NULL && c->db != NULL
+        && prepare_all(c->db, c->statements, sql, STATEMENTS) == 0)
         return &c->base;
     close_it(&c->base);
     return NULL;

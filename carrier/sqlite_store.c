@@ -24,14 +24,16 @@ static const char tables[] =
     "CREATE TABLE IF NOT EXISTS session (name TEXT PRIMARY KEY, next INTEGER NOT NULL,"
     " closed INTEGER NOT NULL) WITHOUT ROWID;";
 
-/* A row is inserted if there is none, and moved if it stands where it is said; else none changes. */
+/* A row is inserted if there is none, and moved if it stands where it is said; else none changes.
+ * */
 static const char *const own_sql[STATEMENTS] = {
     [SELECT_OFFSET] = "SELECT offset FROM shard WHERE shard = ?",
     [SELECT_SESSION] = "SELECT next, closed FROM session WHERE name = ?",
-    [MOVE_OFFSET] = "INSERT INTO shard SELECT ?1, ?3 WHERE ?2 = 0 OR ?1 IN (SELECT shard FROM shard)"
-                    " ON CONFLICT (shard) DO UPDATE SET offset = ?3 WHERE offset = ?2",
-    [MOVE_SESSION] = "INSERT INTO session VALUES (?1, ?3, ?4) ON CONFLICT (name)"
-                     " DO UPDATE SET next = ?3, closed = ?4 WHERE next = ?2",
+    [MOVE_OFFSET] = ("INSERT INTO shard SELECT ?1, ?3"
+                     " WHERE ?2 = 0 OR ?1 IN (SELECT shard FROM shard)"
+                     " ON CONFLICT (shard) DO UPDATE SET offset = ?3 WHERE offset = ?2"),
+    [MOVE_SESSION] = ("INSERT INTO session VALUES (?1, ?3, ?4) ON CONFLICT (name)"
+                      " DO UPDATE SET next = ?3, closed = ?4 WHERE next = ?2"),
 };
 
 static int offset(struct store *base, unsigned shard, uint64_t *offset)

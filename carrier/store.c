@@ -12,7 +12,8 @@ struct store *store_open(const char *where, unsigned shard)
 #ifdef WITH_POSTGRESQL
         return postgresql_store_open(where);
 #else
-        fprintf(stderr, "this program was built without PostgreSQL: install libpq-dev, and run make\n");
+        fprintf(stderr, "this program was built without PostgreSQL: install libpq-dev, and run"
+                        " make\n");
         return NULL;
 #endif
     }

@@ -32,8 +32,9 @@ int store_begin(struct store *store, unsigned shard, uint64_t from, uint64_t to)
 int store_advance(struct store *store, const char *session, uint64_t from,
                   const struct demand *to);
 
-/* Ends it: 0 if all of it took effect, 1 if something stood elsewhere, and -1 after a fault. After 1
- * nothing took effect; after -1 it isn't known whether it did: all is to be read again. */
+/* Ends it: 0 if all of it took effect, 1 if something stood elsewhere, and -1 after a fault.
+ * After 1 nothing took effect; after -1 it isn't known whether it did: all is to be read again.
+ * */
 int store_commit(struct store *store);
 
 /* Gives it up. */
@@ -42,8 +43,8 @@ void store_rollback(struct store *store);
 void store_close(struct store *store);
 
 /* ---- For the effect of a text (effect.c): any statement that gives no rows, within the open
- * transaction. $1, $2 .. stand for its values, in this order. The statement's bytes stay as they are:
- * each is prepared once. */
+ * transaction. $1, $2 .. stand for its values, in this order. The statement's bytes stay as they
+ * are: each is prepared once. */
 
 enum value_kind { VALUE_NUMBER, VALUE_TEXT, VALUE_BYTES };
 struct value { enum value_kind kind; uint64_t number; const void *at; size_t len; };

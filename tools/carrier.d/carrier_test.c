@@ -33,7 +33,8 @@ static void publish_all(struct carrier *c)
     for (i = 0; i < FRAMES; i++) {
         unsigned shard = SHARD + i % 2;
         fill(frame, shard, i);
-        check(carrier_publish(c, shard, session_of(i), i, 10 * i, frame, len_of(i)) == 0, "publish");
+        check(carrier_publish(c, shard, session_of(i), i, 10 * i, frame, len_of(i)) == 0,
+              "publish");
     }
 }
 

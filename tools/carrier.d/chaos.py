@@ -11,7 +11,7 @@ session's close took effect. Then
 - the effects of each session have to be its texts in order, each once, and its close;
 - a receiver that begins with nothing has to read the same from the carrier (`replay`);
 - no number of a session may have left with two frames (`audit`);
-- what each shard holds of a session, passed to `krbrelay open`, has to give its texts and its close.
+- what each shard holds of a session, passed to `krbrelay open`, has to give its texts and close.
 """
 import collections
 import dataclasses
@@ -400,7 +400,7 @@ class Trial:
     def check_all(self):
         self.check_effects(self.store, "effects")
         self.tally()
-        replay = f"sqlite:{self.folder}/replay.db"
+        replay = f"sqlite:{self.folder}/replay%.db"
         if not self.faults:
             self.replay(replay)
             self.check_effects(replay, "replay")
@@ -440,11 +440,15 @@ class Trial:
         command = [f"{self.given.programs}/receiver", "--sessions", f"{self.folder}/sessions",
                    "--store", store, *self.processes.common, "--until-closed", "--shards",
                    ",".join(map(str, range(self.given.shards)))]
-        try:
-            subprocess.run(command, check=False, timeout=DUMPED, stdout=subprocess.DEVNULL,
-                           stderr=subprocess.DEVNULL)
-        except subprocess.TimeoutExpired:
-            self.faults.append("replay hasn't ended")
+        until = time.monotonic() + DUMPED
+        status = None
+        while status != 0 and time.monotonic() < until:     # after a fault it is started again
+            try:
+                status = subprocess.run(command, check=False, timeout=DUMPED,
+                                        stdout=subprocess.DEVNULL,
+                                        stderr=subprocess.DEVNULL).returncode
+            except subprocess.TimeoutExpired:
+                self.faults.append("replay hasn't ended")
 
     def check_shards(self):
         """Looks at all frames that the shards have."""

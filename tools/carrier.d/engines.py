@@ -1,4 +1,4 @@
-"""The servers of tools/carrier, on the loopback: JetStream of one or three nodes, and PostgreSQL."""
+"""The servers of tools/carrier, on the loopback: JetStream of one or three nodes, PostgreSQL."""
 import glob
 import os
 import shutil
@@ -8,6 +8,7 @@ import subprocess
 import time
 
 PATIENCE = 30       # seconds for a server to answer
+ELECTION = 3        # seconds until three nodes have a leader
 
 
 def free_ports(count):
@@ -21,15 +22,21 @@ def free_ports(count):
     return ports
 
 
+def is_open(port):
+    """Whether something listens at a port of the loopback."""
+    try:
+        socket.create_connection(("127.0.0.1", port), 1).close()
+        return True
+    except OSError:
+        return False
+
+
 def await_port(port):
     until = time.monotonic() + PATIENCE
-    while time.monotonic() < until:
-        try:
-            socket.create_connection(("127.0.0.1", port), 1).close()
-            return
-        except OSError:
-            time.sleep(0.05)
-    raise RuntimeError(f"nothing listens at port {port}")
+    while not is_open(port):
+        if time.monotonic() > until:
+            raise RuntimeError(f"nothing listens at port {port}")
+        time.sleep(0.05)
 
 
 class Nats:
@@ -45,7 +52,7 @@ class Nats:
             self.start(node)
         for port in self.ports:
             await_port(port)
-        time.sleep(3 if nodes > 1 else 0.3)    # until a leader is elected
+        time.sleep(ELECTION if nodes > 1 else 0.3)
 
     def write(self, node):
         path = f"{self.folder}/nats{node}"

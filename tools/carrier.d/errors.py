@@ -21,7 +21,8 @@ class Ends:
         self.programs, self.folder = programs, folder
         os.makedirs(folder)
         self.sessions, self.outbox = f"{folder}/sessions", f"{folder}/outbox.db"
-        self.carrier, self.store = f"sqlite:{folder}/carrier.db", store or f"sqlite:{folder}/store.db"
+        self.carrier = f"sqlite:{folder}/carrier.db"
+        self.store = store or f"sqlite:{folder}/store.db"
         with open(self.sessions, "w", encoding="ascii") as file:
             file.writelines(SESSIONS)
 
@@ -158,7 +159,8 @@ def test_junk(count, ends):
             (0, "tom", rows[0][2]), (0, "ann", rows[5][2]), (0, "x" * 300, b"x")]
     with file:
         file.execute("DELETE FROM carried")
-        file.executemany("INSERT INTO carried (shard, session, frame) VALUES (?, ?, ?)", junk + rows)
+        file.executemany("INSERT INTO carried (shard, session, frame) VALUES (?, ?, ?)",
+                         junk + rows)
     file.close()
     done = ends.run("receiver", "--until-closed")
     count.told(done.returncode == 0 and "is refused and passed by" in done.stdout

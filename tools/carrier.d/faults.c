@@ -1,9 +1,9 @@
-/* A carrier for tests, over the one of SQLite, whose nodes fail: it loses frames that it was given,
- * stores others twice, and loses confirmations. The linker puts it in the place of
+/* A carrier for tests, over the one of SQLite, whose nodes fail: it loses frames that it was
+ * given, stores others twice, and loses confirmations. The linker puts it in the place of
  * sqlite_carrier_open (--wrap).
  *
- * CARRIER_FAULTS is one number: so many of 1,000 frames are lost, as many stored twice, and so many
- * confirmations lost. */
+ * CARRIER_FAULTS is one number: so many of 1,000 frames are lost, as many stored twice, and so
+ * many confirmations lost. */
 #include "carrier.h"
 
 #include <stdio.h>

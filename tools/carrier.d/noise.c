@@ -1,5 +1,6 @@
-/* Disturbs the sessions: takes frames that a shard has, and publishes them again, whole, or changed,
- * cut, or under another session's name; or bytes that are no frame. Nothing of it may have an effect.
+/* Disturbs the sessions: takes frames that a shard has, and publishes them again, whole, or
+ * changed, cut, or under another session's name; or bytes that are no frame. Nothing of it may
+ * have an effect.
  *     noise --carrier WHERE --sessions FILE --shards N --replicas N --seed N --seconds N */
 #include "carrier.h"
 #include "clock.h"

@@ -1,5 +1,5 @@
-/* Tests the rule of progress.h on drawn carriers that lose, repeat and confirm at will: the counted
- * copies stand in order, and where no frame is lost for ever all are carried.
+/* Tests the rule of progress.h on drawn carriers that lose, repeat and confirm at will: the
+ * counted copies stand in order, and where no frame is lost for ever all are carried.
  *     progress_test [SEED]          the last line is 'passed' or 'FAILED ..' */
 #include "check.h"
 #include "progress.h"

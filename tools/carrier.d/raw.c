@@ -1,4 +1,5 @@
-/* The rate of a carrier alone, with no session: publishes frames into a shard, and reads them again.
+/* The rate of a carrier alone, with no session: publishes frames into a shard, and reads them
+ * again.
  *     raw --carrier WHERE --replicas N --shard N --frames N --bytes N */
 #include "carrier.h"
 #include "clock.h"

@@ -1,5 +1,5 @@
-/* Tests a store by what store.h says of it:  store_test WHERE
- * It needs a store without shard 900 and session 'tom-7'. The last line is 'passed' or 'FAILED ..'. */
+/* Tests a store by what store.h says of it:  store_test WHERE It needs a store without shard 900
+ * and session 'tom-7'. The last line is 'passed' or 'FAILED ..'. */
 #include "check.h"
 #include "effect.h"
 
