@@ -13,19 +13,29 @@ use crate::sending::Front;
 use crossbeam_channel::{Pass, TrySendError};
 use std::sync::Wait;
 use std::thread;
+use std::thread::Parker;
+use std::time::Duration;
 
-/// The most looks of one wait.
-const MOST: u32 = 64;
+/// The most looks of one wait that other threads run between.
+const MOST: u32 = 32;
 
-/// The fewest looks of one wait.
-const LEAST: u32 = 4;
+/// The fewest of these looks.
+const LEAST: u32 = 8;
 
-/// How often a sender that finds its lane full looks again before it sleeps until a take wakes it.
+/// How many naps follow the looks of one wait.
+const NAPS: u32 = 8;
+
+/// The microseconds of the first nap, to which the system adds some 50. Each further nap is twice as
+/// long, so that all together take three milliseconds.
+const FIRST_NAP: u64 = 10;
+
+/// How a sender that finds its lane full waits before it sleeps until a take wakes it.
 ///
-/// A take that wakes the sender costs the receiver some microseconds. Looking again spares it that
-/// if takes follow each other quickly, and only uses processor time if they don't. So a wait that
-/// a look ended doubles the looks of the next wait, and a wait that ended in sleep halves them.
-/// Nothing of this is shared with the receiver.
+/// A take that wakes the sender costs the receiver some microseconds. Looking again spares it that,
+/// but takes processor time from it if there are more threads than processors. So a sender first
+/// looks again and again, and lets other threads run in between; then it sleeps for longer and
+/// longer between its looks. A wait that ended while it looked doubles the looks of the next wait,
+/// and any other halves them. Nothing of this is shared with the receiver.
 #[derive(Clone, Copy)]
 pub(crate) struct Patience {
     looks: u32,
@@ -36,8 +46,28 @@ impl Patience {
         Patience { looks: MOST }
     }
 
-    fn grow(&mut self) {
-        self.looks = self.looks.saturating_mul(2).min(MOST);
+    /// How often the lane is looked at in one wait.
+    fn turns(&self) -> u32 {
+        self.looks.saturating_add(NAPS)
+    }
+
+    /// Rests after a look in vain, the first of which is look 0.
+    fn rest(&self, rt: &impl Wait, look: u32) {
+        if look < self.looks {
+            thread::yield_now();
+        } else {
+            let nap = FIRST_NAP << (look - self.looks).min(NAPS);
+            Parker::new().park_timeout(rt, Duration::from_micros(nap));
+        }
+    }
+
+    /// Learns from a wait that this look ended. There was none if look 0 found room.
+    fn learn(&mut self, look: u32) {
+        if look > self.looks {
+            self.shrink();
+        } else if look > 0 {
+            self.looks = self.looks.saturating_mul(2).min(MOST);
+        }
     }
 
     fn shrink(&mut self) {
@@ -47,8 +77,6 @@ impl Patience {
 
 /// Sends an item, and waits while the lane is full. If the receiving end is gone, nothing is sent
 /// and the item comes back.
-///
-/// Other threads may run between two looks.
 pub(crate) fn put(
     rt: &impl Wait,
     sender: &Front,
@@ -66,18 +94,16 @@ pub(crate) fn put(
         (λ back. (back ≡ item) × (view pass.new ≡ view pass.old)) }
 {
     let mut item = item;
-    for look in 0..patience.looks {
+    for look in 0..patience.turns() {
         match sender.try_send_as::<Sends, _>(rt, pass, item) {
             Ok(()) => {
-                if look > 0 {
-                    patience.grow();
-                }
+                patience.learn(look);
                 return Ok(());
             }
             Err(TrySendError::Full(back)) => item = back,
             Err(error) => return Err(error.into_inner()),
         }
-        thread::yield_now();
+        patience.rest(rt, look);
     }
     patience.shrink();
     match sender.send_as::<Sends, _>(rt, pass, item) {
