@@ -1,6 +1,9 @@
-ghost use Rattle.std.specs.Prelude.{◌≡◌};
+//! Byte strings, and a part of one in its own block.
+
+ghost use Rattle.std.specs.Prelude.{◌≡◌, ◌≤◌, ◌-◌, drop, length, take};
 
 use std::alloc::AllocError;
+use std::collections::VecDeque;
 use std::marker::Model;
 
 /// A byte string on the heap, which contracts see as the list of its bytes.
@@ -52,4 +55,17 @@ impl Clone for Bytes {
             vec: self.vec.clone()?,
         })
     }
+}
+
+/// The bytes from `start` up to `end`, in the block in which they are: they are moved to its
+/// beginning in one move, and nothing is allocated.
+pub fn cut_out(bytes: Vec<u8>, start: usize, end: usize) -> Vec<u8>
+    requires order { start ≤ end }
+    requires within { end ≤ length bytes.items }
+    ensures part { result.items ≡ take (end - start) (drop start bytes.items) }
+{
+    let mut bytes = VecDeque::from(bytes);
+    bytes.truncate(end);
+    bytes.drain(..start);
+    Vec::from(bytes)
 }

@@ -13,7 +13,7 @@ mod lane;
 mod limits;
 mod prefix;
 
-pub use bytes::Bytes;
+pub use bytes::{Bytes, cut_out};
 pub use lane::lane_laws;
 pub use limits::{
     ADDRESS_LIMIT, BATCH_LIMIT, BATCH_SIZE_LIMIT, CAPACITY_LIMIT, ENTRIES_LIMIT, FRAME_LIMIT,

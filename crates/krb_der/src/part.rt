@@ -16,9 +16,8 @@ use crate::error::DerError;
 use crate::reader::only_element;
 use crate::tag;
 use crate::writer::{Writer, size_around};
-use krb_base::{Bytes, FRAME_LIMIT};
+use krb_base::{Bytes, FRAME_LIMIT, cut_out};
 use std::alloc::{AllocError, Global};
-use std::collections::VecDeque;
 
 impl<'a> BodyRef<'a> {
     /// How many bytes its spelling as an encrypted part has with so many bytes of data in place of
@@ -130,19 +129,6 @@ pub fn decode_part(alloc: Global, bytes: &[u8]) -> Result<Body, DerError>
         return Err(DerError::TooLong);
     }
     read_part(alloc, bytes)
-}
-
-/// The bytes from `start` up to `end`, in their own block: a deque drops what comes before them and
-/// moves them to the beginning in one move.
-fn cut_out(bytes: Vec<u8>, start: usize, end: usize) -> Vec<u8>
-    requires order { start ≤ end }
-    requires within { end ≤ length bytes.items }
-    ensures { result.items ≡ take (end - start) (drop start bytes.items) }
-{
-    let mut bytes = VecDeque::from(bytes);
-    bytes.truncate(end);
-    bytes.drain(..start);
-    Vec::from(bytes)
 }
 
 /// The same as `read_part` of the bytes from `start` on; its data keep the block of the bytes.

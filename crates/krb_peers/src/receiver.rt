@@ -12,7 +12,7 @@ ghost use Rattle.krb_peers.specs.Logged.{noted, MayBeNoted, IsShut, LogsNext};
 use crate::delivery::Delivery;
 use crate::log::{Event, Log};
 use crate::order::Order;
-use crate::record::{Record, RecordError, read_record};
+use crate::record::{Record, RecordError, into_record};
 use krb_der::Moment;
 use krb_seal::{Opener, Refusal};
 use std::alloc::{AllocError, Global};
@@ -185,7 +185,7 @@ impl Receiver {
         }
         let number = self.order.expected();
         let user_data = self.opener.unseal(alloc, frame, number, now)?;
-        let record = match read_record(alloc, &user_data) {
+        let record = match into_record(alloc, user_data) {
             Ok(record) => record,
             Err(RecordError::BadRecord) => return Err(Refusal::BadRecord),
             Err(RecordError::Memory) => return Err(Refusal::Memory),

@@ -1,12 +1,12 @@
 //! Records, and their bytes.
 
-ghost use Rattle.std.specs.Prelude.{◌≡◌, ◌≢◌, ◌↔◌, ◌≤◌, ℕ, List, length, IfOk, MatchResult, Some};
+ghost use Rattle.std.specs.Prelude.{◌≡◌, ◌≢◌, ◌↔◌, ◌≤◌, ℕ, List, length, IfOk, IsTrue, MatchResult, Some};
 ghost use Rattle.krb_base.specs.Limits.{text_limit};
 ghost use Rattle.krb_batch.specs.Batch.{SpellsBatch};
 ghost use Rattle.krb_peers.specs.Record.{FitsLimits, SpellsRecord, bytes_of, code_of, words_of};
 ghost use Rattle.krb_peers.specs.Sender.{record_for};
 
-use krb_base::{Bytes, TEXT_LIMIT};
+use krb_base::{Bytes, TEXT_LIMIT, cut_out};
 use krb_batch::{BatchError, Texts, batch_bytes, read_batch};
 use std::alloc::{AllocError, Global};
 use std::error::Error;
@@ -141,6 +141,36 @@ pub fn read_record(alloc: Global, bytes: &[u8]) -> Result<Record, RecordError>
         }
         CLOSE_TAG if rest.is_empty() => Ok(Record::Close),
         _ => batch_record(alloc, bytes),
+    }
+}
+
+/// The record whose bytes these are, as [`read_record`] gives it, but a text stays in their block:
+/// it is copied nowhere, and only a batch allocates.
+pub(crate) fn into_record(alloc: Global, bytes: Vec<u8>) -> Result<Record, RecordError>
+    ensures ok { IfOk result (λ r. SpellsRecord r bytes.items) }
+
+    // If the bytes are those of a record, the only error is out of memory.
+    ensures only { (r : Record) → SpellsRecord r bytes.items
+        → MatchResult result (λ got. got ≡ r) (λ e. e ≡ RecordError.Memory) }
+    ensures bad { (result ≡ Err RecordError.BadRecord)
+        ↔ ((r : Record) → ¬ SpellsRecord r bytes.items) }
+    ensures memory { result ≡ Err RecordError.Memory
+        → (r : Record) × SpellsRecord r bytes.items × (r ≢ Record.Close) }
+{
+    let end = bytes.len();
+    if is_text(&bytes) {
+        return Ok(Record::Text(Bytes::new(cut_out(bytes, 1, end))));
+    }
+    read_record(alloc, &bytes)
+}
+
+/// Whether the bytes are those of a text.
+fn is_text(bytes: &[u8]) -> bool
+    ensures { IsTrue result ↔ ((text : List ℕ) × SpellsRecord (Record.Text text) bytes.now) }
+{
+    match bytes.split_first() {
+        Some((tag, rest)) => *tag == TEXT_TAG && rest.len() <= TEXT_LIMIT,
+        None => false,
     }
 }
 

@@ -4,7 +4,7 @@ use crate::asserts::assert_same;
 use krb_base::{
     ADDRESS_LIMIT, BATCH_LIMIT, BATCH_SIZE_LIMIT, Bytes, CAPACITY_LIMIT, ENTRIES_LIMIT,
     FRAME_LIMIT, LANE_LIMIT, LAST_NUMBER, RAW_LIMIT, SKEW_LIMIT, TEXT_LIMIT, TEXTS_LIMIT,
-    USER_DATA_LIMIT,
+    USER_DATA_LIMIT, cut_out,
 };
 use std::test::Fail;
 
@@ -22,6 +22,15 @@ fn clone_outlives_its_bytes(rt: HostRuntime) -> Result<(), Fail> {
     let copy = bytes.clone()?;
     drop(bytes);
     assert_same(&rt, copy.as_slice(), b"hi".as_slice());
+    Ok(())
+}
+
+#[test]
+fn part_is_cut_out_of_bytes(rt: HostRuntime) -> Result<(), Fail> {
+    let part = cut_out(vec![in rt.alloc(); 0x2d, 0x68, 0x69, 0x2d]?, 1, 3);
+    assert_same(&rt, part.as_slice(), b"hi".as_slice());
+    let none = cut_out(vec![in rt.alloc(); 0x68, 0x69]?, 2, 2);
+    assert_same(&rt, none.len(), 0);
     Ok(())
 }
 

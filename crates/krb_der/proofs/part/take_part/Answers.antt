@@ -8,5 +8,5 @@ pub returns : goal.returns
 returns c =
     let spelt = take_rest c.deref.result.now c.args.start ∙ ap (drop c.args.start) c.deref.ensures.value in
     let place = ends-dropped c.args.start (c.in_ok-data.data.now ++ c.in_ok-data.behind.now) c.args.bytes.items (subst (EndsWith (c.in_ok-data.data.now ++ c.in_ok-data.behind.now)) spelt c.in_ok-data.ensures.place) in
-    let moved = c.new.ensures ∙ c.cut_out.ensures ∙ data-place c.args.bytes.items c.in_ok-data.data.now c.in_ok-data.behind.now c.len.result (c.len.ensures ∙ c.args.bytes.ok.0) place in
+    let moved = c.new.ensures ∙ c.cut_out.ensures.part ∙ data-place c.args.bytes.items c.in_ok-data.data.now c.in_ok-data.behind.now c.len.result (c.len.ensures ∙ c.args.bytes.ok.0) place in
     ap part_of (sym spelt) ∙ c.in_ok-data.ensures.fields ∙ c.in_ok-details.ensures c.in_ok-data.data.now ∙ ap Some (sym (c.with.ensures ∙ ap (λ (z : List ℕ). body_with z c.in_ok-details.details) moved))
