@@ -2,7 +2,7 @@
 use Rattle.std.proofs.Common.{◌≡◌, ◌≢◌, ℕ, zero, suc, ◌+◌, ◌<◌, ◌≤◌, ◌&&◌, max, Bool, true, false, nat_lt, nat_le, List, [], ◌∷◌, ◌++◌, length, take, drop, map, refl, sym, ap, ap₂, subst, ◌∙◌, append_assoc, arith, length-append, inl, inr, if◌then◌else◌}
 use Rattle.std.specs.Prelude.{All, ◌⊎◌}
 use Rattle.std.specs.List.{flat_map}
-use Rattle.std.proofs.lemmas.Bool.{cases_lt, ltb-true, leb-true, lt-ltb, le-leb}
+use Rattle.std.proofs.lemmas.Bool.{and_parts, cases_lt, ltb-true, leb-true, lt-ltb, le-leb}
 use Rattle.std.proofs.lemmas.List.{take_at, drop_at, drop-drop, take-take, length-take, take-append-drop}
 use Rattle.std.proofs.lemmas.List.Elements.{All-nil, All-cons}
 use Rattle.std.proofs.lemmas.List.Sums.{sum_by-take-le}
@@ -73,14 +73,10 @@ record IsBegun (b : ℕ) (group : List (List ℕ)) : Type 0 where
 -- the texts that a group takes in, and those it doesn't
 takes_more : (b : ℕ) (group : List (List ℕ)) (text : List ℕ) → takes b group text ≡ true → IsBegun b (group ++ text ∷ [])
 takes_more b group text is =
-    let both = both_true (nat_lt (length group) b) (nat_le (texts_size (group ++ text ∷ [])) batch_size_limit) is in
+    let both = and_parts (nat_lt (length group) b) (nat_le (texts_size (group ++ text ∷ [])) batch_size_limit) is in
     let lt = ltb-true (length group) b both.0 in
     let n = length-append group (text ∷ []) in
     record { some = omega (arith, n); fits = inl (omega (arith, n, lt), leb-true (texts_size (group ++ text ∷ [])) batch_size_limit both.1) }
-  where
-    both_true : (x y : Bool) → (x && y) ≡ true → (x ≡ true) × (y ≡ true)
-    both_true true y h = (refl, h)
-    both_true false y h = absurd (let e = h in cc)
 
 takes_none : (b : ℕ) (group : List (List ℕ)) (text : List ℕ) (behind : List (List ℕ)) → takes b group text ≡ false → Fits b (group ++ text ∷ behind) (length group + 1) → ⊥
 takes_none b group text behind is f =

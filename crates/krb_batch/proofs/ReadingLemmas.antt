@@ -3,7 +3,7 @@ use Rattle.std.proofs.Common.{◌≡◌, ℕ, zero, suc, ◌<◌, ◌≤◌, ◌
 use Rattle.std.specs.List.{flat_map}
 use Rattle.std.specs.Int.{w32, to_be_bytes, from_be_bytes}
 use Rattle.std.specs.Str.{bytes_eq}
-use Rattle.std.proofs.lemmas.Bool.{leb-true, le-leb}
+use Rattle.std.proofs.lemmas.Bool.{and_from, and_parts, leb-true, le-leb}
 use Rattle.std.proofs.lemmas.List.{take_at, drop_at}
 use Rattle.std.proofs.lemmas.List.Sums.{sum_by-cons}
 use Rattle.std.proofs.lemmas.Nat.{from_be_bytes-to_be_bytes_4}
@@ -26,19 +26,11 @@ read_again (suc n) (t ∷ ts) few small =
     let P : ℕ → Type 0 = λ k. take k (t ++ rest) ∷ texts_in n (drop k (t ++ rest)) ≡ t ∷ ts in
     subst P (sym len) (ap₂ (λ x xs. x ∷ xs) (take_at t rest (length t) refl) (ap (λ l. texts_in n l) (drop_at t rest (length t) refl) ∙ tail))
 
-both_true : (a b : Bool) → (a && b) ≡ true → (a ≡ true) × (b ≡ true)
-both_true true b h = (refl, h)
-both_true false b h = absurd (let e = h in cc)
-
-true_both : (a b : Bool) → a ≡ true → b ≡ true → (a && b) ≡ true
-true_both true b h g = g
-true_both false b h g = absurd (let e = h in cc)
-
 -- the test of texts is right
 batch_by_test : (texts : List (List ℕ)) → can_be_batch texts ≡ true → IsBatch texts
 batch_by_test texts h =
-    let a = both_true (nat_le 2 (length texts)) (nat_le (length texts) batch_limit && nat_le (texts_size texts) batch_size_limit) h in
-    let b = both_true (nat_le (length texts) batch_limit) (nat_le (texts_size texts) batch_size_limit) a.1 in
+    let a = and_parts (nat_le 2 (length texts)) (nat_le (length texts) batch_limit && nat_le (texts_size texts) batch_size_limit) h in
+    let b = and_parts (nat_le (length texts) batch_limit) (nat_le (texts_size texts) batch_size_limit) a.1 in
     record {
       several = leb-true 2 (length texts) a.0;
       few = leb-true (length texts) batch_limit b.0;
@@ -47,16 +39,16 @@ batch_by_test texts h =
 
 test_by_batch : (texts : List (List ℕ)) → IsBatch texts → can_be_batch texts ≡ true
 test_by_batch texts is =
-    true_both (nat_le 2 (length texts)) (nat_le (length texts) batch_limit && nat_le (texts_size texts) batch_size_limit)
+    and_from (nat_le 2 (length texts)) (nat_le (length texts) batch_limit && nat_le (texts_size texts) batch_size_limit)
     (le-leb 2 (length texts) is.several)
-    (true_both (nat_le (length texts) batch_limit) (nat_le (texts_size texts) batch_size_limit) (le-leb (length texts) batch_limit is.few) (le-leb (texts_size texts) batch_size_limit is.small))
+    (and_from (nat_le (length texts) batch_limit) (nat_le (texts_size texts) batch_size_limit) (le-leb (length texts) batch_limit is.few) (le-leb (texts_size texts) batch_size_limit is.small))
 
 -- what is found is spelt
 spelt_by : (bytes : List ℕ) (texts found : List (List ℕ)) (passes : Bool) → (can_be_batch texts && bytes_eq bytes (spelling texts)) ≡ passes
     → cond passes (Some texts) None ≡ Some found → SpellsBatch found bytes
 spelt_by bytes texts found true is h =
     let same : texts ≡ found = cc in
-    let both = both_true (can_be_batch texts) (bytes_eq bytes (spelling texts)) is in
+    let both = and_parts (can_be_batch texts) (bytes_eq bytes (spelling texts)) is in
     let P : List (List ℕ) → Type 0 = λ l. SpellsBatch l bytes in
     subst P same (batch_by_test texts both.0, (bytes_eq-Decides bytes (spelling texts)).0 both.1)
 spelt_by bytes texts found false is h = absurd (let e = h in cc)
@@ -74,5 +66,5 @@ spelt_is_found texts bytes spells =
     let n : length bytes ≡ length (spelling texts) = ap length spells.1 in
     let few : length texts ≤ length bytes = omega (arith, n, length-texts texts, few_texts texts) in
     let read : texts_in (length bytes) (drop 1 bytes) ≡ texts = ap (λ l. texts_in (length bytes) l) tail ∙ read_again (length bytes) texts few (omega (arith, small)) in
-    let passes : (can_be_batch texts && bytes_eq bytes (spelling texts)) ≡ true = true_both (can_be_batch texts) (bytes_eq bytes (spelling texts)) (test_by_batch texts spells.0) ((bytes_eq-Decides bytes (spelling texts)).1 spells.1) in
+    let passes : (can_be_batch texts && bytes_eq bytes (spelling texts)) ≡ true = and_from (can_be_batch texts) (bytes_eq bytes (spelling texts)) (test_by_batch texts spells.0) ((bytes_eq-Decides bytes (spelling texts)).1 spells.1) in
     ap (λ l. if_spelt bytes l) read ∙ rw passes refl

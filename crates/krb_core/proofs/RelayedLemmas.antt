@@ -1,7 +1,7 @@
 -- What turns leave of each lane.
 use Rattle.std.proofs.Common.{◌≡◌, ◌≢◌, ℕ, zero, suc, ◌+◌, ◌≤◌, ◌<◌, not, cond, nat_lt, Bool, true, false, List, [], ◌∷◌, ◌++◌, length, get_or, take, replicate, slice_get, Option, Some, None, inl, inr, refl, sym, ap, ap₂, subst, ◌∙◌, arith, append-nil, length-append}
 use Rattle.std.proofs.lemmas.List.{length-set, get_or-set_same, get_or-set_other, length-replicate}
-use Rattle.std.proofs.lemmas.Bool.{lt-ltb}
+use Rattle.std.proofs.lemmas.Bool.{and_parts, lt-ltb}
 use Rattle.std.proofs.lemmas.Bool.Decides.{leb_tells}
 use Rattle.std.proofs.lemmas.Option.{slice_get_within}
 use Rattle.krb_aes.specs.Words.{AreBytes}
@@ -28,7 +28,6 @@ use Rattle.krb_core.specs.Start.{fresh, IsBegun, AreBegun}
 use Rattle.krb_core.specs.Stepped.{Relay, lane_of, track_behind, log_behind_turn, turned_at, turned, after}
 use Rattle.krb_peers.specs.Claims.{has_ended}
 use Rattle.krb_core.specs.Relayed.{HasBegun, HasTurned, IsLogged}
-use Rattle.krb_peers.proofs.ListLemmas.{both_true}
 use Rattle.krb_peers.proofs.VerdictLemmas.{right_verdict}
 use Rattle.krb_core.proofs.TrackLemmas.{take-item, with_end}
 use Rattle.krb_core.proofs.StartLemmas.{AreBegun-length}
@@ -188,7 +187,7 @@ module _ (ends : Ends) (lane : ℕ) (track : TrackState) (log : LogState) (h : S
       let n = length sent in
       let items = items_of track.wire in
       let x = item_at track.wire n in
-      let no_end : has_end sent ≡ false = not_true (has_end sent) (both_true (nat_lt (length track.lane.queue) track.lane.capacity) (not (has_end sent)) is).1 in
+      let no_end : has_end sent ≡ false = not_true (has_end sent) (and_parts (nat_lt (length track.lane.queue) track.lane.capacity) (not (has_end sent)) is).1 in
       let left : n ≤ length track.wire = place_left track.wire n (ap has_end (sym h.sent) ∙ no_end) in
       let count : length (sent ++ x ∷ []) ≡ n + 1 = length-append sent (x ∷ []) in
       record {

@@ -7,7 +7,7 @@ use Rattle.krb_peers.specs.declared.log.Event.TheVariants.{Text}
 use Rattle.krb_peers.specs.declared.log.Entry.{Entry}
 use Rattle.krb_peers.specs.Log.{events_of, entries_for, has_closed, is_closed}
 use Rattle.krb_peers.specs.LogIndex.{text_place, places_from, IsIndexed}
-use Rattle.krb_peers.proofs.ListLemmas.{or_false}
+use Rattle.std.proofs.Math.Bool.{or-false}
 use Rattle.krb_peers.proofs.LoggedLemmas.{events_of-append, has_closed-append}
 
 places_from-append : (place lane : ℕ) (xs ys : List Entry) → places_from place lane (xs ++ ys) ≡ places_from place lane xs ++ places_from (place + length xs) lane ys
@@ -46,7 +46,7 @@ is_closed-texts number lane entries texts =
     let more = entries_for number (map Text texts) in
     ap has_closed (events_of-append lane entries more)
     ∙ (has_closed-append (events_of lane entries) (events_of lane more)
-    ∙ (ap (λ b. has_closed (events_of lane entries) || b) (open_texts number lane texts) ∙ or_false (is_closed lane entries)))
+    ∙ (ap (λ b. has_closed (events_of lane entries) || b) (open_texts number lane texts) ∙ or-false (is_closed lane entries)))
 
 -- texts more: their places are added to those of their lane
 pub indexed_texts : {V : Type 0} (places : V → List ℕ) (lanes : ℕ) (entries : List Entry) (lane : ℕ) (texts : List (List ℕ)) (vecs : List V) (vec d : V) (closed : List Bool)

@@ -1,27 +1,12 @@
 -- Lists and tests that several proofs speak of.
 use Rattle.std.proofs.Common.{◌≡◌, ℕ, zero, suc, ◌+◌, ◌<◌, ◌≤◌, ◌⊎◌, ◌||◌, ◌&&◌, min, Bool, true, false, List, [], ◌∷◌, ◌++◌, length, take, drop, get_or, slice_get, Some, inl, inr, refl, sym, ap, ap₂, subst, ◌∙◌, arith}
+use Rattle.std.proofs.lemmas.Bool.{and_parts}
 use Rattle.std.proofs.lemmas.List.{take_more, take_all}
 use Rattle.std.proofs.lemmas.List.Elements.{All-push}
 use Rattle.std.specs.Prelude.{All}
 use Rattle.std.specs.List.{list_all}
 use Rattle.krb_aes.specs.Words.{AreBytes}
 use Rattle.krb_peers.specs.Verdicts.{AllBytes}
-
-pub or_assoc : (a b c : Bool) → ((a || b) || c) ≡ (a || (b || c))
-or_assoc true b c = refl
-or_assoc false b c = refl
-
-pub or_false : (a : Bool) → (a || false) ≡ a
-or_false true = refl
-or_false false = refl
-
-pub or_true : (a : Bool) → (a || true) ≡ true
-or_true true = refl
-or_true false = refl
-
-pub both_true : (a b : Bool) → (a && b) ≡ true → (a ≡ true) × (b ≡ true)
-both_true true b h = (refl, h)
-both_true false b h = absurd (let e = h in cc)
 
 pub slice_get-front : {X : Type 0} (xs : List X) (y : X) (j : ℕ) → j < length xs → slice_get (xs ++ y ∷ []) j ≡ slice_get xs j
 slice_get-front [] y j h = absurd (omega arith)
@@ -66,8 +51,8 @@ there_is (suc k) (x ∷ xs) lt = there_is k xs (omega (arith, lt))
 -- what stands in a list, at the place of one that passes too
 pub all_pass : {X : Type 0} (p : X → Bool) (xs : List X) (i : ℕ) (x : X) → list_all p xs ≡ true → slice_get xs i ≡ Some x → p x ≡ true
 all_pass p [] i x all h = absurd (let e = h in cc)
-all_pass p (y ∷ xs) zero x all h = let e : y ≡ x = cc in ap p (sym e) ∙ (both_true (p y) (list_all p xs) all).0
-all_pass p (y ∷ xs) (suc i) x all h = all_pass p xs i x (both_true (p y) (list_all p xs) all).1 h
+all_pass p (y ∷ xs) zero x all h = let e : y ≡ x = cc in ap p (sym e) ∙ (and_parts (p y) (list_all p xs) all).0
+all_pass p (y ∷ xs) (suc i) x all h = all_pass p xs i x (and_parts (p y) (list_all p xs) all).1 h
 
 pub same_lists : {X : Type 0} (xs ys : List X) → length xs ≡ length ys → ((k : ℕ) (x y : X) → slice_get xs k ≡ Some x → slice_get ys k ≡ Some y → x ≡ y) → xs ≡ ys
 same_lists [] [] long each = refl

@@ -11,7 +11,7 @@ use Rattle.krb_peers.specs.declared.log.Event.TheVariants.{Text, Closed, Refused
 use Rattle.krb_peers.specs.declared.log.Entry.{Entry}
 use Rattle.krb_peers.specs.Log.{events_of, texts_in, texts_of, has_closed, is_closed}
 use Rattle.krb_peers.specs.LogIndex.{text_place, places_from, IsIndexed}
-use Rattle.krb_peers.proofs.ListLemmas.{or_assoc, or_false, or_true}
+use Rattle.std.proofs.Math.Bool.{or-false, or-true, or_assoc}
 
 -- the place that an entry adds to those of a lane's texts
 abbrev added_place : ℕ → ℕ → Entry → List ℕ
@@ -49,7 +49,7 @@ is_closed-cons lane x entries =
     ]
 
 is_closed-push : (lane : ℕ) (entries : List Entry) (entry : Entry) → is_closed lane (entries ++ entry ∷ []) ≡ (is_closed lane entries || closes_lane lane entry)
-is_closed-push lane [] entry = is_closed-cons lane entry [] ∙ or_false (closes_lane lane entry)
+is_closed-push lane [] entry = is_closed-cons lane entry [] ∙ or-false (closes_lane lane entry)
 is_closed-push lane (x ∷ entries) entry =
     is_closed-cons lane x (entries ++ entry ∷ [])
     ∙ (ap (λ b. closes_lane lane x || b) (is_closed-push lane entries entry)
@@ -87,13 +87,13 @@ indexed_text lanes entries lane text texts closed within is =
     elim (eqb_tells lane k) [
       | inl same ↦ record {
         places = rw same.0 (rw (← same.1) (get_or-set_same texts lane (get_or texts lane [] ++ length entries ∷ []) [] within));
-        closes = rw same.0 (sym (or_false (get_or closed k false)));
+        closes = rw same.0 (sym (or-false (get_or closed k false)));
       }
       | inr other ↦
           let apart : k ≢ lane = λ e. other.1 (sym e) in
           record {
             places = rw (other.0, append-nil) (get_or-set_other texts lane k (get_or texts lane [] ++ length entries ∷ []) [] apart);
-            closes = rw other.0 (sym (or_false (get_or closed k false)));
+            closes = rw other.0 (sym (or-false (get_or closed k false)));
           }
     ] in
     indexed_with lanes entries (record { lane = lane; event = Text text }) texts now closed closed is (λ k small. at k)
@@ -121,13 +121,13 @@ indexed_closed lanes entries lane texts closed within is =
     elim (eqb_tells lane k) [
       | inl same ↦ record {
         places = rw same.0 (sym (append-nil (get_or texts k [])));
-        closes = rw same.0 (rw (← same.1) (get_or-set_same closed lane true false within ∙ sym (or_true (get_or closed lane false))));
+        closes = rw same.0 (rw (← same.1) (get_or-set_same closed lane true false within ∙ sym (or-true (get_or closed lane false))));
       }
       | inr other ↦
           let apart : k ≢ lane = λ e. other.1 (sym e) in
           record {
             places = rw other.0 (sym (append-nil (get_or texts k [])));
-            closes = rw (other.0, or_false (get_or closed k false)) (get_or-set_other closed lane k true false apart);
+            closes = rw (other.0, or-false (get_or closed k false)) (get_or-set_other closed lane k true false apart);
           }
     ] in
     indexed_with lanes entries entry texts texts closed (set closed lane true) is (λ k small. at k)
@@ -140,7 +140,7 @@ indexed_refused lanes entries lane refusal texts closed is =
     let entry : Entry = record { lane = lane; event = Refused refusal } in
     let at : (k : ℕ) → Follows entries entry texts texts closed closed k = λ k. record {
       places = rw either (sym (append-nil (get_or texts k [])));
-      closes = rw either (sym (or_false (get_or closed k false)));
+      closes = rw either (sym (or-false (get_or closed k false)));
     } in
     indexed_with lanes entries entry texts texts closed closed is (λ k small. at k)
 

@@ -11,7 +11,7 @@ use Rattle.krb_peers.specs.Demand.{Demand}
 use Rattle.krb_peers.specs.Order.{Offer, Answer, answer_to, carried_by, first_demand, demand_after, next_demand}
 use Rattle.krb_peers.specs.Accepted.{accepted_of, IsAnswer}
 use Rattle.krb_peers.specs.Record.{is_close}
-use Rattle.krb_peers.proofs.ListLemmas.{or_assoc, or_false}
+use Rattle.std.proofs.Math.Bool.{or-false, or_assoc}
 
 -- the test for a close is right
 contains_from_any : (records : List Record) → list_any is_close records ≡ true → Contains records Close
@@ -85,7 +85,7 @@ same_demand : (a b : ℕ) (c d : Bool) → a ≡ b → c ≡ d → (let x : Dema
 same_demand a b c d e f = ap₂ (λ (x : ℕ) (y : Bool). let z : Demand = record { expected = x; closed = y } in z) e f
 
 pub demand_after-nil : (demand : Demand) → demand_after demand [] ≡ demand
-demand_after-nil demand = same_demand (demand.expected + 0) demand.expected (demand.closed || false) demand.closed (omega arith) (or_false demand.closed)
+demand_after-nil demand = same_demand (demand.expected + 0) demand.expected (demand.closed || false) demand.closed (omega arith) (or-false demand.closed)
 
 pub demand_after-append : (demand : Demand) (xs ys : List Record) → demand_after (demand_after demand xs) ys ≡ demand_after demand (xs ++ ys)
 demand_after-append demand xs ys =
@@ -102,4 +102,4 @@ demand_next demand before offer (Err e) = demand_after-append demand before []
 -- behind one record that is accepted, which was the close or wasn't
 pub demand_one : (demand : Demand) (carried : Record) → demand.closed ≡ false → next_demand demand (is_close carried) ≡ demand_after demand (carried ∷ [])
 demand_one demand carried live =
-    same_demand (demand.expected + 1) (demand.expected + 1) (is_close carried) (demand.closed || (is_close carried || false)) refl (rw live (sym (or_false (is_close carried))))
+    same_demand (demand.expected + 1) (demand.expected + 1) (is_close carried) (demand.closed || (is_close carried || false)) refl (rw live (sym (or-false (is_close carried))))

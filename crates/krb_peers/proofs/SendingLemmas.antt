@@ -5,7 +5,7 @@ use Rattle.std.proofs.lemmas.Option.{slice_get_within}
 use Rattle.std.proofs.lemmas.List.{get_or_read, get_or_past, take_at, drop_at, drop_all, length-drop}
 use Rattle.rand_chacha.specs.ChaCha.{ChaCha}
 use Rattle.std.specs.List.{list_all}
-use Rattle.std.proofs.lemmas.Bool.{cases_lt, leb-true, lt-ltb, le-ltb}
+use Rattle.std.proofs.lemmas.Bool.{and_parts, cases_lt, leb-true, lt-ltb, le-ltb}
 use Rattle.std.proofs.lemmas.List.Elements.{All-nil, All-cons, All-head, All-take, All-drop}
 use Rattle.krb_base.specs.Limits.{last_number, user_data_limit, text_limit, batch_limit}
 use Rattle.krb_batch.specs.Batch.{IsBatch}
@@ -21,7 +21,7 @@ use Rattle.krb_peers.specs.Draws.{after_words, confounder_at}
 use Rattle.krb_peers.specs.Sender.{Source, IsWithinLimits, text_groups, texts_of_groups, sealed_count, sealed_groups, group_behind, texts_before, record_for, record_at, records_for, records, moment_at, IsFrame, AreFrames}
 use Rattle.krb_peers.specs.Sending.{before, behind, HasSealed}
 use Rattle.krb_peers.proofs.DrawsLemmas.{confounder_at-later, after_words-add}
-use Rattle.krb_peers.proofs.ListLemmas.{both_true, slice_get-front, slice_get-end, lt_or_same, slice_get-take, take-below, length-take, get_or-take}
+use Rattle.krb_peers.proofs.ListLemmas.{slice_get-front, slice_get-end, lt_or_same, slice_get-take, take-below, length-take, get_or-take}
 
 length-records_for : (groups : List (List (List ℕ))) → length (records_for groups) ≡ length groups + 1
 length-records_for [] = omega arith
@@ -267,7 +267,7 @@ moment_read ats k i at some place read =
 pub short_texts : (texts : List (List ℕ)) → list_all (λ text. nat_le (length text) text_limit) texts ≡ true → All (λ text. length text ≤ text_limit) texts
 short_texts [] all = λ k d h. absurd (omega arith)
 short_texts (t ∷ texts) all =
-    let both = both_true (nat_le (length t) text_limit) (list_all (λ x. nat_le (length x) text_limit) texts) all in
+    let both = and_parts (nat_le (length t) text_limit) (list_all (λ x. nat_le (length x) text_limit) texts) all in
     All-cons (λ text. length text ≤ text_limit) t texts (leb-true (length t) text_limit both.0) (short_texts texts both.1)
 
 -- ---- the first group of what is left

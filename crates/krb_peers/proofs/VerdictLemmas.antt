@@ -1,7 +1,7 @@
 -- One verdict for each frame, and no other.
 use Rattle.std.proofs.Common.{◌≡◌, ℕ, zero, suc, ◌+◌, ◌≤◌, ◌&&◌, ◌⊎◌, leb, eqb, cond, Bool, true, false, List, [], ◌∷◌, ◌++◌, length, take, slice_get, Option, Some, None, Ok, Err, inl, inr, refl, sym, ap, ap₂, subst, ◌∙◌, arith, length-append, ◌<◌}
 use Rattle.std.specs.Result.{MatchResult}
-use Rattle.std.proofs.lemmas.Bool.{eqb-true, leb-true, le-leb}
+use Rattle.std.proofs.lemmas.Bool.{and_parts, eqb-true, leb-true, le-leb}
 use Rattle.std.proofs.lemmas.List.{take-append-le, take_all}
 use Rattle.std.proofs.lemmas.Option.{slice_get_within}
 use Rattle.krb_base.specs.Limits.{text_limit}
@@ -25,7 +25,7 @@ use Rattle.krb_peers.specs.Sender.{moment_at}
 use Rattle.krb_peers.specs.Order.{demand_after}
 use Rattle.krb_peers.specs.Verdicts.{Verdict, AllBytes, record_of, accepted_by, records_of, IsNoRecord, IsVerdict, AreVerdicts, delivery_in, judged, verdict_on, verdict, verdicts}
 use Rattle.krb_peers.proofs.OrderLemmas.{demand_after-nil, demand_after-append}
-use Rattle.krb_peers.proofs.ListLemmas.{both_true, slice_get-front, slice_get-end, lt_or_same}
+use Rattle.krb_peers.proofs.ListLemmas.{slice_get-front, slice_get-end, lt_or_same}
 
 -- ---- what user data delivers
 
@@ -66,8 +66,8 @@ delivery_found : (user : List ℕ) (d : Delivery) → delivery_in user ≡ Some 
 delivery_found [] d h = absurd (let e = h in cc)
 delivery_found (tag ∷ rest) d h =
     found_by (eqb tag 0x44 && leb (length rest) text_limit) (eqb tag 0x43 && eqb (length rest) 0) (batch_in (tag ∷ rest)) tag rest d
-    (λ t. let w = both_true (eqb tag 0x44) (leb (length rest) text_limit) t in (eqb-true tag 0x44 w.0, leb-true (length rest) text_limit w.1))
-    (λ c. let w = both_true (eqb tag 0x43) (eqb (length rest) 0) c in (eqb-true tag 0x43 w.0, empty rest (eqb-true (length rest) 0 w.1)))
+    (λ t. let w = and_parts (eqb tag 0x44) (leb (length rest) text_limit) t in (eqb-true tag 0x44 w.0, leb-true (length rest) text_limit w.1))
+    (λ c. let w = and_parts (eqb tag 0x43) (eqb (length rest) 0) c in (eqb-true tag 0x43 w.0, empty rest (eqb-true (length rest) 0 w.1)))
     (λ texts found. found_is_spelt texts (tag ∷ rest) found)
     h
 
