@@ -3,18 +3,20 @@ use Rattle.std.proofs.Common.{◌≡◌, ℕ, ◌+◌, ℤ, List, length, Option
 use Rattle.krb_der.specs.declared.body.Body.{Body}
 use Rattle.krb_der.specs.declared.safe.SafeMsg.{SafeMsg}
 use Rattle.krb_der.specs.declared.private.PrivMsg.{PrivMsg}
-use Rattle.krb_der.specs.Tag.{context, application, sequence_tag}
-use Rattle.krb_der.specs.Element.{joined, sequence, optional}
-use Rattle.krb_der.specs.Integer.{integer, natural}
+use Rattle.krb_tlv.specs.Tag.{context, application, sequence_tag}
+use Rattle.krb_tlv.specs.Element.{joined, sequence, optional}
+use Rattle.krb_tlv.specs.Integer.{integer, natural}
 use Rattle.krb_der.specs.KerberosTime.{time}
 use Rattle.krb_der.specs.Typed.{typed_fields, typed_octets}
 use Rattle.krb_der.specs.Address.{host_address}
 use Rattle.krb_der.specs.Body.{body, body_fields}
 use Rattle.krb_der.specs.Safe.{safe, safe_fields}
 use Rattle.krb_der.specs.Size.{HasPartSize, HasSafeSize, HasPrivateSize}
-use Rattle.krb_der.specs.Writing.{element_size, typed_fields_size, typed_size, body_fields_size, body_size, safe_fields_size, encrypted_fields_size, private_size}
-use Rattle.krb_der.proofs.Readers.{size-tagged}
-use Rattle.krb_der.proofs.Writers.{length-octets, length-private}
+use Rattle.krb_tlv.specs.Writing.{element_size}
+use Rattle.krb_der.specs.Writing.{typed_fields_size, typed_size, body_fields_size, body_size, safe_fields_size, encrypted_fields_size, private_size}
+use Rattle.krb_tlv.proofs.Readers.{size-tagged}
+use Rattle.krb_tlv.proofs.Writers.{length-octets}
+use Rattle.krb_der.proofs.Writers.{length-private}
 
 -- an optional field takes as many octets under any tag
 length-field : {A : Type 0} (tag : ℕ) (spell : A → List ℕ) (x : Option A) → length (optional tag spell x) ≡ length (optional 0 spell x)

@@ -11,8 +11,8 @@ use Rattle.krb_der.specs.declared.message.Message.TheVariants.{Safe, Priv}
 use Rattle.krb_time.specs.Time.{IsSecond, kerberos_time}
 use Rattle.krb_time.specs.Reading.{time_of}
 use Rattle.krb_time.specs.Moment.{last_usec, IsMicroseconds}
-use Rattle.krb_der.specs.Element.{header, tagged, joined, sequence, optional, octets}
-use Rattle.krb_der.specs.Integer.{int_octets, integer, natural, IsInt32}
+use Rattle.krb_tlv.specs.Element.{header, tagged, joined, sequence, optional, octets}
+use Rattle.krb_tlv.specs.Integer.{int_octets, integer, natural, IsInt32}
 use Rattle.krb_der.specs.KerberosTime.{time}
 use Rattle.krb_der.specs.Typed.{typed_fields, typed_octets}
 use Rattle.krb_der.specs.Address.{host_address, IsAddress}
@@ -22,15 +22,16 @@ use Rattle.krb_der.specs.Private.{encrypted_data, private_fields, private, IsPri
 use Rattle.krb_der.specs.Message.{message, IsMessage, SpellsWithin, Spells, SpellsPart, OneSpelling, UniqueSpelling, Decodes}
 use Rattle.krb_base.specs.Limits.{frame_limit}
 use Rattle.krb_time.specs.Steps.{◌>>=◌}
-use Rattle.krb_der.specs.Reading.{alone, signed, int_of, as_int32, as_below, int32_of, below_of, int32_element_of, below_element_of, octets_of, typed_of, address_of, time_element_of, behind_of, body_of, safe_of, encrypted_of, private_of, message_of, part_of, starts_with, tagged_at, Gives, FindsSpelt}
-use Rattle.krb_der.proofs.Numbers.{IsBytes}
+use Rattle.krb_tlv.specs.Reading.{alone, signed, int_of, as_int32, as_below, int32_of, below_of, int32_element_of, below_element_of, octets_of, starts_with, tagged_at, Gives}
+use Rattle.krb_der.specs.Reading.{typed_of, address_of, time_element_of, behind_of, body_of, safe_of, encrypted_of, private_of, message_of, part_of, FindsSpelt}
+use Rattle.krb_tlv.proofs.Numbers.{IsBytes}
 use Rattle.krb_time.proofs.Times.{time-found, time-again}
 use Rattle.krb_time.proofs.OptionSteps.{bind_some, provided, some_is}
-use Rattle.krb_der.proofs.Elements.{int-found, int-again, chosen, tagged-again}
-use Rattle.krb_der.proofs.Readers.{Reads, no_field, field, taken_field, optional_field, all_fields, in_tag, under_tag, length-tagged}
+use Rattle.krb_tlv.proofs.Elements.{int-found, int-again, chosen, tagged-again}
+use Rattle.krb_tlv.proofs.Readers.{Reads, no_field, field, taken_field, optional_field, all_fields, in_tag, under_tag, length-tagged}
 use Rattle.std.proofs.lemmas.Option.{some_pair_parts, none-some}
-use Rattle.krb_der.specs.declared.error.DerError.{DerError}
-use Rattle.krb_der.specs.declared.error.DerError.TheVariants as errors
+use Rattle.krb_tlv.specs.declared.error.DerError.{DerError}
+use Rattle.krb_tlv.specs.declared.error.DerError.TheVariants as errors
 
 -- numbers of a range
 number_reads : {V : Type 0} (P : V → Type 0) (value : V → ℤ) (of : Bool × ℕ → Option V)

@@ -2,8 +2,8 @@
 use Rattle.std.proofs.Common.{◌≡◌, inl, inr, ℕ, zero, suc, ◌<◌, ◌≤◌, Bool, true, false, ℤ, List, [], ◌∷◌, length, get_or, Option, Some, None, Result, Ok, Err, arith, sym, subst}
 use Rattle.std.specs.Prelude.{IfSome, IsTrue, ◌↔◌, IsErrAnd}
 use Rattle.std.specs.Global.{Vec}
-use Rattle.krb_der.specs.declared.error.DerError.{DerError}
-use Rattle.krb_der.specs.declared.error.DerError.TheVariants as errors
+use Rattle.krb_tlv.specs.declared.error.DerError.{DerError}
+use Rattle.krb_tlv.specs.declared.error.DerError.TheVariants as errors
 use Rattle.krb_der.specs.Message.{Encodes}
 use Rattle.std.proofs.lemmas.Bool.{cases_lt}
 use Rattle.std.proofs.lemmas.List.{length-append}
@@ -11,16 +11,17 @@ use Rattle.krb_der.specs.declared.address.HostAddress.{HostAddress}
 use Rattle.krb_der.specs.declared.body.Body.{Body}
 use Rattle.krb_der.specs.declared.safe.SafeMsg.{SafeMsg}
 use Rattle.krb_der.specs.declared.private.PrivMsg.{PrivMsg}
-use Rattle.krb_der.specs.Element.{tagged, joined, sequence, optional, octets}
-use Rattle.krb_der.specs.Integer.{integer, natural}
+use Rattle.krb_tlv.specs.Element.{tagged, joined, sequence, optional, octets}
+use Rattle.krb_tlv.specs.Integer.{integer, natural}
 use Rattle.krb_der.specs.Typed.{typed_octets}
 use Rattle.krb_der.specs.Address.{host_address}
 use Rattle.krb_der.specs.Body.{body, body_fields, part}
-use Rattle.krb_der.specs.Writing.{IsShort, IsShortBody}
+use Rattle.krb_tlv.specs.Writing.{IsShort}
+use Rattle.krb_der.specs.Writing.{IsShortBody}
 use Rattle.krb_der.specs.Safe.{checksum, safe, safe_fields}
 use Rattle.krb_der.specs.Private.{encrypted_data, private, private_fields}
 use Rattle.krb_base.specs.Limits.{frame_limit}
-use Rattle.krb_der.proofs.Readers.{length-tagged}
+use Rattle.krb_tlv.proofs.Readers.{length-tagged}
 
 nth : (fs : List (List ℕ)) (i : ℕ) → length (get_or fs i []) ≤ length (joined fs)
 nth [] i = omega arith

@@ -1,6 +1,3 @@
-pub mod Numbers
-pub mod Elements
-pub mod Readers
 pub mod Times
 pub mod Grammar
 pub mod Places

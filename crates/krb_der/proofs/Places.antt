@@ -2,13 +2,14 @@
 use Rattle.std.proofs.Common.{◌≡◌, ℕ, ◌+◌, ◌-◌, List, [], ◌∷◌, ◌++◌, length, take, drop, Some, Result, Ok, Err, refl, sym, ap, subst, ◌∙◌, arith, append_assoc}
 use Rattle.std.specs.Prelude.{IfOk}
 use Rattle.std.proofs.lemmas.List.{take_at, drop_at, take-append-drop, length-append, append-nil}
-use Rattle.krb_der.specs.Tag.{context, octet_string_tag}
-use Rattle.krb_der.specs.Length.{length_octets}
-use Rattle.krb_der.specs.Element.{header, tagged}
-use Rattle.krb_der.specs.Reading.{EndsWith, alone, tagged_at}
-use Rattle.krb_der.proofs.Numbers.{IsBytes}
-use Rattle.krb_der.proofs.Elements.{IsBytes-back, tagged-found}
-use Rattle.krb_der.proofs.Readers.{in_tag}
+use Rattle.krb_tlv.specs.Tag.{context, octet_string_tag}
+use Rattle.krb_tlv.specs.Length.{length_octets}
+use Rattle.krb_tlv.specs.Element.{header, tagged}
+use Rattle.krb_tlv.specs.Reading.{alone, tagged_at}
+use Rattle.krb_der.specs.Reading.{EndsWith}
+use Rattle.krb_tlv.proofs.Numbers.{IsBytes}
+use Rattle.krb_tlv.proofs.Elements.{IsBytes-back, tagged-found}
+use Rattle.krb_tlv.proofs.Readers.{in_tag}
 use Rattle.krb_der.proofs.Grammar.{all_bytes}
 
 -- one element stands alone

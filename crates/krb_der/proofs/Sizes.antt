@@ -2,10 +2,10 @@
 use Rattle.std.proofs.Common.{◌≡◌, ◌⊎◌, inl, inr, ℕ, ◌+◌, ◌^◌, ◌<◌, ◌≤◌, ℤ, pos, negsuc, List, [], ◌∷◌, length, Option, Some, None, refl, lit≤, arith, length-append}
 use Rattle.krb_der.specs.declared.address.HostAddress.{HostAddress}
 use Rattle.krb_der.specs.declared.body.Body.{Body}
-use Rattle.krb_der.specs.Tag.{context, application, integer_tag, octet_string_tag, sequence_tag, generalized_time_tag}
-use Rattle.krb_der.specs.Length.{big_endian, length_octets}
-use Rattle.krb_der.specs.Element.{tagged, joined, sequence, optional, octets}
-use Rattle.krb_der.specs.Integer.{width, int_octets, integer, natural}
+use Rattle.krb_tlv.specs.Tag.{context, application, integer_tag, octet_string_tag, sequence_tag, generalized_time_tag}
+use Rattle.krb_tlv.specs.Length.{big_endian, length_octets}
+use Rattle.krb_tlv.specs.Element.{tagged, joined, sequence, optional, octets}
+use Rattle.krb_tlv.specs.Integer.{width, int_octets, integer, natural}
 use Rattle.krb_der.specs.Typed.{typed_fields, typed_octets}
 use Rattle.krb_time.specs.Time.{kerberos_time}
 use Rattle.krb_der.specs.KerberosTime.{time}
@@ -14,8 +14,8 @@ use Rattle.krb_der.specs.Body.{body, body_fields}
 use Rattle.krb_der.specs.Safe.{checksum, safe_fields, with_checksum}
 use Rattle.krb_der.specs.Private.{encrypted_fields, encrypted_data, private_fields}
 use Rattle.krb_der.specs.Size.{optional_size, carried, SmallPart, SmallSafe, SmallPrivate, ShorterInput}
-use Rattle.krb_der.proofs.Numbers.{length-big_endian, length-complement, if_case}
-use Rattle.krb_der.proofs.Readers.{tagged-short, size-tagged}
+use Rattle.krb_tlv.proofs.Numbers.{length-big_endian, length-complement, if_case}
+use Rattle.krb_tlv.proofs.Readers.{tagged-short, size-tagged}
 
 width-small : (n : ℕ) → width n ≤ 5
 width-small n =

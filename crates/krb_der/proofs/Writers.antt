@@ -1,46 +1,20 @@
 -- Sizes of spellings, and spellings that are written piece by piece.
-use Rattle.std.proofs.Common.{◌≡◌, ◌↔◌, ◌⊎◌, inl, inr, ℕ, zero, suc, ◌+◌, ◌<◌, ◌≤◌, Bool, true, false, ℤ, pos, negsuc, List, [], ◌∷◌, ◌++◌, length, Option, Some, None, refl, sym, ap, ◌∙◌, arith, append_assoc, length-append}
-use Rattle.std.proofs.lemmas.Bool.{lt-ltb}
+use Rattle.std.proofs.Common.{◌≡◌, ℕ, ℤ, List, [], ◌++◌, length, Option, Some, None, refl, sym, ap, ◌∙◌, arith, append_assoc, length-append}
 use Rattle.std.proofs.lemmas.List.{append-nil}
-use Rattle.krb_der.specs.Length.{length_octets}
-use Rattle.krb_der.specs.Element.{header, tagged, joined, sequence, optional, octets}
-use Rattle.krb_der.specs.Tag.{context, application, octet_string_tag, sequence_tag}
-use Rattle.krb_der.specs.Integer.{width, int_octets, integer, natural}
+use Rattle.krb_tlv.specs.Element.{header, tagged, joined, sequence, optional}
+use Rattle.krb_tlv.specs.Tag.{context, application, sequence_tag}
+use Rattle.krb_tlv.specs.Integer.{integer, natural}
 use Rattle.krb_der.specs.declared.safe.SafeMsg.{SafeMsg}
 use Rattle.krb_der.specs.declared.private.PrivMsg.{PrivMsg}
 use Rattle.krb_der.specs.Body.{body}
 use Rattle.krb_der.specs.Safe.{safe_input}
 use Rattle.krb_der.specs.Private.{encrypted_fields, encrypted_data, private_fields, private}
-use Rattle.krb_der.specs.Writing.{element_size, safe_before_data, safe_behind_data, encrypted_fields_size, encrypted_before_cipher, private_fields_size, private_size, private_before_cipher}
-use Rattle.krb_der.specs.Reading.{signed}
-use Rattle.krb_der.proofs.Numbers.{length-big_endian, length-complement}
-use Rattle.krb_der.proofs.Readers.{size-tagged}
-
--- ---- sizes
-
--- an element with a short content has two octets before it
-pub size-short : (n : ℕ) → n < 128 → element_size n ≡ 2 + n
-unfolding length_octets
-size-short n lt = rw (lt-ltb n 128 lt) refl
-
-length-int_octets : (negative : Bool) (n : ℕ) → length (int_octets (signed negative n)) ≡ width n
-unfolding int_octets
-length-int_octets false n = length-big_endian (width n) n
-length-int_octets true n = length-complement _ ∙ length-big_endian (width n) n
-
-pub size-integer : (negative : Bool) (n w : ℕ) → w ≡ width n → w ≤ 5 → length (integer (signed negative n)) ≡ 2 + w
-size-integer negative n w e le =
-    size-tagged 0x02 (int_octets (signed negative n)) ∙ ap element_size (length-int_octets negative n ∙ sym e) ∙ size-short w (omega arith)
+use Rattle.krb_tlv.specs.Writing.{element_size}
+use Rattle.krb_der.specs.Writing.{safe_before_data, safe_behind_data, encrypted_fields_size, encrypted_before_cipher, private_fields_size, private_size, private_before_cipher}
+use Rattle.krb_tlv.proofs.Writers.{begun, length-octets}
+use Rattle.krb_tlv.proofs.Readers.{size-tagged}
 
 -- ---- writing
-
--- a header, and then the content
-pub begun : (tag n : ℕ) (content s0 s1 s2 : List ℕ) → n ≡ length content → s1 ≡ s0 ++ header tag n → s2 ≡ s1 ++ content → s2 ≡ s0 ++ tagged tag content
-unfolding tagged
-begun tag n content s0 s1 s2 size first second = rw (second, first, size) (append_assoc s0 (header tag (length content)) content)
-
--- the sizes of elements and of fields in a row
-pub ruleset sizes = (size-tagged, length-append)
 
 -- a message from its two headers and its fields
 pub message_written : (tag n k : ℕ) (fields : List (List ℕ)) (s0 s1 s2 s3 : List ℕ) → s0 ≡ [] → n ≡ length (joined fields) → k ≡ element_size n
@@ -60,9 +34,6 @@ covered_is m before behind a b = grind (arith, append_assoc, append-nil)
 length-optional : (tag : ℕ) (n : Option ℕ) → length (optional tag natural n) ≡ length (optional 0 natural n)
 length-optional tag None = refl
 length-optional tag (Some n) = size-tagged tag (natural n) ∙ sym (size-tagged 0 (natural n))
-
-pub length-octets : (bytes : List ℕ) → length (octets bytes) ≡ element_size (length bytes)
-length-octets bytes = size-tagged octet_string_tag bytes
 
 length-encrypted_fields : (etype : ℤ) (kvno : Option ℕ) (cipher : List ℕ)
     → length (joined (encrypted_fields etype kvno cipher)) ≡ encrypted_fields_size etype kvno (length cipher)

@@ -3,7 +3,7 @@ use Rattle.std.specs.Prelude.{Bool, List, ℕ, ◌&&◌}
 use Rattle.std.specs.Ordering.{int_eq}
 use Rattle.std.specs.Str.{bytes_eq}
 use Rattle.krb_der.specs.declared.address.HostAddress.{HostAddress}
-use Rattle.krb_der.specs.Integer.{IsInt32}
+use Rattle.krb_tlv.specs.Integer.{IsInt32}
 use Rattle.krb_der.specs.Typed.{typed_octets}
 
 -- HostAddress, with its type and its bytes

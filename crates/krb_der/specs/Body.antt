@@ -4,9 +4,9 @@ use Rattle.std.specs.Prelude.{ℕ, List, [], ◌∷◌, IfSome}
 use Rattle.krb_der.specs.declared.body.Body.{Body}
 use Rattle.krb_time.specs.Time.{IsSecond}
 use Rattle.krb_time.specs.Moment.{IsMicroseconds}
-use Rattle.krb_der.specs.Tag.{context, application}
-use Rattle.krb_der.specs.Element.{tagged, sequence, optional, octets}
-use Rattle.krb_der.specs.Integer.{natural, IsUInt32}
+use Rattle.krb_tlv.specs.Tag.{context, application}
+use Rattle.krb_tlv.specs.Element.{tagged, sequence, optional, octets}
+use Rattle.krb_tlv.specs.Integer.{natural, IsUInt32}
 use Rattle.krb_der.specs.KerberosTime.{time}
 use Rattle.krb_der.specs.Address.{host_address, IsAddress}
 

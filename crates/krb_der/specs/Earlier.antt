@@ -8,10 +8,10 @@ use Rattle.krb_der.specs.declared.safe.SafeMsg.{SafeMsg}
 use Rattle.krb_der.specs.declared.private.PrivMsg.{PrivMsg}
 use Rattle.krb_der.specs.declared.message.Message.{Message}
 use Rattle.krb_der.specs.declared.message.Message.TheVariants.{Safe, Priv}
-use Rattle.krb_der.specs.Tag.{integer_tag, octet_string_tag, generalized_time_tag, sequence_tag, context, application}
-use Rattle.krb_der.specs.Length.{big_endian}
-use Rattle.krb_der.specs.Element.{joined}
-use Rattle.krb_der.specs.Integer.{int_octets}
+use Rattle.krb_tlv.specs.Tag.{integer_tag, octet_string_tag, generalized_time_tag, sequence_tag, context, application}
+use Rattle.krb_tlv.specs.Length.{big_endian}
+use Rattle.krb_tlv.specs.Element.{joined}
+use Rattle.krb_tlv.specs.Integer.{int_octets}
 use Rattle.krb_der.specs.Body.{IsBody}
 use Rattle.krb_der.specs.Message.{IsMessage, SpellsWithin, Spells, SpellsPart}
 

@@ -1,10 +1,6 @@
 pub use Rattle.krb_time.specs.Calendar
 pub use Rattle.krb_time.specs.Time
 pub use Rattle.krb_time.specs.Moment
-pub mod Tag
-pub mod Length
-pub mod Element
-pub mod Integer
 pub mod KerberosTime
 pub mod Typed
 pub mod Address
@@ -13,7 +9,6 @@ pub mod Safe
 pub mod Private
 pub mod Message
 pub mod Earlier
-pub mod Error
 pub mod Size
 pub mod Reading
 pub mod Writing

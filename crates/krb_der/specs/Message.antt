@@ -3,8 +3,8 @@
 use Rattle.std.specs.Prelude.{◌≡◌, ℕ, ◌<◌, ◌≤◌, List, ◌++◌, length, take, drop, Result, Ok, Err}
 use Rattle.std.specs.Global.{Vec}
 use Rattle.krb_base.specs.Limits.{frame_limit}
-use Rattle.krb_der.specs.declared.error.DerError.{DerError}
-use Rattle.krb_der.specs.declared.error.DerError.TheVariants as errors
+use Rattle.krb_tlv.specs.declared.error.DerError.{DerError}
+use Rattle.krb_tlv.specs.declared.error.DerError.TheVariants as errors
 use Rattle.krb_der.specs.declared.body.Body.{Body}
 use Rattle.krb_der.specs.declared.safe.SafeMsg.{SafeMsg}
 use Rattle.krb_der.specs.declared.safe.Covered.{Covered}

@@ -1,9 +1,9 @@
 -- KRB-PRIV (RFC 4120 section 5.7.1). There is no field [2].
 use Rattle.std.specs.Prelude.{ℕ, ℤ, List, [], ◌∷◌, Option, IfSome}
 use Rattle.krb_der.specs.declared.private.PrivMsg.{PrivMsg}
-use Rattle.krb_der.specs.Tag.{context, application}
-use Rattle.krb_der.specs.Element.{tagged, sequence, optional, octets}
-use Rattle.krb_der.specs.Integer.{integer, natural, IsInt32, IsUInt32}
+use Rattle.krb_tlv.specs.Tag.{context, application}
+use Rattle.krb_tlv.specs.Element.{tagged, sequence, optional, octets}
+use Rattle.krb_tlv.specs.Integer.{integer, natural, IsInt32, IsUInt32}
 
 -- EncryptedData (RFC 4120 section 5.2.9): SEQUENCE { etype [0] Int32, kvno [1] UInt32 OPTIONAL,
 -- cipher [2] OCTET STRING }

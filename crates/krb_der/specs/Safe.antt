@@ -1,9 +1,9 @@
 -- KRB-SAFE (RFC 4120 section 5.6.1).
 use Rattle.std.specs.Prelude.{ℕ, ℤ, pos, List, [], ◌∷◌}
 use Rattle.krb_der.specs.declared.safe.SafeMsg.{SafeMsg}
-use Rattle.krb_der.specs.Tag.{context, application}
-use Rattle.krb_der.specs.Element.{tagged, sequence}
-use Rattle.krb_der.specs.Integer.{integer, IsInt32}
+use Rattle.krb_tlv.specs.Tag.{context, application}
+use Rattle.krb_tlv.specs.Element.{tagged, sequence}
+use Rattle.krb_tlv.specs.Integer.{integer, IsInt32}
 use Rattle.krb_der.specs.Typed.{typed_octets}
 use Rattle.krb_der.specs.Body.{body, IsBody}
 

@@ -1,9 +1,9 @@
 -- Bytes with their type, the shape of HostAddress and of Checksum (RFC 4120 sections 5.2.5 and
 -- 5.2.9): SEQUENCE { type [0] Int32, bytes [1] OCTET STRING }.
 use Rattle.std.specs.Prelude.{ℕ, ℤ, List, [], ◌∷◌}
-use Rattle.krb_der.specs.Tag.{context}
-use Rattle.krb_der.specs.Element.{tagged, sequence, octets}
-use Rattle.krb_der.specs.Integer.{integer}
+use Rattle.krb_tlv.specs.Tag.{context}
+use Rattle.krb_tlv.specs.Element.{tagged, sequence, octets}
+use Rattle.krb_tlv.specs.Integer.{integer}
 
 -- the type and the bytes, each under its explicit tag
 abbrev pub typed_fields : ℤ → List ℕ → List (List ℕ)

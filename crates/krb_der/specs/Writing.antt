@@ -1,29 +1,20 @@
 -- What the code follows, and no definitions of the standard: sizes, and the pieces that a spelling
 -- is written in. Private functions alone cite this file; the contracts of the encoders are in the
 -- words of Message.antt.
-use Rattle.std.specs.Prelude.{ℕ, ◌+◌, ◌≤◌, ℤ, pos, List, [], ◌∷◌, ◌++◌, length, Option, IfSome}
-use Rattle.krb_base.specs.Limits.{frame_limit}
+use Rattle.std.specs.Prelude.{ℕ, ◌+◌, ℤ, pos, List, [], ◌∷◌, ◌++◌, length, Option, IfSome}
 use Rattle.krb_der.specs.declared.body.Body.{Body}
 use Rattle.krb_der.specs.declared.safe.SafeMsg.{SafeMsg}
 use Rattle.krb_der.specs.declared.private.PrivMsg.{PrivMsg}
-use Rattle.krb_der.specs.Tag.{context, application, octet_string_tag, sequence_tag}
-use Rattle.krb_der.specs.Length.{length_octets}
-use Rattle.krb_der.specs.Element.{header, tagged, joined, sequence, optional, octets}
-use Rattle.krb_der.specs.Integer.{integer, natural}
+use Rattle.krb_tlv.specs.Tag.{context, application, octet_string_tag, sequence_tag}
+use Rattle.krb_tlv.specs.Writing.{element_size, IsShort}
+use Rattle.krb_tlv.specs.Element.{header, tagged, joined, sequence, optional, octets}
+use Rattle.krb_tlv.specs.Integer.{integer, natural}
 use Rattle.krb_der.specs.KerberosTime.{time}
 use Rattle.krb_der.specs.Address.{host_address}
 use Rattle.krb_der.specs.Body.{body, body_fields}
 use Rattle.krb_der.specs.Safe.{checksum, safe_fields, without_checksum}
 
 -- ---- sizes
-
--- how many octets an element has whose content has n
-abbrev pub element_size : ℕ → ℕ
-element_size n = 1 + length (length_octets n) + n
-
--- no byte string is longer than a message may be
-abbrev pub IsShort : List ℕ → Type 0
-IsShort bytes = length bytes ≤ frame_limit
 
 abbrev pub IsShortBody : Body → Type 0
 IsShortBody b = IsShort b.user_data × IsShort b.s_addr.bytes × IfSome b.r_addr (λ a. IsShort a.bytes)

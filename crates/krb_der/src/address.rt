@@ -1,11 +1,11 @@
 ghost use Rattle.std.specs.Prelude.{◌≡◌, ◌↔◌, IsTrue, IfOk};
 ghost use Rattle.krb_der.specs.Address.{IsAddress, same_address};
-ghost use Rattle.krb_der.specs.Reading.{Gives, address_of};
+ghost use Rattle.krb_tlv.specs.Reading.{Gives};
+ghost use Rattle.krb_der.specs.Reading.{address_of};
 
-use crate::error::DerError;
-use crate::integer::known_int32;
 use crate::typed::read_typed;
 use krb_base::Bytes;
+use krb_tlv::{DerError, known_int32};
 use std::alloc::{AllocError, Global};
 
 /// A network address (RFC 4120 section 5.2.5).

@@ -1,27 +1,27 @@
 ghost use Rattle.std.specs.Prelude.{◌≡◌, ◌↔◌, ◌<◌, ◌≤◌, ◌+◌, ◌*◌, ◌++◌, ℕ, List, length, Some, IfOk, IfErr, OnOk, IfSome, IsTrue};
 ghost use Rattle.krb_base.specs.Limits.{frame_limit};
-ghost use Rattle.krb_der.specs.Element.{joined, optional};
+ghost use Rattle.krb_tlv.specs.Element.{joined, optional};
 ghost use Rattle.krb_time.specs.Moment.{secs_of, usec_of};
 ghost use Rattle.krb_time.specs.Time.{IsSecond};
 ghost use Rattle.krb_time.specs.Reading.{time_of};
 ghost use Rattle.krb_der.specs.KerberosTime;
 ghost use Rattle.krb_der.specs.Address.{host_address, IsAddress};
 ghost use Rattle.krb_der.specs.Body.{InRange, IsBody, body, body_fields};
-ghost use Rattle.krb_der.specs.Reading.{EndsWith, Fails, Gives, Takes, time_element_of, optional_at, address_of, behind_of, body_of, body_with};
+ghost use Rattle.krb_tlv.specs.Reading.{Fails, Gives, Takes, optional_at};
+ghost use Rattle.krb_der.specs.Reading.{EndsWith, time_element_of, address_of, behind_of, body_of, body_with};
 ghost use Rattle.krb_der.specs.Size.{HasAddressesWithinLimit};
-ghost use Rattle.krb_der.specs.Writing.{IsShort, IsShortBody, before_data, body_fields_size, body_size, fields_behind_data};
+ghost use Rattle.krb_tlv.specs.Writing.{IsShort};
+ghost use Rattle.krb_der.specs.Writing.{IsShortBody, before_data, body_fields_size, body_size, fields_behind_data};
 
 use crate::address::{HostAddress, known_address, read_address};
-use crate::error::DerError;
-use crate::integer::{
-    UINT32_LIMIT, known_uint32, natural_field_size, read_optional_natural, write_natural_field,
-};
-use crate::reader::{Reader, only_element};
 use crate::tag;
 use crate::typed::{typed_size, write_typed_field};
-use crate::writer::{Writer, size_around};
 use krb_base::{Bytes, FRAME_LIMIT};
 use krb_time::{LAST_SECOND, LAST_USEC, Moment, kerberos_time, read_kerberos_time};
+use krb_tlv::{
+    DerError, Reader, UINT32_LIMIT, Writer, known_uint32, natural_field_size, only_element,
+    read_optional_natural, size_around, write_natural_field,
+};
 use std::alloc::{AllocError, Global};
 use std::marker::Model;
 
@@ -77,7 +77,7 @@ fn read_time(bytes: &[u8]) -> Result<u64, DerError>
     reader.finish(secs)
 }
 
-#[tactic(auto, unfolding(crate::specs::Reading::optional_at))]
+#[tactic(auto, unfolding(krb_tlv::specs::Reading::optional_at))]
 fn read_optional_time(fields: &mut Reader<'_>, tag: u8) -> Result<Option<u64>, DerError>
     ensures { Takes (λ x. x) result fields.new (optional_at tag time_element_of fields.old) }
 {
@@ -88,7 +88,7 @@ fn read_optional_time(fields: &mut Reader<'_>, tag: u8) -> Result<Option<u64>, D
     Ok(Some(secs))
 }
 
-#[tactic(auto, unfolding(crate::specs::Reading::optional_at))]
+#[tactic(auto, unfolding(krb_tlv::specs::Reading::optional_at))]
 fn read_optional_address(
     alloc: Global,
     fields: &mut Reader<'_>,
@@ -131,7 +131,7 @@ impl Details {
 
 /// The data of the body that the bytes spell, and the fields after them, which are the last of the
 /// bytes.
-#[tactic(auto, unfolding(crate::specs::Reading::body_of, crate::specs::Reading::octets_of))]
+#[tactic(auto, unfolding(crate::specs::Reading::body_of, krb_tlv::specs::Reading::octets_of))]
 pub fn split_data(bytes: &[u8]) -> Result<(&[u8], &[u8]), DerError>
     ensures fields { IfOk result (λ x. body_of bytes.now ≡ behind_of x.0.now x.1.now) }
     ensures refused { IfErr result (λ e. Fails e (body_of bytes.now)) }

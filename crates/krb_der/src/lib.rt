@@ -16,27 +16,22 @@
 
 mod address;
 mod body;
-mod error;
-mod integer;
 mod laws;
-mod length;
 mod message;
 mod part;
 mod private;
-mod reader;
 mod safe;
 mod tag;
 mod typed;
-mod writer;
 
 pub use address::HostAddress;
 pub use body::{Body, BodyRef};
-pub use error::DerError;
 pub use krb_base::Bytes;
 pub use krb_time::{
     LAST_SECOND, LAST_USEC, MICROS_PER_SECOND, Moment, kerberos_time,
     kerberos_time_names_its_second, read_kerberos_time,
 };
+pub use krb_tlv::DerError;
 pub use laws::{earlier_spellings, reading_laws, size_laws, unique_spelling};
 pub use message::{Message, decode};
 pub use part::{decode_part, decode_part_from, encode_part};

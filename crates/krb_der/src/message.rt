@@ -1,15 +1,15 @@
 ghost use Rattle.std.specs.Prelude.{◌≡◌, MatchResult};
-ghost use Rattle.krb_der.specs.declared.error.DerError.TheVariants.{Memory};
+ghost use Rattle.krb_tlv.specs.declared.error.DerError.TheVariants.{Memory};
 ghost use Rattle.krb_der.specs.declared.message.Message.{Message as MessageValue};
 ghost use Rattle.krb_der.specs.Message.{Decodes, Spells};
-ghost use Rattle.krb_der.specs.Reading.{Gives, message_of};
+ghost use Rattle.krb_tlv.specs.Reading.{Gives};
+ghost use Rattle.krb_der.specs.Reading.{message_of};
 
-use crate::error::DerError;
 use crate::private::{PrivMsg, read_private};
-use crate::reader::{Reader, only_element};
 use crate::safe::{SafeMsg, read_safe};
 use crate::tag;
 use krb_base::FRAME_LIMIT;
+use krb_tlv::{DerError, Reader, only_element};
 use std::alloc::Global;
 
 /// A message of the relay (RFC 4120 section 5.10 has the numbers of all messages).

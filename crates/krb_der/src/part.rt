@@ -4,19 +4,18 @@ ghost use Rattle.std.specs.Prelude.{◌≡◌, ◌<◌, ◌≤◌, ◌++◌, ◌
 ghost use Rattle.krb_base.specs.Limits.{frame_limit};
 ghost use Rattle.krb_time.specs.Time.{IsSecond};
 ghost use Rattle.krb_der.specs.declared.body.Body.{Body as BodyValue};
-ghost use Rattle.krb_der.specs.declared.error.DerError.TheVariants.{Memory};
+ghost use Rattle.krb_tlv.specs.declared.error.DerError.TheVariants.{Memory};
 ghost use Rattle.krb_der.specs.Body.{InRange, IsBody, part};
 ghost use Rattle.krb_der.specs.Message.{Decodes, Encodes, SpellsPart};
-ghost use Rattle.krb_der.specs.Reading.{EndsWith, Fails, Gives, behind_of, part_of};
+ghost use Rattle.krb_tlv.specs.Reading.{Fails, Gives};
+ghost use Rattle.krb_der.specs.Reading.{EndsWith, behind_of, part_of};
 ghost use Rattle.krb_der.specs.Size.{HasAddressesWithinLimit, HasPartSize};
 ghost use Rattle.krb_der.specs.Writing.{IsShortBody};
 
 use crate::body::{Body, BodyRef, read_body, read_details, split_data};
-use crate::error::DerError;
-use crate::reader::only_element;
 use crate::tag;
-use crate::writer::{Writer, size_around};
 use krb_base::{Bytes, FRAME_LIMIT, cut_out};
+use krb_tlv::{DerError, Writer, only_element, size_around};
 use std::alloc::{AllocError, Global};
 
 impl<'a> BodyRef<'a> {
@@ -62,7 +61,7 @@ impl<'a> BodyRef<'a> {
     }
 
     /// Adds its spelling as an encrypted part.
-    #[tactic(auto, unfolding(crate::specs::Element::tagged))]
+    #[tactic(auto, unfolding(krb_tlv::specs::Element::tagged))]
     pub(crate) fn write_part(&self, out: &mut Writer) -> Result<(), AllocError>
         requires short { IsShortBody self.now }
         requires time { IfSome self.now.time IsSecond }

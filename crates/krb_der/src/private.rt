@@ -2,24 +2,24 @@ ghost use Rattle.std.specs.Prelude.{◌≡◌, ◌<◌, ◌≤◌, ◌+◌, ◌+
 ghost use Rattle.krb_base.specs.Limits.{frame_limit};
 ghost use Rattle.krb_der.specs.declared.message.Message.TheVariants.{Priv};
 ghost use Rattle.krb_der.specs.Size.{HasPrivateSize};
-ghost use Rattle.krb_der.specs.Writing.{IsShort, IsShortBody, element_size, encrypted_fields_size, encrypted_before_cipher, private_fields_size, private_size, private_before_cipher};
-ghost use Rattle.krb_der.specs.Integer.{integer};
+ghost use Rattle.krb_tlv.specs.Writing.{IsShort, element_size};
+ghost use Rattle.krb_der.specs.Writing.{IsShortBody, encrypted_fields_size, encrypted_before_cipher, private_fields_size, private_size, private_before_cipher};
+ghost use Rattle.krb_tlv.specs.Integer.{integer};
 ghost use Rattle.krb_time.specs.Time.{IsSecond};
 ghost use Rattle.krb_der.specs.Body.{InRange, part};
 ghost use Rattle.krb_der.specs.Private.{IsPrivate, private};
 ghost use Rattle.krb_der.specs.Message.{Drafts, Encodes, Spells, message};
-ghost use Rattle.krb_der.specs.Reading.{Gives, encrypted_of, private_of};
+ghost use Rattle.krb_tlv.specs.Reading.{Gives};
+ghost use Rattle.krb_der.specs.Reading.{encrypted_of, private_of};
 
 use crate::body::BodyRef;
-use crate::error::DerError;
-use crate::integer::{
-    UINT32_LIMIT, int32_field_size, known_int32, known_uint32, natural_field_size,
-    read_int32_field, read_optional_natural, write_int32_field, write_natural_field,
-};
-use crate::reader::{Reader, read_octets_field};
 use crate::tag;
-use crate::writer::{Writer, size_around};
 use krb_base::{Bytes, FRAME_LIMIT};
+use krb_tlv::{
+    DerError, Reader, UINT32_LIMIT, Writer, int32_field_size, known_int32, known_uint32,
+    natural_field_size, read_int32_field, read_octets_field, read_optional_natural, size_around,
+    write_int32_field, write_natural_field,
+};
 use std::alloc::{AllocError, Global};
 
 /// A message KRB-PRIV (RFC 4120 section 5.7.1).
@@ -105,7 +105,7 @@ impl PrivMsg {
     }
 
     /// Adds the encrypted data up to a cipher of so many bytes.
-    #[tactic(auto, unfolding(crate::specs::Element::tagged))]
+    #[tactic(auto, unfolding(krb_tlv::specs::Element::tagged))]
     fn write_encrypted(&self, out: &mut Writer, cipher: usize) -> Result<(), AllocError>
         requires { cipher ≤ frame_limit }
         ensures { OnOk result (out.new

@@ -1,24 +1,26 @@
 ghost use Rattle.std.specs.Prelude.{◌≡◌, ◌<◌, ◌≤◌, ◌+◌, ◌*◌, ◌++◌, [], length, Err, IfOk, IfSome, OnOk, OnErr};
 ghost use Rattle.krb_base.specs.Limits.{frame_limit};
 ghost use Rattle.krb_der.specs.declared.message.Message.TheVariants.{Safe};
-ghost use Rattle.krb_der.specs.Element.{joined};
-ghost use Rattle.krb_der.specs.Integer.{IsInt32};
+ghost use Rattle.krb_tlv.specs.Element.{joined};
+ghost use Rattle.krb_tlv.specs.Integer.{IsInt32};
 ghost use Rattle.krb_time.specs.Time.{IsSecond};
 ghost use Rattle.krb_der.specs.Body.{InRange, IsBody};
 ghost use Rattle.krb_der.specs.Safe.{safe, safe_fields, safe_input, with_checksum, without_checksum};
 ghost use Rattle.krb_der.specs.Message.{Covers, Encodes, Spells, message};
-ghost use Rattle.krb_der.specs.Reading.{Gives, safe_of};
+ghost use Rattle.krb_tlv.specs.Reading.{Gives};
+ghost use Rattle.krb_der.specs.Reading.{safe_of};
 ghost use Rattle.krb_der.specs.Size.{HasAddressesWithinLimit, HasSafeSize};
-ghost use Rattle.krb_der.specs.Writing.{IsShort, IsShortBody, safe_before_data, safe_behind_data, safe_fields_size};
+ghost use Rattle.krb_tlv.specs.Writing.{IsShort};
+ghost use Rattle.krb_der.specs.Writing.{IsShortBody, safe_before_data, safe_behind_data, safe_fields_size};
 
 use crate::body::{Body, BodyRef, is_short, read_body};
-use crate::error::DerError;
-use crate::integer::{int32_field_size, known_int32, read_int32_field, write_int32_field};
-use crate::reader::Reader;
 use crate::tag;
 use crate::typed::{read_typed_field, typed_size_of, write_typed_field};
-use crate::writer::{Writer, size_around};
 use krb_base::{Bytes, FRAME_LIMIT};
+use krb_tlv::{
+    DerError, Reader, Writer, int32_field_size, known_int32, read_int32_field, size_around,
+    write_int32_field,
+};
 use std::alloc::{AllocError, Global};
 use std::marker::Model;
 

@@ -1,28 +1,12 @@
-//! Identifier octets (X.690 section 8.1.2).
+//! Identifier octets: those of the messages (RFC 4120 section 5.10), and those of all DER.
 
-/// INTEGER.
-pub const INTEGER: u8 = 0x02;
-/// OCTET STRING.
-pub const OCTET_STRING: u8 = 0x04;
-/// GeneralizedTime, of which KerberosTime is a subtype.
-pub const GENERALIZED_TIME: u8 = 0x18;
-/// SEQUENCE.
-pub const SEQUENCE: u8 = 0x30;
+pub use krb_tlv::{
+    FIELD_0, FIELD_1, FIELD_2, FIELD_3, FIELD_4, FIELD_5, GENERALIZED_TIME, OCTET_STRING, SEQUENCE,
+};
+
 /// KRB-SAFE, `[APPLICATION 20]`.
 pub const KRB_SAFE: u8 = 0x74;
 /// KRB-PRIV, `[APPLICATION 21]`.
 pub const KRB_PRIV: u8 = 0x75;
 /// EncKrbPrivPart, `[APPLICATION 28]`.
 pub const ENC_KRB_PRIV_PART: u8 = 0x7C;
-/// The explicit tags `[0]` to `[5]` of fields.
-pub const FIELD_0: u8 = 0xA0;
-
-pub const FIELD_1: u8 = 0xA1;
-
-pub const FIELD_2: u8 = 0xA2;
-
-pub const FIELD_3: u8 = 0xA3;
-
-pub const FIELD_4: u8 = 0xA4;
-
-pub const FIELD_5: u8 = 0xA5;

@@ -2,18 +2,20 @@
 //! 5.2.9).
 
 ghost use Rattle.std.specs.Prelude.{◌≡◌, ◌<◌, ◌≤◌, ◌+◌, ◌++◌, length, OnOk};
-ghost use Rattle.krb_der.specs.Element.{joined, tagged};
+ghost use Rattle.krb_tlv.specs.Element.{joined, tagged};
 ghost use Rattle.krb_der.specs.Typed.{typed_fields, typed_octets};
 ghost use Rattle.krb_base.specs.Limits.{frame_limit};
-ghost use Rattle.krb_der.specs.Writing.{IsShort, typed_fields_size, typed_size};
-ghost use Rattle.krb_der.specs.Reading.{Gives, Takes, field_at, typed_of};
+ghost use Rattle.krb_tlv.specs.Writing.{IsShort};
+ghost use Rattle.krb_der.specs.Writing.{typed_fields_size, typed_size};
+ghost use Rattle.krb_tlv.specs.Reading.{Gives, Takes, field_at};
+ghost use Rattle.krb_der.specs.Reading.{typed_of};
 
-use crate::error::DerError;
-use crate::integer::{int32_field_size, read_int32_field, write_int32_field};
-use crate::reader::{Reader, read_octets_field};
 use crate::tag;
-use crate::writer::{Writer, size_around};
 use krb_base::Bytes;
+use krb_tlv::{
+    DerError, Reader, Writer, int32_field_size, read_int32_field, read_octets_field, size_around,
+    write_int32_field,
+};
 use std::alloc::{AllocError, Global};
 
 /// The type and the bytes that the bytes spell.
@@ -28,7 +30,7 @@ pub fn read_typed(alloc: Global, bytes: &[u8]) -> Result<(i32, Bytes), DerError>
 }
 
 /// The type and the bytes of a field.
-#[tactic(auto, unfolding(crate::specs::Reading::field_at))]
+#[tactic(auto, unfolding(krb_tlv::specs::Reading::field_at))]
 pub fn read_typed_field(
     alloc: Global,
     fields: &mut Reader<'_>,

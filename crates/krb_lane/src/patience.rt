@@ -23,11 +23,11 @@ const MOST: u32 = 32;
 const LEAST: u32 = 8;
 
 /// How many naps follow the looks of one wait.
-const NAPS: u32 = 8;
+const NAPS: u32 = 4;
 
-/// The microseconds of the first nap, to which the system adds some 50. Each further nap is twice as
-/// long, so that all together take three milliseconds.
-const FIRST_NAP: u64 = 10;
+/// The microseconds of the first nap, to which the system adds some 50. Each further nap is four
+/// times as long, so that all together take two milliseconds.
+const FIRST_NAP: u64 = 20;
 
 /// How a sender that finds its lane full waits before it sleeps until a take wakes it.
 ///
@@ -56,7 +56,7 @@ impl Patience {
         if look < self.looks {
             thread::yield_now();
         } else {
-            let nap = FIRST_NAP << (look - self.looks).min(NAPS);
+            let nap = FIRST_NAP << (2 * (look - self.looks).min(NAPS));
             Parker::new().park_timeout(rt, Duration::from_micros(nap));
         }
     }

@@ -4,7 +4,7 @@ use Rattle.std.proofs.lemmas.Bool.{eqb-true}
 use Rattle.krb_base.specs.Limits.{last_number}
 use Rattle.krb_der.specs.declared.message.Message.{Message}
 use Rattle.krb_der.specs.declared.message.Message.TheVariants as messages
-use Rattle.krb_der.specs.Integer.{IsUInt32}
+use Rattle.krb_tlv.specs.Integer.{IsUInt32}
 use Rattle.krb_der.specs.Message.{IsMessage, Spells, SpellsPart}
 use Rattle.krb_seal.specs.Opens.{OpenerState, Opens, OpensMessage, OpensText, OpensPart, Decrypt, Read, frame_checks, safe_checks, priv_header, text_checks, body_checks, is_number}
 use Rattle.krb_seal.proofs.SealedFrames.{met_all}

@@ -14,10 +14,10 @@ use Rattle.krb_der.specs.declared.body.Body.{Body}
 use Rattle.krb_der.specs.declared.private.PrivMsg.{PrivMsg}
 use Rattle.krb_der.specs.declared.message.Message.{Message}
 use Rattle.krb_der.specs.declared.message.Message.TheVariants as messages
-use Rattle.krb_der.specs.Tag.{context, application, sequence_tag, octet_string_tag}
-use Rattle.krb_der.specs.Length.{length_octets}
-use Rattle.krb_der.specs.Element.{header, tagged, octets, optional, joined, sequence}
-use Rattle.krb_der.specs.Integer.{integer, natural}
+use Rattle.krb_tlv.specs.Tag.{context, application, sequence_tag, octet_string_tag}
+use Rattle.krb_tlv.specs.Length.{length_octets}
+use Rattle.krb_tlv.specs.Element.{header, tagged, octets, optional, joined, sequence}
+use Rattle.krb_tlv.specs.Integer.{integer, natural}
 use Rattle.krb_der.specs.Body.{part}
 use Rattle.krb_der.specs.Private.{private, private_fields, encrypted_data, encrypted_fields}
 use Rattle.krb_der.specs.Message.{message, Spells, SpellsPart}

@@ -16,16 +16,16 @@ use Rattle.krb_der.specs.declared.body.Body.{Body}
 use Rattle.krb_der.specs.declared.private.PrivMsg.{PrivMsg}
 use Rattle.krb_der.specs.declared.message.Message.{Message}
 use Rattle.krb_der.specs.declared.message.Message.TheVariants as messages
-use Rattle.krb_der.specs.Tag.{context, application, sequence_tag, octet_string_tag}
-use Rattle.krb_der.specs.Element.{tagged, octets, optional, joined, sequence}
-use Rattle.krb_der.specs.Integer.{integer, natural}
+use Rattle.krb_tlv.specs.Tag.{context, application, sequence_tag, octet_string_tag}
+use Rattle.krb_tlv.specs.Element.{tagged, octets, optional, joined, sequence}
+use Rattle.krb_tlv.specs.Integer.{integer, natural}
 use Rattle.krb_der.specs.Moment.{micros_per_second, moment_of, secs_of, usec_of}
 use Rattle.krb_der.specs.Address.{same_address}
 use Rattle.krb_der.specs.Body.{part}
 use Rattle.krb_der.specs.Private.{private, private_fields, encrypted_data, encrypted_fields}
 use Rattle.krb_der.specs.Message.{Spells, SpellsPart}
 use Rattle.krb_der.proofs.Grammar.{messages_unique, parts_unique}
-use Rattle.krb_der.proofs.Readers.{length-tagged}
+use Rattle.krb_tlv.proofs.Readers.{length-tagged}
 use Rattle.krb_seal.specs.declared.session.Mode.{Mode}
 use Rattle.krb_seal.specs.declared.session.Mode.TheVariants.{Safe, Priv}
 use Rattle.krb_seal.specs.declared.session.Session.{Session}

@@ -1,8 +1,8 @@
 -- What computing the checksum of a KRB-SAFE returns.
 use Rattle.std.specs.Prelude.{◌≡◌, ℕ, ◌<◌, ◌≤◌, List, length, Result, Ok, Err}
 use Rattle.krb_base.specs.Limits.{frame_limit}
-use Rattle.krb_der.specs.declared.error.DerError.{DerError}
-use Rattle.krb_der.specs.declared.error.DerError.TheVariants as errors
+use Rattle.krb_tlv.specs.declared.error.DerError.{DerError}
+use Rattle.krb_tlv.specs.declared.error.DerError.TheVariants as errors
 use Rattle.krb_der.specs.declared.safe.SafeMsg.{SafeMsg}
 use Rattle.krb_der.specs.Safe.{safe_input}
 use Rattle.krb_seal.specs.Seals.{safe_checksum}

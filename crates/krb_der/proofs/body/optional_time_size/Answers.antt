@@ -1,6 +1,6 @@
 use Rattle.std.proofs.Common.{◌≡◌, ℕ, length, refl, sym}
-use Rattle.krb_der.specs.Length.{length_octets}
-use Rattle.krb_der.specs.Element.{header, tagged}
+use Rattle.krb_tlv.specs.Length.{length_octets}
+use Rattle.krb_tlv.specs.Element.{header, tagged}
 use Rattle.krb_time.specs.Time.{kerberos_time}
 use Rattle.krb_der.specs.KerberosTime.{time}
 use Rattle.krb_der.proofs.body.optional_time_size.Goals as goal

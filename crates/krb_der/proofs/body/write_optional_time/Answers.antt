@@ -1,10 +1,10 @@
 use Rattle.std.proofs.Common.{◌≡◌, ◌++◌, ℕ, List, length, refl, sym, ap, ◌∙◌}
 use Rattle.std.proofs.lemmas.Result.{on_ok_weaker}
-use Rattle.krb_der.specs.Length.{length_octets}
-use Rattle.krb_der.specs.Element.{header, tagged, optional}
+use Rattle.krb_tlv.specs.Length.{length_octets}
+use Rattle.krb_tlv.specs.Element.{header, tagged, optional}
 use Rattle.krb_time.specs.Time.{kerberos_time}
 use Rattle.krb_der.specs.KerberosTime.{time}
-use Rattle.krb_der.proofs.Writers.{begun}
+use Rattle.krb_tlv.proofs.Writers.{begun}
 use Rattle.krb_der.proofs.body.write_optional_time.Goals as goal
 
 time-size : (s : ℕ) → 17 ≡ length (time s)

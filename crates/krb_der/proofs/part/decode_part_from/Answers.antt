@@ -1,6 +1,6 @@
 use Rattle.std.proofs.Common.{drop, subst, arith, length-drop, ◌∙◌}
 use Rattle.krb_der.proofs.Grammar.{part_decodes, part_decided}
-use Rattle.krb_der.proofs.Numbers.{IsBytes, IsBytes-drop}
+use Rattle.krb_tlv.proofs.Numbers.{IsBytes, IsBytes-drop}
 use Rattle.krb_der.proofs.part.decode_part_from.Goals as goal
 
 pub returns : goal.returns

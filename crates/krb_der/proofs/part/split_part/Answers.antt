@@ -1,5 +1,5 @@
 use Rattle.std.proofs.Common.{◌++◌, arith}
-use Rattle.krb_der.specs.Tag.{application}
+use Rattle.krb_tlv.specs.Tag.{application}
 use Rattle.krb_der.specs.Reading.{EndsWith}
 use Rattle.krb_der.proofs.Places.{ends-alone, if-ok}
 use Rattle.krb_der.proofs.part.split_part.Goals as goal

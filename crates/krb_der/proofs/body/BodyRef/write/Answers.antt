@@ -1,6 +1,6 @@
 use Rattle.std.proofs.Common.{arith, append_assoc}
 use Rattle.std.proofs.lemmas.List.{append-nil}
-use Rattle.krb_der.specs.Element.{tagged}
+use Rattle.krb_tlv.specs.Element.{tagged}
 use Rattle.krb_der.specs.Body.{body}
 use Rattle.krb_der.proofs.body.BodyRef.write.Goals as goal
 

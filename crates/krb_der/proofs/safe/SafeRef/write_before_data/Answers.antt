@@ -1,8 +1,8 @@
 use Rattle.std.proofs.Common.{[], arith, append_assoc, pos}
-use Rattle.krb_der.specs.Tag.{sequence_tag}
-use Rattle.krb_der.specs.Element.{joined}
+use Rattle.krb_tlv.specs.Tag.{sequence_tag}
+use Rattle.krb_tlv.specs.Element.{joined}
 use Rattle.krb_der.specs.Safe.{safe_fields, with_checksum}
-use Rattle.krb_der.proofs.Readers.{size-tagged}
+use Rattle.krb_tlv.proofs.Readers.{size-tagged}
 use Rattle.krb_der.proofs.safe.SafeRef.write_before_data.Goals as goal
 
 pub returns : goal.returns

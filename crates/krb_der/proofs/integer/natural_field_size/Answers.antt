@@ -1,6 +1,0 @@
-use Rattle.std.proofs.Common.{arith}
-use Rattle.krb_der.proofs.Readers.{size-tagged}
-use Rattle.krb_der.proofs.integer.natural_field_size.Goals as goal
-
-pub returns-in-Some-clause-value : goal.returns-in-Some-clause-value
-returns-in-Some-clause-value c = grind (arith, size-tagged)

@@ -1,0 +1,4 @@
+pub mod Numbers
+pub mod Elements
+pub mod Readers
+pub mod Writers

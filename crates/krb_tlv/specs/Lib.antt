@@ -1,0 +1,7 @@
+pub mod Tag
+pub mod Length
+pub mod Element
+pub mod Integer
+pub mod Error
+pub mod Reading
+pub mod Writing
