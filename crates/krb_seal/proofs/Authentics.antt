@@ -1,6 +1,6 @@
 -- Opening with demands and without.
 use Rattle.std.proofs.Common.{◌≡◌, ℕ, ◌≤◌, ℤ, List, ◌++◌, length, drop, Ok, true, false, not, refl, sym, ap, subst, ◌∙◌, inl, inr, arith, length-append}
-use Rattle.std.proofs.lemmas.Bool.{le-leb}
+use Rattle.std.proofs.lemmas.Bool.{and_from, le-leb}
 use Rattle.std.proofs.lemmas.List.{drop_at}
 use Rattle.krb_aes.specs.Stealing.{cts}
 use Rattle.krb_aes.specs.Keys.{expanded_key}
@@ -22,7 +22,7 @@ use Rattle.krb_seal.specs.Seals.{Seals, body_of, checksum_type, safe_checksum, s
 use Rattle.krb_seal.specs.Opens.{OpenerState, Read, Decrypt, OpensPart, OpensText, OpensMessage, opener_of, frame_checks, safe_checks, priv_header, text_checks, body_checks, is_safe}
 use Rattle.krb_seal.specs.Authentic.{Authenticity, GivesBody, AuthenticText, AuthenticMessage, authentic_checks}
 use Rattle.krb_seal.specs.Laws.{OpensTheAuthentic, SealedIsAuthentic}
-use Rattle.krb_seal.proofs.SealedFrames.{met_all, all_met, encrypts, short_part, both_true, int_same, bytes_same}
+use Rattle.krb_seal.proofs.SealedFrames.{met_all, all_met, encrypts, short_part, int_same, bytes_same}
 use Rattle.krb_seal.proofs.Checking.{priv_goes_on}
 
 same_body : (a b : Body) → ◌≡◌ {A = Authenticity} (Ok a) (Ok b) → b ≡ a
@@ -115,7 +115,7 @@ mode_authentic Safe etype key s x q at user conf bytes e h g =
     let m : SafeMsg = sealed_safe etype key b in
     let is : is_safe x.mode ≡ true = ap is_safe (sym g ∙ e) in
     all_met (authentic_checks o m) (GivesBody b) (Ok b)
-    (refl, (both_true _ _ is refl, (int_same (checksum_type etype), (bytes_same (safe_checksum key m), tt)))) refl
+    (refl, (and_from _ _ is refl, (int_same (checksum_type etype), (bytes_same (safe_checksum key m), tt)))) refl
 mode_authentic Priv etype key s x q at user conf bytes e h g =
     let o : OpenerState = opener_of etype key x in
     let b : Body = body_of s q user at in
@@ -131,7 +131,7 @@ mode_authentic Priv etype key s x q at user conf bytes e h g =
     let plain : AuthenticText key text (tag_of key text) (Ok b) =
     all_met (text_checks key text (tag_of key text)) (Read SpellsPart (drop 16 text) GivesBody) (Ok b) (bytes_same (tag_of key text), tt)
     (subst (λ (z : List ℕ). Read SpellsPart z GivesBody (Ok b)) (sym back) (inr (b, own, refl))) in
-    all_met (priv_header o.etype o.expect m) (Decrypt o.key m.cipher (AuthenticText o.key)) (Ok b) (refl, (both_true _ _ (ap not is) refl, (int_same etype, (le-leb 28 (length m.cipher) long, tt)))) (text, tag_of key text, enc, plain)
+    all_met (priv_header o.etype o.expect m) (Decrypt o.key m.cipher (AuthenticText o.key)) (Ok b) (refl, (and_from _ _ (ap not is) refl, (int_same etype, (le-leb 28 (length m.cipher) long, tt)))) (text, tag_of key text, enc, plain)
 
 pub sealed_is_authentic : SealedIsAuthentic
 sealed_is_authentic etype key s x q at user conf bytes h g =

@@ -2,7 +2,7 @@
 use Rattle.std.proofs.Common.{◌≡◌, ℕ, ◌*◌, ◌≤◌, ℤ, Bool, true, false, not, ◌&&◌, List, [], ◌∷◌, ◌++◌, length, drop, Option, Some, None, Result, Ok, refl, sym, ap, subst, ◌∙◌, inl, inr, arith, length-append}
 use Rattle.std.specs.Ordering.{int_eq}
 use Rattle.std.specs.Str.{bytes_eq}
-use Rattle.std.proofs.lemmas.Bool.{eqb-true, eq-eqb, le-leb}
+use Rattle.std.proofs.lemmas.Bool.{and_from, eqb-true, eq-eqb, le-leb}
 use Rattle.std.proofs.lemmas.Bool.Decides.{Decides-int_eq}
 use Rattle.std.proofs.lemmas.Slice.Eq.{bytes_eq-Decides}
 use Rattle.std.proofs.lemmas.List.{drop_at}
@@ -36,10 +36,6 @@ use Rattle.krb_seal.specs.Seals.{safe_checksum, checksum_type, body_of, sealed_s
 use Rattle.krb_seal.specs.Opens.{OpenerState, Outcome, Checks, Passes, Read, Decrypt, IsEncryption, OpensPart, OpensText, OpensMessage, opener_of, frame_checks, safe_checks, priv_header, text_checks, body_checks, receiver_fits, addresses_fit, is_current, is_number, is_safe, distance}
 use Rattle.krb_seal.specs.Laws.{ReceiverAgrees, Agree, OneFrame, NowhereElse, AtItsNumber}
 use Rattle.krb_seal.proofs.CipherTexts.{one_text}
-
-pub both_true : (a b : Bool) → a ≡ true → b ≡ true → (a && b) ≡ true
-both_true true b p q = q
-both_true false b p q = absurd cc
 
 -- ---- checks that are met
 
@@ -180,14 +176,14 @@ pub bytes_same : (a : List ℕ) → bytes_eq a a ≡ true
 bytes_same a = (bytes_eq-Decides a a).1 refl
 
 address_same : (a b : HostAddress) → a ≡ b → same_address a b ≡ true
-address_same a b e = subst (λ (z : HostAddress). same_address a z ≡ true) e (both_true _ _ (int_same a.kind) (bytes_same a.bytes))
+address_same a b e = subst (λ (z : HostAddress). same_address a z ≡ true) e (and_from _ _ (int_same a.kind) (bytes_same a.bytes))
 
 receiver_same : (x : Expect) (r : Option HostAddress) → ReceiverAgrees x r → receiver_fits x r ≡ true
 receiver_same x None e = ap not e
 receiver_same x (Some a) e = address_same a x.r_addr e
 
 addresses_same : (s : Session) (x : Expect) (q at now : ℕ) (user : List ℕ) → Agree s x at now → addresses_fit x (body_of s q user at) ≡ true
-addresses_same s x q at now user h = both_true _ _ (address_same s.s_addr x.s_addr h.sender) (receiver_same x s.r_addr h.receiver)
+addresses_same s x q at now user h = and_from _ _ (address_same s.s_addr x.s_addr h.sender) (receiver_same x s.r_addr h.receiver)
 
 current_same : (s : Session) (x : Expect) (at now : ℕ) → Agree s x at now → is_current x now (Some (secs_of at)) (Some (usec_of at)) ≡ true
 current_same s x at now h =
@@ -202,7 +198,7 @@ mode_opens Safe etype key s x q at now user conf bytes e h g =
     let b : Body = body_of s q user at in
     let is : is_safe x.mode ≡ true = ap is_safe (sym g.mode ∙ e) in
     all_met (safe_checks o q now (sealed_safe etype key b)) (λ y. y ≡ Ok b.user_data) (Ok user)
-    (refl, (both_true _ _ is refl, (int_same (checksum_type etype), (addresses_same s x q at now user g, (current_same s x at now g, (eq-eqb q q refl, (bytes_same (safe_checksum key (sealed_safe etype key b)), tt))))))) refl
+    (refl, (and_from _ _ is refl, (int_same (checksum_type etype), (addresses_same s x q at now user g, (current_same s x at now g, (eq-eqb q q refl, (bytes_same (safe_checksum key (sealed_safe etype key b)), tt))))))) refl
 mode_opens Priv etype key s x q at now user conf bytes e h g =
     let o : OpenerState = opener_of etype key x in
     let b : Body = body_of s q user at in
@@ -220,7 +216,7 @@ mode_opens Priv etype key s x q at now user conf bytes e h g =
     let plain : OpensText o q now text (tag_of key text) (Ok user) =
     all_met (text_checks o.key text (tag_of key text)) (Read SpellsPart (drop 16 text) (OpensPart o.expect q now)) (Ok user) (bytes_same (tag_of key text), tt)
     (subst (λ (z : List ℕ). Read SpellsPart z (OpensPart o.expect q now) (Ok user)) (sym back) inside) in
-    all_met (priv_header o.etype o.expect m) (Decrypt o.key m.cipher (OpensText o q now)) (Ok user) (refl, (both_true _ _ (ap not is) refl, (int_same etype, (le-leb 28 (length m.cipher) long, tt)))) (text, tag_of key text, enc, plain)
+    all_met (priv_header o.etype o.expect m) (Decrypt o.key m.cipher (OpensText o q now)) (Ok user) (refl, (and_from _ _ (ap not is) refl, (int_same etype, (le-leb 28 (length m.cipher) long, tt)))) (text, tag_of key text, enc, plain)
 
 pub at_its_number : AtItsNumber
 at_its_number etype key s x q at now user conf bytes h g =
