@@ -26,7 +26,7 @@ import threading
 import time
 
 import engines
-import jobs
+from lib import jobs
 
 FAULTS = 5          # of 1,000 frames: what the carrier without a server loses and repeats
 ENDING = threading.Event()          # set where the tool ends before its tests

@@ -9,8 +9,7 @@ import time
 
 from cryptography.hazmat.primitives.ciphers import Cipher, algorithms, modes
 
-import frames
-import reader
+from lib.oracle import frames, reader
 
 LAST_NUMBER = 2**32 - 1
 NAMES = {

@@ -2,7 +2,7 @@
 
 Beside each program that a tool has had proved and built is a file with the digest of the sources
 and of the program: while both are the same, it isn't built again. A program that was built without
-its proofs has no such file (tools/unproved.py): nothing here takes it for a proved one.
+its proofs has no such file (unproved.py): nothing here takes it for a proved one.
 """
 import filecmp
 import hashlib
@@ -12,7 +12,8 @@ import shutil
 import subprocess
 import sys
 
-TOP = os.path.dirname(os.path.dirname(os.path.realpath(__file__)))
+TOP = os.path.realpath(os.path.join(os.path.dirname(os.path.realpath(__file__)), *[os.pardir] * 3))
+TOOLS = os.path.join(TOP, "tools")
 
 
 def folder_of(crate):
@@ -45,7 +46,7 @@ def proved(crate, program=None):
     """A program of the crate that is proved. Without a name it is proved and built first if needed;
     a named one has to be the same, byte for byte, or the tool ends."""
     if program is None:
-        prover = [sys.executable, os.path.join(TOP, "tools", "proving.py"), crate]
+        prover = [sys.executable, os.path.join(TOOLS, "proving.py"), crate]
         if subprocess.run(prover, check=False, stdin=subprocess.DEVNULL).returncode:
             sys.exit(f"there is no proved program {crate}")
         return program_of(crate)

@@ -2,10 +2,8 @@
 independent sender and receiver (opener.py): sessions at the edges of what a job may say, whose
 wires carry right frames, of one text or of several, frames that are repeated, dropped, exchanged,
 cut or changed, and frames that somebody with the key, or with another one, made up."""
-import frames
-import fuzz_messages
-import jobs
-import opener
+from lib import jobs
+from lib.oracle import frames, fuzz_messages, opener
 
 LAST_MOMENT = 253_402_300_799_999_999
 NUMBERS = [0, 1, 7, 127, 128, 2**31 - 1, 2**31, 2**32 - 3, 2**32 - 2, 2**32 - 1]

@@ -7,7 +7,7 @@ the clause that the mutant violates, so a mutant that is refused somewhere else 
 import os
 import re
 
-import building
+from lib.build import building
 
 FOLDERS = "must-fail", "must-fail-more"
 KEY = "clause: "
