@@ -16,7 +16,8 @@ def main(words):
         for name, frame in fixtures.all_frames():
             print(f"{name} ({len(frame)} bytes)\n  {frame.hex()}")
     elif len(words) == 2 and words[0] == "--keys" and len(words[1]) in (32, 64):
-        print(frames.strings_of(bytes.fromhex(words[1])))
+        strings = frames.strings_of(bytes.fromhex(words[1]))
+        print(",".join(f"{name}={string.hex()}" for name, string in strings.items()))
     else:
         sys.exit(__doc__)
 

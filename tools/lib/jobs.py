@@ -1,15 +1,42 @@
 """Job files of krbrelay, as tools write them; `krbrelay relay --help` describes the keys."""
+import dataclasses
 
 MICROS = 1_700_000_000_000_005  # 2023-11-14T22:13:20Z and 5 microseconds
 
 
-def digits(values):
-    return "[" + ", ".join(f'"{value.hex()}"' for value in values) + "]"
+@dataclasses.dataclass
+class Session:
+    """One sender, and what its receiver expects. Addresses are pairs of a type and bytes."""
+    key: bytes
+    mode: str
+    first: int
+    origin: tuple
+    to: tuple
+    write_to: bool = False
+    require_to: bool = False
+    expect_time: bool = True
+    skew: int = 300
+
+    @property
+    def etype(self):
+        return 17 if len(self.key) == 16 else 18
+
+
+def session(etype, mode, key, first=7):
+    """A session of 10.0.0.1 with 10.0.0.255. A key that is too short is repeated, and a longer one
+    cut."""
+    size = 16 if etype == 17 else 32
+    return Session((key * size)[:size], mode, first, (2, bytes([10, 0, 0, 1])),
+                   (2, bytes([10, 0, 0, 255])))
 
 
 def address(pair):
     kind, content = pair
-    return f'"{kind}:{content.hex()}"'
+    return f"{kind}:{content.hex()}"
+
+
+def digits(values):
+    return "[" + ", ".join(f'"{value.hex()}"' for value in values) + "]"
 
 
 def moments(value):
@@ -24,18 +51,13 @@ def emission(kind, what, at=0, mask=0):
     return f'"{what}"' if kind == "frame" else f'"flip {what} {at} {mask:02x}"'
 
 
-def sender(etype, mode, key, texts=None, frames=None, first=7, at=MICROS, now=MICROS,
-           origin=(2, bytes([10, 0, 0, 1])), to=(2, bytes([10, 0, 0, 255])), write_to=False,
-           require_to=False, expect_time=True, skew=300, seed=bytes(32), batch=None,
+def sender(of, now=MICROS, texts=None, frames=None, at=MICROS, seed=bytes(32), batch=None,
            plan=None):
-    """One sender, of texts to be sealed or of frames to be opened. A key that is too short is
-    repeated, and a longer one cut."""
-    size = 16 if etype == 17 else 32
-    key = (key * size)[:size]
-    lines = ["[[sender]]", f"etype = {etype}", f'key = "{key.hex()}"', f'mode = "{mode}"',
-             f"first = {first}", f"from = {address(origin)}", f"to = {address(to)}",
-             f"write_to = {str(write_to).lower()}", f"require_to = {str(require_to).lower()}",
-             f"expect_time = {str(expect_time).lower()}", f"skew = {skew}",
+    """The table of a session, with texts to be sealed or with frames to be opened, or with both."""
+    lines = ["[[sender]]", f"etype = {of.etype}", f'key = "{of.key.hex()}"', f'mode = "{of.mode}"',
+             f"first = {of.first}", f'from = "{address(of.origin)}"', f'to = "{address(of.to)}"',
+             f"write_to = {str(of.write_to).lower()}", f"require_to = {str(of.require_to).lower()}",
+             f"expect_time = {str(of.expect_time).lower()}", f"skew = {of.skew}",
              f"now = {moments(now)}"]
     if texts is not None:
         lines += [f'seed = "{seed.hex()}"', f"at = {moments(at)}", f"texts = {digits(texts)}"]
@@ -46,6 +68,12 @@ def sender(etype, mode, key, texts=None, frames=None, first=7, at=MICROS, now=MI
     if frames is not None:
         lines.append(f"frames = {digits(frames)}")
     return "\n".join(lines) + "\n"
+
+
+def sealing(it, now, **other):
+    """The table of a sender of oracle/opener.py; other keys take the place of its own."""
+    given = dict(texts=it.texts, at=it.ats, seed=it.seed, batch=it.batch, plan=it.plan)
+    return sender(it.session, now, **{**given, **other})
 
 
 def job(senders, capacity=None):

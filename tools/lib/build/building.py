@@ -1,4 +1,4 @@
-"""Which programs are built in crates/NAME/out, and from which sources; and the C compiler.
+"""Which programs are built in crates/NAME/out, and from which sources.
 
 Beside each program that a tool has had proved and built is a file with the digest of the sources
 and of the program: while both are the same, it isn't built again. A program that was built without
@@ -7,8 +7,6 @@ its proofs has no such file (unproved.py): nothing here takes it for a proved on
 import filecmp
 import hashlib
 import os
-import shlex
-import shutil
 import subprocess
 import sys
 
@@ -18,6 +16,12 @@ TOOLS = os.path.join(TOP, "tools")
 
 def folder_of(crate):
     return os.path.join(TOP, "crates", crate)
+
+
+def text_of(path):
+    """The text of a file of the repository."""
+    with open(os.path.join(TOP, path), encoding="utf-8") as file:
+        return file.read()
 
 
 def program_of(crate):
@@ -60,11 +64,6 @@ def is_proved(crate, program):
     ours = program_of(crate)
     return (is_built(crate, ours) and os.path.exists(program)
             and filecmp.cmp(ours, program, shallow=False))
-
-
-def c_compiler():
-    """The words that start the C compiler: those of the variable CC, else cc or gcc."""
-    return shlex.split(os.environ.get("CC", "")) or ["cc" if shutil.which("cc") else "gcc"]
 
 
 # ---- what a crate stands on

@@ -159,12 +159,11 @@ def record(group):
 # ---- where a key would be seen
 
 def strings_of(key):
-    """The strings that reveal a session key, as NAME=HEX,NAME=HEX."""
-    strings = {
+    """The strings that reveal a session key, by their names."""
+    return {
         "key": key,
         "digits": key.hex().encode(),
         "Kc": derive(key, 15, 0x99),
         "Ke": derive(key, 13, 0xAA),
         "Ki": derive(key, 13, 0x55),
     }
-    return ",".join(f"{name}={string.hex()}" for name, string in strings.items())
