@@ -5,6 +5,7 @@ key the strings for tools/residue: the key, its digits as a job file has them, a
     tools/frames.py [--keys KEYHEX]
 
 The sealer is tools/lib/oracle/frames.py, and what it seals here tools/lib/oracle/fixtures.py.
+Needed: Python's package cryptography.
 """
 import sys
 

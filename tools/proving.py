@@ -6,6 +6,7 @@ other are proved side by side, on all cores, as memory allows.
 
 A line on standard error for each crate has the minutes gone, and an estimate of those left. The
 prover's output is in out/proving/, a file a crate. It ends with 1 if a crate isn't proved.
+Needed: rt.
 """
 import signal
 import sys
