@@ -5,13 +5,13 @@
 
 For each message in hexadecimal digits it prints how many of its proper prefixes and how many of
 its single bit flips spell a message of the grammar (RFC 4120 in DER, X.690), and how many don't.
-The tests of krb_der compare `decode` with these counts. The reader, reader.py, shares nothing with
-it.
+The tests of krb_der compare `decode` with these counts. The reader, tools/lib/oracle/reader.py,
+shares nothing with it. Needed: Python.
 """
 
 import sys
 
-from reader import Malformed, message, part
+from lib.oracle.reader import Malformed, message, part
 
 
 def is_spelt(reader, data):

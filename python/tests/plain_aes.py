@@ -1,5 +1,5 @@
 """AES in plain Python (FIPS 197), in the place of the package `cryptography` where that isn't
-installed: the few names of it that tools/frames.py and tools/opener.py use."""
+installed: the few names of it that the sealer and the opener of tools/lib/oracle use."""
 import functools
 import sys
 import types

@@ -1,5 +1,5 @@
 """What the tests have in common: the package from its folder, and the independent sealer and opener
-of tools/, whose values are expected."""
+of tools/lib/oracle, whose values are expected."""
 import os
 import sys
 
@@ -13,22 +13,20 @@ except ImportError:
     import plain_aes
     plain_aes.install()
 
-import frames      # noqa: E402
-import opener      # noqa: E402
-import reader      # noqa: E402
+from lib.oracle import fixtures, frames, opener, reader     # noqa: E402
 
 import krbrelay    # noqa: E402
 from krbrelay import Address, Mode     # noqa: E402
 
 ALL = os.environ.get("KRBRELAY_TESTS") == "all"    # whether the long tests are whole
 
-MICROS = frames.MICROS
+MICROS = fixtures.MICROS
 CONFOUNDER = bytes(range(100, 116))
-KEYS = (frames.KEY_128, frames.KEY_256)
+KEYS = (fixtures.KEY_128, fixtures.KEY_256)
 KINDS = [(key, mode) for key in KEYS for mode in Mode]
-SENDER, RECEIVER = Address(*frames.SENDER), Address(*frames.RECEIVER)
+SENDER, RECEIVER = Address(*fixtures.SENDER), Address(*fixtures.RECEIVER)
 OTHER = Address.ip("2001:db8::1")
-PAIRS = {SENDER: frames.SENDER, RECEIVER: frames.RECEIVER, OTHER: (24, OTHER.data)}
+PAIRS = {SENDER: fixtures.SENDER, RECEIVER: fixtures.RECEIVER, OTHER: (24, OTHER.data)}
 
 
 def etype_of(key):
@@ -67,7 +65,7 @@ def receiver_of(key, mode, expected=7, **demands):
 def session_of(key, mode, **demands):
     """What the independent opener demands, as `opener_of` does."""
     names = {"require_receiver": "require_to", "require_time": "expect_time", "skew": "skew"}
-    return opener.Session(key, mode.name.lower(), 7, frames.SENDER, frames.RECEIVER,
+    return opener.Session(key, mode.name.lower(), 7, fixtures.SENDER, fixtures.RECEIVER,
                           **{names[name]: value for name, value in demands.items()})
 
 

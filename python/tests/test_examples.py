@@ -4,7 +4,7 @@ import subprocess
 import sys
 import unittest
 
-from support import KEYS, KINDS, PYTHON, RECEIVER, TOP, frame_of, frames
+from support import KEYS, KINDS, PYTHON, RECEIVER, TOP, fixtures, frame_of, frames
 
 EXAMPLES = os.path.join(PYTHON, "examples")
 
@@ -30,7 +30,7 @@ class ShowFrame(unittest.TestCase):
                 self.assertEqual(ran("show_frame.py", frame.hex(), key.hex()), (0, line, ""))
 
     def test_what_a_message_leaves_out(self):
-        body = frames.body(b"", frames.MICROS, 7, frames.SENDER, left_out=(0xA1, 0xA2, 0xA3))
+        body = frames.body(b"", fixtures.MICROS, 7, fixtures.SENDER, left_out=(0xA1, 0xA2, 0xA3))
         frame = frames.seal_priv(KEYS[1], body, bytes(16))
         self.assertEqual(ran("show_frame.py", frame.hex(), KEYS[1].hex()), (
             0, "PRIV 5 21 etype=18 kvno=- data= time=- usec=- seq=- from=2:0a000001 to=-\n", ""))

@@ -4,8 +4,8 @@ import unittest
 from unittest import mock
 
 from support import (
-    CONFOUNDER, KEYS, KINDS, MICROS, OTHER, RECEIVER, SENDER, expected_outcome, frame_of, frames,
-    opener_of, outcome, reader, sealed, session_of)
+    CONFOUNDER, KEYS, KINDS, MICROS, OTHER, RECEIVER, SENDER, expected_outcome, fixtures, frame_of,
+    frames, opener_of, outcome, reader, sealed, session_of)
 
 import krbrelay
 from krbrelay import Address, Body, Code, Demand, How, Mode, Opener, Refusal
@@ -64,7 +64,7 @@ class Unsealing(unittest.TestCase):
     def test_each_refusal(self):
         safe, private = (frame_of(KEYS[0], mode, b"Dhi") for mode in Mode)
         wide = frame_of(KEYS[1], Mode.PRIV, b"Dhi")
-        body = frames.body(b"Dhi", MICROS, 7, frames.SENDER)
+        body = frames.body(b"Dhi", MICROS, 7, fixtures.SENDER)
         old = safe.replace(bytes.fromhex("a003020105"), bytes.fromhex("a003020104"), 1)
         with opener_of(KEYS[0], Mode.SAFE) as of_safe, opener_of(KEYS[0], Mode.PRIV) as of_private:
             for code, opener, frame, number, at in (

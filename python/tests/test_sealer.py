@@ -4,8 +4,8 @@ import unittest
 from unittest import mock
 
 from support import (
-    CONFOUNDER, KEYS, KINDS, MICROS, OTHER, RECEIVER, SENDER, frame_of, frames, opener, opener_of,
-    sealer_of)
+    CONFOUNDER, KEYS, KINDS, MICROS, OTHER, RECEIVER, SENDER, fixtures, frame_of, frames, opener,
+    opener_of, sealer_of)
 
 import krbrelay
 from krbrelay import Batch, Closed, Mode, Text
@@ -67,7 +67,7 @@ class Sealing(unittest.TestCase):
     def test_records_of_a_sender(self):
         """A session of texts, in groups of two, and its close, by the independent sender."""
         for key, mode in KINDS:
-            session = opener.Session(key, mode.name.lower(), 7, frames.SENDER, frames.RECEIVER)
+            session = opener.Session(key, mode.name.lower(), 7, fixtures.SENDER, fixtures.RECEIVER)
             texts = [bytes([at]) * at for at in range(5)]
             records = [Batch((texts[0], texts[1])), Batch((texts[2], texts[3])), Text(texts[4])]
             ats = [MICROS + at for at in range(4)]

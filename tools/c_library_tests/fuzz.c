@@ -4,7 +4,7 @@
  *
  *   fuzz [COUNT [SEED]]        tries so many messages
  *   fuzz lines COUNT SEED      prints each with what krbrelay_opener_unseal answers, which
- *                              fuzz_answers.py holds against tools/opener.py
+ *                              fuzz_answers.py compares with opener.py of tools/lib/oracle
  *
  * With -DLIBFUZZER it is a target of libFuzzer and AFL++ in place of a program. */
 #include "frames.h"

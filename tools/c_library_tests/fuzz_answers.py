@@ -1,12 +1,12 @@
 #!/usr/bin/env python3
-"""Holds what krbrelay_opener_unseal answered, which `fuzz lines` prints, against tools/opener.py:
-fuzz lines COUNT SEED | fuzz_answers.py"""
+"""Compares what krbrelay_opener_unseal answered, which `fuzz lines` prints, with the independent
+opener: fuzz lines COUNT SEED | fuzz_answers.py"""
 import collections
 import os
 import sys
 
 sys.path.insert(0, os.path.join(os.path.dirname(os.path.abspath(__file__)), ".."))
-import opener  # noqa: E402
+from lib.oracle import opener  # noqa: E402
 
 KEYS = {17: bytes(range(16)), 18: b"\x11" * 32}
 NUMBER, NOW = 7, 1_700_000_001_000_005

@@ -26,7 +26,7 @@ import threading
 import time
 
 import engines
-import jobs
+from lib import jobs, printed
 
 FAULTS = 5          # of 1,000 frames: what the carrier without a server loses and repeats
 ENDING = threading.Event()          # set where the tool ends before its tests
@@ -82,9 +82,8 @@ class Session:
     def job(self, first, frames):
         """The job that opens these frames now, of which this number is demanded first."""
         now = int(time.time()) * 1_000_000
-        return jobs.job([jobs.sender(
-            etype=self.etype, mode=self.mode, key=self.key, first=first, now=now,
-            origin=(2, self.origin), to=(2, self.to), skew=86400, frames=frames)])
+        ends = jobs.Session(self.key, self.mode, first, (2, self.origin), (2, self.to), skew=86400)
+        return jobs.job([jobs.sender(ends, now, frames=frames)])
 
     def jobs(self, held):
         """The jobs for what a shard holds, pairs of a number and a frame: as many as their limits
@@ -470,9 +469,8 @@ class Trial:
         """The texts are those of all jobs, up to the close; what follows it are repeats."""
         lines = []
         for job in session.jobs(held):
-            done = subprocess.run([self.given.krbrelay, "open"], input=job, text=True, check=False,
-                                  stdout=subprocess.PIPE, timeout=DUMPED)
-            lines += [line for line in done.stdout.splitlines()[:-1] if " refused " not in line]
+            opened = printed.lines("open", job, self.given.krbrelay, DUMPED)[:-1]
+            lines += [line for line in opened if " refused " not in line]
             if lines[-1:] == ["lane 0 closed"]:
                 break
         if lines != session.lines():

@@ -4,13 +4,19 @@
 class Count:
     """How many tests passed, and how many failed."""
 
-    def __init__(self):
-        self.passed = self.failed = 0
+    def __init__(self, passed=0, failed=0):
+        self.passed, self.failed = passed, failed
 
     def add(self, passed, failed):
         """Counts so many tests."""
         self.passed += passed
         self.failed += failed
+
+    def right(self, passed, fault):
+        """Counts a test, and prints the fault if it failed."""
+        self.add(bool(passed), not passed)
+        if not passed:
+            print(fault, flush=True)
 
     def told(self, passed, text, more=()):
         """Counts a test and prints its line, and if it failed what more is known."""
@@ -21,11 +27,10 @@ class Count:
 
     def check(self, name, *right):
         """Counts a test that passes if all of these hold. Its name is printed if one doesn't."""
-        self.add(all(right), not all(right))
-        if not all(right):
-            print(f"FAILED {name}: {[bool(it) for it in right]}", flush=True)
+        self.right(all(right), f"FAILED {name}: {[bool(it) for it in right]}")
 
-    def end(self):
-        """Prints the last line, 'N passed, M failed'. Returns the exit status."""
-        print(f"{self.passed} passed, {self.failed} failed", flush=True)
-        return 1 if self.failed else 0
+    def end(self, more="", needs_one=False):
+        """Prints the last line, 'N passed, M failed'. Returns the exit status: 1 if a test failed,
+        or if one is needed and none passed."""
+        print(f"{self.passed} passed, {self.failed} failed{more}", flush=True)
+        return 1 if self.failed or needs_one and not self.passed else 0

@@ -8,8 +8,9 @@ from __future__ import annotations
 import re
 from typing import Dict, Iterable, Iterator, List
 
-import pages
-from pages import (ClauseBlock, Heading, Inline, Listing, Page, Paragraph, Source, Table, Target)
+from lib.reference import pages
+from lib.reference.pages import (
+    ClauseBlock, Heading, Inline, Listing, Page, Paragraph, Source, Table, Target)
 
 FOLDER = "docs/reference"
 TO_TOP = "../../"

@@ -2,10 +2,8 @@
 independent sender and receiver (opener.py): sessions at the edges of what a job may say, whose
 wires carry right frames, of one text or of several, frames that are repeated, dropped, exchanged,
 cut or changed, and frames that somebody with the key, or with another one, made up."""
-import frames
-import fuzz_messages
-import jobs
-import opener
+from lib import jobs
+from lib.oracle import frames, fuzz_messages, opener
 
 LAST_MOMENT = 253_402_300_799_999_999
 NUMBERS = [0, 1, 7, 127, 128, 2**31 - 1, 2**31, 2**32 - 3, 2**32 - 2, 2**32 - 1]
@@ -177,19 +175,12 @@ def plan(dice, sent):
     return disturbed(dice, found)
 
 
-def keys_of(it):
-    """The keys of a session in a job."""
-    return dict(etype=it.etype, mode=it.mode, key=it.key, first=it.first, origin=it.origin,
-                to=it.to, write_to=it.write_to, require_to=it.require_to,
-                expect_time=it.expect_time, skew=it.skew)
-
-
 def open_job(dice):
     """A job for `open`, its lines, and how many frames it has."""
     sent = sender(dice, 6)
     came, moments = wire(dice, sent), nows(dice, sent)
     told = 1 if dice.random() < 0.01 else None    # a batch is no key for `open`
-    text = jobs.job([jobs.sender(**keys_of(sent.session), now=moments, frames=came, batch=told)])
+    text = jobs.job([jobs.sender(sent.session, moments, frames=came, batch=told)])
     lines = opener.open_lines(sent.session, moments, came)
     return text, [bad_input(0, "batch")] if told else lines, len(came)
 
@@ -208,9 +199,7 @@ def lane(dice, most):
     sent = sender(dice, most)
     sent.plan = plan(dice, sent)
     moments = nows(dice, sent)
-    table = jobs.sender(**keys_of(sent.session), at=sent.ats, now=moments, texts=sent.texts,
-                        seed=sent.seed, batch=batch_key(dice, sent), plan=sent.plan)
-    return sent, moments, table
+    return sent, moments, jobs.sealing(sent, moments, batch=batch_key(dice, sent))
 
 
 def bad_input(place, key):

@@ -1,13 +1,14 @@
 """At which goal the prover refuses each mutant: what the edits say, and what `rt` reports.
 
-The first line of an edit may be 'clause: GOAL'. GOAL is the prover's name for what it can't prove of
-the mutant, as `returns-clause-capacity`: the clause `capacity` of what the function ensures. It is
-the clause that the mutant violates, so a mutant that is refused somewhere else misses its target.
+The first line of an edit may be 'clause: GOAL'. GOAL is the prover's name for what it can't prove
+of the mutant, as `returns-clause-capacity`: the clause `capacity` of what the function ensures. It
+is the clause that the mutant violates, so a mutant that is refused somewhere else misses its
+target.
 """
 import os
 import re
 
-import building
+from lib.build import building
 
 FOLDERS = "must-fail", "must-fail-more"
 KEY = "clause: "

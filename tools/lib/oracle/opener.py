@@ -9,8 +9,8 @@ import time
 
 from cryptography.hazmat.primitives.ciphers import Cipher, algorithms, modes
 
-import frames
-import reader
+from lib.jobs import Session
+from lib.oracle import frames, reader
 
 LAST_NUMBER = 2**32 - 1
 NAMES = {
@@ -26,24 +26,6 @@ class Refused(Exception):
 
 class BadPlan(Exception):
     """A plan names what the frames don't have."""
-
-
-@dataclasses.dataclass
-class Session:
-    """One sender, and what its receiver expects. Addresses are pairs of a type and bytes."""
-    key: bytes
-    mode: str
-    first: int
-    origin: tuple
-    to: tuple
-    write_to: bool = False
-    require_to: bool = False
-    expect_time: bool = True
-    skew: int = 300
-
-    @property
-    def etype(self):
-        return frames.etype_of(self.key)
 
 
 derive = functools.lru_cache(maxsize=4096)(frames.derive)

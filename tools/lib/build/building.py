@@ -1,22 +1,27 @@
-"""Which programs are built in crates/NAME/out, and from which sources; and the C compiler.
+"""Which programs are built in crates/NAME/out, and from which sources.
 
 Beside each program that a tool has had proved and built is a file with the digest of the sources
 and of the program: while both are the same, it isn't built again. A program that was built without
-its proofs has no such file (tools/unproved.py): nothing here takes it for a proved one.
+its proofs has no such file (unproved.py): nothing here takes it for a proved one.
 """
 import filecmp
 import hashlib
 import os
-import shlex
-import shutil
 import subprocess
 import sys
 
-TOP = os.path.dirname(os.path.dirname(os.path.realpath(__file__)))
+TOP = os.path.realpath(os.path.join(os.path.dirname(os.path.realpath(__file__)), *[os.pardir] * 3))
+TOOLS = os.path.join(TOP, "tools")
 
 
 def folder_of(crate):
     return os.path.join(TOP, "crates", crate)
+
+
+def text_of(path):
+    """The text of a file of the repository."""
+    with open(os.path.join(TOP, path), encoding="utf-8") as file:
+        return file.read()
 
 
 def program_of(crate):
@@ -45,7 +50,7 @@ def proved(crate, program=None):
     """A program of the crate that is proved. Without a name it is proved and built first if needed;
     a named one has to be the same, byte for byte, or the tool ends."""
     if program is None:
-        prover = [sys.executable, os.path.join(TOP, "tools", "proving.py"), crate]
+        prover = [sys.executable, os.path.join(TOOLS, "proving.py"), crate]
         if subprocess.run(prover, check=False, stdin=subprocess.DEVNULL).returncode:
             sys.exit(f"there is no proved program {crate}")
         return program_of(crate)
@@ -59,11 +64,6 @@ def is_proved(crate, program):
     ours = program_of(crate)
     return (is_built(crate, ours) and os.path.exists(program)
             and filecmp.cmp(ours, program, shallow=False))
-
-
-def c_compiler():
-    """The words that start the C compiler: those of the variable CC, else cc or gcc."""
-    return shlex.split(os.environ.get("CC", "")) or ["cc" if shutil.which("cc") else "gcc"]
 
 
 # ---- what a crate stands on

@@ -1,6 +1,6 @@
 """What is on each page of the reference: headings, prose, source text with links, and tables.
 
-`pages_of` makes the pages of a project. tools/pages_markdown.py and tools/pages_html.py write them.
+`pages_of` makes the pages of a project. pages_markdown.py and pages_html.py write them.
 A page is a list of blocks, and a block's words are a list of inline parts, so that neither renderer
 knows anything of crates.
 """
@@ -10,8 +10,9 @@ import dataclasses
 import re
 from typing import Dict, Iterable, Iterator, List, Optional, Set, Tuple, Union
 
-import sources
-from sources import KIT, Clause, Definition, Function, Item, Module, Project, Ref, Scope
+from lib.reference import sources
+from lib.reference.sources import (
+    KIT, Clause, Definition, Function, Item, Module, Project, Ref, Scope)
 
 INDEX, HEADLINE = "README", "headline"
 ROOT = Ref("krb_relay", "", "relay")    # the function whose contract is the headline

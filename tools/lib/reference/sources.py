@@ -12,7 +12,7 @@ import os
 import re
 from typing import Dict, Iterator, List, Optional, Set, Tuple
 
-import building
+from lib.build import building
 
 OPENING, CLOSING = "([{", ")]}"
 KIT = "kit"         # instead of a crate: a word of the kit's libraries

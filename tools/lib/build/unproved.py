@@ -1,8 +1,8 @@
 """The program as the kit builds it without its proofs (`rt try`), for a first answer in a minute.
 
 It is out/unproved/krbrelay, in a folder of its own, with a file that says from which sources and by
-which kit it was built: in that file the first word is `unproved`, and it has another name than that of a
-proved program, so nothing that asks for a proved program finds it (tools/building.py).
+which kit it was built: in that file the first word is `unproved`, and it has another name than that
+of a proved program, so nothing that asks for a proved program finds it (building.py).
 
 `rt try` builds the program in a temporary folder, runs it there with the checks of a compiler, and
 removes the folder. While it works, this module gives the program a second name outside of it. If
@@ -15,7 +15,7 @@ import sys
 import tempfile
 import time
 
-import building
+from lib.build import building
 
 FOLDER = os.path.join(building.TOP, "out", "unproved")
 PROGRAM = os.path.join(FOLDER, "krbrelay")

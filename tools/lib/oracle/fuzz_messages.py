@@ -3,7 +3,7 @@
 anew, mostly with right lengths, and whose bytes are then sometimes changed, cut or joined."""
 import random
 
-import reader
+from lib.oracle import reader
 
 
 # ---- what the line is to be

@@ -6,8 +6,9 @@ import html
 import re
 from typing import Iterable, Iterator, List
 
-import pages
-from pages import (ClauseBlock, Heading, Inline, Listing, Page, Paragraph, Source, Table, Target)
+from lib.reference import pages
+from lib.reference.pages import (
+    ClauseBlock, Heading, Inline, Listing, Page, Paragraph, Source, Table, Target)
 
 FOLDER = "out/reference"
 TO_TOP = "../../"

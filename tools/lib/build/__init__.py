@@ -1,0 +1,1 @@
+"""Which programs are built from which sources, their proofs, and the mutants."""

@@ -1,0 +1,1 @@
+"""An independent reader, sealer and opener of messages, which share nothing with the crates."""

@@ -1,0 +1,135 @@
+"""The parts of tools/test, what each of them needs, and the table of all tools."""
+import dataclasses
+import os
+import shutil
+import subprocess
+
+from lib import scripts
+from lib.build import building, c_tools
+
+TO_ANSWER = 60         # seconds for a tool to say whether it is there
+
+PROGRAM = "a program that is built from these sources"
+COMPILER = "a C compiler"
+CRYPTOGRAPHY = "Python's package cryptography"
+MIT = "Debian's libkrb5-dev"
+HEIMDAL = "Debian's heimdal-multidev"
+MAKE = "make"
+SQLITE = "Debian's libsqlite3-dev"
+SERVERS = "Debian's nats-server, libnats-dev, postgresql and libpq-dev"
+REALM = "Debian's krb5-kdc, krb5-admin-server, krb5-kpropd and krb5-user"
+
+
+def has(command):
+    return shutil.which(command) is not None
+
+
+def runs(*words):
+    how = dict(stdin=subprocess.DEVNULL, stdout=subprocess.DEVNULL, stderr=subprocess.DEVNULL)
+    try:
+        done = subprocess.run(words, cwd=building.TOOLS, check=False, timeout=TO_ANSWER, **how)
+        return done.returncode == 0
+    except (OSError, subprocess.TimeoutExpired):
+        return False
+
+
+IS_THERE = {
+    PROGRAM: lambda: building.is_built("krbrelay", building.KRBRELAY),
+    COMPILER: lambda: has(c_tools.c_compiler()[0]),
+    CRYPTOGRAPHY: lambda: runs("python3", "-c", "from lib.oracle import opener"),
+    MIT: lambda: runs("pkg-config", "--exists", "mit-krb5"),
+    HEIMDAL: lambda: runs("pkg-config", "--exists", "heimdal-krb5"),
+    REALM: lambda: all(shutil.which(it, path="/usr/sbin:/usr/bin:/sbin:/bin") for it in
+                       ("krb5kdc", "kadmind", "kpropd", "kprop", "kpasswd", "kadmin.local")),
+    MAKE: lambda: has("make"),
+    SQLITE: lambda: os.path.exists("/usr/include/sqlite3.h"),
+    SERVERS: lambda: has("nats-server") and os.path.exists("/usr/lib/postgresql")
+    and runs("pkg-config", "--exists", "libnats", "libpq"),
+    "rt": lambda: has("rt"),
+    "clang": lambda: has("clang"),
+    "valgrind": lambda: has("valgrind"),
+}
+
+
+# ---- the parts
+
+@dataclasses.dataclass
+class Part:
+    command: str
+    minutes: int    # its limit
+    needs: tuple = ()
+
+    def name(self):
+        return self.command.replace(" ", "_").replace("/", "_")
+
+    def tool(self):
+        """The script that it runs, or the whole command."""
+        return self.command.split()[0].removeprefix("tools/")
+
+    def missing(self):
+        """What it needs and this machine doesn't have."""
+        return [need for need in self.needs if not IS_THERE[need]()]
+
+
+FIRST = Part("tools/wrong_bodies", 2, ("rt",))
+GATE = Part("rt ci", 174, ("rt",))
+BUILD = Part("tools/krbrelay --prove", 60, ("rt",))
+PARTS = [
+    Part("tools/quotes", 1),
+    Part("tools/reference --check", 1),
+    Part("tools/test_reference", 1),
+    Part("tools/test_tables", 1),
+    Part("tools/vector_tables.py --check", 1),
+    Part("tools/test_building", 5, (COMPILER, CRYPTOGRAPHY)),
+    Part("tools/test_picture", 2),
+    Part("tools/figure --check", 1),
+    Part("tools/picture --check", 1, (PROGRAM,)),
+    Part("tools/test_program", 3, (PROGRAM,)),
+    Part("tools/sweep", 10, (PROGRAM, COMPILER, CRYPTOGRAPHY)),
+    Part("tools/residue --program", 5, (PROGRAM, COMPILER, CRYPTOGRAPHY)),
+    Part("tools/redelivery", 5, (PROGRAM, CRYPTOGRAPHY)),
+    Part("tools/carrier", 30, (PROGRAM, "rt", COMPILER, MAKE, SQLITE)),
+    Part("tools/fuzz 2000", 5, (PROGRAM, CRYPTOGRAPHY)),
+    Part("tools/test_bench", 30, ("rt",)),
+]
+MORE = [
+    Part("tools/wrong_bodies --try", 170, ("rt",)),
+    Part("tools/fuzz 20000 2", 60, (PROGRAM, CRYPTOGRAPHY)),
+    Part("tools/interop", 20, (PROGRAM, COMPILER, MIT, HEIMDAL)),
+    Part("tools/c_library --core", 60, ("rt", COMPILER)),
+    Part("tools/c_library", 60, ("rt", COMPILER, MIT, "clang", "valgrind")),
+    Part("tools/python --all", 20, (COMPILER, CRYPTOGRAPHY)),
+    Part("tools/kerberos", 75, ("rt", COMPILER, MIT, HEIMDAL, REALM)),
+    Part("tools/carrier --all", 60, (PROGRAM, "rt", COMPILER, "clang", MAKE, SQLITE, SERVERS)),
+    Part("tools/secret_places", 60, ("rt", COMPILER, "valgrind")),
+]
+
+
+# ---- the table
+
+def of_tool(name, parts):
+    return [part for part in parts if part.tool() == name]
+
+
+def belongs(name):
+    """Which form of tools/test runs a tool."""
+    for form, parts in (("test", [FIRST, *PARTS]), ("--all", MORE), ("--without-proofs", [BUILD])):
+        if of_tool(name, parts):
+            return form
+    return "-"
+
+
+def needs_of(name):
+    """What a tool needs: as its first part here, or as it says itself."""
+    found = of_tool(name, [FIRST, *PARTS, *MORE])
+    return ", ".join(found[0].needs) or "Python" if found else scripts.needs(name)
+
+
+def table():
+    """Of each tool its name, which form of tools/test runs it, what it does, and what it needs."""
+    return [(it, belongs(it), scripts.purpose(it), needs_of(it)) for it in scripts.names()]
+
+
+def lines_of_table():
+    for name, form, purpose, needs in table():
+        yield f"{name:18} {form:16} {purpose}. Needs: {needs}."

@@ -1,0 +1,1 @@
+"""Pictures as SVG, and the relay that one of them shows."""

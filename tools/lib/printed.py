@@ -1,0 +1,23 @@
+"""What krbrelay prints of an input, and its lines without the number of their lane."""
+import subprocess
+
+from lib.build import building
+
+
+def run(command, text, program=building.KRBRELAY, limit=60, **how):
+    """The finished run of a command over a text, by default within a minute."""
+    return subprocess.run([program, command], input=text, stdout=subprocess.PIPE, text=True,
+                          check=False, timeout=limit, **how)
+
+
+def lines(command, text, program=building.KRBRELAY, limit=60):
+    return run(command, text, program, limit).stdout.splitlines()
+
+
+def without_lane(line, lane=0):
+    return line.removeprefix(f"lane {lane} ")
+
+
+def of_lane(lane, all_lines):
+    """The lines of a lane, without its number."""
+    return [without_lane(line, lane) for line in all_lines if line.startswith(f"lane {lane} ")]

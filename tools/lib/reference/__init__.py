@@ -1,0 +1,1 @@
+"""The pages of the reference, from the sources of the crates."""
