@@ -1,7 +1,8 @@
-//! The tests of [`krb_aes`], [`krb_base`], [`krb_batch`], [`krb_keys`], [`krb_time`], [`krb_der`], [`krb_seal`]
-//! and [`krb_peers`], over what these have public: vectors of the standards, messages worked out by
-//! hand, frames of an independent sealer, and what the two ends of a lane make of them. They stand
-//! in a crate of their own, which has no public item, so that each library is proved once.
+//! The tests of [`krb_aes`], [`krb_base`], [`krb_batch`], [`krb_keys`], [`krb_time`], [`krb_tlv`],
+//! [`krb_der`], [`krb_seal`] and [`krb_peers`], over what these have public: vectors of the
+//! standards, messages worked out by hand, frames of an independent sealer, and what the two ends of
+//! a lane make of them. They stand in a crate of their own, which has no public item, so that each
+//! library is proved once.
 #![tactic(auto)]
 
 #[cfg(test)]
@@ -22,3 +23,5 @@ mod peers;
 mod sealing;
 #[cfg(test)]
 mod time;
+#[cfg(test)]
+mod tlv;

@@ -1,0 +1,132 @@
+//! Elements of DER: the examples of "A Layman's Guide to a Subset of ASN.1, BER, and DER" (INTEGER
+//! and OCTET STRING), and the length of X.690 section 8.1.3.5.
+
+use crate::asserts::{assert_same, assert_same_at};
+use krb_tlv::{
+    DerError, FIELD_0, FIELD_1, FIELD_2, FIELD_3, FIELD_4, FIELD_5, GENERALIZED_TIME, INTEGER,
+    OCTET_STRING, Reader, SEQUENCE, UINT32_LIMIT, Writer, int32_field_size, natural_field_size,
+    only_element, read_int32_field, read_octets_field, read_optional_natural, size_around,
+    write_int32_field, write_natural_field,
+};
+use std::alloc::{AllocError, Global};
+use std::test::Fail;
+
+/// Numbers, each as an INTEGER under the tag `[1]`.
+const NUMBERS: [(i32, &[u8]); 6] = [
+    (0, &[0xa1, 0x03, 0x02, 0x01, 0x00]),
+    (127, &[0xa1, 0x03, 0x02, 0x01, 0x7f]),
+    (128, &[0xa1, 0x04, 0x02, 0x02, 0x00, 0x80]),
+    (256, &[0xa1, 0x04, 0x02, 0x02, 0x01, 0x00]),
+    (-128, &[0xa1, 0x03, 0x02, 0x01, 0x80]),
+    (-129, &[0xa1, 0x04, 0x02, 0x02, 0xff, 0x7f]),
+];
+
+/// The OCTET STRING 01 23 45 67 89 ab cd ef under the tag `[2]`.
+const OCTETS: [u8; 12] = [
+    0xa2, 0x0a, 0x04, 0x08, 0x01, 0x23, 0x45, 0x67, 0x89, 0xab, 0xcd, 0xef,
+];
+
+/// The field with a number.
+fn int32_field(alloc: Global, number: i32) -> Result<Vec<u8>, AllocError> {
+    let mut out = Writer::with_capacity(alloc, int32_field_size(&number))?;
+    write_int32_field(&mut out, FIELD_1, &number)?;
+    Ok(out.into_vec())
+}
+
+/// The optional field with a number.
+fn natural_field(alloc: Global, number: Option<u32>) -> Result<Vec<u8>, AllocError> {
+    let mut out = Writer::with_capacity(alloc, natural_field_size(number))?;
+    write_natural_field(&mut out, FIELD_1, number)?;
+    Ok(out.into_vec())
+}
+
+#[test]
+fn numbers_are_written_and_read(rt: HostRuntime) -> Result<(), Fail> {
+    for (number, field) in NUMBERS {
+        let written = int32_field(rt.alloc(), number)?;
+        assert_same_at(&rt, written.as_slice(), field, number);
+        assert_same_at(&rt, int32_field_size(&number), field.len(), number);
+        let mut fields = Reader::new(field);
+        let read = read_int32_field(&mut fields, FIELD_1);
+        assert_same_at(&rt, read, Ok(number), number);
+        assert_same_at(&rt, fields.finish(()), Ok(()), number);
+    }
+    Ok(())
+}
+
+#[test]
+fn numbers_without_sign_are_written_and_read(rt: HostRuntime) -> Result<(), Fail> {
+    let field = &[0xa1, 0x04, 0x02, 0x02, 0x00, 0x80];
+    assert_same(
+        &rt,
+        natural_field(rt.alloc(), Some(128))?.as_slice(),
+        field.as_slice(),
+    );
+    assert_same(&rt, natural_field(rt.alloc(), None)?.len(), 0);
+    let read = |limit| read_optional_natural(&mut Reader::new(field), FIELD_1, limit);
+    assert_same(&rt, read(UINT32_LIMIT), Ok(Some(128)));
+    assert_same(&rt, read(128), Err(DerError::Malformed));
+    let absent = read_optional_natural(&mut Reader::new(field), FIELD_0, UINT32_LIMIT);
+    assert_same(&rt, absent, Ok(None));
+    Ok(())
+}
+
+#[test]
+fn octets_are_written_and_read(rt: HostRuntime) -> Result<(), Fail> {
+    let bytes = only_element(OCTET_STRING, &OCTETS[2..])?;
+    let mut out = Writer::with_capacity(rt.alloc(), OCTETS.len())?;
+    out.octets_field(FIELD_2, bytes)?;
+    assert_same(&rt, out.len(), OCTETS.len());
+    assert_same(&rt, out.into_vec().as_slice(), OCTETS.as_slice());
+    let mut fields = Reader::new(&OCTETS);
+    assert_same(
+        &rt,
+        (fields.is_at(FIELD_1), fields.is_at(FIELD_2)),
+        (false, true),
+    );
+    let read = read_octets_field(rt.alloc(), &mut fields, FIELD_2)?;
+    assert_same(&rt, read.as_slice(), bytes);
+    assert_same(&rt, fields.rest().len(), 0);
+    Ok(())
+}
+
+#[test]
+fn long_length_is_written_and_read(rt: HostRuntime) -> Result<(), Fail> {
+    let content = vec![in rt.alloc(); 0x5a; 201]?;
+    let mut out = Writer::with_capacity(rt.alloc(), size_around(content.len()))?;
+    out.element(SEQUENCE, &content)?;
+    let element = out.into_vec();
+    assert_same(&rt, element.get(..3), Some([0x30, 0x81, 0xc9].as_slice()));
+    assert_same(&rt, element.len(), size_around(201));
+    let inside = Reader::inside(SEQUENCE, &element)?;
+    assert_same(&rt, inside.rest(), content.as_slice());
+    Ok(())
+}
+
+#[test]
+fn elements_that_are_not_der_are_malformed(rt: HostRuntime) {
+    // A tag that isn't asked for, a length beyond the bytes, one in a longer form than needed, and
+    // bytes after the element.
+    let others: [&[u8]; 4] = [
+        &[0x04, 0x00],
+        &[0x02, 0x02, 0x00],
+        &[0x02, 0x81, 0x01, 0x00],
+        &[0x02, 0x01, 0x00, 0x00],
+    ];
+    for bytes in others {
+        assert_same(&rt, only_element(INTEGER, bytes), Err(DerError::Malformed));
+    }
+    assert_same(
+        &rt,
+        Reader::new(&[0x00]).finish(1),
+        Err(DerError::Malformed),
+    );
+}
+
+#[test]
+fn tags_have_their_numbers(rt: HostRuntime) {
+    assert_same(&rt, (INTEGER, OCTET_STRING), (0x02, 0x04));
+    assert_same(&rt, (GENERALIZED_TIME, SEQUENCE), (0x18, 0x30));
+    assert_same(&rt, (FIELD_0, FIELD_3), (0xa0, 0xa3));
+    assert_same(&rt, (FIELD_4, FIELD_5), (0xa4, 0xa5));
+}
