@@ -69,7 +69,8 @@ NOW, LATER = Moment(1700000000, 5), Moment(1700000001, 5)
 def seal(sealer, data):
     room = lib.krbrelay_frame_size(len(data))
     frame, size = c.create_string_buffer(room), c.c_size_t()
-    answer = lib.krbrelay_sealer_seal(sealer, data, len(data), NOW, os.urandom(16), frame, room, size)
+    answer = lib.krbrelay_sealer_seal(sealer, data, len(data), NOW, os.urandom(16), frame, room,
+                                      size)
     return answer, frame.raw[:size.value]
 
 

@@ -10,8 +10,8 @@ import os
 import subprocess
 import sys
 
-TOP = os.path.realpath(os.path.join(os.path.dirname(os.path.realpath(__file__)), *[os.pardir] * 3))
-TOOLS = os.path.join(TOP, "tools")
+TOOLS = os.path.dirname(os.path.dirname(os.path.dirname(os.path.realpath(__file__))))
+TOP = os.path.dirname(TOOLS)
 
 
 def folder_of(crate):

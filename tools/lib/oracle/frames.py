@@ -107,8 +107,8 @@ def etype_of(key):
 
 def safe(inner, kind, checksum):
     sum_ = sequence(tlv(0xA0, integer(kind)), tlv(0xA1, octets(checksum)))
-    fields = sequence(tlv(0xA0, integer(5)), tlv(0xA1, integer(20)), tlv(0xA2, inner), tlv(0xA3, sum_))
-    return tlv(0x74, fields)
+    return tlv(0x74, sequence(tlv(0xA0, integer(5)), tlv(0xA1, integer(20)), tlv(0xA2, inner),
+                              tlv(0xA3, sum_)))
 
 
 def seal_safe(key, inner):

@@ -123,7 +123,8 @@ def unseal(session, number, now, frame):
 
 
 class Receiver:
-    """Takes the frames of a sender, each at the timestamp of its place; the last serves all later."""
+    """Takes the frames of a sender, each at the timestamp of its place; the last serves all later
+    ones."""
 
     def __init__(self, session, nows):
         self.session, self.nows = session, nows
@@ -169,8 +170,8 @@ def batch_texts(data):
 
 @dataclasses.dataclass
 class Sender:
-    """The texts of a session, their timestamps, the seed of their confounders, and how many of them a
-    frame carries at most. A plan is None or a list of ("frame", k), ("flip", k, at, mask) and
+    """The texts of a session, their timestamps, the seed of their confounders, and how many of them
+    a frame carries at most. A plan is None or a list of ("frame", k), ("flip", k, at, mask) and
     ("raw", bytes)."""
     session: Session
     texts: list

@@ -28,7 +28,8 @@ GUIDE = [
     "`(x : A) → P x` is \"for all x\", `(x : A) × P x` is \"there is an x\", `P × Q` is \"and\","
     " `P ⊎ Q` is \"or\", `P ↔ Q` is \"if and only if\", `¬ P` is \"not\", `⊥` is never true, `≡` is"
     " equality.",
-    "A `record` of propositions holds if all of its fields do; its arguments are what it speaks of.",
+    "A `record` of propositions holds if all of its fields do; its arguments are what it speaks"
+    " of.",
     "Words that don't link are the kit's: lists, numbers, options and results with their usual"
     " meaning.",
 ]
@@ -468,8 +469,8 @@ class Writer:
     def index(self) -> Page:
         blocks: List[Block] = [
             Heading(1, "Reference", ""),
-            Paragraph(self.inlines("krb_base", "Each public type and function of the crates, with its"
-                                   " contract, and each definition that a contract cites."
+            Paragraph(self.inlines("krb_base", "Each public type and function of the crates, with"
+                                   " its contract, and each definition that a contract cites."
                                    " `tools/reference` makes these pages from the sources. The"
                                    " prover has checked each function against its contract.")),
             Paragraph([Inline("Start with "),

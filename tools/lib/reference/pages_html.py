@@ -16,8 +16,8 @@ STYLE = "style.css"
 TOKEN = re.compile(r"(//[^\n]*|--[^\n]*|\"(?:\\.|[^\"\\])*\")"
                    r"|((?<![\w.'])[A-Za-z_][\w']*(?:\.[A-Za-z_][\w']*)*)")
 KEYWORDS = {
-    "rust": {"pub", "fn", "struct", "enum", "trait", "impl", "const", "static", "type", "mut", "for",
-             "where", "extern", "ghost", "let", "in", "match", "return"},
+    "rust": {"pub", "fn", "struct", "enum", "trait", "impl", "const", "static", "type", "mut",
+             "for", "where", "extern", "ghost", "let", "in", "match", "return"},
     "": {"pub", "abbrev", "unfoldable", "record", "data", "module", "where", "let", "in", "do"},
 }
 
