@@ -22,33 +22,44 @@ const MOST: u32 = 32;
 /// The fewest of these looks.
 const LEAST: u32 = 8;
 
-/// How many naps follow the looks of one wait.
-const NAPS: u32 = 4;
+/// How many naps of different length there are.
+const NAPS: u32 = 8;
 
-/// The microseconds of the first nap, to which the system adds some 50. Each further nap is four
-/// times as long, so that all together take two milliseconds.
-const FIRST_NAP: u64 = 20;
+/// The microseconds of the shortest nap, to which the system adds some 50. Each further one is twice
+/// as long.
+const FIRST_NAP: u64 = 10;
 
 /// How a sender that finds its lane full waits before it sleeps until a take wakes it.
 ///
 /// A take that wakes the sender costs the receiver some microseconds. Looking again spares it that,
 /// but takes processor time from it if there are more threads than processors. So a sender first
 /// looks again and again, and lets other threads run in between; then it sleeps for longer and
-/// longer between its looks. A wait that ended while it looked doubles the looks of the next wait,
-/// and any other halves them. Nothing of this is shared with the receiver.
+/// longer between its looks. It begins with a nap that is shorter by half than the one that ended
+/// the wait before. A wait that ended without a nap doubles the looks of the next wait, and any
+/// other halves them. Nothing of this is shared with the receiver.
 #[derive(Clone, Copy)]
 pub(crate) struct Patience {
+    // How often the next wait looks before its first nap, and which nap that is.
     looks: u32,
+    nap: u32,
 }
 
 impl Patience {
     pub(crate) fn new() -> Patience {
-        Patience { looks: MOST }
+        Patience {
+            looks: MOST,
+            nap: 0,
+        }
     }
 
     /// How often the lane is looked at in one wait.
     fn turns(&self) -> u32 {
-        self.looks.saturating_add(NAPS)
+        self.looks.saturating_add(NAPS.saturating_sub(self.nap))
+    }
+
+    /// Which nap follows a look that isn't one of the first.
+    fn nap_after(&self, look: u32) -> u32 {
+        self.nap.saturating_add(look.saturating_sub(self.looks))
     }
 
     /// Rests after a look in vain, the first of which is look 0.
@@ -56,7 +67,7 @@ impl Patience {
         if look < self.looks {
             thread::yield_now();
         } else {
-            let nap = FIRST_NAP << (2 * (look - self.looks).min(NAPS));
+            let nap = FIRST_NAP << self.nap_after(look).min(NAPS);
             Parker::new().park_timeout(rt, Duration::from_micros(nap));
         }
     }
@@ -64,14 +75,12 @@ impl Patience {
     /// Learns from a wait that this look ended. There was none if look 0 found room.
     fn learn(&mut self, look: u32) {
         if look > self.looks {
-            self.shrink();
+            self.nap = self.nap_after(look).saturating_sub(2).min(NAPS);
+            self.looks = (self.looks / 2).max(LEAST);
         } else if look > 0 {
+            self.nap = self.nap.saturating_sub(1);
             self.looks = self.looks.saturating_mul(2).min(MOST);
         }
-    }
-
-    fn shrink(&mut self) {
-        self.looks = (self.looks / 2).max(LEAST);
     }
 }
 
@@ -105,7 +114,7 @@ pub(crate) fn put(
         }
         patience.rest(rt, look);
     }
-    patience.shrink();
+    patience.learn(patience.turns());
     match sender.send_as::<Sends, _>(rt, pass, item) {
         Ok(()) => Ok(()),
         Err(error) => Err(error.into_inner()),
