@@ -21,7 +21,10 @@ const NUMBERS: [(i32, &[u8]); 6] = [
     (-129, &[0xa1, 0x04, 0x02, 0x02, 0xff, 0x7f]),
 ];
 
-/// The OCTET STRING 01 23 45 67 89 ab cd ef under the tag `[2]`.
+/// The content of an OCTET STRING.
+const CONTENT: [u8; 8] = [0x01, 0x23, 0x45, 0x67, 0x89, 0xab, 0xcd, 0xef];
+
+/// That OCTET STRING under the tag `[2]`.
 const OCTETS: [u8; 12] = [
     0xa2, 0x0a, 0x04, 0x08, 0x01, 0x23, 0x45, 0x67, 0x89, 0xab, 0xcd, 0xef,
 ];
@@ -73,9 +76,8 @@ fn numbers_without_sign_are_written_and_read(rt: HostRuntime) -> Result<(), Fail
 
 #[test]
 fn octets_are_written_and_read(rt: HostRuntime) -> Result<(), Fail> {
-    let bytes = only_element(OCTET_STRING, &OCTETS[2..])?;
     let mut out = Writer::with_capacity(rt.alloc(), OCTETS.len())?;
-    out.octets_field(FIELD_2, bytes)?;
+    out.octets_field(FIELD_2, &CONTENT)?;
     assert_same(&rt, out.len(), OCTETS.len());
     assert_same(&rt, out.into_vec().as_slice(), OCTETS.as_slice());
     let mut fields = Reader::new(&OCTETS);
@@ -85,8 +87,10 @@ fn octets_are_written_and_read(rt: HostRuntime) -> Result<(), Fail> {
         (false, true),
     );
     let read = read_octets_field(rt.alloc(), &mut fields, FIELD_2)?;
-    assert_same(&rt, read.as_slice(), bytes);
+    assert_same(&rt, read.as_slice(), CONTENT.as_slice());
     assert_same(&rt, fields.rest().len(), 0);
+    let content = only_element(OCTET_STRING, &OCTETS[2..])?;
+    assert_same(&rt, content, CONTENT.as_slice());
     Ok(())
 }
 
