@@ -90,7 +90,7 @@ pub fn lane<R>(rt: &R, alloc: Global, capacity: usize) -> Result<(LaneTx, LaneRx
         sender,
         pass,
         count: 0,
-        patience: Patience::new(),
+        patience: Patience::new(capacity),
     };
     let rx = LaneRx {
         receiver,

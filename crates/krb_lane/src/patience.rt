@@ -22,64 +22,101 @@ const MOST: u32 = 32;
 /// The fewest of these looks.
 const LEAST: u32 = 8;
 
-/// How many naps of different length there are.
-const NAPS: u32 = 8;
-
-/// The microseconds of the shortest nap, to which the system adds some 50. Each further one is twice
-/// as long.
+/// The microseconds of the shortest nap, nap 0, to which the system adds some 50. Each further one
+/// is twice as long.
 const FIRST_NAP: u64 = 10;
+
+/// Before this nap, or a longer one, no time is spent on looks.
+const LONG: u32 = 3;
+
+/// The longest nap, of some 5 milliseconds.
+const LONGEST: u32 = 9;
 
 /// How a sender that finds its lane full waits before it sleeps until a take wakes it.
 ///
 /// A take that wakes the sender costs the receiver some microseconds. Looking again spares it that,
 /// but takes processor time from it if there are more threads than processors. So a sender first
-/// looks again and again, and lets other threads run in between; then it sleeps for longer and
-/// longer between its looks. It begins with a nap that is shorter by half than the one that ended
-/// the wait before. A wait that ended without a nap doubles the looks of the next wait, and any
-/// other halves them. Nothing of this is shared with the receiver.
+/// looks again and again, and lets other threads run in between; then it naps between its looks, each
+/// time for twice as long. A wait that ended without a nap doubles the looks of the next wait, and
+/// any other halves them.
+///
+/// A nap is best if half of the lane is free after it: then few naps serve many frames, and the
+/// receiver never finds the lane empty. So the next wait's first nap is twice the last one, unless
+/// half of the lane could be filled without a wait, and half of it if more than three quarters
+/// could. Nothing of this is shared with the receiver.
 #[derive(Clone, Copy)]
 pub(crate) struct Patience {
-    // How often the next wait looks before its first nap, and which nap that is.
+    // How often the next wait looks before its first nap, if that isn't a long one, and which nap
+    // that is.
     looks: u32,
     nap: u32,
+    // How many items were sent since the last wait, and at how many the next nap gets shorter.
+    sent: usize,
+    half: usize,
+    most: usize,
 }
 
 impl Patience {
-    pub(crate) fn new() -> Patience {
+    /// That of a sender whose lane has room for so many items.
+    pub(crate) fn new(capacity: usize) -> Patience {
         Patience {
             looks: MOST,
             nap: 0,
+            sent: 0,
+            half: (capacity / 2).max(1),
+            most: (capacity - capacity / 4).max(1),
         }
+    }
+
+    /// How often the next wait looks before its first nap.
+    fn looks(&self) -> u32 {
+        if self.nap < LONG { self.looks } else { 0 }
     }
 
     /// How often the lane is looked at in one wait.
     fn turns(&self) -> u32 {
-        self.looks.saturating_add(NAPS.saturating_sub(self.nap))
+        self.looks()
+            .saturating_add(LONGEST.saturating_sub(self.nap))
+            .saturating_add(1)
     }
 
     /// Which nap follows a look that isn't one of the first.
     fn nap_after(&self, look: u32) -> u32 {
-        self.nap.saturating_add(look.saturating_sub(self.looks))
+        self.nap.saturating_add(look.saturating_sub(self.looks()))
     }
 
     /// Rests after a look in vain, the first of which is look 0.
     fn rest(&self, rt: &impl Wait, look: u32) {
-        if look < self.looks {
+        if look < self.looks() {
             thread::yield_now();
         } else {
-            let nap = FIRST_NAP << self.nap_after(look).min(NAPS);
+            let nap = FIRST_NAP << self.nap_after(look).min(LONGEST);
             Parker::new().park_timeout(rt, Duration::from_micros(nap));
         }
     }
 
     /// Learns from a wait that this look ended. There was none if look 0 found room.
     fn learn(&mut self, look: u32) {
-        if look > self.looks {
-            self.nap = self.nap_after(look).saturating_sub(2).min(NAPS);
+        if look > self.looks() {
+            self.nap = self.nap_after(look).min(LONGEST + 1);
             self.looks = (self.looks / 2).max(LEAST);
+            self.sent = 0;
         } else if look > 0 {
             self.nap = self.nap.saturating_sub(1);
             self.looks = self.looks.saturating_mul(2).min(MOST);
+            self.sent = 0;
+        }
+        self.count();
+    }
+
+    /// Counts an item that was sent.
+    fn count(&mut self) {
+        self.sent = self.sent.saturating_add(1);
+        if self.sent == self.half {
+            self.nap = self.nap.saturating_sub(1);
+        }
+        if self.sent == self.most {
+            self.nap = self.nap.saturating_sub(1);
         }
     }
 }
