@@ -39,11 +39,13 @@ groups_over track =
 -- it holds of a relay whose lanes have room for a frame, after any turns
 abbrev pub WithRoom : Relay → Type 0 → Type 0
 WithRoom relay Claim =
-    (lanes : List Ends) (capacity : ℕ) (before : List Turn) → 1 ≤ capacity → HasTurned lanes capacity before relay → Claim
+    (lanes : List Ends) (capacity : ℕ) (before : List Turn) → 1 ≤ capacity
+        → HasTurned lanes capacity before relay → Claim
 
 -- it holds of one with no turns before
 abbrev pub FromStart : Relay → Type 0 → Type 0
-FromStart relay Claim = (lanes : List Ends) (capacity : ℕ) → 1 ≤ capacity → HasTurned lanes capacity [] relay → Claim
+FromStart relay Claim =
+    (lanes : List Ends) (capacity : ℕ) → 1 ≤ capacity → HasTurned lanes capacity [] relay → Claim
 
 -- the rounds of the outcomes of all frames of the lanes
 abbrev pub whole_log : Relay → List Entry

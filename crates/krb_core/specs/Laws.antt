@@ -5,12 +5,15 @@ use Rattle.krb_peers.specs.Claims.{has_ended}
 use Rattle.krb_peers.specs.Ends.{Ends, sents_of}
 use Rattle.krb_core.specs.declared.turn.Turn.{Turn}
 use Rattle.krb_core.specs.Stepped.{Relay}
-use Rattle.krb_core.specs.Relayed.{HasTurned, IsLane, OfEachLane, HaveHeadline, turned_events, entries_in, takings}
+use Rattle.krb_core.specs.Relayed.{HasTurned, IsLane, OfEachLane, HaveHeadline, turned_events}
+use Rattle.krb_core.specs.Relayed.{entries_in, takings}
 
 -- it holds of each relay of lanes after any turns
-abbrev pub OfTurned : ((lanes : List Ends) → (capacity : ℕ) → (turns : List Turn) → (relay : Relay) → HasTurned lanes capacity turns relay → Type 0) → Type 0
+abbrev pub OfTurned : ((lanes : List Ends) → (capacity : ℕ) → (turns : List Turn) → (relay : Relay)
+    → HasTurned lanes capacity turns relay → Type 0) → Type 0
 OfTurned Claim =
-    (lanes : List Ends) (capacity : ℕ) (turns : List Turn) (relay : Relay) (turned : HasTurned lanes capacity turns relay)
+    (lanes : List Ends) (capacity : ℕ) (turns : List Turn) (relay : Relay)
+        (turned : HasTurned lanes capacity turns relay)
     → Claim lanes capacity turns relay turned
 
 -- the headline holds of each lane
@@ -21,11 +24,14 @@ TurnsKeepHeadline = OfTurned (λ lanes capacity turns relay turned. HaveHeadline
 -- what its sender emits
 abbrev pub TurnsKeepLanes : Type 0
 TurnsKeepLanes = OfTurned (λ lanes capacity turns relay turned.
-    OfEachLane lanes relay (λ ends lane track. IsLane ends capacity (turned_events lane turned.begun turns) track))
+    OfEachLane lanes relay
+        (λ ends lane track. IsLane ends capacity (turned_events lane turned.begun turns) track))
 
 -- the entries are what the verdicts on the frames bring, in the order of the turns that took them
 abbrev pub EntriesFollowTurns : Type 0
-EntriesFollowTurns = OfTurned (λ lanes capacity turns relay turned. relay.log.entries ≡ entries_in (takings turned.begun turns))
+EntriesFollowTurns =
+    OfTurned (λ lanes capacity turns relay turned. relay.log.entries
+    ≡ entries_in (takings turned.begun turns))
 
 -- the log notes that a lane has ended if and only if its End was taken
 abbrev pub EndsAreNoted : Type 0

@@ -1,5 +1,6 @@
 -- What is true of a stepped relay after any turns.
-use Rattle.std.specs.Prelude.{◌≡◌, ◌≤◌, ℕ, ◌==◌, List, [], ◌∷◌, ◌++◌, length, slice_get, Option, Some, None, if◌then◌else◌}
+use Rattle.std.specs.Prelude.{◌≡◌, ◌≤◌, ℕ, ◌==◌, List, [], ◌∷◌, ◌++◌, length, slice_get, Option}
+use Rattle.std.specs.Prelude.{Some, None, if◌then◌else◌}
 use Rattle.std.specs.List.{flat_map}
 use Rattle.krb_base.specs.Limits.{lane_limit}
 use Rattle.krb_base.specs.Prefix.{IsPrefix}
@@ -31,7 +32,8 @@ pub record HasBegun (lanes : List Ends) (capacity : ℕ) (relay : Relay) : Type 
   pub log : relay.log ≡ new_log (length lanes)
 
 -- a relay of these lanes has begun, and these turns left this of it
-pub record HasTurned (lanes : List Ends) (capacity : ℕ) (turns : List Turn) (relay : Relay) : Type 0 where
+pub record HasTurned (lanes : List Ends) (capacity : ℕ) (turns : List Turn)
+    (relay : Relay) : Type 0 where
   pub begun : Relay
   pub start : HasBegun lanes capacity begun
   pub left : relay ≡ after begun turns
@@ -47,7 +49,8 @@ event_at lane turn (Some track) = if lane_of turn == lane then event_of turn tra
 abbrev pub turned_events : ℕ → Relay → List Turn → List (machine.Event (List ℕ))
 turned_events lane relay [] = []
 turned_events lane relay (turn ∷ turns) =
-    event_at lane turn (slice_get relay.tracks (lane_of turn)) ++ turned_events lane (turned relay turn) turns
+    event_at lane turn (slice_get relay.tracks (lane_of turn))
+        ++ turned_events lane (turned relay turn) turns
 
 -- ---- what turns took
 
@@ -59,7 +62,8 @@ pub record Taking : Type 0 where
 -- the first frame of a lane's queue, if there is one
 abbrev pub taking_of : ℕ → TrackState → List (Item (List ℕ)) → List Taking
 taking_of lane track [] = []
-taking_of lane track (Frame frame ∷ queue) = record { lane = lane; verdict = verdict_now track frame } ∷ []
+taking_of lane track (Frame frame ∷ queue) =
+    record { lane = lane; verdict = verdict_now track frame } ∷ []
 taking_of lane track (End ∷ queue) = []
 
 abbrev pub taking_by : Turn → TrackState → List Taking
@@ -73,7 +77,8 @@ taking_at turn (Some track) = taking_by turn track
 -- what the turns took, in their order
 abbrev pub takings : Relay → List Turn → List Taking
 takings relay [] = []
-takings relay (turn ∷ turns) = taking_at turn (slice_get relay.tracks (lane_of turn)) ++ takings (turned relay turn) turns
+takings relay (turn ∷ turns) =
+    taking_at turn (slice_get relay.tracks (lane_of turn)) ++ takings (turned relay turn) turns
 
 -- what their verdicts bring to a log, in order
 abbrev pub entries_in : List Taking → List Entry
@@ -83,7 +88,8 @@ entries_in takings = flat_map (λ taking. entries_by taking.lane taking.verdict)
 
 -- the lane is what these events leave of an empty one, and what was sent is a prefix of what its
 -- sender emits and then End
-pub record IsLane (ends : Ends) (capacity : ℕ) (events : List (machine.Event (List ℕ))) (track : TrackState) : Type 0 where
+pub record IsLane (ends : Ends) (capacity : ℕ) (events : List (machine.Event (List ℕ)))
+    (track : TrackState) : Type 0 where
   pub emits : IsWire ends.source track.wire
   pub sent : IsPrefix track.lane.sent (items_of track.wire)
   pub left : track.lane ≡ machine.after (empty capacity) events
@@ -93,11 +99,13 @@ pub record IsLane (ends : Ends) (capacity : ℕ) (events : List (machine.Event (
 
 -- the log has the verdicts on the frames that a lane's receiver took from its start on
 abbrev pub IsLogged : Ends → ℕ → List (List ℕ) → LogState → ReceiverState → List Verdict → Type 0
-IsLogged ends lane took log receiver verdicts = HasLogged ends.receiver ends.nows lane took log receiver verdicts
+IsLogged ends lane took log receiver verdicts =
+    HasLogged ends.receiver ends.nows lane took log receiver verdicts
 
 -- what was taken of a lane, with these verdicts
 abbrev pub run_of : Ends → TrackState → List Verdict → Run
-run_of ends track verdicts = record { ends = ends; took = frames track.lane.got; verdicts = verdicts }
+run_of ends track verdicts =
+    record { ends = ends; took = frames track.lane.got; verdicts = verdicts }
 
 -- the log has the verdicts on what the lane's receiver took, and the claims hold of them
 pub record HasHeadline (ends : Ends) (lane : ℕ) (track : TrackState) (log : LogState) : Type 0 where
@@ -115,7 +123,8 @@ OfEachLane lanes relay Claim =
 
 -- the headline holds of each lane
 abbrev pub HaveHeadline : List Ends → Relay → Type 0
-HaveHeadline lanes relay = OfEachLane lanes relay (λ ends lane track. HasHeadline ends lane track relay.log)
+HaveHeadline lanes relay =
+    OfEachLane lanes relay (λ ends lane track. HasHeadline ends lane track relay.log)
 
 -- ---- from turns to turns
 

@@ -13,7 +13,8 @@ use Rattle.krb_core.specs.Track.{TrackState}
 
 -- nothing was sent
 abbrev pub fresh : List (List ℕ) → ReceiverState → List ℕ → ℕ → TrackState
-fresh emitted receiver nows capacity = record { wire = emitted; lane = empty capacity; receiver = receiver; nows = nows }
+fresh emitted receiver nows capacity =
+    record { wire = emitted; lane = empty capacity; receiver = receiver; nows = nows }
 
 -- a lane that begins: all is sealed and planned, and nothing was sent
 pub record IsBegun (ends : Ends) (capacity : ℕ) (track : TrackState) (sent : Sent) : Type 0 where

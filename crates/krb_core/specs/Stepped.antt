@@ -1,5 +1,6 @@
 -- A stepped relay, and what its turns leave.
-use Rattle.std.specs.Prelude.{◌≡◌, ℕ, Bool, false, List, [], ◌∷◌, length, Option, Some, None, slice_get, slice_set}
+use Rattle.std.specs.Prelude.{◌≡◌, ℕ, Bool, false, List, [], ◌∷◌, length, Option, Some, None}
+use Rattle.std.specs.Prelude.{slice_get, slice_set}
 use Rattle.std.specs.List.{list_all}
 use Rattle.krb_base.specs.Lane.{Event, Take, has_end, is_possible}
 use Rattle.krb_peers.specs.declared.sending.Sent.{Sent}
@@ -65,4 +66,5 @@ is_done relay = list_all (λ track. has_end track.lane.got) relay.tracks
 pub record IsRelay (tracks : List TrackState) (log : LogState) (sents : List Sent) : Type 0 where
   pub lanes : length tracks ≡ log.lanes
   pub sealed : length sents ≡ length tracks
-  pub shut : (lane : ℕ) (track : TrackState) → slice_get tracks lane ≡ Some track → IsShut log lane track.receiver
+  pub shut : (lane : ℕ) (track : TrackState) → slice_get tracks lane ≡ Some track
+      → IsShut log lane track.receiver

@@ -32,12 +32,14 @@ after_send track = record track { lane = after_event track.lane (next_send track
 
 -- the verdict on a frame that is taken now
 abbrev pub verdict_now : TrackState → List ℕ → Verdict
-verdict_now track frame = verdict_by track.receiver (moment_at track.nows (length track.lane.got)) frame
+verdict_now track frame =
+    verdict_by track.receiver (moment_at track.nows (length track.lane.got)) frame
 
 -- the receiver after it has taken the first item of a queue
 abbrev pub receiver_after : TrackState → List (Item (List ℕ)) → ReceiverState
 receiver_after track [] = track.receiver
-receiver_after track (Frame frame ∷ queue) = receiver_behind track.receiver (verdict_now track frame)
+receiver_after track (Frame frame ∷ queue) =
+    receiver_behind track.receiver (verdict_now track frame)
 receiver_after track (End ∷ queue) = track.receiver
 
 abbrev pub after_take : TrackState → TrackState
@@ -60,4 +62,5 @@ log_after log lane track = log_behind log lane track track.lane.queue
 abbrev pub LogsFront : ℕ → TrackState → LogState → TrackState → LogState → Type 0
 LogsFront lane track log track-now log-now =
     (frame : List ℕ) (queue : List (Item (List ℕ))) → track.lane.queue ≡ Frame frame ∷ queue
-    → LogsNext track.receiver log lane (moment_at track.nows (length track.lane.got)) frame track-now.receiver log-now
+    → LogsNext track.receiver log lane
+        (moment_at track.nows (length track.lane.got)) frame track-now.receiver log-now

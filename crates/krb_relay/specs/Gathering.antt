@@ -1,5 +1,6 @@
 -- What fork and join over the lanes gathers.
-use Rattle.std.specs.Prelude.{◌≡◌, ℕ, ◌+◌, ◌<◌, ◌≤◌, true, false, List, [], ◌∷◌, ◌++◌, map, reverse, length, All, Option, None, Some}
+use Rattle.std.specs.Prelude.{◌≡◌, ℕ, ◌+◌, ◌<◌, ◌≤◌, true, false, List, [], ◌∷◌, ◌++◌, map, reverse}
+use Rattle.std.specs.Prelude.{length, All, Option, None, Some}
 use Rattle.std.specs.List.{AllZip}
 use Rattle.krb_base.specs.Limits.{lane_limit}
 use Rattle.krb_base.specs.Prefix.{IsPrefix}
@@ -31,14 +32,16 @@ NotesAll log lanes = (lane : ℕ) → lane < lanes → has_ended lane log ≡ tr
 
 -- The log is that of the rounds of the verdicts on the first frames of each lane, and on all of
 -- them unless the thread had a fault of its own.
-pub record Finished (starts : List Receiving) (ends now : List Side) (log : LogState) (own : Option OwnFault) : Type 0 where
+pub record Finished (starts : List Receiving) (ends now : List Side) (log : LogState)
+    (own : Option OwnFault) : Type 0 where
   pub seen : List Heard
   pub judged : All AreAnswers seen
   pub logged : log.entries ≡ rounds_heard seen
   pub begins : AllZip BeginsAt seen (all_heard starts now)
   pub lanes : log.lanes ≡ length starts
   pub same : map lane_of now ≡ map lane_of ends
-  pub whole : own ≡ None → (seen ≡ all_heard starts now) × All IsEnded now × NotesAll log (length starts)
+  pub whole : own ≡ None → (seen ≡ all_heard starts now) × All IsEnded now
+      × NotesAll log (length starts)
 
 -- one end more, of a fresh lane with this other end
 pub record Begun (ends now : List Side) (tx : Side) : Type 0 where
@@ -86,7 +89,8 @@ least lane (worker ∷ workers) = first_of worker.handed.cause lane (least (lane
 -- later lanes
 abbrev pub Counts : {S : Type 0} → List ℕ → ℕ → List (Started S) → Type 0
 Counts sealed lane [] = (later : ℕ) → lane ≤ later → sealed_on later sealed ≡ 0
-Counts sealed lane (worker ∷ workers) = (sealed_on lane sealed ≡ worker.handed.sealed) × Counts sealed (lane + 1) workers
+Counts sealed lane (worker ∷ workers) =
+    (sealed_on lane sealed ≡ worker.handed.sealed) × Counts sealed (lane + 1) workers
 
 module _ {S : Type 0} (gives : S → Side → Handed → Type 0) where
   -- the worker kept its promise, and its lane delivered what it sent
@@ -98,7 +102,9 @@ module _ {S : Type 0} (gives : S → Side → Handed → Type 0) where
 
   -- workers for the first of the parts, last part first, after these ends; what they returned, the
   -- log that their lanes leave, and how many records each sealed
-  pub record Gathers (parts : List S) (starts : List Receiving) (ends now : List Side) (log : LogState) (sealed : List ℕ) (own : Option OwnFault) (fault : Option WorkerFault) : Type 0 where
+  pub record Gathers (parts : List S) (starts : List Receiving) (ends now : List Side)
+      (log : LogState) (sealed : List ℕ) (own : Option OwnFault)
+      (fault : Option WorkerFault) : Type 0 where
     pub inner : List (Started S)
     pub unstarted : List S
     pub parts_are : reverse parts ≡ map part_of inner ++ unstarted
@@ -114,11 +120,13 @@ module _ {S : Type 0} (gives : S → Side → Handed → Type 0) where
     pub named : fault ≡ least (length ends) inner
     pub whole :
         own ≡ None
-        → (unstarted ≡ []) × (seen ≡ all_heard starts (now ++ map got_by inner)) × All IsEnded now × All HasEnded inner
+        → (unstarted ≡ []) × (seen ≡ all_heard starts (now ++ map got_by inner)) × All IsEnded now
+            × All HasEnded inner
         × NotesAll log (length starts)
 
   -- the last lane was met, and its worker kept its promise
-  pub record Leaves (ends now : List Side) (part : S) (tx : Side) (sealed : ℕ) (cause : Option Cause) : Type 0 where
+  pub record Leaves (ends now : List Side) (part : S) (tx : Side) (sealed : ℕ)
+      (cause : Option Cause) : Type 0 where
     pub mine : Side
     pub handed : Handed
     pub split : ends ≡ now ++ mine ∷ []

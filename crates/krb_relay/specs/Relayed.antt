@@ -19,7 +19,8 @@ pub record IsLeast (runs : List Run) (lane : ℕ) (cause : Cause) : Type 0 where
   pub run : Run
   pub named : slice_get runs lane ≡ Some run
   pub reason : IsTrueOf run.ends.source run.took cause
-  pub below : (other : ℕ) (its : Run) → other < lane → slice_get runs other ≡ Some its → IsWholeRun its
+  pub below : (other : ℕ) (its : Run) → other < lane → slice_get runs other ≡ Some its
+      → IsWholeRun its
 
 -- A bad plan and a wiped sealer are named at the least lane that has one.
 abbrev pub NamesLeast : List Run → ℕ → Cause → Type 0

@@ -1,5 +1,6 @@
 -- What a worker sends of its sender's wire.
-use Rattle.std.specs.Prelude.{◌≡◌, ℕ, ◌≤◌, ◌-◌, ◌⊎◌, Bool, true, false, List, [], length, take, Option, Some, None}
+use Rattle.std.specs.Prelude.{◌≡◌, ℕ, ◌≤◌, ◌-◌, ◌⊎◌, Bool, true, false, List, [], length, take}
+use Rattle.std.specs.Prelude.{Option, Some, None}
 use Rattle.krb_lane.specs.Side.{Side}
 use Rattle.krb_peers.specs.declared.plan.Emit.{Emit}
 use Rattle.krb_peers.specs.Plan.{wire}
@@ -15,7 +16,8 @@ with_plan plan source = record source { plan = plan }
 
 -- under a plan nothing is sent before all records are sealed
 abbrev pub WaitsForAll : Source → ℕ → List (List ℕ) → Type 0
-WaitsForAll source count sent = (source.plan ≡ None) ⊎ (count ≡ length (records source)) ⊎ (sent ≡ [])
+WaitsForAll source count sent =
+    (source.plan ≡ None) ⊎ (count ≡ length (records source)) ⊎ (sent ≡ [])
 
 -- the sender sealed its first `count` records, as these frames
 pub record HasSealedSome (source : Source) (count : ℕ) : Type 0 where
