@@ -34,10 +34,10 @@ body_fits : SmallPart → SmallSafe → SmallPrivate → (mode : Mode) (etype : 
     → carried b ≤ n + 80 → SealsBody mode etype key conf b frame → length frame ≤ n + 416
 body_fits parts safes privates Safe etype key conf b frame n small h =
     subst (λ (z : List ℕ). length z ≤ n + 416) (sym h.spelt.spelt)
-    (omega (arith, safes (sealed_safe etype key b), length-hmac96 (checksum_key key) (safe_input (unsigned etype b))))
+    (omega (arith, safes (sealed_safe h.etype key b), length-hmac96 (checksum_key key) (safe_input (unsigned h.etype b))))
 body_fits parts safes privates Priv etype key conf b frame n small h =
     subst (λ (z : List ℕ). length z ≤ n + 416) (sym h.spelt.spelt)
-    (omega (arith, privates (sealed_priv etype key conf b), parts b, h.confounder, length-append conf (part b), length-encrypted key (conf ++ part b) (omega (arith, h.confounder, length-append conf (part b)))))
+    (omega (arith, privates (sealed_priv h.etype key conf b), parts b, h.confounder, length-append conf (part b), length-encrypted key (conf ++ part b) (omega (arith, h.confounder, length-append conf (part b)))))
 
 pub fits_frames : SmallPart → SmallSafe → SmallPrivate → (n : ℕ) → FitsFrames n (frame_room n)
 fits_frames parts safes privates n s user at conf frame short size h =

@@ -12,7 +12,7 @@ use Rattle.std.proofs.lemmas.Option.{slice_get-get_or, slice_get_within}
 use Rattle.krb_base.specs.Prefix.{IsPrefix}
 use Rattle.krb_seal.specs.declared.refusal.Refusal.{Refusal}
 use Rattle.krb_seal.specs.Opens.{OpenerState, Opens, opener_of}
-use Rattle.krb_seal.proofs.SealedFrames.{nowhere_else, one_frame}
+use Rattle.krb_seal.proofs.SealedFrames.{nowhere_else, same_frame}
 use Rattle.krb_peers.specs.declared.record.Record.{Record}
 use Rattle.krb_peers.specs.declared.record.Record.TheVariants as records
 use Rattle.krb_peers.specs.declared.delivery.Delivery.{Delivery}
@@ -372,5 +372,4 @@ same_frames source carried some others a b =
     let within : k < length carried = omega (arith, slice_get_within some k x at-x, a.one_each) in
     let r = get_or carried k records.Close in
     let at-r : slice_get carried k ≡ Some r = slice_get-get_or carried k records.Close within in
-    one_frame s.etype s.key s.session (s.next + k) (bytes_of r) _ _ x (a.each k r x at-r at-x)
-    ∙ sym (one_frame s.etype s.key s.session (s.next + k) (bytes_of r) _ _ y (b.each k r y at-r at-y)))
+    same_frame s.etype s.key s.session (s.next + k) (bytes_of r) _ _ x y (a.each k r x at-r at-x) (b.each k r y at-r at-y))

@@ -18,11 +18,13 @@ use Rattle.krb_seal.specs.declared.session.Mode.TheVariants.{Safe, Priv}
 use Rattle.krb_seal.specs.declared.session.Session.{Session}
 use Rattle.krb_seal.specs.declared.session.Expect.{Expect}
 use Rattle.krb_seal.specs.Keys.{encryption_key, tag_of}
-use Rattle.krb_seal.specs.Seals.{Seals, body_of, checksum_type, safe_checksum, sealed_as, sealed_message, sealed_priv, sealed_safe}
+use Rattle.krb_seal.specs.Etype.{number_of}
+use Rattle.krb_seal.specs.Seals.{Seals, body_of, safe_checksum, sealed_as, sealed_message, sealed_priv, sealed_safe}
 use Rattle.krb_seal.specs.Opens.{OpenerState, Read, Decrypt, OpensPart, OpensText, OpensMessage, opener_of, frame_checks, safe_checks, priv_header, text_checks, body_checks, is_safe}
 use Rattle.krb_seal.specs.Authentic.{Authenticity, GivesBody, AuthenticText, AuthenticMessage, authentic_checks}
 use Rattle.krb_seal.specs.Laws.{OpensTheAuthentic, SealedIsAuthentic}
-use Rattle.krb_seal.proofs.SealedFrames.{met_all, all_met, encrypts, short_part, int_same, bytes_same}
+use Rattle.krb_seal.proofs.Etypes.{int_is, own_checksum}
+use Rattle.krb_seal.proofs.SealedFrames.{met_all, all_met, encrypts, short_part, bytes_same}
 use Rattle.krb_seal.proofs.Checking.{priv_goes_on}
 
 same_body : (a b : Body) → ◌≡◌ {A = Authenticity} (Ok a) (Ok b) → b ≡ a
@@ -107,23 +109,23 @@ opens_the_authentic o number now bytes user = (
 -- ---- a sealed frame
 
 mode_authentic : (mode : Mode) (etype : ℤ) (key : List ℕ) (s : Session) (x : Expect) (q at : ℕ) (user conf bytes : List ℕ)
-    → s.mode ≡ mode → Seals etype key s q user at conf bytes → s.mode ≡ x.mode
-    → AuthenticMessage (opener_of etype key x) (sealed_as mode etype key conf (body_of s q user at)) (Ok (body_of s q user at))
+    → s.mode ≡ mode → (h : Seals etype key s q user at conf bytes) → s.mode ≡ x.mode
+    → AuthenticMessage (opener_of etype key x) (sealed_as mode h.etype key conf (body_of s q user at)) (Ok (body_of s q user at))
 mode_authentic Safe etype key s x q at user conf bytes e h g =
     let o : OpenerState = opener_of etype key x in
     let b : Body = body_of s q user at in
-    let m : SafeMsg = sealed_safe etype key b in
+    let m : SafeMsg = sealed_safe h.etype key b in
     let is : is_safe x.mode ≡ true = ap is_safe (sym g ∙ e) in
     all_met (authentic_checks o m) (GivesBody b) (Ok b)
-    (refl, (and_from _ _ is refl, (int_same (checksum_type etype), (bytes_same (safe_checksum key m), tt)))) refl
+    (refl, (and_from _ _ is refl, (own_checksum h.etype etype h.known, (bytes_same (safe_checksum key m), tt)))) refl
 mode_authentic Priv etype key s x q at user conf bytes e h g =
     let o : OpenerState = opener_of etype key x in
     let b : Body = body_of s q user at in
-    let m : PrivMsg = sealed_priv etype key conf b in
+    let m : PrivMsg = sealed_priv h.etype key conf b in
     let text : List ℕ = conf ++ part b in
     let is : is_safe x.mode ≡ false = ap is_safe (sym g ∙ e) in
-    let spelt : Spells (messages.Priv m) bytes = subst (λ (z : Mode). Spells (sealed_as z etype key conf b) bytes) e h.spelt in
-    let own : SpellsPart b (part b) = record { in_range = h.body; spelt = refl; short = short_part etype key conf b bytes h.confounder spelt } in
+    let spelt : Spells (messages.Priv m) bytes = subst (λ (z : Mode). Spells (sealed_as z h.etype key conf b) bytes) e h.spelt in
+    let own : SpellsPart b (part b) = record { in_range = h.body; spelt = refl; short = short_part h.etype key conf b bytes h.confounder spelt } in
     let w : List ℕ = expanded_key (encryption_key key) in
     let enc = encrypts etype key s q at user conf bytes e h in
     let long : 28 ≤ length m.cipher = omega (arith, length-append (cts w text) (tag_of key text), length-cts w text enc.long, enc.long, enc.twelve) in
@@ -131,10 +133,10 @@ mode_authentic Priv etype key s x q at user conf bytes e h g =
     let plain : AuthenticText key text (tag_of key text) (Ok b) =
     all_met (text_checks key text (tag_of key text)) (Read SpellsPart (drop 16 text) GivesBody) (Ok b) (bytes_same (tag_of key text), tt)
     (subst (λ (z : List ℕ). Read SpellsPart z GivesBody (Ok b)) (sym back) (inr (b, own, refl))) in
-    all_met (priv_header o.etype o.expect m) (Decrypt o.key m.cipher (AuthenticText o.key)) (Ok b) (refl, (and_from _ _ (ap not is) refl, (int_same etype, (le-leb 28 (length m.cipher) long, tt)))) (text, tag_of key text, enc, plain)
+    all_met (priv_header o.etype o.expect m) (Decrypt o.key m.cipher (AuthenticText o.key)) (Ok b) (refl, (and_from _ _ (ap not is) refl, (int_is (number_of h.etype) etype h.known, (le-leb 28 (length m.cipher) long, tt)))) (text, tag_of key text, enc, plain)
 
 pub sealed_is_authentic : SealedIsAuthentic
 sealed_is_authentic etype key s x q at user conf bytes h g =
     let o : OpenerState = opener_of etype key x in
     all_met (frame_checks bytes) (Read Spells bytes (AuthenticMessage o)) (Ok (body_of s q user at)) (le-leb (length bytes) frame_limit h.spelt.short, tt)
-    (inr (sealed_message etype key s q user at conf, h.spelt, mode_authentic s.mode etype key s x q at user conf bytes refl h g))
+    (inr (sealed_message h.etype key s q user at conf, h.spelt, mode_authentic s.mode etype key s x q at user conf bytes refl h g))

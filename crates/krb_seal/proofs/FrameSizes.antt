@@ -1,5 +1,5 @@
 -- The size of a frame, from the length of what it carries.
-use Rattle.std.proofs.Common.{◌≡◌, ℕ, ◌+◌, ◌^◌, ◌<◌, ◌≤◌, ℤ, List, [], ◌++◌, length, replicate, sym, ap, subst, ◌∙◌, arith, length-append}
+use Rattle.std.proofs.Common.{◌≡◌, ℕ, ◌+◌, ◌^◌, ◌<◌, ◌≤◌, List, [], ◌++◌, length, replicate, sym, ap, subst, ◌∙◌, arith, length-append}
 use Rattle.std.proofs.lemmas.List.{length-replicate}
 use Rattle.krb_base.specs.Limits.{frame_limit, user_data_limit}
 use Rattle.krb_keys.proofs.HmacLemmas.{length-hmac96}
@@ -10,10 +10,13 @@ use Rattle.krb_der.specs.Safe.{safe_input}
 use Rattle.krb_der.specs.Size.{with_data, HasPartSize, HasSafeSize, HasPrivateSize}
 use Rattle.krb_der.proofs.Sizes.{small_part}
 use Rattle.krb_seal.specs.declared.session.Mode.TheVariants.{Safe, Priv}
+use Rattle.krb_seal.specs.declared.etype.Etype.{Etype}
+use Rattle.krb_seal.specs.Etype.{number_of}
 use Rattle.krb_seal.specs.Keys.{checksum_key, encrypted}
 use Rattle.krb_seal.specs.Seals.{SealsBody, body_of, safe_checksum, unsigned, unenciphered}
 use Rattle.krb_seal.specs.Body.{HasSmallAddresses, HasSizeOf}
 use Rattle.krb_seal.specs.Sealer.{SealerState, HasFrameSize}
+use Rattle.krb_seal.proofs.Etypes.{one_number}
 use Rattle.krb_seal.proofs.Frames.{length-encrypted, optional-small}
 
 -- a part, with a confounder and a code around it, is no longer than a message may be
@@ -29,19 +32,23 @@ part_within b n size small le is =
       optional-small b.r_addr small.receiver,
     )
 
-pub priv_size_of : (etype : ℤ) (b : Body) (n inner size : ℕ) → HasPartSize b n inner → HasPrivateSize (unenciphered etype) (16 + inner + 12) size
-    → HasSizeOf Priv etype b n size
+pub priv_size_of : (etype : Etype) (b : Body) (n inner size : ℕ) → HasPartSize b n inner → HasPrivateSize (unenciphered etype) (16 + inner + 12) size
+    → HasSizeOf Priv (number_of etype) b n size
 priv_size_of etype b n inner size parts sizes key user conf frame same h =
     let text : List ℕ = conf ++ part (with_data user b) in
     let long : length text ≡ 16 + inner = omega (arith, length-append conf (part (with_data user b)), h.confounder, parts user same) in
     let cipher : length (encrypted key text) ≡ 16 + inner + 12 = omega (arith, long, length-encrypted key text (omega (arith, long))) in
-    ap length h.spelt.spelt ∙ sizes (encrypted key text) cipher
+    let own : HasPrivateSize (unenciphered h.etype) (16 + inner + 12) size =
+    subst (λ (z : Etype). HasPrivateSize (unenciphered z) (16 + inner + 12) size) (sym (one_number h.etype etype h.known)) sizes in
+    ap length h.spelt.spelt ∙ own (encrypted key text) cipher
 
-pub safe_size_of : (etype : ℤ) (m : SafeMsg) (n size : ℕ) → m ≡ unsigned etype m.body → HasSafeSize m 12 n size → HasSizeOf Safe etype m.body n size
+pub safe_size_of : (etype : Etype) (m : SafeMsg) (n size : ℕ) → m ≡ unsigned etype m.body → HasSafeSize m 12 n size → HasSizeOf Safe (number_of etype) m.body n size
 safe_size_of etype m n size is sizes key user conf frame same h =
     let told : HasSafeSize (unsigned etype m.body) 12 n size = subst (λ (x : SafeMsg). HasSafeSize x 12 n size) is sizes in
-    let sum : List ℕ = safe_checksum key (unsigned etype (with_data user m.body)) in
-    ap length h.spelt.spelt ∙ told user sum same (length-hmac96 (checksum_key key) (safe_input (unsigned etype (with_data user m.body))))
+    let own : HasSafeSize (unsigned h.etype m.body) 12 n size =
+    subst (λ (z : Etype). HasSafeSize (unsigned z m.body) 12 n size) (sym (one_number h.etype etype h.known)) told in
+    let sum : List ℕ = safe_checksum key (unsigned h.etype (with_data user m.body)) in
+    ap length h.spelt.spelt ∙ own user sum same (length-hmac96 (checksum_key key) (safe_input (unsigned h.etype (with_data user m.body))))
 
 -- a frame has the next number, which is below the end of all
 pub next_size : (s : SealerState) (number at n size : ℕ) (b : Body) → (s.next < 2 ^ 32 → number ≡ s.next) → b ≡ body_of s.session number [] at

@@ -1,5 +1,5 @@
 -- From the spellings that the code wrote to the frame.
-use Rattle.std.proofs.Common.{◌≡◌, ℕ, ◌+◌, ◌≤◌, ℤ, List, ◌++◌, length, take, drop, replicate, Option, Some, None, Result, Ok, Err, refl, sym, ap, subst, ◌∙◌, arith, length-append}
+use Rattle.std.proofs.Common.{◌≡◌, ℕ, ◌+◌, ◌≤◌, List, ◌++◌, length, take, drop, replicate, Option, Some, None, Result, Ok, Err, refl, sym, ap, subst, ◌∙◌, arith, length-append}
 use Rattle.std.proofs.lemmas.List.{length-replicate}
 use Rattle.krb_aes.specs.Keys.{expanded_key}
 use Rattle.krb_aes.specs.Stealing.{cts}
@@ -24,6 +24,8 @@ use Rattle.krb_der.specs.Safe.{safe, safe_input, without_checksum}
 use Rattle.krb_der.proofs.Sizes.{small_part, small_safe, small_private, shorter_input}
 use Rattle.krb_der.specs.declared.private.Draft.{Draft}
 use Rattle.krb_seal.specs.declared.session.Mode.TheVariants.{Priv}
+use Rattle.krb_seal.specs.declared.etype.Etype.{Etype}
+use Rattle.krb_seal.specs.Etype.{number_of}
 use Rattle.krb_seal.specs.Keys.{encryption_key, integrity_key, tag_of, encrypted}
 use Rattle.krb_seal.specs.Seals.{safe_checksum, SealsBody, unenciphered, priv_of}
 use Rattle.krb_seal.specs.Session.{IsShortAddress, session_address_limit}
@@ -69,11 +71,11 @@ length-encrypted key text long =
     let w : List ℕ = expanded_key (encryption_key key) in
     omega (arith, length-append (cts w text) (tag_of key text), length-cts w text long, length-hmac96 (integrity_key key) text)
 
-sealed_draft : (etype : ℤ) (key conf : List ℕ) (b : Body) (draft : Draft) (frame : List ℕ) → length conf ≡ 16
+sealed_draft : (etype : Etype) (key conf : List ℕ) (b : Body) (draft : Draft) (frame : List ℕ) → length conf ≡ 16
     → IsDraft (unenciphered etype) conf b (length conf + length (part b) + 12) draft
     → frame ≡ take draft.start draft.bytes.items ++ encrypted key (drop draft.start draft.bytes.items)
     → AreBytes (drop draft.start draft.bytes.items)
-    → SealsBody Priv etype key conf b frame
+    → SealsBody Priv (number_of etype) key conf b frame
 sealed_draft etype key conf b draft frame size d is plain =
     let text : List ℕ = conf ++ part b in
     let front : List ℕ = take draft.start draft.bytes.items in
@@ -81,17 +83,19 @@ sealed_draft etype key conf b draft frame size d is plain =
     let long : length (encrypted key text) ≡ length conf + length (part b) + 12 =
     omega (arith, length-append conf (part b), length-encrypted key text (omega (arith, length-append conf (part b)))) in
     record {
+      etype = etype;
+      known = refl;
       body = d.body;
       confounder = size;
       plain = λ _. subst (λ (t : List ℕ). AreBytes t) d.text plain;
       spelt = subst (λ (s : List ℕ). Spells (messages.Priv (priv_of etype key text)) s) (sym same) (d.front (encrypted key text) long);
     }
 
-pub seals_draft : {E : Type 0} (etype : ℤ) (key conf : List ℕ) (b : Body) (draft : Draft) (r : Result (Vec ℕ) E) → length conf ≡ 16
+pub seals_draft : {E : Type 0} (etype : Etype) (key conf : List ℕ) (b : Body) (draft : Draft) (r : Result (Vec ℕ) E) → length conf ≡ 16
     → IsDraft (unenciphered etype) conf b (length conf + length (part b) + 12) draft
     → IfOk r (λ frame. frame.items ≡ take draft.start draft.bytes.items ++ encrypted key (drop draft.start draft.bytes.items))
     → OnOk r (AreBytes (drop draft.start draft.bytes.items))
-    → IfOk r (λ frame. SealsBody Priv etype key conf b frame.items)
+    → IfOk r (λ frame. SealsBody Priv (number_of etype) key conf b frame.items)
 seals_draft etype key conf b draft (Ok frame) size d is plain = sealed_draft etype key conf b draft frame.items size d is plain
 seals_draft etype key conf b draft (Err e) size d is plain = tt
 

@@ -1,3 +1,4 @@
+pub mod Etypes
 pub mod CipherTexts
 pub mod Outcomes
 pub mod SealedFrames

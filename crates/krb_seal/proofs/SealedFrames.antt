@@ -1,9 +1,8 @@
 -- What opening a sealed frame gives.
-use Rattle.std.proofs.Common.{◌≡◌, ℕ, ◌*◌, ◌≤◌, ℤ, Bool, true, false, not, ◌&&◌, List, [], ◌∷◌, ◌++◌, length, drop, Option, Some, None, Result, Ok, refl, sym, ap, subst, ◌∙◌, inl, inr, arith, length-append}
+use Rattle.std.proofs.Common.{◌≡◌, ℕ, ◌*◌, ◌≤◌, ℤ, true, false, not, List, [], ◌∷◌, ◌++◌, length, drop, Option, Some, None, Result, Ok, refl, sym, ap, subst, ◌∙◌, inl, inr, arith, length-append}
 use Rattle.std.specs.Ordering.{int_eq}
 use Rattle.std.specs.Str.{bytes_eq}
 use Rattle.std.proofs.lemmas.Bool.{and_from, eqb-true, eq-eqb, le-leb}
-use Rattle.std.proofs.lemmas.Bool.Decides.{Decides-int_eq}
 use Rattle.std.proofs.lemmas.Slice.Eq.{bytes_eq-Decides}
 use Rattle.std.proofs.lemmas.List.{drop_at}
 use Rattle.krb_aes.specs.Stealing.{cts}
@@ -23,7 +22,7 @@ use Rattle.krb_der.specs.Moment.{micros_per_second, moment_of, secs_of, usec_of}
 use Rattle.krb_der.specs.Address.{same_address}
 use Rattle.krb_der.specs.Body.{part}
 use Rattle.krb_der.specs.Private.{private, private_fields, encrypted_data, encrypted_fields}
-use Rattle.krb_der.specs.Message.{Spells, SpellsPart}
+use Rattle.krb_der.specs.Message.{message, Spells, SpellsPart}
 use Rattle.krb_der.proofs.Grammar.{messages_unique, parts_unique}
 use Rattle.krb_tlv.proofs.Readers.{length-tagged}
 use Rattle.krb_seal.specs.declared.session.Mode.{Mode}
@@ -31,10 +30,13 @@ use Rattle.krb_seal.specs.declared.session.Mode.TheVariants.{Safe, Priv}
 use Rattle.krb_seal.specs.declared.session.Session.{Session}
 use Rattle.krb_seal.specs.declared.session.Expect.{Expect}
 use Rattle.krb_seal.specs.declared.refusal.Refusal.{Refusal}
+use Rattle.krb_seal.specs.declared.etype.Etype.{Etype}
 use Rattle.krb_seal.specs.Keys.{encryption_key, tag_of, encrypted}
-use Rattle.krb_seal.specs.Seals.{safe_checksum, checksum_type, body_of, sealed_safe, sealed_priv, sealed_as, sealed_message, sealed, Seals}
+use Rattle.krb_seal.specs.Etype.{number_of}
+use Rattle.krb_seal.specs.Seals.{safe_checksum, body_of, sealed_safe, sealed_priv, sealed_as, sealed_message, sealed, Seals}
 use Rattle.krb_seal.specs.Opens.{OpenerState, Outcome, Checks, Passes, Read, Decrypt, IsEncryption, OpensPart, OpensText, OpensMessage, opener_of, frame_checks, safe_checks, priv_header, text_checks, body_checks, receiver_fits, addresses_fit, is_current, is_number, is_safe, distance}
 use Rattle.krb_seal.specs.Laws.{ReceiverAgrees, Agree, OneFrame, NowhereElse, AtItsNumber}
+use Rattle.krb_seal.proofs.Etypes.{one_number, int_is, own_checksum}
 use Rattle.krb_seal.proofs.CipherTexts.{one_text}
 
 -- ---- checks that are met
@@ -100,7 +102,7 @@ encrypts etype key s q at user conf bytes e h = record {
   image = refl;
 }
 
-pub short_part : (etype : ℤ) (key conf : List ℕ) (b : Body) (bytes : List ℕ) → length conf ≡ 16 → Spells (messages.Priv (sealed_priv etype key conf b)) bytes → length (part b) ≤ frame_limit
+pub short_part : (etype : Etype) (key conf : List ℕ) (b : Body) (bytes : List ℕ) → length conf ≡ 16 → Spells (messages.Priv (sealed_priv etype key conf b)) bytes → length (part b) ≤ frame_limit
 short_part etype key conf b bytes size h =
     let m : PrivMsg = sealed_priv etype key conf b in
     let text : List ℕ = conf ++ part b in
@@ -115,7 +117,7 @@ number_is number q seq e h =
     let t : is_number number (Some q) ≡ true = subst (λ (y : Option ℕ). is_number number y ≡ true) e h in
     sym (eqb-true q number t)
 
-safe_nowhere : (o : OpenerState) (etype : ℤ) (key : List ℕ) (b : Body) (q number now : ℕ) (given : List ℕ) → b.seq ≡ Some q
+safe_nowhere : (o : OpenerState) (etype : Etype) (key : List ℕ) (b : Body) (q number now : ℕ) (given : List ℕ) → b.seq ≡ Some q
     → OpensMessage o number now (messages.Safe (sealed_safe etype key b)) (Ok given) → (number ≡ q) × (given ≡ b.user_data)
 safe_nowhere o etype key b q number now given e h =
     let a = met_all (safe_checks o number now (sealed_safe etype key b)) (λ y. y ≡ Ok b.user_data) given h in
@@ -130,7 +132,7 @@ part_nowhere o b q number now given bytes e own (inr r) =
     let a = met_all (body_checks o.expect number now b) (λ y. y ≡ Ok b.user_data) given then in
     (number_is number q b.seq e a.0.1.1.0, same_data given b.user_data a.1)
 
-priv_nowhere : (o : OpenerState) (etype : ℤ) (conf : List ℕ) (b : Body) (q number now : ℕ) (given : List ℕ) → b.seq ≡ Some q → length conf ≡ 16 → SpellsPart b (part b)
+priv_nowhere : (o : OpenerState) (etype : Etype) (conf : List ℕ) (b : Body) (q number now : ℕ) (given : List ℕ) → b.seq ≡ Some q → length conf ≡ 16 → SpellsPart b (part b)
     → IsEncryption o.key (encrypted o.key (conf ++ part b)) (conf ++ part b) (tag_of o.key (conf ++ part b))
     → OpensMessage o number now (messages.Priv (sealed_priv etype o.key conf b)) (Ok given) → (number ≡ q) × (given ≡ b.user_data)
 priv_nowhere o etype conf b q number now given e size own enc h =
@@ -145,14 +147,14 @@ priv_nowhere o etype conf b q number now given e size own enc h =
     part_nowhere o b q number now given (part b) e own (subst (λ (z : List ℕ). Read SpellsPart z (OpensPart o.expect number now) (Ok given)) back c.1)
 
 mode_nowhere : (mode : Mode) (etype : ℤ) (key : List ℕ) (s : Session) (x : Expect) (q at now number : ℕ) (user conf bytes given : List ℕ)
-    → s.mode ≡ mode → Seals etype key s q user at conf bytes
-    → OpensMessage (opener_of etype key x) number now (sealed_as mode etype key conf (body_of s q user at)) (Ok given) → (number ≡ q) × (given ≡ user)
+    → s.mode ≡ mode → (h : Seals etype key s q user at conf bytes)
+    → OpensMessage (opener_of etype key x) number now (sealed_as mode h.etype key conf (body_of s q user at)) (Ok given) → (number ≡ q) × (given ≡ user)
 mode_nowhere Safe etype key s x q at now number user conf bytes given e h p =
-    safe_nowhere (opener_of etype key x) etype key (body_of s q user at) q number now given refl p
+    safe_nowhere (opener_of etype key x) h.etype key (body_of s q user at) q number now given refl p
 mode_nowhere Priv etype key s x q at now number user conf bytes given e h p =
-    let spelt : Spells (messages.Priv (sealed_priv etype key conf (body_of s q user at))) bytes = subst (λ (z : Mode). Spells (sealed_as z etype key conf (body_of s q user at)) bytes) e h.spelt in
-    let own : SpellsPart (body_of s q user at) (part (body_of s q user at)) = record { in_range = h.body; spelt = refl; short = short_part etype key conf (body_of s q user at) bytes h.confounder spelt } in
-    priv_nowhere (opener_of etype key x) etype conf (body_of s q user at) q number now given refl h.confounder own (encrypts etype key s q at user conf bytes e h) p
+    let spelt : Spells (messages.Priv (sealed_priv h.etype key conf (body_of s q user at))) bytes = subst (λ (z : Mode). Spells (sealed_as z h.etype key conf (body_of s q user at)) bytes) e h.spelt in
+    let own : SpellsPart (body_of s q user at) (part (body_of s q user at)) = record { in_range = h.body; spelt = refl; short = short_part h.etype key conf (body_of s q user at) bytes h.confounder spelt } in
+    priv_nowhere (opener_of etype key x) h.etype conf (body_of s q user at) q number now given refl h.confounder own (encrypts etype key s q at user conf bytes e h) p
 
 pub nowhere_else : NowhereElse
 nowhere_else etype key s x q at now number user conf bytes given h p =
@@ -163,14 +165,14 @@ nowhere_else etype key s x q at now number user conf bytes given h p =
     read_back : Read Spells bytes (OpensMessage (opener_of etype key x) number now) (Ok given) → (number ≡ q) × (given ≡ user)
     read_back (inl r) = absurd cc
     read_back (inr r) =
-        let m : Message = sealed_message etype key s q user at conf in
+        let m : Message = sealed_message h.etype key s q user at conf in
         let same : r.0 ≡ m = (messages_unique r.0 m bytes bytes [] [] r.1 h.spelt refl).0 in
         mode_nowhere s.mode etype key s x q at now number user conf bytes given refl h (subst (λ (z : Message). OpensMessage (opener_of etype key x) number now z (Ok given)) same r.2)
 
 -- ---- the data at its own number
 
-pub int_same : (a : ℤ) → int_eq a a ≡ true
-int_same a = (Decides-int_eq a a).1 refl
+int_same : (a : ℤ) → int_eq a a ≡ true
+int_same a = int_is a a refl
 
 pub bytes_same : (a : List ℕ) → bytes_eq a a ≡ true
 bytes_same a = (bytes_eq-Decides a a).1 refl
@@ -191,22 +193,22 @@ current_same s x at now h =
     le-leb _ _ (subst (λ (z : ℕ). distance now z ≤ micros_per_second * x.skew) (sym back) h.current)
 
 mode_opens : (mode : Mode) (etype : ℤ) (key : List ℕ) (s : Session) (x : Expect) (q at now : ℕ) (user conf bytes : List ℕ)
-    → s.mode ≡ mode → Seals etype key s q user at conf bytes → Agree s x at now
-    → OpensMessage (opener_of etype key x) q now (sealed_as mode etype key conf (body_of s q user at)) (Ok user)
+    → s.mode ≡ mode → (h : Seals etype key s q user at conf bytes) → Agree s x at now
+    → OpensMessage (opener_of etype key x) q now (sealed_as mode h.etype key conf (body_of s q user at)) (Ok user)
 mode_opens Safe etype key s x q at now user conf bytes e h g =
     let o : OpenerState = opener_of etype key x in
     let b : Body = body_of s q user at in
     let is : is_safe x.mode ≡ true = ap is_safe (sym g.mode ∙ e) in
-    all_met (safe_checks o q now (sealed_safe etype key b)) (λ y. y ≡ Ok b.user_data) (Ok user)
-    (refl, (and_from _ _ is refl, (int_same (checksum_type etype), (addresses_same s x q at now user g, (current_same s x at now g, (eq-eqb q q refl, (bytes_same (safe_checksum key (sealed_safe etype key b)), tt))))))) refl
+    all_met (safe_checks o q now (sealed_safe h.etype key b)) (λ y. y ≡ Ok b.user_data) (Ok user)
+    (refl, (and_from _ _ is refl, (own_checksum h.etype etype h.known, (addresses_same s x q at now user g, (current_same s x at now g, (eq-eqb q q refl, (bytes_same (safe_checksum key (sealed_safe h.etype key b)), tt))))))) refl
 mode_opens Priv etype key s x q at now user conf bytes e h g =
     let o : OpenerState = opener_of etype key x in
     let b : Body = body_of s q user at in
-    let m : PrivMsg = sealed_priv etype key conf b in
+    let m : PrivMsg = sealed_priv h.etype key conf b in
     let text : List ℕ = conf ++ part b in
     let is : is_safe x.mode ≡ false = ap is_safe (sym g.mode ∙ e) in
-    let spelt : Spells (messages.Priv m) bytes = subst (λ (z : Mode). Spells (sealed_as z etype key conf b) bytes) e h.spelt in
-    let own : SpellsPart b (part b) = record { in_range = h.body; spelt = refl; short = short_part etype key conf b bytes h.confounder spelt } in
+    let spelt : Spells (messages.Priv m) bytes = subst (λ (z : Mode). Spells (sealed_as z h.etype key conf b) bytes) e h.spelt in
+    let own : SpellsPart b (part b) = record { in_range = h.body; spelt = refl; short = short_part h.etype key conf b bytes h.confounder spelt } in
     let w : List ℕ = expanded_key (encryption_key key) in
     let enc = encrypts etype key s q at user conf bytes e h in
     let long : 28 ≤ length m.cipher = omega (arith, length-append (cts w text) (tag_of key text), length-cts w text enc.long, enc.long, enc.twelve) in
@@ -216,15 +218,22 @@ mode_opens Priv etype key s x q at now user conf bytes e h g =
     let plain : OpensText o q now text (tag_of key text) (Ok user) =
     all_met (text_checks o.key text (tag_of key text)) (Read SpellsPart (drop 16 text) (OpensPart o.expect q now)) (Ok user) (bytes_same (tag_of key text), tt)
     (subst (λ (z : List ℕ). Read SpellsPart z (OpensPart o.expect q now) (Ok user)) (sym back) inside) in
-    all_met (priv_header o.etype o.expect m) (Decrypt o.key m.cipher (OpensText o q now)) (Ok user) (refl, (and_from _ _ (ap not is) refl, (int_same etype, (le-leb 28 (length m.cipher) long, tt)))) (text, tag_of key text, enc, plain)
+    all_met (priv_header o.etype o.expect m) (Decrypt o.key m.cipher (OpensText o q now)) (Ok user) (refl, (and_from _ _ (ap not is) refl, (int_is (number_of h.etype) etype h.known, (le-leb 28 (length m.cipher) long, tt)))) (text, tag_of key text, enc, plain)
 
 pub at_its_number : AtItsNumber
 at_its_number etype key s x q at now user conf bytes h g =
     let o : OpenerState = opener_of etype key x in
     all_met (frame_checks bytes) (Read Spells bytes (OpensMessage o q now)) (Ok user) (le-leb (length bytes) frame_limit h.spelt.short, tt)
-    (inr (sealed_message etype key s q user at conf, h.spelt, mode_opens s.mode etype key s x q at now user conf bytes refl h g))
+    (inr (sealed_message h.etype key s q user at conf, h.spelt, mode_opens s.mode etype key s x q at now user conf bytes refl h g))
 
 -- a sealed frame is the bytes of its message
 pub one_frame : OneFrame
 unfolding sealed
-one_frame etype key s q user at conf bytes h = h.spelt.spelt
+one_frame etype key s q user at conf bytes h =
+    h.spelt.spelt ∙ ap (λ (z : Etype). message (sealed_message z key s q user at conf)) (one_number h.etype etype h.known)
+
+-- two frames that seal one message are the same bytes
+pub same_frame : (etype : ℤ) (key : List ℕ) (s : Session) (q : ℕ) (user : List ℕ) (at : ℕ) (conf a b : List ℕ)
+    → Seals etype key s q user at conf a → Seals etype key s q user at conf b → a ≡ b
+same_frame etype key s q user at conf a b h g =
+    h.spelt.spelt ∙ ap (λ (z : Etype). message (sealed_message z key s q user at conf)) (one_number h.etype g.etype (h.known ∙ sym g.known)) ∙ sym g.spelt.spelt

@@ -6,6 +6,8 @@ use Rattle.krb_der.specs.declared.body.Body.{Body}
 use Rattle.krb_der.specs.Moment.{micros_per_second}
 use Rattle.krb_seal.specs.declared.session.Session.{Session}
 use Rattle.krb_seal.specs.declared.session.Expect.{Expect}
+use Rattle.krb_seal.specs.declared.etype.Etype.{Etype}
+use Rattle.krb_seal.specs.Etype.{number_of}
 use Rattle.krb_seal.specs.Seals.{Seals, sealed, body_of}
 use Rattle.krb_seal.specs.Opens.{OpenerState, Outcome, Opens, OpensPart, opener_of, distance}
 use Rattle.krb_seal.specs.Authentic.{Authenticity, Authenticates}
@@ -18,8 +20,8 @@ OneOutcome = (o : OpenerState) (number now : ℕ) (bytes : List ℕ) (outcome : 
 
 -- A sealed frame is one list of bytes.
 abbrev pub OneFrame : Type 0
-OneFrame = (etype : ℤ) (key : List ℕ) (s : Session) (number : ℕ) (user : List ℕ) (at : ℕ) (conf bytes : List ℕ)
-    → Seals etype key s number user at conf bytes → bytes ≡ sealed etype key s number user at conf
+OneFrame = (etype : Etype) (key : List ℕ) (s : Session) (number : ℕ) (user : List ℕ) (at : ℕ) (conf bytes : List ℕ)
+    → Seals (number_of etype) key s number user at conf bytes → bytes ≡ sealed etype key s number user at conf
 
 -- The message carries the receiver's address, or leaves it out and it isn't required.
 abbrev pub ReceiverAgrees : Expect → Option HostAddress → Type 0

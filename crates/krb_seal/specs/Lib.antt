@@ -5,6 +5,8 @@ pub mod Keys
 pub mod Seals
 pub mod Sealer
 pub mod Etype
+pub mod TypedKey
+pub mod SessionKeyInside
 pub mod HeldKeys
 pub mod KeysInside
 pub mod Opens

@@ -21,7 +21,8 @@ use Rattle.krb_seal.specs.declared.session.Expect.{Expect}
 use Rattle.krb_seal.specs.declared.refusal.Refusal.{Refusal}
 use Rattle.krb_seal.specs.declared.refusal.Refusal.TheVariants.{FieldTooLong, Malformed, BadVersion, MsgType, EtypeNoSupp, BadIntegrity, InappCksum, BadAddr, Skew, BadOrder, Modified}
 use Rattle.krb_seal.specs.Keys.{encryption_key, tag_of}
-use Rattle.krb_seal.specs.Seals.{safe_checksum, checksum_type}
+use Rattle.krb_seal.specs.Etype.{etype_of, is_checksum_of}
+use Rattle.krb_seal.specs.Seals.{safe_checksum}
 
 -- What contracts see of an opener.
 pub record OpenerState : Type 0 where
@@ -85,7 +86,7 @@ abbrev pub safe_header : ℤ → Expect → SafeMsg → Checks
 safe_header etype x m =
     (int_eq m.pvno (pos 5), BadVersion)
     ∷ (is_safe x.mode && int_eq m.msg_type (pos 20), MsgType)
-    ∷ (int_eq m.cksum_type (checksum_type etype), InappCksum)
+    ∷ (is_checksum_of (etype_of etype) m.cksum_type, InappCksum)
     ∷ []
 
 -- The checks of KRB-PRIV before it is deciphered.

@@ -1,6 +1,5 @@
 -- What a frame is, from what it carries (RFC 4120 sections 3.4 and 3.5).
-use Rattle.std.specs.Prelude.{◌≡◌, ℕ, ℤ, pos, List, [], ◌++◌, length, Some, None, if◌then◌else◌}
-use Rattle.std.specs.Ordering.{int_eq}
+use Rattle.std.specs.Prelude.{◌≡◌, ℕ, ℤ, pos, List, [], ◌++◌, length, Some, None}
 use Rattle.krb_aes.specs.Words.{AreBytes}
 use Rattle.krb_keys.specs.Hmac.{hmac96}
 use Rattle.krb_der.specs.declared.body.Body.{Body}
@@ -15,11 +14,9 @@ use Rattle.krb_der.specs.Message.{message, Spells}
 use Rattle.krb_seal.specs.declared.session.Mode.{Mode}
 use Rattle.krb_seal.specs.declared.session.Mode.TheVariants.{Safe, Priv}
 use Rattle.krb_seal.specs.declared.session.Session.{Session}
+use Rattle.krb_seal.specs.declared.etype.Etype.{Etype}
+use Rattle.krb_seal.specs.Etype.{number_of, checksum_number}
 use Rattle.krb_seal.specs.Keys.{checksum_key, encrypted}
-
--- The checksum's type (RFC 3962 section 7): 15 for encryption type 17, 16 for 18.
-abbrev pub checksum_type : ℤ → ℤ
-checksum_type etype = if int_eq etype (pos 17) then pos 15 else pos 16
 
 -- The checksum of KRB-SAFE, over the message with checksum type 0 and an empty checksum (RFC 4120
 -- section 5.6.1).
@@ -38,41 +35,44 @@ body_of s number user at = record {
 }
 
 -- KRB-SAFE before it has its checksum.
-abbrev pub unsigned : ℤ → Body → SafeMsg
-unsigned etype b = record { pvno = pos 5; msg_type = pos 20; body = b; cksum_type = checksum_type etype; checksum = [] }
+abbrev pub unsigned : Etype → Body → SafeMsg
+unsigned etype b = record { pvno = pos 5; msg_type = pos 20; body = b; cksum_type = checksum_number etype; checksum = [] }
 
 -- KRB-SAFE with its checksum.
-abbrev pub sealed_safe : ℤ → List ℕ → Body → SafeMsg
+abbrev pub sealed_safe : Etype → List ℕ → Body → SafeMsg
 sealed_safe etype key b = record (unsigned etype b) { checksum = safe_checksum key (unsigned etype b) }
 
 -- KRB-PRIV before it has its cipher.
-abbrev pub unenciphered : ℤ → PrivMsg
-unenciphered etype = record { pvno = pos 5; msg_type = pos 21; etype = etype; kvno = None; cipher = [] }
+abbrev pub unenciphered : Etype → PrivMsg
+unenciphered etype = record { pvno = pos 5; msg_type = pos 21; etype = number_of etype; kvno = None; cipher = [] }
 
 -- KRB-PRIV of a text that is enciphered.
-abbrev pub priv_of : ℤ → List ℕ → List ℕ → PrivMsg
+abbrev pub priv_of : Etype → List ℕ → List ℕ → PrivMsg
 priv_of etype key text = record (unenciphered etype) { cipher = encrypted key text }
 
 -- KRB-PRIV of a body, under a confounder.
-abbrev pub sealed_priv : ℤ → List ℕ → List ℕ → Body → PrivMsg
+abbrev pub sealed_priv : Etype → List ℕ → List ℕ → Body → PrivMsg
 sealed_priv etype key conf b = priv_of etype key (conf ++ part b)
 
 -- The message of a mode that carries a body.
-abbrev pub sealed_as : Mode → ℤ → List ℕ → List ℕ → Body → Message
+abbrev pub sealed_as : Mode → Etype → List ℕ → List ℕ → Body → Message
 sealed_as Safe etype key conf b = messages.Safe (sealed_safe etype key b)
 sealed_as Priv etype key conf b = messages.Priv (sealed_priv etype key conf b)
 
 -- The message that carries data at a number and a timestamp, under a confounder.
-abbrev pub sealed_message : ℤ → List ℕ → Session → ℕ → List ℕ → ℕ → List ℕ → Message
+abbrev pub sealed_message : Etype → List ℕ → Session → ℕ → List ℕ → ℕ → List ℕ → Message
 sealed_message etype key s number user at conf = sealed_as s.mode etype key conf (body_of s number user at)
 
 -- The bytes of that message.
-unfoldable pub sealed : ℤ → List ℕ → Session → ℕ → List ℕ → ℕ → List ℕ → List ℕ
+unfoldable pub sealed : Etype → List ℕ → Session → ℕ → List ℕ → ℕ → List ℕ → List ℕ
 sealed etype key s number user at conf = message (sealed_message etype key s number user at conf)
 
--- The bytes are the message that carries a body: what goes in is in range, what is enciphered is
--- bytes, and the message is spelt so.
-pub record SealsBody (mode : Mode) (etype : ℤ) (key conf : List ℕ) (b : Body) (bytes : List ℕ) : Type 0 where
+-- The bytes are the message that carries a body, under the encryption type that has this number:
+-- there is such a type, what goes in is in range, what is enciphered is bytes, and the message is
+-- spelt so.
+pub record SealsBody (mode : Mode) (number : ℤ) (key conf : List ℕ) (b : Body) (bytes : List ℕ) : Type 0 where
+  pub etype : Etype
+  pub known : number_of etype ≡ number
   pub body : IsBody b
   pub confounder : length conf ≡ 16
   pub plain : mode ≡ Priv → AreBytes (conf ++ part b)

@@ -2,7 +2,7 @@
 
 ghost use Rattle.std.specs.Prelude.{◌≡◌, ◌↔◌, IsTrue};
 ghost use Rattle.krb_der.specs.Body.{InRange};
-ghost use Rattle.krb_seal.specs.Etype.{number_of};
+ghost use Rattle.krb_seal.specs.Etype.{etype_of, is_checksum_of, number_of};
 ghost use Rattle.krb_seal.specs.Opens.{addresses_fit, body_checks, is_current, is_number, is_safe, priv_header, receiver_fits, safe_header};
 ghost use Rattle.krb_seal.specs.Unseals.{first_unmet, refusal_of};
 
@@ -63,6 +63,13 @@ fn is_safe(mode: Mode) -> bool
     }
 }
 
+/// Whether a checksum's number is that of the encryption type's checksum.
+fn is_checksum_of(etype: Etype, number: i32) -> bool
+    ensures { result ≡ is_checksum_of (etype_of (number_of etype)) number }
+{
+    number == etype.checksum_number()
+}
+
 /// The version, the kind of message and the checksum's type of KRB-SAFE.
 pub fn check_safe_header(etype: Etype, expect: &Expect, m: &SafeMsg) -> Result<(), Refusal>
     ensures { first_unmet (safe_header (number_of etype) expect.now m.now) ≡ refusal_of result }
@@ -73,7 +80,7 @@ pub fn check_safe_header(etype: Etype, expect: &Expect, m: &SafeMsg) -> Result<(
     if !(is_safe(expect.mode) && m.msg_type == 20) {
         return Err(Refusal::MsgType);
     }
-    if m.cksum_type != etype.checksum_type() {
+    if !is_checksum_of(etype, m.cksum_type) {
         return Err(Refusal::InappCksum);
     }
     Ok(())

@@ -1,11 +1,10 @@
-//! The two encryption types.
+//! The encryption types.
 
-ghost use Rattle.std.specs.Prelude.{◌≡◌};
-ghost use Rattle.krb_seal.specs.Etype.{number_of};
-ghost use Rattle.krb_seal.specs.Seals.{checksum_type};
+ghost use Rattle.std.specs.Prelude.{◌≡◌, IfSome};
+ghost use Rattle.krb_seal.specs.Etype.{checksum_number, etype_of, key_size, number_of};
 
-/// An encryption type with its checksum (RFC 3962 sections 6 and 7).
-#[derive(Clone, Copy)]
+/// An encryption type (RFC 3962).
+#[derive(Clone, Copy, Debug, PartialEq, Eq)]
 pub enum Etype {
     /// aes128-cts-hmac-sha1-96.
     Aes128,
@@ -14,7 +13,19 @@ pub enum Etype {
 }
 
 impl Etype {
-    /// Its number: 17 or 18.
+    /// The type that has this number, if one has it.
+    pub fn from_number(number: i32) -> Option<Etype>
+        ensures value { result ≡ etype_of number }
+        ensures known { IfSome result (λ etype. number_of etype ≡ number) }
+    {
+        match number {
+            17 => Some(Etype::Aes128),
+            18 => Some(Etype::Aes256),
+            _ => None,
+        }
+    }
+
+    /// Its number (RFC 3962 section 7): 17 or 18.
     pub fn number(&self) -> i32
         ensures { result ≡ number_of self.now }
     {
@@ -24,13 +35,23 @@ impl Etype {
         }
     }
 
-    /// The number of its checksum: 15 or 16.
-    pub fn checksum_type(&self) -> i32
-        ensures { result ≡ checksum_type (number_of self.now) }
+    /// The number of its checksum (RFC 3962 section 7): 15 or 16.
+    pub fn checksum_number(&self) -> i32
+        ensures { result ≡ checksum_number self.now }
     {
         match self {
             Etype::Aes128 => 15,
             Etype::Aes256 => 16,
+        }
+    }
+
+    /// How many bytes its keys have (RFC 3962 section 6): 16 or 32.
+    pub fn key_size(&self) -> usize
+        ensures { result ≡ key_size self.now }
+    {
+        match self {
+            Etype::Aes128 => 16,
+            Etype::Aes256 => 32,
         }
     }
 }

@@ -25,9 +25,9 @@ const CHECKSUM_SIZE: usize = 12;
 
 /// The KRB-SAFE that carries a body, before it has its checksum.
 fn unsigned<'a>(etype: Etype, body: BodyRef<'a>) -> SafeRef<'a>
-    ensures { result ≡ unsigned (number_of etype) body.entry }
+    ensures { result ≡ unsigned etype body.entry }
 {
-    SafeRef::unsigned(5, 20, body, etype.checksum_type())
+    SafeRef::unsigned(5, 20, body, etype.checksum_number())
 }
 
 /// The KRB-SAFE of a draft.
@@ -39,14 +39,14 @@ fn safe_frame(
     confounder: [u8; 16],
 ) -> Result<Vec<u8>, AllocError>
     requires live { keys.now.wiped ≡ false }
-    requires draft { draft.now ≡ unsigned (number_of etype) draft.now.body }
+    requires draft { draft.now ≡ unsigned etype draft.now.body }
     requires range { InRange draft.now.body }
     requires small { IsSmall draft.now.body }
     ensures { IfOk result (λ frame. SealsBody Safe (number_of etype) keys.now.key confounder
         draft.now.body frame.items) }
 {
     let checksum = within_limit(checksum_of(alloc, keys, draft))?;
-    within_limit(draft.encode_with_checksum(alloc, etype.checksum_type(), &checksum))
+    within_limit(draft.encode_with_checksum(alloc, etype.checksum_number(), &checksum))
 }
 
 /// A law: the elements of a slice of bytes are bytes, as their type says. It does nothing when it
@@ -86,7 +86,7 @@ fn finished(keys: &Keys, draft: Draft) -> Result<Vec<u8>, AllocError>
 
 /// A KRB-PRIV before it has its cipher.
 fn unenciphered(alloc: Global, etype: Etype) -> PrivMsg
-    ensures { result ≡ unenciphered (number_of etype) }
+    ensures { result ≡ unenciphered etype }
 {
     PrivMsg {
         pvno: 5,
@@ -141,7 +141,7 @@ pub fn frame_of(
 /// How many bytes the KRB-SAFE of a body has with so many bytes of user data.
 fn safe_frame_size(draft: &SafeRef<'_>, etype: Etype, len: usize) -> usize
     requires limit { len ≤ user_data_limit }
-    requires draft { draft.now ≡ unsigned (number_of etype) draft.now.body }
+    requires draft { draft.now ≡ unsigned etype draft.now.body }
     requires range { InRange draft.now.body }
     requires small { HasSmallAddresses draft.now.body }
     ensures { HasSizeOf Safe (number_of etype) draft.now.body len result }
@@ -152,7 +152,7 @@ fn safe_frame_size(draft: &SafeRef<'_>, etype: Etype, len: usize) -> usize
 /// How many bytes a KRB-PRIV has with a cipher of so many bytes.
 fn enciphered_size(etype: Etype, cipher: usize) -> usize
     requires { cipher ≤ frame_limit }
-    ensures { HasPrivateSize (unenciphered (number_of etype)) cipher result }
+    ensures { HasPrivateSize (unenciphered etype) cipher result }
 {
     priv_size(5, 21, etype.number(), None, cipher)
 }

@@ -1,16 +1,16 @@
-//! The sealers of both encryption types.
+//! The sealers.
 
 ghost use Rattle.std.specs.Prelude.{◌≡◌, ◌≤◌, replicate, pos};
 ghost use Rattle.krb_base.specs.Limits.{user_data_limit};
+ghost use Rattle.krb_seal.specs.Etype.{number_of};
 ghost use Rattle.krb_seal.specs.Session.{HasShortAddresses};
 ghost use Rattle.krb_seal.specs.Sealer.{HasFrameSize, SealerState, in_mode, new_state};
 
-use crate::etype::Etype;
 use crate::seal_error::SealError;
 use crate::sealer::Sealer;
 use crate::sealing::Sealing;
 use crate::session::{Mode, Session};
-use krb_aes::CipherKey;
+use crate::session_key::SessionKey;
 use krb_der::Moment;
 use std::alloc::Global;
 use std::marker::{Model, PhantomData};
@@ -23,6 +23,10 @@ pub struct Aes128;
 #[derive(Clone, Copy)]
 pub struct Aes256;
 
+/// The mark of the encryption type of the session key.
+#[derive(Clone, Copy)]
+pub struct Any;
+
 /// A sealer of the encryption type that `E` marks. Dropping it overwrites all its keys.
 pub struct AesSealer<E> {
     sealing: Sealing,
@@ -34,6 +38,9 @@ pub type Aes128Sealer = AesSealer<Aes128>;
 
 /// A sealer of encryption type 18, aes256-cts-hmac-sha1-96.
 pub type Aes256Sealer = AesSealer<Aes256>;
+
+/// A sealer of the encryption type that its session key has.
+pub type SessionSealer = AesSealer<Any>;
 
 impl<E> Model for AesSealer<E> {
     ghost use Rattle.krb_seal.specs.Sealer.{SealerState};
@@ -51,10 +58,8 @@ impl AesSealer<Aes128> {
         ensures made { result ≡ new_state (pos 17) key.old session }
         ensures taken { key.new ≡ replicate 16 0 }
     {
-        let held = CipherKey::from_128(*key);
-        *key = [0; 16];
         AesSealer {
-            sealing: Sealing::new(Etype::Aes128, held, session),
+            sealing: Sealing::new(SessionKey::new_128(key), session),
             mark: PhantomData,
         }
     }
@@ -68,10 +73,21 @@ impl AesSealer<Aes256> {
         ensures made { result ≡ new_state (pos 18) key.old session }
         ensures taken { key.new ≡ replicate 32 0 }
     {
-        let held = CipherKey::from_256(*key);
-        *key = [0; 32];
         AesSealer {
-            sealing: Sealing::new(Etype::Aes256, held, session),
+            sealing: Sealing::new(SessionKey::new_256(key), session),
+            mark: PhantomData,
+        }
+    }
+}
+
+impl AesSealer<Any> {
+    /// Takes the session key. The addresses of the session have at most 40 bytes each.
+    pub fn new(key: SessionKey, session: Session) -> AesSealer<Any>
+        requires { HasShortAddresses session }
+        ensures { result ≡ new_state (number_of key.etype) key.bytes session }
+    {
+        AesSealer {
+            sealing: Sealing::new(key, session),
             mark: PhantomData,
         }
     }

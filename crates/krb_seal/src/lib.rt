@@ -1,9 +1,10 @@
 //! Sealing and opening of KRB-SAFE and KRB-PRIV messages (RFC 4120 sections 3.4 and 3.5) under
 //! encryption types 17 and 18 (RFC 3962).
 //!
-//! A [`Sealer`] of one of the two kinds seals data at one sequence number after another. An
-//! [`Opener`] returns the data of a frame at a demanded number, or the first check that it fails.
-//! [`Opener::authenticate`] demands nothing of addresses, time and number, and returns them.
+//! A [`SessionKey`] knows its encryption type, an [`Etype`]; sealers and openers are made from it. A
+//! [`Sealer`] seals data at one sequence number after another. An [`Opener`] returns the data of a
+//! frame at a demanded number, or the first check that it fails. [`Opener::authenticate`] demands
+//! nothing of addresses, time and number, and returns them.
 //!
 //! ```rust crates/example_seal/src/main.rt
 //! let mut sealer = Aes256Sealer::new(&mut { KEY }, session(alloc)?);
@@ -35,11 +36,14 @@ mod seal_error;
 mod sealer;
 mod sealing;
 mod session;
+mod session_key;
 
-pub use kinds::{Aes128Sealer, Aes256Sealer};
+pub use etype::Etype;
+pub use kinds::{Aes128Sealer, Aes256Sealer, SessionSealer};
 pub use laws::{authentic_laws, one_outcome, opens_at_its_number_alone};
 pub use opener::Opener;
 pub use refusal::Refusal;
 pub use seal_error::SealError;
 pub use sealer::Sealer;
 pub use session::{Expect, Mode, Session};
+pub use session_key::SessionKey;

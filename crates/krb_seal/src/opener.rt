@@ -6,6 +6,7 @@ ghost use Rattle.krb_der.specs.declared.message.Message.TheVariants as messages;
 ghost use Rattle.krb_der.specs.Body.{InRange};
 ghost use Rattle.krb_der.specs.Safe.{safe};
 ghost use Rattle.krb_der.specs.Message.{SpellsPart};
+ghost use Rattle.krb_seal.specs.Etype.{number_of};
 ghost use Rattle.krb_seal.specs.Opens.{Opens, OpensMessage, Read, checksum_checks, opener_of, safe_checks};
 ghost use Rattle.krb_seal.specs.Authentic.{Authenticates, AuthenticMessage, AuthenticOrMemory, GivesBody, authentic_checks};
 ghost use Rattle.krb_seal.specs.Unseals.{Checked, OrMemory};
@@ -17,7 +18,7 @@ use crate::keys::Keys;
 use crate::limit::within_limit;
 use crate::refusal::Refusal;
 use crate::session::Expect;
-use krb_aes::CipherKey;
+use crate::session_key::SessionKey;
 use krb_der::{Body, DerError, Message, Moment, PrivMsg, SafeMsg, decode, decode_part_from};
 use std::alloc::Global;
 use std::marker::Model;
@@ -58,18 +59,24 @@ impl Drop for Opener {
 }
 
 impl Opener {
+    /// Takes the session key.
+    pub fn new(key: SessionKey, expect: Expect) -> Opener
+        ensures { result ≡ opener_of (number_of key.etype) key.bytes expect }
+    {
+        let (etype, held) = key.into_parts();
+        Opener {
+            etype,
+            keys: Keys::new(held),
+            expect,
+        }
+    }
+
     /// Takes the key of encryption type 17: the caller's bytes are zero afterwards.
     pub fn new_128(key: &mut [u8; 16], expect: Expect) -> Opener
         ensures made { result ≡ opener_of (pos 17) key.old expect }
         ensures taken { key.new ≡ replicate 16 0 }
     {
-        let held = CipherKey::from_128(*key);
-        *key = [0; 16];
-        Opener {
-            etype: Etype::Aes128,
-            keys: Keys::new(held),
-            expect,
-        }
+        Opener::new(SessionKey::new_128(key), expect)
     }
 
     /// Takes the key of encryption type 18: the caller's bytes are zero afterwards.
@@ -77,13 +84,7 @@ impl Opener {
         ensures made { result ≡ opener_of (pos 18) key.old expect }
         ensures taken { key.new ≡ replicate 32 0 }
     {
-        let held = CipherKey::from_256(*key);
-        *key = [0; 32];
-        Opener {
-            etype: Etype::Aes256,
-            keys: Keys::new(held),
-            expect,
-        }
+        Opener::new(SessionKey::new_256(key), expect)
     }
 
     /// The user data of a frame that carries the sequence number `number`, opened at `now`.
@@ -140,10 +141,7 @@ impl Opener {
         ensures expect { self.new.expect ≡ self.old.expect }
     {
         self.keys.wipe();
-        let zeros = match self.etype {
-            Etype::Aes128 => CipherKey::from_128([0; 16]),
-            Etype::Aes256 => CipherKey::from_256([0; 32]),
-        };
+        let (_, zeros) = SessionKey::filled(self.etype, 0).into_parts();
         mem::replace(&mut self.keys, Keys::new(zeros)).spend();
     }
 }

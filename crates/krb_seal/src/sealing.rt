@@ -11,7 +11,7 @@ use crate::frame::{frame_of, frame_size};
 use crate::keys::Keys;
 use crate::seal_error::SealError;
 use crate::session::{Mode, Session};
-use krb_aes::CipherKey;
+use crate::session_key::SessionKey;
 use krb_base::{LAST_NUMBER, USER_DATA_LIMIT};
 use krb_der::{BodyRef, Moment};
 use std::alloc::Global;
@@ -40,14 +40,15 @@ impl Model for Sealing {
 }
 
 impl Sealing {
-    /// A sealing that has sealed nothing.
-    pub fn new(etype: Etype, key: CipherKey, session: Session) -> Sealing
+    /// A sealing that has sealed nothing. It takes the key.
+    pub fn new(key: SessionKey, session: Session) -> Sealing
         requires { HasShortAddresses session }
-        ensures { result ≡ new_state (number_of etype) key session }
+        ensures { result ≡ new_state (number_of key.etype) key.bytes session }
     {
+        let (etype, held) = key.into_parts();
         Sealing {
             etype,
-            keys: Keys::new(key),
+            keys: Keys::new(held),
             next: u64::from(session.first),
             session,
         }

@@ -7,6 +7,7 @@ mod frames;
 mod opening;
 mod refusals;
 mod sealers;
+mod session_keys;
 mod sweep;
 
 ghost use Rattle.std.specs.Prelude.{IfOk};

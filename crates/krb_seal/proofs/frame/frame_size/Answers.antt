@@ -11,3 +11,7 @@ returns-in-Safe c =
     let made : HasSizeOf Safe (number_of c.args.etype) c.args.body c.args.len c.safe_frame_size.result =
     subst (λ (m : SafeMsg). HasSizeOf Safe (number_of c.args.etype) m.body c.args.len c.safe_frame_size.result) c.unsigned.ensures c.safe_frame_size.ensures in
     subst (λ (mode : Mode). HasSizeOf mode (number_of c.args.etype) c.args.body c.args.len c.safe_frame_size.result) (sym c.in-Safe.is) made
+
+pub returns-in-Priv : goal.returns-in-Priv
+returns-in-Priv c =
+    subst (λ (mode : Mode). HasSizeOf mode (number_of c.args.etype) c.args.body c.args.len c.priv_frame_size.result) (sym c.in-Priv.is) c.priv_frame_size.ensures

@@ -4,7 +4,6 @@ use Rattle.krb_der.specs.declared.private.PrivMsg.{PrivMsg}
 use Rattle.krb_der.specs.declared.private.Draft.{Draft}
 use Rattle.krb_der.specs.Body.{part}
 use Rattle.krb_der.specs.Message.{IsDraft, Drafts}
-use Rattle.krb_seal.specs.Etype.{number_of}
 use Rattle.krb_seal.proofs.Frames.{memory_draft, small_cipher, seals_draft}
 use Rattle.krb_seal.proofs.frame.priv_frame.Goals as goal
 
@@ -16,6 +15,6 @@ returns c =
     let n : ℕ = length c.args.confounder + length (part c.args.body.now) + 12 in
     let told : IsDraft c.unenciphered-message.result c.args.confounder c.args.body.now n c.in_ok-draft.draft =
     subst (λ (r : Result Draft DerError). Drafts c.unenciphered-message.result c.args.confounder c.args.body.now n r) c.in_ok-draft.ensures c.draft_priv.ensures in
-    seals_draft (number_of c.args.etype) c.args.keys.now.key c.args.confounder c.args.body.now c.in_ok-draft.draft c.finished.result (omega arith)
+    seals_draft c.args.etype c.args.keys.now.key c.args.confounder c.args.body.now c.in_ok-draft.draft c.finished.result (omega arith)
     (subst (λ (m : PrivMsg). IsDraft m c.args.confounder c.args.body.now n c.in_ok-draft.draft) c.unenciphered-message.ensures told)
     c.finished.ensures.frame c.finished.ensures.plain

@@ -1,6 +1,5 @@
 use Rattle.std.proofs.Common.{◌+◌, ◌≤◌, arith}
 use Rattle.krb_base.specs.Limits.{frame_limit}
-use Rattle.krb_seal.specs.Etype.{number_of}
 use Rattle.krb_seal.proofs.FrameSizes.{part_within, priv_size_of}
 use Rattle.krb_seal.proofs.frame.priv_frame_size.Goals as goal
 
@@ -19,4 +18,4 @@ enciphered_size-requires c = part_within c.args.body.now c.args.len _ c.requires
 
 pub returns : goal.returns
 returns c =
-    priv_size_of (number_of c.args.etype) c.args.body.now c.args.len c.part_size_with-text.result c.enciphered_size.result c.part_size_with-text.ensures c.enciphered_size.ensures
+    priv_size_of c.args.etype c.args.body.now c.args.len c.part_size_with-text.result c.enciphered_size.result c.part_size_with-text.ensures c.enciphered_size.ensures
