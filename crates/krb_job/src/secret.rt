@@ -1,6 +1,6 @@
 //! Bytes that are overwritten before their memory is freed.
 
-ghost use Rattle.std.specs.Prelude.{◌≡◌, ◌++◌, OnOk, OnErr, Some};
+ghost use Rattle.std.specs.Prelude.{◌≡◌, ◌++◌, replicate, vec_len, OnOk, OnErr, Some};
 ghost use Rattle.krb_job.specs.Secret.{words};
 
 use std::alloc::{AllocError, Global};
@@ -12,7 +12,7 @@ use std::{fmt, mem};
 /// The bytes are overwritten when it is dropped, and the old buffer is overwritten when it grows.
 /// `Debug` shows none of them.
 pub struct Secret {
-    bytes: Vec<u8>,
+    held: Held,
 }
 
 impl Model for Secret {
@@ -20,13 +20,14 @@ impl Model for Secret {
 
     ghost Value = { List ℕ };
 
-    ghost view = { λ secret. secret.bytes.items };
+    ghost view = { λ secret. secret.held.bytes.items };
 }
 
 impl Drop for Secret {
     fn drop(self) {
-        let Secret { mut bytes } = self;
-        bytes.fill(0);
+        let Secret { mut held } = self;
+        held.wipe();
+        held.spend();
     }
 }
 
@@ -43,14 +44,16 @@ impl Secret {
     pub fn new(bytes: Vec<u8>) -> Secret
         ensures { result ≡ bytes.items }
     {
-        Secret { bytes }
+        Secret {
+            held: Held { bytes },
+        }
     }
 
     /// The bytes as a slice.
     pub fn as_slice(&self) -> &[u8]
         ensures { result.now ≡ self.now }
     {
-        self.bytes.as_slice()
+        self.held.bytes.as_slice()
     }
 
     /// Appends bytes. The only error is out of memory, and then nothing is changed.
@@ -58,21 +61,44 @@ impl Secret {
         ensures ok { OnOk result (self.new ≡ self.old ++ more.now) }
         ensures err { OnErr result (self.new ≡ self.old) }
     {
-        let room = self.bytes.capacity();
-        if room - self.bytes.len() < more.len() {
-            let count = self.bytes.len().saturating_add(more.len());
-            let mut wider = Vec::with_capacity(alloc, count.max(room.saturating_mul(2)))?;
-            wider.extend_from_slice(self.bytes.as_slice())?;
-            let mut left = mem::replace(&mut self.bytes, wider);
-            left.fill(0);
+        let room = self.held.bytes.capacity();
+        if room - self.held.bytes.len() < more.len() {
+            let count = self.held.bytes.len().saturating_add(more.len());
+            let mut bytes = Vec::with_capacity(alloc, count.max(room.saturating_mul(2)))?;
+            bytes.extend_from_slice(self.held.bytes.as_slice())?;
+            let mut left = mem::replace(&mut self.held, Held { bytes });
+            left.wipe();
+            left.spend();
         }
-        self.bytes.extend_from_slice(more)
+        self.held.bytes.extend_from_slice(more)
     }
 
     /// The bytes as a `Vec`, which isn't overwritten when it is dropped.
     pub fn into_vec(mut self, alloc: Global) -> Vec<u8>
         ensures { result.items ≡ self }
     {
-        mem::replace(&mut self.bytes, Vec::new(alloc))
+        mem::replace(&mut self.held.bytes, Vec::new(alloc))
+    }
+}
+
+/// The buffer of a secret. It isn't `Drop`: it ends by [`Held::spend`], once its bytes are zero.
+struct Held {
+    bytes: Vec<u8>,
+}
+
+impl Held {
+    /// Makes all bytes zero.
+    fn wipe(&mut self)
+        ensures zeros { self.new.bytes.items ≡ replicate (vec_len self.old.bytes) 0 }
+        ensures size { vec_len self.new.bytes ≡ vec_len self.old.bytes }
+    {
+        self.bytes.fill(0);
+    }
+
+    /// Ends a buffer whose bytes are zero.
+    fn spend(self)
+        requires { self.bytes.items ≡ replicate (vec_len self.bytes) 0 }
+    {
+        let Held { bytes: _ } = self;
     }
 }

@@ -1,5 +1,5 @@
 -- What a level knows once its worker was joined.
-use Rattle.std.proofs.Common.{◌≡◌, ℕ, ◌+◌, ◌<◌, ◌≤◌, zero, suc, replicate, slice_set, arith, List, [], ◌∷◌, ◌++◌, length, map, reverse, refl, sym, ap, subst, ◌∙◌, Option, None, Some}
+use Rattle.std.proofs.Common.{◌≡◌, ℕ, ◌+◌, ◌<◌, zero, suc, replicate, slice_set, arith, List, [], ◌∷◌, ◌++◌, length, map, reverse, refl, sym, ap, subst, ◌∙◌, ◌⊎◌, inl, inr, Option, None, Some}
 use Rattle.std.specs.Prelude.{All}
 use Rattle.std.specs.List.{AllZip}
 use Rattle.std.proofs.lemmas.List.{append_assoc, append-nil, length-set, map-append, reverse-append, same_from_push, length_push}
@@ -89,8 +89,9 @@ counts_more before sealed lane me inner set room h =
 module _ {S : Type 0} (gives : S → Side → Handed → Type 0) where
   -- that starts no worker
   pub gathers_none : (parts : List S) (starts : List Receiving) (ends now : List Side) (log : LogState) (sealed : List ℕ) (own : Option OwnFault) (fault : Option WorkerFault)
-      → sealed ≡ replicate 8 0 → fault ≡ None → (own ≡ None → parts ≡ []) → Finished starts ends now log own → Gathers gives parts starts ends now log sealed own fault
-  gathers_none parts starts ends now log sealed own fault zeros named empty f =
+      → sealed ≡ replicate 8 0 → fault ≡ None → (own ≡ None → parts ≡ []) → ((stop : OwnFault) → own ≡ Some stop → (parts ≡ []) ⊎ (stop.lane ≡ length ends))
+      → Finished starts ends now log own → Gathers gives parts starts ends now log sealed own fault
+  gathers_none parts starts ends now log sealed own fault zeros named empty names f =
       let P : List Side → Type 0 = λ x. AllZip BeginsAt f.seen (all_heard starts x) in
       record {
         inner = [];
@@ -106,6 +107,7 @@ module _ {S : Type 0} (gives : S → Side → Handed → Type 0) where
         counted = λ later within. ap (sealed_on later) zeros ∙ zeros_on later;
         long = ap length zeros;
         named = named;
+        own_named = λ stop is. elim (names stop is) as (λ _. (reverse parts ≡ []) ⊎ (stop.lane ≡ length ends + 0)) [ inl e ↦ inl (ap reverse e) | inr e ↦ inr (omega (arith, e)) ];
         whole = λ none. let w = f.whole none in
             (ap reverse (empty none), w.0 ∙ ap (all_heard starts) (sym (append-nil now)), w.1, All-nil (HasEnded {S = S}), w.2);
       }
@@ -139,6 +141,7 @@ module _ {S : Type 0} (gives : S → Side → Handed → Type 0) where
         counted = counts_more before sealed (length ends) me g.inner set room (let C : ℕ → Type 0 = λ n. Counts before n g.inner in subst C more g.counted);
         long = ap length set ∙ (length-set before (length ends) handed.sealed ∙ g.long);
         named = faults g.inner (g.named ∙ ap (λ n. least n g.inner) more);
+        own_named = λ stop is. elim (g.own_named stop is) as (λ _. (g.unstarted ≡ []) ⊎ (stop.lane ≡ length ends + length (me ∷ g.inner))) [ inl e ↦ inl e | inr e ↦ inr (omega (arith, e, more)) ];
         whole = λ none. let w = g.whole none in
             let Q : List Side → Type 0 = λ x. All IsEnded x in
             let ended : All IsEnded (left ++ met ∷ []) = subst Q now_is w.2 in
@@ -170,10 +173,14 @@ least_later n part tx handed got inner cause fault none is rest = rw (← is, no
 
 -- a level that could not begin
 pub gathers_fault : {S : Type 0} (gives : S → Side → Handed → Type 0) (parts : List S) (starts : List Receiving) (ends mid now : List Side) (log : LogState) (sealed : List ℕ) (own : Option OwnFault) (fault : OwnFault)
-    → sealed ≡ replicate 8 0 → mid ≡ ends → own ≡ Some fault → Finished starts mid now log own → Gathers gives parts starts ends now log sealed own None
-gathers_fault gives parts starts ends mid now log sealed own fault zeros mid_is own_is f =
+    → sealed ≡ replicate 8 0 → mid ≡ ends → own ≡ Some fault → fault.lane ≡ length ends → Finished starts mid now log own → Gathers gives parts starts ends now log sealed own None
+gathers_fault gives parts starts ends mid now log sealed own fault zeros mid_is own_is lane_is f =
     let P : List Side → Type 0 = λ x. Finished starts x now log own in
-    gathers_none gives parts starts ends now log sealed own None zeros refl (λ none. absurd (let e : Some fault ≡ None = sym own_is ∙ none in cc)) (subst P mid_is f)
+    gathers_none gives parts starts ends now log sealed own None zeros refl (λ none. absurd (let e : Some fault ≡ None = sym own_is ∙ none in cc))
+    (λ stop is. let e : Some fault ≡ Some stop = sym own_is ∙ is in
+    let same : fault ≡ stop = cc in
+    inr (ap (λ (f : OwnFault). f.lane) (sym same) ∙ lane_is))
+    (subst P mid_is f)
 
 pub no_ends : (now : List Side) → map lane_of now ≡ [] → now ≡ []
 no_ends [] h = refl

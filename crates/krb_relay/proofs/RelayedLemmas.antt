@@ -1,5 +1,5 @@
 -- What a relay knows whose levels have all returned.
-use Rattle.std.proofs.Common.{◌≡◌, ℕ, ◌+◌, ◌<◌, ◌≤◌, replicate, true, false, zero, suc, List, [], ◌∷◌, ◌++◌, length, map, reverse, slice_get, refl, sym, ap, ap₂, subst, ◌∙◌, arith, Option, None, Some}
+use Rattle.std.proofs.Common.{◌≡◌, ℕ, ◌+◌, ◌<◌, replicate, true, false, zero, suc, List, [], ◌∷◌, ◌++◌, length, map, reverse, slice_get, refl, sym, ap, ap₂, subst, ◌∙◌, arith, Option, None, Some}
 use Rattle.std.specs.Prelude.{All}
 use Rattle.std.specs.List.{AllZip, zip}
 use Rattle.std.proofs.lemmas.List.{append-nil, length-map, reverse-reverse}

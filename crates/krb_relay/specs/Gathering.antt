@@ -1,6 +1,6 @@
 -- What fork and join over the lanes gathers.
-use Rattle.std.specs.Prelude.{◌≡◌, ℕ, ◌+◌, ◌<◌, ◌≤◌, true, false, List, [], ◌∷◌, ◌++◌, map, reverse}
-use Rattle.std.specs.Prelude.{length, All, Option, None, Some}
+use Rattle.std.specs.Prelude.{◌≡◌, ℕ, ◌+◌, ◌<◌, ◌≤◌, ◌⊎◌, true, false, List, [], ◌∷◌, ◌++◌, map}
+use Rattle.std.specs.Prelude.{reverse, length, All, Option, None, Some}
 use Rattle.std.specs.List.{AllZip}
 use Rattle.krb_base.specs.Limits.{lane_limit}
 use Rattle.krb_base.specs.Prefix.{IsPrefix}
@@ -101,7 +101,8 @@ module _ {S : Type 0} (gives : S → Side → Handed → Type 0) where
     pub whole : worker.got.ended ≡ true → worker.got.frames ≡ worker.handed.all.frames
 
   -- workers for the first of the parts, last part first, after these ends; what they returned, the
-  -- log that their lanes leave, and how many records each sealed
+  -- log that their lanes leave, and how many records each sealed; if not all workers were started,
+  -- the fault names the first lane that has none
   pub record Gathers (parts : List S) (starts : List Receiving) (ends now : List Side)
       (log : LogState) (sealed : List ℕ) (own : Option OwnFault)
       (fault : Option WorkerFault) : Type 0 where
@@ -118,6 +119,8 @@ module _ {S : Type 0} (gives : S → Side → Handed → Type 0) where
     pub counted : Counts sealed (length ends) inner
     pub long : length sealed ≡ lane_limit
     pub named : fault ≡ least (length ends) inner
+    pub own_named : (stop : OwnFault) → own ≡ Some stop → (unstarted ≡ [])
+        ⊎ (stop.lane ≡ length ends + length inner)
     pub whole :
         own ≡ None
         → (unstarted ≡ []) × (seen ≡ all_heard starts (now ++ map got_by inner)) × All IsEnded now

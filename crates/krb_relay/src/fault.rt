@@ -1,7 +1,7 @@
 //! The error of a relay that stops.
 
 ghost use Rattle.std.specs.Prelude.{◌≡◌, Some};
-ghost use Rattle.krb_relay.specs.Cause.{code_of, words_at};
+ghost use Rattle.krb_relay.specs.Cause.{cause_of, code_of, words_at};
 
 use crate::cause::{Cause, OwnCause};
 use krb_base::LANE_LIMIT;
@@ -57,9 +57,43 @@ pub(crate) struct OwnFault {
     pub(crate) lane: u32,
 }
 
+impl OwnFault {
+    /// The fault of a relay that stopped by this one.
+    pub(crate) fn into_fault(self, log: Log, sealed: [usize; LANE_LIMIT]) -> Fault
+        ensures cause { result.cause ≡ cause_of self.cause }
+        ensures lane { result.lane ≡ self.lane }
+        ensures log { result.log ≡ log }
+        ensures sealed { result.sealed ≡ sealed }
+    {
+        Fault {
+            cause: self.cause.cause(),
+            lane: self.lane,
+            log,
+            sealed,
+        }
+    }
+}
+
 /// Why the worker of a lane stopped.
 #[derive(Clone, Copy)]
 pub(crate) struct WorkerFault {
     pub(crate) cause: Cause,
     pub(crate) lane: u32,
+}
+
+impl WorkerFault {
+    /// The fault of a relay that stopped by this one.
+    pub(crate) fn into_fault(self, log: Log, sealed: [usize; LANE_LIMIT]) -> Fault
+        ensures cause { result.cause ≡ self.cause }
+        ensures lane { result.lane ≡ self.lane }
+        ensures log { result.log ≡ log }
+        ensures sealed { result.sealed ≡ sealed }
+    {
+        Fault {
+            cause: self.cause,
+            lane: self.lane,
+            log,
+            sealed,
+        }
+    }
 }

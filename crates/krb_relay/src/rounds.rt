@@ -1,6 +1,6 @@
 //! The calling thread receives in rounds: each takes one item of each lane whose End wasn't taken.
 
-ghost use Rattle.std.specs.Prelude.{◌≡◌, ◌↔◌, ◌<◌, ◌+◌, length, map, All, IsTrue, IfNone, IfSome, OnOk, OnErr};
+ghost use Rattle.std.specs.Prelude.{◌≡◌, ◌↔◌, ◌<◌, ◌+◌, length, map, All, IsTrue, IfErr, IfNone, IfSome, OnOk, OnErr};
 ghost use Rattle.std.specs.List.{AllZip};
 ghost use Rattle.krb_lane.specs.Side.{Side};
 ghost use Rattle.krb_peers.specs.Logged.{IsShut};
@@ -66,12 +66,7 @@ fn round<R: Wait>(
     ensures same { map lane_of ends.new ≡ map lane_of ends.old }
 {
     for lane in 0..ends.len() {
-        if let Err(cause) = turn_at(rt, alloc, starts, lane, ends, receivings, log) {
-            return Err(OwnFault {
-                cause,
-                lane: lane as u32,
-            });
-        }
+        turn_at(rt, alloc, starts, lane, ends, receivings, log)?;
     }
     Ok(())
 }
@@ -85,22 +80,30 @@ fn turn_at<R: Wait>(
     ends: &mut [LaneRx],
     receivings: &mut [Receiving],
     log: &mut Log,
-) -> Result<(), OwnCause>
+) -> Result<(), OwnFault>
     requires there { lane < length ends.old }
     requires stands { Stands lane starts.now.value.items ends.old receivings.old log.old }
     ensures ok { OnOk result
         (Stands (lane + 1) starts.now.value.items ends.new receivings.new log.new) }
     ensures err { OnErr result (Stops starts.now.value.items ends.old ends.new log.new) }
+    ensures named { IfErr result (λ fault. fault.lane ≡ lane) }
     ensures same { map lane_of ends.new ≡ map lane_of ends.old }
 {
-    turn(
+    let number = lane as u32;
+    match turn(
         rt,
         alloc,
-        lane as u32,
+        number,
         &mut ends[lane],
         &mut receivings[lane],
         log,
-    )
+    ) {
+        Ok(()) => Ok(()),
+        Err(cause) => Err(OwnFault {
+            cause,
+            lane: number,
+        }),
+    }
 }
 
 /// Takes the next item of a lane, unless its End was taken: a frame is judged and its outcome

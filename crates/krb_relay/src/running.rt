@@ -85,20 +85,10 @@ pub fn relay<R: Threads + Wait + Sync, G: Gate + Sync, S: Sealer + Send>(
         fault,
     } = run_all(rt, alloc, capacity, &work, sendings, receivings, log);
     if let Some(own) = own {
-        return Err(Fault {
-            cause: own.cause.cause(),
-            lane: own.lane,
-            log,
-            sealed,
-        });
+        return Err(own.into_fault(log, sealed));
     }
     match fault {
-        Some(fault) => Err(Fault {
-            cause: fault.cause,
-            lane: fault.lane,
-            log,
-            sealed,
-        }),
+        Some(fault) => Err(fault.into_fault(log, sealed)),
         None => Ok(Report { log, sent }),
     }
 }

@@ -1,5 +1,5 @@
 -- A level around the levels inside.
-use Rattle.std.proofs.Common.{◌≡◌, ◌∷◌, [], List, length, drop, replicate, slice_set, ap, ◌<◌, refl, sym, subst, ◌∙◌, arith, None}
+use Rattle.std.proofs.Common.{◌≡◌, ◌∷◌, [], List, length, drop, replicate, ap, refl, sym, subst, ◌∙◌, arith, inl, None}
 use Rattle.std.specs.Prelude.{All}
 use Rattle.std.proofs.lemmas.List.{nil_from_length, length_push, take_at}
 use Rattle.krb_lane.specs.Side.{Side}
@@ -13,7 +13,7 @@ returns-in_default g t c =
     let P : List Side → Type 0 = λ x. Finished c.args.receivings.items x c.finish-own.new.ends c.finish-own.new.log c.finish-own.result in
     let len : length c.finish-own.new.ends ≡ c.args.ends.len = omega arith in
     rw (take_at c.finish-own.new.ends (drop (length c.finish-own.new.ends) c.args.ends.items) c.args.ends.len len)
-    (gathers_none {S = g.row.S.Denot} (g.W.Work.gives c.args.work.now) c.args.parts.items c.args.receivings.items c.args.ends.items c.finish-own.new.ends c.finish-own.new.log (replicate 8 0) c.finish-own.result None refl refl (λ none. empty)
+    (gathers_none {S = g.row.S.Denot} (g.W.Work.gives c.args.work.now) c.args.parts.items c.args.receivings.items c.args.ends.items c.finish-own.new.ends c.finish-own.new.log (replicate 8 0) c.finish-own.result None refl refl (λ none. empty) (λ stop is. inl empty)
     (subst P c.as_mut_slice.ensures.value c.finish-own.ensures.finished))
 
 pub begin-requires-clause-callable : goal.begin-requires-clause-callable
@@ -40,7 +40,7 @@ returns-in-Err g t c =
     let Q : List Side → Type 0 = λ x. Finished c.args.receivings.items x c.give_up-own.new.ends c.args.log c.give_up-own.result in
     let len : length c.give_up-own.new.ends ≡ c.begin.new.ends.len = omega arith in
     rw (take_at c.give_up-own.new.ends (drop (length c.give_up-own.new.ends) c.begin.new.ends.items) c.begin.new.ends.len len)
-    (gathers_fault {S = g.row.S.Denot} (g.W.Work.gives c.args.work.now) c.args.parts.items c.args.receivings.items c.args.ends.items c.begin.new.ends.items c.give_up-own.new.ends c.args.log (replicate 8 0) c.give_up-own.result _ refl c.in-Err.ensures.err c.give_up-own.ensures.fault
+    (gathers_fault {S = g.row.S.Denot} (g.W.Work.gives c.args.work.now) c.args.parts.items c.args.receivings.items c.args.ends.items c.begin.new.ends.items c.give_up-own.new.ends c.args.log (replicate 8 0) c.give_up-own.result _ refl c.in-Err.ensures.err c.give_up-own.ensures.fault (omega arith)
     (subst Q c.as_mut_slice-in-Err.ensures.value c.give_up-own.ensures.finished))
 
 pub returns-in-Some-cause : goal.returns-in-Some-cause

@@ -1,12 +1,11 @@
 -- A turn, among the ends and receivers of all lanes.
 use Rattle.std.proofs.Common.{arith}
-use Rattle.std.proofs.lemmas.Result.{on_ok_weaker, on_err_weaker}
 use Rattle.krb_relay.proofs.EndsLemmas.{same_lanes}
 use Rattle.krb_relay.proofs.StandsLemmas.{lane_below, lane_small, shut_here, moments_here, turned, stopped}
 use Rattle.krb_relay.proofs.rounds.turn_at.Goals as goal
 
-pub overflow_cast-lane : goal.overflow_cast-lane
-overflow_cast-lane g c = let small = lane_small _ _ _ _ _ c.requires.stands c.requires.there in omega (arith, small)
+pub overflow_cast-number : goal.overflow_cast-number
+overflow_cast-number g c = let small = lane_small _ _ _ _ _ c.requires.stands c.requires.there in omega (arith, small)
 
 pub turn-requires-clause-lane : goal.turn-requires-clause-lane
 turn-requires-clause-lane g c = lane_below _ _ _ _ _ c.requires.stands c.requires.there
@@ -17,17 +16,16 @@ turn-requires-clause-shut g c = shut_here _ _ _ _ _ c.requires.stands c.requires
 pub turn-requires-clause-moments : goal.turn-requires-clause-moments
 turn-requires-clause-moments g c = moments_here _ _ _ _ _ c.requires.stands c.requires.there c.index-ends-lane.result _
 
-pub returns-clause-ok : goal.returns-clause-ok
-returns-clause-ok g c =
-    on_ok_weaker c.turn.result
-    (λ turns. turned _ _ _ _ _ c.requires.stands c.requires.there _ _ _ _ _ turns)
-    c.turn.ensures.ok
+pub returns-in-Ok-clause-ok : goal.returns-in-Ok-clause-ok
+returns-in-Ok-clause-ok g c = turned _ _ _ _ _ c.requires.stands c.requires.there _ _ _ _ _ c.in-Ok.ensures.ok
 
-pub returns-clause-err : goal.returns-clause-err
-returns-clause-err g c =
-    on_err_weaker c.turn.result
-    (λ e. stopped _ _ _ _ _ c.requires.stands c.requires.there _ _ _ e.0 e.1)
-    c.turn.ensures.err
+pub returns-in-Ok-clause-same : goal.returns-in-Ok-clause-same
+returns-in-Ok-clause-same g c = same_lanes c.args.ends.now c.args.lane _ c.turn.new.rx c.turn.ensures.same
 
-pub returns-clause-same : goal.returns-clause-same
-returns-clause-same g c = same_lanes c.args.ends.now c.args.lane _ c.turn.new.rx c.turn.ensures.same
+pub returns-in-Err-clause-err : goal.returns-in-Err-clause-err
+returns-in-Err-clause-err g c =
+    let e = c.in-Err.ensures.err in
+    stopped _ _ _ _ _ c.requires.stands c.requires.there _ _ _ e.0 e.1
+
+pub returns-in-Err-clause-same : goal.returns-in-Err-clause-same
+returns-in-Err-clause-same g c = same_lanes c.args.ends.now c.args.lane _ c.turn.new.rx c.turn.ensures.same

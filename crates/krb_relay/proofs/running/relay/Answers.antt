@@ -15,12 +15,13 @@ returns-in_default-clause-stopped g c =
 
 pub returns-in-Some-clause-stopped : goal.returns-in-Some-clause-stopped
 returns-in-Some-clause-stopped g c =
-    rw c.cause.ensures
+    rw (c.into_fault.ensures.cause, c.into_fault.ensures.lane, c.into_fault.ensures.log)
     (stopped_own _ (source_of g.S.Sealer.state) (λ part tx handed k. k) c.args.sendings.items _ c.args.receivings.items _ _ _ _ _ c.reverse.ensures.items c.requires.same c.run_all-log.ensures c.in-Some.own)
 
 pub returns-in-Some-fault-clause-stopped : goal.returns-in-Some-fault-clause-stopped
 returns-in-Some-fault-clause-stopped g c =
-    stopped_worker _ (source_of g.S.Sealer.state) (λ part tx handed k. k) c.args.sendings.items _ c.args.receivings.items _ _ _ _ _ c.reverse.ensures.items c.requires.same c.run_all-log.ensures c.in-Some-fault.fault c.in_default-own.is c.in-Some-fault.is
+    rw (c.into_fault-in-Some-fault.ensures.cause, c.into_fault-in-Some-fault.ensures.lane, c.into_fault-in-Some-fault.ensures.log)
+    (stopped_worker _ (source_of g.S.Sealer.state) (λ part tx handed k. k) c.args.sendings.items _ c.args.receivings.items _ _ _ _ _ c.reverse.ensures.items c.requires.same c.run_all-log.ensures c.in-Some-fault.fault c.in_default-own.is c.in-Some-fault.is)
 
 pub returns-in-None-clause-whole : goal.returns-in-None-clause-whole
 returns-in-None-clause-whole g c =
@@ -36,8 +37,10 @@ returns-in_default-clause-sealed g c =
 
 pub returns-in-Some-clause-sealed : goal.returns-in-Some-clause-sealed
 returns-in-Some-clause-sealed g c =
-    seals_of _ (source_of g.S.Sealer.state) (λ part tx handed k. k) c.args.sendings.items _ c.args.receivings.items _ _ _ _ _ c.reverse.ensures.items c.requires.same c.run_all-log.ensures
+    rw (c.into_fault.ensures.log, c.into_fault.ensures.sealed)
+    (seals_of _ (source_of g.S.Sealer.state) (λ part tx handed k. k) c.args.sendings.items _ c.args.receivings.items _ _ _ _ _ c.reverse.ensures.items c.requires.same c.run_all-log.ensures)
 
 pub returns-in-Some-fault-clause-sealed : goal.returns-in-Some-fault-clause-sealed
 returns-in-Some-fault-clause-sealed g c =
-    seals_of _ (source_of g.S.Sealer.state) (λ part tx handed k. k) c.args.sendings.items _ c.args.receivings.items _ _ _ _ _ c.reverse.ensures.items c.requires.same c.run_all-log.ensures
+    rw (c.into_fault-in-Some-fault.ensures.log, c.into_fault-in-Some-fault.ensures.sealed)
+    (seals_of _ (source_of g.S.Sealer.state) (λ part tx handed k. k) c.args.sendings.items _ c.args.receivings.items _ _ _ _ _ c.reverse.ensures.items c.requires.same c.run_all-log.ensures)
