@@ -41,7 +41,7 @@ lanes-push state (s ∷ ss) (r ∷ rs) sending receiving same = ap (λ l. ends_o
 
 pub lane_more : {S : Type 0} (state : S → SealerState) (sendings sendings-now : List (Sending S)) (receivings receivings-now : List Receiving) (sending : Sending S) (receiving : Receiving) (sender : Sender) (sealer : SealerState)
     → length sendings ≡ length receivings → sendings-now ≡ sendings ++ sending ∷ [] → receivings-now ≡ receivings ++ receiving ∷ []
-    → Some (source_of state sending) ≡ source_in sender sealer → receiving.receiver ≡ receiver_of sender → receiving.nows.items ≡ sender.nows
+    → Some (source_of state sending) ≡ source_in sender sealer → receiving.receiver ≡ receiver_of sender → receiving.nows.items ≡ sender.traffic.nows
     → map Some (lanes_of state sendings-now receivings-now) ≡ map Some (lanes_of state sendings receivings) ++ ends_in sender sealer ∷ []
 lane_more state sendings sendings-now receivings receivings-now sending receiving sender sealer same s-is r-is source receiver nows =
     let ends : Some (ends_of state (sending, receiving)) ≡ ends_in sender sealer =

@@ -18,56 +18,56 @@ use Rattle.krb_commands.specs.declared.ends.SessionKey.TheVariants.{Aes128, Aes2
 
 -- the key of its encryption type
 abbrev pub IsKey : Sender → SessionKey → Type 0
-IsKey sender (Aes128 key) = (sender.etype ≡ pos 17) × (key ≡ sender.key)
-IsKey sender (Aes256 key) = (sender.etype ≡ pos 18) × (key ≡ sender.key)
+IsKey sender (Aes128 key) = (sender.protection.etype ≡ pos 17) × (key ≡ sender.protection.key)
+IsKey sender (Aes256 key) = (sender.protection.etype ≡ pos 18) × (key ≡ sender.protection.key)
 
 -- what the sender writes into each message
 abbrev pub session_of : Sender → Session
 session_of sender = record {
-  mode = sender.mode;
-  s_addr = sender.from;
-  r_addr = if sender.write_to then Some sender.to else None;
-  first = sender.first;
+  mode = sender.protection.mode;
+  s_addr = sender.parties.from;
+  r_addr = if sender.parties.write_to then Some sender.parties.to else None;
+  first = sender.protection.first;
 }
 
 -- what the receiver demands of each message
 abbrev pub expect_of : Sender → Expect
 expect_of sender = record {
-  mode = sender.mode;
-  s_addr = sender.from;
-  r_addr = sender.to;
-  require_r = sender.require_to;
-  expect_time = sender.expect_time;
-  skew = sender.skew;
+  mode = sender.protection.mode;
+  s_addr = sender.parties.from;
+  r_addr = sender.parties.to;
+  require_r = sender.parties.require_to;
+  expect_time = sender.parties.expect_time;
+  skew = sender.parties.skew;
 }
 
 -- a sealer that has sealed nothing, and a receiver that has taken nothing, under one key
 abbrev pub sealer_of : Sender → SealerState
-sealer_of sender = new_state sender.etype sender.key (session_of sender)
+sealer_of sender = new_state sender.protection.etype sender.protection.key (session_of sender)
 
 abbrev pub receiver_of : Sender → ReceiverState
 receiver_of sender = record {
-  opener = opener_of sender.etype sender.key (expect_of sender);
-  demand = first_demand sender.first;
+  opener = opener_of sender.protection.etype sender.protection.key (expect_of sender);
+  demand = first_demand sender.protection.first;
 }
 
 -- the sender, around a sealer: the draws are the words of stream 0 under the seed, from word 0 on
 abbrev pub source_with : Sender → SealerState → List ℕ → Source
 source_with sender sealer seed = record {
   sealer = sealer;
-  texts = sender.texts;
-  batch = sender.batch;
-  ats = sender.ats;
+  texts = sender.traffic.texts;
+  batch = sender.traffic.batch;
+  ats = sender.traffic.ats;
   draws = of_seed seed;
-  plan = sender.plan;
+  plan = sender.traffic.plan;
 }
 
 abbrev pub source_in : Sender → SealerState → Option Source
-source_in sender sealer = option_map (source_with sender sealer) sender.seed
+source_in sender sealer = option_map (source_with sender sealer) sender.traffic.seed
 
 -- both ends of the lane, around a sealer
 abbrev pub ends_with : Sender → Source → Ends
-ends_with sender source = record { source = source; receiver = receiver_of sender; nows = sender.nows }
+ends_with sender source = record { source = source; receiver = receiver_of sender; nows = sender.traffic.nows }
 
 abbrev pub ends_in : Sender → SealerState → Option Ends
 ends_in sender sealer = option_map (ends_with sender) (source_in sender sealer)

@@ -57,69 +57,48 @@ of_relay cause.Wiped lane lines = fault.Memory
 -- a fault of reading an input
 abbrev pub IsOfReading : Fault → Type 0
 IsOfReading fault.TooLong = Unit {0}
-IsOfReading (fault.BadInput b) = ⊥
 IsOfReading fault.Memory = Unit {0}
-IsOfReading (fault.Stopped lines) = ⊥
-IsOfReading (fault.Thread lines) = ⊥
 IsOfReading fault.Read = Unit {0}
-IsOfReading fault.Write = ⊥
+IsOfReading other = ⊥
 
 -- a fault of printing
 abbrev pub IsOfPrinting : Fault → Type 0
-IsOfPrinting fault.TooLong = ⊥
-IsOfPrinting (fault.BadInput b) = ⊥
 IsOfPrinting fault.Memory = Unit {0}
-IsOfPrinting (fault.Stopped lines) = ⊥
-IsOfPrinting (fault.Thread lines) = ⊥
-IsOfPrinting fault.Read = ⊥
 IsOfPrinting fault.Write = Unit {0}
+IsOfPrinting other = ⊥
 
 -- no check of a job
 abbrev pub IsOfNoJob : Fault → Type 0
 IsOfNoJob fault.TooLong = Unit {0}
-IsOfNoJob (fault.BadInput b) = ⊥
 IsOfNoJob fault.Memory = Unit {0}
-IsOfNoJob (fault.Stopped lines) = ⊥
-IsOfNoJob (fault.Thread lines) = ⊥
 IsOfNoJob fault.Read = Unit {0}
 IsOfNoJob fault.Write = Unit {0}
+IsOfNoJob other = ⊥
 
 -- a bad plan, or a fault of printing
 abbrev pub IsOfSealing : Fault → Type 0
-IsOfSealing fault.TooLong = ⊥
 IsOfSealing (fault.BadInput b) = Unit {0}
 IsOfSealing fault.Memory = Unit {0}
-IsOfSealing (fault.Stopped lines) = ⊥
-IsOfSealing (fault.Thread lines) = ⊥
-IsOfSealing fault.Read = ⊥
 IsOfSealing fault.Write = Unit {0}
+IsOfSealing other = ⊥
 
 -- out of memory while frames were taken, or a fault of printing
 abbrev pub IsOfOpening : Fault → Type 0
-IsOfOpening fault.TooLong = ⊥
-IsOfOpening (fault.BadInput b) = ⊥
 IsOfOpening fault.Memory = Unit {0}
 IsOfOpening (fault.Stopped lines) = Unit {0}
-IsOfOpening (fault.Thread lines) = ⊥
-IsOfOpening fault.Read = ⊥
 IsOfOpening fault.Write = Unit {0}
+IsOfOpening other = ⊥
 
--- any of these
+-- any but a fault of reading
 abbrev pub IsOfRelaying : Fault → Type 0
 IsOfRelaying fault.TooLong = ⊥
-IsOfRelaying (fault.BadInput b) = Unit {0}
-IsOfRelaying fault.Memory = Unit {0}
-IsOfRelaying (fault.Stopped lines) = Unit {0}
-IsOfRelaying (fault.Thread lines) = Unit {0}
 IsOfRelaying fault.Read = ⊥
-IsOfRelaying fault.Write = Unit {0}
+IsOfRelaying other = Unit {0}
 
 -- a fault of reading an input, or a check of the job that isn't passed
 abbrev pub IsOfTelling : Fault → Type 0
 IsOfTelling fault.TooLong = Unit {0}
 IsOfTelling (fault.BadInput b) = Unit {0}
 IsOfTelling fault.Memory = Unit {0}
-IsOfTelling (fault.Stopped lines) = ⊥
-IsOfTelling (fault.Thread lines) = ⊥
 IsOfTelling fault.Read = Unit {0}
-IsOfTelling fault.Write = ⊥
+IsOfTelling other = ⊥

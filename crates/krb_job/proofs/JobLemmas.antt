@@ -23,10 +23,10 @@ behind_ok-one done s (Err e) = refl
 
 senders_at : (command : Command) (vs : List Value) (j : ℕ) (earlier : List (List ℕ)) (v : Value) → j < length vs → get_or vs j v ≡ v
     → senders_from command j earlier (items_view (drop j vs))
-    ≡ (sender_at command j earlier (view v) >>= λ s. senders_from command (j + 1) (earlier ++ s.key ∷ []) (items_view (drop (j + 1) vs)) >>= λ others. Ok (s ∷ others))
+    ≡ (sender_at command j earlier (view v) >>= λ s. senders_from command (j + 1) (earlier ++ s.protection.key ∷ []) (items_view (drop (j + 1) vs)) >>= λ others. Ok (s ∷ others))
 senders_at command vs j earlier v within at =
     ap (senders_from command j earlier) (items_view-drop vs j v within)
-    ∙ ap (λ w. sender_at command j earlier (view w) >>= λ s. senders_from command (j + 1) (earlier ++ s.key ∷ []) (items_view (drop (j + 1) vs)) >>= λ others. Ok (s ∷ others)) at
+    ∙ ap (λ w. sender_at command j earlier (view w) >>= λ s. senders_from command (j + 1) (earlier ++ s.protection.key ∷ []) (items_view (drop (j + 1) vs)) >>= λ others. Ok (s ∷ others)) at
 
 keys_of-more : (done : List SenderJob) (s : SenderJob) → keys_of (done ++ s ∷ []) ≡ keys_of done ++ s.key ∷ []
 keys_of-more [] s = refl
@@ -41,6 +41,6 @@ pub senders_more : (command : Command) (vs : List Value) (j : ℕ) (v : Value) (
     → senders_from command 0 [] (items_view vs) ≡ behind_ok (map sender_view done) (senders_from command j (keys_of done) (items_view (drop j vs)))
     → senders_from command 0 [] (items_view vs) ≡ behind_ok (map sender_view (done ++ s ∷ [])) (senders_from command (j + 1) (keys_of (done ++ s ∷ [])) (items_view (drop (j + 1) vs)))
 senders_more command vs j v done s within at is so_far =
-    let step = senders_at command vs j (keys_of done) v within at ∙ ap (λ r. r >>= λ t. senders_from command (j + 1) (keys_of done ++ t.key ∷ []) (items_view (drop (j + 1) vs)) >>= λ others. Ok (t ∷ others)) is in
+    let step = senders_at command vs j (keys_of done) v within at ∙ ap (λ r. r >>= λ t. senders_from command (j + 1) (keys_of done ++ t.protection.key ∷ []) (items_view (drop (j + 1) vs)) >>= λ others. Ok (t ∷ others)) is in
     rw (views-more done s, keys_of-more done s)
     (so_far ∙ ap (behind_ok (map sender_view done)) step ∙ behind_ok-one (map sender_view done) (sender_view s) (senders_from command (j + 1) (keys_of done ++ s.key ∷ []) (items_view (drop (j + 1) vs))))

@@ -19,7 +19,8 @@ use Rattle.krb_job.specs.Checks.{◌>>=◌}
 use Rattle.krb_job.specs.Values.{number_of, seed_of}
 use Rattle.krb_job.specs.Lists.{count, moments_of, texts_of, plan_of, frames_of}
 use Rattle.krb_job.specs.Keys.{needed, optional, some, only_if, has_only}
-use Rattle.krb_job.specs.SenderKeys.{Sender, Traffic, seals, opens, sender_of, protection_of, parties_of, traffic_of, sender_keys, together, if_known}
+use Rattle.krb_job.specs.SenderKeys.{Sender, Protection, Parties, Traffic, seals, opens, sender_of, sender_with, protection_of, parties_of, traffic_of, if_known}
+use Rattle.krb_job.specs.Place.{sender_keys}
 use Rattle.krb_job.specs.Job.{Job, capacity_of, capacity_if_there, are_tables, are_senders, most_senders, senders_if_there, items_of_senders, sender_at, senders_from, in_sender, GivesJob, job_view, has_top_keys, if_top_known, job_of}
 use Rattle.krb_job.specs.SenderView.{sender_view}
 use Rattle.krb_job.proofs.Given.{checked, given, within, value_at}
@@ -80,10 +81,10 @@ length-senders : (command : Command) (j : ℕ) (earlier : List (List ℕ)) (ds :
     → senders_from command j earlier ds ≡ Ok senders → length senders ≡ count ds
 length-senders command j earlier no_items senders e = let same : [] ≡ senders = cc in rw (← same) refl
 length-senders command j earlier (item d ds) senders e =
-    let first = checked (sender_at command j earlier d) (λ s. senders_from command (j + 1) (earlier ++ s.key ∷ []) ds >>= λ others. Ok (s ∷ others)) senders e in
-    let others = checked (senders_from command (j + 1) (earlier ++ first.0.key ∷ []) ds) (λ others. Ok (first.0 ∷ others)) senders first.2 in
+    let first = checked (sender_at command j earlier d) (λ s. senders_from command (j + 1) (earlier ++ s.protection.key ∷ []) ds >>= λ others. Ok (s ∷ others)) senders e in
+    let others = checked (senders_from command (j + 1) (earlier ++ first.0.protection.key ∷ []) ds) (λ others. Ok (first.0 ∷ others)) senders first.2 in
     let same : first.0 ∷ others.0 ≡ senders = cc in
-    rw (← same) (grind (arith, length-senders command (j + 1) (earlier ++ first.0.key ∷ []) ds others.0 others.1))
+    rw (← same) (grind (arith, length-senders command (j + 1) (earlier ++ first.0.protection.key ∷ []) ds others.0 others.1))
 
 -- as many senders were read as the command allows
 senders-count : (command : Command) (ms : Members) (ds : Items) (senders : List Sender)
@@ -133,14 +134,21 @@ seed_of-traffic command ms t sealing e =
     let same : seed.0 ≡ t.seed = ap (λ (x : Traffic). x.seed) (value-ok _ t frames.2) in
     rw (← same) (seed-there (seed_of there.0) seed.0 there.1)
 
-seed_of-sender : (command : Command) (earlier : List (List ℕ)) (ms : Members) (s : Sender) → seals command ≡ true → sender_of command earlier ms ≡ Ok s → IsSome s.seed
+-- what a sender's parts were made of
+with-ok : (p : Protection) (q : Parties) (r : Result Traffic Place) (s : Sender) → sender_with p q r ≡ Ok s
+    → (t : Traffic) × (r ≡ Ok t) × (let made : Sender = record { protection = p; parties = q; traffic = t } in made ≡ s)
+with-ok p q (Ok t) s e = (t, refl, cc)
+with-ok p q (Err place) s e = absurd cc
+
+seed_of-sender : (command : Command) (earlier : List (List ℕ)) (ms : Members) (s : Sender) → seals command ≡ true → sender_of command earlier ms ≡ Ok s → IsSome s.traffic.seed
 unfolding sender_of
 seed_of-sender command earlier ms s sealing e =
     let protection = checked (protection_of earlier ms) _ s e in
     let parties = checked (parties_of ms) _ s protection.2 in
-    let traffic = checked (traffic_of command ms) _ s parties.2 in
-    let known = known-ok (has_only sender_keys ms) (together protection.0 parties.0 traffic.0) s traffic.2 in
-    let same : traffic.0.seed ≡ s.seed = ap (λ (x : Sender). x.seed) known in
+    let whole = checked (sender_with protection.0 parties.0 (traffic_of command ms)) _ s parties.2 in
+    let known = known-ok (has_only sender_keys ms) whole.0 s whole.2 in
+    let traffic = with-ok protection.0 parties.0 (traffic_of command ms) whole.0 whole.1 in
+    let same : traffic.0.seed ≡ s.traffic.seed = ap (λ (x : Sender). x.traffic.seed) (traffic.2 ∙ known) in
     rw (← same) (seed_of-traffic command ms traffic.0 sealing traffic.1)
 
 -- what a sender gives is passed on
@@ -148,7 +156,7 @@ in_sender-ok : (j : ℕ) (r : Result Sender Place) (s : Sender) → in_sender j 
 in_sender-ok j (Ok x) s e = let same : x ≡ s = cc in ap Ok same
 in_sender-ok j (Err place) s e = absurd cc
 
-seed_at : (command : Command) (j : ℕ) (earlier : List (List ℕ)) (d : Data) (s : Sender) → seals command ≡ true → sender_at command j earlier d ≡ Ok s → IsSome s.seed
+seed_at : (command : Command) (j : ℕ) (earlier : List (List ℕ)) (d : Data) (s : Sender) → seals command ≡ true → sender_at command j earlier d ≡ Ok s → IsSome s.traffic.seed
 seed_at command j earlier (table ms) s sealing e = seed_of-sender command earlier ms s sealing (in_sender-ok j (sender_of command earlier ms) s e)
 seed_at command j earlier (string text) s sealing e = absurd cc
 seed_at command j earlier (integer z) s sealing e = absurd cc
@@ -159,13 +167,13 @@ seed_at command j earlier (array ds) s sealing e = absurd cc
 
 -- so has each of a list
 seeds_of-senders : (command : Command) (j : ℕ) (earlier : List (List ℕ)) (ds : Items) (senders : List Sender)
-    → seals command ≡ true → senders_from command j earlier ds ≡ Ok senders → All (λ s. IsSome s.seed) senders
-seeds_of-senders command j earlier no_items senders sealing e = let same : [] ≡ senders = cc in rw (← same) (All-nil (λ s. IsSome s.seed))
+    → seals command ≡ true → senders_from command j earlier ds ≡ Ok senders → All (λ s. IsSome s.traffic.seed) senders
+seeds_of-senders command j earlier no_items senders sealing e = let same : [] ≡ senders = cc in rw (← same) (All-nil (λ s. IsSome s.traffic.seed))
 seeds_of-senders command j earlier (item d ds) senders sealing e =
-    let first = checked (sender_at command j earlier d) (λ s. senders_from command (j + 1) (earlier ++ s.key ∷ []) ds >>= λ others. Ok (s ∷ others)) senders e in
-    let others = checked (senders_from command (j + 1) (earlier ++ first.0.key ∷ []) ds) (λ others. Ok (first.0 ∷ others)) senders first.2 in
+    let first = checked (sender_at command j earlier d) (λ s. senders_from command (j + 1) (earlier ++ s.protection.key ∷ []) ds >>= λ others. Ok (s ∷ others)) senders e in
+    let others = checked (senders_from command (j + 1) (earlier ++ first.0.protection.key ∷ []) ds) (λ others. Ok (first.0 ∷ others)) senders first.2 in
     let same : first.0 ∷ others.0 ≡ senders = cc in
-    rw (← same) (All-cons (λ s. IsSome s.seed) first.0 others.0 (seed_at command j earlier d first.0 sealing first.1) (seeds_of-senders command (j + 1) (earlier ++ first.0.key ∷ []) ds others.0 sealing others.1))
+    rw (← same) (All-cons (λ s. IsSome s.traffic.seed) first.0 others.0 (seed_at command j earlier d first.0 sealing first.1) (seeds_of-senders command (j + 1) (earlier ++ first.0.protection.key ∷ []) ds others.0 sealing others.1))
 
 -- what passed the check of the top keys is what was read
 top_known-ok : (known : Bool) (r : Result (List Sender) BadInput) (senders : List Sender) → if_top_known known r ≡ Ok senders → r ≡ Ok senders
@@ -191,7 +199,7 @@ one_of-job command ms job one e =
     omega arith
 
 -- each sender has a seed where the command seals
-seeds_of-job : (command : Command) (ms : Members) (job : Job) → seals command ≡ true → job_of command ms ≡ Ok job → All (λ s. IsSome s.seed) job.senders
+seeds_of-job : (command : Command) (ms : Members) (job : Job) → seals command ≡ true → job_of command ms ≡ Ok job → All (λ s. IsSome s.traffic.seed) job.senders
 seeds_of-job command ms job sealing e =
     let parts = parts_of-job command ms job e in
     seeds_of-senders command 0 [] parts.0 job.senders sealing parts.2

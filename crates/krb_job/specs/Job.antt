@@ -75,7 +75,7 @@ abbrev pub senders_from : Command → ℕ → List (List ℕ) → Items → Resu
 senders_from command j earlier no_items = Ok []
 senders_from command j earlier (item d ds) = do
   s ← sender_at command j earlier d
-  others ← senders_from command (j + 1) (earlier ++ s.key ∷ []) ds
+  others ← senders_from command (j + 1) (earlier ++ s.protection.key ∷ []) ds
   Ok (s ∷ others)
 
 abbrev pub has_top_keys : Members → Bool

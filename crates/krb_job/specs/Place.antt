@@ -1,25 +1,31 @@
 -- The keys of a sender.
-use Rattle.std.specs.Prelude.{ℕ, List, codes}
+use Rattle.std.specs.Prelude.{ℕ, List, [], ◌∷◌, codes, slice_index_or}
+use denote.Enum.Declared.{tag_of}
+use Rattle.krb_job.specs.contracts.place.Place.{the_type}
 use Rattle.krb_job.specs.declared.place.Place.{Place}
-use Rattle.krb_job.specs.declared.place.Place.TheVariants as places
 
--- a key as it is written in the job
-abbrev pub name_of : Place → List ℕ
-name_of places.Etype = codes "etype"
-name_of places.Key = codes "key"
-name_of places.Mode = codes "mode"
-name_of places.First = codes "first"
-name_of places.From = codes "from"
-name_of places.To = codes "to"
-name_of places.WriteTo = codes "write_to"
-name_of places.RequireTo = codes "require_to"
-name_of places.ExpectTime = codes "expect_time"
-name_of places.Skew = codes "skew"
-name_of places.Seed = codes "seed"
-name_of places.At = codes "at"
-name_of places.Now = codes "now"
-name_of places.Texts = codes "texts"
-name_of places.Batch = codes "batch"
-name_of places.Plan = codes "plan"
-name_of places.Frames = codes "frames"
-name_of places.UnknownKey = codes "unknown key"
+-- the keys as they are written in the job, in the order of their places
+unfoldable pub sender_keys : List (List ℕ)
+sender_keys =
+    codes "etype"
+    ∷ codes "key"
+    ∷ codes "mode"
+    ∷ codes "first"
+    ∷ codes "from"
+    ∷ codes "to"
+    ∷ codes "write_to"
+    ∷ codes "require_to"
+    ∷ codes "expect_time"
+    ∷ codes "skew"
+    ∷ codes "seed"
+    ∷ codes "at"
+    ∷ codes "now"
+    ∷ codes "texts"
+    ∷ codes "batch"
+    ∷ codes "plan"
+    ∷ codes "frames"
+    ∷ []
+
+-- the key of a place; the last place has none
+unfoldable pub name_of : Place → List ℕ
+name_of place = slice_index_or sender_keys (tag_of the_type place) (codes "unknown key")

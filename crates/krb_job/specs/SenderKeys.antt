@@ -10,7 +10,7 @@ use Rattle.krb_job.specs.declared.job.Command.{Command}
 use Rattle.krb_job.specs.declared.job.Command.TheVariants.{Seal, Open, Relay}
 use Rattle.krb_peers.specs.declared.plan.Emit.{Emit}
 use Rattle.krb_job.specs.Checks.{◌>>=◌}
-use Rattle.krb_job.specs.Place.{name_of}
+use Rattle.krb_job.specs.Place.{sender_keys}
 use Rattle.krb_job.specs.Values.{number_of, flag_of, mode_of, key_of, seed_of}
 use Rattle.krb_job.specs.Address.{address_of}
 use Rattle.krb_job.specs.Lists.{moments_of, texts_of, plan_of, frames_of}
@@ -18,7 +18,7 @@ use Rattle.krb_job.specs.Keys.{needed, optional, only_if, some, has_only}
 
 -- how the texts are protected
 pub record Protection : Type 0 where
-  pub etype : ℕ
+  pub etype : ℤ
   pub key : List ℕ
   pub mode : ModeOf
   pub first : ℕ
@@ -44,23 +44,9 @@ pub record Traffic : Type 0 where
 
 -- a sender as the job states it
 pub record Sender : Type 0 where
-  pub etype : ℤ
-  pub key : List ℕ
-  pub mode : ModeOf
-  pub first : ℕ
-  pub from : HostAddress
-  pub to : HostAddress
-  pub write_to : Bool
-  pub require_to : Bool
-  pub expect_time : Bool
-  pub skew : ℕ
-  pub seed : Option (List ℕ)
-  pub ats : List ℕ
-  pub nows : List ℕ
-  pub texts : List (List ℕ)
-  pub batch : ℕ
-  pub plan : Option (List Emit)
-  pub frames : List (List ℕ)
+  pub protection : Protection
+  pub parties : Parties
+  pub traffic : Traffic
 
 abbrev pub seals : Command → Bool
 seals Seal = true
@@ -79,7 +65,7 @@ protection_of earlier ms = do
   key ← needed Key (key_of etype earlier) ms
   mode ← needed Mode mode_of ms
   first ← needed First (number_of 0 last_number) ms
-  Ok (record { etype = etype; key = key; mode = mode; first = first })
+  Ok (record { etype = pos etype; key = key; mode = mode; first = first })
 
 unfoldable pub parties_of : Members → Result Parties Place
 parties_of ms = do
@@ -102,38 +88,18 @@ traffic_of command ms = do
   frames ← only_if (opens command) [] Frames (needed Frames frames_of ms) ms
   Ok (record { seed = seed; ats = ats; nows = nows; texts = texts; batch = batch; plan = plan; frames = frames })
 
--- the keys that a sender may have
-abbrev pub sender_keys : List (List ℕ)
-sender_keys = map name_of (Etype ∷ Key ∷ Mode ∷ First ∷ From ∷ To ∷ WriteTo ∷ RequireTo ∷ ExpectTime ∷ Skew ∷ Seed ∷ At ∷ Now ∷ Texts ∷ Batch ∷ Plan ∷ Frames ∷ [])
-
-abbrev pub together : Protection → Parties → Traffic → Sender
-together p e t = record {
-  etype = pos p.etype;
-  key = p.key;
-  mode = p.mode;
-  first = p.first;
-  from = e.from;
-  to = e.to;
-  write_to = e.write_to;
-  require_to = e.require_to;
-  expect_time = e.expect_time;
-  skew = e.skew;
-  seed = t.seed;
-  ats = t.ats;
-  nows = t.nows;
-  texts = t.texts;
-  batch = t.batch;
-  plan = t.plan;
-  frames = t.frames;
-}
-
 abbrev pub if_known : {A : Type 0} → Bool → A → Result A Place
 if_known true x = Ok x
 if_known false x = Err UnknownKey
+
+-- the sender of these parts, if its traffic passes the checks
+abbrev pub sender_with : Protection → Parties → Result Traffic Place → Result Sender Place
+sender_with protection parties (Ok traffic) = Ok (record { protection = protection; parties = parties; traffic = traffic })
+sender_with protection parties (Err place) = Err place
 
 unfoldable pub sender_of : Command → List (List ℕ) → Members → Result Sender Place
 sender_of command earlier ms = do
   protection ← protection_of earlier ms
   parties ← parties_of ms
-  traffic ← traffic_of command ms
-  if_known (has_only sender_keys ms) (together protection parties traffic)
+  sender ← sender_with protection parties (traffic_of command ms)
+  if_known (has_only sender_keys ms) sender

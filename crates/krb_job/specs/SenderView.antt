@@ -1,47 +1,43 @@
 -- What was read, as its definition sees it: each vector is its list.
-use Rattle.std.specs.Prelude.{ℕ, List, map, option_map}
+use Rattle.std.specs.Prelude.{ℕ, List, map, option_map, pos}
 use Rattle.krb_job.specs.declared.job.SenderJob.{SenderJob}
 use Rattle.krb_job.specs.declared.parts.Protection.{Protection as ReadProtection}
 use Rattle.krb_job.specs.declared.parts.Parties.{Parties as ReadParties}
-use Rattle.krb_job.specs.declared.parts.Traffic.{Traffic as ReadTraffic}
-use Rattle.krb_job.specs.SenderKeys.{Sender, Protection, Parties, Traffic}
+use Rattle.krb_job.specs.SenderKeys.{Sender, Protection, Parties}
 
 abbrev pub protection_view : ReadProtection → Protection
-protection_view p = record { etype = p.etype; key = p.key; mode = p.mode; first = p.first }
+protection_view p = record { etype = pos p.etype; key = p.key; mode = p.mode; first = p.first }
 
 abbrev pub parties_view : ReadParties → Parties
-parties_view p = record { from = p.from; to = p.to; write_to = p.write_to; require_to = p.require_to; expect_time = p.expect_time; skew = p.skew }
-
-abbrev pub traffic_view : ReadTraffic → Traffic
-traffic_view t = record {
-  seed = t.seed;
-  ats = t.ats.items;
-  nows = t.nows.items;
-  texts = t.texts.items;
-  batch = t.batch;
-  plan = option_map (λ v. v.items) t.plan;
-  frames = t.frames.items;
+parties_view p = record {
+  from = p.from;
+  to = p.to;
+  write_to = p.write_to;
+  require_to = p.require_to;
+  expect_time = p.expect_time;
+  skew = p.skew;
 }
 
 abbrev pub sender_view : SenderJob → Sender
 sender_view s = record {
-  etype = s.etype;
-  key = s.key;
-  mode = s.mode;
-  first = s.first;
-  from = s.from;
-  to = s.to;
-  write_to = s.write_to;
-  require_to = s.require_to;
-  expect_time = s.expect_time;
-  skew = s.skew;
-  seed = s.seed;
-  ats = s.ats.items;
-  nows = s.nows.items;
-  texts = s.texts.items;
-  batch = s.batch;
-  plan = option_map (λ v. v.items) s.plan;
-  frames = s.frames.items;
+  protection = record { etype = s.etype; key = s.key; mode = s.mode; first = s.first };
+  parties = record {
+    from = s.from;
+    to = s.to;
+    write_to = s.write_to;
+    require_to = s.require_to;
+    expect_time = s.expect_time;
+    skew = s.skew;
+  };
+  traffic = record {
+    seed = s.seed;
+    ats = s.ats.items;
+    nows = s.nows.items;
+    texts = s.texts.items;
+    batch = s.batch;
+    plan = option_map (λ v. v.items) s.plan;
+    frames = s.frames.items;
+  };
 }
 
 -- the keys of senders

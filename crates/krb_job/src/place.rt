@@ -29,30 +29,38 @@ pub enum Place {
     UnknownKey,
 }
 
+/// The keys as they are written in the job, in the order of [`Place`].
+pub(crate) static SENDER_KEYS: [&str; 17] = [
+    "etype",
+    "key",
+    "mode",
+    "first",
+    "from",
+    "to",
+    "write_to",
+    "require_to",
+    "expect_time",
+    "skew",
+    "seed",
+    "at",
+    "now",
+    "texts",
+    "batch",
+    "plan",
+    "frames",
+];
+
 impl Place {
     /// The key as it is written in the job, or `unknown key`.
+    #[tactic(auto, unfolding(crate::specs::Place::sender_keys, crate::specs::Place::name_of))]
     pub fn name(self) -> &'static str
         ensures { result.now ≡ name_of self }
     {
-        match self {
-            Place::Etype => "etype",
-            Place::Key => "key",
-            Place::Mode => "mode",
-            Place::First => "first",
-            Place::From => "from",
-            Place::To => "to",
-            Place::WriteTo => "write_to",
-            Place::RequireTo => "require_to",
-            Place::ExpectTime => "expect_time",
-            Place::Skew => "skew",
-            Place::Seed => "seed",
-            Place::At => "at",
-            Place::Now => "now",
-            Place::Texts => "texts",
-            Place::Batch => "batch",
-            Place::Plan => "plan",
-            Place::Frames => "frames",
-            Place::UnknownKey => "unknown key",
+        let place = self as usize;
+        if place < SENDER_KEYS.len() {
+            SENDER_KEYS[place]
+        } else {
+            "unknown key"
         }
     }
 }

@@ -7,14 +7,14 @@ ghost use Rattle.toml.specs.View.{view, table_view};
 ghost use Rattle.krb_job.specs.Checks.{Gives};
 ghost use Rattle.krb_job.specs.Values.{key_size, key_of};
 ghost use Rattle.krb_job.specs.Keys.{needed, has_only};
+ghost use Rattle.krb_job.specs.Place.{sender_keys};
 ghost use Rattle.krb_job.specs.SenderKeys.{protection_of, parties_of, traffic_of, sender_of};
-ghost use Rattle.krb_job.specs.SenderKeys.{sender_keys, together};
-ghost use Rattle.krb_job.specs.SenderView.{keys_of, protection_view, parties_view, traffic_view};
-ghost use Rattle.krb_job.specs.SenderView.{sender_view};
+ghost use Rattle.krb_job.specs.SenderKeys.{sender_with};
+ghost use Rattle.krb_job.specs.SenderView.{keys_of, protection_view, parties_view, sender_view};
 
 use crate::job::{Command, SenderJob};
-use crate::parts::{Parties, Protection, Traffic};
-use crate::place::{KeyError, Place};
+use crate::parts::{Parties, Protection};
+use crate::place::{KeyError, Place, SENDER_KEYS};
 use crate::secret::Secret;
 use crate::table::{
     address, batch, flag, frames, has_only, mode, moments, moments_if, needed, number, plan, seed,
@@ -85,6 +85,12 @@ fn read_protection(
     })
 }
 
+fn has_sender_keys(table: &Table) -> bool
+    ensures { result ≡ has_only sender_keys (table_view table.now) }
+{
+    has_only(table, SENDER_KEYS.as_slice())
+}
+
 #[tactic(auto, unfolding(crate::specs::SenderKeys::parties_of))]
 fn read_parties(alloc: Global, table: &Table) -> Result<Parties, KeyError>
     ensures { Gives parties_view result (parties_of (table_view table.now)) }
@@ -105,54 +111,39 @@ fn read_parties(alloc: Global, table: &Table) -> Result<Parties, KeyError>
     })
 }
 
+/// What is sent or opened, and with it the whole sender.
 #[tactic(auto, unfolding(crate::specs::SenderKeys::traffic_of))]
-fn read_traffic(alloc: Global, table: &Table, command: Command) -> Result<Traffic, KeyError>
-    ensures { Gives traffic_view result (traffic_of command (table_view table.now)) }
+fn read_traffic(
+    alloc: Global,
+    table: &Table,
+    command: Command,
+    protection: Protection,
+    parties: Parties,
+) -> Result<SenderJob, KeyError>
+    ensures { Gives sender_view result
+        (sender_with (protection_view protection) (parties_view parties)
+        (traffic_of command (table_view table.now))) }
 {
     let seals = command.seals();
-    let seed = seed(table, Place::Seed, seals)?;
-    let ats = moments_if(alloc, table, Place::At, seals)?;
-    let nows = moments(alloc, table, Place::Now)?;
-    let texts = texts(alloc, table, Place::Texts, seals)?;
-    let batch = batch(table, Place::Batch, seals)?;
-    let plan = plan(alloc, table, Place::Plan, seals)?;
-    let frames = frames(alloc, table, Place::Frames, command.opens())?;
-    Ok(Traffic {
-        seed,
-        ats,
-        nows,
-        texts,
-        batch,
-        plan,
-        frames,
+    Ok(SenderJob {
+        etype: protection.etype as i32,
+        key: protection.key,
+        mode: protection.mode,
+        first: protection.first as u32,
+        from: parties.from,
+        to: parties.to,
+        write_to: parties.write_to,
+        require_to: parties.require_to,
+        expect_time: parties.expect_time,
+        skew: parties.skew as u32,
+        seed: seed(table, Place::Seed, seals)?,
+        ats: moments_if(alloc, table, Place::At, seals)?,
+        nows: moments(alloc, table, Place::Now)?,
+        texts: texts(alloc, table, Place::Texts, seals)?,
+        batch: batch(table, Place::Batch, seals)?,
+        plan: plan(alloc, table, Place::Plan, seals)?,
+        frames: frames(alloc, table, Place::Frames, command.opens())?,
     })
-}
-
-/// The keys that a sender may have.
-static SENDER_KEYS: [&str; 17] = [
-    "etype",
-    "key",
-    "mode",
-    "first",
-    "from",
-    "to",
-    "write_to",
-    "require_to",
-    "expect_time",
-    "skew",
-    "seed",
-    "at",
-    "now",
-    "texts",
-    "batch",
-    "plan",
-    "frames",
-];
-
-fn has_sender_keys(table: &Table) -> bool
-    ensures { result ≡ has_only sender_keys (table_view table.now) }
-{
-    has_only(table, SENDER_KEYS.as_slice())
 }
 
 /// The sender that a table states, for the command. No earlier sender has its key.
@@ -171,35 +162,10 @@ pub(crate) fn read_sender(
 {
     let protection = read_protection(alloc, table, earlier)?;
     let parties = read_parties(alloc, table)?;
-    let traffic = read_traffic(alloc, table, command)?;
+    let sender = read_traffic(alloc, table, command, protection, parties)?;
     if has_sender_keys(table) {
-        Ok(together(protection, parties, traffic))
+        Ok(sender)
     } else {
         Err(KeyError::Bad(Place::UnknownKey))
-    }
-}
-
-fn together(protection: Protection, parties: Parties, traffic: Traffic) -> SenderJob
-    ensures { sender_view result
-        ≡ together (protection_view protection) (parties_view parties) (traffic_view traffic) }
-{
-    SenderJob {
-        etype: protection.etype as i32,
-        key: protection.key,
-        mode: protection.mode,
-        first: protection.first as u32,
-        from: parties.from,
-        to: parties.to,
-        write_to: parties.write_to,
-        require_to: parties.require_to,
-        expect_time: parties.expect_time,
-        skew: parties.skew as u32,
-        seed: traffic.seed,
-        ats: traffic.ats,
-        nows: traffic.nows,
-        texts: traffic.texts,
-        batch: traffic.batch,
-        plan: traffic.plan,
-        frames: traffic.frames,
     }
 }

@@ -45,20 +45,20 @@ IsBadToSeal told bad =
 abbrev pub Opens : Told → Option (List ℕ) → Option (List ℕ) → ℕ → Type 0
 Opens told old new status =
     (sender : Sender) × TellsOne told sender
-    × PrintsOpened (receiver_of sender) sender.nows sender.frames old new status
+    × PrintsOpened (receiver_of sender) sender.traffic.nows sender.traffic.frames old new status
 
 -- a prefix of that, or nothing
 abbrev pub OpensPrefix : Told → Option (List ℕ) → Option (List ℕ) → Type 0
 OpensPrefix told old new =
     Keeps old new
     ⊎ ((sender : Sender) × TellsOne told sender
-    × PrintsOpenedPrefix (receiver_of sender) sender.nows sender.frames old new)
+    × PrintsOpenedPrefix (receiver_of sender) sender.traffic.nows sender.traffic.frames old new)
 
 -- so many lines are printed: the outcome of the first frames
 abbrev pub OpensFirst : Told → ℕ → Option (List ℕ) → Option (List ℕ) → Type 0
 OpensFirst told lines old new =
     (sender : Sender) × TellsOne told sender
-    × PrintsFirst (receiver_of sender) sender.nows sender.frames lines old new
+    × PrintsFirst (receiver_of sender) sender.traffic.nows sender.traffic.frames lines old new
 
 -- these are the lanes of the job's senders
 abbrev pub AreLanes : Job → List Ends → Type 0
