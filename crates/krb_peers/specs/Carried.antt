@@ -1,6 +1,7 @@
 -- A lane whose carrier brings each frame in its turn. Anything may come between: frames repeated,
 -- early, changed or made up.
-use Rattle.std.specs.Prelude.{◌≡◌, ℕ, suc, ◌+◌, ◌<◌, ◌≤◌, true, List, length, take, slice_get, Option, Some, None, Ok}
+use Rattle.std.specs.Prelude.{◌≡◌, ℕ, suc, ◌+◌, ◌<◌, ◌≤◌, true, List, length, take, slice_get}
+use Rattle.std.specs.Prelude.{Option, Some, None, Ok}
 use Rattle.krb_base.specs.Prefix.{IsPrefix}
 use Rattle.krb_seal.specs.Laws.{Agree}
 use Rattle.krb_peers.specs.declared.delivery.Delivery.{Delivery}
@@ -25,11 +26,13 @@ StandsAt (Some plan) k place = slice_get plan place ≡ Some (Frame k)
 pub record ComeInTurn (first : ℕ) (ends : Ends) : Type 0 where
   pub planned : ¬ IsBad ends.source
   pub place : ℕ → ℕ
-  pub stands : (k : ℕ) → first ≤ k → k < length (records ends.source) → StandsAt ends.source.plan k (place k)
+  pub stands : (k : ℕ) → first ≤ k → k < length (records ends.source)
+      → StandsAt ends.source.plan k (place k)
   pub rises : (k : ℕ) → first ≤ k → suc k < length (records ends.source) → place k < place (suc k)
   pub agree :
       (k : ℕ) → first ≤ k → k < length (records ends.source)
-      → Agree ends.source.sealer.session ends.receiver.opener.expect (moment_at ends.source.ats k) (moment_at ends.nows (place k))
+      → Agree ends.source.sealer.session ends.receiver.opener.expect (moment_at ends.source.ats k)
+          (moment_at ends.nows (place k))
 
 -- The lane is paired, and each of the sender's frames comes in its turn.
 pub record Carried (ends : Ends) : Type 0 where
@@ -50,10 +53,13 @@ pub record GoesOnBehind (source : Source) (before : List Verdict) (ends : Ends) 
   pub sender : ends.source ≡ record source { plan = ends.source.plan }
   pub etype : ends.receiver.opener.etype ≡ source.sealer.etype
   pub key : ends.receiver.opener.key ≡ source.sealer.key
-  pub demand : ends.receiver.demand ≡ demand_after (first_demand source.sealer.next) (records_of before)
+  pub demand : ends.receiver.demand
+      ≡ demand_after (first_demand source.sealer.next) (records_of before)
 
 -- the altered-frames premise, after so many records were accepted before
 abbrev pub AlteredAreHonestBehind : ℕ → Run → Type 0
 AlteredAreHonestBehind before run =
-    (place : ℕ) (d : Delivery) → altered_at run.ends.source.plan place ≡ true → slice_get run.verdicts place ≡ Some (Ok d)
-    → slice_get (records run.ends.source) (before + length (records_of (take place run.verdicts))) ≡ Some (record_of d)
+    (place : ℕ) (d : Delivery) → altered_at run.ends.source.plan place ≡ true
+        → slice_get run.verdicts place ≡ Some (Ok d)
+    → slice_get (records run.ends.source) (before + length (records_of (take place run.verdicts)))
+        ≡ Some (record_of d)

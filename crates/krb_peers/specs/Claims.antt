@@ -1,6 +1,7 @@
 -- What is claimed of a lane. Each claim is here once, about a list of events: `headline_laws`
 -- states it of those that verdicts bring, and `Headline` of those that a log has of the lane.
-use Rattle.std.specs.Prelude.{◌≡◌, ◌↔◌, ℕ, Bool, true, false, List, [], ◌∷◌, ◌++◌, take, slice_get, slice_index_or, Some, Err}
+use Rattle.std.specs.Prelude.{◌≡◌, ◌↔◌, ℕ, Bool, true, false, List, [], ◌∷◌, ◌++◌, take, slice_get}
+use Rattle.std.specs.Prelude.{slice_index_or, Some, Err}
 use Rattle.krb_base.specs.Prefix.{IsPrefix}
 use Rattle.krb_seal.specs.declared.refusal.Refusal.{Refusal}
 use Rattle.krb_peers.specs.declared.log.Event.{Event}
@@ -34,7 +35,8 @@ DeliversWhole source events = DeliversAll source events × (has_closed events �
 -- nothing is delivered and no close is accepted after a close
 abbrev pub NothingAfterClose : List Event → Type 0
 NothingAfterClose events =
-    (front back : List Event) → events ≡ front ++ Closed ∷ back → (texts_in back ≡ []) × (has_closed back ≡ false)
+    (front back : List Event) → events ≡ front ++ Closed ∷ back → (texts_in back ≡ [])
+        × (has_closed back ≡ false)
 
 -- all texts are delivered if the close was accepted
 abbrev pub AllWhereClosed : Source → List Event → Type 0
@@ -45,7 +47,8 @@ abbrev pub RefusesExactly : ReceiverState → List ℕ → List (List ℕ) → L
 RefusesExactly start nows took verdicts =
     (place : ℕ) (frame : List ℕ) (refusal : Refusal) → slice_get took place ≡ Some frame
     → let demanded = demand_after start.demand (records_of (take place verdicts)) in
-    (slice_get verdicts place ≡ Some (Err refusal)) ↔ Fails start.opener demanded (moment_at nows place) frame refusal
+    (slice_get verdicts place ≡ Some (Err refusal))
+        ↔ Fails start.opener demanded (moment_at nows place) frame refusal
 
 -- a refusal delivers nothing and moves no number: without it, the same is delivered and demanded
 abbrev pub RefusalsDeliverNothing : Demand → List Verdict → List Event → Type 0
@@ -64,16 +67,20 @@ has_ended lane log = slice_index_or log.ended lane false
 -- run
 pub record Headline (log : LogState) (lane : ℕ) (run : Run) : Type 0 where
   pub delivered_prefix :
-      IsPaired run.ends → AlteredAreHonest run → DeliversPrefix run.ends.source (events_of lane log.entries)
+      IsPaired run.ends → AlteredAreHonest run
+          → DeliversPrefix run.ends.source (events_of lane log.entries)
   pub nothing_after_close : NothingAfterClose (events_of lane log.entries)
   pub all_where_closed :
-      IsPaired run.ends → AlteredAreHonest run → AllWhereClosed run.ends.source (events_of lane log.entries)
+      IsPaired run.ends → AlteredAreHonest run
+          → AllWhereClosed run.ends.source (events_of lane log.entries)
   -- all texts are delivered if the lane is clean and its End was taken
   pub all_where_undisturbed :
-      Undisturbed run.ends → has_ended lane log ≡ true → DeliversAll run.ends.source (events_of lane log.entries)
+      Undisturbed run.ends → has_ended lane log ≡ true
+          → DeliversAll run.ends.source (events_of lane log.entries)
   -- and if each frame came in its turn, whatever else came, and the lane's End was taken
   pub all_where_carried :
-      Carried run.ends → AlteredAreHonest run → has_ended lane log ≡ true → DeliversWhole run.ends.source (events_of lane log.entries)
+      Carried run.ends → AlteredAreHonest run → has_ended lane log ≡ true
+          → DeliversWhole run.ends.source (events_of lane log.entries)
   pub refused_exactly : RefusesExactly run.ends.receiver run.ends.nows run.took run.verdicts
   pub refusals_deliver_nothing :
       RefusalsDeliverNothing run.ends.receiver.demand run.verdicts (events_of lane log.entries)

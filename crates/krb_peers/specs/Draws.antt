@@ -23,4 +23,6 @@ word_from g i = word_bytes (after_words i g)
 
 -- confounder k: the words 4k to 4k + 3, in order
 abbrev pub confounder_at : ChaCha → ℕ → List ℕ
-confounder_at g k = word_from g (4 * k) ++ word_from g (4 * k + 1) ++ word_from g (4 * k + 2) ++ word_from g (4 * k + 3)
+confounder_at g k =
+    word_from g (4 * k) ++ word_from g (4 * k + 1) ++ word_from g (4 * k + 2)
+    ++ word_from g (4 * k + 3)

@@ -24,7 +24,8 @@ ends_of state pair = record {
 }
 
 -- the lanes of senders and receivers: the first sender with the first receiver, and so on
-abbrev pub lanes_of : {S : Type 0} → (S → SealerState) → List (Sending S) → List Receiving → List Ends
+abbrev pub lanes_of : {S : Type 0} → (S → SealerState) → List (Sending S) → List Receiving
+    → List Ends
 lanes_of state sendings receivings = map (ends_of state) (zip sendings receivings)
 
 -- how much the sender of each lane seals

@@ -1,5 +1,6 @@
 -- What holds of senders, receivers and logs: what the laws state.
-use Rattle.std.specs.Prelude.{◌≡◌, ◌↔◌, ◌<◌, ◌≤◌, ℕ, suc, ◌+◌, List, [], ◌∷◌, ◌++◌, length, take, All, IsOk, None}
+use Rattle.std.specs.Prelude.{◌≡◌, ◌↔◌, ◌<◌, ◌≤◌, ℕ, suc, ◌+◌, List, [], ◌∷◌, ◌++◌, length, take}
+use Rattle.std.specs.Prelude.{All, IsOk, None}
 use Rattle.std.specs.List.{Contains, flat_map}
 use Rattle.krb_base.specs.Prefix.{IsPrefix}
 use Rattle.krb_base.specs.Limits.{user_data_limit}
@@ -16,7 +17,8 @@ use Rattle.krb_peers.specs.Order.{Offer, Answer, answers_to, first_demand, deman
 use Rattle.krb_peers.specs.Accepted.{Accepted, accepted_of, AreNumbered, EndsWithItsClose}
 use Rattle.krb_peers.specs.Sender.{Source, IsWithinLimits, AreFrames, moment_at, records}
 use Rattle.krb_peers.specs.ReceiverState.{ReceiverState}
-use Rattle.krb_peers.specs.Verdicts.{Verdict, AllBytes, AreVerdicts, AreJudged, IsVerdict, verdict, verdicts, records_of, events_from}
+use Rattle.krb_peers.specs.Verdicts.{Verdict, AllBytes, AreVerdicts, AreJudged, IsVerdict, verdict}
+use Rattle.krb_peers.specs.Verdicts.{verdicts, records_of, events_from}
 use Rattle.krb_peers.specs.Log.{events_of, entries_for}
 use Rattle.krb_peers.specs.LogState.{LogState}
 use Rattle.krb_peers.specs.Logged.{HasLogged, IsShut}
@@ -24,8 +26,10 @@ use Rattle.krb_peers.specs.Ends.{Ends}
 use Rattle.krb_peers.specs.Run.{Run, IsRun, AreRuns, OfRuns}
 use Rattle.krb_peers.specs.Premises.{IsPaired, AlteredAreHonest}
 use Rattle.krb_peers.specs.Undisturbed.{Undisturbed, TakesAll}
-use Rattle.krb_peers.specs.Carried.{ComeInTurn, Carried, AcceptInOrder, GoesOnBehind, AlteredAreHonestBehind}
-use Rattle.krb_peers.specs.Claims.{DeliversPrefix, DeliversAll, DeliversWhole, NothingAfterClose, AllWhereClosed, RefusesExactly, RefusalsDeliverNothing, Headline}
+use Rattle.krb_peers.specs.Carried.{ComeInTurn, Carried, AcceptInOrder, GoesOnBehind}
+use Rattle.krb_peers.specs.Carried.{AlteredAreHonestBehind}
+use Rattle.krb_peers.specs.Claims.{DeliversPrefix, DeliversAll, DeliversWhole, NothingAfterClose}
+use Rattle.krb_peers.specs.Claims.{AllWhereClosed, RefusesExactly, RefusalsDeliverNothing, Headline}
 use Rattle.krb_peers.specs.Rounds.{AreRounds, joined, list_of, rounds, rounds_below, NoneLonger}
 use Rattle.krb_peers.specs.Whole.{rounds_of, EndsWhole, IsRelayed, IsWhole}
 
@@ -37,7 +41,8 @@ OneRecord = (bytes : List ℕ) (r s : Record) → SpellsRecord r bytes → Spell
 
 -- and none are longer than the user data
 abbrev pub RecordsAreShort : Type 0
-RecordsAreShort = (bytes : List ℕ) (r : Record) → SpellsRecord r bytes → length bytes ≤ user_data_limit
+RecordsAreShort =
+    (bytes : List ℕ) (r : Record) → SpellsRecord r bytes → length bytes ≤ user_data_limit
 
 -- ---- offers
 
@@ -48,13 +53,15 @@ OneListOfAnswers = (first : ℕ) (offers : List Offer) (answers : List Answer)
 
 -- nothing is accepted after a close
 abbrev pub CloseIsLast : Type 0
-CloseIsLast = (first : ℕ) (offers : List Offer) (answers : List Answer) → Accepted first offers answers
+CloseIsLast =
+    (first : ℕ) (offers : List Offer) (answers : List Answer) → Accepted first offers answers
     → (front back : List Record) → accepted_of offers answers ≡ front ++ Close ∷ back → back ≡ []
 
 -- it holds if each offer numbered `first + k` carries record k of the list
 abbrev pub OfNumbered : (List Record → List Record → Type 0) → Type 0
 OfNumbered Claim =
-    (first : ℕ) (records : List Record) (offers : List Offer) (answers : List Answer) → Accepted first offers answers
+    (first : ℕ) (records : List Record) (offers : List Offer) (answers : List Answer)
+        → Accepted first offers answers
     → AreNumbered first records offers → Claim records (accepted_of offers answers)
 
 -- what is accepted is a prefix of the list, and so are its texts
@@ -62,34 +69,48 @@ abbrev pub AcceptsPrefix : Type 0
 AcceptsPrefix = OfNumbered (λ records accepted. IsPrefix accepted records)
 
 abbrev pub AcceptsTextsPrefix : Type 0
-AcceptsTextsPrefix = OfNumbered (λ records accepted. IsPrefix (flat_map texts_of accepted) (flat_map texts_of records))
+AcceptsTextsPrefix =
+    OfNumbered
+    (λ records accepted. IsPrefix (flat_map texts_of accepted) (flat_map texts_of records))
 
 -- and it is the whole list if the list's one close is last and was accepted
 abbrev pub AcceptsWhole : Type 0
-AcceptsWhole = OfNumbered (λ records accepted. EndsWithItsClose records → Contains accepted Close → accepted ≡ records)
+AcceptsWhole =
+    OfNumbered
+    (λ records accepted. EndsWithItsClose records → Contains accepted Close → accepted ≡ records)
 
 -- ---- verdicts
 
 -- a frame of bytes has one verdict
 abbrev pub OneVerdict : Type 0
-OneVerdict = (opener : OpenerState) (start : Demand) (now : ℕ) (frame : List ℕ) (v : Verdict) → AreBytes frame
+OneVerdict =
+    (opener : OpenerState) (start : Demand) (now : ℕ) (frame : List ℕ) (v : Verdict)
+    → AreBytes frame
     → IsVerdict opener start now frame v ↔ (v ≡ verdict opener start now frame)
 
 -- and frames of bytes have one list of verdicts
 abbrev pub OneListOfVerdicts : Type 0
-OneListOfVerdicts = (opener : OpenerState) (nows : List ℕ) (start : Demand) (frames : List (List ℕ)) (answers : List Verdict)
-    → AllBytes frames → AreVerdicts opener nows start 0 frames answers ↔ (answers ≡ verdicts opener nows start 0 frames)
+OneListOfVerdicts =
+    (opener : OpenerState) (nows : List ℕ) (start : Demand) (frames : List (List ℕ))
+    (answers : List Verdict)
+    → AllBytes frames → AreVerdicts opener nows start 0 frames answers
+        ↔ (answers ≡ verdicts opener nows start 0 frames)
 
 -- one more frame brings one more verdict, by what is demanded then
 abbrev pub VerdictsGoOn : Type 0
-VerdictsGoOn = (opener : OpenerState) (nows : List ℕ) (start : Demand) (frames : List (List ℕ)) (answers : List Verdict) (frame : List ℕ) (v : Verdict)
+VerdictsGoOn =
+    (opener : OpenerState) (nows : List ℕ) (start : Demand) (frames : List (List ℕ))
+    (answers : List Verdict) (frame : List ℕ) (v : Verdict)
     → AreVerdicts opener nows start 0 frames answers
-    → IsVerdict opener (demand_after start (records_of answers)) (moment_at nows (length frames)) frame v
+    → IsVerdict opener (demand_after start (records_of answers))
+        (moment_at nows (length frames)) frame v
     → AreVerdicts opener nows start 0 (frames ++ frame ∷ []) (answers ++ v ∷ [])
 
 -- and likewise of the list as it is computed
 abbrev pub NextVerdict : Type 0
-NextVerdict = (opener : OpenerState) (nows : List ℕ) (start : Demand) (frames : List (List ℕ)) (frame : List ℕ)
+NextVerdict =
+    (opener : OpenerState) (nows : List ℕ) (start : Demand) (frames : List (List ℕ))
+    (frame : List ℕ)
     → let before = verdicts opener nows start 0 frames in
     let now = moment_at nows (length frames) in
     verdicts opener nows start 0 (frames ++ frame ∷ [])
@@ -105,7 +126,8 @@ OneListOfFrames = (source : Source) (records : List Record) (some others : List 
 -- it holds of each run of a paired lane in which altered frames are honest
 abbrev pub OfEachRun : (Source → List Event → Type 0) → Type 0
 OfEachRun Claim =
-    (run : Run) → IsPaired run.ends → IsRun run → AlteredAreHonest run → Claim run.ends.source (events_from run.verdicts)
+    (run : Run) → IsPaired run.ends → IsRun run → AlteredAreHonest run
+        → Claim run.ends.source (events_from run.verdicts)
 
 -- it holds of the verdicts on any frames
 abbrev pub OfVerdicts : (ReceiverState → List ℕ → List (List ℕ) → List Verdict → Type 0) → Type 0
@@ -125,53 +147,67 @@ abbrev pub RunsDeliverAllWhereClosed : Type 0
 RunsDeliverAllWhereClosed = OfEachRun AllWhereClosed
 
 abbrev pub VerdictsAreQuietAfterClose : Type 0
-VerdictsAreQuietAfterClose = OfVerdicts (λ start nows took answers. NothingAfterClose (events_from answers))
+VerdictsAreQuietAfterClose =
+    OfVerdicts (λ start nows took answers. NothingAfterClose (events_from answers))
 
 abbrev pub VerdictsRefuseExactly : Type 0
 VerdictsRefuseExactly = OfVerdicts RefusesExactly
 
 abbrev pub VerdictsOfRefusalsDeliverNothing : Type 0
-VerdictsOfRefusalsDeliverNothing = (start : Demand) (answers : List Verdict) → RefusalsDeliverNothing start answers (events_from answers)
+VerdictsOfRefusalsDeliverNothing =
+    (start : Demand) (answers : List Verdict)
+    → RefusalsDeliverNothing start answers (events_from answers)
 
 -- ---- a clean lane
 
 -- it holds of each run of such a lane
 abbrev pub OfUndisturbed : (Run → Type 0) → Type 0
-OfUndisturbed Claim = (run : Run) → Undisturbed run.ends → IsWithinLimits run.ends.source → IsRun run → Claim run
+OfUndisturbed Claim =
+    (run : Run) → Undisturbed run.ends → IsWithinLimits run.ends.source → IsRun run → Claim run
 
 abbrev pub NoneIsRefused : Type 0
 NoneIsRefused = OfUndisturbed (λ run. All IsOk run.verdicts)
 
 -- the first records are accepted, one for each frame that was taken
 abbrev pub AcceptsFirstRecords : Type 0
-AcceptsFirstRecords = OfUndisturbed (λ run. records_of run.verdicts ≡ take (length run.took) (records run.ends.source))
+AcceptsFirstRecords =
+    OfUndisturbed
+    (λ run. records_of run.verdicts ≡ take (length run.took) (records run.ends.source))
 
 -- and the number after them is demanded
 abbrev pub DemandsNumberBehind : Type 0
 DemandsNumberBehind = OfUndisturbed (λ run.
-    (demand_after run.ends.receiver.demand (records_of run.verdicts)).expected ≡ run.ends.receiver.demand.expected + length run.took)
+    (demand_after run.ends.receiver.demand (records_of run.verdicts)).expected
+        ≡ run.ends.receiver.demand.expected + length run.took)
 
 -- all texts are delivered if all frames were taken
 abbrev pub DeliversAllThatIsTaken : Type 0
-DeliversAllThatIsTaken = OfUndisturbed (λ run. TakesAll run.ends.source run.took → DeliversAll run.ends.source (events_from run.verdicts))
+DeliversAllThatIsTaken =
+    OfUndisturbed (λ run. TakesAll run.ends.source run.took
+    → DeliversAll run.ends.source (events_from run.verdicts))
 
 -- ---- a lane whose carrier brings each frame in its turn
 
 -- it holds of each run of such a lane in which altered frames are honest
 abbrev pub OfCarried : ((run : Run) → Carried run.ends → Type 0) → Type 0
 OfCarried Claim =
-    (run : Run) (carried : Carried run.ends) → AlteredAreHonest run → IsWithinLimits run.ends.source → IsRun run → Claim run carried
+    (run : Run) (carried : Carried run.ends) → AlteredAreHonest run → IsWithinLimits run.ends.source
+        → IsRun run → Claim run carried
 
 -- after frame k in its turn, a number after that of record k is demanded
 abbrev pub DemandsNumbersInTurn : Type 0
 DemandsNumbersInTurn = OfCarried (λ run carried.
     (k : ℕ) → k < length (records run.ends.source) → carried.in_turn.place k < length run.took
     → let start = run.ends.receiver.demand in
-    start.expected + k < (demand_after start (records_of (take (suc (carried.in_turn.place k)) run.verdicts))).expected)
+    start.expected + k <
+        (demand_after start
+        (records_of (take (suc (carried.in_turn.place k)) run.verdicts))).expected)
 
 -- all texts are delivered and the close is accepted if all frames were taken
 abbrev pub DeliversAllThatIsCarried : Type 0
-DeliversAllThatIsCarried = OfCarried (λ run carried. TakesAll run.ends.source run.took → DeliversWhole run.ends.source (events_from run.verdicts))
+DeliversAllThatIsCarried =
+    OfCarried (λ run carried. TakesAll run.ends.source run.took
+    → DeliversWhole run.ends.source (events_from run.verdicts))
 
 -- a clean lane is one of these, and no frame of it is altered
 abbrev pub UndisturbedIsCarried : Type 0
@@ -184,26 +220,33 @@ UndisturbedIsHonest = (run : Run) → Undisturbed run.ends → AlteredAreHonest 
 
 -- a receiver of a paired lane accepts in order
 abbrev pub PairedAcceptInOrder : Type 0
-PairedAcceptInOrder = (run : Run) → IsPaired run.ends → IsRun run → AlteredAreHonest run → AcceptInOrder run.ends.source run.verdicts
+PairedAcceptInOrder =
+    (run : Run) → IsPaired run.ends → IsRun run → AlteredAreHonest run
+    → AcceptInOrder run.ends.source run.verdicts
 
 -- it holds of each run that continues after verdicts that accepted in order
 abbrev pub OfGoingOn : (Source → List Verdict → Run → Type 0) → Type 0
 OfGoingOn Claim =
-    (source : Source) (before : List Verdict) (run : Run) → AcceptInOrder source before → GoesOnBehind source before run.ends
+    (source : Source) (before : List Verdict) (run : Run) → AcceptInOrder source before
+        → GoesOnBehind source before run.ends
     → AlteredAreHonestBehind (length (records_of before)) run → IsRun run → Claim source before run
 
 -- together they accept in order, whatever is repeated
 abbrev pub GoingOnAcceptsInOrder : Type 0
-GoingOnAcceptsInOrder = OfGoingOn (λ source before run. AcceptInOrder source (before ++ run.verdicts))
+GoingOnAcceptsInOrder =
+    OfGoingOn (λ source before run. AcceptInOrder source (before ++ run.verdicts))
 
 -- so what they deliver is a prefix of the texts that were sealed
 abbrev pub InOrderDeliversPrefix : Type 0
-InOrderDeliversPrefix = (source : Source) (verdicts : List Verdict) → AcceptInOrder source verdicts → DeliversPrefix source (events_from verdicts)
+InOrderDeliversPrefix =
+    (source : Source) (verdicts : List Verdict) → AcceptInOrder source verdicts
+    → DeliversPrefix source (events_from verdicts)
 
 -- and all of them, if the frames that weren't accepted before come in their turn
 abbrev pub GoingOnDeliversAll : Type 0
 GoingOnDeliversAll = OfGoingOn (λ source before run.
-    ComeInTurn (length (records_of before)) run.ends → TakesAll run.ends.source run.took → DeliversWhole source (events_from (before ++ run.verdicts)))
+    ComeInTurn (length (records_of before)) run.ends → TakesAll run.ends.source run.took
+        → DeliversWhole source (events_from (before ++ run.verdicts)))
 
 -- ---- what a log has of a lane
 
@@ -214,7 +257,9 @@ NothingIsLogged = (start : ReceiverState) (nows : List ℕ) (lane : ℕ) (log : 
 
 -- after a close that is there, the receiver accepts no more
 abbrev pub LoggedIsShut : Type 0
-LoggedIsShut = (start : ReceiverState) (nows : List ℕ) (lane : ℕ) (took : List (List ℕ)) (log : LogState) (receiver : ReceiverState) (verdicts : List Verdict)
+LoggedIsShut =
+    (start : ReceiverState) (nows : List ℕ) (lane : ℕ) (took : List (List ℕ)) (log : LogState)
+    (receiver : ReceiverState) (verdicts : List Verdict)
     → HasLogged start nows lane took log receiver verdicts → IsShut log lane receiver
 
 -- ---- rounds
@@ -222,25 +267,35 @@ LoggedIsShut = (start : ReceiverState) (nows : List ℕ) (lane : ℕ) (took : Li
 -- the entries of the groups of all lanes, each once, by their places and then by their lanes, are
 -- one list
 abbrev pub OneListOfRounds : Type 0
-OneListOfRounds = (lists : List (List (List Event))) (entries : List Entry) → AreRounds lists entries ↔ (entries ≡ rounds lists)
+OneListOfRounds =
+    (lists : List (List (List Event))) (entries : List Entry) → AreRounds lists entries
+    ↔ (entries ≡ rounds lists)
 
 -- the events of a lane stay in their order
 abbrev pub RoundsKeepLanes : Type 0
-RoundsKeepLanes = (lists : List (List (List Event))) (lane : ℕ) → events_of lane (rounds lists) ≡ joined (list_of lists lane)
+RoundsKeepLanes =
+    (lists : List (List (List Event))) (lane : ℕ)
+    → events_of lane (rounds lists) ≡ joined (list_of lists lane)
 
 -- one more group comes last, if no later lane has more groups than its lane had: of the rounds up
 -- to it
 abbrev pub RoundGoesOn : Type 0
-RoundGoesOn = (front : List (List (List Event))) (groups : List (List Event)) (group : List Event) (back : List (List (List Event)))
+RoundGoesOn =
+    (front : List (List (List Event))) (groups : List (List Event)) (group : List Event)
+    (back : List (List (List Event)))
     → NoneLonger (length groups) back
     → let before = rounds_below (suc (length groups)) (front ++ groups ∷ back) in
-    rounds_below (suc (length groups)) (front ++ (groups ++ group ∷ []) ∷ back) ≡ before ++ entries_for (length front) group
+    rounds_below (suc (length groups)) (front ++ (groups ++ group ∷ []) ∷ back) ≡ before
+        ++ entries_for (length front) group
 
 -- and of all rounds, if no lane before it has more groups than it has then
 abbrev pub RoundsGoOn : Type 0
-RoundsGoOn = (front : List (List (List Event))) (groups : List (List Event)) (group : List Event) (back : List (List (List Event)))
+RoundsGoOn =
+    (front : List (List (List Event))) (groups : List (List Event)) (group : List Event)
+    (back : List (List (List Event)))
     → NoneLonger (suc (length groups)) front → NoneLonger (length groups) back
-    → rounds (front ++ (groups ++ group ∷ []) ∷ back) ≡ rounds (front ++ groups ∷ back) ++ entries_for (length front) group
+    → rounds (front ++ (groups ++ group ∷ []) ∷ back) ≡ rounds (front ++ groups ∷ back)
+        ++ entries_for (length front) group
 
 -- ---- any relay
 
@@ -249,7 +304,8 @@ RoundsGoOn = (front : List (List (List Event))) (groups : List (List Event)) (gr
 abbrev pub OfFronts : (List Ends → List Run → LogState → Type 0) → Type 0
 OfFronts Claim =
     (lanes : List Ends) (runs : List Run) (log : LogState)
-    → AreRuns lanes runs → log.entries ≡ rounds_of runs → OfRuns runs (EndsWhole log) → Claim lanes runs log
+    → AreRuns lanes runs → log.entries ≡ rounds_of runs → OfRuns runs (EndsWhole log)
+        → Claim lanes runs log
 
 -- the headline holds of each lane
 abbrev pub FrontsHaveHeadline : Type 0
@@ -257,9 +313,11 @@ FrontsHaveHeadline = OfFronts (λ lanes runs log. OfRuns runs (Headline log))
 
 -- so the log is a relayed one
 abbrev pub FrontsAreRelayed : Type 0
-FrontsAreRelayed = OfFronts (λ lanes runs log. (relayed : IsRelayed lanes log) × (relayed.runs ≡ runs))
+FrontsAreRelayed =
+    OfFronts (λ lanes runs log. (relayed : IsRelayed lanes log) × (relayed.runs ≡ runs))
 
 -- the whole log of given lanes is one list, and so is the report of how much their senders sealed
 abbrev pub OneWholeLog : Type 0
 OneWholeLog = (lanes : List Ends) (log other : LogState) (sents others : List Sent)
-    → IsWhole lanes log sents → IsWhole lanes other others → (log.entries ≡ other.entries) × (sents ≡ others)
+    → IsWhole lanes log sents → IsWhole lanes other others → (log.entries ≡ other.entries)
+        × (sents ≡ others)

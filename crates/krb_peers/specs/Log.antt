@@ -1,5 +1,6 @@
 -- The log of a relay.
-use Rattle.std.specs.Prelude.{◌≡◌, ℕ, ◌==◌, Bool, true, false, List, [], ◌∷◌, ◌++◌, map, replicate, slice_set, slice_index_or, if◌then◌else◌}
+use Rattle.std.specs.Prelude.{◌≡◌, ℕ, ◌==◌, Bool, true, false, List, [], ◌∷◌, ◌++◌, map, replicate}
+use Rattle.std.specs.Prelude.{slice_set, slice_index_or, if◌then◌else◌}
 use Rattle.krb_peers.specs.declared.log.Event.{Event}
 use Rattle.krb_peers.specs.declared.log.Event.TheVariants.{Text, Closed, Refused}
 use Rattle.krb_peers.specs.declared.log.Entry.{Entry}
@@ -51,7 +52,8 @@ new_log lanes = record { lanes = lanes; entries = []; ended = replicate lane_lim
 
 -- one more entry
 abbrev pub appended : LogState → ℕ → Event → LogState
-appended log lane event = record log { entries = log.entries ++ record { lane = lane; event = event } ∷ [] }
+appended log lane event =
+    record log { entries = log.entries ++ record { lane = lane; event = event } ∷ [] }
 
 -- several more entries, each an event of one lane
 abbrev pub appended_all : LogState → ℕ → List Event → LogState

@@ -1,5 +1,6 @@
 -- What a log keeps beside its entries.
-use Rattle.std.specs.Prelude.{◌≡◌, ℕ, ◌+◌, ◌<◌, ◌≤◌, ◌==◌, Bool, false, List, [], ◌∷◌, ◌++◌, slice_index_or, if◌then◌else◌}
+use Rattle.std.specs.Prelude.{◌≡◌, ℕ, ◌+◌, ◌<◌, ◌≤◌, ◌==◌, Bool, false, List, [], ◌∷◌, ◌++◌}
+use Rattle.std.specs.Prelude.{slice_index_or, if◌then◌else◌}
 use Rattle.krb_base.specs.Limits.{lane_limit}
 use Rattle.krb_peers.specs.declared.log.Event.{Event}
 use Rattle.krb_peers.specs.declared.log.Event.TheVariants.{Text, Closed, Refused}
@@ -16,11 +17,15 @@ text_place place (Refused refusal) = []
 abbrev pub places_from : ℕ → ℕ → List Entry → List ℕ
 places_from place lane [] = []
 places_from place lane (entry ∷ entries) =
-    (if entry.lane == lane then text_place place entry.event else []) ++ places_from (place + 1) lane entries
+    (if entry.lane == lane then text_place place entry.event else [])
+        ++ places_from (place + 1) lane entries
 
 -- beside the entries there are, lane by lane, the places of its texts, and whether there is a close
 -- of it
-pub record IsIndexed (lanes : ℕ) (entries : List Entry) (texts : List (List ℕ)) (closed : List Bool) : Type 0 where
+pub record IsIndexed (lanes : ℕ) (entries : List Entry) (texts : List (List ℕ))
+    (closed : List Bool) : Type 0 where
   pub few : lanes ≤ lane_limit
-  pub places : (lane : ℕ) → lane < lane_limit → slice_index_or texts lane [] ≡ places_from 0 lane entries
-  pub closes : (lane : ℕ) → lane < lane_limit → slice_index_or closed lane false ≡ is_closed lane entries
+  pub places : (lane : ℕ) → lane < lane_limit
+      → slice_index_or texts lane [] ≡ places_from 0 lane entries
+  pub closes : (lane : ℕ) → lane < lane_limit
+      → slice_index_or closed lane false ≡ is_closed lane entries

@@ -1,5 +1,6 @@
 -- What an order demands, and its answer to an offer.
-use Rattle.std.specs.Prelude.{ℕ, Bool, false, ◌+◌, ◌==◌, ◌&&◌, ◌||◌, nat_le, List, [], ◌∷◌, length, codes, Result, Ok, Err, ⊤, if◌then◌else◌}
+use Rattle.std.specs.Prelude.{ℕ, Bool, false, ◌+◌, ◌==◌, ◌&&◌, ◌||◌, nat_le, List, [], ◌∷◌, length}
+use Rattle.std.specs.Prelude.{codes, Result, Ok, Err, ⊤, if◌then◌else◌}
 use Rattle.std.specs.List.{list_any}
 use Rattle.krb_peers.specs.declared.record.Record.{Record}
 use Rattle.krb_peers.specs.declared.order.OrderRefusal.{OrderRefusal}
@@ -24,7 +25,8 @@ Answer = Result ⊤ OrderRefusal
 abbrev pub answer_to : Demand → Offer → Answer
 answer_to demand offer =
     if demand.closed then Err AfterClose
-    else (if (offer.number == demand.expected) && nat_le offer.number last_number then Ok tt else Err BadOrder)
+    else (if (offer.number == demand.expected) && nat_le offer.number last_number then Ok tt
+        else Err BadOrder)
 
 -- the record that an answer accepts
 abbrev pub carried_by : Offer → Answer → List Record
@@ -39,7 +41,9 @@ first_demand first = record { expected = first; closed = false }
 
 -- what is demanded after these records were accepted
 abbrev pub demand_after : Demand → List Record → Demand
-demand_after demand accepted = record { expected = demand.expected + length accepted; closed = demand.closed || list_any is_close accepted }
+demand_after demand accepted =
+    record { expected = demand.expected + length accepted; closed = demand.closed
+    || list_any is_close accepted }
 
 -- the same after one record that may be accepted, which was the close or wasn't
 abbrev pub next_demand : Demand → Bool → Demand

@@ -1,6 +1,8 @@
 -- What a wire makes of a sender's frames. A plan repeats, drops, reorders or changes them on
 -- purpose, to test a receiver.
-use Rattle.std.specs.Prelude.{ℕ, ◌==◌, nat_lt, Bool, true, not, ◌&&◌, List, [], map, length, codes, Vec, Option, Some, None, slice_index, slice_index_or, slice_set, bit_xor, if◌then◌else◌}
+use Rattle.std.specs.Prelude.{ℕ, ◌==◌, nat_lt, Bool, true, not, ◌&&◌, List, [], map, length, codes}
+use Rattle.std.specs.Prelude.{Vec, Option, Some, None, slice_index, slice_index_or, slice_set}
+use Rattle.std.specs.Prelude.{bit_xor, if◌then◌else◌}
 use Rattle.std.specs.List.{list_all}
 use Rattle.krb_peers.specs.declared.plan.Emit.{Emit}
 use Rattle.krb_peers.specs.declared.plan.Emit.TheVariants.{Frame, Flip, Raw}
@@ -23,7 +25,8 @@ flipped frame at mask = slice_set frame at (bit_xor (slice_index frame at) mask)
 -- changes something
 abbrev pub is_good_emission : List (List ℕ) → Emit → Bool
 is_good_emission frames (Frame k) = nat_lt k (length frames)
-is_good_emission frames (Flip k at mask) = nat_lt k (length frames) && nat_lt at (length (frame_at frames k)) && not (mask == 0)
+is_good_emission frames (Flip k at mask) =
+    nat_lt k (length frames) && nat_lt at (length (frame_at frames k)) && not (mask == 0)
 is_good_emission frames (Raw bytes) = true
 
 -- a plan is good: each of its emissions is

@@ -1,5 +1,6 @@
 -- What the claims about sealed texts assume of a lane.
-use Rattle.std.specs.Prelude.{◌≡◌, ℕ, Bool, true, false, List, length, take, slice_get, Option, Some, None, Ok}
+use Rattle.std.specs.Prelude.{◌≡◌, ℕ, Bool, true, false, List, length, take, slice_get, Option}
+use Rattle.std.specs.Prelude.{Some, None, Ok}
 use Rattle.krb_peers.specs.declared.delivery.Delivery.{Delivery}
 use Rattle.krb_peers.specs.declared.plan.Emit.{Emit}
 use Rattle.krb_peers.specs.declared.plan.Emit.TheVariants.{Frame, Flip, Raw}
@@ -37,5 +38,7 @@ altered_at (Some plan) place = is_altered_one (slice_get plan place)
 -- dropped or reordered.
 abbrev pub AlteredAreHonest : Run → Type 0
 AlteredAreHonest run =
-    (place : ℕ) (d : Delivery) → altered_at run.ends.source.plan place ≡ true → slice_get run.verdicts place ≡ Some (Ok d)
-    → slice_get (records run.ends.source) (length (records_of (take place run.verdicts))) ≡ Some (record_of d)
+    (place : ℕ) (d : Delivery) → altered_at run.ends.source.plan place ≡ true
+        → slice_get run.verdicts place ≡ Some (Ok d)
+    → slice_get (records run.ends.source) (length (records_of (take place run.verdicts)))
+        ≡ Some (record_of d)

@@ -10,7 +10,8 @@ use Rattle.krb_peers.specs.Verdicts.{Verdict, IsVerdict, accepted_by, verdict}
 
 -- the verdict on a frame that is taken at a timestamp, or out of memory
 abbrev pub IsJudgement : ReceiverState → ℕ → List ℕ → Verdict → Type 0
-IsJudgement receiver now frame answer = (answer ≡ Err Memory) ⊎ IsVerdict receiver.opener receiver.demand now frame answer
+IsJudgement receiver now frame answer =
+    (answer ≡ Err Memory) ⊎ IsVerdict receiver.opener receiver.demand now frame answer
 
 -- nothing is allocated for a frame after a close, nor for one over the limit
 abbrev pub TakesMemory : ReceiverState → List ℕ → Type 0
@@ -22,7 +23,8 @@ verdict_by receiver now frame = verdict receiver.opener receiver.demand now fram
 
 -- after a verdict the next number is demanded, or the same one
 abbrev pub receiver_behind : ReceiverState → Verdict → ReceiverState
-receiver_behind receiver answer = record receiver { demand = demand_after receiver.demand (accepted_by answer) }
+receiver_behind receiver answer =
+    record receiver { demand = demand_after receiver.demand (accepted_by answer) }
 
 -- and after an accepted record, which was the close or wasn't
 abbrev pub advanced : ReceiverState → Bool → ReceiverState

@@ -1,6 +1,7 @@
 -- The order in which lanes are served in rounds: of each lane its first group of events, then of
 -- each its second, and so on. A group is what one verdict brings.
-use Rattle.std.specs.Prelude.{◌≡◌, ℕ, zero, suc, ◌+◌, ◌<◌, ◌≤◌, ◌⊎◌, max, List, [], ◌∷◌, ◌++◌, length, Option, Some, None, slice_get, slice_index_or, All}
+use Rattle.std.specs.Prelude.{◌≡◌, ℕ, zero, suc, ◌+◌, ◌<◌, ◌≤◌, ◌⊎◌, max, List, [], ◌∷◌, ◌++◌}
+use Rattle.std.specs.Prelude.{length, Option, Some, None, slice_get, slice_index_or, All}
 use Rattle.std.specs.List.{Contains, flat_map}
 use Rattle.krb_peers.specs.declared.log.Event.{Event}
 use Rattle.krb_peers.specs.declared.log.Entry.{Entry}
@@ -14,7 +15,8 @@ named lane (Some group) = entries_for lane group
 -- one round: from a lane on, the group of each at this place, if it has one
 abbrev pub round : ℕ → ℕ → List (List (List Event)) → List Entry
 round place lane [] = []
-round place lane (groups ∷ rest) = named lane (slice_get groups place) ++ round place (lane + 1) rest
+round place lane (groups ∷ rest) =
+    named lane (slice_get groups place) ++ round place (lane + 1) rest
 
 -- the first n rounds
 abbrev pub rounds_below : ℕ → List (List (List Event)) → List Entry

@@ -1,5 +1,7 @@
 -- What a sender seals.
-use Rattle.std.specs.Prelude.{◌≡◌, ℕ, ◌+◌, ◌-◌, min, List, [], ◌∷◌, ◌++◌, length, map, take, drop, slice_get, slice_index, slice_index_or, nat_lt, if◌then◌else◌, Option, Some, All, ◌≤◌}
+use Rattle.std.specs.Prelude.{◌≡◌, ℕ, ◌+◌, ◌-◌, min, List, [], ◌∷◌, ◌++◌, length, map, take, drop}
+use Rattle.std.specs.Prelude.{slice_get, slice_index, slice_index_or, nat_lt, if◌then◌else◌, Option}
+use Rattle.std.specs.Prelude.{Some, All, ◌≤◌}
 use Rattle.std.specs.List.{flat_map}
 use Rattle.rand_chacha.specs.ChaCha.{ChaCha}
 use Rattle.krb_base.specs.Limits.{text_limit, last_number, batch_limit}
@@ -45,7 +47,8 @@ sealed_count next n = min n (last_number - next)
 
 -- the groups that are sealed
 abbrev pub sealed_groups : Source → List (List (List ℕ))
-sealed_groups source = take (sealed_count source.sealer.next (length (text_groups source))) (text_groups source)
+sealed_groups source =
+    take (sealed_count source.sealer.next (length (text_groups source))) (text_groups source)
 
 -- the texts that are sealed
 abbrev pub sealed_texts : Source → List (List ℕ)
@@ -69,7 +72,8 @@ record_for (text ∷ other ∷ texts) = Batch (text ∷ other ∷ texts)
 -- is the last
 abbrev pub record_at : ℕ → List (List ℕ) → Record
 record_at number [] = Close
-record_at number (text ∷ texts) = if nat_lt number last_number then record_for (text ∷ texts) else Close
+record_at number (text ∷ texts) =
+    if nat_lt number last_number then record_for (text ∷ texts) else Close
 
 -- the records of these groups, and then the close
 abbrev pub records_for : List (List (List ℕ)) → List Record
@@ -84,11 +88,14 @@ records source = records_for (sealed_groups source)
 abbrev pub IsFrame : Source → ℕ → Record → List ℕ → Type 0
 IsFrame source k carried frame =
     let s = source.sealer in
-    Seals s.etype s.key s.session (s.next + k) (bytes_of carried) (moment_at source.ats k) (confounder_at source.draws k) frame
+    Seals s.etype s.key s.session (s.next + k) (bytes_of carried) (moment_at source.ats k)
+        (confounder_at source.draws k) frame
 
 -- the frames are those of the first records, one for each
-pub record AreFrames (source : Source) (carried : List Record) (frames : List (List ℕ)) : Type 0 where
+pub record AreFrames (source : Source) (carried : List Record)
+    (frames : List (List ℕ)) : Type 0 where
   pub one_each : length frames ≡ length carried
   pub each :
-      (k : ℕ) (r : Record) (frame : List ℕ) → slice_get carried k ≡ Some r → slice_get frames k ≡ Some frame
+      (k : ℕ) (r : Record) (frame : List ℕ) → slice_get carried k ≡ Some r
+          → slice_get frames k ≡ Some frame
       → IsFrame source k r frame

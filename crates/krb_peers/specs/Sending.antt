@@ -1,5 +1,6 @@
 -- A sender as the code holds it.
-use Rattle.std.specs.Prelude.{◌≡◌, ◌≤◌, ◌<◌, ℕ, ◌+◌, ◌-◌, ◌*◌, ◌==◌, if◌then◌else◌, List, length, take, option_map}
+use Rattle.std.specs.Prelude.{◌≡◌, ◌≤◌, ◌<◌, ℕ, ◌+◌, ◌-◌, ◌*◌, ◌==◌, if◌then◌else◌, List, length}
+use Rattle.std.specs.Prelude.{take, option_map}
 use Rattle.krb_base.specs.Limits.{last_number}
 use Rattle.krb_seal.specs.Sealer.{SealerState}
 use Rattle.krb_peers.specs.declared.sending.Sending.{Sending}
@@ -50,10 +51,12 @@ pub record IsSender (source : Source) : Type 0 where
   pub next : source.sealer.next ≤ last_number
 
 -- these are the frames of the first k records of a sender, which is in this state then
-pub record HasSealed (source : Source) (k : ℕ) (frames : List (List ℕ)) (now : Source) : Type 0 where
+pub record HasSealed (source : Source) (k : ℕ) (frames : List (List ℕ))
+    (now : Source) : Type 0 where
   pub sealed : AreFrames source (take k (records source)) frames
   pub state : now ≡ behind k source
 
 -- the sealer of a sender after some of its records
 abbrev pub StandsAfterSome : Source → SealerState → Type 0
-StandsAfterSome source sealer = (k : ℕ) × (k ≤ length (records source)) × (sealer ≡ (behind k source).sealer)
+StandsAfterSome source sealer =
+    (k : ℕ) × (k ≤ length (records source)) × (sealer ≡ (behind k source).sealer)

@@ -21,5 +21,6 @@ code_of (Wiped lane) = 3
 -- what is printed of it
 abbrev pub words_of : StartError → List ℕ
 words_of Memory = codes "out of memory"
-words_of (BadPlan lane) = codes "the plan of lane " ++ decimal lane ++ codes " names what its frames don't have"
+words_of (BadPlan lane) =
+    codes "the plan of lane " ++ decimal lane ++ codes " names what its frames don't have"
 words_of (Wiped lane) = codes "the sealer of lane " ++ decimal lane ++ codes " was wiped"

@@ -1,6 +1,7 @@
 -- A clean lane: what its sender sealed is what its receiver expects, and the wire carries it as it
 -- is.
-use Rattle.std.specs.Prelude.{◌≡◌, ℕ, zero, suc, ◌<◌, List, [], ◌∷◌, ◌++◌, length, Option, Some, None}
+use Rattle.std.specs.Prelude.{◌≡◌, ℕ, zero, suc, ◌<◌, List, [], ◌∷◌, ◌++◌, length, Option, Some}
+use Rattle.std.specs.Prelude.{None}
 use Rattle.krb_seal.specs.Laws.{Agree}
 use Rattle.krb_peers.specs.declared.plan.Emit.{Emit}
 use Rattle.krb_peers.specs.declared.plan.Emit.TheVariants.{Frame}
@@ -25,7 +26,8 @@ pub record Undisturbed (ends : Ends) : Type 0 where
   pub paired : IsPaired ends
   pub agree :
       (k : ℕ) → k < length (records ends.source)
-      → Agree ends.source.sealer.session ends.receiver.opener.expect (moment_at ends.source.ats k) (moment_at ends.nows k)
+      → Agree ends.source.sealer.session ends.receiver.opener.expect (moment_at ends.source.ats k)
+          (moment_at ends.nows k)
   pub plan : IsInOrder ends.source.plan (length (records ends.source))
 
 -- all frames of the wire were taken, after all records were sealed

@@ -1,5 +1,7 @@
 -- A receiver's verdicts on the frames that it takes.
-use Rattle.std.specs.Prelude.{◌≡◌, ℕ, ◌+◌, ◌==◌, nat_le, ◌&&◌, ◌⊎◌, Bool, true, false, List, [], ◌∷◌, length, map, take, slice_get, Option, Some, None, option_map, Result, Ok, Err, if◌then◌else◌}
+use Rattle.std.specs.Prelude.{◌≡◌, ℕ, ◌+◌, ◌==◌, nat_le, ◌&&◌, ◌⊎◌, Bool, true, false, List, []}
+use Rattle.std.specs.Prelude.{◌∷◌, length, map, take, slice_get, Option, Some, None, option_map}
+use Rattle.std.specs.Prelude.{Result, Ok, Err, if◌then◌else◌}
 use Rattle.std.specs.Result.{MatchResult}
 use Rattle.std.specs.List.{flat_map}
 use Rattle.krb_aes.specs.Words.{AreBytes}
@@ -74,29 +76,37 @@ abbrev pub Fails : OpenerState → Demand → ℕ → List ℕ → Refusal → T
 Fails opener demand now frame refusal =
     ((demand.closed ≡ true) × (refusal ≡ refusals.AfterClose))
     ⊎ ((demand.closed ≡ false) × (Opens opener demand.expected now frame (Err refusal)
-    ⊎ ((user : List ℕ) × Opens opener demand.expected now frame (Ok user) × IsNoRecord user × (refusal ≡ refusals.BadRecord))))
+    ⊎ ((user : List ℕ) × Opens opener demand.expected now frame (Ok user) × IsNoRecord user
+        × (refusal ≡ refusals.BadRecord))))
 
 -- the frame passes all checks, and carries this delivery
 abbrev pub Carries : OpenerState → Demand → ℕ → List ℕ → Delivery → Type 0
 Carries opener demand now frame delivery =
-    (demand.closed ≡ false) × ((user : List ℕ) × Opens opener demand.expected now frame (Ok user) × SpellsRecord (record_of delivery) user)
+    (demand.closed ≡ false)
+        × ((user : List ℕ) × Opens opener demand.expected now frame (Ok user)
+        × SpellsRecord (record_of delivery) user)
 
 -- the verdict on a frame: a delivery if it passes all checks, else the refusal of the first that it
 -- fails
 abbrev pub IsVerdict : OpenerState → Demand → ℕ → List ℕ → Verdict → Type 0
-IsVerdict opener demand now frame verdict = MatchResult verdict (Carries opener demand now frame) (Fails opener demand now frame)
+IsVerdict opener demand now frame verdict =
+    MatchResult verdict (Carries opener demand now frame) (Fails opener demand now frame)
 
 -- one verdict for each frame, by the records accepted before it; the first frame is taken at this
 -- place, and each is opened at the timestamp of its place
-pub record AreVerdicts (opener : OpenerState) (nows : List ℕ) (demand : Demand) (place : ℕ) (frames : List (List ℕ)) (verdicts : List Verdict) : Type 0 where
+pub record AreVerdicts (opener : OpenerState) (nows : List ℕ) (demand : Demand) (place : ℕ)
+    (frames : List (List ℕ)) (verdicts : List Verdict) : Type 0 where
   pub one_each : length verdicts ≡ length frames
   pub each :
-      (i : ℕ) (frame : List ℕ) (verdict : Verdict) → slice_get frames i ≡ Some frame → slice_get verdicts i ≡ Some verdict
-      → IsVerdict opener (demand_after demand (records_of (take i verdicts))) (moment_at nows (place + i)) frame verdict
+      (i : ℕ) (frame : List ℕ) (verdict : Verdict) → slice_get frames i ≡ Some frame
+          → slice_get verdicts i ≡ Some verdict
+      → IsVerdict opener (demand_after demand (records_of (take i verdicts)))
+          (moment_at nows (place + i)) frame verdict
 
 -- the verdicts on the frames that a receiver takes from its start on
 abbrev pub AreJudged : ReceiverState → List ℕ → List (List ℕ) → List Verdict → Type 0
-AreJudged receiver nows took verdicts = let start = receiver.demand in AreVerdicts receiver.opener nows start 0 took verdicts
+AreJudged receiver nows took verdicts =
+    let start = receiver.demand in AreVerdicts receiver.opener nows start 0 took verdicts
 
 -- each frame is bytes
 abbrev pub AllBytes : List (List ℕ) → Type 0
@@ -110,7 +120,8 @@ abbrev pub delivery_in : List ℕ → Option Delivery
 delivery_in [] = None
 delivery_in (tag ∷ rest) =
     if (tag == 0x44) && nat_le (length rest) text_limit then Some (Text rest)
-    else (if (tag == 0x43) && (length rest == 0) then Some Closed else option_map Batch (batch_in (tag ∷ rest)))
+    else (if (tag == 0x43) && (length rest == 0) then Some Closed
+        else option_map Batch (batch_in (tag ∷ rest)))
 
 abbrev pub judged : Option Delivery → Verdict
 judged (Some delivery) = Ok delivery
