@@ -4,9 +4,11 @@
 -- A round leaves out the ShiftRows that moves the state, so that after n rounds the vector holds
 -- the state with ShiftRows undone n times, which is ShiftRows 3 n times: four times ShiftRows
 -- change nothing.
-use Rattle.std.specs.Prelude.{◌≡◌, ℕ, ◌+◌, ◌*◌, ◌/◌, ◌%◌, ◌<◌, Bool, List, [], length, map, slice_index, slice_index_or, bit_xor, replicate, if◌then◌else◌}
+use Rattle.std.specs.Prelude.{◌≡◌, ℕ, ◌+◌, ◌*◌, ◌/◌, ◌%◌, ◌<◌, Bool, List, [], length, map}
+use Rattle.std.specs.Prelude.{slice_index, slice_index_or, bit_xor, replicate, if◌then◌else◌}
 use Rattle.krb_aes.specs.Cipher.{cell, from_cells, word_byte}
-use Rattle.krb_aes.specs.InverseCipher.{inv_sub_bytes, inv_shift_rows, inv_mix_columns, inv_rounds, inv_cipher}
+use Rattle.krb_aes.specs.InverseCipher.{inv_sub_bytes, inv_shift_rows, inv_mix_columns, inv_rounds}
+use Rattle.krb_aes.specs.InverseCipher.{inv_cipher}
 use Rattle.krb_aes.specs.Words.{AreBytes}
 use Rattle.krb_aes.specs.Nibbles.{nibbles_of, bare_nibbles, inv_linear_nibbles, inv_affine_nibbles}
 

@@ -1,5 +1,6 @@
 -- A lane from one sender to one receiver, as a state machine over plain lists.
-use Rattle.std.specs.Prelude.{◌≡◌, ◌≤◌, ◌++◌, ℕ, Bool, true, false, not, cond, nat_lt, ◌&&◌, List, [], ◌∷◌, length}
+use Rattle.std.specs.Prelude.{◌≡◌, ◌≤◌, ◌++◌, ℕ, Bool, true, false, not, cond, nat_lt, ◌&&◌, List}
+use Rattle.std.specs.Prelude.{[], ◌∷◌, length}
 
 -- what goes through a lane: frames, and End
 pub data Item (F : Type 0) : Type 0 where
@@ -47,7 +48,8 @@ module _ {F : Type 0} where
 
   -- Send appends to sent and to the queue
   abbrev pub moved : Lane F → Event F → Lane F
-  moved lane (Send item) = record lane { sent = lane.sent ++ item ∷ []; queue = lane.queue ++ item ∷ [] }
+  moved lane (Send item) =
+      record lane { sent = lane.sent ++ item ∷ []; queue = lane.queue ++ item ∷ [] }
   moved lane Take = taken lane lane.queue
 
   -- what one event leaves; an impossible one changes nothing

@@ -1,5 +1,6 @@
 -- How texts are grouped, in order: a group of two or more texts goes as a batch.
-use Rattle.std.specs.Prelude.{◌≡◌, ℕ, ◌≤◌, max, Bool, nat_lt, nat_le, ◌&&◌, List, [], ◌∷◌, ◌++◌, length, take, if◌then◌else◌}
+use Rattle.std.specs.Prelude.{◌≡◌, ℕ, ◌≤◌, max, Bool, nat_lt, nat_le, ◌&&◌, List, [], ◌∷◌, ◌++◌}
+use Rattle.std.specs.Prelude.{length, take, if◌then◌else◌}
 use Rattle.krb_base.specs.Limits.{batch_size_limit}
 use Rattle.krb_batch.specs.Batch.{texts_size}
 
@@ -23,19 +24,22 @@ IsFirstGroup b texts n = (longest : ℕ) × IsLongest b texts longest × (n ≡ 
 abbrev pub AreGroups : ℕ → List (List ℕ) → List (List (List ℕ)) → Type 0
 AreGroups b texts [] = texts ≡ []
 AreGroups b texts (group ∷ groups) =
-    (rest : List (List ℕ)) × (texts ≡ group ++ rest) × IsFirstGroup b texts (length group) × AreGroups b rest groups
+    (rest : List (List ℕ)) × (texts ≡ group ++ rest) × IsFirstGroup b texts (length group)
+        × AreGroups b rest groups
 
 -- ---- the same as a function: the law `group_laws` says that it gives the one such list
 
 -- whether one more text fits into this group
 abbrev pub takes : ℕ → List (List ℕ) → List ℕ → Bool
-takes b group text = nat_lt (length group) b && nat_le (texts_size (group ++ text ∷ [])) batch_size_limit
+takes b group text =
+    nat_lt (length group) b && nat_le (texts_size (group ++ text ∷ [])) batch_size_limit
 
 -- the groups of the texts of a group that was begun and of those after it
 abbrev pub groups_from : ℕ → List (List ℕ) → List (List ℕ) → List (List (List ℕ))
 groups_from b group [] = group ∷ []
 groups_from b group (text ∷ texts) =
-    if takes b group text then groups_from b (group ++ text ∷ []) texts else group ∷ groups_from b (text ∷ []) texts
+    if takes b group text then groups_from b (group ++ text ∷ []) texts
+    else group ∷ groups_from b (text ∷ []) texts
 
 -- the groups of the texts, at most b in each
 abbrev pub groups : ℕ → List (List ℕ) → List (List (List ℕ))

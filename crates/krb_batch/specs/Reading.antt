@@ -1,6 +1,7 @@
 -- Reading a batch, as a function: the law `batch_laws` says that it gives the one batch whose
 -- spelling the bytes are.
-use Rattle.std.specs.Prelude.{ℕ, zero, suc, Bool, nat_le, ◌&&◌, List, [], ◌∷◌, length, take, drop, Option, Some, None, if◌then◌else◌}
+use Rattle.std.specs.Prelude.{ℕ, zero, suc, Bool, nat_le, ◌&&◌, List, [], ◌∷◌, length, take, drop}
+use Rattle.std.specs.Prelude.{Option, Some, None, if◌then◌else◌}
 use Rattle.std.specs.Int.{w32, from_be_bytes}
 use Rattle.std.specs.Str.{bytes_eq}
 use Rattle.krb_base.specs.Limits.{batch_limit, batch_size_limit}
@@ -17,11 +18,15 @@ texts_in (suc n) (b ∷ rest) =
 
 -- these texts can be one batch
 abbrev pub can_be_batch : List (List ℕ) → Bool
-can_be_batch texts = nat_le 2 (length texts) && (nat_le (length texts) batch_limit && nat_le (texts_size texts) batch_size_limit)
+can_be_batch texts =
+    nat_le 2 (length texts)
+    && (nat_le (length texts) batch_limit && nat_le (texts_size texts) batch_size_limit)
 
 -- the texts, if they are a batch and the bytes are its spelling
 abbrev pub if_spelt : List ℕ → List (List ℕ) → Option (List (List ℕ))
-if_spelt bytes texts = if can_be_batch texts && bytes_eq bytes (spelling texts) then Some texts else None
+if_spelt bytes texts =
+    if can_be_batch texts && bytes_eq bytes (spelling texts) then Some texts
+    else None
 
 -- the texts of the batch whose spelling the bytes are
 abbrev pub batch_in : List ℕ → Option (List (List ℕ))

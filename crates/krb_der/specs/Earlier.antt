@@ -1,6 +1,7 @@
 -- The grammar of this project's first version, whose spellings stay: lengths had at most two octets
 -- after the first, and messages at most 65,000. Values, fields and tags were those of today.
-use Rattle.std.specs.Prelude.{ℕ, ℤ, pos, List, [], ◌∷◌, ◌++◌, length, Option, Some, None, nat_lt, if◌then◌else◌}
+use Rattle.std.specs.Prelude.{ℕ, ℤ, pos, List, [], ◌∷◌, ◌++◌, length, Option, Some, None, nat_lt}
+use Rattle.std.specs.Prelude.{if◌then◌else◌}
 use Rattle.krb_time.specs.Time.{kerberos_time}
 use Rattle.krb_der.specs.declared.address.HostAddress.{HostAddress}
 use Rattle.krb_der.specs.declared.body.Body.{Body}
@@ -8,7 +9,8 @@ use Rattle.krb_der.specs.declared.safe.SafeMsg.{SafeMsg}
 use Rattle.krb_der.specs.declared.private.PrivMsg.{PrivMsg}
 use Rattle.krb_der.specs.declared.message.Message.{Message}
 use Rattle.krb_der.specs.declared.message.Message.TheVariants.{Safe, Priv}
-use Rattle.krb_tlv.specs.Tag.{integer_tag, octet_string_tag, generalized_time_tag, sequence_tag, context, application}
+use Rattle.krb_tlv.specs.Tag.{integer_tag, octet_string_tag, generalized_time_tag, sequence_tag}
+use Rattle.krb_tlv.specs.Tag.{context, application}
 use Rattle.krb_tlv.specs.Length.{big_endian}
 use Rattle.krb_tlv.specs.Element.{joined}
 use Rattle.krb_tlv.specs.Integer.{int_octets}
@@ -106,8 +108,10 @@ earlier_message (Priv m) = earlier (application 21) (earlier_sequence (earlier_p
 -- what spelt a message, or an encrypted part, spells the same today
 abbrev pub SpellsAsEarlier : Type 0
 SpellsAsEarlier =
-    (m : Message) (bytes : List ℕ) → SpellsWithin earlier_limit IsMessage earlier_message m bytes → Spells m bytes
+    (m : Message) (bytes : List ℕ) → SpellsWithin earlier_limit IsMessage earlier_message m bytes
+        → Spells m bytes
 
 abbrev pub PartSpellsAsEarlier : Type 0
 PartSpellsAsEarlier =
-    (b : Body) (bytes : List ℕ) → SpellsWithin earlier_limit IsBody earlier_part b bytes → SpellsPart b bytes
+    (b : Body) (bytes : List ℕ) → SpellsWithin earlier_limit IsBody earlier_part b bytes
+        → SpellsPart b bytes

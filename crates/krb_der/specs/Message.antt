@@ -27,7 +27,8 @@ IsMessage (Safe m) = IsSafe m
 IsMessage (Priv m) = IsPrivate m
 
 -- the bytes are the one spelling of a value of the grammar, and no more than a limit
-pub record SpellsWithin {V : Type 0} (limit : ℕ) (IsValue : V → Type 0) (spelling : V → List ℕ) (v : V) (bytes : List ℕ) : Type 0 where
+pub record SpellsWithin {V : Type 0} (limit : ℕ) (IsValue : V → Type 0) (spelling : V → List ℕ)
+    (v : V) (bytes : List ℕ) : Type 0 where
   pub in_range : IsValue v
   pub spelt : bytes ≡ spelling v
   pub short : length bytes ≤ limit
@@ -44,11 +45,13 @@ SpellsPart = SpellsWithin frame_limit IsBody part
 abbrev pub Decodes : {V : Type 0} → (V → List ℕ → Type 0) → Result V DerError → List ℕ → Type 0
 Decodes Spelt (Ok v) bytes = Spelt v bytes
 Decodes Spelt (Err errors.TooLong) bytes = frame_limit < length bytes
-Decodes Spelt (Err errors.Malformed) bytes = (length bytes ≤ frame_limit) × ((v : _) → Spelt v bytes → ⊥)
+Decodes Spelt (Err errors.Malformed) bytes =
+    (length bytes ≤ frame_limit) × ((v : _) → Spelt v bytes → ⊥)
 Decodes Spelt (Err errors.Memory) bytes = length bytes ≤ frame_limit
 
 -- What a writing returns: the spelling, or that it would be too long.
-abbrev pub Encodes : {V : Type 0} → (V → List ℕ → Type 0) → (V → List ℕ) → V → Result (Vec ℕ) DerError → Type 0
+abbrev pub Encodes : {V : Type 0} → (V → List ℕ → Type 0) → (V → List ℕ) → V
+    → Result (Vec ℕ) DerError → Type 0
 Encodes Spelt spelling v (Ok bytes) = Spelt v bytes.items
 Encodes Spelt spelling v (Err errors.TooLong) = frame_limit < length (spelling v)
 Encodes Spelt spelling v (Err errors.Malformed) = ⊥
@@ -57,7 +60,9 @@ Encodes Spelt spelling v (Err errors.Memory) = length (spelling v) ≤ frame_lim
 -- The prefix of a message up to its cipher: with any cipher of n octets after it, the bytes spell
 -- the message.
 abbrev pub Precedes : PrivMsg → ℕ → List ℕ → Type 0
-Precedes m n front = (cipher : List ℕ) → length cipher ≡ n → Spells (Priv (record m { cipher = cipher })) (front ++ cipher)
+Precedes m n front =
+    (cipher : List ℕ) → length cipher ≡ n
+    → Spells (Priv (record m { cipher = cipher })) (front ++ cipher)
 
 -- A message whose cipher is to be of n octets: its prefix up to `start`, and from there the
 -- plaintext, which is other bytes and the part of a body after them.
@@ -69,10 +74,14 @@ pub record IsDraft (m : PrivMsg) (before : List ℕ) (b : Body) (n : ℕ) (draft
 
 -- the message with any cipher of n octets is within the limit, or over it
 abbrev pub IsWithinLimit : PrivMsg → ℕ → Type 0
-IsWithinLimit m n = (cipher : List ℕ) → length cipher ≡ n → length (private (record m { cipher = cipher })) ≤ frame_limit
+IsWithinLimit m n =
+    (cipher : List ℕ) → length cipher ≡ n
+    → length (private (record m { cipher = cipher })) ≤ frame_limit
 
 abbrev pub IsOverLimit : PrivMsg → ℕ → Type 0
-IsOverLimit m n = (cipher : List ℕ) → length cipher ≡ n → frame_limit < length (private (record m { cipher = cipher }))
+IsOverLimit m n =
+    (cipher : List ℕ) → length cipher ≡ n
+    → frame_limit < length (private (record m { cipher = cipher }))
 
 -- What writing such a draft returns, for a cipher of n octets.
 abbrev pub Drafts : PrivMsg → List ℕ → Body → ℕ → Result Draft DerError → Type 0
@@ -98,4 +107,5 @@ OneSpelling {V} Spelt = (v : V) (s t : List ℕ) → Spelt v s → Spelt v t →
 -- One value for each spelling, and no spelling begins another.
 abbrev pub UniqueSpelling : {V : Type 0} → (V → List ℕ → Type 0) → Type 0
 UniqueSpelling {V} Spelt =
-    (a b : V) (s t x y : List ℕ) → Spelt a s → Spelt b t → s ++ x ≡ t ++ y → (a ≡ b) × (s ≡ t) × (x ≡ y)
+    (a b : V) (s t x y : List ℕ) → Spelt a s → Spelt b t → s ++ x ≡ t ++ y → (a ≡ b) × (s ≡ t)
+        × (x ≡ y)

@@ -1,7 +1,8 @@
 -- What the code follows, and no definitions of the standard: the value that bytes spell, read from
 -- left to right, if they spell one. The law `reading_laws` ties `message_of` and `part_of` to the
 -- grammar; the contracts of `decode` and `decode_part` are in the words of Message.antt.
-use Rattle.std.specs.Prelude.{◌≡◌, ℕ, ◌+◌, ◌^◌, ◌<◌, ◌≤◌, ◌↔◌, ℤ, List, ◌++◌, length, get_or, Option, Some, if◌then◌else◌}
+use Rattle.std.specs.Prelude.{◌≡◌, ℕ, ◌+◌, ◌^◌, ◌<◌, ◌≤◌, ◌↔◌, ℤ, List, ◌++◌, length, get_or}
+use Rattle.std.specs.Prelude.{Option, Some, if◌then◌else◌}
 use Rattle.krb_base.specs.Limits.{frame_limit}
 use Rattle.krb_time.specs.Moment.{last_usec}
 use Rattle.krb_time.specs.Reading.{time_of}
@@ -14,7 +15,8 @@ use Rattle.krb_der.specs.declared.private.PrivMsg.{PrivMsg}
 use Rattle.krb_der.specs.declared.message.Message.{Message}
 use Rattle.krb_der.specs.declared.message.Message.TheVariants.{Safe, Priv}
 use Rattle.krb_tlv.specs.Tag.{generalized_time_tag, sequence_tag, context, application}
-use Rattle.krb_tlv.specs.Reading.{ended, tagged_at, alone, field_at, starts_with, optional_at, int32_element_of, below_element_of, octets_of}
+use Rattle.krb_tlv.specs.Reading.{ended, tagged_at, alone, field_at, starts_with, optional_at}
+use Rattle.krb_tlv.specs.Reading.{int32_element_of, below_element_of, octets_of}
 
 -- these bytes are the last of others
 abbrev pub EndsWith : List ℕ → List ℕ → Type 0
@@ -36,7 +38,9 @@ abbrev pub time_element_of : List ℕ → Option ℕ
 time_element_of bytes = alone generalized_time_tag time_of bytes
 
 abbrev pub body_with : List ℕ → Details → Body
-body_with user_data d = record { user_data = user_data; time = d.time; usec = d.usec; seq = d.seq; s_addr = d.s_addr; r_addr = d.r_addr }
+body_with user_data d =
+    record { user_data = user_data; time = d.time; usec = d.usec; seq = d.seq; s_addr = d.s_addr;
+    r_addr = d.r_addr }
 
 -- the fields after the data
 unfoldable pub behind_of : List ℕ → List ℕ → Option Body
@@ -47,7 +51,8 @@ behind_of user_data bytes = do
   s ← tagged_at (context 4) seq.1
   s_addr ← address_of s.0
   r_addr ← optional_at (context 5) address_of s.1
-  ended (record { user_data = user_data; time = time.0; usec = usec.0; seq = seq.0; s_addr = s_addr; r_addr = r_addr.0 }) r_addr.1
+  ended (record { user_data = user_data; time = time.0; usec = usec.0; seq = seq.0; s_addr = s_addr;
+      r_addr = r_addr.0 }) r_addr.1
 
 unfoldable pub body_of : List ℕ → Option Body
 body_of bytes = do
@@ -64,7 +69,8 @@ safe_of bytes = do
   b ← tagged_at (context 2) msg_type.1
   body ← body_of b.0
   checksum ← field_at (context 3) typed_of b.1
-  ended (record { pvno = pvno.0; msg_type = msg_type.0; body = body; cksum_type = checksum.0.0; checksum = checksum.0.1 }) checksum.1
+  ended (record { pvno = pvno.0; msg_type = msg_type.0; body = body; cksum_type = checksum.0.0;
+      checksum = checksum.0.1 }) checksum.1
 
 unfoldable pub encrypted_of : List ℕ → Option (ℤ × Option ℕ × List ℕ)
 encrypted_of bytes = do
@@ -81,10 +87,14 @@ private_of bytes = do
   msg_type ← field_at (context 1) int32_element_of pvno.1
   e ← tagged_at (context 3) msg_type.1
   encrypted ← encrypted_of e.0
-  ended (record { pvno = pvno.0; msg_type = msg_type.0; etype = encrypted.0; kvno = encrypted.1; cipher = encrypted.2 }) e.1
+  ended (record { pvno = pvno.0; msg_type = msg_type.0; etype = encrypted.0; kvno = encrypted.1;
+      cipher = encrypted.2 }) e.1
 
 unfoldable pub message_of : List ℕ → Option Message
-message_of bytes = if starts_with (application 20) bytes then (alone (application 20) Some bytes >>= safe_of) >>= (λ m. Some (Safe m)) else ((alone (application 21) Some bytes >>= private_of) >>= (λ m. Some (Priv m)))
+message_of bytes =
+    if starts_with (application 20) bytes
+    then (alone (application 20) Some bytes >>= safe_of) >>= (λ m. Some (Safe m))
+    else ((alone (application 21) Some bytes >>= private_of) >>= (λ m. Some (Priv m)))
 
 unfoldable pub part_of : List ℕ → Option Body
 part_of bytes = do
@@ -96,4 +106,5 @@ part_of bytes = do
 -- Of bytes within the limit, reading finds a value if and only if they spell it.
 abbrev pub FindsSpelt : {V : Type 0} → (V → List ℕ → Type 0) → (List ℕ → Option V) → Type 0
 FindsSpelt {V} Spelt of =
-    (v : V) (bytes : List ℕ) → ((i : ℕ) → get_or bytes i 0 < 256) → length bytes ≤ frame_limit → (of bytes ≡ Some v) ↔ Spelt v bytes
+    (v : V) (bytes : List ℕ) → ((i : ℕ) → get_or bytes i 0 < 256) → length bytes ≤ frame_limit
+        → (of bytes ≡ Some v) ↔ Spelt v bytes

@@ -45,7 +45,8 @@ with_data user b = record b { user_data = user }
 
 -- the addresses of a body are no longer than a message may be
 abbrev pub HasAddressesWithinLimit : Body → Type 0
-HasAddressesWithinLimit b = (length b.s_addr.bytes ≤ frame_limit) × IfSome b.r_addr (λ a. length a.bytes ≤ frame_limit)
+HasAddressesWithinLimit b =
+    (length b.s_addr.bytes ≤ frame_limit) × IfSome b.r_addr (λ a. length a.bytes ≤ frame_limit)
 
 -- the body, with any n octets as its user data, has this size as an encrypted part
 abbrev pub HasPartSize : Body → ℕ → ℕ → Type 0
@@ -59,7 +60,8 @@ HasSafeSize m k n size =
 
 -- KRB-PRIV, with any n octets as its cipher, has this size
 abbrev pub HasPrivateSize : PrivMsg → ℕ → ℕ → Type 0
-HasPrivateSize m n size = (cipher : List ℕ) → length cipher ≡ n → length (private (record m { cipher = cipher })) ≡ size
+HasPrivateSize m n size =
+    (cipher : List ℕ) → length cipher ≡ n → length (private (record m { cipher = cipher })) ≡ size
 
 -- ---- what is under a checksum
 

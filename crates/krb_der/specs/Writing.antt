@@ -17,7 +17,8 @@ use Rattle.krb_der.specs.Safe.{checksum, safe_fields, without_checksum}
 -- ---- sizes
 
 abbrev pub IsShortBody : Body → Type 0
-IsShortBody b = IsShort b.user_data × IsShort b.s_addr.bytes × IfSome b.r_addr (λ a. IsShort a.bytes)
+IsShortBody b =
+    IsShort b.user_data × IsShort b.s_addr.bytes × IfSome b.r_addr (λ a. IsShort a.bytes)
 
 -- how many octets a type with n bytes takes
 abbrev pub typed_fields_size : ℤ → ℕ → ℕ
@@ -52,7 +53,8 @@ safe_fields_size m kind k n =
 abbrev pub before_data : Body → List ℕ
 before_data b =
     header sequence_tag (length (joined (body_fields b)))
-    ++ (header (context 0) (length (octets b.user_data)) ++ header octet_string_tag (length b.user_data))
+    ++ (header (context 0) (length (octets b.user_data))
+        ++ header octet_string_tag (length b.user_data))
 
 abbrev pub fields_behind_data : Body → List (List ℕ)
 fields_behind_data b =
@@ -81,7 +83,8 @@ safe_behind_data m = joined (fields_behind_data m.body) ++ tagged (context 3) (c
 
 abbrev pub encrypted_fields_size : ℤ → Option ℕ → ℕ → ℕ
 encrypted_fields_size etype kvno n =
-    element_size (length (integer etype)) + length (optional 0 natural kvno) + element_size (element_size n)
+    element_size (length (integer etype)) + length (optional 0 natural kvno)
+        + element_size (element_size n)
 
 abbrev pub private_fields_size : PrivMsg → ℕ → ℕ
 private_fields_size m n =

@@ -1,5 +1,6 @@
 -- HMAC over SHA-1 (RFC 2104). The hash H is `sha1`, whose blocks have B = 64 bytes.
-use Rattle.std.specs.Prelude.{ℕ, ◌-◌, nat_lt, List, ◌++◌, length, map, take, replicate, bit_xor, if◌then◌else◌}
+use Rattle.std.specs.Prelude.{ℕ, ◌-◌, nat_lt, List, ◌++◌, length, map, take, replicate, bit_xor}
+use Rattle.std.specs.Prelude.{if◌then◌else◌}
 use Rattle.std.specs.Borrow.{Bor}
 use Rattle.std.specs.List.{concat}
 use Rattle.sha1.specs.Sha1.{sha1}

@@ -1,7 +1,8 @@
 -- n-fold (RFC 3961, section 5.1), on whole numbers. A text of bytes is also a number: its bytes are
 -- the digits in base 256, the highest first. The lengths of texts are in bytes, those of numbers in
 -- bits.
-use Rattle.std.specs.Prelude.{ℕ, zero, suc, ◌+◌, ◌-◌, ◌*◌, ◌/◌, ◌%◌, ◌^◌, ◌==◌, List, [], ◌∷◌, length, map, unwrap_or, if◌then◌else◌}
+use Rattle.std.specs.Prelude.{ℕ, zero, suc, ◌+◌, ◌-◌, ◌*◌, ◌/◌, ◌%◌, ◌^◌, ◌==◌, List, [], ◌∷◌}
+use Rattle.std.specs.Prelude.{length, map, unwrap_or, if◌then◌else◌}
 use Rattle.std.specs.Int.{◌∣◌, bytes_high_first}
 use Rattle.std.specs.List.{find, range_with_len}
 

@@ -1,13 +1,15 @@
 -- What the code of n-fold computes byte by byte: the repetitions of a text as a stream, and a sum
 -- of two.
-use Rattle.std.specs.Prelude.{ℕ, zero, suc, ◌+◌, ◌-◌, ◌*◌, ◌/◌, ◌%◌, ◌^◌, nat_lt, List, length, slice_index, if◌then◌else◌}
+use Rattle.std.specs.Prelude.{ℕ, zero, suc, ◌+◌, ◌-◌, ◌*◌, ◌/◌, ◌%◌, ◌^◌, nat_lt, List, length}
+use Rattle.std.specs.Prelude.{slice_index, if◌then◌else◌}
 
 -- byte j of a text rotated right by r bits
 unfoldable pub rotated_byte : List ℕ → ℕ → ℕ → ℕ
 rotated_byte text r j =
     let len = length text in
     let s = 8 * len - r % (8 * len) + 8 * j in
-    (slice_index text (s / 8 % len) * 256 + slice_index text ((s / 8 + 1) % len)) / 2 ^ (8 - s % 8) % 256
+    (slice_index text (s / 8 % len) * 256 + slice_index text ((s / 8 + 1) % len))
+        / 2 ^ (8 - s % 8) % 256
 
 -- byte t of the repetitions of a text
 unfoldable pub stream_byte : List ℕ → ℕ → ℕ

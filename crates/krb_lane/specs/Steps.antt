@@ -37,8 +37,8 @@ pub record KeepsLane : Type 0 where
       → length queue < v.capacity → has_end v.sent ≡ false
       → Leaves (after_event (state_of h) (Send (item_of End)))
       (queue ++ End ∷ []) (set views pass (puts v End))
-  -- a receive takes the first item, a frame: Take, and the frame's index is the number of frames got
-  -- before
+  -- a receive takes the first item, a frame: Take, and the frame's index is the number of frames
+  -- got before
   pub take_frame :
       (queue : List Item) (views : List Hand) (pass : ℕ) (v : Hand) (i : ℕ) (b : List ℕ)
       (h : IsLane (Frame i b ∷ queue) views) → Knows views pass v → v.takes ≡ true

@@ -1,6 +1,8 @@
 -- What the code follows, and no definitions of the standard: what is read from left to right of the
 -- bytes of an element, a field or a number, if it is spelt there.
-use Rattle.std.specs.Prelude.{◌≡◌, ℕ, ◌+◌, ◌*◌, ◌^◌, Bool, true, false, ℤ, pos, negsuc, List, [], ◌∷◌, length, get_or, take, drop, Option, Some, None, Result, Ok, Err, nat_lt, nat_eq, if◌then◌else◌}
+use Rattle.std.specs.Prelude.{◌≡◌, ℕ, ◌+◌, ◌*◌, ◌^◌, Bool, true, false, ℤ, pos, negsuc, List, []}
+use Rattle.std.specs.Prelude.{◌∷◌, length, get_or, take, drop, Option, Some, None, Result, Ok, Err}
+use Rattle.std.specs.Prelude.{nat_lt, nat_eq, if◌then◌else◌}
 use Rattle.krb_time.specs.Steps.{◌>>=◌}
 use Rattle.krb_tlv.specs.declared.error.DerError.{DerError}
 use Rattle.krb_tlv.specs.declared.error.DerError.TheVariants as errors
@@ -19,7 +21,8 @@ Gives view (Ok x) read = read ≡ Some (view x)
 Gives view (Err e) read = Fails e read
 
 -- the same, with the rest of the bytes left in a reader
-abbrev pub Takes : {X Y : Type 0} → (X → Y) → Result X DerError → List ℕ → Option (Y × List ℕ) → Type 0
+abbrev pub Takes : {X Y : Type 0} → (X → Y) → Result X DerError → List ℕ → Option (Y × List ℕ)
+    → Type 0
 Takes view (Ok x) rest read = read ≡ Some (view x, rest)
 Takes view (Err e) rest read = Fails e read
 
@@ -36,12 +39,19 @@ be_value [] = 0
 be_value (b ∷ bs) = b * 256 ^ length bs + be_value bs
 
 abbrev pub wide_length_at : ℕ → ℕ → List ℕ → Option (ℕ × List ℕ)
-wide_length_at k low bytes = if nat_lt (length bytes) k then None else if nat_lt (be_value (take k bytes)) low then None else Some (be_value (take k bytes), drop k bytes)
+wide_length_at k low bytes =
+    if nat_lt (length bytes) k then None
+    else if nat_lt (be_value (take k bytes)) low then None
+    else Some (be_value (take k bytes), drop k bytes)
 
 unfoldable pub length_at : List ℕ → Option (ℕ × List ℕ)
 length_at [] = None
 length_at (b ∷ rest) =
-    if nat_lt b 128 then Some (b, rest) else if nat_eq b 0x81 then wide_length_at 1 128 rest else if nat_eq b 0x82 then wide_length_at 2 256 rest else if nat_eq b 0x83 then wide_length_at 3 65536 rest else None
+    if nat_lt b 128 then Some (b, rest)
+    else if nat_eq b 0x81 then wide_length_at 1 128 rest
+    else if nat_eq b 0x82 then wide_length_at 2 256 rest
+    else if nat_eq b 0x83 then wide_length_at 3 65536 rest
+    else None
 
 abbrev pub cut_at : ℕ × List ℕ → Option (List ℕ × List ℕ)
 cut_at n = if nat_lt (length n.1) n.0 then None else Some (take n.0 n.1, drop n.0 n.1)
@@ -58,7 +68,8 @@ alone tag of bytes = do
   ended x t.1
 
 -- a field, and then the others
-abbrev pub with_field : {A B : Type 0} → ℕ → (List ℕ → Option A) → (A → List ℕ → Option B) → List ℕ → Option B
+abbrev pub with_field : {A B : Type 0} → ℕ → (List ℕ → Option A) → (A → List ℕ → Option B) → List ℕ
+    → Option B
 with_field tag of others bytes = do
   t ← tagged_at tag bytes
   x ← of t.0
@@ -72,8 +83,11 @@ abbrev pub starts_with : ℕ → List ℕ → Bool
 starts_with tag [] = false
 starts_with tag (t ∷ rest) = nat_eq t tag
 
-unfoldable pub optional_at : {A : Type 0} → ℕ → (List ℕ → Option A) → List ℕ → Option (Option A × List ℕ)
-optional_at tag of bytes = if starts_with tag bytes then with_field tag of (λ x rest. Some (Some x, rest)) bytes else Some (None, bytes)
+unfoldable pub optional_at : {A : Type 0} → ℕ → (List ℕ → Option A) → List ℕ
+    → Option (Option A × List ℕ)
+optional_at tag of bytes =
+    if starts_with tag bytes then with_field tag of (λ x rest. Some (Some x, rest)) bytes
+    else Some (None, bytes)
 
 -- ---- values
 
@@ -92,7 +106,9 @@ fewest negative n len = if nat_eq (width n) len then Some (negative, n) else Non
 -- whether the number is negative, and n for n or for -(n + 1)
 unfoldable pub int_of : List ℕ → Option (Bool × ℕ)
 int_of content =
-    if nat_lt 5 (length content) then None else if nat_lt (get_or content 0 0) 128 then fewest false (be_value content) (length content) else fewest true (be_value (complement content)) (length content)
+    if nat_lt 5 (length content) then None
+    else if nat_lt (get_or content 0 0) 128 then fewest false (be_value content) (length content)
+    else fewest true (be_value (complement content)) (length content)
 
 abbrev pub as_int32 : Bool × ℕ → Option ℤ
 as_int32 p = if nat_lt p.1 (2 ^ 31) then Some (signed p.0 p.1) else None
