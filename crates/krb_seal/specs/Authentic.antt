@@ -1,6 +1,6 @@
--- What opening without demands gives: the authenticated body, or the refusal of the first check that
--- the frame fails. The checks are those of `Opens` but for the ones of the body (RFC 4120 sections
--- 3.4.2 and 3.5.2; RFC 3961 section 5.3).
+-- What opening without demands gives: the authenticated body, or the refusal of the first check
+-- that the frame fails. The checks are those of `Opens` but for the ones of the body (RFC 4120
+-- sections 3.4.2 and 3.5.2; RFC 3961 section 5.3).
 use Rattle.std.specs.Prelude.{◌≡◌, ◌⊎◌, ℕ, List, ◌++◌, drop, Result, Ok, Err}
 use Rattle.krb_der.specs.declared.body.Body.{Body}
 use Rattle.krb_der.specs.declared.safe.SafeMsg.{SafeMsg}
@@ -9,7 +9,8 @@ use Rattle.krb_der.specs.declared.message.Message.TheVariants as messages
 use Rattle.krb_der.specs.Message.{Spells, SpellsPart}
 use Rattle.krb_seal.specs.declared.refusal.Refusal.{Refusal}
 use Rattle.krb_seal.specs.declared.refusal.Refusal.TheVariants.{Memory}
-use Rattle.krb_seal.specs.Opens.{OpenerState, Checks, Passes, Read, Decrypt, frame_checks, safe_header, checksum_checks, priv_header, text_checks}
+use Rattle.krb_seal.specs.Opens.{OpenerState, Checks, Passes, Read, Decrypt, frame_checks}
+use Rattle.krb_seal.specs.Opens.{safe_header, checksum_checks, priv_header, text_checks}
 
 -- The body, or a refusal.
 abbrev pub Authenticity : Type 0
@@ -25,17 +26,20 @@ GivesBody b outcome = outcome ≡ Ok b
 
 -- The outcome of a deciphered text and the code after its cipher.
 abbrev pub AuthenticText : List ℕ → List ℕ → List ℕ → Authenticity → Type 0
-AuthenticText key text tag outcome = Passes (text_checks key text tag) (Read SpellsPart (drop 16 text) GivesBody) outcome
+AuthenticText key text tag outcome =
+    Passes (text_checks key text tag) (Read SpellsPart (drop 16 text) GivesBody) outcome
 
 -- The outcome of a message.
 abbrev pub AuthenticMessage : OpenerState → Message → Authenticity → Type 0
-AuthenticMessage o (messages.Safe m) outcome = Passes (authentic_checks o m) (GivesBody m.body) outcome
+AuthenticMessage o (messages.Safe m) outcome =
+    Passes (authentic_checks o m) (GivesBody m.body) outcome
 AuthenticMessage o (messages.Priv m) outcome =
     Passes (priv_header o.etype o.expect m) (Decrypt o.key m.cipher (AuthenticText o.key)) outcome
 
 -- The outcome of opening bytes without demands.
 abbrev pub Authenticates : OpenerState → List ℕ → Authenticity → Type 0
-Authenticates o bytes outcome = Passes (frame_checks bytes) (Read Spells bytes (AuthenticMessage o)) outcome
+Authenticates o bytes outcome =
+    Passes (frame_checks bytes) (Read Spells bytes (AuthenticMessage o)) outcome
 
 -- The call ran out of memory, or its result is as Gives says.
 abbrev pub AuthenticOrMemory : (Authenticity → Type 0) → Authenticity → Type 0

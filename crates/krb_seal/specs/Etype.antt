@@ -1,6 +1,6 @@
--- The encryption types: each with its number, the number of its checksum (RFC 3962 section 7) and the
--- size of its keys (RFC 3962 section 6). All are total over the types; a number that no type has is
--- taken for none.
+-- The encryption types: each with its number, the number of its checksum (RFC 3962 section 7) and
+-- the size of its keys (RFC 3962 section 6). All are total over the types; a number that no type
+-- has is taken for none.
 use Rattle.std.specs.Prelude.{ℕ, ℤ, pos, Bool, false, Option, Some, None, if◌then◌else◌}
 use Rattle.std.specs.Ordering.{int_eq}
 use Rattle.krb_seal.specs.declared.etype.Etype.{Etype}

@@ -20,8 +20,11 @@ OneOutcome = (o : OpenerState) (number now : ℕ) (bytes : List ℕ) (outcome : 
 
 -- A sealed frame is one list of bytes.
 abbrev pub OneFrame : Type 0
-OneFrame = (etype : Etype) (key : List ℕ) (s : Session) (number : ℕ) (user : List ℕ) (at : ℕ) (conf bytes : List ℕ)
-    → Seals (number_of etype) key s number user at conf bytes → bytes ≡ sealed etype key s number user at conf
+OneFrame =
+    (etype : Etype) (key : List ℕ) (s : Session) (number : ℕ) (user : List ℕ) (at : ℕ)
+    (conf bytes : List ℕ)
+    → Seals (number_of etype) key s number user at conf bytes
+        → bytes ≡ sealed etype key s number user at conf
 
 -- The message carries the receiver's address, or leaves it out and it isn't required.
 abbrev pub ReceiverAgrees : Expect → Option HostAddress → Type 0
@@ -38,13 +41,16 @@ pub record Agree (s : Session) (x : Expect) (at now : ℕ) : Type 0 where
 -- Whatever an opener with the sealer's key expects, a sealed frame gives nothing but its data, at
 -- its own number.
 abbrev pub NowhereElse : Type 0
-NowhereElse = (etype : ℤ) (key : List ℕ) (s : Session) (x : Expect) (q at now number : ℕ) (user conf bytes given : List ℕ)
+NowhereElse =
+    (etype : ℤ) (key : List ℕ) (s : Session) (x : Expect) (q at now number : ℕ)
+    (user conf bytes given : List ℕ)
     → Seals etype key s q user at conf bytes
     → Opens (opener_of etype key x) number now bytes (Ok given) → (number ≡ q) × (given ≡ user)
 
 -- It gives its data at its own number if both ends agree.
 abbrev pub AtItsNumber : Type 0
-AtItsNumber = (etype : ℤ) (key : List ℕ) (s : Session) (x : Expect) (q at now : ℕ) (user conf bytes : List ℕ)
+AtItsNumber =
+    (etype : ℤ) (key : List ℕ) (s : Session) (x : Expect) (q at now : ℕ) (user conf bytes : List ℕ)
     → Seals etype key s q user at conf bytes → Agree s x at now
     → Opens (opener_of etype key x) q now bytes (Ok user)
 
@@ -52,17 +58,21 @@ AtItsNumber = (etype : ℤ) (key : List ℕ) (s : Session) (x : Expect) (q at no
 
 -- Each frame has one outcome.
 abbrev pub OneAuthenticity : Type 0
-OneAuthenticity = (o : OpenerState) (bytes : List ℕ) (a b : Authenticity) → Authenticates o bytes a → Authenticates o bytes b → a ≡ b
+OneAuthenticity =
+    (o : OpenerState) (bytes : List ℕ) (a b : Authenticity) → Authenticates o bytes a
+    → Authenticates o bytes b → a ≡ b
 
 -- Unsealing gives data if and only if the frame is authentic with a body that passes the body
 -- checks, and then the data of that body.
 abbrev pub OpensTheAuthentic : Type 0
 OpensTheAuthentic = (o : OpenerState) (number now : ℕ) (bytes user : List ℕ)
-    → Opens o number now bytes (Ok user) ↔ ((b : Body) × Authenticates o bytes (Ok b) × OpensPart o.expect number now b (Ok user))
+    → Opens o number now bytes (Ok user)
+        ↔ ((b : Body) × Authenticates o bytes (Ok b) × OpensPart o.expect number now b (Ok user))
 
 -- A sealed frame is authentic, with the body that was sealed, to an opener of its mode with the
 -- sealer's key, whatever else that opener expects.
 abbrev pub SealedIsAuthentic : Type 0
-SealedIsAuthentic = (etype : ℤ) (key : List ℕ) (s : Session) (x : Expect) (q at : ℕ) (user conf bytes : List ℕ)
+SealedIsAuthentic =
+    (etype : ℤ) (key : List ℕ) (s : Session) (x : Expect) (q at : ℕ) (user conf bytes : List ℕ)
     → Seals etype key s q user at conf bytes → s.mode ≡ x.mode
     → Authenticates (opener_of etype key x) bytes (Ok (body_of s q user at))

@@ -1,6 +1,7 @@
 -- Opening as a function: the same checks, with reading from left to right and stealing undone. The
 -- law `one_outcome` says that it is the outcome of `Opens`.
-use Rattle.std.specs.Prelude.{ℕ, ◌-◌, List, length, take, drop, Option, Some, None, Ok, Err, [], ◌∷◌, if◌then◌else◌}
+use Rattle.std.specs.Prelude.{ℕ, ◌-◌, List, length, take, drop, Option, Some, None, Ok, Err, []}
+use Rattle.std.specs.Prelude.{◌∷◌, if◌then◌else◌}
 use Rattle.krb_aes.specs.Keys.{expanded_key}
 use Rattle.krb_aes.specs.Unstealing.{uncts}
 use Rattle.krb_der.specs.declared.body.Body.{Body}
@@ -10,7 +11,8 @@ use Rattle.krb_der.specs.Reading.{message_of, part_of}
 use Rattle.krb_seal.specs.declared.session.Expect.{Expect}
 use Rattle.krb_seal.specs.declared.refusal.Refusal.TheVariants.{Malformed}
 use Rattle.krb_seal.specs.Keys.{encryption_key}
-use Rattle.krb_seal.specs.Opens.{OpenerState, Outcome, Checks, frame_checks, safe_checks, priv_header, text_checks, body_checks}
+use Rattle.krb_seal.specs.Opens.{OpenerState, Outcome, Checks, frame_checks, safe_checks}
+use Rattle.krb_seal.specs.Opens.{priv_header, text_checks, body_checks}
 
 -- The refusal of the first test that isn't met, else what follows.
 abbrev pub passed : Checks → Outcome → Outcome
@@ -33,12 +35,16 @@ opens_part x number now b = passed (body_checks x number now b) (Ok b.user_data)
 
 abbrev pub opens_text : OpenerState → ℕ → ℕ → List ℕ → List ℕ → Outcome
 opens_text o number now text tag =
-    passed (text_checks o.key text tag) (read (part_of (drop 16 text)) (opens_part o.expect number now))
+    passed (text_checks o.key text tag)
+        (read (part_of (drop 16 text)) (opens_part o.expect number now))
 
 abbrev pub opens_message : OpenerState → ℕ → ℕ → Message → Outcome
-opens_message o number now (messages.Safe m) = passed (safe_checks o number now m) (Ok m.body.user_data)
+opens_message o number now (messages.Safe m) =
+    passed (safe_checks o number now m) (Ok m.body.user_data)
 opens_message o number now (messages.Priv m) =
-    passed (priv_header o.etype o.expect m) (opens_text o number now (text_in o.key m.cipher) (tag_in m.cipher))
+    passed (priv_header o.etype o.expect m)
+        (opens_text o number now (text_in o.key m.cipher) (tag_in m.cipher))
 
 unfoldable pub opens : OpenerState → ℕ → ℕ → List ℕ → Outcome
-opens o number now bytes = passed (frame_checks bytes) (read (message_of bytes) (opens_message o number now))
+opens o number now bytes =
+    passed (frame_checks bytes) (read (message_of bytes) (opens_message o number now))

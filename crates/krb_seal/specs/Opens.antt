@@ -1,6 +1,8 @@
 -- What opening a frame gives: the user data, or the refusal of the first check that it fails
 -- (RFC 4120 sections 3.4.2 and 3.5.2; RFC 3961 section 5.3).
-use Rattle.std.specs.Prelude.{◌≡◌, ℕ, ◌+◌, ◌-◌, ◌*◌, ◌≤◌, ℤ, pos, List, [], ◌∷◌, ◌++◌, length, drop, Option, Some, None, Result, Ok, Err, Bool, true, false, not, ◌&&◌, ◌⊎◌, nat_le, nat_eq}
+use Rattle.std.specs.Prelude.{◌≡◌, ℕ, ◌+◌, ◌-◌, ◌*◌, ◌≤◌, ℤ, pos, List, [], ◌∷◌, ◌++◌, length, drop}
+use Rattle.std.specs.Prelude.{Option, Some, None, Result, Ok, Err, Bool, true, false, not, ◌&&◌}
+use Rattle.std.specs.Prelude.{◌⊎◌, nat_le, nat_eq}
 use Rattle.std.specs.Ordering.{int_eq}
 use Rattle.std.specs.Str.{bytes_eq}
 use Rattle.krb_aes.specs.Words.{AreBytes}
@@ -19,7 +21,10 @@ use Rattle.krb_seal.specs.declared.session.Mode.{Mode}
 use Rattle.krb_seal.specs.declared.session.Mode.TheVariants.{Safe, Priv}
 use Rattle.krb_seal.specs.declared.session.Expect.{Expect}
 use Rattle.krb_seal.specs.declared.refusal.Refusal.{Refusal}
-use Rattle.krb_seal.specs.declared.refusal.Refusal.TheVariants.{FieldTooLong, Malformed, BadVersion, MsgType, EtypeNoSupp, BadIntegrity, InappCksum, BadAddr, Skew, BadOrder, Modified}
+use Rattle.krb_seal.specs.declared.refusal.Refusal.TheVariants.{FieldTooLong, Malformed, BadVersion}
+use Rattle.krb_seal.specs.declared.refusal.Refusal.TheVariants.{MsgType, EtypeNoSupp, BadIntegrity}
+use Rattle.krb_seal.specs.declared.refusal.Refusal.TheVariants.{InappCksum, BadAddr, Skew, BadOrder}
+use Rattle.krb_seal.specs.declared.refusal.Refusal.TheVariants.{Modified}
 use Rattle.krb_seal.specs.Keys.{encryption_key, tag_of}
 use Rattle.krb_seal.specs.Etype.{etype_of, is_checksum_of}
 use Rattle.krb_seal.specs.Seals.{safe_checksum}
@@ -56,7 +61,8 @@ distance a b = (a - b) + (b - a)
 -- The time is within the skew, both ends of it included, in microseconds; or it is absent and not
 -- expected.
 abbrev pub is_current : Expect → ℕ → Option ℕ → Option ℕ → Bool
-is_current x now (Some secs) (Some usec) = nat_le (distance now (moment_of secs usec)) (micros_per_second * x.skew)
+is_current x now (Some secs) (Some usec) =
+    nat_le (distance now (moment_of secs usec)) (micros_per_second * x.skew)
 is_current x now None None = not x.expect_time
 is_current x now (Some secs) None = false
 is_current x now None (Some usec) = false
@@ -130,9 +136,11 @@ Passes ((true, r) ∷ rest) Then outcome = Passes rest Then outcome
 Passes ((false, r) ∷ rest) Then outcome = outcome ≡ Err r
 
 -- Malformed if the bytes spell nothing, else as Then says of the value that they spell.
-abbrev pub Read : {V A : Type 0} → (V → List ℕ → Type 0) → List ℕ → (V → Result A Refusal → Type 0) → Result A Refusal → Type 0
+abbrev pub Read : {V A : Type 0} → (V → List ℕ → Type 0) → List ℕ → (V → Result A Refusal → Type 0)
+    → Result A Refusal → Type 0
 Read Spelt bytes Then outcome =
-    (((v : _) → Spelt v bytes → ⊥) × (outcome ≡ Err Malformed)) ⊎ ((v : _) × Spelt v bytes × Then v outcome)
+    (((v : _) → Spelt v bytes → ⊥) × (outcome ≡ Err Malformed))
+        ⊎ ((v : _) × Spelt v bytes × Then v outcome)
 
 -- The cipher is that of a text, followed by a code of 12 bytes.
 pub record IsEncryption (key cipher text tag : List ℕ) : Type 0 where
@@ -142,26 +150,31 @@ pub record IsEncryption (key cipher text tag : List ℕ) : Type 0 where
   pub image : cipher ≡ cts_of (encryption_key key) text ++ tag
 
 -- As Then says of the one text and code of a cipher.
-abbrev pub Decrypt : {A : Type 0} → List ℕ → List ℕ → (List ℕ → List ℕ → Result A Refusal → Type 0) → Result A Refusal → Type 0
+abbrev pub Decrypt : {A : Type 0} → List ℕ → List ℕ → (List ℕ → List ℕ → Result A Refusal → Type 0)
+    → Result A Refusal → Type 0
 Decrypt key cipher Then outcome =
     (text : List ℕ) × (tag : List ℕ) × IsEncryption key cipher text tag × Then text tag outcome
 
 -- The outcome of an authentic body.
 abbrev pub OpensPart : Expect → ℕ → ℕ → Body → Outcome → Type 0
-OpensPart x number now b outcome = Passes (body_checks x number now b) (λ y. y ≡ Ok b.user_data) outcome
+OpensPart x number now b outcome =
+    Passes (body_checks x number now b) (λ y. y ≡ Ok b.user_data) outcome
 
 -- The outcome of a deciphered text: its confounder of 16 bytes, and then the encrypted part.
 abbrev pub OpensText : OpenerState → ℕ → ℕ → List ℕ → List ℕ → Outcome → Type 0
 OpensText o number now text tag outcome =
-    Passes (text_checks o.key text tag) (Read SpellsPart (drop 16 text) (OpensPart o.expect number now)) outcome
+    Passes (text_checks o.key text tag)
+        (Read SpellsPart (drop 16 text) (OpensPart o.expect number now)) outcome
 
 -- The outcome of a message.
 abbrev pub OpensMessage : OpenerState → ℕ → ℕ → Message → Outcome → Type 0
 OpensMessage o number now (messages.Safe m) outcome =
     Passes (safe_checks o number now m) (λ y. y ≡ Ok m.body.user_data) outcome
 OpensMessage o number now (messages.Priv m) outcome =
-    Passes (priv_header o.etype o.expect m) (Decrypt o.key m.cipher (OpensText o number now)) outcome
+    Passes (priv_header o.etype o.expect m)
+        (Decrypt o.key m.cipher (OpensText o number now)) outcome
 
 -- The outcome of opening bytes at a demanded number and a timestamp.
 abbrev pub Opens : OpenerState → ℕ → ℕ → List ℕ → Outcome → Type 0
-Opens o number now bytes outcome = Passes (frame_checks bytes) (Read Spells bytes (OpensMessage o number now)) outcome
+Opens o number now bytes outcome =
+    Passes (frame_checks bytes) (Read Spells bytes (OpensMessage o number now)) outcome

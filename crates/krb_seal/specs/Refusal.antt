@@ -2,7 +2,11 @@
 -- project's own.
 use Rattle.std.specs.Prelude.{ℕ, List, codes}
 use Rattle.krb_seal.specs.declared.refusal.Refusal.{Refusal}
-use Rattle.krb_seal.specs.declared.refusal.Refusal.TheVariants.{FieldTooLong, Malformed, BadVersion, MsgType, EtypeNoSupp, BadIntegrity, InappCksum, BadAddr, Skew, BadOrder, Modified, BadRecord, AfterClose, Memory}
+use Rattle.krb_seal.specs.declared.refusal.Refusal.TheVariants.{FieldTooLong, Malformed, BadVersion}
+use Rattle.krb_seal.specs.declared.refusal.Refusal.TheVariants.{MsgType, EtypeNoSupp, BadIntegrity}
+use Rattle.krb_seal.specs.declared.refusal.Refusal.TheVariants.{InappCksum, BadAddr, Skew, BadOrder}
+use Rattle.krb_seal.specs.declared.refusal.Refusal.TheVariants.{Modified, BadRecord, AfterClose}
+use Rattle.krb_seal.specs.declared.refusal.Refusal.TheVariants.{Memory}
 
 abbrev pub code_of : Refusal → ℕ
 code_of FieldTooLong = 61

@@ -1,7 +1,8 @@
 -- The numbers and words of a sealer's errors.
 use Rattle.std.specs.Prelude.{ℕ, List, codes}
 use Rattle.krb_seal.specs.declared.seal_error.SealError.{SealError}
-use Rattle.krb_seal.specs.declared.seal_error.SealError.TheVariants.{Wiped, TooLong, Exhausted, Memory}
+use Rattle.krb_seal.specs.declared.seal_error.SealError.TheVariants.{Wiped, TooLong, Exhausted}
+use Rattle.krb_seal.specs.declared.seal_error.SealError.TheVariants.{Memory}
 
 abbrev pub code_of : SealError → ℕ
 code_of Wiped = 1

@@ -19,7 +19,8 @@ end_of_numbers = last_number + 1
 
 -- A new sealer.
 abbrev pub new_state : ℤ → List ℕ → Session → SealerState
-new_state etype key session = record { etype = etype; key = key; session = session; next = session.first; wiped = false }
+new_state etype key session =
+    record { etype = etype; key = key; session = session; next = session.first; wiped = false }
 
 -- The sealer after a sealed frame.
 abbrev pub advanced : SealerState → SealerState
@@ -40,4 +41,5 @@ SealsNext s user at conf bytes = Seals s.etype s.key s.session s.next user at co
 -- Each frame that seals n bytes of user data at the next number and this timestamp has this size.
 abbrev pub HasFrameSize : SealerState → ℕ → ℕ → ℕ → Type 0
 HasFrameSize s n at size =
-    (user conf frame : List ℕ) → length user ≡ n → SealsNext s user at conf frame → length frame ≡ size
+    (user conf frame : List ℕ) → length user ≡ n → SealsNext s user at conf frame
+        → length frame ≡ size

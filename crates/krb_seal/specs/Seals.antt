@@ -36,15 +36,19 @@ body_of s number user at = record {
 
 -- KRB-SAFE before it has its checksum.
 abbrev pub unsigned : Etype → Body → SafeMsg
-unsigned etype b = record { pvno = pos 5; msg_type = pos 20; body = b; cksum_type = checksum_number etype; checksum = [] }
+unsigned etype b =
+    record { pvno = pos 5; msg_type = pos 20; body = b; cksum_type = checksum_number etype;
+    checksum = [] }
 
 -- KRB-SAFE with its checksum.
 abbrev pub sealed_safe : Etype → List ℕ → Body → SafeMsg
-sealed_safe etype key b = record (unsigned etype b) { checksum = safe_checksum key (unsigned etype b) }
+sealed_safe etype key b =
+    record (unsigned etype b) { checksum = safe_checksum key (unsigned etype b) }
 
 -- KRB-PRIV before it has its cipher.
 abbrev pub unenciphered : Etype → PrivMsg
-unenciphered etype = record { pvno = pos 5; msg_type = pos 21; etype = number_of etype; kvno = None; cipher = [] }
+unenciphered etype =
+    record { pvno = pos 5; msg_type = pos 21; etype = number_of etype; kvno = None; cipher = [] }
 
 -- KRB-PRIV of a text that is enciphered.
 abbrev pub priv_of : Etype → List ℕ → List ℕ → PrivMsg
@@ -61,7 +65,8 @@ sealed_as Priv etype key conf b = messages.Priv (sealed_priv etype key conf b)
 
 -- The message that carries data at a number and a timestamp, under a confounder.
 abbrev pub sealed_message : Etype → List ℕ → Session → ℕ → List ℕ → ℕ → List ℕ → Message
-sealed_message etype key s number user at conf = sealed_as s.mode etype key conf (body_of s number user at)
+sealed_message etype key s number user at conf =
+    sealed_as s.mode etype key conf (body_of s number user at)
 
 -- The bytes of that message.
 unfoldable pub sealed : Etype → List ℕ → Session → ℕ → List ℕ → ℕ → List ℕ → List ℕ
@@ -70,7 +75,8 @@ sealed etype key s number user at conf = message (sealed_message etype key s num
 -- The bytes are the message that carries a body, under the encryption type that has this number:
 -- there is such a type, what goes in is in range, what is enciphered is bytes, and the message is
 -- spelt so.
-pub record SealsBody (mode : Mode) (number : ℤ) (key conf : List ℕ) (b : Body) (bytes : List ℕ) : Type 0 where
+pub record SealsBody (mode : Mode) (number : ℤ) (key conf : List ℕ) (b : Body)
+    (bytes : List ℕ) : Type 0 where
   pub etype : Etype
   pub known : number_of etype ≡ number
   pub body : IsBody b
@@ -80,4 +86,5 @@ pub record SealsBody (mode : Mode) (number : ℤ) (key conf : List ℕ) (b : Bod
 
 -- The bytes are the frame of this data at a number and a timestamp.
 abbrev pub Seals : ℤ → List ℕ → Session → ℕ → List ℕ → ℕ → List ℕ → List ℕ → Type 0
-Seals etype key s number user at conf bytes = SealsBody s.mode etype key conf (body_of s number user at) bytes
+Seals etype key s number user at conf bytes =
+    SealsBody s.mode etype key conf (body_of s number user at) bytes
