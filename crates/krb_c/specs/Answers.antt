@@ -4,7 +4,9 @@ use Rattle.krb_seal.specs.declared.refusal.Refusal.{Refusal}
 use Rattle.krb_seal.specs.declared.refusal.Refusal.TheVariants as refusals
 use Rattle.krb_seal.specs.Refusal as refusal
 use Rattle.krb_c.specs.declared.fault.Fault.{Fault}
-use Rattle.krb_c.specs.declared.fault.Fault.TheVariants.{Wiped, TooLong, Exhausted, Refused, Etype, Room, Empty, KeySize, Mode, Moment, Address, Argument, Record}
+use Rattle.krb_c.specs.declared.fault.Fault.TheVariants.{Wiped, TooLong, Exhausted, Refused, Etype}
+use Rattle.krb_c.specs.declared.fault.Fault.TheVariants.{Room, Empty, KeySize, Mode, Moment}
+use Rattle.krb_c.specs.declared.fault.Fault.TheVariants.{Address, Argument, Record}
 use Rattle.krb_c.specs.Fault.{fault_code}
 
 abbrev pub name_of : Fault → List ℕ
@@ -55,12 +57,14 @@ text_of Record = codes "the texts are no record"
 
 -- the answer 0 has this text, and that of a fault its own
 abbrev pub IsTextOf : (Fault → List ℕ) → List ℕ → ℕ → List ℕ → Type 0
-IsTextOf text ok code bytes = ((code ≡ 0) × (bytes ≡ ok)) ⊎ ((f : Fault) × (code ≡ fault_code f) × (bytes ≡ text f))
+IsTextOf text ok code bytes =
+    ((code ≡ 0) × (bytes ≡ ok)) ⊎ ((f : Fault) × (code ≡ fault_code f) × (bytes ≡ text f))
 
 -- the buffer begins with the text of an answer, of this size, and a zero
 abbrev pub IsWritten : (Fault → List ℕ) → List ℕ → ℕ → ℕ → List ℕ → Type 0
 IsWritten text ok code size buffer =
-    (bytes : List ℕ) × IsTextOf text ok code bytes × (size ≡ length bytes) × (take (size + 1) buffer ≡ bytes ++ 0 ∷ [])
+    (bytes : List ℕ) × IsTextOf text ok code bytes × (size ≡ length bytes)
+        × (take (size + 1) buffer ≡ bytes ++ 0 ∷ [])
 
 abbrev pub ok_name : List ℕ
 ok_name = codes "OK"

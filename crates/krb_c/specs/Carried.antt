@@ -1,5 +1,6 @@
 -- What an authentic message carried beside its user data.
-use Rattle.std.specs.Prelude.{ℕ, ◌++◌, pos, List, length, drop, replicate, Option, Some, None, unwrap_or}
+use Rattle.std.specs.Prelude.{ℕ, ◌++◌, pos, List, length, drop, replicate, Option, Some, None}
+use Rattle.std.specs.Prelude.{unwrap_or}
 use Rattle.krb_der.specs.declared.address.HostAddress.{HostAddress}
 use Rattle.krb_der.specs.declared.body.Body.{Body}
 use Rattle.krb_c.specs.declared.session.KrbAddress.{KrbAddress}

@@ -1,7 +1,8 @@
--- What a caller demands of an authentic message, each demand with a number that says how: 0 nothing,
--- 1 that what the message tells fits, 2 that the message tells it and it fits. Of the sequence
--- number 3 says that a message without one has the number 0.
-use Rattle.std.specs.Prelude.{◌≡◌, ℕ, ◌*◌, ◌≤◌, Bool, false, not, ◌&&◌, ◌||◌, [], ◌∷◌, List, length, Option, Some, None, Ok, Err, nat_le, nat_eq}
+-- What a caller demands of an authentic message, each demand with a number that says how: 0
+-- nothing, 1 that what the message tells fits, 2 that the message tells it and it fits. Of the
+-- sequence number 3 says that a message without one has the number 0.
+use Rattle.std.specs.Prelude.{◌≡◌, ℕ, ◌*◌, ◌≤◌, Bool, false, not, ◌&&◌, ◌||◌, [], ◌∷◌, List, length}
+use Rattle.std.specs.Prelude.{Option, Some, None, Ok, Err, nat_le, nat_eq}
 use Rattle.std.specs.Option.{ForSome}
 use Rattle.krb_der.specs.declared.address.HostAddress.{HostAddress}
 use Rattle.krb_der.specs.declared.body.Body.{Body}
@@ -45,7 +46,8 @@ receiver_meets d (Some a) = nat_eq d.receiver 0 || same_address a (address_of d.
 
 -- in whole microseconds, and both ends of the window are in it
 abbrev pub is_within : KrbDemand → ℕ → Option ℕ → Option ℕ → Bool
-is_within d now (Some secs) (Some usec) = nat_le (distance now (moment_of secs usec)) (micros_per_second * d.skew)
+is_within d now (Some secs) (Some usec) =
+    nat_le (distance now (moment_of secs usec)) (micros_per_second * d.skew)
 is_within d now None None = not (nat_eq d.time 2)
 is_within d now (Some secs) None = false
 is_within d now None (Some usec) = false
@@ -74,4 +76,5 @@ AsDemanded d now (Err r) outcome = outcome ≡ Err r
 
 -- The outcome of opening a frame with demands: it is authenticated first.
 abbrev pub OpensWith : OpenerState → KrbDemand → ℕ → List ℕ → Authenticity → Type 0
-OpensWith o d now frame outcome = (x : Authenticity) × Authenticates o frame x × AsDemanded d now x outcome
+OpensWith o d now frame outcome =
+    (x : Authenticity) × Authenticates o frame x × AsDemanded d now x outcome

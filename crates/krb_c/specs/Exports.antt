@@ -1,7 +1,8 @@
 -- What the exports answer.
 use Rattle.std.specs.Prelude.{ℕ, ◌≡◌, ◌≤◌, List, Option, Some, None, Ok, Bool, if◌then◌else◌}
 use Rattle.krb_base.specs.Limits.{user_data_limit}
-use Rattle.krb_seal.specs.Sealer.{HasFrameSize, SealerState, SealsNext, advanced, in_mode, wiped_state}
+use Rattle.krb_seal.specs.Sealer.{HasFrameSize, SealerState, SealsNext, advanced, in_mode}
+use Rattle.krb_seal.specs.Sealer.{wiped_state}
 use Rattle.krb_der.specs.declared.body.Body.{Body}
 use Rattle.krb_seal.specs.declared.session.Mode.{Mode}
 use Rattle.krb_seal.specs.Opens.{OpenerState, Outcome, Opens}
@@ -39,8 +40,8 @@ abbrev pub IsNext : Option SealerState → ℕ → Type 0
 IsNext None n = ⊥
 IsNext (Some s) n = s.next ≡ n
 
--- n bytes of user data can be sealed at this moment, and each frame of so many that the sealer makes
--- next at it has this size
+-- n bytes of user data can be sealed at this moment, and each frame of so many that the sealer
+-- makes next at it has this size
 abbrev pub SizesNext : SealerState → ℕ → KrbMoment → ℕ → Type 0
 SizesNext s n at size = (n ≤ user_data_limit) × IsMoment at × HasFrameSize s n (micros_of at) size
 
@@ -52,12 +53,14 @@ IsNextSize (Some s) n at size = SizesNext s n at size
 -- a handle with a receiver that demands this number, or none after a close
 abbrev pub Demands : Option ReceiverState → OpenerState → ℕ → Bool → Type 0
 Demands None o expected closed = ⊥
-Demands (Some s) o expected closed = (s.opener ≡ o) × (s.demand.expected ≡ expected) × (s.demand.closed ≡ closed)
+Demands (Some s) o expected closed =
+    (s.opener ≡ o) × (s.demand.expected ≡ expected) × (s.demand.closed ≡ closed)
 
 -- the handle holds a receiver in this state
 abbrev pub IsDemanding : Option ReceiverState → ℕ → ℕ → Type 0
 IsDemanding None expected closed = ⊥
-IsDemanding (Some s) expected closed = (s.demand.expected ≡ expected) × (closed ≡ (if s.demand.closed then 1 else 0))
+IsDemanding (Some s) expected closed =
+    (s.demand.expected ≡ expected) × (closed ≡ (if s.demand.closed then 1 else 0))
 
 -- What a handle of an opener holds: nothing, or an opener, of which nothing is left once it was
 -- wiped.

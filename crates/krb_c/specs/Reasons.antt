@@ -1,5 +1,6 @@
 -- When each fault comes: only where its reason holds.
-use Rattle.std.specs.Prelude.{◌≡◌, ◌⊎◌, ℕ, ℤ, ◌+◌, ◌<◌, ◌≤◌, List, length, Option, Some, None, Ok, Err, true}
+use Rattle.std.specs.Prelude.{◌≡◌, ◌⊎◌, ℕ, ℤ, ◌+◌, ◌<◌, ◌≤◌, List, length, Option, Some, None, Ok}
+use Rattle.std.specs.Prelude.{Err, true}
 use Rattle.krb_base.specs.Limits.{frame_limit, user_data_limit}
 use Rattle.krb_der.specs.declared.body.Body.{Body}
 use Rattle.krb_der.specs.declared.message.Message.{Message}
@@ -20,7 +21,9 @@ use Rattle.krb_c.specs.Demand.{IsDemand, OpensWith}
 use Rattle.krb_c.specs.Fault.{fault_code}
 use Rattle.krb_c.specs.Answers.{IsTextOf}
 use Rattle.krb_c.specs.declared.fault.Fault.{Fault}
-use Rattle.krb_c.specs.declared.fault.Fault.TheVariants.{Wiped, TooLong, Exhausted, Refused, Etype, Room, Empty, KeySize, Mode, Moment, Address, Argument, Record}
+use Rattle.krb_c.specs.declared.fault.Fault.TheVariants.{Wiped, TooLong, Exhausted, Refused, Etype}
+use Rattle.krb_c.specs.declared.fault.Fault.TheVariants.{Room, Empty, KeySize, Mode, Moment}
+use Rattle.krb_c.specs.declared.fault.Fault.TheVariants.{Address, Argument, Record}
 
 -- it is no moment of the years 1970 to 9999
 abbrev pub IsNoMoment : KrbMoment → Type 0
@@ -47,8 +50,8 @@ abbrev pub SealFault : Option SealerState → ℕ → KrbMoment → ℕ → Faul
 SealFault None n at room f = f ≡ Empty
 SealFault (Some s) n at room f = SealReason s n at room f
 
--- why sealing a record fails: there is none of this kind with these bytes after its first, or sealing
--- its user data fails
+-- why sealing a record fails: there is none of this kind with these bytes after its first, or
+-- sealing its user data fails
 abbrev pub RecordReason : SealerState → ℕ → List ℕ → KrbMoment → ℕ → Fault → Type 0
 RecordReason s kind body at room f =
     ((f ≡ Record) × IsNoRecordOf kind body) ⊎ SealReason s (length body + 1) at room f
@@ -67,9 +70,11 @@ SizeFault (Some s) n at f = SizeReason n at f
 
 -- why opening fails
 abbrev pub OpenReason : OpenerState → ℕ → KrbMoment → List ℕ → ℕ → Fault → Type 0
-OpenReason o number at frame room (Refused r) = (r ≡ refusals.Memory → ⊥) → Opens o number (micros_of at) frame (Err r)
+OpenReason o number at frame room (Refused r) =
+    (r ≡ refusals.Memory → ⊥) → Opens o number (micros_of at) frame (Err r)
 OpenReason o number at frame room Moment = IsNoMoment at
-OpenReason o number at frame room Room = (user : List ℕ) × Opens o number (micros_of at) frame (Ok user) × (room < length user)
+OpenReason o number at frame room Room =
+    (user : List ℕ) × Opens o number (micros_of at) frame (Ok user) × (room < length user)
 OpenReason o number at frame room Wiped = ⊥
 OpenReason o number at frame room TooLong = ⊥
 OpenReason o number at frame room Exhausted = ⊥
@@ -89,10 +94,12 @@ OpenFault (Some (Some o)) number at frame room f = OpenReason o number at frame 
 
 -- why opening with demands of a caller's fails
 abbrev pub DemandReason : OpenerState → KrbDemand → KrbMoment → List ℕ → ℕ → Fault → Type 0
-DemandReason o d at frame room (Refused r) = (r ≡ refusals.Memory → ⊥) → OpensWith o d (micros_of at) frame (Err r)
+DemandReason o d at frame room (Refused r) =
+    (r ≡ refusals.Memory → ⊥) → OpensWith o d (micros_of at) frame (Err r)
 DemandReason o d at frame room Moment = IsNoMoment at
 DemandReason o d at frame room Argument = IsDemand d → ⊥
-DemandReason o d at frame room Room = (b : Body) × OpensWith o d (micros_of at) frame (Ok b) × (room < length b.user_data)
+DemandReason o d at frame room Room =
+    (b : Body) × OpensWith o d (micros_of at) frame (Ok b) × (room < length b.user_data)
 DemandReason o d at frame room Wiped = ⊥
 DemandReason o d at frame room TooLong = ⊥
 DemandReason o d at frame room Exhausted = ⊥
@@ -103,7 +110,8 @@ DemandReason o d at frame room Mode = ⊥
 DemandReason o d at frame room Address = ⊥
 DemandReason o d at frame room Record = ⊥
 
-abbrev pub DemandFault : Option (Option OpenerState) → KrbDemand → KrbMoment → List ℕ → ℕ → Fault → Type 0
+abbrev pub DemandFault : Option (Option OpenerState) → KrbDemand → KrbMoment → List ℕ → ℕ → Fault
+    → Type 0
 DemandFault None d at frame room f = f ≡ Empty
 DemandFault (Some None) d at frame room f = f ≡ Wiped
 DemandFault (Some (Some o)) d at frame room f = DemandReason o d at frame room f
@@ -115,23 +123,31 @@ AddressReason n f = ((f ≡ Address) × (address_room < n)) ⊎ (f ≡ Refused r
 -- why no session is made: its mode, or an address
 abbrev pub SessionReason : ℕ → ℕ → ℕ → Fault → Type 0
 SessionReason mode s r f =
-    ((f ≡ Mode) × (IsMode mode → ⊥)) ⊎ (((f ≡ Address) × ((address_room < s) ⊎ (address_room < r))) ⊎ (f ≡ Refused refusals.Memory))
+    ((f ≡ Mode) × (IsMode mode → ⊥))
+        ⊎ (((f ≡ Address) × ((address_room < s) ⊎ (address_room < r)))
+        ⊎ (f ≡ Refused refusals.Memory))
 
--- Why no sealer, opener or receiver is made: its encryption type, the size n of its key, its mode or
--- an address.
+-- Why no sealer, opener or receiver is made: its encryption type, the size n of its key, its mode
+-- or an address.
 abbrev pub NewReason : ℤ → ℕ → ℕ → ℕ → ℕ → Fault → Type 0
 NewReason etype n mode s r f =
-    ((f ≡ Etype) × (IsEtype etype → ⊥)) ⊎ (((f ≡ KeySize) × (IsKey etype n → ⊥)) ⊎ SessionReason mode s r f)
+    ((f ≡ Etype) × (IsEtype etype → ⊥))
+        ⊎ (((f ≡ KeySize) × (IsKey etype n → ⊥)) ⊎ SessionReason mode s r f)
 
 -- Why a receiver takes no frame: it fails a check, or the body of its record needs more room.
 abbrev pub TakeReason : ReceiverState → ℕ → List ℕ → ℕ → Fault → Type 0
 TakeReason s now frame room f =
-    ((r : Refusal) × (f ≡ Refused r) × ((r ≡ refusals.Memory) ⊎ Fails s.opener s.demand now frame r))
-    ⊎ ((f ≡ Room) × ((kind : ℕ) × ((body : List ℕ) × ((new : ReceiverState) × Accepts s now frame kind body new × (room < length body)))))
+    ((r : Refusal) × (f ≡ Refused r)
+        × ((r ≡ refusals.Memory) ⊎ Fails s.opener s.demand now frame r))
+    ⊎ ((f ≡ Room)
+        × ((kind : ℕ)
+        × ((body : List ℕ)
+        × ((new : ReceiverState) × Accepts s now frame kind body new × (room < length body)))))
 
 abbrev pub TakeFault : Option ReceiverState → KrbMoment → List ℕ → ℕ → Fault → Type 0
 TakeFault None at frame room f = f ≡ Empty
-TakeFault (Some s) at frame room f = ((f ≡ Moment) × IsNoMoment at) ⊎ TakeReason s (micros_of at) frame room f
+TakeFault (Some s) at frame room f =
+    ((f ≡ Moment) × IsNoMoment at) ⊎ TakeReason s (micros_of at) frame room f
 
 -- why no receiver is made: as no opener is, or its number is over the end of all
 abbrev pub ReceiverReason : ℤ → ℕ → ℕ → ℕ → ℕ → ℕ → Fault → Type 0
@@ -147,7 +163,8 @@ ModeFault (Some s) mode f = (f ≡ Mode) × (IsMode mode → ⊥)
 abbrev pub HeaderReason : List ℕ → Fault → Type 0
 HeaderReason frame f =
     ((f ≡ Refused refusals.FieldTooLong) × (frame_limit < length frame))
-    ⊎ (((f ≡ Refused refusals.Malformed) × (length frame ≤ frame_limit) × ((m : Message) → Spells m frame → ⊥))
+    ⊎ (((f ≡ Refused refusals.Malformed) × (length frame ≤ frame_limit)
+        × ((m : Message) → Spells m frame → ⊥))
     ⊎ (f ≡ Refused refusals.Memory))
 
 -- why no name or text is written: no answer has the number, or it and a zero need more room

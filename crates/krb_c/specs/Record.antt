@@ -1,5 +1,6 @@
 -- Records as C sees them: the kind of one, and its bytes after the first.
-use Rattle.std.specs.Prelude.{◌≡◌, ℕ, false, List, ◌∷◌, Option, Some, None, Ok, nat_eq, if◌then◌else◌}
+use Rattle.std.specs.Prelude.{◌≡◌, ℕ, false, List, ◌∷◌, Option, Some, None, Ok, nat_eq}
+use Rattle.std.specs.Prelude.{if◌then◌else◌}
 use Rattle.krb_seal.specs.Opens.{Opens}
 use Rattle.krb_seal.specs.Sealer.{SealerState, SealsNext}
 use Rattle.krb_peers.specs.declared.record.Record.{Record}
@@ -32,11 +33,15 @@ IsNoRecordOf kind body = (r : Record) (user : List ℕ) → IsRecordOf kind body
 -- the first byte of the records of a kind
 abbrev pub tag_at : ℕ → Option ℕ
 tag_at kind =
-    if nat_eq kind 1 then Some 0x44 else if nat_eq kind 2 then Some 0x42 else if nat_eq kind 3 then Some 0x43 else None
+    if nat_eq kind 1 then Some 0x44
+    else if nat_eq kind 2 then Some 0x42
+    else if nat_eq kind 3 then Some 0x43
+    else None
 
 -- the bytes seal such a record at the sealer's next number
 abbrev pub SealsRecord : SealerState → ℕ → List ℕ → ℕ → List ℕ → List ℕ → Type 0
-SealsRecord s kind body at conf frame = (r : Record) × ((user : List ℕ) × IsRecordOf kind body r user × SealsNext s user at conf frame)
+SealsRecord s kind body at conf frame =
+    (r : Record) × ((user : List ℕ) × IsRecordOf kind body r user × SealsNext s user at conf frame)
 
 abbrev pub SealsRecordTo : Option SealerState → ℕ → List ℕ → ℕ → List ℕ → List ℕ → Type 0
 SealsRecordTo None kind body at conf frame = ⊥
@@ -46,9 +51,11 @@ SealsRecordTo (Some s) kind body at conf frame = SealsRecord s kind body at conf
 -- and carries such a record, and the next number is demanded from then on, or none after a close.
 abbrev pub Accepts : ReceiverState → ℕ → List ℕ → ℕ → List ℕ → ReceiverState → Type 0
 Accepts old now frame kind body new = (old.demand.closed ≡ false) × ((r : Record) × ((user : List ℕ)
-    × Opens old.opener old.demand.expected now frame (Ok user) × IsRecordOf kind body r user × (new ≡ advanced old (is_close r))))
+    × Opens old.opener old.demand.expected now frame (Ok user) × IsRecordOf kind body r user
+        × (new ≡ advanced old (is_close r))))
 
-abbrev pub AcceptsTo : Option ReceiverState → ℕ → List ℕ → ℕ → List ℕ → Option ReceiverState → Type 0
+abbrev pub AcceptsTo : Option ReceiverState → ℕ → List ℕ → ℕ → List ℕ → Option ReceiverState
+    → Type 0
 AcceptsTo None now frame kind body new = ⊥
 AcceptsTo (Some old) now frame kind body None = ⊥
 AcceptsTo (Some old) now frame kind body (Some new) = Accepts old now frame kind body new

@@ -15,4 +15,5 @@ frame_room n = min (n + frame_overhead) frame_limit
 -- each frame that a sealer makes of n bytes fits
 abbrev pub FitsFrames : ℕ → ℕ → Type 0
 FitsFrames n room = (s : SealerState) (user : List ℕ) (at : ℕ) (conf frame : List ℕ)
-    → HasShortAddresses s.session → length user ≡ n → SealsNext s user at conf frame → length frame ≤ room
+    → HasShortAddresses s.session → length user ≡ n → SealsNext s user at conf frame
+        → length frame ≤ room
