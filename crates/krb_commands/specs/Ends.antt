@@ -1,5 +1,6 @@
 -- The two ends of a lane, as a job states them.
-use Rattle.std.specs.Prelude.{◌≡◌, ◌<◌, ℕ, pos, false, All, List, length, Option, Some, None, option_map, if◌then◌else◌}
+use Rattle.std.specs.Prelude.{◌≡◌, ◌<◌, ℕ, pos, false, All, List, length, Option, Some, None}
+use Rattle.std.specs.Prelude.{option_map, if◌then◌else◌}
 use Rattle.rand_chacha.specs.ChaCha.{of_seed}
 use Rattle.krb_seal.specs.declared.session.Session.{Session}
 use Rattle.krb_seal.specs.declared.session.Expect.{Expect}
@@ -67,7 +68,8 @@ source_in sender sealer = option_map (source_with sender sealer) sender.traffic.
 
 -- both ends of the lane, around a sealer
 abbrev pub ends_with : Sender → Source → Ends
-ends_with sender source = record { source = source; receiver = receiver_of sender; nows = sender.traffic.nows }
+ends_with sender source =
+    record { source = source; receiver = receiver_of sender; nows = sender.traffic.nows }
 
 abbrev pub ends_in : Sender → SealerState → Option Ends
 ends_in sender sealer = option_map (ends_with sender) (source_in sender sealer)
@@ -81,7 +83,8 @@ lane_told sender = ends_in sender (sealer_of sender)
 
 -- The ends of lanes that may begin: each sender keeps its limits and none was wiped, each receiver
 -- has a moment, and there are as many of both.
-pub record AreReady {S : Type 0} (state : S → SealerState) (sendings : List (Sending S)) (receivings : List Receiving) : Type 0 where
+pub record AreReady {S : Type 0} (state : S → SealerState) (sendings : List (Sending S))
+    (receivings : List Receiving) : Type 0 where
   pub same : length sendings ≡ length receivings
   pub senders : All (λ sending. IsSender (source_of state sending)) sendings
   pub live : All (λ sending. (state sending.sealer).wiped ≡ false) sendings

@@ -1,5 +1,6 @@
 -- The lines that are printed for a job.
-use Rattle.std.specs.Prelude.{ℕ, ◌+◌, ◌&&◌, Bool, true, false, List, [], ◌∷◌, ◌++◌, map, codes, if◌then◌else◌}
+use Rattle.std.specs.Prelude.{ℕ, ◌+◌, ◌&&◌, Bool, true, false, List, [], ◌∷◌, ◌++◌, map, codes}
+use Rattle.std.specs.Prelude.{if◌then◌else◌}
 use Rattle.std.specs.List.{concat}
 use Rattle.std.specs.Fmt.{decimal}
 use Rattle.hex.specs.Hex.{encode_lower}
@@ -51,7 +52,9 @@ ending_name Done = codes "DONE"
 ending_name LastNumber = codes "LAST_NUMBER"
 
 abbrev pub sent_text : Sent → List ℕ
-sent_text sent = codes "sent " ++ decimal sent.k ++ codes " of " ++ decimal sent.n ++ codes " " ++ ending_name sent.ending
+sent_text sent =
+    codes "sent " ++ decimal sent.k ++ codes " of " ++ decimal sent.n ++ codes " "
+    ++ ending_name sent.ending
 
 abbrev pub sent_line : Sent → List ℕ
 sent_line sent = line_of (sent_text sent)
@@ -88,12 +91,14 @@ end_line lane sent state = line_of (end_text lane sent state)
 
 abbrev pub end_lines : ℕ → List Sent → LogState → List ℕ
 end_lines lane [] log = []
-end_lines lane (sent ∷ sents) log = end_line lane sent (status_of log lane) ++ end_lines (lane + 1) sents log
+end_lines lane (sent ∷ sents) log =
+    end_line lane sent (status_of log lane) ++ end_lines (lane + 1) sents log
 
 -- whether every lane's close was accepted, from a lane on
 abbrev pub are_closed : ℕ → List Sent → LogState → Bool
 are_closed lane [] log = true
-are_closed lane (sent ∷ sents) log = is_closed_state (status_of log lane) && are_closed (lane + 1) sents log
+are_closed lane (sent ∷ sents) log =
+    is_closed_state (status_of log lane) && are_closed (lane + 1) sents log
 
 -- the exit status: 0 where all are closed, else 3
 abbrev pub status_by : Bool → ℕ

@@ -22,7 +22,8 @@ relayed_status lanes log = status_by (are_closed 0 (sents_of lanes) log)
 -- status.
 abbrev pub PrintsRelayed : List Ends → Option (List ℕ) → Option (List ℕ) → ℕ → Type 0
 PrintsRelayed lanes old new status =
-    (log : LogState) × IsWhole lanes log (sents_of lanes) × Appends old new (relayed_text lanes log) × (status ≡ relayed_status lanes log)
+    (log : LogState) × IsWhole lanes log (sents_of lanes) × Appends old new (relayed_text lanes log)
+        × (status ≡ relayed_status lanes log)
 
 -- So many lines are printed: the outcome of each frame that was taken until the run stopped. The
 -- headline holds of each lane.
@@ -32,13 +33,15 @@ PrintsStopped lanes lines old new =
     × Appends old new (entry_lines log.entries)
 
 -- A prefix of what is printed of all, or of the lines of the first entries alone, or nothing. The
--- first entries are the outcome of the frames that were taken of each lane, and the headline holds of
--- each lane.
+-- first entries are the outcome of the frames that were taken of each lane, and the headline holds
+-- of each lane.
 abbrev pub PrintsRelayedPrefix : List Ends → Option (List ℕ) → Option (List ℕ) → Type 0
 PrintsRelayedPrefix lanes old new =
     Keeps old new
-    ⊎ (((log : LogState) × IsWhole lanes log (sents_of lanes) × AppendsPrefix old new (relayed_text lanes log))
-    ⊎ ((log : LogState) × IsRelayed lanes (unended log) × AppendsPrefix old new (entry_lines log.entries)))
+    ⊎ (((log : LogState) × IsWhole lanes log (sents_of lanes)
+        × AppendsPrefix old new (relayed_text lanes log))
+    ⊎ ((log : LogState) × IsRelayed lanes (unended log)
+        × AppendsPrefix old new (entry_lines log.entries)))
 
 -- The plan of this lane names what the frames of its sender don't have, and all lanes before it
 -- have a wire.
@@ -46,4 +49,5 @@ pub record HasBadPlanFirst (lanes : List Ends) (lane : ℕ) : Type 0 where
   pub ends : Ends
   pub there : slice_get lanes lane ≡ Some ends
   pub bad : IsBad ends.source
-  pub before : (other : ℕ) (its : Ends) → other < lane → slice_get lanes other ≡ Some its → (emitted : List (List ℕ)) × IsWire its.source emitted
+  pub before : (other : ℕ) (its : Ends) → other < lane → slice_get lanes other ≡ Some its
+      → (emitted : List (List ℕ)) × IsWire its.source emitted

@@ -20,4 +20,5 @@ PrintsSealed source old new =
 abbrev pub PrintsSealedPrefix : Source → Option (List ℕ) → Option (List ℕ) → Type 0
 PrintsSealedPrefix source old new =
     Keeps old new
-    ⊎ ((emitted : List (List ℕ)) × IsWire source emitted × AppendsPrefix old new (sealed_text source emitted))
+    ⊎ ((emitted : List (List ℕ)) × IsWire source emitted
+        × AppendsPrefix old new (sealed_text source emitted))

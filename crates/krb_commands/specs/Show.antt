@@ -28,7 +28,8 @@ Shows input old new status =
 -- a prefix of the output is written
 abbrev pub ShowsPrefix : List ℕ → Option (List ℕ) → Option (List ℕ) → Type 0
 ShowsPrefix input old new =
-    (readings : List Reading) × AreReadings input readings × AppendsPrefix old new (output_of readings)
+    (readings : List Reading) × AreReadings input readings
+        × AppendsPrefix old new (output_of readings)
 
 -- an input has one list of readings, so it has one output and one status
 abbrev pub HasOneReading : List ℕ → Type 0
@@ -39,7 +40,8 @@ HasOneReading input =
 -- the same of one line: its reading is printed, and whether it is a message
 abbrev pub ShowsLine : List ℕ → Option (List ℕ) → Option (List ℕ) → Bool → Type 0
 ShowsLine line old new spelt =
-    (reading : Reading) × Reads line reading × Appends old new (printed_line reading) × (spelt ≡ is_message reading)
+    (reading : Reading) × Reads line reading × Appends old new (printed_line reading)
+        × (spelt ≡ is_message reading)
 
 abbrev pub ShowsLinePrefix : List ℕ → Option (List ℕ) → Option (List ℕ) → Type 0
 ShowsLinePrefix line old new =

@@ -1,5 +1,7 @@
 -- Decimal numbers with one spelling each.
-use Rattle.std.specs.Prelude.{ℕ, ◌+◌, ◌-◌, ◌*◌, ◌^◌, ◌==◌, nat_le, nat_lt, ℤ, pos, ◌-ℤ◌, Bool, true, false, not, ◌&&◌, List, [], ◌∷◌, length, Option, Some, None, if◌then◌else◌}
+use Rattle.std.specs.Prelude.{ℕ, ◌+◌, ◌-◌, ◌*◌, ◌^◌, ◌==◌, nat_le, nat_lt, ℤ, pos, ◌-ℤ◌, Bool, true}
+use Rattle.std.specs.Prelude.{false, not, ◌&&◌, List, [], ◌∷◌, length, Option, Some, None}
+use Rattle.std.specs.Prelude.{if◌then◌else◌}
 use Rattle.krb_job.specs.Steps.{◌>>=◌}
 
 -- the value of a digit from `0` to `9`, which are 48 to 57
@@ -19,7 +21,9 @@ is_plain (c ∷ d ∷ cs) = not (c == 48)
 
 -- the number of at most so many digits
 abbrev pub decimal_of : ℕ → List ℕ → Option ℕ
-decimal_of most text = if is_plain text && nat_le (length text) most then digits_from 0 text else None
+decimal_of most text =
+    if is_plain text && nat_le (length text) most then digits_from 0 text
+    else None
 
 -- Int32 ::= INTEGER (-2147483648..2147483647)
 abbrev pub not_negative : ℕ → Option ℤ
@@ -32,4 +36,6 @@ negative n = if nat_le 1 n && nat_le n (2 ^ 31) then Some (pos 0 -ℤ pos n) els
 -- a minus sign, which is 45, and a number; or a number alone
 abbrev pub int32_of : List ℕ → Option ℤ
 int32_of [] = None
-int32_of (c ∷ cs) = if c == 45 then decimal_of 10 cs >>= negative else decimal_of 10 (c ∷ cs) >>= not_negative
+int32_of (c ∷ cs) =
+    if c == 45 then decimal_of 10 cs >>= negative
+    else decimal_of 10 (c ∷ cs) >>= not_negative

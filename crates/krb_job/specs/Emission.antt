@@ -1,5 +1,6 @@
 -- Emissions of a plan: `K`, `flip K AT MASK` and `raw HEX`.
-use Rattle.std.specs.Prelude.{ℕ, nat_eq, List, drop, codes, slice_get, Option, Some, None, option_map, if◌then◌else◌}
+use Rattle.std.specs.Prelude.{ℕ, nat_eq, List, drop, codes, slice_get, Option, Some, None}
+use Rattle.std.specs.Prelude.{option_map, if◌then◌else◌}
 use Rattle.std.specs.Result.{result_ok}
 use Rattle.std.specs.List.{starts_with}
 use Rattle.toml.specs.Data.{Data, string}
@@ -27,7 +28,11 @@ flip_of text = do
   Some (Flip k at mask)
 
 unfoldable pub emission_named : List ℕ → Option Emit
-emission_named text = if starts_with nat_eq text (codes "flip ") then flip_of (drop 5 text) else if starts_with nat_eq text (codes "raw ") then option_map Raw (hex_of 0 raw_limit (drop 4 text)) else option_map Frame (decimal_of 9 text)
+emission_named text =
+    if starts_with nat_eq text (codes "flip ") then flip_of (drop 5 text)
+    else if starts_with nat_eq text (codes "raw ")
+    then option_map Raw (hex_of 0 raw_limit (drop 4 text))
+    else option_map Frame (decimal_of 9 text)
 
 abbrev pub emission_of : Data → Option Emit
 emission_of (string text) = emission_named text

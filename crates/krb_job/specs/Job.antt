@@ -1,5 +1,7 @@
 -- A whole job: the checks of its top keys, and then sender by sender.
-use Rattle.std.specs.Prelude.{◌≡◌, ℕ, ◌+◌, nat_le, Bool, true, false, ◌&&◌, List, [], ◌∷◌, ◌++◌, map, codes, String, Option, Some, None, ok_or, Result, Ok, Err, if◌then◌else◌}
+use Rattle.std.specs.Prelude.{◌≡◌, ℕ, ◌+◌, nat_le, Bool, true, false, ◌&&◌, List, [], ◌∷◌, ◌++◌}
+use Rattle.std.specs.Prelude.{map, codes, String, Option, Some, None, ok_or, Result, Ok, Err}
+use Rattle.std.specs.Prelude.{if◌then◌else◌}
 use Rattle.std.specs.Str.{IsUtf8}
 use Rattle.toml.specs.Data.{Data, table, array, Items, no_items, item, Members, get_member}
 use Rattle.toml.specs.Parse.{parse_document}
@@ -53,14 +55,16 @@ most_senders Relay = lane_limit
 
 -- tables, as many as the command allows
 abbrev pub are_senders : Command → Items → Bool
-are_senders command ds = are_tables ds && (nat_le 1 (count ds) && nat_le (count ds) (most_senders command))
+are_senders command ds =
+    are_tables ds && (nat_le 1 (count ds) && nat_le (count ds) (most_senders command))
 
 abbrev pub senders_if_there : Command → Option Data → Option Items
 senders_if_there command (Some (array ds)) = if are_senders command ds then Some ds else None
 senders_if_there command _ = None
 
 abbrev pub items_of_senders : Command → Members → Result Items BadInput
-items_of_senders command ms = ok_or (senders_if_there command (get_member (codes "sender") ms)) bad.Sender
+items_of_senders command ms =
+    ok_or (senders_if_there command (get_member (codes "sender") ms)) bad.Sender
 
 abbrev pub in_sender : {A : Type 0} → ℕ → Result A Place → Result A BadInput
 in_sender j (Ok x) = Ok x

@@ -16,10 +16,12 @@ not_both key short long = true≢false (ap (λ n. n == 16) (sym short ∙ long))
 
 -- the fact has one proof at most, so a type can keep it
 pub IsKeyOf-prop : (etype : ℤ) (key : List ℕ) → IsProp (IsKeyOf etype key)
-IsKeyOf-prop etype key (inl a) (inl b) = ap inl (×_prop (ℤ_set etype (pos 17)) (ℕ_set (length key) 16) a b)
+IsKeyOf-prop etype key (inl a) (inl b) =
+    ap inl (×_prop (ℤ_set etype (pos 17)) (ℕ_set (length key) 16) a b)
 IsKeyOf-prop etype key (inl a) (inr b) = absurd (not_both key a.1 b.1)
 IsKeyOf-prop etype key (inr a) (inl b) = absurd (not_both key b.1 a.1)
-IsKeyOf-prop etype key (inr a) (inr b) = ap inr (×_prop (ℤ_set etype (pos 18)) (ℕ_set (length key) 32) a b)
+IsKeyOf-prop etype key (inr a) (inr b) =
+    ap inr (×_prop (ℤ_set etype (pos 18)) (ℕ_set (length key) 32) a b)
 
 -- no text is too long
 abbrev pub AreShortTexts : List (List ℕ) → Type 0

@@ -1,5 +1,6 @@
 -- Lists of a job.
-use Rattle.std.specs.Prelude.{ℕ, ◌+◌, nat_le, ◌&&◌, List, [], ◌∷◌, Option, Some, None, if◌then◌else◌}
+use Rattle.std.specs.Prelude.{ℕ, ◌+◌, nat_le, ◌&&◌, List, [], ◌∷◌, Option, Some, None}
+use Rattle.std.specs.Prelude.{if◌then◌else◌}
 use Rattle.toml.specs.Data.{Data, array, Items, no_items, item}
 use Rattle.krb_base.specs.Limits.{text_limit, raw_limit, texts_limit, entries_limit}
 use Rattle.krb_der.specs.Moment.{last_moment}
@@ -22,7 +23,9 @@ each of (item d ds) = do
 
 -- the items of a list of low to high items
 abbrev pub items_of : ℕ → ℕ → Data → Option Items
-items_of low high (array ds) = if nat_le low (count ds) && nat_le (count ds) high then Some ds else None
+items_of low high (array ds) =
+    if nat_le low (count ds) && nat_le (count ds) high then Some ds
+    else None
 items_of low high _ = None
 
 abbrev pub list_of : {A : Type 0} → ℕ → ℕ → (Data → Option A) → Data → Option (List A)

@@ -1,11 +1,15 @@
 -- One sender of a job: its keys in the order in which they are checked, unknown keys last.
-use Rattle.std.specs.Prelude.{ℕ, ℤ, pos, Bool, true, false, List, [], ◌∷◌, map, Option, None, Result, Ok, Err}
+use Rattle.std.specs.Prelude.{ℕ, ℤ, pos, Bool, true, false, List, [], ◌∷◌, map, Option, None}
+use Rattle.std.specs.Prelude.{Result, Ok, Err}
 use Rattle.toml.specs.Data.{Members}
 use Rattle.krb_base.specs.Limits.{last_number, skew_limit, batch_limit}
 use Rattle.krb_der.specs.declared.address.HostAddress.{HostAddress}
 use Rattle.krb_seal.specs.declared.session.Mode.{Mode as ModeOf}
 use Rattle.krb_job.specs.declared.place.Place.{Place}
-use Rattle.krb_job.specs.declared.place.Place.TheVariants.{Etype, Key, Mode, First, From, To, WriteTo, RequireTo, ExpectTime, Skew, Seed, At, Now, Texts, Batch, Plan, Frames, UnknownKey}
+use Rattle.krb_job.specs.declared.place.Place.TheVariants.{Etype, Key, Mode, First, From, To}
+use Rattle.krb_job.specs.declared.place.Place.TheVariants.{WriteTo, RequireTo, ExpectTime, Skew}
+use Rattle.krb_job.specs.declared.place.Place.TheVariants.{Seed, At, Now, Texts, Batch, Plan}
+use Rattle.krb_job.specs.declared.place.Place.TheVariants.{Frames, UnknownKey}
 use Rattle.krb_job.specs.declared.job.Command.{Command}
 use Rattle.krb_job.specs.declared.job.Command.TheVariants.{Seal, Open, Relay}
 use Rattle.krb_peers.specs.declared.plan.Emit.{Emit}
@@ -75,7 +79,8 @@ parties_of ms = do
   require_to ← optional false RequireTo flag_of ms
   expect_time ← optional true ExpectTime flag_of ms
   skew ← needed Skew (number_of 0 skew_limit) ms
-  Ok (record { from = from; to = to; write_to = write_to; require_to = require_to; expect_time = expect_time; skew = skew })
+  Ok (record { from = from; to = to; write_to = write_to; require_to = require_to;
+      expect_time = expect_time; skew = skew })
 
 unfoldable pub traffic_of : Command → Members → Result Traffic Place
 traffic_of command ms = do
@@ -86,7 +91,8 @@ traffic_of command ms = do
   batch ← only_if (seals command) 1 Batch (optional 1 Batch (number_of 1 batch_limit) ms) ms
   plan ← only_if (seals command) None Plan (optional None Plan (some plan_of) ms) ms
   frames ← only_if (opens command) [] Frames (needed Frames frames_of ms) ms
-  Ok (record { seed = seed; ats = ats; nows = nows; texts = texts; batch = batch; plan = plan; frames = frames })
+  Ok (record { seed = seed; ats = ats; nows = nows; texts = texts; batch = batch; plan = plan;
+      frames = frames })
 
 abbrev pub if_known : {A : Type 0} → Bool → A → Result A Place
 if_known true x = Ok x
@@ -94,7 +100,8 @@ if_known false x = Err UnknownKey
 
 -- the sender of these parts, if its traffic passes the checks
 abbrev pub sender_with : Protection → Parties → Result Traffic Place → Result Sender Place
-sender_with protection parties (Ok traffic) = Ok (record { protection = protection; parties = parties; traffic = traffic })
+sender_with protection parties (Ok traffic) =
+    Ok (record { protection = protection; parties = parties; traffic = traffic })
 sender_with protection parties (Err place) = Err place
 
 unfoldable pub sender_of : Command → List (List ℕ) → Members → Result Sender Place

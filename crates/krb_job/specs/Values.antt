@@ -1,5 +1,6 @@
 -- What the values of a job stand for.
-use Rattle.std.specs.Prelude.{ℕ, ◌==◌, pos, nat_le, Bool, ◌&&◌, List, length, codes, Option, Some, None, if◌then◌else◌}
+use Rattle.std.specs.Prelude.{ℕ, ◌==◌, pos, nat_le, Bool, ◌&&◌, List, length, codes, Option, Some}
+use Rattle.std.specs.Prelude.{None, if◌then◌else◌}
 use Rattle.std.specs.Result.{result_ok}
 use Rattle.std.specs.List.{list_any}
 use Rattle.std.specs.Str.{bytes_eq}
@@ -19,7 +20,10 @@ flag_of (boolean b) = Some b
 flag_of _ = None
 
 abbrev pub mode_named : List ℕ → Option Mode
-mode_named text = if bytes_eq text (codes "safe") then Some modes.Safe else if bytes_eq text (codes "priv") then Some modes.Priv else None
+mode_named text =
+    if bytes_eq text (codes "safe") then Some modes.Safe
+    else if bytes_eq text (codes "priv") then Some modes.Priv
+    else None
 
 abbrev pub mode_of : Data → Option Mode
 mode_of (string text) = mode_named text
@@ -27,7 +31,9 @@ mode_of _ = None
 
 -- bytes of which there are as many as allowed
 abbrev pub sized : ℕ → ℕ → List ℕ → Option (List ℕ)
-sized low high bytes = if nat_le low (length bytes) && nat_le (length bytes) high then Some bytes else None
+sized low high bytes =
+    if nat_le low (length bytes) && nat_le (length bytes) high then Some bytes
+    else None
 
 -- the bytes of hexadecimal digits, low to high bytes
 abbrev pub hex_of : ℕ → ℕ → List ℕ → Option (List ℕ)

@@ -17,7 +17,8 @@ word_of Relay = codes "relay"
 -- a command is wanted, and `help` is none
 abbrev pub no_commands : App
 no_commands =
-    on_top (λ s. record s { has_version = true; subcommand_required = true; disable_help_subcommand = true })
+    on_top (λ s. record s { has_version = true; subcommand_required = true;
+        disable_help_subcommand = true })
     (new_app (codes "krbrelay"))
 
 abbrev pub with_word : App → Cmd → App
@@ -25,7 +26,9 @@ with_word app command = with_subcommand app (new_shape (word_of command))
 
 -- the program's command line: each command stands alone, with no arguments of its own
 abbrev pub krbrelay_app : App
-krbrelay_app = with_word (with_word (with_word (with_word (with_word no_commands Show) Vectors) Seal) Open) Relay
+krbrelay_app =
+    with_word
+    (with_word (with_word (with_word (with_word no_commands Show) Vectors) Seal) Open) Relay
 
 -- the word is a command's
 abbrev pub IsWord : List ℕ → Type 0

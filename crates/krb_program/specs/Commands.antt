@@ -10,13 +10,15 @@ use Rattle.krb_job.specs.SenderKeys.{Sender}
 use Rattle.krb_commands.specs.Fault.{bad_plan}
 use Rattle.krb_commands.specs.Sealed.{PrintsSealed, PrintsSealedPrefix}
 use Rattle.krb_commands.specs.Opened.{PrintsFirst, PrintsOpened, PrintsOpenedPrefix}
-use Rattle.krb_commands.specs.Relayed.{HasBadPlanFirst, PrintsRelayed, PrintsRelayedPrefix, PrintsStopped}
+use Rattle.krb_commands.specs.Relayed.{HasBadPlanFirst, PrintsRelayed, PrintsRelayedPrefix}
+use Rattle.krb_commands.specs.Relayed.{PrintsStopped}
 use Rattle.krb_commands.specs.Ends.{source_told, receiver_of, lane_told}
 use Rattle.krb_program.specs.Told.{Told, TellsOne}
 
 -- what a sender seals is printed
 abbrev pub SealsSender : Sender → Option (List ℕ) → Option (List ℕ) → Type 0
-SealsSender sender old new = (source : Source) × (source_told sender ≡ Some source) × PrintsSealed source old new
+SealsSender sender old new =
+    (source : Source) × (source_told sender ≡ Some source) × PrintsSealed source old new
 
 -- a prefix of that, or nothing
 abbrev pub SealsSenderPrefix : Sender → Option (List ℕ) → Option (List ℕ) → Type 0
@@ -33,7 +35,8 @@ abbrev pub Seals : Told → Option (List ℕ) → Option (List ℕ) → Type 0
 Seals told old new = (sender : Sender) × TellsOne told sender × SealsSender sender old new
 
 abbrev pub SealsPrefix : Told → Option (List ℕ) → Option (List ℕ) → Type 0
-SealsPrefix told old new = Keeps old new ⊎ ((sender : Sender) × TellsOne told sender × SealsSenderPrefix sender old new)
+SealsPrefix told old new =
+    Keeps old new ⊎ ((sender : Sender) × TellsOne told sender × SealsSenderPrefix sender old new)
 
 -- a check that isn't passed, or a plan that names what the frames don't have
 abbrev pub IsBadToSeal : Told → BadInput → Type 0
@@ -66,7 +69,8 @@ AreLanes job lanes = map Some lanes ≡ map lane_told job.senders
 
 -- what the job's senders send is relayed, what became of it is printed, and this is the status
 abbrev pub RelaysJob : Job → Option (List ℕ) → Option (List ℕ) → ℕ → Type 0
-RelaysJob job old new status = (lanes : List Ends) × AreLanes job lanes × PrintsRelayed lanes old new status
+RelaysJob job old new status =
+    (lanes : List Ends) × AreLanes job lanes × PrintsRelayed lanes old new status
 
 -- a prefix of that, or nothing
 abbrev pub RelaysJobPrefix : Job → Option (List ℕ) → Option (List ℕ) → Type 0
@@ -76,7 +80,8 @@ RelaysJobPrefix job old new =
 
 -- so many lines are printed: the outcome of each frame that was taken until the run stopped
 abbrev pub StopsJob : Job → ℕ → Option (List ℕ) → Option (List ℕ) → Type 0
-StopsJob job lines old new = (lanes : List Ends) × AreLanes job lanes × PrintsStopped lanes lines old new
+StopsJob job lines old new =
+    (lanes : List Ends) × AreLanes job lanes × PrintsStopped lanes lines old new
 
 -- the plan of a lane is bad, and of none before it
 abbrev pub HasBadPlan : Job → BadInput → Type 0
@@ -88,7 +93,8 @@ abbrev pub Relays : Told → Option (List ℕ) → Option (List ℕ) → ℕ →
 Relays told old new status = (job : Job) × (told ≡ Ok job) × RelaysJob job old new status
 
 abbrev pub RelaysPrefix : Told → Option (List ℕ) → Option (List ℕ) → Type 0
-RelaysPrefix told old new = Keeps old new ⊎ ((job : Job) × (told ≡ Ok job) × RelaysJobPrefix job old new)
+RelaysPrefix told old new =
+    Keeps old new ⊎ ((job : Job) × (told ≡ Ok job) × RelaysJobPrefix job old new)
 
 abbrev pub StopsRelay : Told → ℕ → Option (List ℕ) → Option (List ℕ) → Type 0
 StopsRelay told lines old new = (job : Job) × (told ≡ Ok job) × StopsJob job lines old new
