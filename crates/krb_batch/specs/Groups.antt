@@ -25,7 +25,7 @@ abbrev pub AreGroups : ℕ → List (List ℕ) → List (List (List ℕ)) → Ty
 AreGroups b texts [] = texts ≡ []
 AreGroups b texts (group ∷ groups) =
     (rest : List (List ℕ)) × (texts ≡ group ++ rest) × IsFirstGroup b texts (length group)
-        × AreGroups b rest groups
+    × AreGroups b rest groups
 
 -- ---- the same as a function: the law `group_laws` says that it gives the one such list
 

@@ -64,7 +64,7 @@ IsTextOf text ok code bytes =
 abbrev pub IsWritten : (Fault → List ℕ) → List ℕ → ℕ → ℕ → List ℕ → Type 0
 IsWritten text ok code size buffer =
     (bytes : List ℕ) × IsTextOf text ok code bytes × (size ≡ length bytes)
-        × (take (size + 1) buffer ≡ bytes ++ 0 ∷ [])
+    × (take (size + 1) buffer ≡ bytes ++ 0 ∷ [])
 
 abbrev pub ok_name : List ℕ
 ok_name = codes "OK"

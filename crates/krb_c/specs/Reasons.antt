@@ -124,25 +124,25 @@ AddressReason n f = ((f ≡ Address) × (address_room < n)) ⊎ (f ≡ Refused r
 abbrev pub SessionReason : ℕ → ℕ → ℕ → Fault → Type 0
 SessionReason mode s r f =
     ((f ≡ Mode) × (IsMode mode → ⊥))
-        ⊎ (((f ≡ Address) × ((address_room < s) ⊎ (address_room < r)))
-        ⊎ (f ≡ Refused refusals.Memory))
+    ⊎ (((f ≡ Address) × ((address_room < s) ⊎ (address_room < r)))
+    ⊎ (f ≡ Refused refusals.Memory))
 
 -- Why no sealer, opener or receiver is made: its encryption type, the size n of its key, its mode
 -- or an address.
 abbrev pub NewReason : ℤ → ℕ → ℕ → ℕ → ℕ → Fault → Type 0
 NewReason etype n mode s r f =
     ((f ≡ Etype) × (IsEtype etype → ⊥))
-        ⊎ (((f ≡ KeySize) × (IsKey etype n → ⊥)) ⊎ SessionReason mode s r f)
+    ⊎ (((f ≡ KeySize) × (IsKey etype n → ⊥)) ⊎ SessionReason mode s r f)
 
 -- Why a receiver takes no frame: it fails a check, or the body of its record needs more room.
 abbrev pub TakeReason : ReceiverState → ℕ → List ℕ → ℕ → Fault → Type 0
 TakeReason s now frame room f =
     ((r : Refusal) × (f ≡ Refused r)
-        × ((r ≡ refusals.Memory) ⊎ Fails s.opener s.demand now frame r))
+    × ((r ≡ refusals.Memory) ⊎ Fails s.opener s.demand now frame r))
     ⊎ ((f ≡ Room)
-        × ((kind : ℕ)
-        × ((body : List ℕ)
-        × ((new : ReceiverState) × Accepts s now frame kind body new × (room < length body)))))
+    × ((kind : ℕ)
+    × ((body : List ℕ)
+    × ((new : ReceiverState) × Accepts s now frame kind body new × (room < length body)))))
 
 abbrev pub TakeFault : Option ReceiverState → KrbMoment → List ℕ → ℕ → Fault → Type 0
 TakeFault None at frame room f = f ≡ Empty
@@ -164,7 +164,7 @@ abbrev pub HeaderReason : List ℕ → Fault → Type 0
 HeaderReason frame f =
     ((f ≡ Refused refusals.FieldTooLong) × (frame_limit < length frame))
     ⊎ (((f ≡ Refused refusals.Malformed) × (length frame ≤ frame_limit)
-        × ((m : Message) → Spells m frame → ⊥))
+    × ((m : Message) → Spells m frame → ⊥))
     ⊎ (f ≡ Refused refusals.Memory))
 
 -- why no name or text is written: no answer has the number, or it and a zero need more room

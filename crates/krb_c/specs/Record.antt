@@ -52,7 +52,7 @@ SealsRecordTo (Some s) kind body at conf frame = SealsRecord s kind body at conf
 abbrev pub Accepts : ReceiverState → ℕ → List ℕ → ℕ → List ℕ → ReceiverState → Type 0
 Accepts old now frame kind body new = (old.demand.closed ≡ false) × ((r : Record) × ((user : List ℕ)
     × Opens old.opener old.demand.expected now frame (Ok user) × IsRecordOf kind body r user
-        × (new ≡ advanced old (is_close r))))
+    × (new ≡ advanced old (is_close r))))
 
 abbrev pub AcceptsTo : Option ReceiverState → ℕ → List ℕ → ℕ → List ℕ → Option ReceiverState
     → Type 0

@@ -16,4 +16,4 @@ frame_room n = min (n + frame_overhead) frame_limit
 abbrev pub FitsFrames : ℕ → ℕ → Type 0
 FitsFrames n room = (s : SealerState) (user : List ℕ) (at : ℕ) (conf frame : List ℕ)
     → HasShortAddresses s.session → length user ≡ n → SealsNext s user at conf frame
-        → length frame ≤ room
+    → length frame ≤ room

@@ -39,9 +39,9 @@ abbrev pub PrintsOpenedPrefix : ReceiverState → List ℕ → List (List ℕ) �
     → Option (List ℕ) → Type 0
 PrintsOpenedPrefix receiver nows frames old new =
     ((verdicts : List Verdict) × AreJudged receiver nows frames verdicts
-        × AppendsPrefix old new (opened_text verdicts))
+    × AppendsPrefix old new (opened_text verdicts))
     ⊎ ((n : ℕ) × (verdicts : List Verdict) × AreJudged receiver nows (take n frames) verdicts
-        × AppendsPrefix old new (opened_lines verdicts))
+    × AppendsPrefix old new (opened_lines verdicts))
 
 -- a log of one lane holds what became of the frames
 pub record HoldsFrames (receiver : ReceiverState) (nows : List ℕ) (frames : List (List ℕ))

@@ -23,7 +23,7 @@ relayed_status lanes log = status_by (are_closed 0 (sents_of lanes) log)
 abbrev pub PrintsRelayed : List Ends → Option (List ℕ) → Option (List ℕ) → ℕ → Type 0
 PrintsRelayed lanes old new status =
     (log : LogState) × IsWhole lanes log (sents_of lanes) × Appends old new (relayed_text lanes log)
-        × (status ≡ relayed_status lanes log)
+    × (status ≡ relayed_status lanes log)
 
 -- So many lines are printed: the outcome of each frame that was taken until the run stopped. The
 -- headline holds of each lane.
@@ -39,9 +39,9 @@ abbrev pub PrintsRelayedPrefix : List Ends → Option (List ℕ) → Option (Lis
 PrintsRelayedPrefix lanes old new =
     Keeps old new
     ⊎ (((log : LogState) × IsWhole lanes log (sents_of lanes)
-        × AppendsPrefix old new (relayed_text lanes log))
+    × AppendsPrefix old new (relayed_text lanes log))
     ⊎ ((log : LogState) × IsRelayed lanes (unended log)
-        × AppendsPrefix old new (entry_lines log.entries)))
+    × AppendsPrefix old new (entry_lines log.entries)))
 
 -- The plan of this lane names what the frames of its sender don't have, and all lanes before it
 -- have a wire.

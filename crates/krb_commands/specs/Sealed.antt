@@ -21,4 +21,4 @@ abbrev pub PrintsSealedPrefix : Source → Option (List ℕ) → Option (List �
 PrintsSealedPrefix source old new =
     Keeps old new
     ⊎ ((emitted : List (List ℕ)) × IsWire source emitted
-        × AppendsPrefix old new (sealed_text source emitted))
+    × AppendsPrefix old new (sealed_text source emitted))

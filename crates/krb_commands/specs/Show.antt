@@ -29,7 +29,7 @@ Shows input old new status =
 abbrev pub ShowsPrefix : List ℕ → Option (List ℕ) → Option (List ℕ) → Type 0
 ShowsPrefix input old new =
     (readings : List Reading) × AreReadings input readings
-        × AppendsPrefix old new (output_of readings)
+    × AppendsPrefix old new (output_of readings)
 
 -- an input has one list of readings, so it has one output and one status
 abbrev pub HasOneReading : List ℕ → Type 0
@@ -41,7 +41,7 @@ HasOneReading input =
 abbrev pub ShowsLine : List ℕ → Option (List ℕ) → Option (List ℕ) → Bool → Type 0
 ShowsLine line old new spelt =
     (reading : Reading) × Reads line reading × Appends old new (printed_line reading)
-        × (spelt ≡ is_message reading)
+    × (spelt ≡ is_message reading)
 
 abbrev pub ShowsLinePrefix : List ℕ → Option (List ℕ) → Option (List ℕ) → Type 0
 ShowsLinePrefix line old new =

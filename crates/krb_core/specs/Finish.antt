@@ -40,7 +40,7 @@ groups_over track =
 abbrev pub WithRoom : Relay → Type 0 → Type 0
 WithRoom relay Claim =
     (lanes : List Ends) (capacity : ℕ) (before : List Turn) → 1 ≤ capacity
-        → HasTurned lanes capacity before relay → Claim
+    → HasTurned lanes capacity before relay → Claim
 
 -- it holds of one with no turns before
 abbrev pub FromStart : Relay → Type 0 → Type 0

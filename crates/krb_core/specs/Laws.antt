@@ -13,7 +13,7 @@ abbrev pub OfTurned : ((lanes : List Ends) → (capacity : ℕ) → (turns : Lis
     → HasTurned lanes capacity turns relay → Type 0) → Type 0
 OfTurned Claim =
     (lanes : List Ends) (capacity : ℕ) (turns : List Turn) (relay : Relay)
-        (turned : HasTurned lanes capacity turns relay)
+    (turned : HasTurned lanes capacity turns relay)
     → Claim lanes capacity turns relay turned
 
 -- the headline holds of each lane
@@ -25,7 +25,7 @@ TurnsKeepHeadline = OfTurned (λ lanes capacity turns relay turned. HaveHeadline
 abbrev pub TurnsKeepLanes : Type 0
 TurnsKeepLanes = OfTurned (λ lanes capacity turns relay turned.
     OfEachLane lanes relay
-        (λ ends lane track. IsLane ends capacity (turned_events lane turned.begun turns) track))
+    (λ ends lane track. IsLane ends capacity (turned_events lane turned.begun turns) track))
 
 -- the entries are what the verdicts on the frames bring, in the order of the turns that took them
 abbrev pub EntriesFollowTurns : Type 0

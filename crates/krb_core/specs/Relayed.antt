@@ -50,7 +50,7 @@ abbrev pub turned_events : ℕ → Relay → List Turn → List (machine.Event (
 turned_events lane relay [] = []
 turned_events lane relay (turn ∷ turns) =
     event_at lane turn (slice_get relay.tracks (lane_of turn))
-        ++ turned_events lane (turned relay turn) turns
+    ++ turned_events lane (turned relay turn) turns
 
 -- ---- what turns took
 

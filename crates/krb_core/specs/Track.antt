@@ -63,4 +63,4 @@ abbrev pub LogsFront : ℕ → TrackState → LogState → TrackState → LogSta
 LogsFront lane track log track-now log-now =
     (frame : List ℕ) (queue : List (Item (List ℕ))) → track.lane.queue ≡ Frame frame ∷ queue
     → LogsNext track.receiver log lane
-        (moment_at track.nows (length track.lane.got)) frame track-now.receiver log-now
+    (moment_at track.nows (length track.lane.got)) frame track-now.receiver log-now

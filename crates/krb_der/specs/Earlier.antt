@@ -109,9 +109,9 @@ earlier_message (Priv m) = earlier (application 21) (earlier_sequence (earlier_p
 abbrev pub SpellsAsEarlier : Type 0
 SpellsAsEarlier =
     (m : Message) (bytes : List ℕ) → SpellsWithin earlier_limit IsMessage earlier_message m bytes
-        → Spells m bytes
+    → Spells m bytes
 
 abbrev pub PartSpellsAsEarlier : Type 0
 PartSpellsAsEarlier =
     (b : Body) (bytes : List ℕ) → SpellsWithin earlier_limit IsBody earlier_part b bytes
-        → SpellsPart b bytes
+    → SpellsPart b bytes

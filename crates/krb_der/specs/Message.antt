@@ -108,4 +108,4 @@ OneSpelling {V} Spelt = (v : V) (s t : List ℕ) → Spelt v s → Spelt v t →
 abbrev pub UniqueSpelling : {V : Type 0} → (V → List ℕ → Type 0) → Type 0
 UniqueSpelling {V} Spelt =
     (a b : V) (s t x y : List ℕ) → Spelt a s → Spelt b t → s ++ x ≡ t ++ y → (a ≡ b) × (s ≡ t)
-        × (x ≡ y)
+    × (x ≡ y)

@@ -39,8 +39,14 @@ time_element_of bytes = alone generalized_time_tag time_of bytes
 
 abbrev pub body_with : List ℕ → Details → Body
 body_with user_data d =
-    record { user_data = user_data; time = d.time; usec = d.usec; seq = d.seq; s_addr = d.s_addr;
-    r_addr = d.r_addr }
+    record {
+      user_data = user_data;
+      time = d.time;
+      usec = d.usec;
+      seq = d.seq;
+      s_addr = d.s_addr;
+      r_addr = d.r_addr;
+    }
 
 -- the fields after the data
 unfoldable pub behind_of : List ℕ → List ℕ → Option Body
@@ -51,8 +57,14 @@ behind_of user_data bytes = do
   s ← tagged_at (context 4) seq.1
   s_addr ← address_of s.0
   r_addr ← optional_at (context 5) address_of s.1
-  ended (record { user_data = user_data; time = time.0; usec = usec.0; seq = seq.0; s_addr = s_addr;
-      r_addr = r_addr.0 }) r_addr.1
+  ended (record {
+    user_data = user_data;
+    time = time.0;
+    usec = usec.0;
+    seq = seq.0;
+    s_addr = s_addr;
+    r_addr = r_addr.0;
+  }) r_addr.1
 
 unfoldable pub body_of : List ℕ → Option Body
 body_of bytes = do
@@ -69,8 +81,13 @@ safe_of bytes = do
   b ← tagged_at (context 2) msg_type.1
   body ← body_of b.0
   checksum ← field_at (context 3) typed_of b.1
-  ended (record { pvno = pvno.0; msg_type = msg_type.0; body = body; cksum_type = checksum.0.0;
-      checksum = checksum.0.1 }) checksum.1
+  ended (record {
+    pvno = pvno.0;
+    msg_type = msg_type.0;
+    body = body;
+    cksum_type = checksum.0.0;
+    checksum = checksum.0.1;
+  }) checksum.1
 
 unfoldable pub encrypted_of : List ℕ → Option (ℤ × Option ℕ × List ℕ)
 encrypted_of bytes = do
@@ -87,8 +104,13 @@ private_of bytes = do
   msg_type ← field_at (context 1) int32_element_of pvno.1
   e ← tagged_at (context 3) msg_type.1
   encrypted ← encrypted_of e.0
-  ended (record { pvno = pvno.0; msg_type = msg_type.0; etype = encrypted.0; kvno = encrypted.1;
-      cipher = encrypted.2 }) e.1
+  ended (record {
+    pvno = pvno.0;
+    msg_type = msg_type.0;
+    etype = encrypted.0;
+    kvno = encrypted.1;
+    cipher = encrypted.2;
+  }) e.1
 
 unfoldable pub message_of : List ℕ → Option Message
 message_of bytes =
@@ -107,4 +129,4 @@ part_of bytes = do
 abbrev pub FindsSpelt : {V : Type 0} → (V → List ℕ → Type 0) → (List ℕ → Option V) → Type 0
 FindsSpelt {V} Spelt of =
     (v : V) (bytes : List ℕ) → ((i : ℕ) → get_or bytes i 0 < 256) → length bytes ≤ frame_limit
-        → (of bytes ≡ Some v) ↔ Spelt v bytes
+    → (of bytes ≡ Some v) ↔ Spelt v bytes

@@ -54,7 +54,7 @@ abbrev pub before_data : Body → List ℕ
 before_data b =
     header sequence_tag (length (joined (body_fields b)))
     ++ (header (context 0) (length (octets b.user_data))
-        ++ header octet_string_tag (length b.user_data))
+    ++ header octet_string_tag (length b.user_data))
 
 abbrev pub fields_behind_data : Body → List (List ℕ)
 fields_behind_data b =
@@ -84,7 +84,7 @@ safe_behind_data m = joined (fields_behind_data m.body) ++ tagged (context 3) (c
 abbrev pub encrypted_fields_size : ℤ → Option ℕ → ℕ → ℕ
 encrypted_fields_size etype kvno n =
     element_size (length (integer etype)) + length (optional 0 natural kvno)
-        + element_size (element_size n)
+    + element_size (element_size n)
 
 abbrev pub private_fields_size : PrivMsg → ℕ → ℕ
 private_fields_size m n =

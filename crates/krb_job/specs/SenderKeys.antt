@@ -79,8 +79,14 @@ parties_of ms = do
   require_to ← optional false RequireTo flag_of ms
   expect_time ← optional true ExpectTime flag_of ms
   skew ← needed Skew (number_of 0 skew_limit) ms
-  Ok (record { from = from; to = to; write_to = write_to; require_to = require_to;
-      expect_time = expect_time; skew = skew })
+  Ok (record {
+    from = from;
+    to = to;
+    write_to = write_to;
+    require_to = require_to;
+    expect_time = expect_time;
+    skew = skew;
+  })
 
 unfoldable pub traffic_of : Command → Members → Result Traffic Place
 traffic_of command ms = do
@@ -91,8 +97,15 @@ traffic_of command ms = do
   batch ← only_if (seals command) 1 Batch (optional 1 Batch (number_of 1 batch_limit) ms) ms
   plan ← only_if (seals command) None Plan (optional None Plan (some plan_of) ms) ms
   frames ← only_if (opens command) [] Frames (needed Frames frames_of ms) ms
-  Ok (record { seed = seed; ats = ats; nows = nows; texts = texts; batch = batch; plan = plan;
-      frames = frames })
+  Ok (record {
+    seed = seed;
+    ats = ats;
+    nows = nows;
+    texts = texts;
+    batch = batch;
+    plan = plan;
+    frames = frames;
+  })
 
 abbrev pub if_known : {A : Type 0} → Bool → A → Result A Place
 if_known true x = Ok x

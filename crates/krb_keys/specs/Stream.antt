@@ -9,7 +9,7 @@ rotated_byte text r j =
     let len = length text in
     let s = 8 * len - r % (8 * len) + 8 * j in
     (slice_index text (s / 8 % len) * 256 + slice_index text ((s / 8 + 1) % len))
-        / 2 ^ (8 - s % 8) % 256
+    / 2 ^ (8 - s % 8) % 256
 
 -- byte t of the repetitions of a text
 unfoldable pub stream_byte : List ℕ → ℕ → ℕ

@@ -35,7 +35,7 @@ pub record Accepted (first : ℕ) (offers : List Offer) (answers : List Answer) 
   pub one_each : length answers ≡ length offers
   pub each :
       (i : ℕ) (offer : Offer) (answer : Answer) → slice_get offers i ≡ Some offer
-          → slice_get answers i ≡ Some answer
+      → slice_get answers i ≡ Some answer
       → IsAnswer first (accepted_of (take i offers) (take i answers)) offer answer
 
 -- an order in this state gave these answers to these offers

@@ -32,7 +32,7 @@ pub record ComeInTurn (first : ℕ) (ends : Ends) : Type 0 where
   pub agree :
       (k : ℕ) → first ≤ k → k < length (records ends.source)
       → Agree ends.source.sealer.session ends.receiver.opener.expect (moment_at ends.source.ats k)
-          (moment_at ends.nows (place k))
+      (moment_at ends.nows (place k))
 
 -- The lane is paired, and each of the sender's frames comes in its turn.
 pub record Carried (ends : Ends) : Type 0 where
@@ -60,6 +60,6 @@ pub record GoesOnBehind (source : Source) (before : List Verdict) (ends : Ends) 
 abbrev pub AlteredAreHonestBehind : ℕ → Run → Type 0
 AlteredAreHonestBehind before run =
     (place : ℕ) (d : Delivery) → altered_at run.ends.source.plan place ≡ true
-        → slice_get run.verdicts place ≡ Some (Ok d)
+    → slice_get run.verdicts place ≡ Some (Ok d)
     → slice_get (records run.ends.source) (before + length (records_of (take place run.verdicts)))
-        ≡ Some (record_of d)
+    ≡ Some (record_of d)

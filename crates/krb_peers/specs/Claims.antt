@@ -36,7 +36,7 @@ DeliversWhole source events = DeliversAll source events × (has_closed events �
 abbrev pub NothingAfterClose : List Event → Type 0
 NothingAfterClose events =
     (front back : List Event) → events ≡ front ++ Closed ∷ back → (texts_in back ≡ [])
-        × (has_closed back ≡ false)
+    × (has_closed back ≡ false)
 
 -- all texts are delivered if the close was accepted
 abbrev pub AllWhereClosed : Source → List Event → Type 0
@@ -48,7 +48,7 @@ RefusesExactly start nows took verdicts =
     (place : ℕ) (frame : List ℕ) (refusal : Refusal) → slice_get took place ≡ Some frame
     → let demanded = demand_after start.demand (records_of (take place verdicts)) in
     (slice_get verdicts place ≡ Some (Err refusal))
-        ↔ Fails start.opener demanded (moment_at nows place) frame refusal
+    ↔ Fails start.opener demanded (moment_at nows place) frame refusal
 
 -- a refusal delivers nothing and moves no number: without it, the same is delivered and demanded
 abbrev pub RefusalsDeliverNothing : Demand → List Verdict → List Event → Type 0
@@ -68,19 +68,19 @@ has_ended lane log = slice_index_or log.ended lane false
 pub record Headline (log : LogState) (lane : ℕ) (run : Run) : Type 0 where
   pub delivered_prefix :
       IsPaired run.ends → AlteredAreHonest run
-          → DeliversPrefix run.ends.source (events_of lane log.entries)
+      → DeliversPrefix run.ends.source (events_of lane log.entries)
   pub nothing_after_close : NothingAfterClose (events_of lane log.entries)
   pub all_where_closed :
       IsPaired run.ends → AlteredAreHonest run
-          → AllWhereClosed run.ends.source (events_of lane log.entries)
+      → AllWhereClosed run.ends.source (events_of lane log.entries)
   -- all texts are delivered if the lane is clean and its End was taken
   pub all_where_undisturbed :
       Undisturbed run.ends → has_ended lane log ≡ true
-          → DeliversAll run.ends.source (events_of lane log.entries)
+      → DeliversAll run.ends.source (events_of lane log.entries)
   -- and if each frame came in its turn, whatever else came, and the lane's End was taken
   pub all_where_carried :
       Carried run.ends → AlteredAreHonest run → has_ended lane log ≡ true
-          → DeliversWhole run.ends.source (events_of lane log.entries)
+      → DeliversWhole run.ends.source (events_of lane log.entries)
   pub refused_exactly : RefusesExactly run.ends.receiver run.ends.nows run.took run.verdicts
   pub refusals_deliver_nothing :
       RefusalsDeliverNothing run.ends.receiver.demand run.verdicts (events_of lane log.entries)

@@ -61,7 +61,7 @@ CloseIsLast =
 abbrev pub OfNumbered : (List Record → List Record → Type 0) → Type 0
 OfNumbered Claim =
     (first : ℕ) (records : List Record) (offers : List Offer) (answers : List Answer)
-        → Accepted first offers answers
+    → Accepted first offers answers
     → AreNumbered first records offers → Claim records (accepted_of offers answers)
 
 -- what is accepted is a prefix of the list, and so are its texts
@@ -94,7 +94,7 @@ OneListOfVerdicts =
     (opener : OpenerState) (nows : List ℕ) (start : Demand) (frames : List (List ℕ))
     (answers : List Verdict)
     → AllBytes frames → AreVerdicts opener nows start 0 frames answers
-        ↔ (answers ≡ verdicts opener nows start 0 frames)
+    ↔ (answers ≡ verdicts opener nows start 0 frames)
 
 -- one more frame brings one more verdict, by what is demanded then
 abbrev pub VerdictsGoOn : Type 0
@@ -103,7 +103,7 @@ VerdictsGoOn =
     (answers : List Verdict) (frame : List ℕ) (v : Verdict)
     → AreVerdicts opener nows start 0 frames answers
     → IsVerdict opener (demand_after start (records_of answers))
-        (moment_at nows (length frames)) frame v
+    (moment_at nows (length frames)) frame v
     → AreVerdicts opener nows start 0 (frames ++ frame ∷ []) (answers ++ v ∷ [])
 
 -- and likewise of the list as it is computed
@@ -127,7 +127,7 @@ OneListOfFrames = (source : Source) (records : List Record) (some others : List 
 abbrev pub OfEachRun : (Source → List Event → Type 0) → Type 0
 OfEachRun Claim =
     (run : Run) → IsPaired run.ends → IsRun run → AlteredAreHonest run
-        → Claim run.ends.source (events_from run.verdicts)
+    → Claim run.ends.source (events_from run.verdicts)
 
 -- it holds of the verdicts on any frames
 abbrev pub OfVerdicts : (ReceiverState → List ℕ → List (List ℕ) → List Verdict → Type 0) → Type 0
@@ -178,7 +178,7 @@ AcceptsFirstRecords =
 abbrev pub DemandsNumberBehind : Type 0
 DemandsNumberBehind = OfUndisturbed (λ run.
     (demand_after run.ends.receiver.demand (records_of run.verdicts)).expected
-        ≡ run.ends.receiver.demand.expected + length run.took)
+    ≡ run.ends.receiver.demand.expected + length run.took)
 
 -- all texts are delivered if all frames were taken
 abbrev pub DeliversAllThatIsTaken : Type 0
@@ -192,7 +192,7 @@ DeliversAllThatIsTaken =
 abbrev pub OfCarried : ((run : Run) → Carried run.ends → Type 0) → Type 0
 OfCarried Claim =
     (run : Run) (carried : Carried run.ends) → AlteredAreHonest run → IsWithinLimits run.ends.source
-        → IsRun run → Claim run carried
+    → IsRun run → Claim run carried
 
 -- after frame k in its turn, a number after that of record k is demanded
 abbrev pub DemandsNumbersInTurn : Type 0
@@ -200,8 +200,8 @@ DemandsNumbersInTurn = OfCarried (λ run carried.
     (k : ℕ) → k < length (records run.ends.source) → carried.in_turn.place k < length run.took
     → let start = run.ends.receiver.demand in
     start.expected + k <
-        (demand_after start
-        (records_of (take (suc (carried.in_turn.place k)) run.verdicts))).expected)
+    (demand_after start
+    (records_of (take (suc (carried.in_turn.place k)) run.verdicts))).expected)
 
 -- all texts are delivered and the close is accepted if all frames were taken
 abbrev pub DeliversAllThatIsCarried : Type 0
@@ -228,7 +228,7 @@ PairedAcceptInOrder =
 abbrev pub OfGoingOn : (Source → List Verdict → Run → Type 0) → Type 0
 OfGoingOn Claim =
     (source : Source) (before : List Verdict) (run : Run) → AcceptInOrder source before
-        → GoesOnBehind source before run.ends
+    → GoesOnBehind source before run.ends
     → AlteredAreHonestBehind (length (records_of before)) run → IsRun run → Claim source before run
 
 -- together they accept in order, whatever is repeated
@@ -246,7 +246,7 @@ InOrderDeliversPrefix =
 abbrev pub GoingOnDeliversAll : Type 0
 GoingOnDeliversAll = OfGoingOn (λ source before run.
     ComeInTurn (length (records_of before)) run.ends → TakesAll run.ends.source run.took
-        → DeliversWhole source (events_from (before ++ run.verdicts)))
+    → DeliversWhole source (events_from (before ++ run.verdicts)))
 
 -- ---- what a log has of a lane
 
@@ -286,7 +286,7 @@ RoundGoesOn =
     → NoneLonger (length groups) back
     → let before = rounds_below (suc (length groups)) (front ++ groups ∷ back) in
     rounds_below (suc (length groups)) (front ++ (groups ++ group ∷ []) ∷ back) ≡ before
-        ++ entries_for (length front) group
+    ++ entries_for (length front) group
 
 -- and of all rounds, if no lane before it has more groups than it has then
 abbrev pub RoundsGoOn : Type 0
@@ -295,7 +295,7 @@ RoundsGoOn =
     (back : List (List (List Event)))
     → NoneLonger (suc (length groups)) front → NoneLonger (length groups) back
     → rounds (front ++ (groups ++ group ∷ []) ∷ back) ≡ rounds (front ++ groups ∷ back)
-        ++ entries_for (length front) group
+    ++ entries_for (length front) group
 
 -- ---- any relay
 
@@ -305,7 +305,7 @@ abbrev pub OfFronts : (List Ends → List Run → LogState → Type 0) → Type 
 OfFronts Claim =
     (lanes : List Ends) (runs : List Run) (log : LogState)
     → AreRuns lanes runs → log.entries ≡ rounds_of runs → OfRuns runs (EndsWhole log)
-        → Claim lanes runs log
+    → Claim lanes runs log
 
 -- the headline holds of each lane
 abbrev pub FrontsHaveHeadline : Type 0
@@ -320,4 +320,4 @@ FrontsAreRelayed =
 abbrev pub OneWholeLog : Type 0
 OneWholeLog = (lanes : List Ends) (log other : LogState) (sents others : List Sent)
     → IsWhole lanes log sents → IsWhole lanes other others → (log.entries ≡ other.entries)
-        × (sents ≡ others)
+    × (sents ≡ others)

@@ -18,7 +18,7 @@ abbrev pub places_from : ℕ → ℕ → List Entry → List ℕ
 places_from place lane [] = []
 places_from place lane (entry ∷ entries) =
     (if entry.lane == lane then text_place place entry.event else [])
-        ++ places_from (place + 1) lane entries
+    ++ places_from (place + 1) lane entries
 
 -- beside the entries there are, lane by lane, the places of its texts, and whether there is a close
 -- of it

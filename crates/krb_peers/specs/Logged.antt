@@ -43,11 +43,11 @@ pub record LogsNext (receiver : ReceiverState) (log : LogState) (lane now : ℕ)
       (start : ReceiverState) (nows : List ℕ) (took : List (List ℕ)) (verdicts : List Verdict)
       → HasLogged start nows lane took log receiver verdicts → now ≡ moment_at nows (length took)
       → HasLogged start nows lane (took ++ frame ∷ []) log-now receiver-now (verdicts
-          ++ verdict_by receiver now frame ∷ [])
+      ++ verdict_by receiver now frame ∷ [])
   pub others :
       (start : ReceiverState) (nows : List ℕ) (other : ℕ) (took : List (List ℕ))
-          (its : ReceiverState) (verdicts : List Verdict)
+      (its : ReceiverState) (verdicts : List Verdict)
       → other ≢ lane → HasLogged start nows other took log its verdicts
-          → HasLogged start nows other took log-now its verdicts
+      → HasLogged start nows other took log-now its verdicts
   pub entries_stay : (other : ℕ) → other ≢ lane
       → events_of other log-now.entries ≡ events_of other log.entries

@@ -26,7 +26,7 @@ abbrev pub answer_to : Demand → Offer → Answer
 answer_to demand offer =
     if demand.closed then Err AfterClose
     else (if (offer.number == demand.expected) && nat_le offer.number last_number then Ok tt
-        else Err BadOrder)
+    else Err BadOrder)
 
 -- the record that an answer accepts
 abbrev pub carried_by : Offer → Answer → List Record
@@ -42,8 +42,11 @@ first_demand first = record { expected = first; closed = false }
 -- what is demanded after these records were accepted
 abbrev pub demand_after : Demand → List Record → Demand
 demand_after demand accepted =
-    record { expected = demand.expected + length accepted; closed = demand.closed
-    || list_any is_close accepted }
+    record {
+      expected = demand.expected + length accepted;
+      closed = demand.closed
+          || list_any is_close accepted;
+    }
 
 -- the same after one record that may be accepted, which was the close or wasn't
 abbrev pub next_demand : Demand → Bool → Demand

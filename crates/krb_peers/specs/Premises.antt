@@ -39,6 +39,6 @@ altered_at (Some plan) place = is_altered_one (slice_get plan place)
 abbrev pub AlteredAreHonest : Run → Type 0
 AlteredAreHonest run =
     (place : ℕ) (d : Delivery) → altered_at run.ends.source.plan place ≡ true
-        → slice_get run.verdicts place ≡ Some (Ok d)
+    → slice_get run.verdicts place ≡ Some (Ok d)
     → slice_get (records run.ends.source) (length (records_of (take place run.verdicts)))
-        ≡ Some (record_of d)
+    ≡ Some (record_of d)

@@ -89,7 +89,7 @@ abbrev pub IsFrame : Source → ℕ → Record → List ℕ → Type 0
 IsFrame source k carried frame =
     let s = source.sealer in
     Seals s.etype s.key s.session (s.next + k) (bytes_of carried) (moment_at source.ats k)
-        (confounder_at source.draws k) frame
+    (confounder_at source.draws k) frame
 
 -- the frames are those of the first records, one for each
 pub record AreFrames (source : Source) (carried : List Record)
@@ -97,5 +97,5 @@ pub record AreFrames (source : Source) (carried : List Record)
   pub one_each : length frames ≡ length carried
   pub each :
       (k : ℕ) (r : Record) (frame : List ℕ) → slice_get carried k ≡ Some r
-          → slice_get frames k ≡ Some frame
+      → slice_get frames k ≡ Some frame
       → IsFrame source k r frame

@@ -27,7 +27,7 @@ pub record Undisturbed (ends : Ends) : Type 0 where
   pub agree :
       (k : ℕ) → k < length (records ends.source)
       → Agree ends.source.sealer.session ends.receiver.opener.expect (moment_at ends.source.ats k)
-          (moment_at ends.nows k)
+      (moment_at ends.nows k)
   pub plan : IsInOrder ends.source.plan (length (records ends.source))
 
 -- all frames of the wire were taken, after all records were sealed

@@ -77,14 +77,14 @@ Fails opener demand now frame refusal =
     ((demand.closed ≡ true) × (refusal ≡ refusals.AfterClose))
     ⊎ ((demand.closed ≡ false) × (Opens opener demand.expected now frame (Err refusal)
     ⊎ ((user : List ℕ) × Opens opener demand.expected now frame (Ok user) × IsNoRecord user
-        × (refusal ≡ refusals.BadRecord))))
+    × (refusal ≡ refusals.BadRecord))))
 
 -- the frame passes all checks, and carries this delivery
 abbrev pub Carries : OpenerState → Demand → ℕ → List ℕ → Delivery → Type 0
 Carries opener demand now frame delivery =
     (demand.closed ≡ false)
-        × ((user : List ℕ) × Opens opener demand.expected now frame (Ok user)
-        × SpellsRecord (record_of delivery) user)
+    × ((user : List ℕ) × Opens opener demand.expected now frame (Ok user)
+    × SpellsRecord (record_of delivery) user)
 
 -- the verdict on a frame: a delivery if it passes all checks, else the refusal of the first that it
 -- fails
@@ -99,9 +99,9 @@ pub record AreVerdicts (opener : OpenerState) (nows : List ℕ) (demand : Demand
   pub one_each : length verdicts ≡ length frames
   pub each :
       (i : ℕ) (frame : List ℕ) (verdict : Verdict) → slice_get frames i ≡ Some frame
-          → slice_get verdicts i ≡ Some verdict
+      → slice_get verdicts i ≡ Some verdict
       → IsVerdict opener (demand_after demand (records_of (take i verdicts)))
-          (moment_at nows (place + i)) frame verdict
+      (moment_at nows (place + i)) frame verdict
 
 -- the verdicts on the frames that a receiver takes from its start on
 abbrev pub AreJudged : ReceiverState → List ℕ → List (List ℕ) → List Verdict → Type 0
@@ -121,7 +121,7 @@ delivery_in [] = None
 delivery_in (tag ∷ rest) =
     if (tag == 0x44) && nat_le (length rest) text_limit then Some (Text rest)
     else (if (tag == 0x43) && (length rest == 0) then Some Closed
-        else option_map Batch (batch_in (tag ∷ rest)))
+    else option_map Batch (batch_in (tag ∷ rest)))
 
 abbrev pub judged : Option Delivery → Verdict
 judged (Some delivery) = Ok delivery

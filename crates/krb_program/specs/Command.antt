@@ -17,8 +17,11 @@ word_of Relay = codes "relay"
 -- a command is wanted, and `help` is none
 abbrev pub no_commands : App
 no_commands =
-    on_top (λ s. record s { has_version = true; subcommand_required = true;
-        disable_help_subcommand = true })
+    on_top (λ s. record s {
+      has_version = true;
+      subcommand_required = true;
+      disable_help_subcommand = true;
+    })
     (new_app (codes "krbrelay"))
 
 abbrev pub with_word : App → Cmd → App

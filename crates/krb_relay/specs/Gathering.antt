@@ -124,7 +124,7 @@ module _ {S : Type 0} (gives : S → Side → Handed → Type 0) where
     pub whole :
         own ≡ None
         → (unstarted ≡ []) × (seen ≡ all_heard starts (now ++ map got_by inner)) × All IsEnded now
-            × All HasEnded inner
+        × All HasEnded inner
         × NotesAll log (length starts)
 
   -- the last lane was met, and its worker kept its promise

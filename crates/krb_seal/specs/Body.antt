@@ -23,7 +23,7 @@ pub record HasSmallAddresses (b : Body) : Type 0 where
 abbrev pub HasSizeOf : Mode → ℤ → Body → ℕ → ℕ → Type 0
 HasSizeOf mode etype b n size =
     (key user conf frame : List ℕ) → length user ≡ n
-        → SealsBody mode etype key conf (with_data user b) frame → length frame ≡ size
+    → SealsBody mode etype key conf (with_data user b) frame → length frame ≡ size
 
 -- The data and two addresses.
 abbrev pub small_body_limit : ℕ

@@ -24,7 +24,7 @@ OneFrame =
     (etype : Etype) (key : List ℕ) (s : Session) (number : ℕ) (user : List ℕ) (at : ℕ)
     (conf bytes : List ℕ)
     → Seals (number_of etype) key s number user at conf bytes
-        → bytes ≡ sealed etype key s number user at conf
+    → bytes ≡ sealed etype key s number user at conf
 
 -- The message carries the receiver's address, or leaves it out and it isn't required.
 abbrev pub ReceiverAgrees : Expect → Option HostAddress → Type 0
@@ -67,7 +67,7 @@ OneAuthenticity =
 abbrev pub OpensTheAuthentic : Type 0
 OpensTheAuthentic = (o : OpenerState) (number now : ℕ) (bytes user : List ℕ)
     → Opens o number now bytes (Ok user)
-        ↔ ((b : Body) × Authenticates o bytes (Ok b) × OpensPart o.expect number now b (Ok user))
+    ↔ ((b : Body) × Authenticates o bytes (Ok b) × OpensPart o.expect number now b (Ok user))
 
 -- A sealed frame is authentic, with the body that was sealed, to an opener of its mode with the
 -- sealer's key, whatever else that opener expects.

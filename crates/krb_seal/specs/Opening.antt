@@ -36,14 +36,14 @@ opens_part x number now b = passed (body_checks x number now b) (Ok b.user_data)
 abbrev pub opens_text : OpenerState → ℕ → ℕ → List ℕ → List ℕ → Outcome
 opens_text o number now text tag =
     passed (text_checks o.key text tag)
-        (read (part_of (drop 16 text)) (opens_part o.expect number now))
+    (read (part_of (drop 16 text)) (opens_part o.expect number now))
 
 abbrev pub opens_message : OpenerState → ℕ → ℕ → Message → Outcome
 opens_message o number now (messages.Safe m) =
     passed (safe_checks o number now m) (Ok m.body.user_data)
 opens_message o number now (messages.Priv m) =
     passed (priv_header o.etype o.expect m)
-        (opens_text o number now (text_in o.key m.cipher) (tag_in m.cipher))
+    (opens_text o number now (text_in o.key m.cipher) (tag_in m.cipher))
 
 unfoldable pub opens : OpenerState → ℕ → ℕ → List ℕ → Outcome
 opens o number now bytes =

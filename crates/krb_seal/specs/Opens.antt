@@ -140,7 +140,7 @@ abbrev pub Read : {V A : Type 0} → (V → List ℕ → Type 0) → List ℕ �
     → Result A Refusal → Type 0
 Read Spelt bytes Then outcome =
     (((v : _) → Spelt v bytes → ⊥) × (outcome ≡ Err Malformed))
-        ⊎ ((v : _) × Spelt v bytes × Then v outcome)
+    ⊎ ((v : _) × Spelt v bytes × Then v outcome)
 
 -- The cipher is that of a text, followed by a code of 12 bytes.
 pub record IsEncryption (key cipher text tag : List ℕ) : Type 0 where
@@ -164,7 +164,7 @@ OpensPart x number now b outcome =
 abbrev pub OpensText : OpenerState → ℕ → ℕ → List ℕ → List ℕ → Outcome → Type 0
 OpensText o number now text tag outcome =
     Passes (text_checks o.key text tag)
-        (Read SpellsPart (drop 16 text) (OpensPart o.expect number now)) outcome
+    (Read SpellsPart (drop 16 text) (OpensPart o.expect number now)) outcome
 
 -- The outcome of a message.
 abbrev pub OpensMessage : OpenerState → ℕ → ℕ → Message → Outcome → Type 0
@@ -172,7 +172,7 @@ OpensMessage o number now (messages.Safe m) outcome =
     Passes (safe_checks o number now m) (λ y. y ≡ Ok m.body.user_data) outcome
 OpensMessage o number now (messages.Priv m) outcome =
     Passes (priv_header o.etype o.expect m)
-        (Decrypt o.key m.cipher (OpensText o number now)) outcome
+    (Decrypt o.key m.cipher (OpensText o number now)) outcome
 
 -- The outcome of opening bytes at a demanded number and a timestamp.
 abbrev pub Opens : OpenerState → ℕ → ℕ → List ℕ → Outcome → Type 0

@@ -42,4 +42,4 @@ SealsNext s user at conf bytes = Seals s.etype s.key s.session s.next user at co
 abbrev pub HasFrameSize : SealerState → ℕ → ℕ → ℕ → Type 0
 HasFrameSize s n at size =
     (user conf frame : List ℕ) → length user ≡ n → SealsNext s user at conf frame
-        → length frame ≡ size
+    → length frame ≡ size

@@ -7,8 +7,13 @@ use Rattle.krb_seal.specs.Sealer.{SealerState, end_of_numbers}
 
 abbrev pub state_of : Inside → SealerState
 state_of a =
-    record { etype = number_of a.etype; key = a.keys.key; session = a.session; next = a.next;
-    wiped = a.keys.wiped }
+    record {
+      etype = number_of a.etype;
+      key = a.keys.key;
+      session = a.session;
+      next = a.next;
+      wiped = a.keys.wiped;
+    }
 
 pub record IsReady (a : Inside) : Type 0 where
   pub session : HasShortAddresses a.session

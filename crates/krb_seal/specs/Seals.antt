@@ -37,8 +37,13 @@ body_of s number user at = record {
 -- KRB-SAFE before it has its checksum.
 abbrev pub unsigned : Etype → Body → SafeMsg
 unsigned etype b =
-    record { pvno = pos 5; msg_type = pos 20; body = b; cksum_type = checksum_number etype;
-    checksum = [] }
+    record {
+      pvno = pos 5;
+      msg_type = pos 20;
+      body = b;
+      cksum_type = checksum_number etype;
+      checksum = [];
+    }
 
 -- KRB-SAFE with its checksum.
 abbrev pub sealed_safe : Etype → List ℕ → Body → SafeMsg
