@@ -10,9 +10,17 @@ use Rattle.krb_aes.specs.Cipher.{add_round_key}
 use Rattle.krb_aes.specs.InverseCipher.{inv_sub_bytes, inv_shift_rows, inv_mix_columns, inv_round, inv_rounds, inv_cipher_rounds, inv_cipher}
 use Rattle.krb_aes.specs.Words.{AreBytes}
 use Rattle.krb_aes.specs.Nibbles.{inv_affine_nibbles}
-use Rattle.krb_aes.specs.Rounds.{rows_shifted, columns_raised, round_key, IsOpening, AreInverseRoundKeys}
+use Rattle.krb_aes.specs.Rounds.{rows_shifted, columns_raised, round_key, AreInverseRoundKeys}
 use Rattle.krb_aes.proofs.StateLemmas.{AreBytes-add_round_key}
 use Rattle.krb_aes.proofs.Inverse.{IsState-inv_mix, IsState-inv_sub, IsState-inv_shift}
+
+-- a vector x that holds a state with ShiftRows done q times, from which the inverse cipher's
+-- rounds from n down give what the inverse cipher gives of a block
+pub record IsOpening (w : List ℕ) (n : ℕ) (q : ℕ) (block : List ℕ) (x : List ℕ) : Type 0 where
+  pub state : List ℕ
+  pub bytes : AreBytes state
+  pub lanes : x ≡ map inv_affine_nibbles (rows_shifted q state)
+  pub same : inv_rounds w n (inv_sub_bytes (inv_shift_rows state)) ≡ inv_cipher w block
 
 pub opening_start : (w b x : List ℕ) (n m : ℕ) → AreBytes b → length w / 4 - 2 ≡ m → n ≡ suc m → x ≡ map inv_affine_nibbles (rows_shifted 0 (add_round_key w n b)) → IsOpening w m 0 b x
 unfolding inv_cipher inv_cipher_rounds

@@ -2,9 +2,9 @@
 use Rattle.std.proofs.Common.{◌≡◌, ℕ, ◌<◌, eqb, ltb, Bool, true, List, [], ◌∷◌, get_or, refl, ap}
 use Rattle.std.proofs.lemmas.Bool.{eqb-true}
 use borrow.Author.Tests.{ltb-true}
-use Rattle.krb_aes.specs.Field.{times, product, remainder, power, inverse, affine, sbox, all_below}
+use Rattle.krb_aes.specs.Field.{times, product, remainder, power, inverse, affine, sbox}
 use Rattle.krb_aes.specs.InverseCipher.{inv_affine, inv_sbox}
-use Rattle.krb_aes.proofs.Mixing.{all_below_at}
+use Rattle.krb_aes.proofs.Mixing.{all_below, all_below_at}
 
 -- the inverses of 0, 1, 2 and so on
 abbrev pub inverses : List ℕ

@@ -2,9 +2,8 @@
 use Rattle.std.proofs.Common.{◌≡◌, ℕ, suc, ◌+◌, ◌*◌, ◌/◌, ◌<◌, ◌≤◌, Bool, true, cond, leb, T, List, [], ◌∷◌, map, length, get_or, bit_xor, refl, ap, ◌∙◌, arith, w8, Fits}
 use Rattle.std.proofs.lemmas.Simd.{map-map, swz_l, SwzOk, SwzOk-from_Each1, zip2_of_maps}
 use lib.Lanes.{zip2, Each1}
-use Rattle.krb_aes.specs.Field.{all_below}
 use Rattle.krb_aes.specs.Nibbles.{is_place, ArePlaces, entry}
-use Rattle.krb_aes.proofs.Mixing.{all_below_at}
+use Rattle.krb_aes.proofs.Mixing.{all_below, all_below_at}
 
 -- 16 bytes
 abbrev pub AreLanes : List ℕ → Type 0

@@ -7,9 +7,7 @@
 use Rattle.std.specs.Prelude.{◌≡◌, ℕ, ◌+◌, ◌*◌, ◌/◌, ◌%◌, ◌<◌, Bool, List, [], length, map}
 use Rattle.std.specs.Prelude.{slice_index, slice_index_or, bit_xor, replicate, if◌then◌else◌}
 use Rattle.krb_aes.specs.Cipher.{cell, from_cells, word_byte}
-use Rattle.krb_aes.specs.InverseCipher.{inv_sub_bytes, inv_shift_rows, inv_mix_columns, inv_rounds}
-use Rattle.krb_aes.specs.InverseCipher.{inv_cipher}
-use Rattle.krb_aes.specs.Words.{AreBytes}
+use Rattle.krb_aes.specs.InverseCipher.{inv_mix_columns}
 use Rattle.krb_aes.specs.Nibbles.{nibbles_of, bare_nibbles, inv_linear_nibbles, inv_affine_nibbles}
 
 -- ShiftRows q times: row r is rotated left by q r places
@@ -48,14 +46,6 @@ pub record AreInverseRoundKeys (keys : List (List ℕ)) (turns : ℕ) (w : List 
       ≡ map inv_affine_nibbles
       (rows_shifted (3 * (n + 2) % 4) (columns_raised (inv_mix_columns (round_key w n))))
   pub last : slice_index_or keys 0 [] ≡ round_key w 0
-
--- a vector x that holds a state with ShiftRows done q times, from which the inverse cipher's
--- rounds from n down give what the inverse cipher gives of a block
-pub record IsOpening (w : List ℕ) (n : ℕ) (q : ℕ) (block : List ℕ) (x : List ℕ) : Type 0 where
-  pub state : List ℕ
-  pub bytes : AreBytes state
-  pub lanes : x ≡ map inv_affine_nibbles (rows_shifted q state)
-  pub same : inv_rounds w n (inv_sub_bytes (inv_shift_rows state)) ≡ inv_cipher w block
 
 -- how often four rounds are repeated under a key of 32 or 16 bytes; three more rounds come before
 -- and after

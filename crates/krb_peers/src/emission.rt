@@ -1,11 +1,11 @@
 //! What a plan puts on the wire.
 
 ghost use Rattle.std.specs.Prelude.{◌≡◌, ◌↔◌, IsTrue, IsFalse, IfOk, OnOk, Some};
-ghost use Rattle.krb_aes.specs.Words.{AreBytes};
 ghost use Rattle.krb_peers.specs.Plan.{contents, is_good, is_good_emission, emission, emissions, wire};
 ghost use Rattle.krb_peers.specs.Verdicts.{AllBytes};
 
 use crate::plan::{Emit, EmitError};
+use krb_aes::known_bytes;
 use std::alloc::{AllocError, Global};
 
 /// What `plan` makes of `frames`: one frame for each emission, in order.
@@ -59,12 +59,6 @@ fn emit_all(alloc: Global, frames: &[Vec<u8>], plan: &[Emit]) -> Result<Vec<Vec<
     }
     Ok(emitted)
 }
-
-/// A law: the elements of a slice of bytes are bytes, as their type says. It does nothing when it
-/// runs.
-pub fn known_bytes(frame: &[u8])
-    ensures { AreBytes frame.now }
-{}
 
 /// One good emission.
 fn emit_one(alloc: Global, frames: &[Vec<u8>], one: &Emit) -> Result<Vec<u8>, AllocError>

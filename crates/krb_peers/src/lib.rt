@@ -39,7 +39,7 @@ mod start;
 
 pub use carried::{carried_laws, going_on_laws};
 pub use delivery::Delivery;
-pub use emission::{emit, known_bytes};
+pub use emission::emit;
 pub use headline::{headline_laws, relay_laws, undisturbed_laws};
 pub use krb_base::{BATCH_LIMIT, LAST_NUMBER, TEXT_LIMIT, USER_DATA_LIMIT};
 pub use krb_batch::Texts;

@@ -13,9 +13,9 @@ ghost use Rattle.krb_peers.specs.Verdicts.{AllBytes};
 ghost use Rattle.krb_peers.specs.Sending.{source_of, sealed_of, sent_of, before, behind, IsSender, HasSealed, StandsAfterSome};
 
 use crate::confounder::draw_confounder;
-use crate::emission::known_bytes;
 use crate::plan::Emit;
 use crate::record::{close_record, group_record};
+use krb_aes::known_bytes;
 use krb_base::{Bytes, LAST_NUMBER};
 use krb_batch::group_end;
 use krb_der::Moment;

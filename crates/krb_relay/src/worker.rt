@@ -10,8 +10,9 @@ ghost use Rattle.krb_relay.specs.Sent.{HasSealedSome, IsAll, IsCut, IsOfSealing,
 
 use crate::cause::Cause;
 use crate::gate::Gate;
+use krb_aes::known_bytes;
 use krb_lane::{LaneTx, SentAll};
-use krb_peers::{Emit, Sending, emit, known_bytes};
+use krb_peers::{Emit, Sending, emit};
 use krb_seal::{SealError, Sealer};
 use std::alloc::Global;
 use std::sync::Wait;

@@ -128,7 +128,7 @@ mode_authentic Priv etype key s x q at user conf bytes e h g =
     let own : SpellsPart b (part b) = record { in_range = h.body; spelt = refl; short = short_part h.etype key conf b bytes h.confounder spelt } in
     let w : List ℕ = expanded_key (encryption_key key) in
     let enc = encrypts etype key s q at user conf bytes e h in
-    let long : 28 ≤ length m.cipher = omega (arith, length-append (cts w text) (tag_of key text), length-cts w text enc.long, enc.long, enc.twelve) in
+    let long : 28 ≤ length m.cipher = omega (arith, length-append (cts w text) (tag_of key text), length-cts w text enc.long, enc.long, enc.size) in
     let back : drop 16 text ≡ part b = drop_at conf (part b) 16 h.confounder in
     let plain : AuthenticText key text (tag_of key text) (Ok b) =
     all_met (text_checks key text (tag_of key text)) (Read SpellsPart (drop 16 text) GivesBody) (Ok b) (bytes_same (tag_of key text), tt)

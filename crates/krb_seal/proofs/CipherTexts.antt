@@ -14,6 +14,6 @@ one_text key cipher a s b t p q =
     let la : length (cts w a) ≡ length a = length-cts w a p.long in
     let lb : length (cts w b) ≡ length b = length-cts w b q.long in
     let total : length (cts w a) + length s ≡ length (cts w b) + length t = sym (length-append (cts w a) s) ∙ ap length e ∙ length-append (cts w b) t in
-    let size : length b ≡ length a = omega (arith, p.twelve, q.twelve) in
+    let size : length b ≡ length a = omega (arith, p.size, q.size) in
     let lb2 : length (cts w b) ≡ length a = lb ∙ size in
     (cts_same w a b p.bytes q.bytes p.long size (front_same (cts w a) (cts w b) s t (length a) la lb2 e), back_same (cts w a) (cts w b) s t (length a) la lb2 e)

@@ -1,5 +1,5 @@
 -- From the spellings that the code wrote to the frame.
-use Rattle.std.proofs.Common.{◌≡◌, ℕ, ◌+◌, ◌≤◌, List, ◌++◌, length, take, drop, replicate, Option, Some, None, Result, Ok, Err, refl, sym, ap, subst, ◌∙◌, arith, length-append}
+use Rattle.std.proofs.Common.{◌≡◌, ℕ, ◌+◌, ◌*◌, ◌≤◌, List, ◌++◌, length, take, drop, replicate, Option, Some, None, Result, Ok, Err, refl, sym, ap, subst, ◌∙◌, arith, length-append}
 use Rattle.std.proofs.lemmas.List.{length-replicate}
 use Rattle.krb_aes.specs.Keys.{expanded_key}
 use Rattle.krb_aes.specs.Stealing.{cts}
@@ -29,7 +29,7 @@ use Rattle.krb_seal.specs.Etype.{number_of}
 use Rattle.krb_seal.specs.Keys.{encryption_key, integrity_key, tag_of, encrypted}
 use Rattle.krb_seal.specs.Seals.{safe_checksum, SealsBody, unenciphered, priv_of}
 use Rattle.krb_seal.specs.Session.{IsShortAddress, session_address_limit}
-use Rattle.krb_seal.specs.Body.{IsSmall, small_body_limit}
+use Rattle.krb_seal.specs.Body.{IsSmall}
 use Rattle.krb_seal.specs.Checksum.{Sums}
 
 -- a writing within the limit fails for want of memory alone
@@ -44,7 +44,7 @@ pub optional-small : (r : Option HostAddress) → ForSome r IsShortAddress → o
 optional-small None h = omega arith
 optional-small (Some a) h = h a refl
 
-carried-small : (b : Body) → IsSmall b → carried b ≤ small_body_limit
+carried-small : (b : Body) → IsSmall b → carried b ≤ user_data_limit + 2 * session_address_limit
 carried-small b h = omega (arith, h.user, h.sender, optional-small b.r_addr h.receiver)
 
 pub memory_safe : (m : SafeMsg) (r : Result (Vec ℕ) DerError) → Encodes Spells message (messages.Safe m) r → IsSmall m.body → length m.checksum ≤ 12

@@ -106,7 +106,7 @@ is_encryption key cipher h long =
     record {
       bytes = u.bytes;
       long = omega (arith, u.size);
-      twelve = omega (arith, length-drop n cipher);
+      size = omega (arith, length-drop n cipher);
       image = sym (take-append-drop n cipher) ∙ ap (λ (z : List ℕ). z ++ drop n cipher) (sym u.image ∙ sym (cts_is w (text_in key cipher)));
     }
 

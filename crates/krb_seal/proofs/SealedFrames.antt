@@ -98,7 +98,7 @@ pub encrypts : (etype : ℤ) (key : List ℕ) (s : Session) (q at : ℕ) (user c
 encrypts etype key s q at user conf bytes e h = record {
   bytes = h.plain e;
   long = omega (arith, h.confounder, length-append conf (part (body_of s q user at)));
-  twelve = length-hmac96 _ (conf ++ part (body_of s q user at));
+  size = length-hmac96 _ (conf ++ part (body_of s q user at));
   image = refl;
 }
 
@@ -211,7 +211,7 @@ mode_opens Priv etype key s x q at now user conf bytes e h g =
     let own : SpellsPart b (part b) = record { in_range = h.body; spelt = refl; short = short_part h.etype key conf b bytes h.confounder spelt } in
     let w : List ℕ = expanded_key (encryption_key key) in
     let enc = encrypts etype key s q at user conf bytes e h in
-    let long : 28 ≤ length m.cipher = omega (arith, length-append (cts w text) (tag_of key text), length-cts w text enc.long, enc.long, enc.twelve) in
+    let long : 28 ≤ length m.cipher = omega (arith, length-append (cts w text) (tag_of key text), length-cts w text enc.long, enc.long, enc.size) in
     let back : drop 16 text ≡ part b = drop_at conf (part b) 16 h.confounder in
     let inside : Read SpellsPart (part b) (OpensPart o.expect q now) (Ok user) =
     inr (b, own, all_met (body_checks o.expect q now b) (λ y. y ≡ Ok b.user_data) (Ok user) (addresses_same s x q at now user g, (current_same s x at now g, (eq-eqb q q refl, tt))) refl) in

@@ -9,6 +9,7 @@ use Rattle.krb_der.specs.declared.message.Message.TheVariants as messages
 use Rattle.krb_der.specs.Message.{Spells, SpellsPart}
 use Rattle.krb_seal.specs.declared.refusal.Refusal.{Refusal}
 use Rattle.krb_seal.specs.declared.refusal.Refusal.TheVariants.{Memory}
+use Rattle.krb_seal.specs.Etype.{confounder_size}
 use Rattle.krb_seal.specs.Opens.{OpenerState, Checks, Passes, Read, Decrypt, frame_checks}
 use Rattle.krb_seal.specs.Opens.{safe_header, checksum_checks, priv_header, text_checks}
 
@@ -27,7 +28,7 @@ GivesBody b outcome = outcome ≡ Ok b
 -- The outcome of a deciphered text and the code after its cipher.
 abbrev pub AuthenticText : List ℕ → List ℕ → List ℕ → Authenticity → Type 0
 AuthenticText key text tag outcome =
-    Passes (text_checks key text tag) (Read SpellsPart (drop 16 text) GivesBody) outcome
+    Passes (text_checks key text tag) (Read SpellsPart (drop confounder_size text) GivesBody) outcome
 
 -- The outcome of a message.
 abbrev pub AuthenticMessage : OpenerState → Message → Authenticity → Type 0

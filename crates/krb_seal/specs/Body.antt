@@ -1,12 +1,12 @@
 -- The bodies that a session's messages carry.
-use Rattle.std.specs.Prelude.{◌≡◌, ℕ, ◌+◌, ◌*◌, ◌≤◌, ℤ, List, length}
+use Rattle.std.specs.Prelude.{◌≡◌, ℕ, ◌≤◌, ℤ, List, length}
 use Rattle.std.specs.Option.{ForSome}
 use Rattle.krb_base.specs.Limits.{user_data_limit}
 use Rattle.krb_der.specs.declared.body.Body.{Body}
 use Rattle.krb_der.specs.Size.{with_data}
 use Rattle.krb_seal.specs.declared.session.Mode.{Mode}
 use Rattle.krb_seal.specs.Seals.{SealsBody}
-use Rattle.krb_seal.specs.Session.{IsShortAddress, session_address_limit}
+use Rattle.krb_seal.specs.Session.{IsShortAddress}
 
 -- The data and the addresses of a body are within the limits.
 pub record IsSmall (b : Body) : Type 0 where
@@ -24,7 +24,3 @@ abbrev pub HasSizeOf : Mode → ℤ → Body → ℕ → ℕ → Type 0
 HasSizeOf mode etype b n size =
     (key user conf frame : List ℕ) → length user ≡ n
     → SealsBody mode etype key conf (with_data user b) frame → length frame ≡ size
-
--- The data and two addresses.
-abbrev pub small_body_limit : ℕ
-small_body_limit = user_data_limit + 2 * session_address_limit

@@ -19,6 +19,14 @@ abbrev pub key_size : Etype → ℕ
 key_size Aes128 = 16
 key_size Aes256 = 32
 
+-- How many bytes of a confounder come before what is enciphered: a block (RFC 3961 section 5.3).
+abbrev pub confounder_size : ℕ
+confounder_size = 16
+
+-- How many bytes of the HMAC are the code of a message, under each type (RFC 3962 section 6).
+abbrev pub code_size : ℕ
+code_size = 12
+
 -- The type that has a number, if one has it.
 abbrev pub etype_of : ℤ → Option Etype
 etype_of number =

@@ -10,6 +10,7 @@ use Rattle.krb_der.specs.declared.message.Message.TheVariants as messages
 use Rattle.krb_der.specs.Reading.{message_of, part_of}
 use Rattle.krb_seal.specs.declared.session.Expect.{Expect}
 use Rattle.krb_seal.specs.declared.refusal.Refusal.TheVariants.{Malformed}
+use Rattle.krb_seal.specs.Etype.{code_size, confounder_size}
 use Rattle.krb_seal.specs.Keys.{encryption_key}
 use Rattle.krb_seal.specs.Opens.{OpenerState, Outcome, Checks, frame_checks, safe_checks}
 use Rattle.krb_seal.specs.Opens.{priv_header, text_checks, body_checks}
@@ -25,10 +26,10 @@ read (Some v) next = next v
 
 -- The text and the code of a cipher.
 abbrev pub text_in : List ℕ → List ℕ → List ℕ
-text_in key cipher = uncts (expanded_key (encryption_key key)) (take (length cipher - 12) cipher)
+text_in key cipher = uncts (expanded_key (encryption_key key)) (take (length cipher - code_size) cipher)
 
 abbrev pub tag_in : List ℕ → List ℕ
-tag_in cipher = drop (length cipher - 12) cipher
+tag_in cipher = drop (length cipher - code_size) cipher
 
 abbrev pub opens_part : Expect → ℕ → ℕ → Body → Outcome
 opens_part x number now b = passed (body_checks x number now b) (Ok b.user_data)
@@ -36,7 +37,7 @@ opens_part x number now b = passed (body_checks x number now b) (Ok b.user_data)
 abbrev pub opens_text : OpenerState → ℕ → ℕ → List ℕ → List ℕ → Outcome
 opens_text o number now text tag =
     passed (text_checks o.key text tag)
-    (read (part_of (drop 16 text)) (opens_part o.expect number now))
+    (read (part_of (drop confounder_size text)) (opens_part o.expect number now))
 
 abbrev pub opens_message : OpenerState → ℕ → ℕ → Message → Outcome
 opens_message o number now (messages.Safe m) =

@@ -26,7 +26,7 @@ use Rattle.krb_seal.specs.declared.refusal.Refusal.TheVariants.{MsgType, EtypeNo
 use Rattle.krb_seal.specs.declared.refusal.Refusal.TheVariants.{InappCksum, BadAddr, Skew, BadOrder}
 use Rattle.krb_seal.specs.declared.refusal.Refusal.TheVariants.{Modified}
 use Rattle.krb_seal.specs.Keys.{encryption_key, tag_of}
-use Rattle.krb_seal.specs.Etype.{etype_of, is_checksum_of}
+use Rattle.krb_seal.specs.Etype.{code_size, confounder_size, etype_of, is_checksum_of}
 use Rattle.krb_seal.specs.Seals.{safe_checksum}
 
 -- What contracts see of an opener.
@@ -101,7 +101,7 @@ priv_header etype x m =
     (int_eq m.pvno (pos 5), BadVersion)
     ∷ (not (is_safe x.mode) && int_eq m.msg_type (pos 21), MsgType)
     ∷ (int_eq m.etype etype, EtypeNoSupp)
-    ∷ (nat_le 28 (length m.cipher), BadIntegrity)
+    ∷ (nat_le (confounder_size + code_size) (length m.cipher), BadIntegrity)
     ∷ []
 
 -- The checks of a body of either kind.
@@ -142,11 +142,11 @@ Read Spelt bytes Then outcome =
     (((v : _) → Spelt v bytes → ⊥) × (outcome ≡ Err Malformed))
     ⊎ ((v : _) × Spelt v bytes × Then v outcome)
 
--- The cipher is that of a text, followed by a code of 12 bytes.
+-- The cipher is that of a text that begins with its confounder, followed by a code.
 pub record IsEncryption (key cipher text tag : List ℕ) : Type 0 where
   pub bytes : AreBytes text
-  pub long : 16 ≤ length text
-  pub twelve : length tag ≡ 12
+  pub long : confounder_size ≤ length text
+  pub size : length tag ≡ code_size
   pub image : cipher ≡ cts_of (encryption_key key) text ++ tag
 
 -- As Then says of the one text and code of a cipher.
@@ -160,11 +160,11 @@ abbrev pub OpensPart : Expect → ℕ → ℕ → Body → Outcome → Type 0
 OpensPart x number now b outcome =
     Passes (body_checks x number now b) (λ y. y ≡ Ok b.user_data) outcome
 
--- The outcome of a deciphered text: its confounder of 16 bytes, and then the encrypted part.
+-- The outcome of a deciphered text: its confounder, and then the encrypted part.
 abbrev pub OpensText : OpenerState → ℕ → ℕ → List ℕ → List ℕ → Outcome → Type 0
 OpensText o number now text tag outcome =
     Passes (text_checks o.key text tag)
-    (Read SpellsPart (drop 16 text) (OpensPart o.expect number now)) outcome
+    (Read SpellsPart (drop confounder_size text) (OpensPart o.expect number now)) outcome
 
 -- The outcome of a message.
 abbrev pub OpensMessage : OpenerState → ℕ → ℕ → Message → Outcome → Type 0

@@ -15,7 +15,7 @@ use Rattle.krb_seal.specs.declared.session.Mode.{Mode}
 use Rattle.krb_seal.specs.declared.session.Mode.TheVariants.{Safe, Priv}
 use Rattle.krb_seal.specs.declared.session.Session.{Session}
 use Rattle.krb_seal.specs.declared.etype.Etype.{Etype}
-use Rattle.krb_seal.specs.Etype.{number_of, checksum_number}
+use Rattle.krb_seal.specs.Etype.{confounder_size, number_of, checksum_number}
 use Rattle.krb_seal.specs.Keys.{checksum_key, encrypted}
 
 -- The checksum of KRB-SAFE, over the message with checksum type 0 and an empty checksum (RFC 4120
@@ -85,7 +85,7 @@ pub record SealsBody (mode : Mode) (number : ℤ) (key conf : List ℕ) (b : Bod
   pub etype : Etype
   pub known : number_of etype ≡ number
   pub body : IsBody b
-  pub confounder : length conf ≡ 16
+  pub confounder : length conf ≡ confounder_size
   pub plain : mode ≡ Priv → AreBytes (conf ++ part b)
   pub spelt : Spells (sealed_as mode etype key conf b) bytes
 

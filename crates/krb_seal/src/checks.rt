@@ -6,14 +6,11 @@ ghost use Rattle.krb_seal.specs.Etype.{etype_of, is_checksum_of, number_of};
 ghost use Rattle.krb_seal.specs.Opens.{addresses_fit, body_checks, is_current, is_number, is_safe, priv_header, receiver_fits, safe_header};
 ghost use Rattle.krb_seal.specs.Unseals.{first_unmet, refusal_of};
 
-use crate::etype::Etype;
+use crate::etype::{CODE_SIZE, CONFOUNDER_SIZE, Etype};
 use crate::refusal::Refusal;
 use crate::session::{Expect, Mode};
 use krb_der::{Body, HostAddress, MICROS_PER_SECOND, PrivMsg, SafeMsg};
 use krb_keys::mac_equal;
-
-/// The fewest bytes of a cipher: a confounder and the code after it.
-const LEAST_CIPHER: usize = 28;
 
 fn receiver_fits(expect: &Expect, r_addr: &Option<HostAddress>) -> bool
     ensures { result ≡ receiver_fits expect.now r_addr.now }
@@ -99,14 +96,14 @@ pub fn check_priv_header(etype: Etype, expect: &Expect, m: &PrivMsg) -> Result<(
     if m.etype != etype.number() {
         return Err(Refusal::EtypeNoSupp);
     }
-    if m.cipher.as_slice().len() < LEAST_CIPHER {
+    if m.cipher.as_slice().len() < CONFOUNDER_SIZE + CODE_SIZE {
         return Err(Refusal::BadIntegrity);
     }
     Ok(())
 }
 
 /// Whether the message has this checksum.
-pub fn has_checksum(m: &SafeMsg, checksum: &[u8; 12]) -> bool
+pub fn has_checksum(m: &SafeMsg, checksum: &[u8; CODE_SIZE]) -> bool
     ensures { IsTrue result ↔ (m.now.checksum ≡ checksum.now) }
 {
     mac_equal(m.checksum.as_slice(), checksum)

@@ -4,6 +4,7 @@ ghost use Rattle.std.specs.Prelude.{◌≡◌, false};
 ghost use Rattle.krb_der.specs.Body.{InRange};
 ghost use Rattle.krb_seal.specs.Checksum.{Sums};
 
+use crate::etype::CODE_SIZE;
 use crate::keys::Keys;
 use krb_der::{DerError, SafeRef, safe_input_around};
 use std::alloc::Global;
@@ -13,7 +14,7 @@ use std::alloc::Global;
 ///
 /// [`DerError::TooLong`] is returned if and only if what the checksum covers is longer than a
 /// message may be.
-pub fn checksum_of(alloc: Global, keys: &Keys, m: &SafeRef<'_>) -> Result<[u8; 12], DerError>
+pub fn checksum_of(alloc: Global, keys: &Keys, m: &SafeRef<'_>) -> Result<[u8; CODE_SIZE], DerError>
     requires live { keys.now.wiped ≡ false }
     requires range { InRange m.now.body }
     ensures { Sums keys.now.key m.now result }

@@ -3,6 +3,12 @@
 ghost use Rattle.std.specs.Prelude.{◌≡◌, IfSome};
 ghost use Rattle.krb_seal.specs.Etype.{checksum_number, etype_of, key_size, number_of};
 
+/// How many bytes of a confounder come before what is enciphered (RFC 3961 section 5.3).
+pub const CONFOUNDER_SIZE: usize = 16;
+
+/// How many bytes the code of a message has, under each type (RFC 3962 section 6).
+pub const CODE_SIZE: usize = 12;
+
 /// An encryption type (RFC 3962).
 #[derive(Clone, Copy, Debug, PartialEq, Eq)]
 pub enum Etype {

@@ -12,16 +12,13 @@ ghost use Rattle.krb_der.specs.Size.{HasPrivateSize};
 ghost use Rattle.krb_seal.specs.Body.{HasSizeOf, HasSmallAddresses, IsSmall};
 
 use crate::checksum::checksum_of;
-use crate::etype::Etype;
-use crate::keys::{Keys, TAG_SIZE};
+use crate::etype::{CODE_SIZE, CONFOUNDER_SIZE, Etype};
+use crate::keys::Keys;
 use crate::limit::within_limit;
-use crate::opener::CONFOUNDER_SIZE;
 use crate::session::Mode;
+use krb_aes::known_bytes;
 use krb_der::{BodyRef, Bytes, Draft, PrivMsg, SafeRef, draft_priv, priv_size};
 use std::alloc::{AllocError, Global};
-
-/// How many bytes a checksum of KRB-SAFE has.
-const CHECKSUM_SIZE: usize = 12;
 
 /// The KRB-SAFE that carries a body, before it has its checksum.
 fn unsigned<'a>(etype: Etype, body: BodyRef<'a>) -> SafeRef<'a>
@@ -49,14 +46,8 @@ fn safe_frame(
     within_limit(draft.encode_with_checksum(alloc, etype.checksum_number(), &checksum))
 }
 
-/// A law: the elements of a slice of bytes are bytes, as their type says. It does nothing when it
-/// runs.
-fn known_bytes(bytes: &[u8])
-    ensures { AreBytes bytes.now }
-{}
-
 /// Enciphers a text in place, and gives the code that follows it.
-fn encipher(keys: &Keys, text: &mut [u8]) -> [u8; TAG_SIZE]
+fn encipher(keys: &Keys, text: &mut [u8]) -> [u8; CODE_SIZE]
     requires live { keys.now.wiped ≡ false }
     requires long { 16 ≤ length text.old }
     ensures encrypted { text.new ++ result ≡ encrypted keys.now.key text.old }
@@ -113,7 +104,7 @@ fn priv_frame(
         body.now frame.items) }
 {
     let message = unenciphered(alloc, etype);
-    let draft = within_limit(draft_priv(alloc, &message, &confounder, body, TAG_SIZE))?;
+    let draft = within_limit(draft_priv(alloc, &message, &confounder, body, CODE_SIZE))?;
     finished(keys, draft)
 }
 
@@ -146,7 +137,7 @@ fn safe_frame_size(draft: &SafeRef<'_>, etype: Etype, len: usize) -> usize
     requires small { HasSmallAddresses draft.now.body }
     ensures { HasSizeOf Safe (number_of etype) draft.now.body len result }
 {
-    draft.size_with(CHECKSUM_SIZE, len)
+    draft.size_with(CODE_SIZE, len)
 }
 
 /// How many bytes a KRB-PRIV has with a cipher of so many bytes.
@@ -165,7 +156,7 @@ fn priv_frame_size(etype: Etype, body: &BodyRef<'_>, len: usize) -> usize
     ensures { HasSizeOf Priv (number_of etype) body.now len result }
 {
     let text = CONFOUNDER_SIZE + body.part_size_with(len);
-    enciphered_size(etype, text + TAG_SIZE)
+    enciphered_size(etype, text + CODE_SIZE)
 }
 
 /// How many bytes the message that carries a body in a mode has with so many bytes of user data.

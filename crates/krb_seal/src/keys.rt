@@ -1,16 +1,18 @@
 //! A session key with the keys derived from it.
 
-ghost use Rattle.std.specs.Prelude.{◌≡◌, ◌↔◌, ◌≤◌, ◌++◌, IsTrue, false, length};
+ghost use Rattle.std.specs.Prelude.{◌≡◌, ◌↔◌, ◌≤◌, ◌+◌, ◌++◌, IsTrue, false, length};
 ghost use Rattle.krb_aes.specs.Keys.{expanded_key};
 ghost use Rattle.krb_aes.specs.Stealing.{cts_of};
 ghost use Rattle.krb_aes.specs.Words.{AreBytes};
 ghost use Rattle.krb_keys.specs.Hmac.{hmac96, joined};
 ghost use Rattle.krb_keys.specs.MacKey.{HoldsKey};
 ghost use Rattle.krb_keys.specs.Derivation.{dk};
+ghost use Rattle.krb_seal.specs.Etype.{code_size, confounder_size};
 ghost use Rattle.krb_seal.specs.Keys.{checksum_key, encryption_key, tag_of};
 ghost use Rattle.krb_seal.specs.Opens.{IsEncryption};
 ghost use Rattle.krb_seal.specs.HeldKeys.{fresh_keys, wiped_keys};
 
+use crate::etype::CODE_SIZE;
 use krb_aes::{CipherKey, Schedule, cts_decrypt, cts_encrypt};
 use krb_base::Bytes;
 use krb_keys::{CHECKSUM_TAIL, ENCRYPTION_TAIL, INTEGRITY_TAIL, MacKey, derive, mac_equal};
@@ -21,9 +23,6 @@ const PRIV_USAGE: u32 = 13;
 
 /// The key usage of the checksum of KRB-SAFE.
 const SAFE_USAGE: u32 = 15;
-
-/// How many bytes a message code has (RFC 3962 section 6).
-pub const TAG_SIZE: usize = 12;
 
 /// A derived key, ready for message codes.
 fn derived_mac_key(base: &CipherKey, usage: u32, tail: u8) -> MacKey
@@ -129,7 +128,7 @@ impl Keys {
     }
 
     /// The checksum of KRB-SAFE over these parts, one after another.
-    pub fn checksum(&self, parts: &[&[u8]]) -> [u8; 12]
+    pub fn checksum(&self, parts: &[&[u8]]) -> [u8; CODE_SIZE]
         requires { self.now.wiped ≡ false }
         ensures { result ≡ hmac96 (checksum_key self.now.key) (joined parts.now) }
     {
@@ -137,7 +136,7 @@ impl Keys {
     }
 
     /// The code of a text that is encrypted beside it.
-    pub fn tag(&self, text: &[u8]) -> [u8; 12]
+    pub fn tag(&self, text: &[u8]) -> [u8; CODE_SIZE]
         requires { self.now.wiped ≡ false }
         ensures { result ≡ tag_of self.now.key text.now }
     {
@@ -145,7 +144,7 @@ impl Keys {
     }
 
     /// Whether the code is that of a text.
-    pub fn is_tag(&self, tag: &[u8; 12], text: &[u8]) -> bool
+    pub fn is_tag(&self, tag: &[u8; CODE_SIZE], text: &[u8]) -> bool
         requires { self.now.wiped ≡ false }
         ensures { IsTrue result ↔ (tag.now ≡ tag_of self.now.key text.now) }
     {
@@ -173,14 +172,14 @@ impl Keys {
     }
 
     /// The text and the code of a cipher.
-    pub fn decrypted(&self, cipher: Bytes) -> (Vec<u8>, [u8; 12])
+    pub fn decrypted(&self, cipher: Bytes) -> (Vec<u8>, [u8; CODE_SIZE])
         requires live { self.now.wiped ≡ false }
-        requires long { 28 ≤ length cipher }
+        requires long { confounder_size + code_size ≤ length cipher }
         ensures { IsEncryption self.now.key cipher result.0.items result.1 }
     {
         let mut text = cipher.into_vec();
-        let size = text.len() - TAG_SIZE;
-        let mut tag = [0u8; TAG_SIZE];
+        let size = text.len() - CODE_SIZE;
+        let mut tag = [0u8; CODE_SIZE];
         tag.copy_from_slice(&text[size..]);
         text.truncate(size);
         self.decipher(&mut text);

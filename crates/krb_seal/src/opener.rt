@@ -13,7 +13,7 @@ ghost use Rattle.krb_seal.specs.Unseals.{Checked, OrMemory};
 
 use crate::checks::{check_body, check_priv_header, check_safe_header, has_checksum};
 use crate::checksum::checksum_of;
-use crate::etype::Etype;
+use crate::etype::{CONFOUNDER_SIZE, Etype};
 use crate::keys::Keys;
 use crate::limit::within_limit;
 use crate::refusal::Refusal;
@@ -23,9 +23,6 @@ use krb_der::{Body, DerError, Message, Moment, PrivMsg, SafeMsg, decode, decode_
 use std::alloc::Global;
 use std::marker::Model;
 use std::mem;
-
-/// How many bytes come before an encrypted part (RFC 3961 section 5.3).
-pub const CONFOUNDER_SIZE: usize = 16;
 
 /// Opens the frames of one sender. Dropping it overwrites all its keys.
 pub struct Opener {

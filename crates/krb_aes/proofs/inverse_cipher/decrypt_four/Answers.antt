@@ -1,7 +1,6 @@
 use Rattle.std.proofs.Common.{◌≡◌, ℕ, [], get_or, ap, ◌+◌, ◌-◌, ◌*◌, ◌/◌, length, ◌∙◌, arith}
-use Rattle.krb_aes.specs.Rounds.{IsOpening}
 use Rattle.krb_aes.proofs.Rounds.{lanes_bytes}
-use Rattle.krb_aes.proofs.InverseRounds.{opening_start, opening_step, opening_end, inverse_key_at}
+use Rattle.krb_aes.proofs.InverseRounds.{IsOpening, opening_start, opening_step, opening_end, inverse_key_at}
 use Rattle.krb_aes.proofs.inverse_cipher.decrypt_four.Goals as goal
 
 pub loop-i-init : goal.loop-i-init

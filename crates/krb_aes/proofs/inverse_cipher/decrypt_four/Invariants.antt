@@ -1,5 +1,6 @@
 use Rattle.std.proofs.Common.{ℕ, List, ◌*◌, ◌-◌}
-use Rattle.krb_aes.specs.Rounds.{AreInverseRoundKeys, IsOpening}
+use Rattle.krb_aes.specs.Rounds.{AreInverseRoundKeys}
+use Rattle.krb_aes.proofs.InverseRounds.{IsOpening}
 use Rattle.krb_aes.proofs.inverse_cipher.decrypt_four.Given as goal
 
 abbrev pub invariant-loop-i : goal.invariant-loop-i

@@ -1,5 +1,5 @@
 use Rattle.std.proofs.Common.{◌≡◌, ℕ, ◌/◌, bit_and, bit_xor, true, refl}
-use Rattle.krb_aes.specs.Field.{all_below}
+use Rattle.krb_aes.proofs.Mixing.{all_below}
 use Rattle.krb_aes.specs.Nibbles.{is_place, inverses, scaled_inverses, entry, first_place, second_place}
 use Rattle.krb_aes.proofs.Lanes.{places_of, looked_of, sum_of}
 use Rattle.krb_aes.proofs.sbox.places.Goals as goal
