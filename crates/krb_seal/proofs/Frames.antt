@@ -9,7 +9,7 @@ use Rattle.krb_keys.proofs.HmacLemmas.{length-hmac96}
 use Rattle.std.specs.Prelude.{IfOk, OnOk}
 use Rattle.std.specs.Global.{Vec}
 use Rattle.std.specs.Option.{ForSome}
-use Rattle.krb_base.specs.Limits.{frame_limit}
+use Rattle.krb_base.specs.Limits.{frame_limit, user_data_limit}
 use Rattle.krb_tlv.specs.declared.error.DerError.{DerError}
 use Rattle.krb_tlv.specs.declared.error.DerError.TheVariants as errors
 use Rattle.krb_der.specs.declared.address.HostAddress.{HostAddress}
