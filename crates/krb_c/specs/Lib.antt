@@ -1,5 +1,4 @@
 pub mod Answers
-pub mod AnySealer
 pub mod Carried
 pub mod Demand
 pub mod Exports

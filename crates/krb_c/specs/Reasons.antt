@@ -1,11 +1,12 @@
 -- When each fault comes: only where its reason holds.
 use Rattle.std.specs.Prelude.{◌≡◌, ◌⊎◌, ℕ, ℤ, ◌+◌, ◌<◌, ◌≤◌, List, length, Option, Some, None, Ok}
-use Rattle.std.specs.Prelude.{Err, true}
+use Rattle.std.specs.Prelude.{Err, true, MatchOption}
 use Rattle.krb_base.specs.Limits.{frame_limit, user_data_limit}
 use Rattle.krb_der.specs.declared.body.Body.{Body}
 use Rattle.krb_der.specs.declared.message.Message.{Message}
 use Rattle.krb_der.specs.Message.{Spells}
 use Rattle.krb_seal.specs.declared.refusal.Refusal.TheVariants as refusals
+use Rattle.krb_seal.specs.Etype.{etype_of, key_size}
 use Rattle.krb_seal.specs.Sealer.{SealerState, end_of_numbers}
 use Rattle.krb_seal.specs.Opens.{OpenerState, Opens}
 use Rattle.krb_c.specs.declared.moment.KrbMoment.{KrbMoment}
@@ -16,7 +17,7 @@ use Rattle.krb_peers.specs.Verdicts.{Fails}
 use Rattle.krb_c.specs.Record.{Accepts, IsNoRecordOf}
 use Rattle.krb_c.specs.Room.{frame_room}
 use Rattle.krb_c.specs.Moment.{IsMoment, micros_of}
-use Rattle.krb_c.specs.Session.{IsEtype, IsKey, IsMode, address_room}
+use Rattle.krb_c.specs.Session.{IsMode, address_room}
 use Rattle.krb_c.specs.Demand.{IsDemand, OpensWith}
 use Rattle.krb_c.specs.Fault.{fault_code}
 use Rattle.krb_c.specs.Answers.{IsTextOf}
@@ -127,12 +128,16 @@ SessionReason mode s r f =
     ⊎ (((f ≡ Address) × ((address_room < s) ⊎ (address_room < r)))
     ⊎ (f ≡ Refused refusals.Memory))
 
+-- why there is no session key of n bytes: no encryption type has the number, or its keys have
+-- another size
+abbrev pub KeyReason : ℤ → ℕ → Fault → Type 0
+KeyReason etype n f =
+    MatchOption (etype_of etype) (f ≡ Etype) (λ e. (f ≡ KeySize) × (n ≡ key_size e → ⊥))
+
 -- Why no sealer, opener or receiver is made: its encryption type, the size n of its key, its mode
 -- or an address.
 abbrev pub NewReason : ℤ → ℕ → ℕ → ℕ → ℕ → Fault → Type 0
-NewReason etype n mode s r f =
-    ((f ≡ Etype) × (IsEtype etype → ⊥))
-    ⊎ (((f ≡ KeySize) × (IsKey etype n → ⊥)) ⊎ SessionReason mode s r f)
+NewReason etype n mode s r f = KeyReason etype n f ⊎ SessionReason mode s r f
 
 -- Why a receiver takes no frame: it fails a check, or the body of its record needs more room.
 abbrev pub TakeReason : ReceiverState → ℕ → List ℕ → ℕ → Fault → Type 0

@@ -1,31 +1,22 @@
-//! A sealer of either encryption type.
+//! A sealer whose frames fit.
 
-ghost use Rattle.std.specs.Prelude.{◌≡◌, ◌≤◌, ◌<◌, ◌↔◌, true, false, length, IfOk, OnOk, OnErr, IfSome, None};
+ghost use Rattle.std.specs.Prelude.{◌≡◌, ◌≤◌, ◌<◌, ◌↔◌, true, false, length, IfOk, OnOk, OnErr};
 ghost use Rattle.krb_base.specs.Limits.{user_data_limit};
+ghost use Rattle.krb_seal.specs.Etype.{number_of};
 ghost use Rattle.krb_seal.specs.Session.{HasShortAddresses};
 ghost use Rattle.krb_c.specs.Room.{frame_room};
-ghost use Rattle.krb_c.specs.Session.{IsKey};
 ghost use Rattle.krb_seal.specs.Sealer.{HasFrameSize, SealsNext, advanced, end_of_numbers, in_mode, new_state, wiped_state};
 
 use crate::room::frame_size;
 use krb_der::Moment;
-use krb_seal::{Aes128Sealer, Aes256Sealer, Mode, SealError, Sealer, Session};
+use krb_seal::{Mode, SealError, Sealer, Session, SessionKey, SessionSealer};
 use std::alloc::Global;
 use std::marker::Model;
 
-/// One of the two kinds of sealers.
-#[derive(Drop)]
-pub enum SealerKind {
-    /// Of encryption type 17.
-    Narrow(Aes128Sealer),
-    /// Of encryption type 18.
-    Wide(Aes256Sealer),
-}
-
-/// A sealer of either encryption type, whose session's addresses have at most 40 bytes each.
+/// A sealer of any encryption type, whose session's addresses have at most 40 bytes each.
 #[derive(Drop)]
 pub struct AnySealer {
-    kind: SealerKind,
+    sealer: SessionSealer,
 }
 
 impl Model for AnySealer {
@@ -33,38 +24,21 @@ impl Model for AnySealer {
 
     ghost Value = { SealerState };
 
-    ghost use Rattle.krb_c.specs.AnySealer.{state_of};
-
-    ghost view = { λ a. state_of a.kind };
+    ghost view = { λ a. a.sealer };
 
     ghost use Rattle.krb_seal.specs.Session.{HasShortAddresses};
 
-    ghost invariant = { λ a. HasShortAddresses (state_of a.kind).session };
+    ghost invariant = { λ a. HasShortAddresses a.sealer.session };
 }
 
 impl AnySealer {
-    /// A sealer of the encryption type, which is 17 or 18, under the key, which has its size.
-    pub fn new(etype: i32, key: &[u8], session: Session) -> Option<AnySealer>
+    /// Takes the session key.
+    pub fn new(key: SessionKey, session: Session) -> AnySealer
         requires { HasShortAddresses session }
-        ensures made { IfSome result (λ s. s ≡ new_state etype key.now session) }
-        ensures none { result ≡ None → ¬ (IsKey etype (length key.now)) }
+        ensures { result ≡ new_state (number_of key.etype) key.bytes session }
     {
-        match (etype, key.len()) {
-            (17, 16) => {
-                let mut bytes = [0u8; 16];
-                bytes.copy_from_slice(key);
-                Some(AnySealer {
-                    kind: SealerKind::Narrow(Aes128Sealer::new(&mut bytes, session)),
-                })
-            }
-            (18, 32) => {
-                let mut bytes = [0u8; 32];
-                bytes.copy_from_slice(key);
-                Some(AnySealer {
-                    kind: SealerKind::Wide(Aes256Sealer::new(&mut bytes, session)),
-                })
-            }
-            _ => None,
+        AnySealer {
+            sealer: SessionSealer::new(key, session),
         }
     }
 
@@ -73,10 +47,7 @@ impl AnySealer {
         ensures value { result ≡ self.now.next }
         ensures in_range { self.now.next ≤ end_of_numbers }
     {
-        match &self.kind {
-            SealerKind::Narrow(sealer) => sealer.next(),
-            SealerKind::Wide(sealer) => sealer.next(),
-        }
+        self.sealer.next()
     }
 
     /// The size of the next frame with so many bytes of user data at a moment.
@@ -84,10 +55,7 @@ impl AnySealer {
         requires { len ≤ user_data_limit }
         ensures { HasFrameSize self.now len at result }
     {
-        match &self.kind {
-            SealerKind::Narrow(sealer) => sealer.frame_size(len, at),
-            SealerKind::Wide(sealer) => sealer.frame_size(len, at),
-        }
+        self.sealer.frame_size(len, at)
     }
 
     /// As [`Sealer::seal`].
@@ -114,29 +82,20 @@ impl AnySealer {
     {
         // Its law says that the frame fits.
         let _room = frame_size(bytes.len());
-        match &mut self.kind {
-            SealerKind::Narrow(sealer) => sealer.seal(alloc, bytes, at, confounder),
-            SealerKind::Wide(sealer) => sealer.seal(alloc, bytes, at, confounder),
-        }
+        self.sealer.seal(alloc, bytes, at, confounder)
     }
 
     /// Seals in this mode from now on.
     pub fn set_mode(&mut self, mode: Mode)
         ensures { self.new ≡ in_mode self.old mode }
     {
-        match &mut self.kind {
-            SealerKind::Narrow(sealer) => sealer.set_mode(mode),
-            SealerKind::Wide(sealer) => sealer.set_mode(mode),
-        }
+        self.sealer.set_mode(mode);
     }
 
     /// Overwrites all keys.
     pub fn wipe(&mut self)
         ensures { self.new ≡ wiped_state self.old }
     {
-        match &mut self.kind {
-            SealerKind::Narrow(sealer) => sealer.wipe(),
-            SealerKind::Wide(sealer) => sealer.wipe(),
-        }
+        self.sealer.wipe();
     }
 }

@@ -1,6 +1,6 @@
 //! Openers made and used, in Rattle's types.
 
-ghost use Rattle.std.specs.Prelude.{◌≡◌, ◌≤◌, drop, length, take, IfErr, IfOk, IfSome, OnErr, Ok, Err, None, Some};
+ghost use Rattle.std.specs.Prelude.{◌≡◌, ◌≤◌, drop, length, take, IfErr, IfOk, OnErr, Ok, Err, None, Some};
 ghost use Rattle.krb_seal.specs.Opens.{Opens, opener_of};
 ghost use Rattle.krb_seal.specs.declared.refusal.Refusal.{Refusal as RefusalValue};
 ghost use Rattle.krb_seal.specs.declared.refusal.Refusal.TheVariants.{Memory};
@@ -9,16 +9,16 @@ ghost use Rattle.krb_c.specs.Demand.{OpensWith};
 ghost use Rattle.krb_c.specs.Exports.{Gives, GivesTo, OpensTo, OpensWithTo};
 ghost use Rattle.krb_c.specs.Reasons.{DemandFault, DemandReason, NewReason, OpenFault, OpenReason};
 ghost use Rattle.krb_c.specs.Moment.{micros_of};
-ghost use Rattle.krb_c.specs.Session.{IsKey, expect_of};
+ghost use Rattle.krb_c.specs.Session.{expect_of};
 
 use crate::buffer::put_front;
 use crate::carried::{KrbCarried, carried};
 use crate::demand::{KrbDemand, is_demand, open_body};
 use crate::fault::Fault;
 use crate::moment::KrbMoment;
-use crate::session::{KrbExpect, expectation, key_fault};
+use crate::session::{KrbExpect, expectation, session_key};
 use crate::wipeable_opener::WipeableOpener;
-use krb_seal::{Expect, Opener, Refusal};
+use krb_seal::{Opener, Refusal};
 use std::alloc::Global;
 
 /// An opener on the heap.
@@ -34,28 +34,8 @@ pub fn new_opener(
         told.now.s_addr.len told.now.r_addr.len) }
 {
     let expect = expectation(alloc, told)?;
-    let opener = opener_under(etype, key, expect).ok_or(key_fault(etype))?;
+    let opener = Opener::new(session_key(etype, key)?, expect);
     Box::new(alloc, WipeableOpener::new(opener)).map_err(|_| Fault::Refused(Refusal::Memory))
-}
-
-/// An opener of the encryption type, which is 17 or 18, under the key, which has its size.
-pub fn opener_under(etype: i32, key: &[u8], expect: Expect) -> Option<Opener>
-    ensures made { IfSome result (λ o. o ≡ opener_of etype key.now expect) }
-    ensures none { result ≡ None → ¬ (IsKey etype (length key.now)) }
-{
-    match (etype, key.len()) {
-        (17, 16) => {
-            let mut bytes = [0u8; 16];
-            bytes.copy_from_slice(key);
-            Some(Opener::new_128(&mut bytes, expect))
-        }
-        (18, 32) => {
-            let mut bytes = [0u8; 32];
-            bytes.copy_from_slice(key);
-            Some(Opener::new_256(&mut bytes, expect))
-        }
-        _ => None,
-    }
 }
 
 /// Opens into a buffer, and returns the size of the user data. What follows them stays, and so does

@@ -10,10 +10,9 @@ ghost use Rattle.krb_c.specs.Session.{expect_of};
 use crate::fault::Fault;
 use crate::lane_receiver::LaneReceiver;
 use crate::moment::KrbMoment;
-use crate::opening::opener_under;
-use crate::session::{KrbExpect, expectation, key_fault};
+use crate::session::{KrbExpect, expectation, session_key};
 use krb_base::LAST_NUMBER;
-use krb_seal::Refusal;
+use krb_seal::{Opener, Refusal};
 use std::alloc::Global;
 
 /// A receiver on the heap.
@@ -36,7 +35,7 @@ pub fn new_receiver(
         return Err(Fault::Argument);
     }
     let expect = expectation(alloc, told)?;
-    let opener = opener_under(etype, key, expect).ok_or(key_fault(etype))?;
+    let opener = Opener::new(session_key(etype, key)?, expect);
     let receiver = LaneReceiver::new(opener, expected, closed);
     Box::new(alloc, receiver).map_err(|_| Fault::Refused(Refusal::Memory))
 }

@@ -14,7 +14,7 @@ use crate::fault::Fault;
 use crate::moment::KrbMoment;
 use crate::record::record_of;
 use crate::room::frame_size;
-use crate::session::{KrbSession, key_fault, mode, session};
+use crate::session::{KrbSession, mode, session, session_key};
 use krb_base::USER_DATA_LIMIT;
 use krb_seal::Refusal;
 use std::alloc::Global;
@@ -32,7 +32,7 @@ pub fn new_sealer(
         told.now.s_addr.len told.now.r_addr.len) }
 {
     let session = session(alloc, told)?;
-    let sealer = AnySealer::new(etype, key, session).ok_or(key_fault(etype))?;
+    let sealer = AnySealer::new(session_key(etype, key)?, session);
     Box::new(alloc, sealer).map_err(|_| Fault::Refused(Refusal::Memory))
 }
 
