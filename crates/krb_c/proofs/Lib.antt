@@ -1,7 +1,5 @@
 mod Values
-mod SealerBox
-mod OpenerBox
-mod ReceiverBox
+mod HeldBox
 mod RecordLemmas
 mod ReceiverLemmas
 mod Pairs

@@ -3,6 +3,7 @@ pub mod Carried
 pub mod Demand
 pub mod Exports
 pub mod Fault
+pub mod Handles
 pub mod Header
 pub mod Held
 pub mod Moment

@@ -1,7 +1,8 @@
--- What contracts see of an opener that can be wiped.
+-- What wiped openers and receivers are.
 use Rattle.std.specs.Prelude.{◌≡◌, Bool, true, false, Option, Some, None}
 use Rattle.krb_aes.specs.Keys.{AreZero}
 use Rattle.krb_seal.specs.Opens.{OpenerState}
+use Rattle.krb_peers.specs.ReceiverState.{ReceiverState}
 
 -- nothing, once it was wiped
 abbrev pub unless_wiped : Bool → OpenerState → Option OpenerState
@@ -11,3 +12,7 @@ unless_wiped false o = Some o
 -- once it was wiped, each byte of the key that lies there is 0
 abbrev pub IsOverwritten : Bool → OpenerState → Type 0
 IsOverwritten wiped o = wiped ≡ true → AreZero o.key
+
+-- it refuses each frame as after a close, and each byte of the key that lies there is 0
+abbrev pub IsWipedReceiver : ReceiverState → Type 0
+IsWipedReceiver s = (s.demand.closed ≡ true) × AreZero s.opener.key

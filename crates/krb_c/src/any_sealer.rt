@@ -7,6 +7,7 @@ ghost use Rattle.krb_seal.specs.Session.{HasShortAddresses};
 ghost use Rattle.krb_c.specs.Room.{frame_room};
 ghost use Rattle.krb_seal.specs.Sealer.{HasFrameSize, SealsNext, advanced, end_of_numbers, in_mode, new_state, wiped_state};
 
+use crate::held::Wipe;
 use crate::room::frame_size;
 use krb_der::Moment;
 use krb_seal::{Mode, SealError, Sealer, Session, SessionKey, SessionSealer};
@@ -91,10 +92,14 @@ impl AnySealer {
     {
         self.sealer.set_mode(mode);
     }
+}
 
-    /// Overwrites all keys.
-    pub fn wipe(&mut self)
-        ensures { self.new ≡ wiped_state self.old }
+impl Wipe for AnySealer {
+    ghost IsWiped = { λ s. s.wiped ≡ true };
+
+    fn wipe(&mut self)
+        ensures wiped { self.new.wiped ≡ true }
+        ensures state { self.new ≡ wiped_state self.old }
     {
         self.sealer.wipe();
     }

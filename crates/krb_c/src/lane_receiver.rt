@@ -5,9 +5,11 @@ ghost use Rattle.krb_base.specs.Limits.{last_number};
 ghost use Rattle.krb_peers.specs.ReceiverState.{ReceiverState};
 ghost use Rattle.krb_c.specs.Reasons.{TakeReason};
 ghost use Rattle.krb_c.specs.Record.{Accepts};
+ghost use Rattle.krb_c.specs.Wipeable.{IsWipedReceiver};
 
 use crate::buffer::put_front;
 use crate::fault::Fault;
+use crate::held::Wipe;
 use crate::record::{CLOSE, record_kind};
 use krb_der::Moment;
 use krb_seal::{Opener, Refusal};
@@ -97,10 +99,14 @@ impl LaneReceiver {
         self.closed = kind == CLOSE;
         Ok((kind, body.len()))
     }
+}
 
-    /// Overwrites the keys where they lie. Each frame is refused from then on, as after a close.
-    pub fn wipe(&mut self)
-        ensures { self.new.demand.closed ≡ true }
+impl Wipe for LaneReceiver {
+    ghost IsWiped = { IsWipedReceiver };
+
+    /// Overwrites all keys where they lie. Each frame is refused from then on, as after a close.
+    fn wipe(&mut self)
+        ensures { IsWipedReceiver self.new }
     {
         self.opener.wipe();
         self.closed = true;

@@ -14,6 +14,8 @@ ghost use Rattle.krb_c.specs.Session.{expect_of};
 use crate::carried::KrbCarried;
 use crate::demand::KrbDemand;
 use crate::fault::Fault;
+use crate::handle::Handle;
+use crate::held::Wipe;
 use crate::moment::KrbMoment;
 use crate::opener_handle::KrbOpener;
 use crate::opening::{new_opener, open_live, unseal_in_place, unseal_live};

@@ -10,6 +10,7 @@ ghost use Rattle.krb_c.specs.Record.{AcceptsTo};
 ghost use Rattle.krb_c.specs.Session.{expect_of, is_set};
 
 use crate::fault::Fault;
+use crate::handle::Handle;
 use crate::moment::KrbMoment;
 use crate::receiver_handle::KrbReceiver;
 use crate::receiving::{new_receiver, take_at};

@@ -11,6 +11,8 @@ ghost use Rattle.krb_c.specs.Room.{FitsFrames, frame_room};
 ghost use Rattle.krb_c.specs.Session.{mode_of, session_of};
 
 use crate::fault::Fault;
+use crate::handle::Handle;
+use crate::held::Wipe;
 use crate::moment::KrbMoment;
 use crate::room::frame_size;
 use crate::sealer_handle::KrbSealer;

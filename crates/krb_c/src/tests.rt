@@ -3,6 +3,7 @@
 
 use crate::carried::KrbCarried;
 use crate::demand::KrbDemand;
+use crate::handle::Handle;
 use crate::header::KrbHeader;
 use crate::message_calls::{
     krbrelay_answer_name, krbrelay_answer_text, krbrelay_message_header, krbrelay_version,
@@ -169,7 +170,7 @@ fn first_frame(
     let wiped = krbrelay_sealer_seal(alloc, s, b"Dhi", &AT, &[0; 16], &mut rest, &mut size);
     krbrelay_sealer_free(alloc, s);
     let empty = krbrelay_sealer_next(alloc, s, &mut next);
-    let _ = sealer.into_box(alloc);
+    let _ = sealer.into_held().into_box(alloc);
     frame.truncate(size);
     Ok(([made, set, sealed, told, wiped, empty], next, frame))
 }
@@ -200,7 +201,7 @@ fn first_size(alloc: Global, etype: i32, key: &[u8], mode: u32) -> ([u32; 5], us
     let never = krbrelay_sealer_frame_size(alloc, s, 3, &NO_MOMENT, &mut size);
     krbrelay_sealer_free(alloc, s);
     let empty = krbrelay_sealer_frame_size(alloc, s, 3, &AT, &mut size);
-    let _ = sealer.into_box(alloc);
+    let _ = sealer.into_held().into_box(alloc);
     ([made, told, long, never, empty], size)
 }
 
@@ -236,7 +237,7 @@ fn opened(
     let wiped = krbrelay_opener_unseal(alloc, o, frame, 7, &AT, &mut rest, &mut none);
     krbrelay_opener_free(alloc, o);
     let empty = krbrelay_opener_unseal(alloc, o, frame, 7, &AT, &mut rest, &mut none);
-    let _ = opener.into_box(alloc);
+    let _ = opener.into_held().into_box(alloc);
     ([made, right, later, wiped, empty], size, text)
 }
 
@@ -278,7 +279,7 @@ fn a_frame_opens_in_place_and_without_demands(rt: HostRuntime) {
     let answer = krbrelay_opener_unseal_in_place(alloc, o, &mut frame, 7, &AT, &mut size);
     assert_eq!(rt; (answer, size, &frame[..4]), (0, 3, b"Dhi\x6c".as_slice()));
     krbrelay_opener_free(alloc, o);
-    let _ = opener.into_box(alloc);
+    let _ = opener.into_held().into_box(alloc);
 }
 
 /// What sealing a record as the first message of a session answers, and its frame.
@@ -291,7 +292,7 @@ fn record_frame(alloc: Global, kind: u32, body: &[u8]) -> Result<(u32, Vec<u8>),
         alloc, s, kind, body, &AT, &[0; 16], &mut frame, &mut size,
     );
     krbrelay_sealer_free(alloc, s);
-    let _ = sealer.into_box(alloc);
+    let _ = sealer.into_held().into_box(alloc);
     frame.truncate(size);
     Ok((if made == 0 { sealed } else { made }, frame))
 }
@@ -327,7 +328,7 @@ fn a_receiver_takes_each_number_once(rt: HostRuntime) {
     let after = krbrelay_receiver_take(alloc, r, &PRIV_18, &AT, &mut kind, &mut text, &mut size);
     assert_eq!(rt; after, 903);
     krbrelay_receiver_free(alloc, r);
-    let _ = receiver.into_box(alloc);
+    let _ = receiver.into_held().into_box(alloc);
 }
 
 fn no_header() -> KrbHeader {

@@ -2,6 +2,7 @@
 
 ghost use Rattle.std.specs.Prelude.{◌≡◌, IfSome, IfNone, MatchOption, None, Some};
 
+use crate::held::Wipe;
 use krb_seal::Opener;
 use std::marker::Model;
 
@@ -45,9 +46,13 @@ impl WipeableOpener {
         }
         Some(&self.opener)
     }
+}
+
+impl Wipe for WipeableOpener {
+    ghost IsWiped = { λ o. o ≡ None };
 
     /// Overwrites all keys where they lie. It opens nothing from then on.
-    pub fn wipe(&mut self)
+    fn wipe(&mut self)
         ensures { self.new ≡ None }
     {
         self.opener.wipe();

@@ -1,0 +1,31 @@
+-- What the handles own.
+use Rattle.std.specs.Prelude.{ℕ, Option}
+use base.Fml.{Fml}
+use base.Stored.{Coded}
+use denote.RawPtr.{Ptr}
+use Rattle.std.specs.Coded.{coded_option}
+use Rattle.krb_seal.specs.Sealer.{SealerState}
+use Rattle.krb_seal.specs.Opens.{OpenerState}
+use Rattle.krb_peers.specs.ReceiverState.{ReceiverState}
+use Rattle.krb_c.specs.Held.{owns}
+use Rattle.krb_c.specs.contracts.lane_receiver.LaneReceiver.{the_row as receiver_row}
+use Rattle.krb_c.specs.contracts.any_sealer.AnySealer.{the_row as sealer_row}
+use Rattle.krb_c.specs.contracts.wipeable_opener.WipeableOpener.{the_row as opener_row}
+
+abbrev pub owns_sealer : Ptr → ℕ → Option SealerState → Fml
+owns_sealer = owns sealer_row
+
+abbrev pub sealer_coded : Coded (Option SealerState)
+sealer_coded = coded_option sealer_row.coded
+
+abbrev pub owns_opener : Ptr → ℕ → Option (Option OpenerState) → Fml
+owns_opener = owns opener_row
+
+abbrev pub opener_coded : Coded (Option (Option OpenerState))
+opener_coded = coded_option opener_row.coded
+
+abbrev pub owns_receiver : Ptr → ℕ → Option ReceiverState → Fml
+owns_receiver = owns receiver_row
+
+abbrev pub receiver_coded : Coded (Option ReceiverState)
+receiver_coded = coded_option receiver_row.coded
