@@ -1,10 +1,9 @@
 -- Writes one after another.
 use Rattle.std.proofs.lemmas.List.{take_all, length-drop, take-append-drop}
-use Rattle.std.proofs.Common.{◌+◌, ◌-◌, ◌<◌, ◌≤◌, length, take, drop, arith, ◌≡◌, ℕ, List, [], ◌++◌, refl, sym, ap, ◌∙◌, append_assoc, length-append, Option, codes}
+use Rattle.std.proofs.Common.{◌+◌, ◌-◌, ◌≤◌, length, take, drop, arith, ◌≡◌, ℕ, List, [], ◌++◌, refl, sym, ap, ◌∙◌, append_assoc, length-append, Option}
 use Rattle.std.specs.Io.KnownBytes.{Appends}
 use Rattle.std.proofs.KnownBytes.{Appends-trans, Appends-nil}
 use Rattle.krb_base.specs.Prefix.{IsPrefix}
-use Rattle.krb_commands.specs.JobLines.{line_of}
 use Rattle.krb_commands.specs.Output.{AppendsPrefix, AppendsPart}
 
 -- a prefix of a text stands after another
@@ -37,17 +36,6 @@ AppendsPart-after a b c done text whole p q rest e =
       prefix_after done text whole q.0 q.2 rest e,
       omega (arith, length-append done q.0, size, short),
     )
-
--- a prefix of what another text begins with
-pub AppendsPart-within : (a b : Option (List ℕ)) (text whole : List ℕ) → AppendsPart a b text → (rest : List ℕ) → whole ≡ text ++ rest → AppendsPart a b whole
-AppendsPart-within a b text whole p rest e = AppendsPart-after a a b [] text whole (Appends-nil a) p rest e
-
-pub AppendsPart-none : (a : Option (List ℕ)) (whole : List ℕ) → 0 < length whole → AppendsPart a a whole
-AppendsPart-none a whole some = ([], Appends-nil a, (whole, refl), some)
-
--- nothing of a line is written
-pub no_line : (a : Option (List ℕ)) (text : List ℕ) → AppendsPart a a (line_of text)
-no_line a text = AppendsPart-none a (line_of text) (omega (arith, length-append text (codes "\n")))
 
 -- a writer took `count` bytes of what was left
 pub wrote_more : (a b c : Option (List ℕ)) (done rest all : List ℕ) (count : ℕ) → Appends a b done → all ≡ done ++ rest → Appends b c (take count rest)

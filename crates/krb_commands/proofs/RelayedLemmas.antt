@@ -30,10 +30,6 @@ and_assoc : (a b c : Bool) → (a && (b && c)) ≡ ((a && b) && c)
 and_assoc true b c = refl
 and_assoc false b c = refl
 
-and_true : (a : Bool) → (a && true) ≡ a
-and_true true = refl
-and_true false = refl
-
 module _ (old then now : Option (List ℕ)) (sents : List Sent) (log : LogState) (lane : ℕ) (closed : Bool) (h : HasPrinted old then sents log lane closed) (sent : Sent) (at : slice_get sents lane ≡ Some sent) where
   next_line : end_lines lane (drop lane sents) log ≡ end_line lane sent (status_of log lane) ++ end_lines (lane + 1) (drop (lane + 1) sents) log
   next_line = let e : suc lane ≡ lane + 1 = omega arith in ap (λ l. end_lines lane l log) (drop_get sents lane sent at ∙ ap (λ n. sent ∷ drop n sents) e)

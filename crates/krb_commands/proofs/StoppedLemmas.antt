@@ -78,21 +78,6 @@ module _ {S : Type 0} (state : S → SealerState) (sendings : List (Sending S)) 
       let e : true ≡ false = sym (l.reason.0) ∙ flag in
       cc
 
--- what a relay that stopped has printed, by what it answers
-pub stopped_lines : (cause : Cause) (lane count lines : ℕ) → IsLiveCause cause → of_relay cause lane count ≡ fault.Stopped lines → lines ≡ count
-stopped_lines Memory lane count lines live is = cc
-stopped_lines Spawn lane count lines live is = absurd cc
-stopped_lines Lost lane count lines live is = absurd cc
-stopped_lines BadPlan lane count lines live is = absurd cc
-stopped_lines Wiped lane count lines live is = absurd live
-
-pub thread_lines : (cause : Cause) (lane count lines : ℕ) → IsLiveCause cause → of_relay cause lane count ≡ fault.Thread lines → lines ≡ count
-thread_lines Memory lane count lines live is = absurd cc
-thread_lines Spawn lane count lines live is = cc
-thread_lines Lost lane count lines live is = cc
-thread_lines BadPlan lane count lines live is = absurd cc
-thread_lines Wiped lane count lines live is = absurd live
-
 none_printed : (told : Fault) (bad : BadInput) → told ≡ fault.BadInput bad → IsOfPrinting told → ⊥
 none_printed told bad is h = subst IsOfPrinting is h
 

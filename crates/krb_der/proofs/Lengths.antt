@@ -10,16 +10,14 @@ use Rattle.std.proofs.lemmas.List.{length-append}
 use Rattle.krb_der.specs.declared.address.HostAddress.{HostAddress}
 use Rattle.krb_der.specs.declared.body.Body.{Body}
 use Rattle.krb_der.specs.declared.safe.SafeMsg.{SafeMsg}
-use Rattle.krb_der.specs.declared.private.PrivMsg.{PrivMsg}
 use Rattle.krb_tlv.specs.Element.{tagged, joined, sequence, optional, octets}
-use Rattle.krb_tlv.specs.Integer.{integer, natural}
+use Rattle.krb_tlv.specs.Integer.{integer}
 use Rattle.krb_der.specs.Typed.{typed_octets}
 use Rattle.krb_der.specs.Address.{host_address}
 use Rattle.krb_der.specs.Body.{body, body_fields, part}
 use Rattle.krb_tlv.specs.Writing.{IsShort}
 use Rattle.krb_der.specs.Writing.{IsShortBody}
 use Rattle.krb_der.specs.Safe.{checksum, safe, safe_fields}
-use Rattle.krb_der.specs.Private.{encrypted_data, private, private_fields}
 use Rattle.krb_base.specs.Limits.{frame_limit}
 use Rattle.krb_tlv.proofs.Readers.{length-tagged}
 
@@ -62,16 +60,6 @@ short_safe m h = (
   short_body m.body (omega (arith, safe_holds m 2, length-tagged 0xA2 (body m.body))),
   omega (arith, safe_holds m 3, length-tagged 0xA3 (checksum m.cksum_type m.checksum), typed_holds m.cksum_type m.checksum),
 )
-
-encrypted_holds : (m : PrivMsg) → length m.cipher ≤ length (encrypted_data m.etype m.kvno m.cipher)
-unfolding encrypted_data
-encrypted_holds m =
-    let fs : List (List ℕ) = tagged 0xA0 (integer m.etype) ∷ optional 0xA1 natural m.kvno ∷ tagged 0xA2 (octets m.cipher) ∷ [] in
-    omega (arith, nth fs 2, length-tagged 0x30 (joined fs), length-tagged 0xA2 (octets m.cipher), length-tagged 0x04 m.cipher)
-
-short_priv : (m : PrivMsg) → length (private m) ≤ frame_limit → IsShort m.cipher
-short_priv m h =
-    omega (arith, nth (private_fields m) 2, length-tagged 0xA3 (encrypted_data m.etype m.kvno m.cipher), encrypted_holds m, length-tagged 0x30 (joined (private_fields m)), length-tagged 0x75 (sequence (private_fields m)))
 
 short_part : (b : Body) → length (part b) ≤ frame_limit → IsShortBody b
 short_part b h = short_body b (omega (arith, length-tagged 0x7C (body b)))
