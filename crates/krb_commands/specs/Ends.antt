@@ -1,6 +1,6 @@
 -- The two ends of a lane, as a job states them.
-use Rattle.std.specs.Prelude.{◌≡◌, ◌<◌, ℕ, pos, false, All, List, length, Option, Some, None}
-use Rattle.std.specs.Prelude.{option_map, if◌then◌else◌}
+use Rattle.std.specs.Prelude.{◌≡◌, ◌<◌, ℕ, false, All, List, length, Option, Some, None, option_map}
+use Rattle.std.specs.Prelude.{if◌then◌else◌}
 use Rattle.rand_chacha.specs.ChaCha.{of_seed}
 use Rattle.krb_seal.specs.declared.session.Session.{Session}
 use Rattle.krb_seal.specs.declared.session.Expect.{Expect}
@@ -14,13 +14,6 @@ use Rattle.krb_peers.specs.Sending.{source_of, IsSender}
 use Rattle.krb_peers.specs.Sender.{Source}
 use Rattle.krb_peers.specs.Ends.{Ends}
 use Rattle.krb_job.specs.SenderKeys.{Sender}
-use Rattle.krb_commands.specs.declared.ends.SessionKey.{SessionKey}
-use Rattle.krb_commands.specs.declared.ends.SessionKey.TheVariants.{Aes128, Aes256}
-
--- the key of its encryption type
-abbrev pub IsKey : Sender → SessionKey → Type 0
-IsKey sender (Aes128 key) = (sender.protection.etype ≡ pos 17) × (key ≡ sender.protection.key)
-IsKey sender (Aes256 key) = (sender.protection.etype ≡ pos 18) × (key ≡ sender.protection.key)
 
 -- what the sender writes into each message
 abbrev pub session_of : Sender → Session

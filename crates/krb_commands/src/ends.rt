@@ -1,6 +1,7 @@
 //! The two ends of a lane, as a job states them.
 
 ghost use Rattle.std.specs.Prelude.{◌≡◌, ◌+◌, ◌<◌, ◌≤◌, ◌∷◌, ◌++◌, [], false, ℕ, List, length, map, IsSome, IfOk, IfErr, OnOk, Some};
+ghost use Rattle.krb_seal.specs.Etype.{number_of};
 ghost use Rattle.krb_seal.specs.Session.{HasShortAddresses};
 ghost use Rattle.krb_peers.specs.Premises.{IsPaired};
 ghost use Rattle.krb_peers.specs.Ends.{lanes_of};
@@ -14,30 +15,18 @@ use crate::fault::Fault;
 use krb_der::HostAddress;
 use krb_job::SenderJob;
 use krb_peers::{Receiver, Receiving, Sending};
-use krb_seal::{Expect, Opener, Sealer, Session};
+use krb_seal::{Etype, Expect, Opener, Sealer, Session, SessionKey, SessionSealer};
 use rand_chacha::ChaCha20Rng;
 use rand_core::SeedableRng;
 use std::alloc::{AllocError, Global};
 
-/// A session key, by its encryption type.
-#[derive(Clone, Copy)]
-pub enum SessionKey {
-    /// Of type 17, aes128-cts-hmac-sha1-96.
-    Aes128([u8; 16]),
-    /// Of type 18, aes256-cts-hmac-sha1-96.
-    Aes256([u8; 32]),
-}
-
 /// The key of a sender of a job.
 pub fn key_of(sender: &SenderJob) -> SessionKey
-    ensures { ends.IsKey (sender_view sender.now) result }
+    ensures etype { number_of result.etype ≡ sender.now.etype }
+    ensures bytes { result.bytes ≡ sender.now.key }
 {
-    let key = sender.key.as_slice();
-    if sender.etype == 17 {
-        SessionKey::Aes128(key.try_into().unwrap())
-    } else {
-        SessionKey::Aes256(key.try_into().unwrap())
-    }
+    let etype = Etype::from_number(sender.etype).unwrap();
+    SessionKey::copy_of(etype, sender.key.as_slice()).unwrap()
 }
 
 /// The session that a sender of a job seals for.
@@ -56,6 +45,15 @@ pub fn session_of(alloc: Global, sender: &SenderJob) -> Result<Session, AllocErr
         r_addr,
         first: sender.first,
     })
+}
+
+/// The sealer of a sender of a job, which has sealed nothing.
+pub fn sealer_of(alloc: Global, sender: &SenderJob) -> Result<SessionSealer, AllocError>
+    ensures made { IfOk result (λ sealer. sealer ≡ ends.sealer_of (sender_view sender.now)) }
+    ensures next { IfOk result (λ sealer. sealer.next ≤ last_number) }
+{
+    let session = session_of(alloc, sender)?;
+    Ok(SessionSealer::new(key_of(sender), session))
 }
 
 /// What the receiver of a job's lane expects of each message.
@@ -80,10 +78,7 @@ pub fn receiving_of(alloc: Global, sender: &SenderJob) -> Result<Receiving, Allo
     ensures moments { IfOk result (λ receiving. 0 < length receiving.nows.items) }
 {
     let expect = expect_of(alloc, sender)?;
-    let opener = match key_of(sender) {
-        SessionKey::Aes128(mut key) => Opener::new_128(&mut key, expect),
-        SessionKey::Aes256(mut key) => Opener::new_256(&mut key, expect),
-    };
+    let opener = Opener::new(key_of(sender), expect);
     Ok(Receiving {
         receiver: Receiver::new(opener, sender.first),
         nows: sender.nows.clone()?,

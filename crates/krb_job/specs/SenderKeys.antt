@@ -1,10 +1,11 @@
 -- One sender of a job: its keys in the order in which they are checked, unknown keys last.
-use Rattle.std.specs.Prelude.{ℕ, ℤ, pos, Bool, true, false, List, [], ◌∷◌, map, Option, None}
+use Rattle.std.specs.Prelude.{ℕ, ℤ, Bool, true, false, List, [], ◌∷◌, map, Option, None}
 use Rattle.std.specs.Prelude.{Result, Ok, Err}
 use Rattle.toml.specs.Data.{Members}
 use Rattle.krb_base.specs.Limits.{last_number, skew_limit, batch_limit}
 use Rattle.krb_der.specs.declared.address.HostAddress.{HostAddress}
 use Rattle.krb_seal.specs.declared.session.Mode.{Mode as ModeOf}
+use Rattle.krb_seal.specs.Etype as etypes
 use Rattle.krb_job.specs.declared.place.Place.{Place}
 use Rattle.krb_job.specs.declared.place.Place.TheVariants.{Etype, Key, Mode, First, From, To}
 use Rattle.krb_job.specs.declared.place.Place.TheVariants.{WriteTo, RequireTo, ExpectTime, Skew}
@@ -15,7 +16,7 @@ use Rattle.krb_job.specs.declared.job.Command.TheVariants.{Seal, Open, Relay}
 use Rattle.krb_peers.specs.declared.plan.Emit.{Emit}
 use Rattle.krb_job.specs.Checks.{◌>>=◌}
 use Rattle.krb_job.specs.Place.{sender_keys}
-use Rattle.krb_job.specs.Values.{number_of, flag_of, mode_of, key_of, seed_of}
+use Rattle.krb_job.specs.Values.{number_of, etype_of, flag_of, mode_of, key_of, seed_of}
 use Rattle.krb_job.specs.Address.{address_of}
 use Rattle.krb_job.specs.Lists.{moments_of, texts_of, plan_of, frames_of}
 use Rattle.krb_job.specs.Keys.{needed, optional, only_if, some, has_only}
@@ -65,11 +66,11 @@ opens Relay = false
 -- the keys of earlier senders are not repeated
 unfoldable pub protection_of : List (List ℕ) → Members → Result Protection Place
 protection_of earlier ms = do
-  etype ← needed Etype (number_of 17 18) ms
+  etype ← needed Etype etype_of ms
   key ← needed Key (key_of etype earlier) ms
   mode ← needed Mode mode_of ms
   first ← needed First (number_of 0 last_number) ms
-  Ok (record { etype = pos etype; key = key; mode = mode; first = first })
+  Ok (record { etype = etypes.number_of etype; key = key; mode = mode; first = first })
 
 unfoldable pub parties_of : Members → Result Parties Place
 parties_of ms = do

@@ -1,12 +1,13 @@
 -- What was read, as its definition sees it: each vector is its list.
-use Rattle.std.specs.Prelude.{ℕ, List, map, option_map, pos}
+use Rattle.std.specs.Prelude.{ℕ, List, map, option_map}
+use Rattle.krb_seal.specs.Etype.{number_of}
 use Rattle.krb_job.specs.declared.job.SenderJob.{SenderJob}
 use Rattle.krb_job.specs.declared.parts.Protection.{Protection as ReadProtection}
 use Rattle.krb_job.specs.declared.parts.Parties.{Parties as ReadParties}
 use Rattle.krb_job.specs.SenderKeys.{Sender, Protection, Parties}
 
 abbrev pub protection_view : ReadProtection → Protection
-protection_view p = record { etype = pos p.etype; key = p.key; mode = p.mode; first = p.first }
+protection_view p = record { etype = number_of p.etype; key = p.key; mode = p.mode; first = p.first }
 
 abbrev pub parties_view : ReadParties → Parties
 parties_view p = record {

@@ -1,19 +1,26 @@
 -- What the values of a job stand for.
-use Rattle.std.specs.Prelude.{ℕ, ◌==◌, pos, nat_le, Bool, ◌&&◌, List, length, codes, Option, Some}
-use Rattle.std.specs.Prelude.{None, if◌then◌else◌}
+use Rattle.std.specs.Prelude.{ℕ, pos, nat_le, Bool, ◌&&◌, List, length, codes, Option, Some, None}
+use Rattle.std.specs.Prelude.{if◌then◌else◌}
 use Rattle.std.specs.Result.{result_ok}
 use Rattle.std.specs.List.{list_any}
 use Rattle.std.specs.Str.{bytes_eq}
 use Rattle.toml.specs.Data.{Data, string, integer, boolean}
 use Rattle.hex.specs.Hex.{decode_of, decode_sized}
+use Rattle.krb_seal.specs.declared.etype.Etype.{Etype}
 use Rattle.krb_seal.specs.declared.session.Mode.{Mode}
 use Rattle.krb_seal.specs.declared.session.Mode.TheVariants as modes
+use Rattle.krb_seal.specs.Etype as etypes
 use Rattle.krb_job.specs.Steps.{◌>>=◌}
 
 -- a whole number from low to high
 abbrev pub number_of : ℕ → ℕ → Data → Option ℕ
 number_of low high (integer (pos n)) = if nat_le low n && nat_le n high then Some n else None
 number_of low high _ = None
+
+-- the encryption type that has this number
+abbrev pub etype_of : Data → Option Etype
+etype_of (integer number) = etypes.etype_of number
+etype_of _ = None
 
 abbrev pub flag_of : Data → Option Bool
 flag_of (boolean b) = Some b
@@ -48,13 +55,11 @@ abbrev pub seed_of : Data → Option (List ℕ)
 seed_of (string text) = result_ok (decode_sized text 32)
 seed_of _ = None
 
--- 16 bytes for encryption type 17, 32 for 18 (RFC 3962 section 6)
-abbrev pub key_size : ℕ → ℕ
-key_size etype = if etype == 17 then 16 else 32
-
 -- a key that no earlier sender has
 abbrev pub unused : List (List ℕ) → List ℕ → Option (List ℕ)
 unused earlier key = if list_any (bytes_eq key) earlier then None else Some key
 
-abbrev pub key_of : ℕ → List (List ℕ) → Data → Option (List ℕ)
-key_of etype earlier d = bytes_of (key_size etype) (key_size etype) d >>= unused earlier
+-- a key of an encryption type
+abbrev pub key_of : Etype → List (List ℕ) → Data → Option (List ℕ)
+key_of etype earlier d =
+    bytes_of (etypes.key_size etype) (etypes.key_size etype) d >>= unused earlier

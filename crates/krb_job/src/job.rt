@@ -4,7 +4,7 @@ ghost use Rattle.std.specs.Prelude.{◌≡◌, ◌≤◌, ◌<◌, length, IsSom
 ghost use Rattle.std.proofs.Props.{props};
 ghost use Rattle.krb_base.specs.Limits.{skew_limit, batch_limit, capacity_limit, lane_limit};
 ghost use Rattle.krb_seal.specs.Session.{IsShortAddress};
-ghost use Rattle.krb_job.specs.Limits.{IsKeyOf, IsKeyOf-prop, AreShortTexts};
+ghost use Rattle.krb_job.specs.Limits.{IsKeyOf, AreShortTexts};
 ghost use Rattle.krb_job.specs.SenderKeys.{seals, opens};
 
 use crate::secret::Secret;
@@ -43,9 +43,9 @@ impl Command {
 /// One sender of a job. What the command doesn't allow is `None` or empty.
 #[derive(Debug, Drop)]
 pub struct SenderJob {
-    /// The encryption type, 17 or 18 (RFC 3962 section 7).
+    /// The number of the encryption type (RFC 3962 section 7).
     pub etype: i32,
-    /// The key, 16 bytes for 17 and 32 for 18.
+    /// The key, with as many bytes as a key of the type has.
     pub key: Secret,
     /// How the texts are protected.
     pub mode: Mode,
@@ -78,7 +78,7 @@ pub struct SenderJob {
     /// The frames that are opened.
     pub frames: Vec<Bytes>,
     // Each limit was checked when the job was read.
-    pub ghost key_fits: { IsKeyOf etype key } by { IsKeyOf-prop etype key },
+    pub ghost key_fits: { IsKeyOf etype key },
     pub ghost from_short: { IsShortAddress from },
     pub ghost to_short: { IsShortAddress to },
     pub ghost skew_fits: { skew ≤ skew_limit },

@@ -1,22 +1,22 @@
 //! The parts of a sender, as they are read.
 
-ghost use Rattle.std.specs.Prelude.{◌≤◌, pos};
+ghost use Rattle.std.specs.Prelude.{◌≡◌, ◌≤◌, length};
 ghost use Rattle.krb_base.specs.Limits.{last_number, skew_limit};
 ghost use Rattle.krb_seal.specs.Session.{IsShortAddress};
-ghost use Rattle.krb_job.specs.Limits.{IsKeyOf, IsKeyOf-prop};
+ghost use Rattle.krb_seal.specs.Etype.{key_size};
 
 use crate::secret::Secret;
 use krb_der::HostAddress;
-use krb_seal::Mode;
+use krb_seal::{Etype, Mode};
 
 /// How the texts are protected.
 #[derive(Drop)]
 pub(crate) struct Protection {
-    pub(crate) etype: u64,
+    pub(crate) etype: Etype,
     pub(crate) key: Secret,
     pub(crate) mode: Mode,
     pub(crate) first: u64,
-    ghost key_fits: { IsKeyOf (pos etype) key } by { IsKeyOf-prop (pos etype) key },
+    ghost key_fits: { length key ≡ key_size etype },
     ghost first_fits: { first ≤ last_number },
 }
 

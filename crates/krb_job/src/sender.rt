@@ -5,7 +5,7 @@ ghost use Rattle.std.specs.List.{list_any};
 ghost use Rattle.std.specs.Str.{bytes_eq};
 ghost use Rattle.toml.specs.View.{view, table_view};
 ghost use Rattle.krb_job.specs.Checks.{Gives};
-ghost use Rattle.krb_job.specs.Values.{key_size, key_of};
+ghost use Rattle.krb_job.specs.Values.{key_of};
 ghost use Rattle.krb_job.specs.Keys.{needed, has_only};
 ghost use Rattle.krb_job.specs.Place.{sender_keys};
 ghost use Rattle.krb_job.specs.SenderKeys.{protection_of, parties_of, traffic_of, sender_of};
@@ -17,11 +17,12 @@ use crate::parts::{Parties, Protection};
 use crate::place::{KeyError, Place, SENDER_KEYS};
 use crate::secret::Secret;
 use crate::table::{
-    address, batch, flag, frames, has_only, mode, moments, moments_if, needed, number, plan, seed,
-    texts,
+    address, batch, etype, flag, frames, has_only, mode, moments, moments_if, needed, number, plan,
+    seed, texts,
 };
 use crate::values::read_bytes;
 use krb_base::SKEW_LIMIT;
+use krb_seal::Etype;
 use std::alloc::Global;
 use toml::{Table, Value};
 
@@ -32,22 +33,16 @@ fn is_used(key: &[u8], earlier: &[SenderJob]) -> bool
     earlier.iter().any(|sender| key == sender.key.as_slice())
 }
 
-fn key_size(etype: u64) -> usize
-    ensures { result ≡ key_size etype }
-{
-    if etype == 17 { 16 } else { 32 }
-}
-
 fn read_key(
     alloc: Global,
     value: &Value,
-    etype: u64,
+    etype: Etype,
     earlier: &[SenderJob],
 ) -> Result<Secret, KeyError>
     ensures { Gives (λ b. b) result
         (ok_or (key_of etype (keys_of earlier.now) (view value.now)) Place.Key) }
 {
-    let size = key_size(etype);
+    let size = etype.key_size();
     let bytes = read_bytes(alloc, Place::Key, value, size, size)?;
     let key = Secret::new(bytes.into_vec());
     if is_used(key.as_slice(), earlier) {
@@ -57,7 +52,12 @@ fn read_key(
     }
 }
 
-fn key(alloc: Global, table: &Table, etype: u64, earlier: &[SenderJob]) -> Result<Secret, KeyError>
+fn key(
+    alloc: Global,
+    table: &Table,
+    etype: Etype,
+    earlier: &[SenderJob],
+) -> Result<Secret, KeyError>
     ensures { Gives (λ b. b) result
         (needed Place.Key (key_of etype (keys_of earlier.now)) (table_view table.now)) }
 {
@@ -73,7 +73,7 @@ fn read_protection(
     ensures { Gives protection_view result
         (protection_of (keys_of earlier.now) (table_view table.now)) }
 {
-    let etype = number(table, Place::Etype, 17, 18)?;
+    let etype = etype(table, Place::Etype)?;
     let key = key(alloc, table, etype, earlier)?;
     let mode = mode(table, Place::Mode)?;
     let first = number(table, Place::First, 0, 4_294_967_295)?;
@@ -126,7 +126,7 @@ fn read_traffic(
 {
     let seals = command.seals();
     Ok(SenderJob {
-        etype: protection.etype as i32,
+        etype: protection.etype.number(),
         key: protection.key,
         mode: protection.mode,
         first: protection.first as u32,

@@ -8,7 +8,7 @@ ghost use Rattle.toml.specs.Data.{get_member};
 ghost use Rattle.toml.specs.View.{view, table_view};
 ghost use Rattle.krb_base.specs.Limits.{batch_limit};
 ghost use Rattle.krb_job.specs.Checks.{Gives};
-ghost use Rattle.krb_job.specs.Values.{number_of, flag_of, mode_of, seed_of};
+ghost use Rattle.krb_job.specs.Values.{number_of, etype_of, flag_of, mode_of, seed_of};
 ghost use Rattle.krb_job.specs.Address.{address_of};
 ghost use Rattle.krb_job.specs.Lists.{moments_of, texts_of, plan_of, frames_of};
 ghost use Rattle.krb_job.specs.Keys.{at_key, needed, optional, only_if, some, has_only};
@@ -16,11 +16,11 @@ ghost use Rattle.krb_job.specs.Keys.{at_key, needed, optional, only_if, some, ha
 use crate::address::read_address;
 use crate::lists::{read_frames, read_moments, read_plan, read_texts};
 use crate::place::{KeyError, Place};
-use crate::values::{read_flag, read_mode, read_number, read_seed};
+use crate::values::{read_etype, read_flag, read_mode, read_number, read_seed};
 use krb_base::{BATCH_LIMIT, Bytes};
 use krb_der::{HostAddress, Moment};
 use krb_peers::Emit;
-use krb_seal::Mode;
+use krb_seal::{Etype, Mode};
 use std::alloc::Global;
 use toml::{Table, Value};
 
@@ -66,6 +66,12 @@ pub(crate) fn number(table: &Table, place: Place, low: u64, high: u64) -> Result
     ensures high { IfOk result (λ n. n ≤ high) }
 {
     read_number(needed(table, place)?, low, high).ok_or(KeyError::Bad(place))
+}
+
+pub(crate) fn etype(table: &Table, place: Place) -> Result<Etype, KeyError>
+    ensures { Gives (λ e. e) result (needed place etype_of (table_view table.now)) }
+{
+    read_etype(needed(table, place)?).ok_or(KeyError::Bad(place))
 }
 
 pub(crate) fn flag(table: &Table, place: Place, absent: bool) -> Result<bool, KeyError>

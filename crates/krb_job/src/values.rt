@@ -3,13 +3,13 @@
 ghost use Rattle.std.specs.Prelude.{◌≡◌, ◌≤◌, ok_or, IfSome};
 ghost use Rattle.toml.specs.View.{view};
 ghost use Rattle.krb_job.specs.Checks.{Gives};
-ghost use Rattle.krb_job.specs.Values.{number_of, flag_of, mode_of, mode_named, hex_of, bytes_of};
-ghost use Rattle.krb_job.specs.Values.{seed_of};
+ghost use Rattle.krb_job.specs.Values.{number_of, etype_of, flag_of, mode_of, mode_named, hex_of};
+ghost use Rattle.krb_job.specs.Values.{bytes_of, seed_of};
 
 use crate::place::{KeyError, Place};
 use hex::FromHexError;
 use krb_base::Bytes;
-use krb_seal::Mode;
+use krb_seal::{Etype, Mode};
 use std::alloc::Global;
 use toml::Value;
 
@@ -25,6 +25,14 @@ pub(crate) fn read_number(value: &Value, low: u64, high: u64) -> Option<u64>
     } else {
         None
     }
+}
+
+/// The encryption type that has this number.
+pub(crate) fn read_etype(value: &Value) -> Option<Etype>
+    ensures { result ≡ etype_of (view value.now) }
+{
+    let number = i32::try_from(value.as_integer()?).ok()?;
+    Etype::from_number(number)
 }
 
 pub(crate) fn read_flag(value: &Value) -> Option<bool>

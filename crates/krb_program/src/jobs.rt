@@ -1,28 +1,29 @@
-//! The commands that read a job. Each sealer is boxed here, by its encryption type.
+//! The commands that read a job. Each sealer of a relay is boxed here.
 
-ghost use Rattle.std.specs.Prelude.{◌≡◌, ◌<◌, ◌≤◌, ◌+◌, ◌∷◌, ◌++◌, [], true, ℕ, List, length, map, All, Some, IsSome, IfOk, IfErr, IfSome, OnOk, OnErr};
+ghost use Rattle.std.specs.Prelude.{◌≡◌, ◌<◌, ◌≤◌, ◌+◌, ◌∷◌, ◌++◌, [], true, ℕ, length, map, All, Some, IsSome, IfOk, IfErr, IfSome, OnOk, OnErr};
 ghost use Rattle.std.specs.Io.KnownBytes.{Keeps};
+ghost use Rattle.krb_base.specs.Limits.{last_number};
 ghost use Rattle.krb_peers.specs.Ends.{lanes_of};
 ghost use Rattle.krb_job.specs.declared.bad_input.BadInput.{BadInput};
 ghost use Rattle.krb_job.specs.Job.{most_senders, job_view};
 ghost use Rattle.krb_job.specs.SenderKeys.{seals};
 ghost use Rattle.krb_job.specs.SenderView.{sender_view};
-ghost use Rattle.krb_commands.specs.Ends.{AreReady, sealer_of, lane_told};
+ghost use Rattle.krb_commands.specs.Ends as ends;
+ghost use Rattle.krb_commands.specs.Ends.{AreReady, lane_told};
 ghost use Rattle.krb_commands.specs.Fault.{bad_plan, IsOfRelaying, IsOfSealing, IsOfTelling};
-ghost use Rattle.krb_base.specs.Limits.{last_number};
 ghost use Rattle.krb_program.specs.Told.{Told, IsTold, TellsOne};
 ghost use Rattle.krb_program.specs.Commands.{Seals, SealsPrefix, SealsSender, SealsSenderPrefix, IsBadSender, IsBadToSeal};
 ghost use Rattle.krb_program.specs.Commands.{Opens, OpensFirst, OpensPrefix};
 ghost use Rattle.krb_program.specs.Commands.{Relays, RelaysPrefix, RelaysJob, RelaysJobPrefix, StopsJob, StopsRelay, HasBadPlan, IsBadToRelay};
 
 use krb_commands::{
-    Fault, LIMIT, SessionKey, key_of, open_job, push_lane, read_all, receiving_of, relay_job,
-    seal_job, sending_of, session_of,
+    Fault, LIMIT, open_job, push_lane, read_all, receiving_of, relay_job, seal_job, sealer_of,
+    sending_of,
 };
 use krb_job::{Command, Job, Secret, SenderJob, read_job};
 use krb_peers::{Receivers, Receiving, Sending};
 use krb_relay::Gate;
-use krb_seal::{Aes128Sealer, Aes256Sealer, Sealer};
+use krb_seal::Sealer;
 use std::alloc::Global;
 use std::io::{Read, Write};
 use std::sync::Wait;
@@ -69,47 +70,7 @@ fn seal_sender<W: Write>(alloc: Global, sender: SenderJob, writer: &mut W) -> Re
         (W.contents writer.old) (W.contents writer.new)) }
     ensures faults { IfErr result IsOfSealing }
 {
-    let session = session_of(alloc, &sender)?;
-    match key_of(&sender) {
-        SessionKey::Aes128(mut key) => {
-            let sealer: Box<dyn Sealer + Send> = Box::new(
-                alloc,
-                Aes128Sealer::new(&mut key, session),
-            )?;
-            seal_with(alloc, sender, sealer, writer)
-        }
-        SessionKey::Aes256(mut key) => {
-            let sealer: Box<dyn Sealer + Send> = Box::new(
-                alloc,
-                Aes256Sealer::new(&mut key, session),
-            )?;
-            seal_with(alloc, sender, sealer, writer)
-        }
-    }
-}
-
-/// Seals the texts of a sender with its sealer.
-fn seal_with<S: Sealer, W: Write>(
-    alloc: Global,
-    sender: SenderJob,
-    sealer: S,
-    writer: &mut W,
-) -> Result<u8, Fault>
-    requires seed { IsSome sender.seed }
-    requires made { S.state sealer ≡ sealer_of (sender_view sender) }
-    requires next { (S.state sealer).next ≤ last_number }
-    ensures printed { OnOk result (SealsSender (sender_view sender)
-        (W.contents writer.old) (W.contents writer.new)) }
-    ensures status { IfOk result (λ status. status ≡ 0) }
-
-    ensures bad_plan { (bad : BadInput) → result ≡ Err (Fault.BadInput bad)
-        → (bad ≡ bad_plan 0) × IsBadSender (sender_view sender) }
-    ensures bad_plan_prints_nothing { (bad : BadInput) → result ≡ Err (Fault.BadInput bad)
-        → Keeps (W.contents writer.old) (W.contents writer.new) }
-    ensures prefix { OnErr result (SealsSenderPrefix (sender_view sender)
-        (W.contents writer.old) (W.contents writer.new)) }
-    ensures faults { IfErr result IsOfSealing }
-{
+    let sealer = sealer_of(alloc, &sender)?;
     let sending = sending_of(sender, sealer);
     seal_job(alloc, sending, writer)
 }
@@ -205,11 +166,7 @@ fn relay_senders<T: Threads + Wait + Sync, W: Write, G: Gate + Sync>(
     let mut sendings = Vec::with_capacity(alloc, senders.len())?;
     let mut receivers = Receivers::with_capacity(alloc, senders.len())?;
     for sender in senders {
-        let session = session_of(alloc, &sender)?;
-        let sealer: Box<dyn Sealer + Send> = match key_of(&sender) {
-            SessionKey::Aes128(mut key) => Box::new(alloc, Aes128Sealer::new(&mut key, session))?,
-            SessionKey::Aes256(mut key) => Box::new(alloc, Aes256Sealer::new(&mut key, session))?,
-        };
+        let sealer: Box<dyn Sealer + Send> = Box::new(alloc, sealer_of(alloc, &sender)?)?;
         push_told(alloc, &mut sendings, &mut receivers.items, sender, sealer)?;
     }
     let receivings = receivers.into_vec(alloc);
@@ -225,7 +182,7 @@ fn push_told<S: Sealer>(
     sealer: S,
 ) -> Result<(), Fault>
     requires seed { IsSome sender.seed }
-    requires made { S.state sealer ≡ sealer_of (sender_view sender) }
+    requires made { S.state sealer ≡ ends.sealer_of (sender_view sender) }
     requires next { (S.state sealer).next ≤ last_number }
     requires ready { AreReady S.state sendings.old.items receivings.old.items }
     ensures lane { OnOk result

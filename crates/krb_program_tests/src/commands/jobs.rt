@@ -5,12 +5,11 @@ ghost use Rattle.krb_base.specs.Limits.{last_number};
 
 use crate::asserts::{assert_same, assert_same_at};
 use krb_commands::{
-    Fault, SessionKey, key_of, open_job, push_lane, receiving_of, relay_job, seal_job, sending_of,
-    session_of,
+    Fault, open_job, push_lane, receiving_of, relay_job, seal_job, sealer_of, sending_of,
 };
 use krb_job::{Command, SenderJob, read_job};
 use krb_relay::{Gate, NoGate};
-use krb_seal::{Aes128Sealer, Aes256Sealer, Sealer};
+use krb_seal::Sealer;
 use std::alloc::{AllocError, Global};
 use std::io::Write;
 use std::process::Abort;
@@ -170,17 +169,8 @@ fn seal<W: Write>(
 ) -> Result<u8, Fault> {
     assert!(rt; senders.len() == 1);
     let alloc = rt.alloc();
-    let session = session_of(alloc, &senders[0])?;
-    match key_of(&senders[0]) {
-        SessionKey::Aes128(mut key) => {
-            let sealer = Aes128Sealer::new(&mut key, session);
-            seal_job(alloc, sending_of(take_one(rt, senders), sealer), writer)
-        }
-        SessionKey::Aes256(mut key) => {
-            let sealer = Aes256Sealer::new(&mut key, session);
-            seal_job(alloc, sending_of(take_one(rt, senders), sealer), writer)
-        }
-    }
+    let sealer = sealer_of(alloc, &senders[0])?;
+    seal_job(alloc, sending_of(take_one(rt, senders), sealer), writer)
 }
 
 fn relay_one<W: Write, G: Gate + Sync>(
@@ -193,33 +183,9 @@ fn relay_one<W: Write, G: Gate + Sync>(
     assert!(rt; senders.len() == 1);
     assert!(rt; 0 < capacity && capacity <= 64);
     let alloc = rt.alloc();
-    let session = session_of(alloc, &senders[0])?;
-    match key_of(&senders[0]) {
-        SessionKey::Aes128(mut key) => {
-            let sealer = Aes128Sealer::new(&mut key, session);
-            relay_alone(
-                rt,
-                alloc,
-                take_one(rt, senders),
-                sealer,
-                capacity,
-                writer,
-                gate,
-            )
-        }
-        SessionKey::Aes256(mut key) => {
-            let sealer = Aes256Sealer::new(&mut key, session);
-            relay_alone(
-                rt,
-                alloc,
-                take_one(rt, senders),
-                sealer,
-                capacity,
-                writer,
-                gate,
-            )
-        }
-    }
+    let sealer = sealer_of(alloc, &senders[0])?;
+    let sender = take_one(rt, senders);
+    relay_alone(rt, alloc, sender, sealer, capacity, writer, gate)
 }
 
 /// Relays the texts of one sender with its sealer.
@@ -266,16 +232,8 @@ fn relay_two<W: Write, G: Gate + Sync>(
     assert!(rt; senders.len() == 2);
     assert!(rt; 0 < capacity && capacity <= 64);
     let alloc = rt.alloc();
-    let session = session_of(alloc, &senders[0])?;
-    let sealer: Box<dyn Sealer + Send> = match key_of(&senders[0]) {
-        SessionKey::Aes128(mut key) => Box::new(alloc, Aes128Sealer::new(&mut key, session))?,
-        SessionKey::Aes256(mut key) => Box::new(alloc, Aes256Sealer::new(&mut key, session))?,
-    };
-    let session = session_of(alloc, &senders[1])?;
-    let other: Box<dyn Sealer + Send> = match key_of(&senders[1]) {
-        SessionKey::Aes128(mut key) => Box::new(alloc, Aes128Sealer::new(&mut key, session))?,
-        SessionKey::Aes256(mut key) => Box::new(alloc, Aes256Sealer::new(&mut key, session))?,
-    };
+    let sealer: Box<dyn Sealer + Send> = Box::new(alloc, sealer_of(alloc, &senders[0])?)?;
+    let other: Box<dyn Sealer + Send> = Box::new(alloc, sealer_of(alloc, &senders[1])?)?;
     let (first, second) = take_two(rt, senders);
     relay_sealed(
         rt,

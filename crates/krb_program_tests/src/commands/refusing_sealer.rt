@@ -2,20 +2,18 @@
 
 ghost use Rattle.std.specs.Prelude.{◌≡◌, ◌≤◌, false, IfOk};
 ghost use Rattle.krb_base.specs.Limits.{last_number};
-ghost use Rattle.krb_seal.specs.Session.{HasShortAddresses};
 
 use krb_base::{LAST_NUMBER, USER_DATA_LIMIT};
-use krb_commands::{SessionKey, key_of, session_of};
+use krb_commands::sealer_of;
 use krb_der::Moment;
 use krb_job::SenderJob;
-use krb_seal::{Aes128Sealer, SealError, Sealer, Session};
-use std::alloc::Global;
-use std::test::Fail;
+use krb_seal::{SealError, Sealer, SessionSealer};
+use std::alloc::{AllocError, Global};
 
-/// A sealer of type 17 that answers `Memory` at one of its calls.
+/// A sealer that answers `Memory` at one of its calls.
 #[derive(Drop)]
 pub struct RefusingSealer {
-    inner: Aes128Sealer,
+    inner: SessionSealer,
     wiped: bool,
     calls: u64,
     fails_at: u64,
@@ -23,34 +21,21 @@ pub struct RefusingSealer {
 }
 
 impl RefusingSealer {
-    /// A sealer that refuses this call, from 1 on (0: none).
-    pub fn new(key: &mut [u8; 16], session: Session, fails_at: u64) -> RefusingSealer
-        requires { HasShortAddresses session }
-        ensures live { result.inner.wiped ≡ false }
-        ensures next { result.inner.next ≤ last_number }
-    {
-        RefusingSealer {
-            inner: Aes128Sealer::new(key, session),
-            wiped: false,
-            calls: 0,
-            fails_at,
-        }
-    }
-
-    /// A sealer of the session of a job's sender, of type 17, that refuses this call.
+    /// A sealer of the session of a job's sender that refuses this call, from 1 on (0: none).
     pub fn of_sender(
         alloc: Global,
         sender: &SenderJob,
         fails_at: u64,
-    ) -> Result<RefusingSealer, Fail>
+    ) -> Result<RefusingSealer, AllocError>
         ensures live { IfOk result (λ sealer. sealer.inner.wiped ≡ false) }
         ensures next { IfOk result (λ sealer. sealer.inner.next ≤ last_number) }
     {
-        let SessionKey::Aes128(mut key) = key_of(sender) else {
-            return Err(Fail::from("another type"));
-        };
-        let session = session_of(alloc, sender)?;
-        Ok(RefusingSealer::new(&mut key, session, fails_at))
+        Ok(RefusingSealer {
+            inner: sealer_of(alloc, sender)?,
+            wiped: false,
+            calls: 0,
+            fails_at,
+        })
     }
 }
 
