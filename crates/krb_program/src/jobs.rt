@@ -1,4 +1,4 @@
-//! The commands that read a job. Each sealer of a relay is boxed here.
+//! The commands that read a job. Each sealer is boxed here, so that its keys stay where they lie.
 
 ghost use Rattle.std.specs.Prelude.{◌≡◌, ◌<◌, ◌≤◌, ◌+◌, ◌∷◌, ◌++◌, [], true, ℕ, length, map, All, Some, IsSome, IfOk, IfErr, IfSome, OnOk, OnErr};
 ghost use Rattle.std.specs.Io.KnownBytes.{Keeps};
@@ -71,6 +71,32 @@ fn seal_sender<W: Write>(alloc: Global, sender: SenderJob, writer: &mut W) -> Re
     ensures faults { IfErr result IsOfSealing }
 {
     let sealer = sealer_of(alloc, &sender)?;
+    let sealer: Box<dyn Sealer + Send> = Box::new(alloc, sealer)?;
+    seal_with(alloc, sender, sealer, writer)
+}
+
+/// Seals the texts of a sender with its sealer.
+fn seal_with<S: Sealer, W: Write>(
+    alloc: Global,
+    sender: SenderJob,
+    sealer: S,
+    writer: &mut W,
+) -> Result<u8, Fault>
+    requires seed { IsSome sender.seed }
+    requires made { S.state sealer ≡ ends.sealer_of (sender_view sender) }
+    requires next { (S.state sealer).next ≤ last_number }
+    ensures printed { OnOk result (SealsSender (sender_view sender)
+        (W.contents writer.old) (W.contents writer.new)) }
+    ensures status { IfOk result (λ status. status ≡ 0) }
+
+    ensures bad_plan { (bad : BadInput) → result ≡ Err (Fault.BadInput bad)
+        → (bad ≡ bad_plan 0) × IsBadSender (sender_view sender) }
+    ensures bad_plan_prints_nothing { (bad : BadInput) → result ≡ Err (Fault.BadInput bad)
+        → Keeps (W.contents writer.old) (W.contents writer.new) }
+    ensures prefix { OnErr result (SealsSenderPrefix (sender_view sender)
+        (W.contents writer.old) (W.contents writer.new)) }
+    ensures faults { IfErr result IsOfSealing }
+{
     let sending = sending_of(sender, sealer);
     seal_job(alloc, sending, writer)
 }
