@@ -2,8 +2,8 @@
 //!
 //! [`show`] prints messages, [`vectors`] published values of the ciphers. [`seal_job`],
 //! [`open_job`] and [`relay_job`] print what a job's senders seal and its receivers open;
-//! [`sealer_of`], [`sending_of`] and [`receiving_of`] make the two ends of a lane from the job. Each
-//! command answers the exit status, or the [`Fault`] that ended it.
+//! [`sealer_of`], [`sending_of`] and [`receiving_of`] make the two ends of a lane from the job.
+//! Each command answers the exit status, or the [`Fault`] that ended it.
 //!
 //! ```text
 //! let job = read_job(alloc, &read_all(alloc, &mut reader)?, Command::Open)?;

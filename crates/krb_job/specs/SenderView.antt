@@ -7,7 +7,8 @@ use Rattle.krb_job.specs.declared.parts.Parties.{Parties as ReadParties}
 use Rattle.krb_job.specs.SenderKeys.{Sender, Protection, Parties}
 
 abbrev pub protection_view : ReadProtection → Protection
-protection_view p = record { etype = number_of p.etype; key = p.key; mode = p.mode; first = p.first }
+protection_view p =
+    record { etype = number_of p.etype; key = p.key; mode = p.mode; first = p.first }
 
 abbrev pub parties_view : ReadParties → Parties
 parties_view p = record {

@@ -28,7 +28,8 @@ GivesBody b outcome = outcome ≡ Ok b
 -- The outcome of a deciphered text and the code after its cipher.
 abbrev pub AuthenticText : List ℕ → List ℕ → List ℕ → Authenticity → Type 0
 AuthenticText key text tag outcome =
-    Passes (text_checks key text tag) (Read SpellsPart (drop confounder_size text) GivesBody) outcome
+    Passes (text_checks key text tag)
+    (Read SpellsPart (drop confounder_size text) GivesBody) outcome
 
 -- The outcome of a message.
 abbrev pub AuthenticMessage : OpenerState → Message → Authenticity → Type 0

@@ -26,7 +26,8 @@ read (Some v) next = next v
 
 -- The text and the code of a cipher.
 abbrev pub text_in : List ℕ → List ℕ → List ℕ
-text_in key cipher = uncts (expanded_key (encryption_key key)) (take (length cipher - code_size) cipher)
+text_in key cipher =
+    uncts (expanded_key (encryption_key key)) (take (length cipher - code_size) cipher)
 
 abbrev pub tag_in : List ℕ → List ℕ
 tag_in cipher = drop (length cipher - code_size) cipher
