@@ -67,14 +67,19 @@ def differences(output):
 
 
 def note(output):
-    """Writes the goal into each edit that names none. Answers how many."""
-    noted = 0
-    for crate, name, goal, _ in reported(output):
+    """Writes the goal into each edit that names none, unless its name was cut. Returns how many
+    were written, and the crate and the name of each mutant whose goal wasn't named whole."""
+    noted, cut = 0, []
+    for crate, name, goal, whole in reported(output):
         path = path_of(crate, name)
-        if path and goal and said(path) is None:
-            with open(path, encoding="utf-8") as file:
-                text = file.read()
-            with open(path, "w", encoding="utf-8") as file:
-                file.write(f"{KEY}{goal}\n{text}")
-            noted += 1
-    return noted
+        if path is None or said(path) is not None:
+            continue
+        if not whole:
+            cut.append(f"{crate}/{name}")
+            continue
+        with open(path, encoding="utf-8") as file:
+            text = file.read()
+        with open(path, "w", encoding="utf-8") as file:
+            file.write(f"{KEY}{goal}\n{text}")
+        noted += 1
+    return noted, cut
