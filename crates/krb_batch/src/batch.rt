@@ -13,7 +13,7 @@ use std::error::Error;
 use std::fmt;
 
 /// The first byte of a batch.
-const BATCH_TAG: u8 = 0x42;
+pub const BATCH_TAG: u8 = 0x42;
 
 /// Why [`read_batch`] gives no batch.
 #[derive(Clone, Copy, Debug, PartialEq, Eq)]

@@ -1,17 +1,14 @@
 -- What a log keeps beside its entries.
 use Rattle.std.specs.Prelude.{◌≡◌, ℕ, ◌+◌, ◌<◌, ◌≤◌, ◌==◌, Bool, false, List, [], ◌∷◌, ◌++◌}
-use Rattle.std.specs.Prelude.{slice_index_or, if◌then◌else◌}
+use Rattle.std.specs.Prelude.{slice_index_or, map, if◌then◌else◌}
 use Rattle.krb_base.specs.Limits.{lane_limit}
 use Rattle.krb_peers.specs.declared.log.Event.{Event}
-use Rattle.krb_peers.specs.declared.log.Event.TheVariants.{Text, Closed, Refused}
 use Rattle.krb_peers.specs.declared.log.Entry.{Entry}
-use Rattle.krb_peers.specs.Log.{is_closed}
+use Rattle.krb_peers.specs.Log.{is_closed, texts_in}
 
 -- the place of an event, if it is a text
 abbrev pub text_place : ℕ → Event → List ℕ
-text_place place (Text text) = place ∷ []
-text_place place Closed = []
-text_place place (Refused refusal) = []
+text_place place event = map (λ text. place) (texts_in (event ∷ []))
 
 -- the places of a lane's texts among entries, of which the first is at this place
 abbrev pub places_from : ℕ → ℕ → List Entry → List ℕ

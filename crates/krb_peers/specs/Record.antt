@@ -1,17 +1,45 @@
 -- The records of the relay: what the user data of a message is. Their format is this project's own.
-use Rattle.std.specs.Prelude.{◌≡◌, ℕ, Bool, true, false, ◌≤◌, List, [], ◌∷◌, length, codes}
+use Rattle.std.specs.Prelude.{◌≡◌, ℕ, ◌==◌, Bool, true, false, ◌≤◌, List, [], ◌∷◌, length, codes}
+use Rattle.std.specs.Prelude.{Option, Some, None, if◌then◌else◌}
 use Rattle.krb_batch.specs.Batch.{IsBatch, spelling}
 use Rattle.krb_peers.specs.declared.record.Record.{Record}
 use Rattle.krb_peers.specs.declared.record.Record.TheVariants.{Text, Batch, Close}
+use Rattle.krb_peers.specs.declared.record.RecordKind.{RecordKind}
+use Rattle.krb_peers.specs.declared.record.RecordKind.TheVariants as kinds
 use Rattle.krb_peers.specs.declared.record.RecordError.{RecordError}
 use Rattle.krb_peers.specs.declared.record.RecordError.TheVariants.{BadRecord, Memory}
 use Rattle.krb_base.specs.Limits.{text_limit}
 
+-- the kind of a record
+abbrev pub kind_of : Record → RecordKind
+kind_of (Text text) = kinds.Text
+kind_of (Batch texts) = kinds.Batch
+kind_of Close = kinds.Close
+
+-- the number of a kind
+abbrev pub number_of : RecordKind → ℕ
+number_of kinds.Text = 1
+number_of kinds.Batch = 2
+number_of kinds.Close = 3
+
+-- the kind that has a number, if one has it
+abbrev pub kind_of_number : ℕ → Option RecordKind
+kind_of_number number =
+    if number == number_of kinds.Text then Some kinds.Text else
+    if number == number_of kinds.Batch then Some kinds.Batch else
+    if number == number_of kinds.Close then Some kinds.Close else None
+
+-- the first byte of the records of a kind
+abbrev pub tag_of : RecordKind → ℕ
+tag_of kinds.Text = 0x44
+tag_of kinds.Batch = 0x42
+tag_of kinds.Close = 0x43
+
 -- the bytes of a record: 44 and the text, those of the batch, or the single byte 43 (hexadecimal)
 abbrev pub bytes_of : Record → List ℕ
-bytes_of (Text text) = 0x44 ∷ text
+bytes_of (Text text) = tag_of kinds.Text ∷ text
 bytes_of (Batch texts) = spelling texts
-bytes_of Close = 0x43 ∷ []
+bytes_of Close = tag_of kinds.Close ∷ []
 
 -- the texts that a record carries, in order
 abbrev pub texts_of : Record → List (List ℕ)

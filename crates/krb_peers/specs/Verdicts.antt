@@ -13,6 +13,7 @@ use Rattle.krb_seal.specs.Opens.{Outcome, OpenerState, Opens}
 use Rattle.krb_seal.specs.Opening.{opens}
 use Rattle.krb_peers.specs.declared.record.Record.{Record}
 use Rattle.krb_peers.specs.declared.record.Record.TheVariants as records
+use Rattle.krb_peers.specs.declared.record.RecordKind.TheVariants as kinds
 use Rattle.krb_peers.specs.declared.delivery.Delivery.{Delivery}
 use Rattle.krb_peers.specs.declared.delivery.Delivery.TheVariants.{Text, Batch, Closed}
 use Rattle.krb_peers.specs.declared.log.Event.{Event}
@@ -20,7 +21,7 @@ use Rattle.krb_peers.specs.declared.log.Event.TheVariants as events
 use Rattle.krb_peers.specs.Demand.{Demand}
 use Rattle.krb_peers.specs.Order.{demand_after}
 use Rattle.krb_peers.specs.ReceiverState.{ReceiverState}
-use Rattle.krb_peers.specs.Record.{SpellsRecord}
+use Rattle.krb_peers.specs.Record.{SpellsRecord, tag_of}
 use Rattle.krb_peers.specs.Log.{texts_in}
 use Rattle.krb_peers.specs.Sender.{moment_at}
 
@@ -119,8 +120,8 @@ AllBytes (frame ∷ frames) = AreBytes frame × AllBytes frames
 abbrev pub delivery_in : List ℕ → Option Delivery
 delivery_in [] = None
 delivery_in (tag ∷ rest) =
-    if (tag == 0x44) && nat_le (length rest) text_limit then Some (Text rest)
-    else (if (tag == 0x43) && (length rest == 0) then Some Closed
+    if (tag == tag_of kinds.Text) && nat_le (length rest) text_limit then Some (Text rest)
+    else (if (tag == tag_of kinds.Close) && (length rest == 0) then Some Closed
     else option_map Batch (batch_in (tag ∷ rest)))
 
 abbrev pub judged : Option Delivery → Verdict

@@ -1,5 +1,10 @@
 //! What a receiver delivers.
 
+ghost use Rattle.std.specs.Prelude.{◌≡◌};
+ghost use Rattle.krb_peers.specs.Record.{is_close};
+ghost use Rattle.krb_peers.specs.Verdicts.{record_of};
+
+use crate::record::Record;
 use krb_base::Bytes;
 use krb_batch::Texts;
 
@@ -12,4 +17,25 @@ pub enum Delivery {
     Batch(Texts),
     /// The close: nothing more is accepted.
     Closed,
+}
+
+impl Delivery {
+    /// Whether it is the close.
+    pub(crate) fn is_close(&self) -> bool
+        ensures { result ≡ is_close (record_of self.now) }
+    {
+        matches!(self, Delivery::Closed)
+    }
+}
+
+impl From<Record> for Delivery {
+    ghost from_gives = { λ carried delivery. carried ≡ record_of delivery };
+
+    fn from(carried: Record) -> Delivery {
+        match carried {
+            Record::Text(text) => Delivery::Text(text),
+            Record::Batch(texts) => Delivery::Batch(texts),
+            Record::Close => Delivery::Closed,
+        }
+    }
 }

@@ -49,6 +49,6 @@ pub use order::{Order, OrderRefusal};
 pub use plan::{Emit, EmitError};
 pub use receiver::{Receiver, Receiving};
 pub use receivers::{Receivers, wipe_receivers};
-pub use record::{Record, RecordError, read_record, record_bytes};
+pub use record::{Record, RecordError, RecordKind, read_record, record_bytes};
 pub use sending::{Ending, Sending, Sent};
 pub use start::{StartError, emit_sealed};

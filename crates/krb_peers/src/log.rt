@@ -4,7 +4,9 @@ ghost use Rattle.std.specs.Prelude.{◌≡◌, ◌<◌, ◌≤◌, ◌+◌, ◌+
 ghost use Rattle.std.specs.List.{range_with_len};
 ghost use Rattle.krb_base.specs.Limits.{lane_limit};
 ghost use Rattle.krb_peers.specs.Log.{texts_of, is_closed, status_of, entries_for, appended, appended_all, ended_at, MayFollow};
+ghost use Rattle.krb_peers.specs.Logged.{noted, MayBeNoted};
 
+use crate::delivery::Delivery;
 use krb_base::{Bytes, LANE_LIMIT};
 use krb_batch::Texts;
 use krb_seal::Refusal;
@@ -130,6 +132,28 @@ impl Log {
         add_places(places, place, count);
         add_texts(&mut self.entries, lane, texts.into_vec());
         Ok(())
+    }
+
+    /// Appends what a verdict on a frame of `lane` brings: an event, or one for each text of a batch.
+    ///
+    /// The lane's number is below that of the lanes. After a close only refusals may come. Out of
+    /// memory is the only error, and changes nothing.
+    pub(crate) fn note(
+        &mut self,
+        lane: u32,
+        verdict: Result<Delivery, Refusal>,
+    ) -> Result<(), AllocError>
+        requires lane { lane < self.old.lanes }
+        requires open { MayBeNoted verdict lane self.old.entries }
+        ensures ok { OnOk result (self.new ≡ noted self.old lane verdict) }
+        ensures err { OnErr result (self.new ≡ self.old) }
+    {
+        match verdict {
+            Ok(Delivery::Text(text)) => self.push(lane, Event::Text(text)),
+            Ok(Delivery::Batch(texts)) => self.push_batch(lane, texts),
+            Ok(Delivery::Closed) => self.push(lane, Event::Closed),
+            Err(refusal) => self.push(lane, Event::Refused(refusal)),
+        }
     }
 
     /// Notes that `lane` has ended. No entry is added.

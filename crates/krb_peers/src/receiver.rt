@@ -7,12 +7,12 @@ ghost use Rattle.krb_peers.specs.Sender.{moment_at};
 ghost use Rattle.krb_peers.specs.Verdicts.{IsVerdict, record_of};
 ghost use Rattle.krb_peers.specs.Order.{first_demand};
 ghost use Rattle.krb_peers.specs.Receiver.{verdict_by, IsJudgement, TakesMemory, receiver_behind, advanced};
-ghost use Rattle.krb_peers.specs.Logged.{noted, MayBeNoted, IsShut, LogsNext};
+ghost use Rattle.krb_peers.specs.Logged.{noted, IsShut, LogsNext};
 
 use crate::delivery::Delivery;
-use crate::log::{Event, Log};
+use crate::log::Log;
 use crate::order::Order;
-use crate::record::{Record, RecordError, into_record};
+use crate::record::{RecordError, into_record};
 use krb_der::Moment;
 use krb_seal::{Opener, Refusal};
 use std::alloc::{AllocError, Global};
@@ -99,7 +99,7 @@ impl Receiver {
         ensures err { OnErr result (self.new ≡ self.old) }
     {
         let delivery = self.judge(alloc, frame, now)?;
-        self.advance(matches!(delivery, Delivery::Closed));
+        self.advance(delivery.is_close());
         Ok(delivery)
     }
 
@@ -134,11 +134,11 @@ impl Receiver {
         let verdict = self.verdict_on(alloc, frame, now)?;
         match verdict {
             Ok(delivery) => {
-                let close = matches!(delivery, Delivery::Closed);
-                note(log, lane, Ok(delivery))?;
+                let close = delivery.is_close();
+                log.note(lane, Ok(delivery))?;
                 self.advance(close);
             }
-            Err(refusal) => note(log, lane, Err(refusal))?,
+            Err(refusal) => log.note(lane, Err(refusal))?,
         }
         Ok(())
     }
@@ -185,16 +185,11 @@ impl Receiver {
         }
         let number = self.order.expected();
         let user_data = self.opener.unseal(alloc, frame, number, now)?;
-        let record = match into_record(alloc, user_data) {
-            Ok(record) => record,
-            Err(RecordError::BadRecord) => return Err(Refusal::BadRecord),
-            Err(RecordError::Memory) => return Err(Refusal::Memory),
-        };
-        Ok(match record {
-            Record::Text(text) => Delivery::Text(text),
-            Record::Batch(texts) => Delivery::Batch(texts),
-            Record::Close => Delivery::Closed,
-        })
+        match into_record(alloc, user_data) {
+            Ok(record) => Ok(Delivery::from(record)),
+            Err(RecordError::BadRecord) => Err(Refusal::BadRecord),
+            Err(RecordError::Memory) => Err(Refusal::Memory),
+        }
     }
 
     /// Moves on after what [`judge`](Receiver::judge) delivered: the next number is demanded, and a
@@ -204,20 +199,5 @@ impl Receiver {
         ensures { self.new ≡ advanced self.old close }
     {
         self.order.advance(close);
-    }
-}
-
-/// Enters in the log what a verdict on a frame of `lane` brings.
-fn note(log: &mut Log, lane: u32, verdict: Result<Delivery, Refusal>) -> Result<(), AllocError>
-    requires lane { lane < log.old.lanes }
-    requires open { MayBeNoted verdict lane log.old.entries }
-    ensures ok { OnOk result (log.new ≡ noted log.old lane verdict) }
-    ensures err { OnErr result (log.new ≡ log.old) }
-{
-    match verdict {
-        Ok(Delivery::Text(text)) => log.push(lane, Event::Text(text)),
-        Ok(Delivery::Batch(texts)) => log.push_batch(lane, texts),
-        Ok(Delivery::Closed) => log.push(lane, Event::Closed),
-        Err(refusal) => log.push(lane, Event::Refused(refusal)),
     }
 }

@@ -4,10 +4,11 @@ ghost use Rattle.std.specs.Prelude.{◌≡◌, ◌≢◌, ◌↔◌, ◌≤◌, 
 ghost use Rattle.krb_base.specs.Limits.{text_limit};
 ghost use Rattle.krb_batch.specs.Batch.{SpellsBatch};
 ghost use Rattle.krb_peers.specs.Record.{FitsLimits, SpellsRecord, bytes_of, code_of, words_of};
+ghost use Rattle.krb_peers.specs.Record.{kind_of, kind_of_number, number_of, tag_of};
 ghost use Rattle.krb_peers.specs.Sender.{record_for};
 
 use krb_base::{Bytes, TEXT_LIMIT, cut_out};
-use krb_batch::{BatchError, Texts, batch_bytes, read_batch};
+use krb_batch::{BATCH_TAG, BatchError, Texts, batch_bytes, read_batch};
 use std::alloc::{AllocError, Global};
 use std::error::Error;
 use std::fmt;
@@ -28,6 +29,66 @@ pub enum Record {
     Batch(Texts),
     /// The close: no text follows.
     Close,
+}
+
+impl Record {
+    /// Its kind.
+    pub fn kind(&self) -> RecordKind
+        ensures { result ≡ kind_of self.now }
+    {
+        match self {
+            Record::Text(_) => RecordKind::Text,
+            Record::Batch(_) => RecordKind::Batch,
+            Record::Close => RecordKind::Close,
+        }
+    }
+}
+
+/// The kinds of records.
+#[derive(Clone, Copy, Debug, PartialEq, Eq)]
+pub enum RecordKind {
+    /// A text.
+    Text,
+    /// A batch.
+    Batch,
+    /// The close.
+    Close,
+}
+
+impl RecordKind {
+    /// The kind that has this number, if one has it.
+    pub fn from_number(number: u32) -> Option<RecordKind>
+        ensures { result ≡ kind_of_number number }
+    {
+        match number {
+            1 => Some(RecordKind::Text),
+            2 => Some(RecordKind::Batch),
+            3 => Some(RecordKind::Close),
+            _ => None,
+        }
+    }
+
+    /// Its number, which C programs use: 1, 2 or 3.
+    pub fn number(self) -> u32
+        ensures { result ≡ number_of self }
+    {
+        match self {
+            RecordKind::Text => 1,
+            RecordKind::Batch => 2,
+            RecordKind::Close => 3,
+        }
+    }
+
+    /// The first byte of its records: 44, 42 or 43 (hexadecimal).
+    pub fn tag(self) -> u8
+        ensures { result ≡ tag_of self }
+    {
+        match self {
+            RecordKind::Text => TEXT_TAG,
+            RecordKind::Batch => BATCH_TAG,
+            RecordKind::Close => CLOSE_TAG,
+        }
+    }
 }
 
 /// Why [`read_record`] gives no record.

@@ -8,7 +8,6 @@ use Rattle.krb_peers.specs.ReceiverState.{ReceiverState}
 use Rattle.krb_peers.proofs.NumberLemmas.{opens_in_range}
 use Rattle.krb_peers.proofs.ReceiverLemmas.{opened_is, refused_is, carried_is}
 use Rattle.krb_peers.proofs.receiver.Receiver.judge.Goals as goal
-use Rattle.krb_peers.proofs.receiver.Receiver.judge.Goals.{in-Text, in-Batch, in-Close}
 
 pub returns-in_err-user_data-clause-verdict : goal.returns-in_err-user_data-clause-verdict
 returns-in_err-user_data-clause-verdict c =
@@ -18,25 +17,19 @@ returns-in_err-user_data-clause-verdict c =
     rw (p.1, p.2, ← c.self.view_is)
     (refused_is receiver c.expected-number.result c.args.now c.args.frame.now c.unseal.result c.in_err-user_data.field-0.0 live c.expected-number.ensures.number c.unseal.ensures.answer c.in_err-user_data.was)
 
-pub returns-clause-verdict : goal.returns-clause-verdict
-returns-clause-verdict c =
+pub returns-in-Ok-clause-verdict : goal.returns-in-Ok-clause-verdict
+returns-in-Ok-clause-verdict c =
     let receiver : ReceiverState = record { opener = c.self.inside.opener; demand = c.self.inside.order } in
     let live : receiver.demand.closed ≡ false = search rules in
     let user = c.in_ok-user_data.user_data in
     let opened : Opens receiver.opener c.expected-number.result c.args.now c.args.frame.now (Ok user.items) =
     opened_is receiver.opener c.expected-number.result c.args.now c.args.frame.now c.unseal.result user c.unseal.ensures.answer c.in_ok-user_data.was in
     let spelled : SpellsRecord c.in-Ok.record user.items = search rules in
-    elim c.match-record.branch [
-      | in-Text w ↦ rw (w.result-is, ← c.self.view_is)
-          (carried_is receiver c.expected-number.result c.args.now c.args.frame.now user.items c.in-Ok.record _ live c.expected-number.ensures.number opened spelled w.in-Text.is)
-      | in-Batch w ↦ rw (w.result-is, ← c.self.view_is)
-          (carried_is receiver c.expected-number.result c.args.now c.args.frame.now user.items c.in-Ok.record _ live c.expected-number.ensures.number opened spelled w.in-Batch.is)
-      | in-Close w ↦ rw (w.result-is, ← c.self.view_is)
-          (carried_is receiver c.expected-number.result c.args.now c.args.frame.now user.items c.in-Ok.record _ live c.expected-number.ensures.number opened spelled w.in-Close.is)
-    ]
+    rw (← c.self.view_is)
+    (carried_is receiver c.expected-number.result c.args.now c.args.frame.now user.items c.in-Ok.record _ live c.expected-number.ensures.number opened spelled c.from.ensures)
 
-pub returns-clause-in_range : goal.returns-clause-in_range
-returns-clause-in_range c =
+pub returns-in-Ok-clause-in_range : goal.returns-in-Ok-clause-in_range
+returns-in-Ok-clause-in_range c =
     let opened : Opens c.self.inside.opener c.expected-number.result c.args.now c.args.frame.now (Ok c.in_ok-user_data.user_data.items) =
     opened_is c.self.inside.opener c.expected-number.result c.args.now c.args.frame.now c.unseal.result c.in_ok-user_data.user_data c.unseal.ensures.answer c.in_ok-user_data.was in
     let small = opens_in_range c.self.inside.opener c.expected-number.result c.args.now c.args.frame.now c.in_ok-user_data.user_data.items opened in
