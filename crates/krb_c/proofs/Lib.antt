@@ -1,6 +1,5 @@
 mod Values
 mod HeldBox
-mod RecordLemmas
 mod ReceiverLemmas
 mod Pairs
 mod Codes

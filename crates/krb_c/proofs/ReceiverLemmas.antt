@@ -1,5 +1,5 @@
 -- What taking a frame gives, from what opening it and reading its record give.
-use Rattle.std.proofs.Common.{◌≡◌, ℕ, ◌+◌, ◌<◌, Bool, false, nat_eq, List, length, Result, Ok, Err, refl, sym, ap, subst, inl, inr}
+use Rattle.std.proofs.Common.{◌≡◌, ℕ, ◌+◌, ◌<◌, Bool, true, false, List, length, Result, Ok, Err, refl, sym, ap, subst, inl, inr}
 use Rattle.std.specs.Prelude.{◌⊎◌, IfErr, IsErrAnd}
 use Rattle.std.specs.Global.{Vec}
 use Rattle.krb_seal.specs.declared.refusal.Refusal.{Refusal}
@@ -8,14 +8,16 @@ use Rattle.krb_seal.specs.Opens.{Outcome, Opens}
 use Rattle.krb_seal.specs.Unseals.{OrMemory}
 use Rattle.krb_peers.specs.declared.record.Record.{Record}
 use Rattle.krb_peers.specs.declared.record.Record.TheVariants.{Text, Batch, Close}
-use Rattle.krb_peers.specs.Record.{is_close}
+use Rattle.krb_peers.specs.declared.record.RecordKind.{RecordKind}
+use Rattle.krb_peers.specs.declared.record.RecordKind.TheVariants as kinds
+use Rattle.krb_peers.specs.Record.{is_close, kind_of}
 use Rattle.krb_peers.specs.ReceiverState.{ReceiverState}
 use Rattle.krb_peers.specs.Receiver.{advanced}
 use Rattle.krb_peers.specs.Verdicts.{IsNoRecord}
 use Rattle.krb_c.specs.declared.fault.Fault.{Fault}
 use Rattle.krb_c.specs.declared.fault.Fault.TheVariants.{Refused, Room}
 use Rattle.krb_c.specs.Reasons.{TakeReason}
-use Rattle.krb_c.specs.Record.{Accepts, IsRecordOf, kind_of}
+use Rattle.krb_c.specs.Record.{Accepts, IsRecordOf}
 
 is_memory : (r : Refusal) → ◌≡◌ {A = Result (Vec ℕ) Refusal} (Err r) (Err Memory) → r ≡ Memory
 is_memory r e = cc
@@ -37,23 +39,29 @@ take_no_record s now frame room user r (Ok x) live h n p = absurd p
 take_no_record s now frame room user r (Err f) live h (inl n) p = inl (r, p, inr (inr (live, inr (user, h, n.1, n.0))))
 take_no_record s now frame room user r (Err f) live h (inr n) p = inl (r, p, inl n)
 
-is_closing : (kind : ℕ) (r : Record) → kind ≡ kind_of r → nat_eq kind 3 ≡ is_close r
-is_closing kind (Text text) e = ap (λ (k : ℕ). nat_eq k 3) e
-is_closing kind (Batch texts) e = ap (λ (k : ℕ). nat_eq k 3) e
-is_closing kind Close e = ap (λ (k : ℕ). nat_eq k 3) e
+-- whether a kind is that of the close
+abbrev pub closes : RecordKind → Bool
+closes kinds.Text = false
+closes kinds.Batch = false
+closes kinds.Close = true
 
-abbrev pub taken : ReceiverState → ℕ → ReceiverState
-taken s kind = record { opener = s.opener; demand = record { expected = s.demand.expected + 1; closed = nat_eq kind 3 } }
+pub closes-kind : (kind : RecordKind) (r : Record) → kind ≡ kind_of r → closes kind ≡ is_close r
+closes-kind kind (Text text) e = ap closes e
+closes-kind kind (Batch texts) e = ap closes e
+closes-kind kind Close e = ap closes e
+
+abbrev pub taken : ReceiverState → Bool → ReceiverState
+taken s closed = record { opener = s.opener; demand = record { expected = s.demand.expected + 1; closed = closed } }
 
 advanced_is : (s : ReceiverState) (a b : Bool) → a ≡ b → ◌≡◌ {A = ReceiverState} (record { opener = s.opener; demand = record { expected = s.demand.expected + 1; closed = a } }) (advanced s b)
 advanced_is s a b e = ap (λ (z : Bool). advanced s z) e
 
-pub accepts_of : (s : ReceiverState) (now : ℕ) (frame : List ℕ) (kind : ℕ) (body written user : List ℕ) (r : Record) → s.demand.closed ≡ false
-    → Opens s.opener s.demand.expected now frame (Ok user) → IsRecordOf kind body r user → written ≡ body → Accepts s now frame kind written (taken s kind)
-accepts_of s now frame kind body written user r live h is same =
-    (live, (r, (user, h, subst (λ (z : List ℕ). IsRecordOf kind z r user) (sym same) is, advanced_is s (nat_eq kind 3) (is_close r) (is_closing kind r is.kind_is))))
+pub accepts_of : (s : ReceiverState) (now : ℕ) (frame : List ℕ) (kind : ℕ) (body written user : List ℕ) (r : Record) (closed : Bool) → s.demand.closed ≡ false
+    → Opens s.opener s.demand.expected now frame (Ok user) → IsRecordOf kind body r user → written ≡ body → closed ≡ is_close r → Accepts s now frame kind written (taken s closed)
+accepts_of s now frame kind body written user r closed live h is same closing =
+    (live, (r, (user, h, subst (λ (z : List ℕ). IsRecordOf kind z r user) (sym same) is, advanced_is s closed (is_close r) closing)))
 
 pub take_no_room : (s : ReceiverState) (now : ℕ) (frame : List ℕ) (room kind : ℕ) (body user : List ℕ) (r : Record) → s.demand.closed ≡ false
     → Opens s.opener s.demand.expected now frame (Ok user) → IsRecordOf kind body r user → room < length body → TakeReason s now frame room Room
 take_no_room s now frame room kind body user r live h is short =
-    inr (refl, (kind, (body, (taken s kind, accepts_of s now frame kind body body user r live h is refl, short))))
+    inr (refl, (kind, (body, (taken s (is_close r), accepts_of s now frame kind body body user r (is_close r) live h is refl refl, short))))

@@ -1,42 +1,22 @@
--- Records as C sees them: the kind of one, and its bytes after the first.
-use Rattle.std.specs.Prelude.{◌≡◌, ℕ, false, List, ◌∷◌, Option, Some, None, Ok, nat_eq}
-use Rattle.std.specs.Prelude.{if◌then◌else◌}
+-- Records as C sees them: the number of one's kind, and its bytes after the first.
+use Rattle.std.specs.Prelude.{◌≡◌, ℕ, false, List, ◌∷◌, Option, Some, None, Ok}
 use Rattle.krb_seal.specs.Opens.{Opens}
 use Rattle.krb_seal.specs.Sealer.{SealerState, SealsNext}
 use Rattle.krb_peers.specs.declared.record.Record.{Record}
-use Rattle.krb_peers.specs.declared.record.Record.TheVariants.{Text, Batch, Close}
-use Rattle.krb_peers.specs.Record.{SpellsRecord, is_close}
+use Rattle.krb_peers.specs.Record.{SpellsRecord, is_close, kind_of, number_of, tag_of}
 use Rattle.krb_peers.specs.ReceiverState.{ReceiverState}
 use Rattle.krb_peers.specs.Receiver.{advanced}
 
-abbrev pub kind_of : Record → ℕ
-kind_of (Text text) = 1
-kind_of (Batch texts) = 2
-kind_of Close = 3
-
--- the first byte of a record of this kind
-abbrev pub tag_of : Record → ℕ
-tag_of (Text text) = 0x44
-tag_of (Batch texts) = 0x42
-tag_of Close = 0x43
-
--- the user data are those of a record of this kind, and the body is what follows their first byte
+-- the user data are those of a record whose kind has this number, and the body is what follows
+-- their first byte
 pub record IsRecordOf (kind : ℕ) (body : List ℕ) (r : Record) (user : List ℕ) : Type 0 where
   pub spelt : SpellsRecord r user
-  pub kind_is : kind ≡ kind_of r
-  pub body_is : user ≡ tag_of r ∷ body
+  pub kind_is : kind ≡ number_of (kind_of r)
+  pub body_is : user ≡ tag_of (kind_of r) ∷ body
 
 -- nothing is such a record
 abbrev pub IsNoRecordOf : ℕ → List ℕ → Type 0
 IsNoRecordOf kind body = (r : Record) (user : List ℕ) → IsRecordOf kind body r user → ⊥
-
--- the first byte of the records of a kind
-abbrev pub tag_at : ℕ → Option ℕ
-tag_at kind =
-    if nat_eq kind 1 then Some 0x44
-    else if nat_eq kind 2 then Some 0x42
-    else if nat_eq kind 3 then Some 0x43
-    else None
 
 -- the bytes seal such a record at the sealer's next number
 abbrev pub SealsRecord : SealerState → ℕ → List ℕ → ℕ → List ℕ → List ℕ → Type 0

@@ -10,8 +10,9 @@ ghost use Rattle.krb_c.specs.Wipeable.{IsWipedReceiver};
 use crate::buffer::put_front;
 use crate::fault::Fault;
 use crate::held::Wipe;
-use crate::record::{CLOSE, record_kind};
+use crate::record::record_kind;
 use krb_der::Moment;
+use krb_peers::RecordKind;
 use krb_seal::{Opener, Refusal};
 use std::alloc::Global;
 use std::marker::Model;
@@ -95,9 +96,10 @@ impl LaneReceiver {
             return Err(Fault::Room);
         }
         put_front(out, body);
+        let closes = matches!(kind, RecordKind::Close);
         self.expected += 1;
-        self.closed = kind == CLOSE;
-        Ok((kind, body.len()))
+        self.closed = closes;
+        Ok((kind.number(), body.len()))
     }
 }
 

@@ -1,6 +1,6 @@
 use crate::asserts::{assert_displayed, assert_same};
 use krb_base::USER_DATA_LIMIT;
-use krb_peers::{Record, RecordError, read_record, record_bytes};
+use krb_peers::{Record, RecordError, RecordKind, read_record, record_bytes};
 use std::alloc::Global;
 
 fn is_text(record: &Record, text: &[u8]) -> bool {
@@ -124,4 +124,30 @@ fn errors_have_numbers_and_words(rt: HostRuntime) {
         assert_same(&rt, error.code(), code);
         assert_displayed(&rt, error, words);
     }
+}
+
+/// The kind of the bytes' record, its number, its first byte, and the kind that has this number.
+fn kind_at(
+    alloc: Global,
+    bytes: &[u8],
+) -> Result<(RecordKind, u32, u8, Option<RecordKind>), RecordError> {
+    let kind = read_record(alloc, bytes)?.kind();
+    let number = kind.number();
+    Ok((kind, number, kind.tag(), RecordKind::from_number(number)))
+}
+
+#[test]
+fn kinds(rt: HostRuntime) {
+    let batch = [0x42, 0, 0, 0, 1, 0x61, 0, 0, 0, 0];
+    let found = kind_at(rt.alloc(), &[0x44, 0x68, 0x69]);
+    let text = RecordKind::Text;
+    assert_same(&rt, found, Ok((text, 1, 0x44, Some(text))));
+    let found = kind_at(rt.alloc(), &batch);
+    let batch = RecordKind::Batch;
+    assert_same(&rt, found, Ok((batch, 2, 0x42, Some(batch))));
+    let found = kind_at(rt.alloc(), &[0x43]);
+    let close = RecordKind::Close;
+    assert_same(&rt, found, Ok((close, 3, 0x43, Some(close))));
+    assert_same(&rt, RecordKind::from_number(0), None);
+    assert_same(&rt, RecordKind::from_number(4), None);
 }
