@@ -1,5 +1,6 @@
 -- The senders one after another.
-use Rattle.std.proofs.Common.{◌≡◌, ℕ, ◌+◌, ◌<◌, List, [], ◌∷◌, ◌++◌, length, drop, map, get_or, refl, sym, ap, ◌∙◌, append_assoc, Result, Ok, Err}
+use Rattle.std.proofs.Common.{◌≡◌, ℕ, ◌+◌, ◌<◌, List, [], ◌∷◌, ◌++◌, length, drop, map, get_or, All, refl, sym, ap, ◌∙◌, append_assoc, Result, Ok, Err}
+use Rattle.std.proofs.lemmas.List.Elements.{All-nil, All-cons, All-append}
 use Rattle.toml.specs.View.{view, items_view}
 use Rattle.toml.specs.declared.value.Value.{Value}
 use Rattle.toml.proofs.Views.{items_view-drop}
@@ -44,3 +45,7 @@ senders_more command vs j v done s within at is so_far =
     let step = senders_at command vs j (keys_of done) v within at ∙ ap (λ r. r >>= λ t. senders_from command (j + 1) (keys_of done ++ t.protection.key ∷ []) (items_view (drop (j + 1) vs)) >>= λ others. Ok (t ∷ others)) is in
     rw (views-more done s, keys_of-more done s)
     (so_far ∙ ap (behind_ok (map sender_view done)) step ∙ behind_ok-one (map sender_view done) (sender_view s) (senders_from command (j + 1) (keys_of done ++ s.key ∷ []) (items_view (drop (j + 1) vs))))
+
+-- what holds of each before, and of one more
+pub All-more : {A : Type 0} (P : A → Type 0) (xs : List A) (x : A) → All P xs → P x → All P (xs ++ x ∷ [])
+All-more P xs x before one = All-append P xs (x ∷ []) before (All-cons P x [] one (All-nil P))

@@ -1,10 +1,8 @@
 -- What the checks of a whole job let through keeps its limits.
-use Rattle.std.proofs.Common.{◌≡◌, ◌≤◌, ℕ, ◌+◌, nat_le, pos, negsuc, lit≤, Bool, true, false, ◌&&◌, List, [], ◌∷◌, ◌++◌, length, map, codes, Option, Some, None, Result, Ok, Err, option_map, IsSome, IfOk, All, refl, sym, ap, ◌∙◌, arith}
+use Rattle.std.proofs.Common.{◌≡◌, ◌≤◌, ℕ, ◌+◌, nat_le, pos, negsuc, lit≤, Bool, true, false, ◌&&◌, List, [], ◌∷◌, ◌++◌, length, map, codes, Option, Some, None, Result, Ok, Err, IfOk, refl, sym, ap, ◌∙◌, arith}
 use Rattle.std.proofs.lemmas.Bool.Decides.{nat_tests}
 use Rattle.std.proofs.lemmas.List.{length-map}
-use Rattle.std.proofs.Math.ListN.{get_or-map}
-use Rattle.std.proofs.lemmas.List.Elements.{All-nil, All-cons}
-use Rattle.krb_base.specs.Limits.{batch_limit, capacity_limit, lane_limit}
+use Rattle.krb_base.specs.Limits.{capacity_limit, lane_limit}
 use Rattle.toml.specs.Data.{Data, string, integer, float, boolean, datetime, array, table, Items, no_items, item, Members, get_member}
 use Rattle.krb_job.specs.declared.bad_input.BadInput.{BadInput}
 use Rattle.krb_job.specs.declared.bad_input.JobError.{JobError}
@@ -13,17 +11,13 @@ use Rattle.krb_job.specs.declared.bad_input.BadInput.TheVariants as bad
 use Rattle.krb_job.specs.declared.job.SenderJob.{SenderJob}
 use Rattle.krb_job.specs.declared.job.Command.{Command}
 use Rattle.krb_job.specs.declared.job.Command.TheVariants.{Seal, Open, Relay}
-use Rattle.krb_job.specs.declared.place.Place.{Place}
-use Rattle.krb_job.specs.declared.place.Place.TheVariants.{Seed, At, Now, Texts, Batch, Plan, Frames}
 use Rattle.krb_job.specs.Checks.{◌>>=◌}
-use Rattle.krb_job.specs.Values.{number_of, seed_of}
-use Rattle.krb_job.specs.Lists.{count, moments_of, texts_of, plan_of, frames_of}
-use Rattle.krb_job.specs.Keys.{needed, optional, some, only_if, has_only}
-use Rattle.krb_job.specs.SenderKeys.{Sender, Protection, Parties, Traffic, seals, opens, sender_of, sender_with, protection_of, parties_of, traffic_of, if_known}
-use Rattle.krb_job.specs.Place.{sender_keys}
-use Rattle.krb_job.specs.Job.{Job, capacity_of, capacity_if_there, are_tables, are_senders, most_senders, senders_if_there, items_of_senders, sender_at, senders_from, in_sender, GivesJob, job_view, has_top_keys, if_top_known, job_of}
+use Rattle.krb_job.specs.Values.{number_of}
+use Rattle.krb_job.specs.Lists.{count}
+use Rattle.krb_job.specs.SenderKeys.{Sender}
+use Rattle.krb_job.specs.Job.{Job, capacity_of, capacity_if_there, are_tables, are_senders, most_senders, senders_if_there, items_of_senders, sender_at, senders_from, GivesJob, job_view, has_top_keys, if_top_known, job_of}
 use Rattle.krb_job.specs.SenderView.{sender_view}
-use Rattle.krb_job.proofs.Given.{checked, given, within, value_at}
+use Rattle.krb_job.proofs.Given.{checked, given, within}
 
 -- a test of both bounds
 between : (low n high : ℕ) → (nat_le low n && nat_le n high) ≡ true → (low ≤ n) × (n ≤ high)
@@ -99,81 +93,9 @@ senders_fit command ms ds senders there read =
     let most = most_senders-≤ command in
     (fits.0, omega arith)
 
--- a seed that was needed is there
-seed-there : (o : Option (List ℕ)) (seed : Option (List ℕ)) → option_map Some o ≡ Some seed → IsSome seed
-seed-there None seed e = absurd cc
-seed-there (Some s) seed e = let same : Some s ≡ seed = cc in rw (← same) refl
-
 -- two values of one answer are one
 value-ok : {A E : Type 0} (x y : A) → ◌≡◌ {A = Result A E} (Ok x) (Ok y) → x ≡ y
 value-ok x y e = cc
-
--- what passed the check of its keys is what was read
-known-ok : (known : Bool) (x s : Sender) → if_known known x ≡ Ok s → x ≡ s
-known-ok true x s e = cc
-known-ok false x s e = absurd cc
-
--- a key of some commands, for one of them
-allowed-ok : {A : Type 0} (allowed : Bool) (place : Place) (r : Result (Option A) Place) (ms : Members) (x : Option A)
-    → allowed ≡ true → only_if allowed None place r ms ≡ Ok x → r ≡ Ok x
-allowed-ok true place r ms x is e = e
-allowed-ok false place r ms x is e = absurd cc
-
--- a sender has a seed where the command seals
-seed_of-traffic : (command : Command) (ms : Members) (t : Traffic) → seals command ≡ true → traffic_of command ms ≡ Ok t → IsSome t.seed
-unfolding traffic_of
-seed_of-traffic command ms t sealing e =
-    let seed = checked (only_if (seals command) None Seed (needed Seed (some seed_of) ms) ms) _ t e in
-    let ats = checked (only_if (seals command) [] At (needed At moments_of ms) ms) _ t seed.2 in
-    let nows = checked (needed Now moments_of ms) _ t ats.2 in
-    let texts = checked (only_if (seals command) [] Texts (needed Texts texts_of ms) ms) _ t nows.2 in
-    let batch = checked (only_if (seals command) 1 Batch (optional 1 Batch (number_of 1 batch_limit) ms) ms) _ t texts.2 in
-    let plan = checked (only_if (seals command) None Plan (optional None Plan (some plan_of) ms) ms) _ t batch.2 in
-    let frames = checked (only_if (opens command) [] Frames (needed Frames frames_of ms) ms) _ t plan.2 in
-    let there = value_at Seed (some seed_of) ms seed.0 (allowed-ok (seals command) Seed (needed Seed (some seed_of) ms) ms seed.0 sealing seed.1) in
-    let same : seed.0 ≡ t.seed = ap (λ (x : Traffic). x.seed) (value-ok _ t frames.2) in
-    rw (← same) (seed-there (seed_of there.0) seed.0 there.1)
-
--- what a sender's parts were made of
-with-ok : (p : Protection) (q : Parties) (r : Result Traffic Place) (s : Sender) → sender_with p q r ≡ Ok s
-    → (t : Traffic) × (r ≡ Ok t) × (let made : Sender = record { protection = p; parties = q; traffic = t } in made ≡ s)
-with-ok p q (Ok t) s e = (t, refl, cc)
-with-ok p q (Err place) s e = absurd cc
-
-seed_of-sender : (command : Command) (earlier : List (List ℕ)) (ms : Members) (s : Sender) → seals command ≡ true → sender_of command earlier ms ≡ Ok s → IsSome s.traffic.seed
-unfolding sender_of
-seed_of-sender command earlier ms s sealing e =
-    let protection = checked (protection_of earlier ms) _ s e in
-    let parties = checked (parties_of ms) _ s protection.2 in
-    let whole = checked (sender_with protection.0 parties.0 (traffic_of command ms)) _ s parties.2 in
-    let known = known-ok (has_only sender_keys ms) whole.0 s whole.2 in
-    let traffic = with-ok protection.0 parties.0 (traffic_of command ms) whole.0 whole.1 in
-    let same : traffic.0.seed ≡ s.traffic.seed = ap (λ (x : Sender). x.traffic.seed) (traffic.2 ∙ known) in
-    rw (← same) (seed_of-traffic command ms traffic.0 sealing traffic.1)
-
--- what a sender gives is passed on
-in_sender-ok : (j : ℕ) (r : Result Sender Place) (s : Sender) → in_sender j r ≡ Ok s → r ≡ Ok s
-in_sender-ok j (Ok x) s e = let same : x ≡ s = cc in ap Ok same
-in_sender-ok j (Err place) s e = absurd cc
-
-seed_at : (command : Command) (j : ℕ) (earlier : List (List ℕ)) (d : Data) (s : Sender) → seals command ≡ true → sender_at command j earlier d ≡ Ok s → IsSome s.traffic.seed
-seed_at command j earlier (table ms) s sealing e = seed_of-sender command earlier ms s sealing (in_sender-ok j (sender_of command earlier ms) s e)
-seed_at command j earlier (string text) s sealing e = absurd cc
-seed_at command j earlier (integer z) s sealing e = absurd cc
-seed_at command j earlier (float x) s sealing e = absurd cc
-seed_at command j earlier (boolean x) s sealing e = absurd cc
-seed_at command j earlier (datetime dt) s sealing e = absurd cc
-seed_at command j earlier (array ds) s sealing e = absurd cc
-
--- so has each of a list
-seeds_of-senders : (command : Command) (j : ℕ) (earlier : List (List ℕ)) (ds : Items) (senders : List Sender)
-    → seals command ≡ true → senders_from command j earlier ds ≡ Ok senders → All (λ s. IsSome s.traffic.seed) senders
-seeds_of-senders command j earlier no_items senders sealing e = let same : [] ≡ senders = cc in rw (← same) (All-nil (λ s. IsSome s.traffic.seed))
-seeds_of-senders command j earlier (item d ds) senders sealing e =
-    let first = checked (sender_at command j earlier d) (λ s. senders_from command (j + 1) (earlier ++ s.protection.key ∷ []) ds >>= λ others. Ok (s ∷ others)) senders e in
-    let others = checked (senders_from command (j + 1) (earlier ++ first.0.protection.key ∷ []) ds) (λ others. Ok (first.0 ∷ others)) senders first.2 in
-    let same : first.0 ∷ others.0 ≡ senders = cc in
-    rw (← same) (All-cons (λ s. IsSome s.traffic.seed) first.0 others.0 (seed_at command j earlier d first.0 sealing first.1) (seeds_of-senders command (j + 1) (earlier ++ first.0.protection.key ∷ []) ds others.0 sealing others.1))
 
 -- what passed the check of the top keys is what was read
 top_known-ok : (known : Bool) (r : Result (List Sender) BadInput) (senders : List Sender) → if_top_known known r ≡ Ok senders → r ≡ Ok senders
@@ -198,12 +120,6 @@ one_of-job command ms job one e =
     let fits = senders-count command ms parts.0 job.senders parts.1 parts.2 in
     omega arith
 
--- each sender has a seed where the command seals
-seeds_of-job : (command : Command) (ms : Members) (job : Job) → seals command ≡ true → job_of command ms ≡ Ok job → All (λ s. IsSome s.traffic.seed) job.senders
-seeds_of-job command ms job sealing e =
-    let parts = parts_of-job command ms job e in
-    seeds_of-senders command 0 [] parts.0 job.senders sealing parts.2
-
 -- what holds of each job that the checks give holds of the one that was read
 pub of_checks : {X Y : Type 0} (view : X → Y) (r : Result X JobError) (checks : Result Y BadInput) (Q : X → Type 0)
     → GivesJob view r checks → ((x : X) → checks ≡ Ok (view x) → Q x) → IfOk r Q
@@ -213,8 +129,3 @@ of_checks view (Err e) checks Q gives holds = tt
 -- the same of the job that was read
 pub one_read : (command : Command) (ms : Members) (job : ReadJob) → most_senders command ≡ 1 → job_of command ms ≡ Ok (job_view job) → length job.senders.items ≡ 1
 one_read command ms job one e = sym (length-map job.senders.items sender_view) ∙ one_of-job command ms (job_view job) one e
-
-pub seeds_read : (command : Command) (ms : Members) (job : ReadJob) → seals command ≡ true → job_of command ms ≡ Ok (job_view job) → All (λ s. IsSome s.seed) job.senders.items
-seeds_read command ms job sealing e = λ k d there.
-    let seeds = seeds_of-job command ms (job_view job) sealing e k (sender_view d) (rw (length-map job.senders.items sender_view) there) in
-    rw (get_or-map sender_view job.senders.items k d) at seeds

@@ -16,9 +16,9 @@ is_table-as (datetime dt) = refl
 is_table-as (array ds) = refl
 is_table-as (table ms) = refl
 
-pub tables-view : (vs : List Value) → list_all (λ v. is_some (as_table (view v))) vs ≡ are_tables (items_view vs)
-tables-view [] = refl
-tables-view (v ∷ vs) = ap₂ (λ a b. a && b) (is_table-as (view v)) (tables-view vs)
+pub tables_view : (vs : List Value) → list_all (λ v. is_some (as_table (view v))) vs ≡ are_tables (items_view vs)
+tables_view [] = refl
+tables_view (v ∷ vs) = ap₂ (λ a b. a && b) (is_table-as (view v)) (tables_view vs)
 
 pub senders-array : (command : Command) (d : Data) (ds : Items) → as_array d ≡ Some ds
     → senders_if_there command (Some d) ≡ cond (are_senders command ds) (Some ds) None

@@ -1,5 +1,5 @@
 -- One sender of a job: its keys in the order in which they are checked, unknown keys last.
-use Rattle.std.specs.Prelude.{ℕ, ℤ, Bool, true, false, List, [], ◌∷◌, map, Option, None}
+use Rattle.std.specs.Prelude.{ℕ, ℤ, Bool, true, false, List, [], Option, None}
 use Rattle.std.specs.Prelude.{Result, Ok, Err}
 use Rattle.toml.specs.Data.{Members}
 use Rattle.krb_base.specs.Limits.{last_number, skew_limit, batch_limit}

@@ -2,7 +2,6 @@
 
 ghost use Rattle.std.specs.Prelude.{◌≡◌, ok_or, option_map};
 ghost use Rattle.toml.specs.View.{view, array_view, items_view};
-ghost use Rattle.krb_base.specs.Limits.{entries_limit};
 ghost use Rattle.krb_job.specs.Checks.{Gives};
 ghost use Rattle.krb_job.specs.Values.{bytes_of};
 ghost use Rattle.krb_job.specs.Emission.{emission_of};
@@ -51,7 +50,7 @@ pub(crate) fn read_frames(
 ) -> Result<Vec<Bytes>, KeyError>
     ensures { Gives (λ v. v.items) result (ok_or (frames_of (view value.now)) place) }
 {
-    match entries_of(value) {
+    match items_of(value, 0, ENTRIES_LIMIT) {
         Some(items) => each_bytes(alloc, place, items.as_slice(), RAW_LIMIT),
         None => Err(KeyError::Bad(place)),
     }
@@ -61,18 +60,10 @@ pub(crate) fn read_frames(
 pub(crate) fn read_plan(alloc: Global, place: Place, value: &Value) -> Result<Vec<Emit>, KeyError>
     ensures { Gives (λ v. v.items) result (ok_or (plan_of (view value.now)) place) }
 {
-    match entries_of(value) {
+    match items_of(value, 0, ENTRIES_LIMIT) {
         Some(items) => each_emission(alloc, place, items.as_slice()),
         None => Err(KeyError::Bad(place)),
     }
-}
-
-/// The items of a list of at most [`ENTRIES_LIMIT`] items.
-fn entries_of(value: &Value) -> Option<&Array>
-    ensures { option_map (λ v. array_view v.now) result
-        ≡ items_of 0 entries_limit (view value.now) }
-{
-    items_of(value, 0, ENTRIES_LIMIT)
 }
 
 /// The items of a list of `low` to `high` items.

@@ -41,7 +41,9 @@ pub fn read_job(alloc: Global, bytes: &[u8], command: Command) -> Result<Job, Jo
 
 #[tactic(auto, unfolding(crate::specs::Job::job_of))]
 fn read_members(alloc: Global, table: &Table, command: Command) -> Result<Job, JobError>
-    ensures { GivesJob job_view result (job_of command (table_view table.now)) }
+    ensures value { GivesJob job_view result (job_of command (table_view table.now)) }
+    ensures seeds { seals command ≡ true
+        → IfOk result (λ job. All (λ sender. IsSome sender.seed) job.senders.items) }
 {
     let capacity = capacity(table)?;
     let items = sender_items(table, command)?;
@@ -59,8 +61,9 @@ fn read_sender_at(
     item: &Value,
     earlier: &[SenderJob],
 ) -> Result<SenderJob, JobError>
-    ensures { GivesJob sender_view result
+    ensures value { GivesJob sender_view result
         (sender_at command j (keys_of earlier.now) (view item.now)) }
+    ensures seed { seals command ≡ true → IfOk result (λ sender. IsSome sender.seed) }
 {
     let Some(table) = item.as_table() else {
         return Err(JobError::Bad(BadInput::Sender));
@@ -76,8 +79,10 @@ fn read_senders(
     command: Command,
     items: &[Value],
 ) -> Result<Vec<SenderJob>, JobError>
-    ensures { GivesJob (λ v. map sender_view v.items) result
+    ensures value { GivesJob (λ v. map sender_view v.items) result
         (senders_from command 0 [] (items_view items.now)) }
+    ensures seeds { seals command ≡ true
+        → IfOk result (λ senders. All (λ sender. IsSome sender.seed) senders.items) }
 {
     let mut senders = Vec::new(alloc);
     for (j, item) in items.iter().enumerate() {

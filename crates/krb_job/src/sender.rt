@@ -1,6 +1,6 @@
 //! One sender of a job.
 
-ghost use Rattle.std.specs.Prelude.{◌≡◌, ◌≤◌, ◌<◌, map, ok_or, IfOk, option_map};
+ghost use Rattle.std.specs.Prelude.{◌≡◌, ◌≤◌, ◌<◌, true, map, ok_or, IfOk, IsSome, option_map};
 ghost use Rattle.std.specs.List.{list_any};
 ghost use Rattle.std.specs.Str.{bytes_eq};
 ghost use Rattle.toml.specs.View.{view, table_view};
@@ -9,7 +9,7 @@ ghost use Rattle.krb_job.specs.Values.{key_of};
 ghost use Rattle.krb_job.specs.Keys.{needed, has_only};
 ghost use Rattle.krb_job.specs.Place.{sender_keys};
 ghost use Rattle.krb_job.specs.SenderKeys.{protection_of, parties_of, traffic_of, sender_of};
-ghost use Rattle.krb_job.specs.SenderKeys.{sender_with};
+ghost use Rattle.krb_job.specs.SenderKeys.{sender_with, seals};
 ghost use Rattle.krb_job.specs.SenderView.{keys_of, protection_view, parties_view, sender_view};
 
 use crate::job::{Command, SenderJob};
@@ -33,25 +33,7 @@ fn is_used(key: &[u8], earlier: &[SenderJob]) -> bool
     earlier.iter().any(|sender| key == sender.key.as_slice())
 }
 
-fn read_key(
-    alloc: Global,
-    value: &Value,
-    etype: Etype,
-    earlier: &[SenderJob],
-) -> Result<Secret, KeyError>
-    ensures { Gives (λ b. b) result
-        (ok_or (key_of etype (keys_of earlier.now) (view value.now)) Place.Key) }
-{
-    let size = etype.key_size();
-    let bytes = read_bytes(alloc, Place::Key, value, size, size)?;
-    let key = Secret::new(bytes.into_vec());
-    if is_used(key.as_slice(), earlier) {
-        Err(KeyError::Bad(Place::Key))
-    } else {
-        Ok(key)
-    }
-}
-
+/// The key of a sender, which no earlier sender has.
 fn key(
     alloc: Global,
     table: &Table,
@@ -61,7 +43,15 @@ fn key(
     ensures { Gives (λ b. b) result
         (needed Place.Key (key_of etype (keys_of earlier.now)) (table_view table.now)) }
 {
-    read_key(alloc, needed(table, Place::Key)?, etype, earlier)
+    let value = needed(table, Place::Key)?;
+    let size = etype.key_size();
+    let bytes = read_bytes(alloc, Place::Key, value, size, size)?;
+    let key = Secret::new(bytes.into_vec());
+    if is_used(key.as_slice(), earlier) {
+        Err(KeyError::Bad(Place::Key))
+    } else {
+        Ok(key)
+    }
 }
 
 #[tactic(auto, unfolding(crate::specs::SenderKeys::protection_of))]
@@ -120,9 +110,10 @@ fn read_traffic(
     protection: Protection,
     parties: Parties,
 ) -> Result<SenderJob, KeyError>
-    ensures { Gives sender_view result
+    ensures value { Gives sender_view result
         (sender_with (protection_view protection) (parties_view parties)
         (traffic_of command (table_view table.now))) }
+    ensures seed { seals command ≡ true → IfOk result (λ sender. IsSome sender.seed) }
 {
     let seals = command.seals();
     Ok(SenderJob {
@@ -157,8 +148,9 @@ pub(crate) fn read_sender(
     command: Command,
     earlier: &[SenderJob],
 ) -> Result<SenderJob, KeyError>
-    ensures { Gives sender_view result
+    ensures value { Gives sender_view result
         (sender_of command (keys_of earlier.now) (table_view table.now)) }
+    ensures seed { seals command ≡ true → IfOk result (λ sender. IsSome sender.seed) }
 {
     let protection = read_protection(alloc, table, earlier)?;
     let parties = read_parties(alloc, table)?;

@@ -1,6 +1,6 @@
 //! The keys of a table.
 
-ghost use Rattle.std.specs.Prelude.{◌≡◌, ◌≤◌, [], map, option_map, string_bytes, IfOk};
+ghost use Rattle.std.specs.Prelude.{◌≡◌, ◌≤◌, [], true, map, option_map, string_bytes, IfOk, IsSome};
 ghost use Rattle.std.specs.BTreeMap.{keys};
 ghost use Rattle.std.specs.List.{list_all, list_any};
 ghost use Rattle.std.specs.Str.{bytes_eq};
@@ -16,7 +16,7 @@ ghost use Rattle.krb_job.specs.Keys.{at_key, needed, optional, only_if, some, ha
 use crate::address::read_address;
 use crate::lists::{read_frames, read_moments, read_plan, read_texts};
 use crate::place::{KeyError, Place};
-use crate::values::{read_etype, read_flag, read_mode, read_number, read_seed};
+use crate::values::{read_etype, read_mode, read_number, read_seed};
 use krb_base::{BATCH_LIMIT, Bytes};
 use krb_der::{HostAddress, Moment};
 use krb_peers::Emit;
@@ -48,9 +48,10 @@ pub(crate) fn needed(table: &Table, place: Place) -> Result<&Value, KeyError>
 /// The value of a key of some commands alone: it has to be present if it is allowed, and absent if
 /// it isn't.
 fn if_allowed(table: &Table, place: Place, allowed: bool) -> Result<Option<&Value>, KeyError>
-    ensures { Gives (option_map (λ v. view v.now)) result
+    ensures value { Gives (option_map (λ v. view v.now)) result
         (only_if allowed None place (needed place (some Some) (table_view table.now))
         (table_view table.now)) }
+    ensures there { allowed ≡ true → IfOk result (λ value. IsSome value) }
 {
     match entry(table, place) {
         Some(value) if allowed => Ok(Some(value)),
@@ -78,7 +79,7 @@ pub(crate) fn flag(table: &Table, place: Place, absent: bool) -> Result<bool, Ke
     ensures { Gives (λ b. b) result (optional absent place flag_of (table_view table.now)) }
 {
     match entry(table, place) {
-        Some(value) => read_flag(value).ok_or(KeyError::Bad(place)),
+        Some(value) => value.as_bool().ok_or(KeyError::Bad(place)),
         None => Ok(absent),
     }
 }
@@ -96,9 +97,10 @@ pub(crate) fn address(alloc: Global, table: &Table, place: Place) -> Result<Host
 }
 
 pub(crate) fn seed(table: &Table, place: Place, allowed: bool) -> Result<Option<[u8; 32]>, KeyError>
-    ensures { Gives (λ s. s) result
+    ensures value { Gives (λ s. s) result
         (only_if allowed None place (needed place (some seed_of) (table_view table.now))
         (table_view table.now)) }
+    ensures there { allowed ≡ true → IfOk result (λ seed. IsSome seed) }
 {
     match if_allowed(table, place, allowed)? {
         Some(value) => read_seed(value).map(Some).ok_or(KeyError::Bad(place)),

@@ -3,9 +3,9 @@
 ghost use Rattle.std.specs.Prelude.{◌≡◌, nat_le, ◌&&◌, is_some};
 ghost use Rattle.std.specs.List.{list_all};
 ghost use Rattle.toml.specs.Data.{as_table};
-ghost use Rattle.toml.specs.View.{view, items_view, array_view, table_view};
+ghost use Rattle.toml.specs.View.{view, array_view, table_view};
 ghost use Rattle.krb_job.specs.Job.{IsTree, ReadsTree, GivesJob, capacity_of, items_of_senders};
-ghost use Rattle.krb_job.specs.Job.{are_tables, are_senders, most_senders, has_top_keys};
+ghost use Rattle.krb_job.specs.Job.{are_senders, most_senders, has_top_keys};
 
 use crate::bad_input::{BadInput, JobError};
 use crate::job::Command;
@@ -80,17 +80,12 @@ pub(crate) fn sender_items(table: &Table, command: Command) -> Result<&Array, Jo
     }
 }
 
-#[tactic(auto, using(crate::proofs::ListLemmas::count_view))]
+#[tactic(auto, using(crate::proofs::ListLemmas::count_view, crate::proofs::TreeLemmas::tables_view))]
 fn are_senders(items: &Array, command: Command) -> bool
     ensures { result ≡ are_senders command (array_view items.now) }
 {
-    are_tables(items.as_slice()) && is_count(items.len(), command)
-}
-
-fn is_count(count: usize, command: Command) -> bool
-    ensures { result ≡ (nat_le 1 count && nat_le count (most_senders command)) }
-{
-    1 <= count && count <= most_senders(command)
+    let count = items.len();
+    are_tables(items.as_slice()) && 1 <= count && count <= most_senders(command)
 }
 
 fn most_senders(command: Command) -> usize
@@ -104,12 +99,6 @@ fn most_senders(command: Command) -> usize
 }
 
 fn are_tables(items: &[Value]) -> bool
-    ensures { result ≡ are_tables (items_view items.now) }
-{
-    each_is_table(items)
-}
-
-fn each_is_table(items: &[Value]) -> bool
     ensures { result ≡ list_all (λ v. is_some (as_table (view v))) items.now }
 {
     items.iter().all(|item| item.is_table())

@@ -3,7 +3,7 @@
 ghost use Rattle.std.specs.Prelude.{◌≡◌, ◌≤◌, ok_or, IfSome};
 ghost use Rattle.toml.specs.View.{view};
 ghost use Rattle.krb_job.specs.Checks.{Gives};
-ghost use Rattle.krb_job.specs.Values.{number_of, etype_of, flag_of, mode_of, mode_named, hex_of};
+ghost use Rattle.krb_job.specs.Values.{number_of, etype_of, mode_of, mode_named, hex_of};
 ghost use Rattle.krb_job.specs.Values.{bytes_of, seed_of};
 
 use crate::place::{KeyError, Place};
@@ -33,12 +33,6 @@ pub(crate) fn read_etype(value: &Value) -> Option<Etype>
 {
     let number = i32::try_from(value.as_integer()?).ok()?;
     Etype::from_number(number)
-}
-
-pub(crate) fn read_flag(value: &Value) -> Option<bool>
-    ensures { result ≡ flag_of (view value.now) }
-{
-    value.as_bool()
 }
 
 pub(crate) fn read_mode(value: &Value) -> Option<Mode>

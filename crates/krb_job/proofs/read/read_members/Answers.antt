@@ -10,10 +10,10 @@ invariant_of-result-clause-has_capacity c = (capacity_fits (table_view c.args.ta
 
 pub invariant_of-result-clause-senders_fit : goal.invariant_of-result-clause-senders_fit
 invariant_of-result-clause-senders_fit c =
-    let read = rw c.as_slice.ensures.value at c.in_ok-senders.ensures in
+    let read = rw c.as_slice.ensures.value at c.in_ok-senders.ensures.value in
     (senders_fit c.args.command (table_view c.args.table.now) (array_view c.in_ok-items.items.now) c.in_ok-senders.senders.items c.in_ok-items.ensures read).1
 
 pub invariant_of-result-clause-has_sender : goal.invariant_of-result-clause-has_sender
 invariant_of-result-clause-has_sender c =
-    let read = rw c.as_slice.ensures.value at c.in_ok-senders.ensures in
+    let read = rw c.as_slice.ensures.value at c.in_ok-senders.ensures.value in
     (senders_fit c.args.command (table_view c.args.table.now) (array_view c.in_ok-items.items.now) c.in_ok-senders.senders.items c.in_ok-items.ensures read).0

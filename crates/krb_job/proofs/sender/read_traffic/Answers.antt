@@ -14,4 +14,4 @@ invariant_of-result-clause-has_nows c = moments-there Now (table_view c.args.tab
 pub invariant_of-result-clause-has_ats : goal.invariant_of-result-clause-has_ats
 invariant_of-result-clause-has_ats c =
     let members = table_view c.args.table.now in
-    moments-beside c.seals-seals.result Seed At (needed Seed (some seed_of) members) members c.in_ok-seed.field-0 c.in_ok-moments_if.field-0.items c.in_ok-seed.ensures c.in_ok-moments_if.ensures
+    moments-beside c.seals-seals.result Seed At (needed Seed (some seed_of) members) members c.in_ok-seed.field-0 c.in_ok-moments_if.field-0.items c.in_ok-seed.ensures.value c.in_ok-moments_if.ensures

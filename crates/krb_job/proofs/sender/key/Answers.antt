@@ -4,7 +4,7 @@ use Rattle.std.specs.List.{list_any}
 use Rattle.std.specs.Str.{bytes_eq}
 use Rattle.krb_job.specs.SenderView.{keys_of}
 use Rattle.krb_job.proofs.SenderLemmas.{used-keys}
-use Rattle.krb_job.proofs.sender.read_key.Goals as goal
+use Rattle.krb_job.proofs.sender.key.Goals as goal
 
 pub returns-then-is_used : goal.returns-then-is_used
 returns-then-is_used c =
