@@ -19,7 +19,7 @@ use Rattle.krb_peers.specs.declared.record.Record.TheVariants.{Close}
 use Rattle.krb_peers.specs.Record.{bytes_of, FitsLimits}
 use Rattle.krb_peers.specs.Draws.{after_words, confounder_at}
 use Rattle.krb_peers.specs.Sender.{Source, IsWithinLimits, text_groups, texts_of_groups, sealed_count, sealed_groups, group_behind, texts_before, record_for, record_at, records_for, records, moment_at, IsFrame, AreFrames}
-use Rattle.krb_peers.specs.Sending.{before, behind, HasSealed}
+use Rattle.krb_peers.specs.Sending.{before, behind, HasSealed, StandsAfterSome}
 use Rattle.krb_peers.proofs.DrawsLemmas.{confounder_at-later, after_words-add}
 use Rattle.krb_peers.proofs.ListLemmas.{slice_get-front, slice_get-end, lt_or_same, slice_get-take, take-below, length-take, get_or-take}
 
@@ -235,6 +235,16 @@ HasSealed-push source now next k frames frame has there is after =
       state = after' ∙ behind_more source k;
     } in
     subst P (sym has.state) at_behind there is after
+
+-- ---- where a sealer stands
+
+-- it stands after the records that were sealed
+pub stands_after : (source now : Source) (k : ℕ) (frames : List (List ℕ)) (sealer : SealerState) → HasSealed source k frames now → k ≤ length (records source) → sealer ≡ now.sealer → StandsAfterSome source sealer
+stands_after source now k frames sealer has few same = record {
+  count = k;
+  some = record { few = few; frames = frames; are = has.sealed };
+  is = same ∙ ap (λ s. s.sealer) has.state;
+}
 
 -- ---- what is read and answered
 

@@ -56,7 +56,14 @@ pub record HasSealed (source : Source) (k : ℕ) (frames : List (List ℕ))
   pub sealed : AreFrames source (take k (records source)) frames
   pub state : now ≡ behind k source
 
--- the sealer of a sender after some of its records
-abbrev pub StandsAfterSome : Source → SealerState → Type 0
-StandsAfterSome source sealer =
-    (k : ℕ) × (k ≤ length (records source)) × (sealer ≡ (behind k source).sealer)
+-- the sender sealed its first `count` records, as these frames
+pub record HasSealedSome (source : Source) (count : ℕ) : Type 0 where
+  pub few : count ≤ length (records source)
+  pub frames : List (List ℕ)
+  pub are : AreFrames source (take count (records source)) frames
+
+-- the sealer stands after the sender's first `count` records, which were sealed
+pub record StandsAfterSome (source : Source) (sealer : SealerState) : Type 0 where
+  pub count : ℕ
+  pub some : HasSealedSome source count
+  pub is : sealer ≡ (behind count source).sealer

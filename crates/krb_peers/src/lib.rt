@@ -2,7 +2,8 @@
 //!
 //! The user data of a message is a [`Record`]: a text, a batch of texts or the close. A [`Sending`]
 //! seals its texts as records of rising numbers, some together if its `batch` is more than 1, and a
-//! plan ([`emit`]) may repeat, drop, reorder or change the frames on purpose. A [`Receiver`]
+//! plan ([`emit`]) may repeat, drop, reorder or change the frames on purpose. [`emit_sealed`] does
+//! both, and [`emit_sealed_within`] calls a [`Gate`] before and after each seal call. A [`Receiver`]
 //! demands the numbers one after another ([`Order`]), and accepts nothing after a close. A [`Log`]
 //! keeps the outcomes of the frames of each lane. [`headline_laws`] says what is delivered and
 //! refused, whatever the plan; [`carried_laws`] that all is delivered if each frame comes in its
@@ -26,6 +27,7 @@ mod carried;
 mod confounder;
 mod delivery;
 mod emission;
+mod gate;
 mod headline;
 mod laws;
 mod log;
@@ -40,6 +42,7 @@ mod start;
 pub use carried::{carried_laws, going_on_laws};
 pub use delivery::Delivery;
 pub use emission::emit;
+pub use gate::{Gate, NoGate};
 pub use headline::{headline_laws, relay_laws, undisturbed_laws};
 pub use krb_base::{BATCH_LIMIT, LAST_NUMBER, TEXT_LIMIT, USER_DATA_LIMIT};
 pub use krb_batch::Texts;
@@ -51,4 +54,4 @@ pub use receiver::{Receiver, Receiving};
 pub use receivers::{Receivers, wipe_receivers};
 pub use record::{Record, RecordError, RecordKind, read_record, record_bytes};
 pub use sending::{Ending, Sending, Sent};
-pub use start::{StartError, emit_sealed};
+pub use start::{StartError, emit_sealed, emit_sealed_within};

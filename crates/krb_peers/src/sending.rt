@@ -5,7 +5,7 @@ ghost use Rattle.krb_peers.specs.declared.record.Record.{Record};
 ghost use Rattle.krb_base.specs.Limits.{user_data_limit};
 ghost use Rattle.krb_seal.specs.Sealer.{SealsNext};
 ghost use Rattle.krb_peers.specs.Record.{bytes_of, FitsLimits};
-ghost use Rattle.krb_peers.specs.Draws.{after_words, confounder_at};
+ghost use Rattle.krb_peers.specs.Draws.{confounder_at};
 ghost use Rattle.krb_peers.specs.Plan.{contents};
 ghost use Rattle.krb_peers.specs.Sender.{Source, AreFrames, records, moment_at, sealed_groups, sealed_texts};
 ghost use Rattle.krb_peers.specs.Sender.{group_behind, texts_before, record_for, record_at};
@@ -13,6 +13,7 @@ ghost use Rattle.krb_peers.specs.Verdicts.{AllBytes};
 ghost use Rattle.krb_peers.specs.Sending.{source_of, sealed_of, sent_of, before, behind, IsSender, HasSealed, StandsAfterSome};
 
 use crate::confounder::draw_confounder;
+use crate::gate::{Gate, NoGate};
 use crate::plan::Emit;
 use crate::record::{close_record, group_record};
 use krb_aes::known_bytes;
@@ -209,11 +210,41 @@ impl<S: Sealer> Sending<S> {
         ensures ats { self.new.ats ≡ self.old.ats }
         ensures plan { self.new.plan ≡ self.old.plan }
     {
+        self.seal_all_within(alloc, &NoGate, 0)
+    }
+
+    /// Seals all records of the sender of `lane`, the close last, each seal call within `gate`.
+    pub(crate) fn seal_all_within<G: Gate>(
+        &mut self,
+        alloc: Global,
+        gate: &G,
+        lane: u32,
+    ) -> Result<Vec<Vec<u8>>, SealError>
+        requires { IsSender (source_of S.state self.old) }
+        ensures frames { IfOk result (λ frames. AreFrames (source_of S.state self.old)
+            (records (source_of S.state self.old)) (contents frames.items)) }
+        ensures bytes { IfOk result (λ frames. AllBytes (contents frames.items)) }
+        ensures behind { OnOk result (source_of S.state self.new ≡ behind
+            (length (records (source_of S.state self.old))) (source_of S.state self.old)) }
+        ensures stopped { OnErr result
+            (StandsAfterSome (source_of S.state self.old) (S.state self.new.sealer)) }
+        ensures wiped { (S.state self.old.sealer).wiped ≡ true → IsErr result }
+        ensures errors { IfErr result (λ e.
+            ((e ≡ SealError.Wiped) × ((S.state self.old.sealer).wiped ≡ true))
+            ⊎ (e ≡ SealError.Memory)) }
+        ensures texts { self.new.texts ≡ self.old.texts }
+        ensures batch { self.new.batch ≡ self.old.batch }
+        ensures ats { self.new.ats ≡ self.old.ats }
+        ensures plan { self.new.plan ≡ self.old.plan }
+    {
         let count = self.records();
         let mut frames = Vec::with_capacity(alloc, count)?;
         let mut passed = 0;
         for k in 0..count {
-            let frame = self.seal_record(alloc, k, &mut passed)?;
+            gate.enter(lane);
+            let sealed = self.seal_record(alloc, k, &mut passed);
+            gate.leave(lane);
+            let frame = sealed?;
             known_bytes(frame.as_slice());
             frames.push(frame).map_err(AllocError::from)?;
         }

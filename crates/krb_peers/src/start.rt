@@ -1,12 +1,14 @@
 //! What a sender puts on its wire: all is sealed, and the plan is followed.
 
-ghost use Rattle.std.specs.Prelude.{◌≡◌, false, Some, IfOk, IfErr};
+ghost use Rattle.std.specs.Prelude.{◌≡◌, length, false, Some, IfOk, IfErr, OnOk, OnErr};
 ghost use Rattle.krb_peers.specs.Plan.{contents};
-ghost use Rattle.krb_peers.specs.Sending.{source_of, IsSender};
+ghost use Rattle.krb_peers.specs.Sender.{records};
+ghost use Rattle.krb_peers.specs.Sending.{source_of, behind, IsSender, StandsAfterSome};
 ghost use Rattle.krb_peers.specs.StartError.{code_of, words_of, IsReason};
 ghost use Rattle.krb_peers.specs.Wire.{IsWire};
 
 use crate::emission::emit;
+use crate::gate::{Gate, NoGate};
 use crate::plan::EmitError;
 use crate::sending::Sending;
 use krb_seal::{SealError, Sealer};
@@ -78,13 +80,33 @@ pub fn emit_sealed<S: Sealer>(
     ensures live { IfOk result (λ wire. (S.state sending.sealer).wiped ≡ false) }
     ensures err { IfErr result (λ error. IsReason (source_of S.state sending) lane error) }
 {
-    let plan = sending.plan.take();
-    let frames = match sending.seal_all(alloc) {
+    emit_sealed_within(alloc, &NoGate, lane, &mut sending)
+}
+
+/// Seals all records of the sender of `lane`, each seal call within `gate`, and emits what its plan
+/// makes of the frames.
+pub fn emit_sealed_within<G: Gate, S: Sealer>(
+    alloc: Global,
+    gate: &G,
+    lane: u32,
+    sending: &mut Sending<S>,
+) -> Result<Vec<Vec<u8>>, StartError>
+    requires { IsSender (source_of S.state sending.old) }
+    ensures ok { IfOk result
+        (λ wire. IsWire (source_of S.state sending.old) (contents wire.items)) }
+    ensures live { OnOk result ((S.state sending.old.sealer).wiped ≡ false) }
+    ensures err { IfErr result (λ error. IsReason (source_of S.state sending.old) lane error) }
+    ensures behind { OnOk result (source_of S.state sending.new ≡ behind
+        (length (records (source_of S.state sending.old))) (source_of S.state sending.old)) }
+    ensures stopped { OnErr result
+        (StandsAfterSome (source_of S.state sending.old) (S.state sending.new.sealer)) }
+{
+    let frames = match sending.seal_all_within(alloc, gate, lane) {
         Ok(frames) => frames,
         Err(SealError::Wiped) => return Err(StartError::Wiped { lane }),
         Err(_) => return Err(StartError::Memory),
     };
-    let Some(plan) = plan else {
+    let Some(plan) = &sending.plan else {
         return Ok(frames);
     };
     match emit(alloc, frames.as_slice(), plan.as_slice()) {

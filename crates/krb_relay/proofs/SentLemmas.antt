@@ -4,13 +4,16 @@ use Rattle.std.specs.Prelude.{unwrap_or}
 use Rattle.std.proofs.lemmas.List.{append-nil, nil_from_length, take_all, take_at, take-take, length-append, length-take}
 use Rattle.krb_base.specs.Prefix.{IsPrefix}
 use Rattle.krb_peers.specs.Plan.{wire}
-use Rattle.krb_peers.specs.declared.plan.Emit.{Emit}
+use Rattle.krb_peers.specs.declared.start.StartError.{StartError}
+use Rattle.krb_peers.specs.declared.start.StartError.TheVariants as start
 use Rattle.krb_peers.specs.declared.record.Record.{Record}
 use Rattle.krb_peers.specs.Sender.{Source, records, AreFrames}
-use Rattle.krb_peers.specs.Sending.{behind, HasSealed}
+use Rattle.krb_peers.specs.Sending.{behind, HasSealed, HasSealedSome, StandsAfterSome}
+use Rattle.krb_peers.specs.StartError.{IsReason}
+use Rattle.krb_relay.specs.Cause.{cause_of_start}
 use Rattle.krb_relay.specs.declared.cause.Cause.{Cause}
 use Rattle.krb_relay.specs.declared.cause.Cause.TheVariants.{Memory, Spawn, Lost, BadPlan, Wiped}
-use Rattle.krb_relay.specs.Sent.{HasSealedSome, IsFront, IsAll, IsOfSealing, IsTrueOf, IsCut, Sends, sealed_since, with_plan}
+use Rattle.krb_relay.specs.Sent.{IsFront, IsAll, IsOfSealing, IsTrueOf, IsCut, Sends, sealed_since}
 
 -- ---- fronts
 
@@ -96,14 +99,11 @@ later_behind source now after k is same =
     let moved : now.sealer.next ≡ source.sealer.next + k = ap (λ s. s.sealer.next) is in
     omega (arith, moved, same)
 
-pub some_sealed : (source now after : Source) (k : ℕ) (frames : List (List ℕ)) → HasSealed source k frames now → k ≤ length (records source) → after.sealer.next ≡ now.sealer.next → HasSealedSome source (sealed_since source after)
-some_sealed source now after k frames h few same =
+-- where the sealer stands says how many
+pub some_stands : (source after : Source) → StandsAfterSome source after.sealer → HasSealedSome source (sealed_since source after)
+some_stands source after s =
     let P : ℕ → Type 0 = λ n. HasSealedSome source n in
-    subst P (sym (since_behind source now after k h.state same)) (record { few = few; frames = frames; are = h.sealed })
-
--- under a plan as without
-pub planned_some : (plan : Option (List Emit)) (source : Source) (count : ℕ) → HasSealedSome source count → HasSealedSome (with_plan plan source) count
-planned_some plan source count h = record { few = h.few; frames = h.frames; are = record { one_each = h.are.one_each; each = h.are.each } }
+    subst P (sym (since_behind source (behind s.count source) after s.count refl (ap (λ z. z.next) s.is))) s.some
 
 -- ---- in turn, without a plan
 
@@ -131,10 +131,17 @@ front_unplanned source now after k frames sent unplanned p h few same =
 
 -- ---- all at once, with a plan
 
-pub cut_nothing : (source : Source) (count : ℕ) (sent : List (List ℕ)) (cause : Cause) → HasSealedSome source count → sent ≡ [] → IsTrueOf source [] cause → IsCut source count sent cause
-cut_nothing source count sent cause some none h =
-    let P : List (List ℕ) → Type 0 = λ x. IsCut source count x cause in
-    subst P (sym none) (record { front = front_unsent source count some; reason = h })
+-- why nothing of the lane can be sent is true of its sender
+reason_of_start : (source : Source) (lane : ℕ) (error : StartError) → IsReason source lane error → IsTrueOf source [] (cause_of_start error)
+reason_of_start source lane start.Memory h = tt
+reason_of_start source lane (start.BadPlan at) h = (h.1, h.2, refl)
+reason_of_start source lane (start.Wiped at) h = (h.1, refl)
+
+pub cut_unsent : (source after : Source) (lane : ℕ) (sent : List (List ℕ)) (error : StartError) → sent ≡ [] → StandsAfterSome source after.sealer → IsReason source lane error
+    → IsCut source (sealed_since source after) sent (cause_of_start error)
+cut_unsent source after lane sent error none s h =
+    let P : List (List ℕ) → Type 0 = λ x. IsCut source (sealed_since source after) x (cause_of_start error) in
+    subst P (sym none) (record { front = front_unsent source (sealed_since source after) (some_stands source after s); reason = reason_of_start source lane error h })
 
 pub cut_wire : (source : Source) (count : ℕ) (sent emitted : List (List ℕ)) (cause : Cause) → cause ≡ Lost → IsPrefix sent emitted → count ≡ length (records source) → IsAll source emitted → IsCut source count sent cause
 cut_wire source count sent emitted cause is front whole all =

@@ -3,6 +3,8 @@ use Rattle.std.specs.Prelude.{ℕ, List, codes, ◌++◌}
 use Rattle.std.specs.Fmt.{decimal}
 use Rattle.krb_peers.specs.declared.plan.EmitError.{EmitError}
 use Rattle.krb_peers.specs.declared.plan.EmitError.TheVariants as emission
+use Rattle.krb_peers.specs.declared.start.StartError.{StartError}
+use Rattle.krb_peers.specs.declared.start.StartError.TheVariants as start
 use Rattle.krb_relay.specs.declared.cause.Cause.{Cause}
 use Rattle.krb_relay.specs.declared.cause.Cause.TheVariants.{Memory, Spawn, Lost, BadPlan, Wiped}
 use Rattle.krb_relay.specs.declared.cause.OwnCause.{OwnCause}
@@ -38,3 +40,9 @@ cause_of own.Lost = Lost
 abbrev pub cause_of_emission : EmitError → Cause
 cause_of_emission emission.BadPlan = BadPlan
 cause_of_emission emission.Memory = Memory
+
+-- Why nothing of a lane could be sent, as one of all causes.
+abbrev pub cause_of_start : StartError → Cause
+cause_of_start start.Memory = Memory
+cause_of_start (start.BadPlan lane) = BadPlan
+cause_of_start (start.Wiped lane) = Wiped

@@ -1,29 +1,19 @@
 -- What a worker sends of its sender's wire.
-use Rattle.std.specs.Prelude.{◌≡◌, ℕ, ◌≤◌, ◌-◌, ◌⊎◌, Bool, true, false, List, [], length, take}
+use Rattle.std.specs.Prelude.{◌≡◌, ℕ, ◌-◌, ◌⊎◌, Bool, true, false, List, [], length, take}
 use Rattle.std.specs.Prelude.{Option, Some, None}
 use Rattle.krb_lane.specs.Side.{Side}
-use Rattle.krb_peers.specs.declared.plan.Emit.{Emit}
 use Rattle.krb_peers.specs.Plan.{wire}
-use Rattle.krb_peers.specs.Sender.{Source, records, AreFrames}
+use Rattle.krb_peers.specs.Sender.{Source, records}
+use Rattle.krb_peers.specs.Sending.{HasSealedSome}
 use Rattle.krb_peers.specs.Wire.{IsWire, IsBad}
 use Rattle.krb_relay.specs.declared.cause.Cause.{Cause}
 use Rattle.krb_relay.specs.declared.cause.Cause.TheVariants.{Memory, BadPlan, Wiped}
 use Rattle.krb_relay.specs.declared.worker.Handed.{Handed}
 
--- the same sender with this plan
-abbrev pub with_plan : Option (List Emit) → Source → Source
-with_plan plan source = record source { plan = plan }
-
 -- under a plan nothing is sent before all records are sealed
 abbrev pub WaitsForAll : Source → ℕ → List (List ℕ) → Type 0
 WaitsForAll source count sent =
     (source.plan ≡ None) ⊎ (count ≡ length (records source)) ⊎ (sent ≡ [])
-
--- the sender sealed its first `count` records, as these frames
-pub record HasSealedSome (source : Source) (count : ℕ) : Type 0 where
-  pub few : count ≤ length (records source)
-  pub frames : List (List ℕ)
-  pub are : AreFrames source (take count (records source)) frames
 
 -- of the wire that the first `count` records make, these are the first n frames
 pub record IsFront (source : Source) (count : ℕ) (sent : List (List ℕ)) : Type 0 where

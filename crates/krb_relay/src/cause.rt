@@ -4,7 +4,7 @@ ghost use Rattle.std.specs.Prelude.{◌≡◌, Some};
 ghost use Rattle.krb_relay.specs.Cause.{code_of, words_of, cause_of};
 
 use krb_lane::LaneError;
-use krb_peers::EmitError;
+use krb_peers::{EmitError, StartError};
 use std::alloc::AllocError;
 use std::error::Error;
 use std::fmt;
@@ -65,6 +65,21 @@ impl From<EmitError> for Cause {
         match error {
             EmitError::BadPlan => Cause::BadPlan,
             EmitError::Memory => Cause::Memory,
+        }
+    }
+}
+
+impl From<StartError> for Cause {
+    ghost use Rattle.std.specs.Prelude.{◌≡◌};
+    ghost use Rattle.krb_relay.specs.Cause.{cause_of_start};
+
+    ghost from_gives = { λ error cause. cause ≡ cause_of_start error };
+
+    fn from(error: StartError) -> Cause {
+        match error {
+            StartError::Memory => Cause::Memory,
+            StartError::BadPlan { .. } => Cause::BadPlan,
+            StartError::Wiped { .. } => Cause::Wiped,
         }
     }
 }

@@ -17,7 +17,6 @@
 
 mod cause;
 mod fault;
-mod gate;
 mod levels;
 mod rounds;
 mod running;
@@ -27,5 +26,5 @@ mod worker;
 
 pub use cause::Cause;
 pub use fault::Fault;
-pub use gate::{Gate, NoGate};
+pub use krb_peers::{Gate, NoGate};
 pub use running::{Report, relay};

@@ -15,13 +15,12 @@ ghost use Rattle.krb_relay.specs.declared.worker.Handed.{Handed};
 
 use crate::cause::Cause;
 use crate::fault::Fault;
-use crate::gate::Gate;
 use crate::levels::{Gathered, level};
 use crate::work::Work;
 use crate::worker::{Handed, serve};
 use krb_base::LANE_LIMIT;
 use krb_lane::LaneTx;
-use krb_peers::{Log, Receiving, Sending, Sent, wipe_receivers};
+use krb_peers::{Gate, Log, Receiving, Sending, Sent, wipe_receivers};
 use krb_seal::Sealer;
 use std::alloc::{AllocError, Global};
 use std::sync::Wait;

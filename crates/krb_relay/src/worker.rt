@@ -1,18 +1,17 @@
 //! What a worker does: it seals its sender's records, and sends the frames.
 
-ghost use Rattle.std.specs.Prelude.{◌≡◌, ◌+◌, ◌<◌, ◌≤◌, ◌++◌, ◌∷◌, [], ℕ, List, length, false, true, Some, None, IfOk, IfErr, OnOk, OnErr};
+ghost use Rattle.std.specs.Prelude.{◌≡◌, ◌+◌, ◌<◌, ◌≤◌, ◌++◌, ◌∷◌, [], ℕ, List, length, false, true, None, IfOk, IfErr, OnOk, OnErr};
 ghost use Rattle.krb_aes.specs.Words.{AreBytes};
 ghost use Rattle.krb_base.specs.Prefix.{IsPrefix};
 ghost use Rattle.krb_peers.specs.Plan.{contents};
-ghost use Rattle.krb_peers.specs.Sender.{Source, AreFrames, records, texts_before};
+ghost use Rattle.krb_peers.specs.Sender.{Source, records, texts_before};
 ghost use Rattle.krb_peers.specs.Sending.{source_of, before, IsSender, HasSealed};
-ghost use Rattle.krb_relay.specs.Sent.{HasSealedSome, IsAll, IsCut, IsOfSealing, IsTrueOf, Sends, Served, sealed_since, with_plan};
+ghost use Rattle.krb_relay.specs.Sent.{IsAll, IsCut, IsOfSealing, Sends, Served, sealed_since};
 
 use crate::cause::Cause;
-use crate::gate::Gate;
 use krb_aes::known_bytes;
 use krb_lane::{LaneTx, SentAll};
-use krb_peers::{Emit, Sending, emit};
+use krb_peers::{Gate, Sending, emit_sealed_within};
 use krb_seal::{SealError, Sealer};
 use std::alloc::Global;
 use std::sync::Wait;
@@ -79,9 +78,9 @@ fn send_all<R: Wait, G: Gate, S: Sealer>(
     ensures wiped { (S.state sending.new.sealer).wiped ≡ true }
 {
     let first = sending.sealer.next();
-    let sent = match sending.plan.take() {
+    let sent = match sending.plan {
         None => seal_and_send(rt, alloc, gate, lane, sending, tx),
-        Some(plan) => send_planned(rt, alloc, gate, lane, sending, plan.as_slice(), tx),
+        Some(_) => send_planned(rt, alloc, gate, lane, sending, tx),
     };
     let sealed = (sending.sealer.next() - first) as usize;
     sending.sealer.wipe();
@@ -129,22 +128,20 @@ fn send_planned<R: Wait, G: Gate, S: Sealer>(
     gate: &G,
     lane: u32,
     sending: &mut Sending<S>,
-    plan: &[Emit],
     tx: &mut LaneTx,
 ) -> Result<(), Cause>
     requires fresh { tx.old.frames ≡ [] }
     requires sender { IsSender (source_of S.state sending.old) }
-    ensures all { OnOk result
-        (IsAll (with_plan (Some plan.now) (source_of S.state sending.old)) tx.new.frames) }
+    ensures all { OnOk result (IsAll (source_of S.state sending.old) tx.new.frames) }
     ensures sealed { OnOk result (sealed_since (source_of S.state sending.old)
         (source_of S.state sending.new) ≡ length (records (source_of S.state sending.old))) }
-    ensures cut { IfErr result (IsCut (with_plan (Some plan.now) (source_of S.state sending.old))
+    ensures cut { IfErr result (IsCut (source_of S.state sending.old)
         (sealed_since (source_of S.state sending.old) (source_of S.state sending.new))
         tx.new.frames) }
     ensures later { (S.state sending.old.sealer).next ≤ (S.state sending.new.sealer).next }
     ensures lane { tx.new.lane ≡ tx.old.lane }
 {
-    let wire = seal_planned(alloc, gate, lane, sending, plan)?;
+    let wire = emit_sealed_within(alloc, gate, lane, sending)?;
     send_wire(rt, wire, tx)
 }
 
@@ -162,61 +159,6 @@ fn send_wire<R: Wait>(rt: &R, wire: Vec<Vec<u8>>, tx: &mut LaneTx) -> Result<(),
         }
     }
     Ok(())
-}
-
-/// Seals all records, and emits what the plan makes of their frames.
-fn seal_planned<G: Gate, S: Sealer>(
-    alloc: Global,
-    gate: &G,
-    lane: u32,
-    sending: &mut Sending<S>,
-    plan: &[Emit],
-) -> Result<Vec<Vec<u8>>, Cause>
-    requires { IsSender (source_of S.state sending.old) }
-    ensures all { IfOk result (λ wire.
-        IsAll (with_plan (Some plan.now) (source_of S.state sending.old)) (contents wire.items)) }
-    ensures none { IfErr result
-        (IsTrueOf (with_plan (Some plan.now) (source_of S.state sending.old)) []) }
-    ensures sealed { OnOk result (sealed_since (source_of S.state sending.old)
-        (source_of S.state sending.new) ≡ length (records (source_of S.state sending.old))) }
-    ensures some { OnErr result (HasSealedSome (source_of S.state sending.old)
-        (sealed_since (source_of S.state sending.old) (source_of S.state sending.new))) }
-    ensures later { (S.state sending.old.sealer).next ≤ (S.state sending.new.sealer).next }
-{
-    let frames = seal_each(alloc, gate, lane, sending)?;
-    Ok(emit(alloc, frames.as_slice(), plan)?)
-}
-
-/// The frames of all records.
-fn seal_each<G: Gate, S: Sealer>(
-    alloc: Global,
-    gate: &G,
-    lane: u32,
-    sending: &mut Sending<S>,
-) -> Result<Vec<Vec<u8>>, Cause>
-    requires { IsSender (source_of S.state sending.old) }
-    ensures frames { IfOk result (λ frames. AreFrames (source_of S.state sending.old)
-        (records (source_of S.state sending.old)) (contents frames.items)) }
-    ensures live { OnOk result ((S.state sending.old.sealer).wiped ≡ false) }
-    ensures cause { IfErr result (IsOfSealing (S.state sending.old.sealer).wiped) }
-    ensures sealed { OnOk result (sealed_since (source_of S.state sending.old)
-        (source_of S.state sending.new) ≡ length (records (source_of S.state sending.old))) }
-    ensures some { OnErr result (HasSealedSome (source_of S.state sending.old)
-        (sealed_since (source_of S.state sending.old) (source_of S.state sending.new))) }
-    ensures later { (S.state sending.old.sealer).next ≤ (S.state sending.new.sealer).next }
-{
-    let count = sending.records();
-    let Ok(mut frames) = Vec::with_capacity(alloc, count) else {
-        return Err(Cause::Memory);
-    };
-    let mut passed = 0;
-    for k in 0..count {
-        let frame = seal_one(alloc, gate, lane, sending, k, &mut passed)?;
-        if frames.push(frame).is_err() {
-            return Err(Cause::Memory);
-        }
-    }
-    Ok(frames)
 }
 
 /// The frame of record `k`, sealed within the gate. `passed` is how many texts the records before it

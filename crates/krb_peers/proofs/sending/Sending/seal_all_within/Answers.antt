@@ -1,15 +1,15 @@
 -- Frame after frame, and none under a wiped sealer.
-use Rattle.std.proofs.Common.{◌≡◌, ◌+◌, ◌++◌, ◌∷◌, [], true, IsErr, ap, sym, ◌∙◌, arith, rules}
+use Rattle.std.proofs.Common.{◌≡◌, ◌+◌, ◌++◌, ◌∷◌, [], true, IsErr, ap, sym, refl, ◌∙◌, arith, rules}
 use Rattle.std.proofs.lemmas.List.{map-append}
 use Rattle.std.proofs.lemmas.Result.{err_from_is_err_and}
 use Rattle.krb_peers.specs.Sender.{texts_before}
 use Rattle.krb_peers.specs.Sending.{source_of}
 use Rattle.krb_peers.proofs.ListLemmas.{AllBytes-push}
-use Rattle.krb_peers.proofs.SendingLemmas.{length-records}
-use Rattle.krb_peers.proofs.sending.Sending.seal_all.Goals as goal
+use Rattle.krb_peers.proofs.SendingLemmas.{length-records, stands_after}
+use Rattle.krb_peers.proofs.sending.Sending.seal_all_within.Goals as goal
 
-pub seal_record-requires-clause-passed : goal.seal_record-requires-clause-passed
-seal_record-requires-clause-passed g c =
+pub seal_record-sealed-requires-clause-passed : goal.seal_record-sealed-requires-clause-passed
+seal_record-sealed-requires-clause-passed g c =
     c.loop-k.invariant.passed ∙ ap (λ s. texts_before c.loop-k.k s) (sym c.loop-k.invariant.sealed.state)
 
 pub loop-k-preserved : goal.loop-k-preserved
@@ -21,12 +21,12 @@ loop-k-preserved g c =
       bytes = rw (pushed, map-append) (AllBytes-push _ _ c.loop-k.invariant.bytes (rw c.as_slice.ensures.value at c.known_bytes.ensures));
       none_if_wiped = λ wiped.
           let still : (g.S.Sealer.state c.loop-k.self.sealer).wiped ≡ true = ap (λ s. s.sealer.wiped) c.loop-k.invariant.sealed.state ∙ wiped in
-          let failed : IsErr c.seal_record.result = c.seal_record.ensures.wiped still in
+          let failed : IsErr c.seal_record-sealed.result = c.seal_record-sealed.ensures.wiped still in
           absurd (search rules);
-      texts = c.seal_record.ensures.texts ∙ c.loop-k.invariant.texts;
-      batch = c.seal_record.ensures.batch ∙ c.loop-k.invariant.batch;
-      ats = c.seal_record.ensures.ats ∙ c.loop-k.invariant.ats;
-      plan = c.seal_record.ensures.plan ∙ c.loop-k.invariant.plan;
+      texts = c.seal_record-sealed.ensures.texts ∙ c.loop-k.invariant.texts;
+      batch = c.seal_record-sealed.ensures.batch ∙ c.loop-k.invariant.batch;
+      ats = c.seal_record-sealed.ensures.ats ∙ c.loop-k.invariant.ats;
+      plan = c.seal_record-sealed.ensures.plan ∙ c.loop-k.invariant.plan;
     }
 
 pub returns-clause-wiped : goal.returns-clause-wiped
@@ -35,8 +35,16 @@ returns-clause-wiped g c = λ wiped.
     let some = length-records (source_of g.S.Sealer.state c.args.self.now) in
     absurd (omega (arith, c.records-count.ensures))
 
+pub returns-in_err-frame-clause-stopped : goal.returns-in_err-frame-clause-stopped
+returns-in_err-frame-clause-stopped g c =
+    let source = source_of g.S.Sealer.state c.args.self.now in
+    let now = source_of g.S.Sealer.state c.loop-k.self in
+    let p = err_from_is_err_and c.from_residual-in_err-frame.result c.from_residual-in_err-frame.ensures.1 in
+    rw p.1 (stands_after source now c.loop-k.k _ _ c.loop-k.invariant.sealed (omega (arith, c.records-count.ensures)) c.in_err-frame.ensures.unchanged)
+
 pub returns-in_err-map_err-clause-stopped : goal.returns-in_err-map_err-clause-stopped
 returns-in_err-map_err-clause-stopped g c =
-    let sealed = c.in_ok-frame.ensures.frames _ _ c.loop-k.invariant.sealed in
+    let source = source_of g.S.Sealer.state c.args.self.now in
+    let now = source_of g.S.Sealer.state c.seal_record-sealed.new.self in
     let p = err_from_is_err_and c.from_residual-in_err-map_err.result c.from_residual-in_err-map_err.ensures.1 in
-    rw p.1 (c.loop-k.k + 1, omega (arith, c.records-count.ensures), ap (λ s. s.sealer) sealed.state)
+    rw p.1 (stands_after source now (c.loop-k.k + 1) _ _ (c.in_ok-frame.ensures.frames _ _ c.loop-k.invariant.sealed) (omega (arith, c.records-count.ensures)) refl)

@@ -3,7 +3,7 @@ use Rattle.krb_peers.specs.Plan.{contents}
 use Rattle.krb_peers.specs.Sender.{texts_before}
 use Rattle.krb_peers.specs.Sending.{source_of, HasSealed}
 use Rattle.krb_peers.specs.Verdicts.{AllBytes}
-use Rattle.krb_peers.proofs.sending.Sending.seal_all.Given as goal
+use Rattle.krb_peers.proofs.sending.Sending.seal_all_within.Given as goal
 
 abbrev pub invariant-loop-k : goal.invariant-loop-k
 invariant-loop-k g l = record {
