@@ -1,5 +1,5 @@
 -- The kind of a record is that of its first byte.
-use Rattle.std.proofs.Common.{◌≡◌, ℕ, List, ◌∷◌, Some, refl, sym, ap, subst, ◌∙◌, arith}
+use Rattle.std.proofs.Common.{◌≡◌, ℕ, List, ◌∷◌, Some, refl, sym, ap, subst, ◌∙◌}
 use Rattle.krb_peers.specs.declared.record.Record.{Record}
 use Rattle.krb_peers.specs.declared.record.Record.TheVariants.{Text, Batch, Close}
 use Rattle.krb_peers.specs.Record.{SpellsRecord}
