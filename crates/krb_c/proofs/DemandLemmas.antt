@@ -30,11 +30,7 @@ demand_met o d now frame made b checked x (inl h) is met was = absurd (let y : O
 demand_met o d now frame made b checked x (inr h) is met was =
     goes_on o d now frame made b (Ok b) h is (all_passed (demand_checks d now b) (GivesBody b) checked x (Ok b) (inr met) was (inr refl))
 
--- the outcome of a body, and of a refusal but out of memory
-pub with_body : (o : OpenerState) (d : KrbDemand) (now at : ℕ) (frame : List ℕ) (b : Body) → now ≡ at → AuthenticOrMemory (OpensWith o d now frame) (Ok b) → OpensWith o d at frame (Ok b)
-with_body o d now at frame b e (inl p) = absurd cc
-with_body o d now at frame b e (inr p) = subst (λ (z : ℕ). OpensWith o d z frame (Ok b)) e p
-
+-- the outcome of a refusal but out of memory
 pub with_refusal : (o : OpenerState) (d : KrbDemand) (now at : ℕ) (frame : List ℕ) (r : Refusal) → now ≡ at → AuthenticOrMemory (OpensWith o d now frame) (Err r)
     → ¬ (r ≡ Memory) → OpensWith o d at frame (Err r)
 with_refusal o d now at frame r e (inl p) other = absurd (other (same r p))

@@ -8,3 +8,4 @@ mod RoomLemmas
 mod Crossing
 mod AnswerLemmas
 mod DemandLemmas
+mod OpenerLemmas
