@@ -1,6 +1,5 @@
 mod Values
 mod HeldBox
-mod RecordLemmas
 mod ReceiverLemmas
 mod Pairs
 mod Codes
@@ -9,3 +8,4 @@ mod Crossing
 mod AnswerLemmas
 mod DemandLemmas
 mod OpenerLemmas
+mod Refusals

@@ -17,10 +17,8 @@ use Rattle.krb_c.specs.declared.fault.Fault.TheVariants.{Refused, Room}
 use Rattle.krb_c.specs.declared.moment.KrbMoment.{KrbMoment}
 use Rattle.krb_c.specs.Moment.{micros_of}
 use Rattle.krb_c.specs.Reasons.{TakeReason, TakeFault}
+use Rattle.krb_c.proofs.Refusals.{is_memory}
 use Rattle.krb_c.specs.Record.{Accepts, IsRecordOf, kind_of}
-
-is_memory : (r : Refusal) → ◌≡◌ {A = Result (Vec ℕ) Refusal} (Err r) (Err Memory) → r ≡ Memory
-is_memory r e = cc
 
 pub opened : (Gives : Outcome → Type 0) (v : Vec ℕ) → OrMemory Gives (Ok v) → Gives (Ok v.items)
 opened Gives v (inl e) = absurd cc

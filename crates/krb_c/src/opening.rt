@@ -29,10 +29,7 @@ fn unsealed(
 {
     let opener = opener.live()?;
     let now = at.moment()?;
-    match opener.unseal(alloc, frame, number, now) {
-        Ok(user_data) => Ok(user_data),
-        Err(refusal) => Err(Fault::Refused(refusal)),
-    }
+    Ok(opener.unseal(alloc, frame, number, now)?)
 }
 
 /// Opens into a buffer, unless the opener was wiped, and answers the size of the user data. What is
@@ -105,12 +102,8 @@ pub fn open_into(
     if !is_demand(demand) {
         return Err(Fault::Argument);
     }
-    match open_body(alloc, opener, frame, demand, now) {
-        Ok(body) => {
-            let size = put_within(out, body.user_data.as_slice())?;
-            *told = carried(&body);
-            Ok(size)
-        }
-        Err(refusal) => Err(Fault::Refused(refusal)),
-    }
+    let body = open_body(alloc, opener, frame, demand, now)?;
+    let size = put_within(out, body.user_data.as_slice())?;
+    *told = carried(&body);
+    Ok(size)
 }
