@@ -29,16 +29,3 @@ pub demand_met : {A : Type 0} (o : OpenerState) (d : KrbDemand) (now : ℕ) (fra
 demand_met o d now frame made b checked x (inl h) is met was = absurd (let y : Ok b ≡ Err Memory = sym is ∙ h in cc)
 demand_met o d now frame made b checked x (inr h) is met was =
     goes_on o d now frame made b (Ok b) h is (all_passed (demand_checks d now b) (GivesBody b) checked x (Ok b) (inr met) was (inr refl))
-
--- the outcome of a body, and of a refusal but out of memory
-pub with_body : (o : OpenerState) (d : KrbDemand) (now at : ℕ) (frame : List ℕ) (b : Body) → now ≡ at → AuthenticOrMemory (OpensWith o d now frame) (Ok b) → OpensWith o d at frame (Ok b)
-with_body o d now at frame b e (inl p) = absurd cc
-with_body o d now at frame b e (inr p) = subst (λ (z : ℕ). OpensWith o d z frame (Ok b)) e p
-
-pub with_refusal : (o : OpenerState) (d : KrbDemand) (now at : ℕ) (frame : List ℕ) (r : Refusal) → now ≡ at → AuthenticOrMemory (OpensWith o d now frame) (Err r)
-    → ¬ (r ≡ Memory) → OpensWith o d at frame (Err r)
-with_refusal o d now at frame r e (inl p) other = absurd (other (same r p))
-  where
-    same : (r : Refusal) → ◌≡◌ {A = Authenticity} (Err r) (Err Memory) → r ≡ Memory
-    same r p = cc
-with_refusal o d now at frame r e (inr p) other = subst (λ (z : ℕ). OpensWith o d z frame (Err r)) e p

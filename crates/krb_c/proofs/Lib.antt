@@ -7,3 +7,5 @@ mod RoomLemmas
 mod Crossing
 mod AnswerLemmas
 mod DemandLemmas
+mod OpenerLemmas
+mod Refusals

@@ -1,5 +1,5 @@
 -- What taking a frame gives, from what opening it and reading its record give.
-use Rattle.std.proofs.Common.{◌≡◌, ℕ, ◌+◌, ◌<◌, Bool, true, false, List, length, Result, Ok, Err, refl, sym, ap, subst, inl, inr}
+use Rattle.std.proofs.Common.{◌≡◌, ℕ, ◌+◌, ◌<◌, Bool, true, false, List, length, Result, Ok, Err, Some, refl, sym, ap, subst, ◌∙◌, inl, inr}
 use Rattle.std.specs.Prelude.{◌⊎◌, IfErr, IsErrAnd}
 use Rattle.std.specs.Global.{Vec}
 use Rattle.krb_seal.specs.declared.refusal.Refusal.{Refusal}
@@ -16,11 +16,11 @@ use Rattle.krb_peers.specs.Receiver.{advanced}
 use Rattle.krb_peers.specs.Verdicts.{IsNoRecord}
 use Rattle.krb_c.specs.declared.fault.Fault.{Fault}
 use Rattle.krb_c.specs.declared.fault.Fault.TheVariants.{Refused, Room}
-use Rattle.krb_c.specs.Reasons.{TakeReason}
+use Rattle.krb_c.specs.declared.moment.KrbMoment.{KrbMoment}
+use Rattle.krb_c.specs.Moment.{micros_of}
+use Rattle.krb_c.specs.Reasons.{TakeReason, TakeFault}
+use Rattle.krb_c.proofs.Refusals.{is_memory}
 use Rattle.krb_c.specs.Record.{Accepts, IsRecordOf}
-
-is_memory : (r : Refusal) → ◌≡◌ {A = Result (Vec ℕ) Refusal} (Err r) (Err Memory) → r ≡ Memory
-is_memory r e = cc
 
 pub opened : (Gives : Outcome → Type 0) (v : Vec ℕ) → OrMemory Gives (Ok v) → Gives (Ok v.items)
 opened Gives v (inl e) = absurd cc
@@ -61,7 +61,16 @@ pub accepts_of : (s : ReceiverState) (now : ℕ) (frame : List ℕ) (kind : ℕ)
 accepts_of s now frame kind body written user r closed live h is same closing =
     (live, (r, (user, h, subst (λ (z : List ℕ). IsRecordOf kind z r user) (sym same) is, advanced_is s closed (is_close r) closing)))
 
-pub take_no_room : (s : ReceiverState) (now : ℕ) (frame : List ℕ) (room kind : ℕ) (body user : List ℕ) (r : Record) → s.demand.closed ≡ false
-    → Opens s.opener s.demand.expected now frame (Ok user) → IsRecordOf kind body r user → room < length body → TakeReason s now frame room Room
-take_no_room s now frame room kind body user r live h is short =
-    inr (refl, (kind, (body, (taken s (is_close r), accepts_of s now frame kind body body user r (is_close r) live h is refl refl, short))))
+pub take_no_room : {X : Type 0} (s : ReceiverState) (now : ℕ) (frame : List ℕ) (room kind : ℕ) (body user : List ℕ) (r : Record) (fault : Fault) (result : Result X Fault)
+    → s.demand.closed ≡ false → Opens s.opener s.demand.expected now frame (Ok user) → IsRecordOf kind body r user → (fault ≡ Room) × (room < length body)
+    → IsErrAnd result (λ f. f ≡ fault) → IfErr result (TakeReason s now frame room)
+take_no_room s now frame room kind body user r fault (Ok x) live h is short p = absurd p
+take_no_room s now frame room kind body user r fault (Err f) live h is short p =
+    inr (p ∙ short.0, (kind, (body, (taken s (is_close r), accepts_of s now frame kind body body user r (is_close r) live h is refl refl, short.1))))
+
+-- the fault at the moment of a C program
+pub take_fault : {X : Type 0} (s t : ReceiverState) (now : ℕ) (at : KrbMoment) (frame : List ℕ) (room : ℕ) (result : Result X Fault) → s ≡ t → now ≡ micros_of at
+    → IfErr result (TakeReason s now frame room) → IfErr result (TakeFault (Some t) at frame room)
+take_fault s t now at frame room (Ok x) seen is h = tt
+take_fault s t now at frame room (Err f) seen is h =
+    inr (subst (λ (z : ReceiverState). TakeReason z (micros_of at) frame room f) seen (subst (λ (m : ℕ). TakeReason s m frame room f) is h))

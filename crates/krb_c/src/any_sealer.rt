@@ -1,16 +1,22 @@
 //! A sealer whose frames fit.
 
-ghost use Rattle.std.specs.Prelude.{◌≡◌, ◌≤◌, ◌<◌, ◌↔◌, true, false, length, IfOk, OnOk, OnErr};
-ghost use Rattle.krb_base.specs.Limits.{user_data_limit};
-ghost use Rattle.krb_seal.specs.Etype.{number_of};
-ghost use Rattle.krb_seal.specs.Session.{HasShortAddresses};
-ghost use Rattle.krb_c.specs.Room.{frame_room};
-ghost use Rattle.krb_seal.specs.Sealer.{HasFrameSize, SealsNext, advanced, end_of_numbers, in_mode, new_state, wiped_state};
+ghost use Rattle.std.specs.Prelude.{◌≡◌, ◌≤◌, true, drop, length, take, IfErr, IfOk, OnOk, OnErr};
+ghost use Rattle.krb_c.specs.Exports.{SizesNext};
+ghost use Rattle.krb_c.specs.Moment.{micros_of};
+ghost use Rattle.krb_c.specs.Reasons.{NewReason, RecordReason, SealReason, SizeReason};
+ghost use Rattle.krb_c.specs.Record.{SealsRecord};
+ghost use Rattle.krb_c.specs.Session.{IsMode, mode_of, session_of};
+ghost use Rattle.krb_seal.specs.Sealer.{SealsNext, advanced, end_of_numbers, in_mode, new_state, wiped_state};
 
+use crate::buffer::put_front;
+use crate::fault::Fault;
 use crate::held::Wipe;
+use crate::moment::KrbMoment;
+use crate::record::record_of;
 use crate::room::frame_size;
-use krb_der::Moment;
-use krb_seal::{Mode, SealError, Sealer, Session, SessionKey, SessionSealer};
+use crate::session::{KrbSession, mode, session, session_key};
+use krb_base::USER_DATA_LIMIT;
+use krb_seal::{Refusal, Sealer, SessionSealer};
 use std::alloc::Global;
 use std::marker::Model;
 
@@ -33,14 +39,23 @@ impl Model for AnySealer {
 }
 
 impl AnySealer {
-    /// Takes the session key.
-    pub fn new(key: SessionKey, session: Session) -> AnySealer
-        requires { HasShortAddresses session }
-        ensures { result ≡ new_state (number_of key.etype) key.bytes session }
+    /// A sealer on the heap.
+    pub fn new(
+        alloc: Global,
+        etype: i32,
+        key: &[u8],
+        told: &KrbSession,
+    ) -> Result<Box<AnySealer>, Fault>
+        ensures made { IfOk result (λ b.
+            b.value ≡ new_state etype key.now (session_of told.now)) }
+        ensures why { IfErr result (NewReason etype (length key.now) told.now.mode
+            told.now.s_addr.len told.now.r_addr.len) }
     {
-        AnySealer {
-            sealer: SessionSealer::new(key, session),
-        }
+        let session = session(alloc, told)?;
+        let sealer = AnySealer {
+            sealer: SessionSealer::new(session_key(etype, key)?, session),
+        };
+        Box::new(alloc, sealer).map_err(|_| Fault::Refused(Refusal::Memory))
     }
 
     /// The next sequence number.
@@ -52,45 +67,80 @@ impl AnySealer {
     }
 
     /// The size of the next frame with so many bytes of user data at a moment.
-    pub fn frame_size(&self, len: usize, at: Moment) -> usize
-        requires { len ≤ user_data_limit }
-        ensures { HasFrameSize self.now len at result }
+    pub fn next_size(&self, len: usize, at: &KrbMoment) -> Result<usize, Fault>
+        ensures size { IfOk result (SizesNext self.now len at.now) }
+        ensures why { IfErr result (SizeReason len at.now) }
     {
-        self.sealer.frame_size(len, at)
+        let at = at.moment()?;
+        if len > USER_DATA_LIMIT {
+            return Err(Fault::TooLong);
+        }
+        Ok(self.sealer.frame_size(len, at))
     }
 
-    /// As [`Sealer::seal`].
+    /// Seals into a buffer that has room for the frame of so much user data, and answers the frame's
+    /// size. What follows the frame stays, and so does the whole buffer if nothing is sealed.
     pub fn seal(
         &mut self,
         alloc: Global,
-        bytes: &[u8],
-        at: Moment,
-        confounder: [u8; 16],
-    ) -> Result<Vec<u8>, SealError>
-        ensures sealed { IfOk result (λ frame.
-            SealsNext self.old bytes.now at confounder frame.items) }
-        ensures fits { IfOk result (λ frame.
-            length frame.items ≤ frame_room (length bytes.now)) }
+        user: &[u8],
+        at: &KrbMoment,
+        confounder: &[u8; 16],
+        out: &mut [u8],
+    ) -> Result<usize, Fault>
+        ensures sealed { IfOk result (λ size. SealsNext self.old user.now (micros_of at.now)
+            confounder.now (take size out.new)) }
+        ensures size { IfOk result (λ size. size ≤ length out.new) }
+        ensures behind { IfOk result (λ size. drop size out.new ≡ drop size out.old) }
         ensures advanced { OnOk result (self.new ≡ advanced self.old) }
-
-        ensures wiped { (result ≡ Err SealError.Wiped) ↔ (self.old.wiped ≡ true) }
-        ensures too_long { (result ≡ Err SealError.TooLong)
-            ↔ ((self.old.wiped ≡ false) × (user_data_limit < length bytes.now)) }
-        ensures exhausted { (result ≡ Err SealError.Exhausted)
-            ↔ ((self.old.wiped ≡ false) × (length bytes.now ≤ user_data_limit)
-            × (self.old.next ≡ end_of_numbers)) }
         ensures unchanged { OnErr result (self.new ≡ self.old) }
+        ensures kept { OnErr result (out.new ≡ out.old) }
+        ensures why { IfErr result
+            (SealReason self.old (length user.now) at.now (length out.old)) }
     {
-        // Its law says that the frame fits.
-        let _room = frame_size(bytes.len());
-        self.sealer.seal(alloc, bytes, at, confounder)
+        if out.len() < frame_size(user.len()) {
+            return Err(Fault::Room);
+        }
+        let at = at.moment()?;
+        let frame = self.sealer.seal(alloc, user, at, *confounder)?;
+        put_front(out, &frame);
+        Ok(frame.len())
     }
 
-    /// Seals in this mode from now on.
-    pub fn set_mode(&mut self, mode: Mode)
-        ensures { self.new ≡ in_mode self.old mode }
+    /// Seals the record of this kind whose bytes after the first are `body`, as [`AnySealer::seal`]
+    /// does.
+    pub fn seal_record(
+        &mut self,
+        alloc: Global,
+        kind: u32,
+        body: &[u8],
+        at: &KrbMoment,
+        confounder: &[u8; 16],
+        out: &mut [u8],
+    ) -> Result<usize, Fault>
+        ensures sealed { IfOk result (λ size. SealsRecord self.old kind body.now
+            (micros_of at.now) confounder.now (take size out.new)) }
+        ensures size { IfOk result (λ size. size ≤ length out.new) }
+        ensures behind { IfOk result (λ size. drop size out.new ≡ drop size out.old) }
+        ensures advanced { OnOk result (self.new ≡ advanced self.old) }
+        ensures unchanged { OnErr result (self.new ≡ self.old) }
+        ensures kept { OnErr result (out.new ≡ out.old) }
+        ensures why { IfErr result
+            (RecordReason self.old kind body.now at.now (length out.old)) }
     {
-        self.sealer.set_mode(mode);
+        let user = record_of(alloc, kind, body)?;
+        self.seal(alloc, &user, at, confounder, out)
+    }
+
+    /// Seals in the mode with this number from now on.
+    pub fn set_mode(&mut self, number: u32) -> Result<(), Fault>
+        ensures set { OnOk result (self.new ≡ in_mode self.old (mode_of number)) }
+        ensures unchanged { OnErr result (self.new ≡ self.old) }
+        ensures none { OnErr result (¬ IsMode number) }
+        ensures err { OnErr result (result ≡ Err Fault.Mode) }
+    {
+        self.sealer.set_mode(mode(number)?);
+        Ok(())
     }
 }
 

@@ -1,17 +1,20 @@
 //! What opens the frames of one sender, one number after another.
 
-ghost use Rattle.std.specs.Prelude.{◌≡◌, ◌+◌, ◌≤◌, ◌++◌, length, drop, take, true, IfErr, IfOk, OnErr};
-ghost use Rattle.krb_base.specs.Limits.{last_number};
-ghost use Rattle.krb_peers.specs.ReceiverState.{ReceiverState};
-ghost use Rattle.krb_c.specs.Reasons.{TakeReason};
+ghost use Rattle.std.specs.Prelude.{◌≡◌, ◌≤◌, length, drop, take, true, IfErr, IfOk, OnErr, Some};
+ghost use Rattle.krb_seal.specs.Opens.{opener_of};
+ghost use Rattle.krb_c.specs.Moment.{micros_of};
+ghost use Rattle.krb_c.specs.Reasons.{ReceiverReason, TakeFault};
 ghost use Rattle.krb_c.specs.Record.{Accepts};
+ghost use Rattle.krb_c.specs.Session.{expect_of};
 ghost use Rattle.krb_c.specs.Wipeable.{IsWipedReceiver};
 
-use crate::buffer::put_front;
+use crate::buffer::put_within;
 use crate::fault::Fault;
 use crate::held::Wipe;
+use crate::moment::KrbMoment;
 use crate::record::record_kind;
-use krb_der::Moment;
+use crate::session::{KrbExpect, expectation, session_key};
+use krb_base::LAST_NUMBER;
 use krb_peers::RecordKind;
 use krb_seal::{Opener, Refusal};
 use std::alloc::Global;
@@ -42,18 +45,32 @@ impl Model for LaneReceiver {
 }
 
 impl LaneReceiver {
-    /// A receiver that demands this number next, or nothing after a close.
-    pub fn new(opener: Opener, expected: u64, closed: bool) -> LaneReceiver
-        requires { expected ≤ last_number + 1 }
-        ensures opener { result.opener ≡ opener }
-        ensures expected { result.demand.expected ≡ expected }
-        ensures closed { result.demand.closed ≡ closed }
+    /// A receiver on the heap, which demands this number next, or nothing after a close.
+    pub fn new(
+        alloc: Global,
+        etype: i32,
+        key: &[u8],
+        told: &KrbExpect,
+        expected: u64,
+        closed: bool,
+    ) -> Result<Box<LaneReceiver>, Fault>
+        ensures opener { IfOk result (λ b.
+            b.value.opener ≡ opener_of etype key.now (expect_of told.now)) }
+        ensures expected { IfOk result (λ b. b.value.demand.expected ≡ expected) }
+        ensures closed { IfOk result (λ b. b.value.demand.closed ≡ closed) }
+        ensures why { IfErr result (ReceiverReason etype (length key.now) told.now.mode
+            told.now.s_addr.len told.now.r_addr.len expected) }
     {
-        LaneReceiver {
-            opener,
+        if expected > LAST_NUMBER + 1 {
+            return Err(Fault::Argument);
+        }
+        let expect = expectation(alloc, told)?;
+        let receiver = LaneReceiver {
+            opener: Opener::new(session_key(etype, key)?, expect),
             expected,
             closed,
-        }
+        };
+        Box::new(alloc, receiver).map_err(|_| Fault::Refused(Refusal::Memory))
     }
 
     /// The number that is demanded next: at most one over the last, which no message has.
@@ -70,36 +87,34 @@ impl LaneReceiver {
         self.closed
     }
 
-    /// Takes a frame, and writes the bytes of its record after the first: answers the record's kind
-    /// and their number. Each fault leaves all as it was.
+    /// Takes a frame at a moment, and writes the bytes of its record after the first: answers the
+    /// record's kind and their number. Each fault leaves all as it was.
     pub fn take(
         &mut self,
         alloc: Global,
         frame: &[u8],
-        now: Moment,
+        at: &KrbMoment,
         out: &mut [u8],
     ) -> Result<(u32, usize), Fault>
-        ensures accepted { IfOk result (λ taken.
-            Accepts self.old now frame.now taken.0 (take taken.1 out.new) self.new) }
+        ensures accepted { IfOk result (λ taken. Accepts self.old (micros_of at.now) frame.now
+            taken.0 (take taken.1 out.new) self.new) }
         ensures size { IfOk result (λ taken. taken.1 ≤ length out.new) }
         ensures behind { IfOk result (λ taken. drop taken.1 out.new ≡ drop taken.1 out.old) }
         ensures unchanged { OnErr result (self.new ≡ self.old) }
         ensures kept { OnErr result (out.new ≡ out.old) }
-        ensures why { IfErr result (TakeReason self.old now frame.now (length out.old)) }
+        ensures why { IfErr result (TakeFault (Some self.old) at.now frame.now (length out.old)) }
     {
+        let now = at.moment()?;
         if self.closed {
             return Err(Fault::Refused(Refusal::AfterClose));
         }
         let user_data = self.opener.unseal(alloc, frame, self.expected, now)?;
         let (kind, body) = record_kind(alloc, &user_data)?;
-        if out.len() < body.len() {
-            return Err(Fault::Room);
-        }
-        put_front(out, body);
+        let size = put_within(out, body)?;
         let closes = matches!(kind, RecordKind::Close);
         self.expected += 1;
         self.closed = closes;
-        Ok((kind.number(), body.len()))
+        Ok((kind.number(), size))
     }
 }
 

@@ -24,12 +24,10 @@ mod opening;
 mod parts;
 mod receiver_calls;
 mod receiver_handle;
-mod receiving;
 mod record;
 mod room;
 mod sealer_calls;
 mod sealer_handle;
-mod sealing;
 mod session;
 #[cfg(test)]
 mod tests;

@@ -7,6 +7,7 @@ ghost use Rattle.krb_c.specs.Header.{ReadsHeader};
 ghost use Rattle.krb_c.specs.Reasons.{HeaderReason, TextReason};
 
 use crate::answers::{name_into, text_into};
+use crate::fault::answer;
 use crate::header::{KrbHeader, header};
 use std::alloc::Global;
 
@@ -47,13 +48,7 @@ pub extern "C" fn krbrelay_answer_name(code: u32, out: &mut [u8], size: &mut usi
     ensures why { ¬ (result ≡ 0)
         → FaultedBy (TextReason name_of ok_name code (length out.old)) result }
 {
-    match name_into(code, out) {
-        Ok(written) => {
-            *size = written;
-            0
-        }
-        Err(fault) => fault.code(),
-    }
+    answer(size, name_into(code, out))
 }
 
 /// Writes what the answer with this number says and a zero after it, and the text's size.
@@ -65,11 +60,5 @@ pub extern "C" fn krbrelay_answer_text(code: u32, out: &mut [u8], size: &mut usi
     ensures why { ¬ (result ≡ 0)
         → FaultedBy (TextReason text_of ok_text code (length out.old)) result }
 {
-    match text_into(code, out) {
-        Ok(written) => {
-            *size = written;
-            0
-        }
-        Err(fault) => fault.code(),
-    }
+    answer(size, text_into(code, out))
 }

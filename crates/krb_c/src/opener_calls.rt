@@ -13,13 +13,14 @@ ghost use Rattle.krb_c.specs.Session.{expect_of};
 
 use crate::carried::KrbCarried;
 use crate::demand::KrbDemand;
-use crate::fault::Fault;
+use crate::fault::{Fault, answer};
 use crate::handle::Handle;
 use crate::held::Wipe;
 use crate::moment::KrbMoment;
 use crate::opener_handle::KrbOpener;
-use crate::opening::{new_opener, open_live, unseal_in_place, unseal_live};
+use crate::opening::{open_into, unseal_in_place, unseal_into};
 use crate::session::KrbExpect;
+use crate::wipeable_opener::WipeableOpener;
 use std::alloc::Global;
 
 /// Makes an opener of encryption type 17 or 18 under a key of 16 or 32 bytes. What the handle held
@@ -38,7 +39,7 @@ pub extern "C" fn krbrelay_opener_new(
     ensures why { ¬ (result ≡ 0) → FaultedBy (NewReason etype (length key.now) told.now.mode
         told.now.s_addr.len told.now.r_addr.len) result }
 {
-    match new_opener(alloc, etype, key, told) {
+    match WipeableOpener::new(alloc, etype, key, told) {
         Ok(opener) => {
             handle.put(alloc, opener);
             0
@@ -78,15 +79,9 @@ pub extern "C" fn krbrelay_opener_unseal(
     let Some(opener) = handle.take(alloc) else {
         return Fault::Empty.code();
     };
-    let opened = unseal_live(alloc, &opener, frame, number, at, out);
+    let opened = unseal_into(alloc, &opener, frame, number, at, out);
     handle.put(alloc, opener);
-    match opened {
-        Ok(written) => {
-            *size = written;
-            0
-        }
-        Err(fault) => fault.code(),
-    }
+    answer(size, opened)
 }
 
 /// Opens a frame that carries the sequence number, at this moment, into its own bytes: its user data
@@ -118,13 +113,7 @@ pub extern "C" fn krbrelay_opener_unseal_in_place(
     };
     let opened = unseal_in_place(alloc, &opener, frame, number, at);
     handle.put(alloc, opener);
-    match opened {
-        Ok(written) => {
-            *size = written;
-            0
-        }
-        Err(fault) => fault.code(),
-    }
+    answer(size, opened)
 }
 
 /// Opens a frame with demands of the caller's, at this moment: writes its user data and their size,
@@ -157,15 +146,9 @@ pub extern "C" fn krbrelay_opener_open(
     let Some(opener) = handle.take(alloc) else {
         return Fault::Empty.code();
     };
-    let opened = open_live(alloc, &opener, frame, demand, at, out, told);
+    let opened = open_into(alloc, &opener, frame, demand, at, out, told);
     handle.put(alloc, opener);
-    match opened {
-        Ok(written) => {
-            *size = written;
-            0
-        }
-        Err(fault) => fault.code(),
-    }
+    answer(size, opened)
 }
 
 /// Overwrites the keys where they lie. The opener opens nothing from then on.

@@ -11,9 +11,9 @@ ghost use Rattle.krb_c.specs.Session.{expect_of, is_set};
 
 use crate::fault::Fault;
 use crate::handle::Handle;
+use crate::lane_receiver::LaneReceiver;
 use crate::moment::KrbMoment;
 use crate::receiver_handle::KrbReceiver;
-use crate::receiving::{new_receiver, take_at};
 use crate::session::KrbExpect;
 use std::alloc::Global;
 
@@ -35,7 +35,7 @@ pub extern "C" fn krbrelay_receiver_new(
     ensures why { ¬ (result ≡ 0) → FaultedBy (ReceiverReason etype (length key.now) told.now.mode
         told.now.s_addr.len told.now.r_addr.len expected) result }
 {
-    match new_receiver(alloc, etype, key, told, expected, closed != 0) {
+    match LaneReceiver::new(alloc, etype, key, told, expected, closed != 0) {
         Ok(receiver) => {
             handle.put(alloc, receiver);
             0
@@ -75,7 +75,7 @@ pub extern "C" fn krbrelay_receiver_take(
     let Some(mut receiver) = handle.take(alloc) else {
         return Fault::Empty.code();
     };
-    let taken = take_at(alloc, &mut receiver, frame, at, out);
+    let taken = receiver.take(alloc, frame, at, out);
     handle.put(alloc, receiver);
     match taken {
         Ok((found, written)) => {

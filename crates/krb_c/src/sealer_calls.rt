@@ -10,13 +10,13 @@ ghost use Rattle.krb_c.specs.Record.{SealsRecordTo};
 ghost use Rattle.krb_c.specs.Room.{FitsFrames, frame_room};
 ghost use Rattle.krb_c.specs.Session.{mode_of, session_of};
 
-use crate::fault::Fault;
+use crate::any_sealer::AnySealer;
+use crate::fault::{Fault, answer};
 use crate::handle::Handle;
 use crate::held::Wipe;
 use crate::moment::KrbMoment;
 use crate::room::frame_size;
 use crate::sealer_handle::KrbSealer;
-use crate::sealing::{new_sealer, next_size, seal_into, seal_record, set_mode};
 use crate::session::KrbSession;
 use std::alloc::Global;
 
@@ -36,7 +36,7 @@ pub extern "C" fn krbrelay_sealer_new(
     ensures why { ¬ (result ≡ 0) → FaultedBy (NewReason etype (length key.now) told.now.mode
         told.now.s_addr.len told.now.r_addr.len) result }
 {
-    match new_sealer(alloc, etype, key, told) {
+    match AnySealer::new(alloc, etype, key, told) {
         Ok(sealer) => {
             handle.put(alloc, sealer);
             0
@@ -84,15 +84,9 @@ pub extern "C" fn krbrelay_sealer_seal(
     let Some(mut sealer) = handle.take(alloc) else {
         return Fault::Empty.code();
     };
-    let sealed = seal_into(alloc, &mut sealer, user, at, confounder, out);
+    let sealed = sealer.seal(alloc, user, at, confounder, out);
     handle.put(alloc, sealer);
-    match sealed {
-        Ok(written) => {
-            *size = written;
-            0
-        }
-        Err(fault) => fault.code(),
-    }
+    answer(size, sealed)
 }
 
 /// Writes the frame of a record at the next sequence number, and its size: of a text (kind 1), a
@@ -124,15 +118,9 @@ pub extern "C" fn krbrelay_sealer_seal_record(
     let Some(mut sealer) = handle.take(alloc) else {
         return Fault::Empty.code();
     };
-    let sealed = seal_record(alloc, &mut sealer, kind, body, at, confounder, out);
+    let sealed = sealer.seal_record(alloc, kind, body, at, confounder, out);
     handle.put(alloc, sealer);
-    match sealed {
-        Ok(written) => {
-            *size = written;
-            0
-        }
-        Err(fault) => fault.code(),
-    }
+    answer(size, sealed)
 }
 
 /// Tells the next sequence number, which is 4,294,967,296 where no number is left.
@@ -169,15 +157,9 @@ pub extern "C" fn krbrelay_sealer_frame_size(
     let Some(sealer) = handle.take(alloc) else {
         return Fault::Empty.code();
     };
-    let told = next_size(&sealer, len, at);
+    let told = sealer.next_size(len, at);
     handle.put(alloc, sealer);
-    match told {
-        Ok(told) => {
-            *size = told;
-            0
-        }
-        Err(fault) => fault.code(),
-    }
+    answer(size, told)
 }
 
 /// Seals in this mode from now on: 20 for KRB-SAFE, 21 for KRB-PRIV. Key, number and addresses stay.
@@ -194,7 +176,7 @@ pub extern "C" fn krbrelay_sealer_set_mode(
     let Some(mut sealer) = handle.take(alloc) else {
         return Fault::Empty.code();
     };
-    let set = set_mode(&mut sealer, number);
+    let set = sealer.set_mode(number);
     handle.put(alloc, sealer);
     match set {
         Ok(()) => 0,

@@ -1,9 +1,15 @@
 //! An opener whose keys can be overwritten where they lie.
 
-ghost use Rattle.std.specs.Prelude.{◌≡◌, IfSome, IfNone, MatchOption, None, Some};
+ghost use Rattle.std.specs.Prelude.{◌≡◌, length, IfErr, IfOk, OnErr, None, Some};
+ghost use Rattle.krb_seal.specs.Opens.{opener_of};
+ghost use Rattle.krb_c.specs.Reasons.{NewReason};
+ghost use Rattle.krb_c.specs.Session.{expect_of};
 
+use crate::fault::Fault;
 use crate::held::Wipe;
-use krb_seal::Opener;
+use crate::session::{KrbExpect, expectation, session_key};
+use krb_seal::{Opener, Refusal};
+use std::alloc::Global;
 use std::marker::Model;
 
 /// An opener, until it is wiped. Contracts see nothing of one that was wiped, and the key of what
@@ -28,23 +34,36 @@ impl Model for WipeableOpener {
 }
 
 impl WipeableOpener {
-    pub fn new(opener: Opener) -> WipeableOpener
-        ensures { result ≡ Some opener }
+    /// An opener on the heap.
+    pub fn new(
+        alloc: Global,
+        etype: i32,
+        key: &[u8],
+        told: &KrbExpect,
+    ) -> Result<Box<WipeableOpener>, Fault>
+        ensures made { IfOk result (λ b.
+            b.value ≡ Some (opener_of etype key.now (expect_of told.now))) }
+        ensures why { IfErr result (NewReason etype (length key.now) told.now.mode
+            told.now.s_addr.len told.now.r_addr.len) }
     {
-        WipeableOpener {
-            opener,
+        let expect = expectation(alloc, told)?;
+        let opener = WipeableOpener {
+            opener: Opener::new(session_key(etype, key)?, expect),
             wiped: false,
-        }
+        };
+        Box::new(alloc, opener).map_err(|_| Fault::Refused(Refusal::Memory))
     }
 
     /// The opener, unless it was wiped.
-    pub fn live(&self) -> Option<&Opener>
-        ensures { MatchOption result (self.now ≡ None) (λ o. self.now ≡ Some o.now) }
+    pub fn live(&self) -> Result<&Opener, Fault>
+        ensures live { IfOk result (λ o. self.now ≡ Some o.now) }
+        ensures wiped { OnErr result (self.now ≡ None) }
+        ensures err { OnErr result (result ≡ Err Fault.Wiped) }
     {
         if self.wiped {
-            return None;
+            return Err(Fault::Wiped);
         }
-        Some(&self.opener)
+        Ok(&self.opener)
     }
 }
 

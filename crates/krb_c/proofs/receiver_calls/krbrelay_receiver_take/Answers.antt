@@ -14,8 +14,8 @@ returns-in_default-clause-why c = λ _.
 pub returns-in-Ok-clause-accepted : goal.returns-in-Ok-clause-accepted
 returns-in-Ok-clause-accepted c = λ _.
     let now = micros_of c.args.at.now in let frame = c.args.frame.now in
-    let kind = c.in-Ok.found in let body = take c.in-Ok.written c.take_at-taken.new.out in
-    let new = c.take_at-taken.new.receiver in
+    let kind = c.in-Ok.found in let body = take c.in-Ok.written c.take-taken.new.out in
+    let new = c.take-taken.new.self in
     let held = subst (λ (s : ReceiverState). Accepts s now frame kind body new) c.deref_mut.ensures.value c.in-Ok.ensures.accepted in
     subst (λ (n : Option ReceiverState). AcceptsTo c.args.handle.now.receiver now frame kind body n) (sym c.put.ensures)
     (subst (λ (s : Option ReceiverState). AcceptsTo s now frame kind body (Some new)) (sym c.in-Some.ensures.taken) held)

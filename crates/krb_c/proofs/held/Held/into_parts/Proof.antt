@@ -12,7 +12,7 @@ use prog.Wp.{WpFn}
 use types.Logic.{sem}
 use contract.Monad.{fact}
 use contract.Running.{tables}
-use types.Kit.{Item, ‵, raw, prop, ◌⊛◌, ◌$◌, ◌∵◌, !, qed, move, drop, use1, join, split, split3, fsplit, fjoin, feq_l, regoal, rewrite, suffices, done}
+use types.Kit.{Item, ‵, raw, prop, ◌⊛◌, ◌$◌, ◌∵◌, !, qed, move, drop, use1, join, split, fsplit, fjoin, feq_l, regoal, rewrite, suffices, done}
 use types.Part.{whole, sub, agg}
 use types.Run.{stop, fld, no_more, and_then, of_opd, returns, enter}
 use types.ByLocal.{alloc_all, pass_all, free_all, look_at, get, get_in, sets}

@@ -18,7 +18,7 @@ use types.ByLocal.{alloc_all, pass_all, free_all, look_at, sets}
 use denote.RattleType.{RattleType}
 use denote.RawPtr.{null_ptr}
 use denote.Steps.{nothing}
-use denote.Triple.Walked.{says, Stays, walk_of, ends_at}
+use denote.Triple.Walked.{says, walk_of, ends_at}
 use Rattle.std.specs.Prelude.{None}
 use Rattle.std.proofs.raw_atomic.Walks.{proved_at}
 use Rattle.krb_c.proofs.Values.{held_val, held_own, held_made, held_typed}
