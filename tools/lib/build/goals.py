@@ -1,9 +1,10 @@
-"""At which goal the prover refuses each mutant: what the edits say, and what `rt` reports.
+"""At which goal the prover refuses each mutant: what the lists say, and what `rt` reports.
 
-The first line of an edit may be 'clause: GOAL'. GOAL is the prover's name for what it can't prove
-of the mutant, as `returns-clause-capacity`: the clause `capacity` of what the function ensures. It
-is the clause that the mutant violates, so a mutant that is refused somewhere else misses its
-target.
+Beside its edits, a folder of mutants has the file clauses.txt, with a line 'NAME: GOAL' for each
+mutant. GOAL is the prover's name for what it can't prove of the mutant, as
+`returns-clause-capacity`: the clause `capacity` of what the function ensures. It is the clause that
+the mutant violates, so a mutant that is refused somewhere else misses its target. The list is a
+file of its own, since `rt` reads no such line in an edit, and tries an edit anew that changes.
 """
 import os
 import re
@@ -11,25 +12,34 @@ import re
 from lib.build import building
 
 FOLDERS = "must-fail", "must-fail-more"
-KEY = "clause: "
+LIST = "clauses.txt"
+HEAD = "# The goal at which the prover refuses each mutant of this folder.\n"
 # A line of `rt` on a mutant that is refused, and the goals that are named in its words. `rt` cuts
 # long lines, so the last name may be the first part of one.
 REFUSED = re.compile(r"rt: must-fail (\w+)/(\S+)\.edit: refused, as it must be: (.*)")
 GOAL = re.compile(r"(?:\(|error: )`([\w+-]+)(`?)")
 
 
-def said(path):
-    """The goal that an edit names in its first line, or None."""
-    with open(path, encoding="utf-8") as file:
-        line = file.readline().rstrip("\n")
-    return line.removeprefix(KEY) if line.startswith(KEY) else None
+def listed(folder):
+    """The goals of a folder's mutants by their names, as its list has them."""
+    try:
+        with open(os.path.join(folder, LIST), encoding="utf-8") as file:
+            lines = [line for line in file.read().splitlines() if not line.startswith("#")]
+    except OSError:
+        return {}
+    return dict(line.split(": ", maxsplit=1) for line in lines)
 
 
-def path_of(crate, name):
-    """The file of an edit, or None."""
+def write(folder, goals):
+    with open(os.path.join(folder, LIST), "w", encoding="utf-8") as file:
+        file.write(HEAD + "".join(f"{name}: {goal}\n" for name, goal in sorted(goals.items())))
+
+
+def folder_of(crate, name):
+    """The folder in which a mutant is, or None."""
     for folder in FOLDERS:
-        path = os.path.join(building.folder_of(crate), folder, f"{name}.edit")
-        if os.path.isfile(path):
+        path = os.path.join(building.folder_of(crate), folder)
+        if os.path.isfile(os.path.join(path, f"{name}.edit")):
             return path
     return None
 
@@ -42,24 +52,26 @@ def reported(output):
         yield (crate, name, found[1], found[2] == "`") if found else (crate, name, "", False)
 
 
-def is_goal(said_goal, goal, whole):
-    return said_goal == goal if whole else said_goal.startswith(goal)
+def is_goal(said, goal, whole):
+    return said == goal if whole else said.startswith(goal)
 
 
 def difference(crate, name, goal, whole):
-    """How a mutant was refused otherwise than its edit says, or None."""
-    path = path_of(crate, name)
-    if path is None:
+    """How a mutant was refused otherwise than the list says, or None."""
+    folder = folder_of(crate, name)
+    if folder is None:
         return "there is no such edit"
-    wanted = said(path)
-    if wanted is None or is_goal(wanted, goal, whole):
+    wanted = listed(folder).get(name)
+    if wanted is None:
+        return "no list says at which goal it is refused"
+    if is_goal(wanted, goal, whole):
         return None
     return f"refused at {goal}, and not at {wanted}"
 
 
 def differences(output):
-    """How many mutants were refused at the goal that their edit names, and of each other one its
-    crate and its name, and a line."""
+    """How many mutants were refused at the goal that the list says, and of each other one its crate
+    and its name, and a line."""
     found = [((crate, name), difference(crate, name, goal, whole))
              for crate, name, goal, whole in reported(output)]
     others = [(mutant, line) for mutant, line in found if line is not None]
@@ -67,19 +79,30 @@ def differences(output):
 
 
 def note(output):
-    """Writes the goal into each edit that names none, unless its name was cut. Returns how many
+    """Writes the goals into the lists that don't have them, unless a name was cut. Returns how many
     were written, and the crate and the name of each mutant whose goal wasn't named whole."""
     noted, cut = 0, []
     for crate, name, goal, whole in reported(output):
-        path = path_of(crate, name)
-        if path is None or said(path) is not None:
+        folder = folder_of(crate, name)
+        goals = listed(folder) if folder else {}
+        if folder is None or name in goals:
             continue
-        if not whole:
+        if whole:
+            write(folder, {**goals, name: goal})
+            noted += 1
+        else:
             cut.append(f"{crate}/{name}")
-            continue
-        with open(path, encoding="utf-8") as file:
-            text = file.read()
-        with open(path, "w", encoding="utf-8") as file:
-            file.write(f"{KEY}{goal}\n{text}")
-        noted += 1
     return noted, cut
+
+
+def faults(crate):
+    """A line for each mutant of a crate without a goal, and for each goal without a mutant."""
+    for folder in FOLDERS:
+        path = os.path.join(building.folder_of(crate), folder)
+        if not os.path.isdir(path):
+            continue
+        names = {it.removesuffix(".edit") for it in os.listdir(path) if it.endswith(".edit")}
+        goals = listed(path)
+        for name in sorted(names ^ set(goals)):
+            yield (f"{crate}/{folder}/{LIST}: {name} "
+                   + ("has no goal" if name in names else "is no mutant"))
