@@ -1,8 +1,6 @@
 -- Why a relay stops: numbers and words.
 use Rattle.std.specs.Prelude.{ℕ, List, codes, ◌++◌}
 use Rattle.std.specs.Fmt.{decimal}
-use Rattle.krb_peers.specs.declared.plan.EmitError.{EmitError}
-use Rattle.krb_peers.specs.declared.plan.EmitError.TheVariants as emission
 use Rattle.krb_peers.specs.declared.start.StartError.{StartError}
 use Rattle.krb_peers.specs.declared.start.StartError.TheVariants as start
 use Rattle.krb_relay.specs.declared.cause.Cause.{Cause}
@@ -35,11 +33,6 @@ abbrev pub cause_of : OwnCause → Cause
 cause_of own.Memory = Memory
 cause_of own.Spawn = Spawn
 cause_of own.Lost = Lost
-
--- Why a plan's frames couldn't be made, as one of all causes.
-abbrev pub cause_of_emission : EmitError → Cause
-cause_of_emission emission.BadPlan = BadPlan
-cause_of_emission emission.Memory = Memory
 
 -- Why nothing of a lane could be sent, as one of all causes.
 abbrev pub cause_of_start : StartError → Cause

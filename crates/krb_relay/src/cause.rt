@@ -4,7 +4,7 @@ ghost use Rattle.std.specs.Prelude.{◌≡◌, Some};
 ghost use Rattle.krb_relay.specs.Cause.{code_of, words_of, cause_of};
 
 use krb_lane::LaneError;
-use krb_peers::{EmitError, StartError};
+use krb_peers::StartError;
 use std::alloc::AllocError;
 use std::error::Error;
 use std::fmt;
@@ -54,20 +54,6 @@ impl fmt::Display for Cause {
 }
 
 impl Error for Cause {}
-
-impl From<EmitError> for Cause {
-    ghost use Rattle.std.specs.Prelude.{◌≡◌};
-    ghost use Rattle.krb_relay.specs.Cause.{cause_of_emission};
-
-    ghost from_gives = { λ error cause. cause ≡ cause_of_emission error };
-
-    fn from(error: EmitError) -> Cause {
-        match error {
-            EmitError::BadPlan => Cause::BadPlan,
-            EmitError::Memory => Cause::Memory,
-        }
-    }
-}
 
 impl From<StartError> for Cause {
     ghost use Rattle.std.specs.Prelude.{◌≡◌};
