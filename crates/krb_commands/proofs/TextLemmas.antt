@@ -36,17 +36,41 @@ pub priv_joined : (pvno msg_type etype kvno cipher : List ℕ)
     ≡ (codes "PRIV " ++ pvno ++ codes " " ++ msg_type ++ codes " etype=" ++ etype ++ codes " kvno=" ++ kvno ++ codes " cipher=" ++ cipher) ++ codes "\n"
 priv_joined pvno msg_type etype kvno cipher = simp append_assoc refl
 
-pub refusal_joined : (code name : List ℕ) → codes "refused " ++ (code ++ (codes " " ++ name)) ≡ codes "refused " ++ code ++ codes " " ++ name
-refusal_joined code name = simp append_assoc refl
+pub lane_joined : (lane name : List ℕ)
+    → codes "lane " ++ (lane ++ (codes " " ++ (name ++ codes "\n"))) ≡ codes "lane " ++ lane ++ codes " " ++ name ++ codes "\n"
+lane_joined lane name = simp append_assoc refl
 
-pub lane_joined : (lane event : List ℕ)
-    → codes "lane " ++ (lane ++ (codes " " ++ (event ++ codes "\n"))) ≡ codes "lane " ++ lane ++ codes " " ++ event ++ codes "\n"
-lane_joined lane event = simp append_assoc refl
+-- the text of an event, after that of its lane
+text_after : (front lane space word digits end : List ℕ)
+    → front ++ (lane ++ ((space ++ word) ++ (digits ++ end))) ≡ front ++ lane ++ space ++ (word ++ digits) ++ end
+text_after front lane space word digits end = simp append_assoc refl
+
+pub text_joined : (lane digits : List ℕ)
+    → codes "lane " ++ (lane ++ (codes " text " ++ (digits ++ codes "\n"))) ≡ codes "lane " ++ lane ++ codes " " ++ (codes "text " ++ digits) ++ codes "\n"
+text_joined lane digits = text_after (codes "lane ") lane (codes " ") (codes "text ") digits (codes "\n")
+
+pub closed_joined : (lane : List ℕ) → codes "lane " ++ (lane ++ codes " closed\n") ≡ codes "lane " ++ lane ++ codes " " ++ codes "closed" ++ codes "\n"
+closed_joined lane = simp append_assoc refl
+
+refused_after : (front lane space word code name end : List ℕ)
+    → front ++ (lane ++ ((space ++ word) ++ (code ++ (space ++ (name ++ end))))) ≡ front ++ lane ++ space ++ (word ++ code ++ space ++ name) ++ end
+refused_after front lane space word code name end = simp append_assoc refl
+
+pub refused_joined : (lane code name : List ℕ)
+    → codes "lane " ++ (lane ++ (codes " refused " ++ (code ++ (codes " " ++ (name ++ codes "\n")))))
+    ≡ codes "lane " ++ lane ++ codes " " ++ (codes "refused " ++ code ++ codes " " ++ name) ++ codes "\n"
+refused_joined lane code name = refused_after (codes "lane ") lane (codes " ") (codes "refused ") code name (codes "\n")
 
 pub sent_joined : (k n ending : List ℕ)
-    → codes "sent " ++ (k ++ (codes " of " ++ (n ++ (codes " " ++ ending)))) ≡ codes "sent " ++ k ++ codes " of " ++ n ++ codes " " ++ ending
+    → codes "sent " ++ (k ++ (codes " of " ++ (n ++ (codes " " ++ (ending ++ codes "\n"))))) ≡ codes "sent " ++ k ++ codes " of " ++ n ++ codes " " ++ ending ++ codes "\n"
 sent_joined k n ending = simp append_assoc refl
 
-pub end_joined : (lane sent name : List ℕ)
-    → codes "lane " ++ (lane ++ (codes " " ++ (sent ++ (codes " " ++ (name ++ codes "\n"))))) ≡ codes "lane " ++ lane ++ codes " " ++ sent ++ codes " " ++ name ++ codes "\n"
-end_joined lane sent name = simp append_assoc refl
+end_after : (front lane space word k of n ending name end : List ℕ)
+    → front ++ (lane ++ ((space ++ word) ++ (k ++ (of ++ (n ++ (space ++ (ending ++ (space ++ (name ++ end)))))))))
+    ≡ front ++ lane ++ space ++ (word ++ k ++ of ++ n ++ space ++ ending) ++ space ++ name ++ end
+end_after front lane space word k of n ending name end = simp append_assoc refl
+
+pub end_joined : (lane k n ending name : List ℕ)
+    → codes "lane " ++ (lane ++ (codes " sent " ++ (k ++ (codes " of " ++ (n ++ (codes " " ++ (ending ++ (codes " " ++ (name ++ codes "\n")))))))))
+    ≡ codes "lane " ++ lane ++ codes " " ++ (codes "sent " ++ k ++ codes " of " ++ n ++ codes " " ++ ending) ++ codes " " ++ name ++ codes "\n"
+end_joined lane k n ending name = end_after (codes "lane ") lane (codes " ") (codes "sent ") k (codes " of ") n ending name (codes "\n")

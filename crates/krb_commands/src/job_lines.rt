@@ -1,8 +1,7 @@
 //! The lines that are printed for a job.
 
-ghost use Rattle.std.specs.Prelude.{◌≡◌, ◌++◌, codes, length, IfOk, IfErr, OnOk, OnErr};
+ghost use Rattle.std.specs.Prelude.{◌≡◌, length, IfOk, IfErr, OnOk, OnErr};
 ghost use Rattle.std.specs.Io.KnownBytes.{Appends};
-ghost use Rattle.std.specs.String.{string_bytes};
 ghost use Rattle.hex.specs.Hex.{encode_lower};
 ghost use Rattle.krb_commands.specs.Fault.{IsOfPrinting};
 ghost use Rattle.krb_commands.specs.JobLines as lines;
@@ -11,7 +10,6 @@ ghost use Rattle.krb_commands.specs.Output.{AppendsPart};
 use crate::fault::Fault;
 use crate::line::{Line, print_lines};
 use krb_peers::{Ending, Entry, Event, Log, Sent, Status};
-use krb_seal::Refusal;
 use std::alloc::{AllocError, Global};
 use std::io::Write;
 
@@ -31,8 +29,17 @@ impl Line for Entry {
 
     fn line(&self, alloc: Global) -> Result<String, AllocError> {
         let lane = self.lane;
-        let event = event_text(alloc, &self.event)?;
-        format!(in alloc; "lane {lane} {event}\n")
+        match &self.event {
+            Event::Text(text) => {
+                let digits = hex::encode(alloc, text.as_slice())?;
+                format!(in alloc; "lane {lane} text {digits}\n")
+            }
+            Event::Closed => format!(in alloc; "lane {lane} closed\n"),
+            Event::Refused(refusal) => {
+                let (code, name) = (refusal.code(), refusal.name());
+                format!(in alloc; "lane {lane} refused {code} {name}\n")
+            }
+        }
     }
 }
 
@@ -52,43 +59,15 @@ pub(crate) fn print_log<W: Write>(alloc: Global, log: &Log, writer: &mut W) -> R
     Ok(entries.len())
 }
 
-fn event_text(alloc: Global, event: &Event) -> Result<String, AllocError>
-    ensures { IfOk result (λ text. string_bytes text ≡ lines.event_text event.now) }
-{
-    match event {
-        Event::Text(text) => {
-            let digits = hex::encode(alloc, text.as_slice())?;
-            format!(in alloc; "text {digits}")
-        }
-        Event::Closed => String::from_str(alloc, "closed"),
-        Event::Refused(refusal) => refusal_text(alloc, refusal),
-    }
-}
-
-fn refusal_text(alloc: Global, refusal: &Refusal) -> Result<String, AllocError>
-    ensures { IfOk result (λ text. string_bytes text ≡ lines.refusal_text refusal.now) }
-{
-    let code = refusal.code();
-    let name = refusal.name();
-    format!(in alloc; "refused {code} {name}")
-}
-
 /// How much of a sender's texts is sealed.
 impl Line for Sent {
     ghost text = { λ sent. lines.sent_text sent };
 
     fn line(&self, alloc: Global) -> Result<String, AllocError> {
-        let text = sent_text(alloc, self)?;
-        format!(in alloc; "{text}\n")
+        let (k, n) = (self.k, self.n);
+        let ending = ending_name(self.ending);
+        format!(in alloc; "sent {k} of {n} {ending}\n")
     }
-}
-
-fn sent_text(alloc: Global, sent: &Sent) -> Result<String, AllocError>
-    ensures { IfOk result (λ text. string_bytes text ≡ lines.sent_text sent.now) }
-{
-    let (k, n) = (sent.k, sent.n);
-    let ending = ending_name(sent.ending);
-    format!(in alloc; "sent {k} of {n} {ending}")
 }
 
 fn ending_name(ending: Ending) -> &'static str
@@ -138,8 +117,9 @@ impl Line for EndLine {
 
     fn line(&self, alloc: Global) -> Result<String, AllocError> {
         let (lane, name) = (self.lane, state_name(self.status));
-        let sent = sent_text(alloc, &self.sent)?;
-        format!(in alloc; "lane {lane} {sent} {name}\n")
+        let (k, n) = (self.sent.k, self.sent.n);
+        let ending = ending_name(self.sent.ending);
+        format!(in alloc; "lane {lane} sent {k} of {n} {ending} {name}\n")
     }
 }
 
