@@ -10,6 +10,8 @@ mod asserts;
 #[cfg(test)]
 mod commands;
 #[cfg(test)]
+mod faulty;
+#[cfg(test)]
 mod frames;
 #[cfg(test)]
 mod gate;

@@ -1,5 +1,4 @@
 //! Readers and writers over memory that fail at one of their calls, and that the commands tell so.
-ghost use Rattle.std.specs.Prelude.{Some};
 
 use super::jobs::{run, sender};
 use super::opens::receiver;
@@ -7,95 +6,20 @@ use super::relays::{SILENT, two_senders};
 use super::shows::{SAFE_LINE, SAFE_TEXT};
 use super::vectors::PUBLISHED;
 use crate::asserts::{assert_same, assert_same_at};
+use crate::faulty::{Failure, FaultyReader, FaultyWriter};
 use crate::frames::{SAFE_CLOSE, SAFE_TEXT as SAFE_FRAME};
 use crate::relayed::TWO_LANES;
 use krb_commands::{Fault, read_all, show, vectors};
 use krb_job::Command;
 use std::alloc::Global;
-use std::io;
-use std::io::{ErrorKind, Read, Write};
 use std::process::Abort;
 use std::sync::Wait;
 use std::test::Fail;
 use std::thread::Threads;
 
-/// What happens at the call that fails.
-#[derive(Clone, Copy, PartialEq, Eq)]
-enum Failure {
-    Error,
-    Nothing,
-}
-
-/// Gives at most three bytes a call, and fails at one call.
-#[derive(Drop)]
-struct FaultyReader<'a> {
-    rest: &'a [u8],
-    calls: usize,
-    fails_at: usize,
-}
-
-impl<'a> FaultyReader<'a> {
-    /// A reader of the line, which fails at this call.
-    fn new(fails_at: usize) -> FaultyReader<'a> {
-        FaultyReader {
-            rest: SAFE_LINE.as_bytes(),
-            calls: 0,
-            fails_at,
-        }
-    }
-}
-
-impl<'a> Read for FaultyReader<'a> {
-    ghost remaining = { λ r. Some r.rest.now };
-
-    fn read(&mut self, buf: &mut [u8]) -> io::Result<usize> {
-        self.calls = self.calls.wrapping_add(1);
-        if self.calls == self.fails_at {
-            return Err(io::Error::from(ErrorKind::Other));
-        }
-        let most = buf.len().min(3);
-        self.rest.read(&mut buf[..most])
-    }
-}
-
-/// Takes at most two bytes a call, and fails or takes nothing at one call.
-#[derive(Drop)]
-struct FaultyWriter {
-    taken: Vec<u8>,
-    calls: usize,
-    fails_at: usize,
-    failure: Failure,
-}
-
-impl Write for FaultyWriter {
-    ghost contents = { λ w. Some w.taken.items };
-
-    fn write(&mut self, buf: &[u8]) -> io::Result<usize> {
-        self.calls = self.calls.wrapping_add(1);
-        if self.calls == self.fails_at {
-            return match self.failure {
-                Failure::Error => Err(io::Error::from(ErrorKind::Other)),
-                Failure::Nothing => Ok(0),
-            };
-        }
-        let most = buf.len().min(2);
-        self.taken.write(&buf[..most])
-    }
-
-    fn flush(&mut self) -> io::Result<()> {
-        Ok(())
-    }
-}
-
-impl FaultyWriter {
-    fn new(alloc: Global, fails_at: usize, failure: Failure) -> FaultyWriter {
-        FaultyWriter {
-            taken: Vec::new(alloc),
-            calls: 0,
-            fails_at,
-            failure,
-        }
-    }
+/// A reader of the line of a message, three bytes a call, which fails at this call.
+fn reader_of_the_line(fails_at: usize) -> FaultyReader<'static> {
+    FaultyReader::new(SAFE_LINE.as_bytes(), 3, fails_at)
 }
 
 /// Asserts that a command told that the writer failed at this call, and wrote a part of its text.
@@ -136,7 +60,7 @@ fn assert_whole(rt: &impl Abort, outcome: Result<u8, Fault>, output: &[u8], text
 
 /// Asserts that `show` tells that the reader fails at this call, and writes nothing.
 fn assert_read_fault(rt: &(impl Abort + Alloc<A = Global>), call: usize) {
-    let mut reader = FaultyReader::new(call);
+    let mut reader = reader_of_the_line(call);
     let mut output = Vec::new(rt.alloc());
     let result = show(rt.alloc(), &mut reader, &mut output);
     assert_same_at(rt, result, Err(Fault::Read), call);
@@ -150,7 +74,7 @@ fn each_read_fails_in_turn(rt: HostRuntime) {
         assert_read_fault(&rt, call);
     }
     let mut output = Vec::new(rt.alloc());
-    let result = show(rt.alloc(), &mut FaultyReader::new(59), &mut output);
+    let result = show(rt.alloc(), &mut reader_of_the_line(59), &mut output);
     assert_whole(&rt, result, output.as_slice(), SAFE_TEXT);
 }
 
@@ -224,7 +148,7 @@ fn each_write_of_relay_fails_in_turn(rt: HostRuntime) -> Result<(), Fail> {
 /// What `read_all` answers where the reader fails at this call: the fault, or none where it gives
 /// the whole line.
 fn read_with_fault(alloc: Global, fails_at: usize) -> Option<Fault> {
-    match read_all(alloc, &mut FaultyReader::new(fails_at)) {
+    match read_all(alloc, &mut reader_of_the_line(fails_at)) {
         Ok(input) if input.as_slice() == SAFE_LINE.as_bytes() => None,
         Ok(_) => Some(Fault::Stopped { lines: 0 }),
         Err(fault) => Some(fault),

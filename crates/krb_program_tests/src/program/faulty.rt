@@ -2,88 +2,21 @@
 //! tells a read fault and writes nothing, or tells a write fault and has written a part of its
 //! text.
 
-ghost use Rattle.std.specs.Prelude.{Some};
-
 use super::jobs::TWO_SENDERS;
 use super::runs::{SEALED, SESSION};
 use crate::asserts::assert_same_at;
+use crate::faulty::{Failure, FaultyReader, FaultyWriter};
 use crate::frames::{SAFE_CLOSE, SAFE_TEXT};
 use crate::relayed::TWO_LANES;
 use krb_commands::Fault;
 use krb_program::obey;
 use krb_relay::NoGate;
 use std::alloc::{AllocError, Global};
-use std::io;
-use std::io::{BufWriter, ErrorKind, Read, Write};
+use std::io::BufWriter;
 use std::process::Abort;
 use std::sync::Wait;
 use std::test::Fail;
 use std::thread::Threads;
-
-/// Gives at most sixteen bytes a call, and fails at one call.
-#[derive(Drop)]
-struct FaultyReader<'a> {
-    rest: &'a [u8],
-    calls: usize,
-    fails_at: usize,
-}
-
-impl<'a> Read for FaultyReader<'a> {
-    ghost remaining = { λ r. Some r.rest.now };
-
-    fn read(&mut self, buf: &mut [u8]) -> io::Result<usize> {
-        self.calls = self.calls.wrapping_add(1);
-        if self.calls == self.fails_at {
-            return Err(io::Error::from(ErrorKind::Other));
-        }
-        let most = buf.len().min(16);
-        self.rest.read(&mut buf[..most])
-    }
-}
-
-/// What fails of a writer.
-#[derive(Clone, Copy, PartialEq, Eq)]
-enum Failure {
-    /// The call is answered by an error.
-    Error,
-    /// The call takes nothing.
-    Nothing,
-    /// Each call for a flush is answered by an error, and no other.
-    Flush,
-}
-
-/// Takes at most two bytes a call, and fails.
-#[derive(Drop)]
-struct FaultyWriter {
-    taken: Vec<u8>,
-    calls: usize,
-    fails_at: usize,
-    failure: Failure,
-}
-
-impl Write for FaultyWriter {
-    ghost contents = { λ w. Some w.taken.items };
-
-    fn write(&mut self, buf: &[u8]) -> io::Result<usize> {
-        self.calls = self.calls.wrapping_add(1);
-        if self.calls == self.fails_at {
-            match self.failure {
-                Failure::Error => return Err(io::Error::from(ErrorKind::Other)),
-                Failure::Nothing => return Ok(0),
-                Failure::Flush => {}
-            }
-        }
-        let most = buf.len().min(2);
-        self.taken.write(&buf[..most])
-    }
-
-    fn flush(&mut self) -> io::Result<()> {
-        match self.failure {
-            Failure::Error | Failure::Nothing => Ok(()),
-            Failure::Flush => Err(io::Error::from(ErrorKind::Other)),
-        }
-    }
-}
 
 /// A message that `show` reads.
 const PRIV_LINE: &str = "75193017a003020105a103020115a30b3009a003020111a2020400";
@@ -112,17 +45,8 @@ fn faulty(
     write_fails_at: usize,
     failure: Failure,
 ) -> Result<(Result<u8, Fault>, Vec<u8>), Fail> {
-    let mut reader = FaultyReader {
-        rest: run.input.as_bytes(),
-        calls: 0,
-        fails_at: read_fails_at,
-    };
-    let writer = FaultyWriter {
-        taken: Vec::new(rt.alloc()),
-        calls: 0,
-        fails_at: write_fails_at,
-        failure,
-    };
+    let mut reader = FaultyReader::new(run.input.as_bytes(), 16, read_fails_at);
+    let writer = FaultyWriter::new(rt.alloc(), write_fails_at, failure);
     let mut writer = BufWriter::new(rt.alloc(), writer)?;
     let words = ["krbrelay", run.word];
     let outcome = obey(rt, rt.alloc(), &words, &mut reader, &mut writer, &NoGate)?;
