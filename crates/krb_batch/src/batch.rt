@@ -13,7 +13,7 @@ use std::error::Error;
 use std::fmt;
 
 /// The first byte of a batch.
-pub const BATCH_TAG: u8 = 0x42;
+pub const BATCH_BYTE: u8 = 0x42;
 
 /// Why [`read_batch`] gives no batch.
 #[derive(Clone, Copy, Debug, PartialEq, Eq)]
@@ -68,7 +68,7 @@ pub fn batch_bytes(alloc: Global, texts: &[Bytes]) -> Result<Vec<u8>, AllocError
     ensures { IfOk result (λ bytes. SpellsBatch texts.now bytes.items) }
 {
     let mut bytes = Vec::with_capacity(alloc, 1 + size_of(texts))?;
-    bytes.push(BATCH_TAG)?;
+    bytes.push(BATCH_BYTE)?;
     for text in texts {
         put_text(&mut bytes, text.as_slice())?;
     }
@@ -145,7 +145,7 @@ fn behind_tag(bytes: &[u8]) -> Option<&[u8]>
         → ¬ (bytes.now ≡ 0x42 ∷ rest)) }
 {
     match bytes.split_first() {
-        Some((tag, rest)) if *tag == BATCH_TAG && rest.len() <= BATCH_SIZE_LIMIT => Some(rest),
+        Some((tag, rest)) if *tag == BATCH_BYTE && rest.len() <= BATCH_SIZE_LIMIT => Some(rest),
         _ => None,
     }
 }

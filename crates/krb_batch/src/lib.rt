@@ -16,6 +16,6 @@ mod batch;
 mod groups;
 mod texts;
 
-pub use batch::{BATCH_TAG, BatchError, batch_bytes, batch_laws, read_batch};
+pub use batch::{BATCH_BYTE, BatchError, batch_bytes, batch_laws, read_batch};
 pub use groups::{group_end, group_laws};
 pub use texts::Texts;

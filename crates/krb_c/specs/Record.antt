@@ -3,7 +3,7 @@ use Rattle.std.specs.Prelude.{◌≡◌, ℕ, false, List, ◌∷◌, Option, So
 use Rattle.krb_seal.specs.Opens.{Opens}
 use Rattle.krb_seal.specs.Sealer.{SealerState, SealsNext}
 use Rattle.krb_peers.specs.declared.record.Record.{Record}
-use Rattle.krb_peers.specs.Record.{SpellsRecord, is_close, kind_of, number_of, tag_of}
+use Rattle.krb_peers.specs.Record.{SpellsRecord, is_close, kind_of, number_of, first_byte_of}
 use Rattle.krb_peers.specs.ReceiverState.{ReceiverState}
 use Rattle.krb_peers.specs.Receiver.{advanced}
 
@@ -12,7 +12,7 @@ use Rattle.krb_peers.specs.Receiver.{advanced}
 pub record IsRecordOf (kind : ℕ) (body : List ℕ) (r : Record) (user : List ℕ) : Type 0 where
   pub spelt : SpellsRecord r user
   pub kind_is : kind ≡ number_of (kind_of r)
-  pub body_is : user ≡ tag_of (kind_of r) ∷ body
+  pub body_is : user ≡ first_byte_of (kind_of r) ∷ body
 
 -- nothing is such a record
 abbrev pub IsNoRecordOf : ℕ → List ℕ → Type 0

@@ -40,7 +40,7 @@ pub fn record_of(alloc: Global, number: u32, body: &[u8]) -> Result<Vec<u8>, Fau
         return Err(Fault::Record);
     };
     let mut user = Vec::new(alloc);
-    user.extend_from_slice(&[kind.tag()])?;
+    user.extend_from_slice(&[kind.first_byte()])?;
     user.extend_from_slice(body)?;
     match record_kind(alloc, &user) {
         Ok((found, _)) if found == kind => Ok(user),

@@ -30,16 +30,16 @@ kind_of_number number =
     if number == number_of kinds.Close then Some kinds.Close else None
 
 -- the first byte of the records of a kind
-abbrev pub tag_of : RecordKind → ℕ
-tag_of kinds.Text = 0x44
-tag_of kinds.Batch = 0x42
-tag_of kinds.Close = 0x43
+abbrev pub first_byte_of : RecordKind → ℕ
+first_byte_of kinds.Text = 0x44
+first_byte_of kinds.Batch = 0x42
+first_byte_of kinds.Close = 0x43
 
 -- the bytes of a record: 44 and the text, those of the batch, or the single byte 43 (hexadecimal)
 abbrev pub bytes_of : Record → List ℕ
-bytes_of (Text text) = tag_of kinds.Text ∷ text
+bytes_of (Text text) = first_byte_of kinds.Text ∷ text
 bytes_of (Batch texts) = spelling texts
-bytes_of Close = tag_of kinds.Close ∷ []
+bytes_of Close = first_byte_of kinds.Close ∷ []
 
 -- the texts that a record carries, in order
 abbrev pub texts_of : Record → List (List ℕ)

@@ -21,7 +21,7 @@ use Rattle.krb_peers.specs.declared.log.Event.TheVariants as events
 use Rattle.krb_peers.specs.Demand.{Demand}
 use Rattle.krb_peers.specs.Order.{demand_after}
 use Rattle.krb_peers.specs.ReceiverState.{ReceiverState}
-use Rattle.krb_peers.specs.Record.{SpellsRecord, tag_of}
+use Rattle.krb_peers.specs.Record.{SpellsRecord, first_byte_of}
 use Rattle.krb_peers.specs.Log.{texts_in}
 use Rattle.krb_peers.specs.Sender.{moment_at}
 
@@ -119,10 +119,10 @@ AllBytes (frame ∷ frames) = AreBytes frame × AllBytes frames
 -- what the user data delivers, if it is the bytes of a record
 abbrev pub delivery_in : List ℕ → Option Delivery
 delivery_in [] = None
-delivery_in (tag ∷ rest) =
-    if (tag == tag_of kinds.Text) && nat_le (length rest) text_limit then Some (Text rest)
-    else (if (tag == tag_of kinds.Close) && (length rest == 0) then Some Closed
-    else option_map Batch (batch_in (tag ∷ rest)))
+delivery_in (first ∷ rest) =
+    if (first == first_byte_of kinds.Text) && nat_le (length rest) text_limit then Some (Text rest)
+    else (if (first == first_byte_of kinds.Close) && (length rest == 0) then Some Closed
+    else option_map Batch (batch_in (first ∷ rest)))
 
 abbrev pub judged : Option Delivery → Verdict
 judged (Some delivery) = Ok delivery

@@ -4,20 +4,20 @@ ghost use Rattle.std.specs.Prelude.{◌≡◌, ◌≢◌, ◌↔◌, ◌≤◌, 
 ghost use Rattle.krb_base.specs.Limits.{text_limit};
 ghost use Rattle.krb_batch.specs.Batch.{SpellsBatch};
 ghost use Rattle.krb_peers.specs.Record.{FitsLimits, SpellsRecord, bytes_of, code_of, words_of};
-ghost use Rattle.krb_peers.specs.Record.{kind_of, kind_of_number, number_of, tag_of};
+ghost use Rattle.krb_peers.specs.Record.{kind_of, kind_of_number, number_of, first_byte_of};
 ghost use Rattle.krb_peers.specs.Sender.{record_for};
 
 use krb_base::{Bytes, TEXT_LIMIT, cut_out};
-use krb_batch::{BATCH_TAG, BatchError, Texts, batch_bytes, read_batch};
+use krb_batch::{BATCH_BYTE, BatchError, Texts, batch_bytes, read_batch};
 use std::alloc::{AllocError, Global};
 use std::error::Error;
 use std::fmt;
 
 /// The first byte of a text.
-const TEXT_TAG: u8 = 0x44;
+const TEXT_BYTE: u8 = 0x44;
 
 /// The one byte of the close.
-const CLOSE_TAG: u8 = 0x43;
+const CLOSE_BYTE: u8 = 0x43;
 
 /// What the user data of a relayed message is.
 #[derive(Debug, Drop)]
@@ -80,13 +80,13 @@ impl RecordKind {
     }
 
     /// The first byte of its records: 44, 42 or 43 (hexadecimal).
-    pub fn tag(self) -> u8
-        ensures { result ≡ tag_of self }
+    pub fn first_byte(self) -> u8
+        ensures { result ≡ first_byte_of self }
     {
         match self {
-            RecordKind::Text => TEXT_TAG,
-            RecordKind::Batch => BATCH_TAG,
-            RecordKind::Close => CLOSE_TAG,
+            RecordKind::Text => TEXT_BYTE,
+            RecordKind::Batch => BATCH_BYTE,
+            RecordKind::Close => CLOSE_BYTE,
         }
     }
 }
@@ -167,7 +167,7 @@ fn text_record(alloc: Global, text: &[u8]) -> Result<Vec<u8>, AllocError>
     ensures { IfOk result (λ bytes. bytes.items ≡ bytes_of (Record.Text text.now)) }
 {
     let mut bytes = Vec::with_capacity(alloc, 1 + text.len())?;
-    bytes.push(TEXT_TAG)?;
+    bytes.push(TEXT_BYTE)?;
     bytes.extend_from_slice(text)?;
     Ok(bytes)
 }
@@ -176,7 +176,7 @@ fn text_record(alloc: Global, text: &[u8]) -> Result<Vec<u8>, AllocError>
 pub(crate) fn close_record(alloc: Global) -> Result<Vec<u8>, AllocError>
     ensures { IfOk result (λ bytes. bytes.items ≡ bytes_of Record.Close) }
 {
-    Vec::from_slice(alloc, &[CLOSE_TAG])
+    Vec::from_slice(alloc, &[CLOSE_BYTE])
 }
 
 /// The record whose bytes these are.
@@ -192,15 +192,15 @@ pub fn read_record(alloc: Global, bytes: &[u8]) -> Result<Record, RecordError>
     ensures memory { result ≡ Err RecordError.Memory
         → (r : Record) × SpellsRecord r bytes.now × (r ≢ Record.Close) }
 {
-    let Some((tag, rest)) = bytes.split_first() else {
+    let Some((first, rest)) = bytes.split_first() else {
         return Err(RecordError::BadRecord);
     };
-    match *tag {
-        TEXT_TAG if rest.len() <= TEXT_LIMIT => {
+    match *first {
+        TEXT_BYTE if rest.len() <= TEXT_LIMIT => {
             let text = Vec::from_slice(alloc, rest)?;
             Ok(Record::Text(Bytes::new(text)))
         }
-        CLOSE_TAG if rest.is_empty() => Ok(Record::Close),
+        CLOSE_BYTE if rest.is_empty() => Ok(Record::Close),
         _ => batch_record(alloc, bytes),
     }
 }
@@ -230,7 +230,7 @@ fn is_text(bytes: &[u8]) -> bool
     ensures { IsTrue result ↔ ((text : List ℕ) × SpellsRecord (Record.Text text) bytes.now) }
 {
     match bytes.split_first() {
-        Some((tag, rest)) => *tag == TEXT_TAG && rest.len() <= TEXT_LIMIT,
+        Some((first, rest)) => *first == TEXT_BYTE && rest.len() <= TEXT_LIMIT,
         None => false,
     }
 }

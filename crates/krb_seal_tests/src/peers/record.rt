@@ -133,7 +133,12 @@ fn kind_at(
 ) -> Result<(RecordKind, u32, u8, Option<RecordKind>), RecordError> {
     let kind = read_record(alloc, bytes)?.kind();
     let number = kind.number();
-    Ok((kind, number, kind.tag(), RecordKind::from_number(number)))
+    Ok((
+        kind,
+        number,
+        kind.first_byte(),
+        RecordKind::from_number(number),
+    ))
 }
 
 #[test]
