@@ -13,6 +13,7 @@ use Rattle.krb_program.specs.declared.command.Cmd.{Cmd}
 use Rattle.krb_program.specs.declared.command.Cmd.TheVariants.{Show, Vectors, Seal, Open, Relay}
 use Rattle.krb_program.specs.Told.{Told}
 use Rattle.krb_program.specs.Commands.{Seals, SealsPrefix, Opens, OpensFirst, OpensPrefix, Relays, RelaysPrefix, StopsRelay}
+use Rattle.krb_program.specs.Reading.{PrintsNothing}
 use Rattle.krb_program.specs.Running.{Does, DoesFirst, DoesPrefix, IsBadInput, IsRun}
 
 -- what is said of bytes that are known stays true while they are kept
@@ -91,16 +92,14 @@ pub run_kept : (command : Cmd) (input old mid new : Option (List ℕ)) (r : Resu
     → ((lines : ℕ) → r ≡ Err (fault.Stopped lines) → DoesFirst command lines input old mid)
     → ((lines : ℕ) → r ≡ Err (fault.Thread lines) → DoesFirst command lines input old mid)
     → ((bad : BadInput) → r ≡ Err (fault.BadInput bad) → IsBadInput command input bad)
-    → ((bad : BadInput) → r ≡ Err (fault.BadInput bad) → Keeps old mid)
     → (r ≡ Err fault.TooLong → IfSome input (λ bytes. input_limit < length bytes))
-    → (r ≡ Err fault.TooLong → Keeps old mid)
-    → (r ≡ Err fault.Read → Keeps old mid)
+    → PrintsNothing old mid r
     → IsRun command input old new r
-run_kept command input old mid new (Ok status) k done prefix first thread bad bad_keeps long long_keeps read_keeps = does_kept command input old mid new status k done
-run_kept command input old mid new (Err fault.TooLong) k done prefix first thread bad bad_keeps long long_keeps read_keeps = (long refl, Keeps-trans old mid new (long_keeps refl) k)
-run_kept command input old mid new (Err (fault.BadInput b)) k done prefix first thread bad bad_keeps long long_keeps read_keeps = (bad b refl, Keeps-trans old mid new (bad_keeps b refl) k)
-run_kept command input old mid new (Err fault.Memory) k done prefix first thread bad bad_keeps long long_keeps read_keeps = prefix_kept command input old mid new k prefix
-run_kept command input old mid new (Err (fault.Stopped lines)) k done prefix first thread bad bad_keeps long long_keeps read_keeps = first_kept command lines input old mid new k (first lines refl)
-run_kept command input old mid new (Err (fault.Thread lines)) k done prefix first thread bad bad_keeps long long_keeps read_keeps = first_kept command lines input old mid new k (thread lines refl)
-run_kept command input old mid new (Err fault.Read) k done prefix first thread bad bad_keeps long long_keeps read_keeps = Keeps-trans old mid new (read_keeps refl) k
-run_kept command input old mid new (Err fault.Write) k done prefix first thread bad bad_keeps long long_keeps read_keeps = prefix_kept command input old mid new k prefix
+run_kept command input old mid new (Ok status) k done prefix first thread bad long nothing = does_kept command input old mid new status k done
+run_kept command input old mid new (Err fault.TooLong) k done prefix first thread bad long nothing = (long refl, Keeps-trans old mid new (nothing.too_long refl) k)
+run_kept command input old mid new (Err (fault.BadInput b)) k done prefix first thread bad long nothing = (bad b refl, Keeps-trans old mid new (nothing.bad_input b refl) k)
+run_kept command input old mid new (Err fault.Memory) k done prefix first thread bad long nothing = prefix_kept command input old mid new k prefix
+run_kept command input old mid new (Err (fault.Stopped lines)) k done prefix first thread bad long nothing = first_kept command lines input old mid new k (first lines refl)
+run_kept command input old mid new (Err (fault.Thread lines)) k done prefix first thread bad long nothing = first_kept command lines input old mid new k (thread lines refl)
+run_kept command input old mid new (Err fault.Read) k done prefix first thread bad long nothing = Keeps-trans old mid new (nothing.read_fault refl) k
+run_kept command input old mid new (Err fault.Write) k done prefix first thread bad long nothing = prefix_kept command input old mid new k prefix

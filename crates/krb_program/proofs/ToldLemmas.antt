@@ -19,7 +19,7 @@ use Rattle.krb_seal.specs.Sealer.{SealerState}
 use Rattle.krb_peers.specs.Sender.{Source}
 use Rattle.krb_commands.specs.declared.fault.Fault.{Fault}
 use Rattle.krb_commands.specs.declared.fault.Fault.TheVariants as fault
-use Rattle.krb_commands.specs.Fault.{of_job, IsOfReading}
+use Rattle.krb_commands.specs.Fault.{of_job}
 use Rattle.krb_commands.specs.Input.{ReadsAll}
 use Rattle.krb_commands.specs.Ends as ends
 use Rattle.krb_commands.specs.Sealed.{PrintsSealed, PrintsSealedPrefix}
@@ -75,12 +75,6 @@ pub bad_told : {X : Type 0} (told : Told) (r : Result ReadJob JobError) (e : Job
 bad_told told r e out b is gives passed named =
     let P : Result ReadJob JobError → Type 0 = λ x. GivesJob job_view x told in
     told_bad told e out b (subst P is gives) passed named
-
--- reading all of an input finds no fault in a job
-pub reading_finds_none : {X : Type 0} (out : Result X Fault) (f : Fault) (b : BadInput) → IsOfReading f → IsErrAnd out (λ x. x ≡ f) → out ≡ Err (fault.BadInput b) → ⊥
-reading_finds_none (Ok x) f b of same named = absurd same
-reading_finds_none (Err x) f b of same named =
-    let s = same in let n = named in let e : f ≡ fault.BadInput b = cc in subst IsOfReading e of
 
 -- the source that was made is the one that is told
 pub source_told : (sender : SenderJob) (state : SealerState) (source : Source) → state ≡ ends.sealer_of (sender_view sender)

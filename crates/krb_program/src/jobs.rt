@@ -1,6 +1,6 @@
 //! The commands that read a job. Each sealer is boxed here, so that its keys stay where they lie.
 
-ghost use Rattle.std.specs.Prelude.{◌≡◌, ◌<◌, ◌≤◌, ◌+◌, ◌∷◌, ◌++◌, [], true, ℕ, length, map, All, Some, IsSome, IfOk, IfErr, IfSome, OnOk, OnErr};
+ghost use Rattle.std.specs.Prelude.{◌≡◌, ◌≤◌, ◌+◌, ◌∷◌, ◌++◌, [], true, ℕ, length, map, All, Some, IsSome, IfOk, IfErr, OnOk, OnErr};
 ghost use Rattle.std.specs.Io.KnownBytes.{Keeps};
 ghost use Rattle.krb_base.specs.Limits.{last_number};
 ghost use Rattle.krb_peers.specs.Ends.{lanes_of};
@@ -12,13 +12,13 @@ ghost use Rattle.krb_commands.specs.Ends as ends;
 ghost use Rattle.krb_commands.specs.Ends.{AreReady, lane_told};
 ghost use Rattle.krb_commands.specs.Fault.{bad_plan, IsOfRelaying, IsOfSealing, IsOfTelling};
 ghost use Rattle.krb_program.specs.Told.{Told, IsTold, TellsOne};
+ghost use Rattle.krb_program.specs.Reading.{ReadsInput, PrintsNothing, FailsCheck};
 ghost use Rattle.krb_program.specs.Commands.{Seals, SealsPrefix, SealsSender, SealsSenderPrefix, IsBadSender, IsBadToSeal};
 ghost use Rattle.krb_program.specs.Commands.{Opens, OpensFirst, OpensPrefix};
 ghost use Rattle.krb_program.specs.Commands.{Relays, RelaysPrefix, RelaysJob, RelaysJobPrefix, StopsJob, StopsRelay, HasBadPlan, IsBadToRelay};
 
 use krb_commands::{
-    Fault, LIMIT, open_job, push_lane, read_all, receiving_of, relay_job, seal_job, sealer_of,
-    sending_of,
+    Fault, open_job, push_lane, read_all, receiving_of, relay_job, seal_job, sealer_of, sending_of,
 };
 use krb_job::{Command, Job, Secret, SenderJob, read_job};
 use krb_peers::{Receivers, Receiving, Sending};
@@ -35,17 +35,8 @@ pub fn seal<R: Read, W: Write>(alloc: Global, reader: &mut R, writer: &mut W) ->
         → OnOk result (Seals told (W.contents writer.old) (W.contents writer.new)) }
     ensures status { IfOk result (λ status. status ≡ 0) }
 
-    ensures bad_input { (told : Told) → IsTold Command.Seal (R.remaining reader.old) told
-        → (bad : BadInput) → result ≡ Err (Fault.BadInput bad) → IsBadToSeal told bad }
-    ensures bad_input_prints_nothing { (bad : BadInput) → result ≡ Err (Fault.BadInput bad)
-        → Keeps (W.contents writer.old) (W.contents writer.new) }
-    ensures within { OnOk result (IfSome (R.remaining reader.old) (λ input. length input ≤ LIMIT)) }
-    ensures too_long { result ≡ Err Fault.TooLong
-        → IfSome (R.remaining reader.old) (λ input. LIMIT < length input) }
-    ensures too_long_prints_nothing { result ≡ Err Fault.TooLong
-        → Keeps (W.contents writer.old) (W.contents writer.new) }
-    ensures read_fault_prints_nothing { result ≡ Err Fault.Read
-        → Keeps (W.contents writer.old) (W.contents writer.new) }
+    ensures reading { ReadsInput Command.Seal (R.remaining reader.old) IsBadToSeal result }
+    ensures nothing { PrintsNothing (W.contents writer.old) (W.contents writer.new) result }
     ensures never_stopped { (lines : ℕ) → ¬ (result ≡ Err (Fault.Stopped lines)) }
     ensures no_thread { (lines : ℕ) → ¬ (result ≡ Err (Fault.Thread lines)) }
     ensures prefix { (told : Told) → IsTold Command.Seal (R.remaining reader.old) told
@@ -106,17 +97,8 @@ pub fn open<R: Read, W: Write>(alloc: Global, reader: &mut R, writer: &mut W) ->
     ensures printed { (told : Told) → IsTold Command.Open (R.remaining reader.old) told
         → IfOk result (Opens told (W.contents writer.old) (W.contents writer.new)) }
 
-    ensures bad_input { (told : Told) → IsTold Command.Open (R.remaining reader.old) told
-        → (bad : BadInput) → result ≡ Err (Fault.BadInput bad) → told ≡ Err bad }
-    ensures bad_input_prints_nothing { (bad : BadInput) → result ≡ Err (Fault.BadInput bad)
-        → Keeps (W.contents writer.old) (W.contents writer.new) }
-    ensures within { OnOk result (IfSome (R.remaining reader.old) (λ input. length input ≤ LIMIT)) }
-    ensures too_long { result ≡ Err Fault.TooLong
-        → IfSome (R.remaining reader.old) (λ input. LIMIT < length input) }
-    ensures too_long_prints_nothing { result ≡ Err Fault.TooLong
-        → Keeps (W.contents writer.old) (W.contents writer.new) }
-    ensures read_fault_prints_nothing { result ≡ Err Fault.Read
-        → Keeps (W.contents writer.old) (W.contents writer.new) }
+    ensures reading { ReadsInput Command.Open (R.remaining reader.old) FailsCheck result }
+    ensures nothing { PrintsNothing (W.contents writer.old) (W.contents writer.new) result }
     ensures stopped { (told : Told) → IsTold Command.Open (R.remaining reader.old) told
         → (lines : ℕ) → result ≡ Err (Fault.Stopped lines)
         → OpensFirst told lines (W.contents writer.old) (W.contents writer.new) }
@@ -140,17 +122,8 @@ pub fn relay<T: Threads + Wait + Sync, R: Read, W: Write, G: Gate + Sync>(
     ensures printed { (told : Told) → IsTold Command.Relay (R.remaining reader.old) told
         → IfOk result (Relays told (W.contents writer.old) (W.contents writer.new)) }
 
-    ensures bad_input { (told : Told) → IsTold Command.Relay (R.remaining reader.old) told
-        → (bad : BadInput) → result ≡ Err (Fault.BadInput bad) → IsBadToRelay told bad }
-    ensures bad_input_prints_nothing { (bad : BadInput) → result ≡ Err (Fault.BadInput bad)
-        → Keeps (W.contents writer.old) (W.contents writer.new) }
-    ensures within { OnOk result (IfSome (R.remaining reader.old) (λ input. length input ≤ LIMIT)) }
-    ensures too_long { result ≡ Err Fault.TooLong
-        → IfSome (R.remaining reader.old) (λ input. LIMIT < length input) }
-    ensures too_long_prints_nothing { result ≡ Err Fault.TooLong
-        → Keeps (W.contents writer.old) (W.contents writer.new) }
-    ensures read_fault_prints_nothing { result ≡ Err Fault.Read
-        → Keeps (W.contents writer.old) (W.contents writer.new) }
+    ensures reading { ReadsInput Command.Relay (R.remaining reader.old) IsBadToRelay result }
+    ensures nothing { PrintsNothing (W.contents writer.old) (W.contents writer.new) result }
     ensures stopped { (told : Told) → IsTold Command.Relay (R.remaining reader.old) told
         → (lines : ℕ) → result ≡ Err (Fault.Stopped lines)
         → StopsRelay told lines (W.contents writer.old) (W.contents writer.new) }
@@ -233,11 +206,7 @@ fn told_job<R: Read>(alloc: Global, reader: &mut R, command: Command) -> Result<
     ensures seeds { seals command ≡ true
         → IfOk result (λ job. All (λ sender. IsSome sender.seed) job.senders.items) }
 
-    ensures bad_input { (told : Told) → IsTold command (R.remaining reader.old) told
-        → (bad : BadInput) → result ≡ Err (Fault.BadInput bad) → told ≡ Err bad }
-    ensures within { OnOk result (IfSome (R.remaining reader.old) (λ input. length input ≤ LIMIT)) }
-    ensures too_long { result ≡ Err Fault.TooLong
-        → IfSome (R.remaining reader.old) (λ input. LIMIT < length input) }
+    ensures reading { ReadsInput command (R.remaining reader.old) FailsCheck result }
     ensures faults { IfErr result IsOfTelling }
 {
     let bytes = read_all(alloc, reader)?;
@@ -252,11 +221,7 @@ fn one_sender<R: Read>(alloc: Global, reader: &mut R, command: Command) -> Resul
         → IfOk result (λ sender. TellsOne told (sender_view sender)) }
     ensures seed { seals command ≡ true → IfOk result (λ sender. IsSome sender.seed) }
 
-    ensures bad_input { (told : Told) → IsTold command (R.remaining reader.old) told
-        → (bad : BadInput) → result ≡ Err (Fault.BadInput bad) → told ≡ Err bad }
-    ensures within { OnOk result (IfSome (R.remaining reader.old) (λ input. length input ≤ LIMIT)) }
-    ensures too_long { result ≡ Err Fault.TooLong
-        → IfSome (R.remaining reader.old) (λ input. LIMIT < length input) }
+    ensures reading { ReadsInput command (R.remaining reader.old) FailsCheck result }
     ensures faults { IfErr result IsOfTelling }
 {
     let Job {

@@ -2,11 +2,11 @@
 
 ghost use Rattle.std.specs.Prelude.{◌≡◌, ◌≢◌, [], ◌<◌, ◌≤◌, ℕ, length, map, option_map, Some, IfOk, OnOk, OnErr, IfSome};
 ghost use Rattle.std.specs.Io.Buffered.{writer_buffer, writer_contents};
-ghost use Rattle.std.specs.Io.KnownBytes.{Keeps};
 ghost use Rattle.clap.specs.Words.{subcommand_of, FailsBy, fault_of};
 ghost use Rattle.krb_job.specs.declared.bad_input.BadInput.{BadInput};
 ghost use Rattle.krb_commands.specs.Input.{input_limit};
 ghost use Rattle.krb_program.specs.Command.{krbrelay_app, word_of};
+ghost use Rattle.krb_program.specs.Reading.{PrintsNothing};
 ghost use Rattle.krb_program.specs.Running.{Does, DoesFirst, DoesPrefix, IsBadInput, IsRun};
 
 use crate::command::{Cmd, command_of};
@@ -102,14 +102,9 @@ fn command_over<T: Threads + Wait + Sync, R: Read, W: Write, G: Gate + Sync>(
         (W.contents writer.old) (W.contents writer.new) }
     ensures bad_input { (bad : BadInput) → result ≡ Err (Fault.BadInput bad)
         → IsBadInput command (R.remaining reader.old) bad }
-    ensures bad_input_prints_nothing { (bad : BadInput) → result ≡ Err (Fault.BadInput bad)
-        → Keeps (W.contents writer.old) (W.contents writer.new) }
     ensures too_long { result ≡ Err Fault.TooLong
         → IfSome (R.remaining reader.old) (λ input. input_limit < length input) }
-    ensures too_long_prints_nothing { result ≡ Err Fault.TooLong
-        → Keeps (W.contents writer.old) (W.contents writer.new) }
-    ensures read_fault_prints_nothing { result ≡ Err Fault.Read
-        → Keeps (W.contents writer.old) (W.contents writer.new) }
+    ensures nothing { PrintsNothing (W.contents writer.old) (W.contents writer.new) result }
 {
     match command {
         Cmd::Show => show(alloc, reader, writer),
