@@ -12,9 +12,9 @@ use Rattle.krb_commands.specs.Vectors.{vectors_text}
 use Rattle.krb_program.specs.declared.command.Cmd.{Cmd}
 use Rattle.krb_program.specs.declared.command.Cmd.TheVariants.{Show, Vectors, Seal, Open, Relay}
 use Rattle.krb_program.specs.Told.{Told}
-use Rattle.krb_program.specs.Commands.{Seals, SealsPrefix, Opens, OpensFirst, OpensPrefix, Relays, RelaysPrefix, StopsRelay}
+use Rattle.krb_program.specs.Commands.{SealsTold, SealsToldPrefix, OpensTold, OpensToldFirst, OpensToldPrefix, RelaysTold, RelaysToldPrefix, StopsTold}
 use Rattle.krb_program.specs.Reading.{PrintsNothing}
-use Rattle.krb_program.specs.Running.{Does, DoesFirst, DoesPrefix, IsBadInput, IsRun}
+use Rattle.krb_program.specs.Running.{Does, DoesFirst, DoesPrefix, IsBadInput, HasRun}
 
 -- what is said of bytes that are known stays true while they are kept
 stable : (P : Option (List ℕ) → Option (List ℕ) → Type 0) → ((a b : Option (List ℕ)) → P None a → P None b) → ((xs : List ℕ) → P (Some xs) None → ⊥)
@@ -28,22 +28,22 @@ does_kept : (command : Cmd) (input old mid new : Option (List ℕ)) (status : �
 does_kept Show None old mid new status k d = tt
 does_kept Show (Some bytes) old mid new status k d = stable (λ a b. Shows bytes a b status) (λ a b p. p) (λ xs p. p.2) old mid new k d
 does_kept Vectors input old mid new status k d = stable (λ a b. Appends a b vectors_text × (status ≡ 0)) (λ a b p. p) (λ xs p. p.0) old mid new k d
-does_kept Seal input old mid new status k d = λ told is. stable (λ a b. Seals told a b × (status ≡ 0)) (λ a b p. p) (λ xs p. p.0.2.2.2) old mid new k (d told is)
-does_kept Open input old mid new status k d = λ told is. stable (λ a b. Opens told a b status) (λ a b p. p) (λ xs p. p.2.2) old mid new k (d told is)
-does_kept Relay input old mid new status k d = λ told is. stable (λ a b. Relays told a b status) (λ a b p. p) (λ xs p. p.2.2.2) old mid new k (d told is)
+does_kept Seal input old mid new status k d = λ told is. stable (λ a b. SealsTold told a b × (status ≡ 0)) (λ a b p. p) (λ xs p. p.0.2.2.2) old mid new k (d told is)
+does_kept Open input old mid new status k d = λ told is. stable (λ a b. OpensTold told a b status) (λ a b p. p) (λ xs p. p.2.2) old mid new k (d told is)
+does_kept Relay input old mid new status k d = λ told is. stable (λ a b. RelaysTold told a b status) (λ a b p. p) (λ xs p. p.2.2.2) old mid new k (d told is)
 
-no_seals : (told : Told) (xs : List ℕ) → SealsPrefix told (Some xs) None → ⊥
+no_seals : (told : Told) (xs : List ℕ) → SealsToldPrefix told (Some xs) None → ⊥
 no_seals told xs (inl p) = p
 no_seals told xs (inr (s, t, inl p)) = p
 no_seals told xs (inr (s, t, inr (source, e, inl p))) = p
 no_seals told xs (inr (s, t, inr (source, e, inr (emitted, w, p)))) = p.1
 
-no_opens : (told : Told) (xs : List ℕ) → OpensPrefix told (Some xs) None → ⊥
+no_opens : (told : Told) (xs : List ℕ) → OpensToldPrefix told (Some xs) None → ⊥
 no_opens told xs (inl p) = p
 no_opens told xs (inr (s, t, inl (v, are, p))) = p.1
 no_opens told xs (inr (s, t, inr (n, v, are, p))) = p.1
 
-no_relays : (told : Told) (xs : List ℕ) → RelaysPrefix told (Some xs) None → ⊥
+no_relays : (told : Told) (xs : List ℕ) → RelaysToldPrefix told (Some xs) None → ⊥
 no_relays told xs (inl p) = p
 no_relays told xs (inr (job, e, inl p)) = p
 no_relays told xs (inr (job, e, inr (lanes, are, inl p))) = p
@@ -54,16 +54,16 @@ prefix_kept : (command : Cmd) (input old mid new : Option (List ℕ)) → Keeps 
 prefix_kept Show None old mid new k d = tt
 prefix_kept Show (Some bytes) old mid new k d = stable (λ a b. ShowsPrefix bytes a b) (λ a b p. p) (λ xs p. p.2.1) old mid new k d
 prefix_kept Vectors input old mid new k d = stable (λ a b. AppendsPrefix a b vectors_text) (λ a b p. p) (λ xs p. p.1) old mid new k d
-prefix_kept Seal input old mid new k d = λ told is. stable (λ a b. SealsPrefix told a b) (λ a b p. p) (no_seals told) old mid new k (d told is)
-prefix_kept Open input old mid new k d = λ told is. stable (λ a b. OpensPrefix told a b) (λ a b p. p) (no_opens told) old mid new k (d told is)
-prefix_kept Relay input old mid new k d = λ told is. stable (λ a b. RelaysPrefix told a b) (λ a b p. p) (no_relays told) old mid new k (d told is)
+prefix_kept Seal input old mid new k d = λ told is. stable (λ a b. SealsToldPrefix told a b) (λ a b p. p) (no_seals told) old mid new k (d told is)
+prefix_kept Open input old mid new k d = λ told is. stable (λ a b. OpensToldPrefix told a b) (λ a b p. p) (no_opens told) old mid new k (d told is)
+prefix_kept Relay input old mid new k d = λ told is. stable (λ a b. RelaysToldPrefix told a b) (λ a b p. p) (no_relays told) old mid new k (d told is)
 
 first_kept : (command : Cmd) (lines : ℕ) (input old mid new : Option (List ℕ)) → Keeps mid new → DoesFirst command lines input old mid → DoesFirst command lines input old new
 first_kept Show lines input old mid new k d = d
 first_kept Vectors lines input old mid new k d = d
 first_kept Seal lines input old mid new k d = d
-first_kept Open lines input old mid new k d = λ told is. stable (λ a b. OpensFirst told lines a b) (λ a b p. p) (λ xs p. p.2.4) old mid new k (d told is)
-first_kept Relay lines input old mid new k d = λ told is. stable (λ a b. StopsRelay told lines a b) (λ a b p. p) (λ xs p. p.2.2.3) old mid new k (d told is)
+first_kept Open lines input old mid new k d = λ told is. stable (λ a b. OpensToldFirst told lines a b) (λ a b p. p) (λ xs p. p.2.4) old mid new k (d told is)
+first_kept Relay lines input old mid new k d = λ told is. stable (λ a b. StopsTold told lines a b) (λ a b p. p) (λ xs p. p.2.2.3) old mid new k (d told is)
 
 -- ---- the whole output is a prefix of itself
 
@@ -94,7 +94,7 @@ pub run_kept : (command : Cmd) (input old mid new : Option (List ℕ)) (r : Resu
     → ((bad : BadInput) → r ≡ Err (fault.BadInput bad) → IsBadInput command input bad)
     → (r ≡ Err fault.TooLong → IfSome input (λ bytes. input_limit < length bytes))
     → PrintsNothing old mid r
-    → IsRun command input old new r
+    → HasRun command input old new r
 run_kept command input old mid new (Ok status) k done prefix first thread bad long nothing = does_kept command input old mid new status k done
 run_kept command input old mid new (Err fault.TooLong) k done prefix first thread bad long nothing = (long refl, Keeps-trans old mid new (nothing.too_long refl) k)
 run_kept command input old mid new (Err (fault.BadInput b)) k done prefix first thread bad long nothing = (bad b refl, Keeps-trans old mid new (nothing.bad_input b refl) k)

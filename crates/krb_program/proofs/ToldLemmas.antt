@@ -25,7 +25,7 @@ use Rattle.krb_commands.specs.Ends as ends
 use Rattle.krb_commands.specs.Sealed.{PrintsSealed, PrintsSealedPrefix}
 use Rattle.krb_commands.specs.Opened.{PrintsOpenedPrefix}
 use Rattle.krb_program.specs.Told.{Told, told_at, told_of, IsTold, TellsOne}
-use Rattle.krb_program.specs.Commands.{SealsSender, SealsSenderPrefix, OpensPrefix}
+use Rattle.krb_program.specs.Commands.{SealsSender, SealsSenderPrefix, OpensToldPrefix}
 
 -- a reader that was read to its end gave all that it had
 told_read : (command : Command) (old new : Option (List ℕ)) (bytes : List ℕ) (told : Told) → ReadsAll old new bytes → IsTold command old told → told ≡ told_of command bytes
@@ -93,7 +93,7 @@ prefix_told sender state source (Err x) old new made is printed = inr (source, s
 
 -- what was opened of the one sender, after a fault
 pub opened_told : (told : Told) (sender : SenderJob) (frames : List (List ℕ)) (r : Result ℕ Fault) (old new : Option (List ℕ)) → TellsOne told (sender_view sender) → frames ≡ sender.frames.items
-    → OnErr r (PrintsOpenedPrefix (ends.receiver_of (sender_view sender)) sender.nows.items frames old new) → OnErr r (OpensPrefix told old new)
+    → OnErr r (PrintsOpenedPrefix (ends.receiver_of (sender_view sender)) sender.nows.items frames old new) → OnErr r (OpensToldPrefix told old new)
 opened_told told sender frames (Ok x) old new tells same printed = tt
 opened_told told sender frames (Err x) old new tells same printed =
     inr (sender_view sender, tells, subst (λ l. PrintsOpenedPrefix (ends.receiver_of (sender_view sender)) sender.nows.items l old new) same printed)

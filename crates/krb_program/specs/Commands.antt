@@ -31,11 +31,11 @@ abbrev pub IsBadSender : Sender → Type 0
 IsBadSender sender = (source : Source) × (source_told sender ≡ Some source) × IsBad source
 
 -- what the one sender of the job seals is printed
-abbrev pub Seals : Told → Option (List ℕ) → Option (List ℕ) → Type 0
-Seals told old new = (sender : Sender) × TellsOne told sender × SealsSender sender old new
+abbrev pub SealsTold : Told → Option (List ℕ) → Option (List ℕ) → Type 0
+SealsTold told old new = (sender : Sender) × TellsOne told sender × SealsSender sender old new
 
-abbrev pub SealsPrefix : Told → Option (List ℕ) → Option (List ℕ) → Type 0
-SealsPrefix told old new =
+abbrev pub SealsToldPrefix : Told → Option (List ℕ) → Option (List ℕ) → Type 0
+SealsToldPrefix told old new =
     Keeps old new ⊎ ((sender : Sender) × TellsOne told sender × SealsSenderPrefix sender old new)
 
 -- a check that isn't passed, or a plan that names what the frames don't have
@@ -45,21 +45,21 @@ IsBadToSeal told bad =
     ⊎ ((bad ≡ bad_plan 0) × ((sender : Sender) × TellsOne told sender × IsBadSender sender))
 
 -- the outcome of each frame of the job's one sender is printed, and this is the status
-abbrev pub Opens : Told → Option (List ℕ) → Option (List ℕ) → ℕ → Type 0
-Opens told old new status =
+abbrev pub OpensTold : Told → Option (List ℕ) → Option (List ℕ) → ℕ → Type 0
+OpensTold told old new status =
     (sender : Sender) × TellsOne told sender
     × PrintsOpened (receiver_of sender) sender.traffic.nows sender.traffic.frames old new status
 
 -- a prefix of that, or nothing
-abbrev pub OpensPrefix : Told → Option (List ℕ) → Option (List ℕ) → Type 0
-OpensPrefix told old new =
+abbrev pub OpensToldPrefix : Told → Option (List ℕ) → Option (List ℕ) → Type 0
+OpensToldPrefix told old new =
     Keeps old new
     ⊎ ((sender : Sender) × TellsOne told sender
     × PrintsOpenedPrefix (receiver_of sender) sender.traffic.nows sender.traffic.frames old new)
 
 -- so many lines are printed: the outcome of the first frames
-abbrev pub OpensFirst : Told → ℕ → Option (List ℕ) → Option (List ℕ) → Type 0
-OpensFirst told lines old new =
+abbrev pub OpensToldFirst : Told → ℕ → Option (List ℕ) → Option (List ℕ) → Type 0
+OpensToldFirst told lines old new =
     (sender : Sender) × TellsOne told sender
     × PrintsFirst (receiver_of sender) sender.traffic.nows sender.traffic.frames lines old new
 
@@ -89,15 +89,15 @@ HasBadPlan job bad =
     (lanes : List Ends) × (lane : ℕ) × AreLanes job lanes × (bad ≡ bad_plan lane)
     × HasBadPlanFirst lanes lane
 
-abbrev pub Relays : Told → Option (List ℕ) → Option (List ℕ) → ℕ → Type 0
-Relays told old new status = (job : Job) × (told ≡ Ok job) × RelaysJob job old new status
+abbrev pub RelaysTold : Told → Option (List ℕ) → Option (List ℕ) → ℕ → Type 0
+RelaysTold told old new status = (job : Job) × (told ≡ Ok job) × RelaysJob job old new status
 
-abbrev pub RelaysPrefix : Told → Option (List ℕ) → Option (List ℕ) → Type 0
-RelaysPrefix told old new =
+abbrev pub RelaysToldPrefix : Told → Option (List ℕ) → Option (List ℕ) → Type 0
+RelaysToldPrefix told old new =
     Keeps old new ⊎ ((job : Job) × (told ≡ Ok job) × RelaysJobPrefix job old new)
 
-abbrev pub StopsRelay : Told → ℕ → Option (List ℕ) → Option (List ℕ) → Type 0
-StopsRelay told lines old new = (job : Job) × (told ≡ Ok job) × StopsJob job lines old new
+abbrev pub StopsTold : Told → ℕ → Option (List ℕ) → Option (List ℕ) → Type 0
+StopsTold told lines old new = (job : Job) × (told ≡ Ok job) × StopsJob job lines old new
 
 -- a check that isn't passed, or a bad plan
 abbrev pub IsBadToRelay : Told → BadInput → Type 0

@@ -13,30 +13,30 @@ use Rattle.krb_commands.specs.Vectors.{vectors_text}
 use Rattle.krb_program.specs.declared.command.Cmd.{Cmd}
 use Rattle.krb_program.specs.declared.command.Cmd.TheVariants.{Show, Vectors, Seal, Open, Relay}
 use Rattle.krb_program.specs.Told.{Told, IsTold}
-use Rattle.krb_program.specs.Commands.{Seals, SealsPrefix, IsBadToSeal, Opens, OpensFirst}
-use Rattle.krb_program.specs.Commands.{OpensPrefix, Relays, RelaysPrefix, StopsRelay, IsBadToRelay}
+use Rattle.krb_program.specs.Commands.{SealsTold, SealsToldPrefix, IsBadToSeal, OpensTold, OpensToldFirst}
+use Rattle.krb_program.specs.Commands.{OpensToldPrefix, RelaysTold, RelaysToldPrefix, StopsTold, IsBadToRelay}
 
 -- all that the command is to write is written, and this is the status
 abbrev pub Does : Cmd → Option (List ℕ) → Option (List ℕ) → Option (List ℕ) → ℕ → Type 0
 Does Show input old new status = IfSome input (λ bytes. Shows bytes old new status)
 Does Vectors input old new status = Appends old new vectors_text × (status ≡ 0)
 Does Seal input old new status =
-    (told : Told) → IsTold job.Seal input told → Seals told old new × (status ≡ 0)
+    (told : Told) → IsTold job.Seal input told → SealsTold told old new × (status ≡ 0)
 Does Open input old new status =
-    (told : Told) → IsTold job.Open input told → Opens told old new status
+    (told : Told) → IsTold job.Open input told → OpensTold told old new status
 Does Relay input old new status =
-    (told : Told) → IsTold job.Relay input told → Relays told old new status
+    (told : Told) → IsTold job.Relay input told → RelaysTold told old new status
 
 -- a prefix of it
 abbrev pub DoesPrefix : Cmd → Option (List ℕ) → Option (List ℕ) → Option (List ℕ) → Type 0
 DoesPrefix Show input old new = IfSome input (λ bytes. ShowsPrefix bytes old new)
 DoesPrefix Vectors input old new = AppendsPrefix old new vectors_text
 DoesPrefix Seal input old new =
-    (told : Told) → IsTold job.Seal input told → SealsPrefix told old new
+    (told : Told) → IsTold job.Seal input told → SealsToldPrefix told old new
 DoesPrefix Open input old new =
-    (told : Told) → IsTold job.Open input told → OpensPrefix told old new
+    (told : Told) → IsTold job.Open input told → OpensToldPrefix told old new
 DoesPrefix Relay input old new =
-    (told : Told) → IsTold job.Relay input told → RelaysPrefix told old new
+    (told : Told) → IsTold job.Relay input told → RelaysToldPrefix told old new
 
 -- the run stopped while frames were taken, and so many lines are written: their outcome until then
 abbrev pub DoesFirst : Cmd → ℕ → Option (List ℕ) → Option (List ℕ) → Option (List ℕ) → Type 0
@@ -44,9 +44,9 @@ DoesFirst Show lines input old new = ⊥
 DoesFirst Vectors lines input old new = ⊥
 DoesFirst Seal lines input old new = ⊥
 DoesFirst Open lines input old new =
-    (told : Told) → IsTold job.Open input told → OpensFirst told lines old new
+    (told : Told) → IsTold job.Open input told → OpensToldFirst told lines old new
 DoesFirst Relay lines input old new =
-    (told : Told) → IsTold job.Relay input told → StopsRelay told lines old new
+    (told : Told) → IsTold job.Relay input told → StopsTold told lines old new
 
 -- this is what is bad in a job
 abbrev pub IsBadInput : Cmd → Option (List ℕ) → BadInput → Type 0
@@ -58,18 +58,18 @@ IsBadInput Relay input bad = (told : Told) → IsTold job.Relay input told → I
 
 -- What a run of the command does: all, or after a fault a prefix of it, and nothing where the input
 -- can't be read or is bad.
-abbrev pub IsRun : Cmd → Option (List ℕ) → Option (List ℕ) → Option (List ℕ) → Result ℕ Fault
+abbrev pub HasRun : Cmd → Option (List ℕ) → Option (List ℕ) → Option (List ℕ) → Result ℕ Fault
     → Type 0
-IsRun command input old new (Ok status) = Does command input old new status
-IsRun command input old new (Err fault.TooLong) =
+HasRun command input old new (Ok status) = Does command input old new status
+HasRun command input old new (Err fault.TooLong) =
     IfSome input (λ bytes. input_limit < length bytes) × Keeps old new
-IsRun command input old new (Err (fault.BadInput bad)) =
+HasRun command input old new (Err (fault.BadInput bad)) =
     IsBadInput command input bad × Keeps old new
-IsRun command input old new (Err fault.Memory) = DoesPrefix command input old new
-IsRun command input old new (Err (fault.Stopped lines)) = DoesFirst command lines input old new
-IsRun command input old new (Err (fault.Thread lines)) = DoesFirst command lines input old new
-IsRun command input old new (Err fault.Read) = Keeps old new
-IsRun command input old new (Err fault.Write) = DoesPrefix command input old new
+HasRun command input old new (Err fault.Memory) = DoesPrefix command input old new
+HasRun command input old new (Err (fault.Stopped lines)) = DoesFirst command lines input old new
+HasRun command input old new (Err (fault.Thread lines)) = DoesFirst command lines input old new
+HasRun command input old new (Err fault.Read) = Keeps old new
+HasRun command input old new (Err fault.Write) = DoesPrefix command input old new
 
 -- the exit status of a run
 abbrev pub status_of : Result ℕ Fault → ℕ

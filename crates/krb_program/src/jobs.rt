@@ -13,9 +13,9 @@ ghost use Rattle.krb_commands.specs.Ends.{AreReady, lane_told};
 ghost use Rattle.krb_commands.specs.Fault.{bad_plan, IsOfRelaying, IsOfSealing, IsOfTelling};
 ghost use Rattle.krb_program.specs.Told.{Told, IsTold, TellsOne};
 ghost use Rattle.krb_program.specs.Reading.{ReadsInput, PrintsNothing, FailsCheck};
-ghost use Rattle.krb_program.specs.Commands.{Seals, SealsPrefix, SealsSender, SealsSenderPrefix, IsBadSender, IsBadToSeal};
-ghost use Rattle.krb_program.specs.Commands.{Opens, OpensFirst, OpensPrefix};
-ghost use Rattle.krb_program.specs.Commands.{Relays, RelaysPrefix, RelaysJob, RelaysJobPrefix, StopsJob, StopsRelay, HasBadPlan, IsBadToRelay};
+ghost use Rattle.krb_program.specs.Commands.{SealsTold, SealsToldPrefix, SealsSender, SealsSenderPrefix, IsBadSender, IsBadToSeal};
+ghost use Rattle.krb_program.specs.Commands.{OpensTold, OpensToldFirst, OpensToldPrefix};
+ghost use Rattle.krb_program.specs.Commands.{RelaysTold, RelaysToldPrefix, RelaysJob, RelaysJobPrefix, StopsJob, StopsTold, HasBadPlan, IsBadToRelay};
 
 use krb_commands::{
     Fault, open_job, push_lane, read_all, receiving_of, relay_job, seal_job, sealer_of, sending_of,
@@ -32,7 +32,7 @@ use std::thread::Threads;
 /// Seals the texts of the job's one sender.
 pub fn seal<R: Read, W: Write>(alloc: Global, reader: &mut R, writer: &mut W) -> Result<u8, Fault>
     ensures printed { (told : Told) → IsTold Command.Seal (R.remaining reader.old) told
-        → OnOk result (Seals told (W.contents writer.old) (W.contents writer.new)) }
+        → OnOk result (SealsTold told (W.contents writer.old) (W.contents writer.new)) }
     ensures status { IfOk result (λ status. status ≡ 0) }
 
     ensures reading { ReadsInput Command.Seal (R.remaining reader.old) IsBadToSeal result }
@@ -40,7 +40,7 @@ pub fn seal<R: Read, W: Write>(alloc: Global, reader: &mut R, writer: &mut W) ->
     ensures never_stopped { (lines : ℕ) → ¬ (result ≡ Err (Fault.Stopped lines)) }
     ensures no_thread { (lines : ℕ) → ¬ (result ≡ Err (Fault.Thread lines)) }
     ensures prefix { (told : Told) → IsTold Command.Seal (R.remaining reader.old) told
-        → OnErr result (SealsPrefix told (W.contents writer.old) (W.contents writer.new)) }
+        → OnErr result (SealsToldPrefix told (W.contents writer.old) (W.contents writer.new)) }
 {
     let sender = one_sender(alloc, reader, Command::Seal)?;
     seal_sender(alloc, sender, writer)
@@ -95,16 +95,16 @@ fn seal_with<S: Sealer, W: Write>(
 /// Opens the frames of the job's one sender.
 pub fn open<R: Read, W: Write>(alloc: Global, reader: &mut R, writer: &mut W) -> Result<u8, Fault>
     ensures printed { (told : Told) → IsTold Command.Open (R.remaining reader.old) told
-        → IfOk result (Opens told (W.contents writer.old) (W.contents writer.new)) }
+        → IfOk result (OpensTold told (W.contents writer.old) (W.contents writer.new)) }
 
     ensures reading { ReadsInput Command.Open (R.remaining reader.old) FailsCheck result }
     ensures nothing { PrintsNothing (W.contents writer.old) (W.contents writer.new) result }
     ensures stopped { (told : Told) → IsTold Command.Open (R.remaining reader.old) told
         → (lines : ℕ) → result ≡ Err (Fault.Stopped lines)
-        → OpensFirst told lines (W.contents writer.old) (W.contents writer.new) }
+        → OpensToldFirst told lines (W.contents writer.old) (W.contents writer.new) }
     ensures no_thread { (lines : ℕ) → ¬ (result ≡ Err (Fault.Thread lines)) }
     ensures prefix { (told : Told) → IsTold Command.Open (R.remaining reader.old) told
-        → OnErr result (OpensPrefix told (W.contents writer.old) (W.contents writer.new)) }
+        → OnErr result (OpensToldPrefix told (W.contents writer.old) (W.contents writer.new)) }
 {
     let sender = one_sender(alloc, reader, Command::Open)?;
     let receiving = receiving_of(alloc, &sender)?;
@@ -120,18 +120,18 @@ pub fn relay<T: Threads + Wait + Sync, R: Read, W: Write, G: Gate + Sync>(
     gate: &G,
 ) -> Result<u8, Fault>
     ensures printed { (told : Told) → IsTold Command.Relay (R.remaining reader.old) told
-        → IfOk result (Relays told (W.contents writer.old) (W.contents writer.new)) }
+        → IfOk result (RelaysTold told (W.contents writer.old) (W.contents writer.new)) }
 
     ensures reading { ReadsInput Command.Relay (R.remaining reader.old) IsBadToRelay result }
     ensures nothing { PrintsNothing (W.contents writer.old) (W.contents writer.new) result }
     ensures stopped { (told : Told) → IsTold Command.Relay (R.remaining reader.old) told
         → (lines : ℕ) → result ≡ Err (Fault.Stopped lines)
-        → StopsRelay told lines (W.contents writer.old) (W.contents writer.new) }
+        → StopsTold told lines (W.contents writer.old) (W.contents writer.new) }
     ensures thread { (told : Told) → IsTold Command.Relay (R.remaining reader.old) told
         → (lines : ℕ) → result ≡ Err (Fault.Thread lines)
-        → StopsRelay told lines (W.contents writer.old) (W.contents writer.new) }
+        → StopsTold told lines (W.contents writer.old) (W.contents writer.new) }
     ensures prefix { (told : Told) → IsTold Command.Relay (R.remaining reader.old) told
-        → OnErr result (RelaysPrefix told (W.contents writer.old) (W.contents writer.new)) }
+        → OnErr result (RelaysToldPrefix told (W.contents writer.old) (W.contents writer.new)) }
 {
     let job = told_job(alloc, reader, Command::Relay)?;
     relay_senders(rt, alloc, job, writer, gate)

@@ -7,7 +7,7 @@ ghost use Rattle.krb_job.specs.declared.bad_input.BadInput.{BadInput};
 ghost use Rattle.krb_commands.specs.Input.{input_limit};
 ghost use Rattle.krb_program.specs.Command.{krbrelay_app, word_of};
 ghost use Rattle.krb_program.specs.Reading.{PrintsNothing};
-ghost use Rattle.krb_program.specs.Running.{Does, DoesFirst, DoesPrefix, IsBadInput, IsRun};
+ghost use Rattle.krb_program.specs.Running.{Does, DoesFirst, DoesPrefix, IsBadInput, HasRun};
 
 use crate::command::{Cmd, command_of};
 use crate::jobs;
@@ -35,7 +35,7 @@ pub fn obey<'a, T: Threads + Wait + Sync, S: AsStr, R: Read, W: Write + Drop, G:
     ensures ran { IfOk result (λ outcome. (command : Cmd)
         × (option_map (λ p. p.0) (subcommand_of krbrelay_app (map S.text words.entry.now))
         ≡ Some (word_of command))
-        × IsRun command (R.remaining reader.old) (writer_contents W.contents writer.old)
+        × HasRun command (R.remaining reader.old) (writer_contents W.contents writer.old)
         (writer_contents W.contents writer.new) outcome) }
     ensures flushed { IfOk result (λ outcome. ¬ (outcome ≡ Err Fault.Write)
         → writer_buffer writer.new ≡ []) }
@@ -63,7 +63,7 @@ pub fn run<T: Threads + Wait + Sync, R: Read, W: Write + Drop, G: Gate + Sync>(
     writer: &mut BufWriter<W>,
     gate: &G,
 ) -> Result<u8, Fault>
-    ensures run { IsRun command (R.remaining reader.old) (writer_contents W.contents writer.old)
+    ensures run { HasRun command (R.remaining reader.old) (writer_contents W.contents writer.old)
         (writer_contents W.contents writer.new) result }
     ensures within { command ≢ Cmd.Vectors
         → OnOk result (IfSome (R.remaining reader.old) (λ input. length input ≤ input_limit)) }
