@@ -13,8 +13,9 @@ use Rattle.krb_commands.specs.Vectors.{vectors_text}
 use Rattle.krb_program.specs.declared.command.Cmd.{Cmd}
 use Rattle.krb_program.specs.declared.command.Cmd.TheVariants.{Show, Vectors, Seal, Open, Relay}
 use Rattle.krb_program.specs.Told.{Told, IsTold}
-use Rattle.krb_program.specs.Commands.{SealsTold, SealsToldPrefix, IsBadToSeal, OpensTold, OpensToldFirst}
-use Rattle.krb_program.specs.Commands.{OpensToldPrefix, RelaysTold, RelaysToldPrefix, StopsTold, IsBadToRelay}
+use Rattle.krb_program.specs.Commands.{SealsTold, SealsToldPrefix, IsBadToSeal}
+use Rattle.krb_program.specs.Commands.{OpensTold, OpensToldFirst, OpensToldPrefix}
+use Rattle.krb_program.specs.Commands.{RelaysTold, RelaysToldPrefix, StopsTold, IsBadToRelay}
 
 -- all that the command is to write is written, and this is the status
 abbrev pub Does : Cmd → Option (List ℕ) → Option (List ℕ) → Option (List ℕ) → ℕ → Type 0
