@@ -1,4 +1,4 @@
-use Rattle.std.proofs.Common.{◌≡◌, ℕ, List, IsTrue, subst, rules}
+use Rattle.std.proofs.Common.{ℕ, List, IsTrue, subst, rules}
 use Rattle.krb_peers.specs.Record.{SpellsRecord}
 use Rattle.krb_peers.specs.declared.record.Record.TheVariants.{Text}
 use Rattle.krb_peers.proofs.RecordLemmas.{bad-ok}
