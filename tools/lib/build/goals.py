@@ -95,14 +95,16 @@ def note(output):
     return noted, cut
 
 
-def faults(crate):
-    """A line for each mutant of a crate without a goal, and for each goal without a mutant."""
+def compared(crate):
+    """The mutants of a crate that no list gives a goal, and the goals that no mutant has, each as
+    the list's place and the mutant's name."""
+    without, gone = [], []
     for folder in FOLDERS:
         path = os.path.join(building.folder_of(crate), folder)
         if not os.path.isdir(path):
             continue
         names = {it.removesuffix(".edit") for it in os.listdir(path) if it.endswith(".edit")}
-        goals = listed(path)
-        for name in sorted(names ^ set(goals)):
-            yield (f"{crate}/{folder}/{LIST}: {name} "
-                   + ("has no goal" if name in names else "is no mutant"))
+        goals, place = listed(path), f"{crate}/{folder}/{LIST}"
+        without += [(place, name) for name in sorted(names - set(goals))]
+        gone += [(place, name) for name in sorted(set(goals) - names)]
+    return without, gone
