@@ -1,6 +1,6 @@
 """At which goal the prover refuses each mutant: what the lists say, and what `rt` reports.
 
-Beside its edits, a folder of mutants has the file clauses.txt, with a line 'NAME: GOAL' for each
+Beside its edits, a folder of mutants has the file clauses.md, with a line '- NAME: GOAL' for each
 mutant. GOAL is the prover's name for what it can't prove of the mutant, as
 `returns-clause-capacity`: the clause `capacity` of what the function ensures. It is the clause that
 the mutant violates, so a mutant that is refused somewhere else misses its target. The list is a
@@ -12,8 +12,9 @@ import re
 from lib.build import building
 
 FOLDERS = "must-fail", "must-fail-more"
-LIST = "clauses.txt"
-HEAD = "# The goal at which the prover refuses each mutant of this folder.\n"
+LIST = "clauses.md"
+HEAD = "# The goal at which the prover refuses each mutant of this folder\n\n"
+LINE = re.compile(r"^- (\S+): (\S+)$", re.M)
 # A line of `rt` on a mutant that is refused, and the goals that are named in its words. `rt` cuts
 # long lines, so the last name may be the first part of one.
 REFUSED = re.compile(r"rt: must-fail (\w+)/(\S+)\.edit: refused, as it must be: (.*)")
@@ -24,15 +25,14 @@ def listed(folder):
     """The goals of a folder's mutants by their names, as its list has them."""
     try:
         with open(os.path.join(folder, LIST), encoding="utf-8") as file:
-            lines = [line for line in file.read().splitlines() if not line.startswith("#")]
+            return dict(LINE.findall(file.read()))
     except OSError:
         return {}
-    return dict(line.split(": ", maxsplit=1) for line in lines)
 
 
 def write(folder, goals):
     with open(os.path.join(folder, LIST), "w", encoding="utf-8") as file:
-        file.write(HEAD + "".join(f"{name}: {goal}\n" for name, goal in sorted(goals.items())))
+        file.write(HEAD + "".join(f"- {name}: {goal}\n" for name, goal in sorted(goals.items())))
 
 
 def folder_of(crate, name):
