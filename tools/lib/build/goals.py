@@ -2,9 +2,10 @@
 
 Beside its edits, a folder of mutants has the file clauses.md, with a line '- NAME: GOAL' for each
 mutant. GOAL is the prover's name for what it can't prove of the mutant, as
-`returns-clause-capacity`: the clause `capacity` of what the function ensures. It is the clause that
-the mutant violates, so a mutant that is refused somewhere else misses its target. The list is a
-file of its own, since `rt` reads no such line in an edit, and tries an edit anew that changes.
+`returns-clause-capacity`: the clause `capacity` of what the function ensures. It is the clause, the
+invariant or the lemma that the mutant violates, so a mutant that is refused somewhere else misses
+its target. The list is a file of its own, since `rt` reads no such line in an edit, and tries an
+edit anew that changes.
 """
 import os
 import re
@@ -57,21 +58,19 @@ def is_goal(said, goal, whole):
 
 
 def difference(crate, name, goal, whole):
-    """How a mutant was refused otherwise than the list says, or None."""
+    """How a mutant was refused otherwise than the list says, or None. A list may not have it yet."""
     folder = folder_of(crate, name)
     if folder is None:
         return "there is no such edit"
     wanted = listed(folder).get(name)
-    if wanted is None:
-        return "no list says at which goal it is refused"
-    if is_goal(wanted, goal, whole):
+    if wanted is None or is_goal(wanted, goal, whole):
         return None
     return f"refused at {goal}, and not at {wanted}"
 
 
 def differences(output):
-    """How many mutants were refused at the goal that the list says, and of each other one its crate
-    and its name, and a line."""
+    """How many mutants were refused at no other goal than the list says, and of each other one its
+    crate and its name, and a line."""
     found = [((crate, name), difference(crate, name, goal, whole))
              for crate, name, goal, whole in reported(output)]
     others = [(mutant, line) for mutant, line in found if line is not None]
