@@ -58,7 +58,7 @@ def is_goal(said, goal, whole):
 
 
 def difference(crate, name, goal, whole):
-    """How a mutant was refused otherwise than the list says, or None. A list may not have it yet."""
+    """How a mutant was refused otherwise than the list says, or None, also if no list has it."""
     folder = folder_of(crate, name)
     if folder is None:
         return "there is no such edit"
