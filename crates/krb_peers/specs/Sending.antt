@@ -1,13 +1,18 @@
 -- A sender as the code holds it.
 use Rattle.std.specs.Prelude.{◌≡◌, ◌≤◌, ◌<◌, ℕ, ◌+◌, ◌-◌, ◌*◌, ◌==◌, if◌then◌else◌, List, length}
-use Rattle.std.specs.Prelude.{take, option_map}
+use Rattle.std.specs.Prelude.{take, option_map, true, ◌⊎◌, Result, IfOk, IfErr, OnOk, OnErr, IsErr}
+use Rattle.std.specs.Global.{Vec}
 use Rattle.krb_base.specs.Limits.{last_number}
 use Rattle.krb_seal.specs.Sealer.{SealerState}
+use Rattle.krb_seal.specs.declared.seal_error.SealError.{SealError}
+use Rattle.krb_seal.specs.declared.seal_error.SealError.TheVariants.{Wiped, Memory}
 use Rattle.krb_peers.specs.declared.sending.Sending.{Sending}
 use Rattle.krb_peers.specs.declared.sending.Sent.{Sent}
 use Rattle.krb_peers.specs.declared.sending.Ending.TheVariants.{Done, LastNumber}
 use Rattle.krb_peers.specs.Draws.{after_words}
+use Rattle.krb_peers.specs.Plan.{contents}
 use Rattle.krb_peers.specs.Sender.{Source, IsWithinLimits, sealed_texts, records, AreFrames}
+use Rattle.krb_peers.specs.Verdicts.{AllBytes}
 
 -- the sender that a `Sending` is, where `state` says what contracts see of its sealer
 abbrev pub source_of : {S : Type 0} → (S → SealerState) → Sending S → Source
@@ -67,3 +72,20 @@ pub record StandsAfterSome (source : Source) (sealer : SealerState) : Type 0 whe
   pub count : ℕ
   pub some : HasSealedSome source count
   pub is : sealer ≡ (behind count source).sealer
+
+-- what it is to seal all records of a sender: its frames, or why not all were sealed
+pub record SealsAll {S : Type 0} (state : S → SealerState) (old now : Sending S)
+    (result : Result (Vec (Vec ℕ)) SealError) : Type 0 where
+  pub frames : IfOk result (λ frames. AreFrames (source_of state old)
+      (records (source_of state old)) (contents frames.items))
+  pub bytes : IfOk result (λ frames. AllBytes (contents frames.items))
+  pub behind : OnOk result
+      (source_of state now ≡ behind (length (records (source_of state old))) (source_of state old))
+  pub stopped : OnErr result (StandsAfterSome (source_of state old) (state now.sealer))
+  pub wiped : (state old.sealer).wiped ≡ true → IsErr result
+  pub errors : IfErr result (λ e.
+      ((e ≡ Wiped) × ((state old.sealer).wiped ≡ true)) ⊎ (e ≡ Memory))
+  pub texts : now.texts ≡ old.texts
+  pub batch : now.batch ≡ old.batch
+  pub ats : now.ats ≡ old.ats
+  pub plan : now.plan ≡ old.plan

@@ -10,7 +10,7 @@ ghost use Rattle.krb_peers.specs.Plan.{contents};
 ghost use Rattle.krb_peers.specs.Sender.{Source, AreFrames, records, moment_at, sealed_groups, sealed_texts};
 ghost use Rattle.krb_peers.specs.Sender.{group_behind, texts_before, record_for, record_at};
 ghost use Rattle.krb_peers.specs.Verdicts.{AllBytes};
-ghost use Rattle.krb_peers.specs.Sending.{source_of, sealed_of, sent_of, before, behind, IsSender, HasSealed, StandsAfterSome};
+ghost use Rattle.krb_peers.specs.Sending.{source_of, sealed_of, sent_of, before, behind, IsSender, HasSealed, SealsAll, StandsAfterSome};
 
 use crate::confounder::draw_confounder;
 use crate::gate::{Gate, NoGate};
@@ -221,21 +221,7 @@ impl<S: Sealer> Sending<S> {
         lane: u32,
     ) -> Result<Vec<Vec<u8>>, SealError>
         requires { IsSender (source_of S.state self.old) }
-        ensures frames { IfOk result (λ frames. AreFrames (source_of S.state self.old)
-            (records (source_of S.state self.old)) (contents frames.items)) }
-        ensures bytes { IfOk result (λ frames. AllBytes (contents frames.items)) }
-        ensures behind { OnOk result (source_of S.state self.new ≡ behind
-            (length (records (source_of S.state self.old))) (source_of S.state self.old)) }
-        ensures stopped { OnErr result
-            (StandsAfterSome (source_of S.state self.old) (S.state self.new.sealer)) }
-        ensures wiped { (S.state self.old.sealer).wiped ≡ true → IsErr result }
-        ensures errors { IfErr result (λ e.
-            ((e ≡ SealError.Wiped) × ((S.state self.old.sealer).wiped ≡ true))
-            ⊎ (e ≡ SealError.Memory)) }
-        ensures texts { self.new.texts ≡ self.old.texts }
-        ensures batch { self.new.batch ≡ self.old.batch }
-        ensures ats { self.new.ats ≡ self.old.ats }
-        ensures plan { self.new.plan ≡ self.old.plan }
+        ensures { SealsAll S.state self.old self.new result }
     {
         let count = self.records();
         let mut frames = Vec::with_capacity(alloc, count)?;

@@ -3,9 +3,11 @@
 ghost use Rattle.std.specs.Prelude.{◌≡◌};
 
 use super::lanes::{Lanes, reported};
-use crate::asserts::assert_same;
-use crate::session::{KEY, session};
+use crate::asserts::{assert_same, assert_sender};
+use crate::peers::sending;
+use crate::session::{KEY, MICROS, session};
 use krb_der::Moment;
+use krb_peers::emit_sealed_within;
 use krb_relay::Gate;
 use krb_seal::{Aes128Sealer, Mode, SealError, Sealer};
 use std::alloc::{AllocError, Global};
@@ -162,5 +164,19 @@ fn each_seal_call_stands_within_its_lane(rt: HostRuntime) -> Result<(), Fail> {
     for capacity in [1, 64] {
         assert_inside(&rt, rt.alloc(), capacity)?;
     }
+    Ok(())
+}
+
+/// The records of two texts and the close, from 7 on.
+#[test]
+fn sealing_all_stands_within_its_lane(rt: HostRuntime) -> Result<(), Fail> {
+    let gate = Watch::new(rt.alloc())?;
+    let sealer = WatchedSealer::new(rt.alloc(), 1, &gate.second)?;
+    let mut sender = sending(rt.alloc(), sealer, &[b"a", b"b"], &[MICROS])?;
+    assert_sender(&rt, &sender);
+    let wire = emit_sealed_within(rt.alloc(), &gate, 1, &mut sender)?;
+    assert_same(&rt, (wire.len(), sender.sealer.next()), (3, 10));
+    assert_same(&rt, gate.first.all(), (0, 0, 0));
+    assert_same(&rt, gate.second.all(), (3, 3, 3));
     Ok(())
 }
