@@ -11,4 +11,5 @@ pub mod Reasons
 pub mod Record
 pub mod Room
 pub mod Session
+pub mod Unseals
 pub mod Wipeable

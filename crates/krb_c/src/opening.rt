@@ -4,6 +4,7 @@ ghost use Rattle.std.specs.Prelude.{◌≡◌, ◌≤◌, ℕ, drop, length, tak
 ghost use Rattle.krb_c.specs.Exports.{GivesTo, OpensTo};
 ghost use Rattle.krb_c.specs.Moment.{micros_of};
 ghost use Rattle.krb_c.specs.Reasons.{DemandFault, OpenFault};
+ghost use Rattle.krb_c.specs.Unseals.{UnsealsInto};
 
 use crate::buffer::put_within;
 use crate::carried::{KrbCarried, carried};
@@ -42,13 +43,7 @@ pub fn unseal_into(
     at: &KrbMoment,
     out: &mut [u8],
 ) -> Result<usize, Fault>
-    ensures opened { IfOk result (λ size. OpensTo (Some opener.now) number (micros_of at.now)
-        frame.now (Ok (take size out.new))) }
-    ensures size { IfOk result (λ size. size ≤ length out.new) }
-    ensures behind { IfOk result (λ size. drop size out.new ≡ drop size out.old) }
-    ensures kept { OnErr result (out.new ≡ out.old) }
-    ensures why { IfErr result (OpenFault (Some opener.now) number at.now frame.now
-        (length out.old)) }
+    ensures { UnsealsInto (Some opener.now) number at.now frame.now out.old out.new result }
 {
     let user_data = unsealed(alloc, opener, frame, number, at)?;
     put_within(out, &user_data)
@@ -63,13 +58,7 @@ pub fn unseal_in_place(
     number: u64,
     at: &KrbMoment,
 ) -> Result<usize, Fault>
-    ensures opened { IfOk result (λ size. OpensTo (Some opener.now) number (micros_of at.now)
-        frame.old (Ok (take size frame.new))) }
-    ensures size { IfOk result (λ size. size ≤ length frame.new) }
-    ensures behind { IfOk result (λ size. drop size frame.new ≡ drop size frame.old) }
-    ensures kept { OnErr result (frame.new ≡ frame.old) }
-    ensures why { IfErr result (OpenFault (Some opener.now) number at.now frame.old
-        (length frame.old)) }
+    ensures { UnsealsInto (Some opener.now) number at.now frame.old frame.old frame.new result }
 {
     let user_data = unsealed(alloc, opener, frame, number, at)?;
     put_within(frame, &user_data)
