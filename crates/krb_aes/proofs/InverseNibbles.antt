@@ -12,7 +12,7 @@ use Rattle.krb_aes.specs.Words.{AreBytes}
 use Rattle.krb_aes.specs.Nibbles.{entry, first_place, second_place, inv_linear_high, inv_linear_low, inv_linear_nibbles, inv_affine_nibbles}
 use Rattle.krb_aes.specs.Rounds.{rows_shifted, round_key}
 use Rattle.krb_aes.specs.declared.inverse_sbox.TheConstants.{UNDONE_HIGH, UNDONE_LOW, TIMES_14_FIRST, TIMES_14_SECOND, TIMES_11_FIRST, TIMES_11_SECOND, TIMES_13_FIRST, TIMES_13_SECOND, TIMES_9_FIRST, TIMES_9_SECOND, INV_SBOX_FIRST, INV_SBOX_SECOND}
-use Rattle.krb_aes.proofs.Mixing.{all_below, all_below_at, small}
+use Rattle.krb_aes.proofs.Mixing.{all_below, all_below_at, small, inv_mixed-lt}
 use Rattle.krb_aes.proofs.FieldFacts.{times-xor}
 use Rattle.krb_aes.proofs.Inverses.{inverse_in_table, inv_sbox_by_table, inv_sbox_is}
 use Rattle.krb_aes.proofs.Xor.{xor_swap, sum4-xor}
@@ -125,11 +125,6 @@ inv_mixed-xor a b c d e f g h =
     (λ i. sum4 (times-xor 14 a e i) (times-xor 11 b f i) (times-xor 13 c g i) (times-xor 9 d h i))
     ∙ sym (sum4-xor (times 14 a) (times 11 b) (times 13 c) (times 9 d) (times 14 e) (times 11 f) (times 13 g) (times 9 h))
 
-inv_mixed_small : (a b c d : ℕ) → a < 256 → b < 256 → c < 256 → d < 256 → inv_mixed a b c d < 256
-unfolding inv_mixed
-inv_mixed_small a b c d ha hb hc hd =
-    xor_lt 8 _ _ (xor_lt 8 _ _ (small a ha).by_14 (small b hb).by_11) (xor_lt 8 _ _ (small c hc).by_13 (small d hd).by_9)
-
 sum_back : (a b c d : ℕ) → a < 256 → b < 256 → c < 256 → d < 256
     → bit_xor (bit_xor (inv_linear_nibbles (times 14 a)) (inv_linear_nibbles (times 11 b))) (bit_xor (inv_linear_nibbles (times 13 c)) (inv_linear_nibbles (times 9 d))) ≡ inv_linear_nibbles (inv_mixed a b c d)
 unfolding inv_mixed
@@ -146,8 +141,8 @@ mixed_back a b c d e f g h ha hb hc hd he hf hg hh =
     let m : ℕ = inv_mixed a b c d in
     let k : ℕ = inv_mixed e f g h in
     let p : 0x63 < 256 = omega arith in
-    let sm = inv_mixed_small a b c d ha hb hc hd in
-    let sk = inv_mixed_small e f g h he hf hg hh in
+    let sm = inv_mixed-lt a b c d ha hb hc hd in
+    let sk = inv_mixed-lt e f g h he hf hg hh in
     ap (λ (x : ℕ). bit_xor x (inv_linear_nibbles (bit_xor k 0x63))) (sum_back a b c d ha hb hc hd)
     ∙ sym (back-xor m (bit_xor k 0x63) sm (xor_lt 8 k 0x63 sk p))
     ∙ ap inv_linear_nibbles (sym (xor_assoc m k 0x63) ∙ ap (λ (x : ℕ). bit_xor x 0x63) (sym (inv_mixed-xor a b c d e f g h)))

@@ -1,6 +1,6 @@
 -- The laws of a lane.
 use Rattle.std.proofs.Common.{◌≡◌, ◌≤◌, ◌<◌, ◌++◌, ◌&&◌, not, cond, nat_lt, ℕ, Bool, true, false, List, [], ◌∷◌, length, refl, sym, ap, subst, ◌∙◌, arith, append_assoc, append-nil, length-append}
-use Rattle.std.proofs.lemmas.Bool.{ltb-true, lt-ltb}
+use Rattle.std.proofs.lemmas.Bool.{ltb-true, lt-ltb, not-true}
 use Rattle.krb_base.specs.Prefix.{IsPrefix}
 use Rattle.krb_base.specs.Lane.{Item, Lane, Event, Frame, End, Send, Take, empty, has_end, frames, is_possible, taken, moved, after_event, after, IsReached, IsEndLast, IsState}
 
@@ -11,10 +11,6 @@ and_left false b h = h
 and_right : (a b : Bool) → a && b ≡ true → b ≡ true
 and_right true b h = h
 and_right false b h = cc
-
-not_true : (b : Bool) → not b ≡ true → b ≡ false
-not_true true h = cc
-not_true false h = refl
 
 module _ {F : Type 0} where
   pub frames-append : (xs ys : List (Item F)) → frames (xs ++ ys) ≡ frames xs ++ frames ys
@@ -95,7 +91,7 @@ module _ {F : Type 0} where
   state_moved lane (Send x) may h = record {
     linked = ap (λ (l : List (Item F)). l ++ x ∷ []) h.linked ∙ append_assoc lane.got lane.queue (x ∷ []);
     within = let room = and_left (nat_lt (length lane.queue) lane.capacity) (not (has_end lane.sent)) may in let less = ltb-true (length lane.queue) lane.capacity room in omega (arith, length-append lane.queue (x ∷ []), less);
-    end_last = end_last-append lane.sent x (not_true (has_end lane.sent) (and_right (nat_lt (length lane.queue) lane.capacity) (not (has_end lane.sent)) may));
+    end_last = end_last-append lane.sent x (not-true (has_end lane.sent) (and_right (nat_lt (length lane.queue) lane.capacity) (not (has_end lane.sent)) may));
   }
   state_moved lane Take may h = state_taken lane lane.queue refl h
 

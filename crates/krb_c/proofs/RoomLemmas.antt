@@ -1,18 +1,16 @@
 -- A sealed frame is its user data and a few hundred bytes around them.
-use Rattle.std.proofs.Common.{◌≡◌, ℕ, ◌+◌, ◌≤◌, ℤ, List, ◌++◌, length, Option, Some, None, refl, sym, subst, arith, length-append}
+use Rattle.std.proofs.Common.{ℕ, ◌+◌, ◌≤◌, ℤ, List, ◌++◌, length, Option, Some, None, refl, sym, subst, arith, length-append}
 use Rattle.std.specs.Option.{ForSome}
-use Rattle.krb_aes.specs.Stealing.{cts_of}
-use Rattle.krb_aes.specs.Keys.{expanded_key}
-use Rattle.krb_aes.proofs.StealingLemmas.{length-cts}
 use Rattle.krb_keys.proofs.HmacLemmas.{length-hmac96}
 use Rattle.krb_der.specs.declared.address.HostAddress.{HostAddress}
 use Rattle.krb_der.specs.declared.body.Body.{Body}
 use Rattle.krb_der.specs.Body.{part}
 use Rattle.krb_der.specs.Size.{optional_size, carried, SmallPart, SmallSafe, SmallPrivate}
+use Rattle.krb_seal.proofs.Frames.{length-encrypted}
 use Rattle.krb_seal.specs.declared.session.Mode.{Mode}
 use Rattle.krb_seal.specs.declared.session.Mode.TheVariants.{Safe, Priv}
 use Rattle.krb_seal.specs.declared.session.Session.{Session}
-use Rattle.krb_seal.specs.Keys.{encryption_key, integrity_key, encrypted, tag_of, checksum_key}
+use Rattle.krb_seal.specs.Keys.{checksum_key}
 use Rattle.krb_seal.specs.Session.{HasShortAddresses, IsShortAddress}
 use Rattle.krb_seal.specs.Seals.{SealsBody, body_of, sealed_safe, sealed_priv, unsigned}
 use Rattle.krb_der.specs.Safe.{safe_input}
@@ -24,10 +22,6 @@ told_small (Some a) h = h a refl
 
 carried_small : (s : Session) (q at : ℕ) (user : List ℕ) → HasShortAddresses s → carried (body_of s q user at) ≤ length user + 80
 carried_small s q at user h = omega (arith, h.sender, told_small s.r_addr h.receiver)
-
-length-encrypted : (key text : List ℕ) → 16 ≤ length text → length (encrypted key text) ≡ length text + 12
-length-encrypted key text long =
-    omega (arith, length-append (cts_of (encryption_key key) text) (tag_of key text), length-cts (expanded_key (encryption_key key)) text long, length-hmac96 (integrity_key key) text)
 
 -- by the mode, from what the message carries
 body_fits : SmallPart → SmallSafe → SmallPrivate → (mode : Mode) (etype : ℤ) (key conf : List ℕ) (b : Body) (frame : List ℕ) (n : ℕ)

@@ -24,7 +24,7 @@ use Rattle.krb_commands.specs.JobLines.{entry_line, state_line, state_by, is_clo
 use Rattle.krb_commands.specs.Output.{AppendsPrefix, AppendsPart}
 use Rattle.krb_commands.specs.Opened.{opened_lines, opened_text, PrintsFirst, PrintsOpened, PrintsOpenedPrefix, HoldsFrames, LogsFrames}
 use Rattle.std.specs.Result.{is_err}
-use Rattle.krb_commands.proofs.OutputLemmas.{AppendsPrefix-after, prefix_by_part}
+use Rattle.krb_commands.proofs.OutputLemmas.{AppendsPrefix-after, AppendsPrefix-whole, prefix_by_part}
 use Rattle.krb_commands.proofs.ShowLemmas.{of_ok}
 
 abbrev log_of : List Event → LogState
@@ -67,9 +67,6 @@ opened_next start nows frames place receiver log h frame now receiver-now log-no
 
 -- ---- what is printed of it
 
-whole : (old now : Option (List ℕ)) (text : List ℕ) → Appends old now text → AppendsPrefix old now text
-whole old now text h = (text, h, ([], sym (append-nil text)))
-
 lines_are : (vs : List Verdict) (log : LogState) → log ≡ log_of (events_from vs) → concat (map entry_line log.entries) ≡ opened_lines vs
 lines_are vs log is = ap (λ l. concat (map entry_line l.entries)) is
 
@@ -92,7 +89,7 @@ module _ {A E : Type 0} (start : ReceiverState) (nows : List ℕ) (frames : List
       inr (h.0, h.1.verdicts, h.1.opened, subst P (lines_are h.1.verdicts log h.1.entries) p)
 
   pub entries_alone : Appends old now (concat (map entry_line log.entries)) → PrintsOpenedPrefix start nows frames old now
-  entries_alone p = prefix_of_entries (whole old now (concat (map entry_line log.entries)) p)
+  entries_alone p = prefix_of_entries (AppendsPrefix-whole old now (concat (map entry_line log.entries)) p)
 
   -- one line for each event
   count_is : length log.entries ≡ length (events_from h.1.verdicts)

@@ -1,6 +1,6 @@
 -- Writes one after another.
 use Rattle.std.proofs.lemmas.List.{take_all, length-drop, take-append-drop}
-use Rattle.std.proofs.Common.{◌+◌, ◌-◌, ◌≤◌, length, take, drop, arith, ◌≡◌, ℕ, List, [], ◌++◌, refl, sym, ap, ◌∙◌, append_assoc, length-append, Option}
+use Rattle.std.proofs.Common.{◌+◌, ◌-◌, ◌≤◌, length, take, drop, arith, ◌≡◌, ℕ, List, [], ◌++◌, refl, sym, ap, ◌∙◌, append_assoc, append-nil, length-append, Option}
 use Rattle.std.specs.Io.KnownBytes.{Appends}
 use Rattle.std.proofs.KnownBytes.{Appends-trans, Appends-nil}
 use Rattle.krb_base.specs.Prefix.{IsPrefix}
@@ -18,6 +18,9 @@ pub AppendsPrefix-after : (a b c : Option (List ℕ)) (done text whole : List �
     → (rest : List ℕ) → whole ≡ done ++ text ++ rest → AppendsPrefix a c whole
 AppendsPrefix-after a b c done text whole p q rest e =
     (done ++ q.0, Appends-trans a b c done q.0 p q.1, prefix_after done text whole q.0 q.2 rest e)
+
+pub AppendsPrefix-whole : (old now : Option (List ℕ)) (text : List ℕ) → Appends old now text → AppendsPrefix old now text
+AppendsPrefix-whole old now text h = (text, h, ([], sym (append-nil text)))
 
 pub AppendsPrefix-none : (a : Option (List ℕ)) (whole : List ℕ) → AppendsPrefix a a whole
 AppendsPrefix-none a whole = ([], Appends-nil a, (whole, refl))

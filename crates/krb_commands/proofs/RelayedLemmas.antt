@@ -1,7 +1,8 @@
 -- What `relay` has printed.
-use Rattle.std.proofs.Common.{◌≡◌, ℕ, suc, ◌+◌, ◌&&◌, Bool, true, false, List, [], ◌∷◌, ◌++◌, length, map, drop, slice_get, Some, Option, Result, Ok, Err, OnOk, OnErr, IfOk, refl, sym, ap, subst, ◌∙◌, arith, append-nil, append_assoc, inl, inr}
+use Rattle.std.proofs.Common.{◌≡◌, ℕ, suc, ◌+◌, ◌&&◌, Bool, List, [], ◌∷◌, ◌++◌, length, map, drop, slice_get, Some, Option, Result, Ok, Err, OnOk, OnErr, IfOk, refl, sym, ap, subst, ◌∙◌, arith, append-nil, append_assoc, inl, inr}
 use Rattle.std.specs.List.{concat}
 use Rattle.std.specs.Io.KnownBytes.{Appends}
+use Rattle.std.proofs.Math.Bool.{and_assoc}
 use Rattle.std.proofs.KnownBytes.{Appends-trans, Appends-nil}
 use Rattle.krb_peers.specs.declared.sending.Sent.{Sent}
 use Rattle.krb_peers.specs.Log.{status_of}
@@ -26,10 +27,6 @@ pub record HasPrinted (old now : Option (List ℕ)) (sents : List Sent) (log : L
   pub lines : end_lines 0 sents log ≡ done ++ end_lines lane (drop lane sents) log
   pub states : are_closed 0 sents log ≡ (closed && are_closed lane (drop lane sents) log)
 
-and_assoc : (a b c : Bool) → (a && (b && c)) ≡ ((a && b) && c)
-and_assoc true b c = refl
-and_assoc false b c = refl
-
 module _ (old then now : Option (List ℕ)) (sents : List Sent) (log : LogState) (lane : ℕ) (closed : Bool) (h : HasPrinted old then sents log lane closed) (sent : Sent) (at : slice_get sents lane ≡ Some sent) where
   next_line : end_lines lane (drop lane sents) log ≡ end_line lane sent (status_of log lane) ++ end_lines (lane + 1) (drop (lane + 1) sents) log
   next_line = let e : suc lane ≡ lane + 1 = omega arith in ap (λ l. end_lines lane l log) (drop_get sents lane sent at ∙ ap (λ n. sent ∷ drop n sents) e)
@@ -42,7 +39,7 @@ module _ (old then now : Option (List ℕ)) (sents : List Sent) (log : LogState)
     done = h.done ++ end_line lane sent (status_of log lane);
     written = Appends-trans old then now h.done (end_line lane sent (status_of log lane)) h.written p;
     lines = h.lines ∙ ap (λ l. h.done ++ l) next_line ∙ sym (append_assoc h.done (end_line lane sent (status_of log lane)) (end_lines (lane + 1) (drop (lane + 1) sents) log));
-    states = h.states ∙ ap (λ b. closed && b) next_state ∙ and_assoc closed (is_closed_state (status_of log lane)) (are_closed (lane + 1) (drop (lane + 1) sents) log);
+    states = h.states ∙ ap (λ b. closed && b) next_state ∙ sym (and_assoc closed (is_closed_state (status_of log lane)) (are_closed (lane + 1) (drop (lane + 1) sents) log));
   }
 
   pub printed_front : AppendsPart then now (end_line lane sent (status_of log lane)) → AppendsPart old now (end_lines 0 sents log)

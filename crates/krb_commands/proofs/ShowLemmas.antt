@@ -3,6 +3,7 @@ use Rattle.std.proofs.Common.{◌≡◌, ℕ, Bool, true, false, ◌&&◌, cond,
 use Rattle.std.specs.Result.{is_err}
 use Rattle.std.specs.List.{AllZip, list_all}
 use Rattle.std.specs.Io.KnownBytes.{Appends}
+use Rattle.std.proofs.Math.Bool.{and_assoc}
 use Rattle.std.proofs.KnownBytes.{Appends-trans}
 use Rattle.krb_commands.specs.declared.reading.Reading.{Reading}
 use Rattle.krb_commands.specs.Lines.{lines_of}
@@ -20,10 +21,6 @@ pub record Printed (old new : Option (List ℕ)) (input rest : List ℕ) (all : 
   pub others : (readings : List Reading) → AreReadings rest readings
       → (whole : List Reading) × AreReadings input whole × (output_of whole ≡ done ++ output_of readings) × (list_all is_message whole ≡ (all && list_all is_message readings))
 
-and_assoc : (all first rest : Bool) → (all && (first && rest)) ≡ ((all && first) && rest)
-and_assoc true first rest = refl
-and_assoc false first rest = refl
-
 pub printed_more : (a b c : Option (List ℕ)) (input rest line after : List ℕ) (all spelt : Bool) → Printed a b input rest all
     → lines_of rest ≡ line ∷ lines_of after → ShowsLine line b c spelt → Printed a c input after (all && spelt)
 printed_more a b c input rest line after all spelt p e shown =
@@ -35,7 +32,7 @@ printed_more a b c input rest line after all spelt p e shown =
             whole.0,
             whole.1,
             whole.2 ∙ sym (append_assoc p.done (printed_line reading) (output_of readings)),
-            whole.3 ∙ and_assoc all (is_message reading) (list_all is_message readings)
+            whole.3 ∙ sym (and_assoc all (is_message reading) (list_all is_message readings))
                 ∙ ap (λ b. (all && b) && list_all is_message readings) (sym shown.3),
           );
     }

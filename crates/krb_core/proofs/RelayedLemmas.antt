@@ -1,7 +1,7 @@
 -- What turns leave of each lane.
 use Rattle.std.proofs.Common.{◌≡◌, ◌≢◌, ℕ, zero, suc, ◌+◌, ◌≤◌, ◌<◌, not, cond, nat_lt, Bool, true, false, List, [], ◌∷◌, ◌++◌, length, get_or, take, replicate, slice_get, Option, Some, None, inl, inr, refl, sym, ap, ap₂, subst, ◌∙◌, arith, append-nil, length-append}
 use Rattle.std.proofs.lemmas.List.{length-set, get_or-set_same, get_or-set_other, length-replicate}
-use Rattle.std.proofs.lemmas.Bool.{and_parts, lt-ltb}
+use Rattle.std.proofs.lemmas.Bool.{and_parts, lt-ltb, not-true}
 use Rattle.std.proofs.lemmas.Bool.Decides.{leb_tells}
 use Rattle.std.proofs.lemmas.Option.{slice_get_within}
 use Rattle.krb_aes.specs.Words.{AreBytes}
@@ -56,10 +56,6 @@ pub bytes_of_taken : (n : ℕ) (wire : List (List ℕ)) → AllBytes wire → Al
 bytes_of_taken zero wire all = tt
 bytes_of_taken (suc n) [] all = tt
 bytes_of_taken (suc n) (f ∷ wire) all = (all.0, bytes_of_taken n wire all.1)
-
-not_true : (b : Bool) → not b ≡ true → b ≡ false
-not_true true h = absurd (let e = h in cc)
-not_true false h = refl
 
 -- before End, a place of the wire is left
 place_left : (wire : List (List ℕ)) (n : ℕ) → has_end (take n (items_of wire)) ≡ false → n ≤ length wire
@@ -187,7 +183,7 @@ module _ (ends : Ends) (lane : ℕ) (track : TrackState) (log : LogState) (h : S
       let n = length sent in
       let items = items_of track.wire in
       let x = item_at track.wire n in
-      let no_end : has_end sent ≡ false = not_true (has_end sent) (and_parts (nat_lt (length track.lane.queue) track.lane.capacity) (not (has_end sent)) is).1 in
+      let no_end : has_end sent ≡ false = not-true (has_end sent) (and_parts (nat_lt (length track.lane.queue) track.lane.capacity) (not (has_end sent)) is).1 in
       let left : n ≤ length track.wire = place_left track.wire n (ap has_end (sym h.sent) ∙ no_end) in
       let count : length (sent ++ x ∷ []) ≡ n + 1 = length-append sent (x ∷ []) in
       record {

@@ -32,6 +32,7 @@ use Rattle.krb_peers.proofs.OrderLemmas.{demand_after-nil, demand_after-append}
 use Rattle.krb_core.proofs.TrackLemmas.{track_at, send_moves, send_over, take_frame, take_end, take_none}
 use Rattle.krb_core.proofs.SteppedLemmas.{relay_of}
 use Rattle.krb_peers.proofs.RoundsLemmas.{rounds-from_below}
+use Rattle.krb_peers.proofs.VerdictLemmas.{length-verdicts}
 use Rattle.krb_peers.proofs.LoggedLemmas.{records_of-push}
 use Rattle.krb_core.proofs.RelayedClaims.{after-append}
 use Rattle.krb_core.proofs.TurnLemmas.{stepped, log_round, round_leaves, entries_grow, IsPartOf}
@@ -53,12 +54,6 @@ verdict-at opener nows demand place (g ∷ wire) (suc k) frame at =
     let p : place + 1 + k ≡ place + suc k = omega arith in
     verdict-at opener nows (demand_after demand (accepted_by v)) (place + 1) wire k frame at
     ∙ ap₂ (λ (d : Demand) (n : ℕ). Some (verdict opener d (moment_at nows n) frame)) (demand_after-append demand (accepted_by v) (records_of (take k rest))) p
-
-length-verdicts : (opener : OpenerState) (nows : List ℕ) (demand : Demand) (place : ℕ) (wire : List (List ℕ)) → length (verdicts opener nows demand place wire) ≡ length wire
-length-verdicts opener nows demand place [] = refl
-length-verdicts opener nows demand place (g ∷ wire) =
-    let v = verdict opener demand (moment_at nows place) g in
-    ap suc (length-verdicts opener nows (demand_after demand (accepted_by v)) (place + 1) wire)
 
 -- ---- each verdict is one group
 

@@ -1,6 +1,7 @@
 -- What the earlier grammar spells, today's spells the same: within the earlier limit no content is
 -- so long that its length would take a third octet.
 use Rattle.std.proofs.Common.{◌≡◌, ℕ, ◌<◌, ◌≤◌, ℤ, pos, List, [], ◌∷◌, ◌++◌, length, Option, Some, None, refl, subst, ap, ◌∙◌, arith}
+use Rattle.std.specs.List.{concat}
 use Rattle.std.proofs.lemmas.Bool.{lt-ltb}
 use Rattle.std.proofs.lemmas.List.{length-append}
 use Rattle.krb_der.specs.declared.address.HostAddress.{HostAddress}
@@ -10,7 +11,7 @@ use Rattle.krb_der.specs.declared.message.Message.TheVariants.{Safe, Priv}
 use Rattle.krb_time.specs.Time.{kerberos_time}
 use Rattle.krb_tlv.specs.Tag.{integer_tag, octet_string_tag, generalized_time_tag, sequence_tag, context, application}
 use Rattle.krb_tlv.specs.Length.{length_octets}
-use Rattle.krb_tlv.specs.Element.{header, tagged, joined, sequence, optional, octets}
+use Rattle.krb_tlv.specs.Element.{header, tagged, sequence, optional, octets}
 use Rattle.krb_tlv.specs.Integer.{int_octets, integer, natural}
 use Rattle.krb_der.specs.KerberosTime.{time}
 use Rattle.krb_der.specs.Typed.{typed_fields, typed_octets}
@@ -49,17 +50,17 @@ AllSame [] (now ∷ nows) = ⊥
 AllSame (before ∷ befores) [] = ⊥
 AllSame (before ∷ befores) (now ∷ nows) = Same before now × AllSame befores nows
 
-fields : (befores nows : List (List ℕ)) → AllSame befores nows → Same (joined befores) (joined nows)
+fields : (befores nows : List (List ℕ)) → AllSame befores nows → Same (concat befores) (concat nows)
 fields [] [] same le = refl
 fields [] (now ∷ nows) same le = absurd same
 fields (before ∷ befores) [] same le = absurd same
 fields (before ∷ befores) (now ∷ nows) same le =
-    let front : before ≡ now = same.0 (omega (arith, length-append before (joined befores))) in
-    let rest : joined befores ≡ joined nows = fields befores nows same.1 (omega (arith, length-append before (joined befores))) in
-    subst (λ (x : List ℕ). before ++ joined befores ≡ x ++ joined nows) front (ap (λ (x : List ℕ). before ++ x) rest)
+    let front : before ≡ now = same.0 (omega (arith, length-append before (concat befores))) in
+    let rest : concat befores ≡ concat nows = fields befores nows same.1 (omega (arith, length-append before (concat befores))) in
+    subst (λ (x : List ℕ). before ++ concat befores ≡ x ++ concat nows) front (ap (λ (x : List ℕ). before ++ x) rest)
 
 sequence_same : (befores nows : List (List ℕ)) → AllSame befores nows → Same (earlier_sequence befores) (sequence nows)
-sequence_same befores nows same = element sequence_tag (joined befores) (joined nows) (fields befores nows same)
+sequence_same befores nows same = element sequence_tag (concat befores) (concat nows) (fields befores nows same)
 
 field : (n : ℕ) (before now : List ℕ) → Same before now → Same (earlier (context n) before) (tagged (context n) now)
 field n = element (context n)

@@ -1,10 +1,11 @@
 -- Sizes by lengths alone are those of the spellings.
 use Rattle.std.proofs.Common.{◌≡◌, ℕ, ◌+◌, ℤ, List, length, Option, Some, None, refl, sym, ap, ◌∙◌, arith, length-append}
+use Rattle.std.specs.List.{concat}
 use Rattle.krb_der.specs.declared.body.Body.{Body}
 use Rattle.krb_der.specs.declared.safe.SafeMsg.{SafeMsg}
 use Rattle.krb_der.specs.declared.private.PrivMsg.{PrivMsg}
 use Rattle.krb_tlv.specs.Tag.{context, application, sequence_tag}
-use Rattle.krb_tlv.specs.Element.{joined, sequence, optional}
+use Rattle.krb_tlv.specs.Element.{sequence, optional}
 use Rattle.krb_tlv.specs.Integer.{integer, natural}
 use Rattle.krb_der.specs.KerberosTime.{time}
 use Rattle.krb_der.specs.Typed.{typed_fields, typed_octets}
@@ -23,15 +24,15 @@ length-field : {A : Type 0} (tag : ℕ) (spell : A → List ℕ) (x : Option A) 
 length-field tag spell None = refl
 length-field tag spell (Some x) = size-tagged tag (spell x) ∙ sym (size-tagged 0 (spell x))
 
-pub length-typed_fields : (kind : ℤ) (bytes : List ℕ) → length (joined (typed_fields kind bytes)) ≡ typed_fields_size kind (length bytes)
+pub length-typed_fields : (kind : ℤ) (bytes : List ℕ) → length (concat (typed_fields kind bytes)) ≡ typed_fields_size kind (length bytes)
 length-typed_fields kind bytes = grind (arith, length-append, size-tagged, length-octets bytes)
 
 pub length-typed : (kind : ℤ) (bytes : List ℕ) → length (typed_octets kind bytes) ≡ typed_size kind (length bytes)
 unfolding typed_octets
 length-typed kind bytes =
-    size-tagged sequence_tag (joined (typed_fields kind bytes)) ∙ ap element_size (length-typed_fields kind bytes)
+    size-tagged sequence_tag (concat (typed_fields kind bytes)) ∙ ap element_size (length-typed_fields kind bytes)
 
-pub length-body_fields : (b : Body) → length (joined (body_fields b)) ≡ body_fields_size b (length b.user_data)
+pub length-body_fields : (b : Body) → length (concat (body_fields b)) ≡ body_fields_size b (length b.user_data)
 length-body_fields b =
     grind (
       arith,
@@ -46,15 +47,15 @@ length-body_fields b =
 
 pub length-body : (b : Body) → length (body b) ≡ body_size b (length b.user_data)
 unfolding body
-length-body b = size-tagged sequence_tag (joined (body_fields b)) ∙ ap element_size (length-body_fields b)
+length-body b = size-tagged sequence_tag (concat (body_fields b)) ∙ ap element_size (length-body_fields b)
 
-pub length-safe_fields : (m : SafeMsg) → length (joined (safe_fields m)) ≡ safe_fields_size m m.cksum_type (length m.checksum) (length m.body.user_data)
+pub length-safe_fields : (m : SafeMsg) → length (concat (safe_fields m)) ≡ safe_fields_size m m.cksum_type (length m.checksum) (length m.body.user_data)
 length-safe_fields m =
     grind (arith, length-append, size-tagged, length-body m.body, length-typed m.cksum_type m.checksum)
 
 length-safe : (m : SafeMsg) → length (safe m) ≡ element_size (element_size (safe_fields_size m m.cksum_type (length m.checksum) (length m.body.user_data)))
 length-safe m =
-    size-tagged (application 20) (sequence (safe_fields m)) ∙ ap element_size (size-tagged sequence_tag (joined (safe_fields m)) ∙ ap element_size (length-safe_fields m))
+    size-tagged (application 20) (sequence (safe_fields m)) ∙ ap element_size (size-tagged sequence_tag (concat (safe_fields m)) ∙ ap element_size (length-safe_fields m))
 
 pub part_size : (b : Body) (n size : ℕ) → size ≡ element_size (body_size b n) → HasPartSize b n size
 part_size b n size is user same =

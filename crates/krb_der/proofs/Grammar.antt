@@ -1,5 +1,6 @@
 -- The values of the grammar, each read from its spelling and from nothing else.
 use Rattle.std.proofs.Common.{◌≡◌, ℕ, ◌+◌, ◌^◌, ◌<◌, ◌≤◌, Bool, true, false, ltb, ℤ, pos, negsuc, List, [], ◌∷◌, ◌++◌, length, Option, Some, Result, Ok, Err, refl, sym, ap, subst, ◌∙◌, arith, inl, inr, lit≤, lit<, ◌⊎◌}
+use Rattle.std.specs.List.{concat}
 use Rattle.std.specs.Prelude.{MatchResult, IfSome}
 use Rattle.std.proofs.lemmas.Bool.{lt-ltb, ltb-true}
 use Rattle.krb_der.specs.declared.address.HostAddress.{HostAddress}
@@ -11,7 +12,7 @@ use Rattle.krb_der.specs.declared.message.Message.TheVariants.{Safe, Priv}
 use Rattle.krb_time.specs.Time.{IsSecond, kerberos_time}
 use Rattle.krb_time.specs.Reading.{time_of}
 use Rattle.krb_time.specs.Moment.{last_usec, IsMicroseconds}
-use Rattle.krb_tlv.specs.Element.{header, tagged, joined, sequence, optional, octets}
+use Rattle.krb_tlv.specs.Element.{header, tagged, sequence, optional, octets}
 use Rattle.krb_tlv.specs.Integer.{int_octets, integer, natural, IsInt32}
 use Rattle.krb_der.specs.KerberosTime.{time}
 use Rattle.krb_der.specs.Typed.{typed_fields, typed_octets}
@@ -115,7 +116,7 @@ typed_reads =
     let f3 = λ (k : ℤ) (b : List ℕ). no_field 0xA1 (K2 k b) (k, b) ((tt, refl), refl) (λ v h. rw (← h.0.1, ← h.1) refl) in
     let f2 = λ (k : ℤ). taken_field 0xA1 0xA0 Any octets octets_of (λ v. v.1) (K1 k) Any (λ _. []) _ octets_reads (f3 k) (omega arith) in
     let f1 = taken_field 0xA0 0 IsInt32 integer int32_element_of (λ v. v.0) Any _ _ _ integer_reads f2 (omega arith) in
-    under_tag 0x30 IsTyped (λ t. joined (TypedFields t)) _ (all_fields 0 _ IsTyped TypedFields _ f1 (λ v h. h.0) (λ v h. (h, (tt, tt))))
+    under_tag 0x30 IsTyped (λ t. concat (TypedFields t)) _ (all_fields 0 _ IsTyped TypedFields _ f1 (λ v h. h.0) (λ v h. (h, (tt, tt))))
 
 address-found : (c : List ℕ) (a : HostAddress) → IsBytes c → address_of c ≡ Some a → IsAddress a × (c ≡ host_address a)
 unfolding address_of
@@ -173,7 +174,7 @@ body_reads =
     let f3 = λ (u : List ℕ) (t : Option ℕ). optional_field 0xA2 0xA1 IsMicroseconds natural (below_element_of (last_usec + 1)) (λ v. v.usec) (K2 u t) _ _ _ micro_reads (f4 u t) (omega arith) in
     let f2 = λ (u : List ℕ). optional_field 0xA1 0xA0 IsSecond time time_element_of (λ v. v.time) (K1 u) _ _ _ time_reads (f3 u) (omega arith) in
     let f1 = field 0xA0 0 Any octets octets_of (λ v. v.user_data) Any _ _ _ octets_reads f2 (omega arith) in
-    under_tag 0x30 IsBody (λ b. joined (body_fields b)) _ (all_fields 0 _ IsBody body_fields _ f1
+    under_tag 0x30 IsBody (λ b. concat (body_fields b)) _ (all_fields 0 _ IsBody body_fields _ f1
     (λ v h. record { time = h.1.0; usec = h.1.1.0; seq = h.1.1.1.0; s_addr = h.1.1.1.1.0; r_addr = h.1.1.1.1.1.0 })
     (λ v h. (tt, (h.time, (h.usec, (h.seq, (h.s_addr, (h.r_addr, tt))))))))
 
@@ -197,7 +198,7 @@ safe_body_reads =
     let f3 = λ (p t : ℤ). field 0xA2 0xA1 IsBody body body_of (λ v. v.body) (K2 p t) _ _ _ body_reads (f4 p t) (omega arith) in
     let f2 = λ (p : ℤ). taken_field 0xA1 0xA0 IsInt32 integer int32_element_of (λ v. v.msg_type) (K1 p) _ _ _ integer_reads (f3 p) (omega arith) in
     let f1 = taken_field 0xA0 0 IsInt32 integer int32_element_of (λ v. v.pvno) Any _ _ _ integer_reads f2 (omega arith) in
-    under_tag 0x30 IsSafe (λ m. joined (safe_fields m)) _ (all_fields 0 _ IsSafe safe_fields _ f1
+    under_tag 0x30 IsSafe (λ m. concat (safe_fields m)) _ (all_fields 0 _ IsSafe safe_fields _ f1
     (λ v h. record { pvno = h.0; msg_type = h.1.0; body = h.1.1.0; cksum_type = h.1.1.1.0 })
     (λ v h. (h.pvno, (h.msg_type, (h.body, (h.cksum_type, tt))))))
 
@@ -225,7 +226,7 @@ encrypted_reads =
     let f3 = λ (t : ℤ) (k : Option ℕ). taken_field 0xA2 0xA1 Any octets octets_of (λ v. v.2) (K2 t k) Any (λ _. []) _ octets_reads (f4 t k) (omega arith) in
     let f2 = λ (t : ℤ). optional_field 0xA1 0xA0 IsU32 natural (below_element_of (2 ^ 32)) (λ v. v.1) (K1 t) _ _ _ u32_reads (f3 t) (omega arith) in
     let f1 = taken_field 0xA0 0 IsInt32 integer int32_element_of (λ v. v.0) Any _ _ _ integer_reads f2 (omega arith) in
-    under_tag 0x30 IsEncrypted (λ e. joined (EncryptedFields e)) _ (all_fields 0 _ IsEncrypted EncryptedFields _ f1 (λ v h. (h.0, h.1.0)) (λ v h. (h.0, (h.1, (tt, tt)))))
+    under_tag 0x30 IsEncrypted (λ e. concat (EncryptedFields e)) _ (all_fields 0 _ IsEncrypted EncryptedFields _ f1 (λ v h. (h.0, h.1.0)) (λ v h. (h.0, (h.1, (tt, tt)))))
 
 priv_body_reads : Reads IsPrivate (λ m. sequence (private_fields m)) private_of
 unfolding private_of
@@ -239,7 +240,7 @@ priv_body_reads =
     let f3 = λ (p t : ℤ). field 0xA3 0xA1 IsEncrypted encrypted encrypted_of (λ v. (v.etype, v.kvno, v.cipher)) (K2 p t) Any (λ _. []) _ encrypted_reads (f4 p t) (omega arith) in
     let f2 = λ (p : ℤ). taken_field 0xA1 0xA0 IsInt32 integer int32_element_of (λ v. v.msg_type) (K1 p) _ _ _ integer_reads (f3 p) (omega arith) in
     let f1 = taken_field 0xA0 0 IsInt32 integer int32_element_of (λ v. v.pvno) Any _ _ _ integer_reads f2 (omega arith) in
-    under_tag 0x30 IsPrivate (λ m. joined (private_fields m)) _ (all_fields 0 _ IsPrivate private_fields _ f1
+    under_tag 0x30 IsPrivate (λ m. concat (private_fields m)) _ (all_fields 0 _ IsPrivate private_fields _ f1
     (λ v h. record { pvno = h.0; msg_type = h.1.0; etype = h.1.1.0.0; kvno = h.1.1.0.1 })
     (λ v h. (h.pvno, (h.msg_type, ((h.etype, h.kvno), tt)))))
 

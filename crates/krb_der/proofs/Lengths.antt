@@ -1,5 +1,6 @@
 -- What is spelled inside is no longer than the whole.
 use Rattle.std.proofs.Common.{◌≡◌, inl, inr, ℕ, zero, suc, ◌<◌, ◌≤◌, Bool, true, false, ℤ, List, [], ◌∷◌, length, get_or, Option, Some, None, Result, Ok, Err, arith, sym, subst}
+use Rattle.std.specs.List.{concat}
 use Rattle.std.specs.Prelude.{IfSome, IsTrue, ◌↔◌, IsErrAnd}
 use Rattle.std.specs.Global.{Vec}
 use Rattle.krb_tlv.specs.declared.error.DerError.{DerError}
@@ -10,7 +11,7 @@ use Rattle.std.proofs.lemmas.List.{length-append}
 use Rattle.krb_der.specs.declared.address.HostAddress.{HostAddress}
 use Rattle.krb_der.specs.declared.body.Body.{Body}
 use Rattle.krb_der.specs.declared.safe.SafeMsg.{SafeMsg}
-use Rattle.krb_tlv.specs.Element.{tagged, joined, sequence, optional, octets}
+use Rattle.krb_tlv.specs.Element.{tagged, sequence, optional, octets}
 use Rattle.krb_tlv.specs.Integer.{integer}
 use Rattle.krb_der.specs.Typed.{typed_octets}
 use Rattle.krb_der.specs.Address.{host_address}
@@ -21,17 +22,17 @@ use Rattle.krb_der.specs.Safe.{checksum, safe, safe_fields}
 use Rattle.krb_base.specs.Limits.{frame_limit}
 use Rattle.krb_tlv.proofs.Readers.{length-tagged}
 
-nth : (fs : List (List ℕ)) (i : ℕ) → length (get_or fs i []) ≤ length (joined fs)
+nth : (fs : List (List ℕ)) (i : ℕ) → length (get_or fs i []) ≤ length (concat fs)
 nth [] i = omega arith
-nth (f ∷ fs) zero = omega (arith, length-append f (joined fs))
-nth (f ∷ fs) (suc i) = omega (arith, length-append f (joined fs), nth fs i)
+nth (f ∷ fs) zero = omega (arith, length-append f (concat fs))
+nth (f ∷ fs) (suc i) = omega (arith, length-append f (concat fs), nth fs i)
 
 -- the bytes that stand with a type
 typed_holds : (kind : ℤ) (bytes : List ℕ) → length bytes ≤ length (typed_octets kind bytes)
 unfolding typed_octets
 typed_holds kind bytes =
     let fs : List (List ℕ) = tagged 0xA0 (integer kind) ∷ tagged 0xA1 (octets bytes) ∷ [] in
-    omega (arith, nth fs 1, length-tagged 0x30 (joined fs), length-tagged 0xA1 (octets bytes), length-tagged 0x04 bytes)
+    omega (arith, nth fs 1, length-tagged 0x30 (concat fs), length-tagged 0xA1 (octets bytes), length-tagged 0x04 bytes)
 
 address_holds : (a : HostAddress) → length a.bytes ≤ length (host_address a)
 unfolding typed_octets
@@ -39,10 +40,10 @@ address_holds a = typed_holds a.kind a.bytes
 
 body_holds : (b : Body) (i : ℕ) → length (get_or (body_fields b) i []) ≤ length (body b)
 unfolding body
-body_holds b i = omega (arith, nth (body_fields b) i, length-tagged 0x30 (joined (body_fields b)))
+body_holds b i = omega (arith, nth (body_fields b) i, length-tagged 0x30 (concat (body_fields b)))
 
 safe_holds : (m : SafeMsg) (i : ℕ) → length (get_or (safe_fields m) i []) ≤ length (safe m)
-safe_holds m i = omega (arith, nth (safe_fields m) i, length-tagged 0x30 (joined (safe_fields m)), length-tagged 0x74 (sequence (safe_fields m)))
+safe_holds m i = omega (arith, nth (safe_fields m) i, length-tagged 0x30 (concat (safe_fields m)), length-tagged 0x74 (sequence (safe_fields m)))
 
 optional_short : (n : ℕ) (o : Option HostAddress) → length (optional 0xA5 host_address o) ≤ n → IfSome o (λ a. length a.bytes ≤ n)
 optional_short n None h = tt

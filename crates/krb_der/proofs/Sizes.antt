@@ -1,10 +1,11 @@
 -- What tags, lengths and numbers take.
 use Rattle.std.proofs.Common.{◌≡◌, ◌⊎◌, inl, inr, ℕ, ◌+◌, ◌^◌, ◌<◌, ◌≤◌, ℤ, pos, negsuc, List, [], ◌∷◌, length, Option, Some, None, refl, lit≤, arith, length-append}
+use Rattle.std.specs.List.{concat}
 use Rattle.krb_der.specs.declared.address.HostAddress.{HostAddress}
 use Rattle.krb_der.specs.declared.body.Body.{Body}
 use Rattle.krb_tlv.specs.Tag.{context, application, integer_tag, octet_string_tag, sequence_tag, generalized_time_tag}
 use Rattle.krb_tlv.specs.Length.{big_endian, length_octets}
-use Rattle.krb_tlv.specs.Element.{tagged, joined, sequence, optional, octets}
+use Rattle.krb_tlv.specs.Element.{tagged, sequence, optional, octets}
 use Rattle.krb_tlv.specs.Integer.{width, int_octets, integer, natural}
 use Rattle.krb_der.specs.Typed.{typed_fields, typed_octets}
 use Rattle.krb_time.specs.Time.{kerberos_time}
@@ -56,8 +57,8 @@ typed-small kind bytes =
       tagged-short octet_string_tag bytes,
       tagged-short (context 1) (octets bytes),
       length-append b [],
-      length-append k (joined (b ∷ [])),
-      tagged-short sequence_tag (joined (typed_fields kind bytes)),
+      length-append k (concat (b ∷ [])),
+      tagged-short sequence_tag (concat (typed_fields kind bytes)),
     )
 
 address-small : (tag : ℕ) (o : Option HostAddress) → length (optional tag host_address o) ≤ optional_size o + 35
@@ -84,12 +85,12 @@ body-small b =
       tagged-short (context 4) (host_address b.s_addr),
       address-small (context 5) b.r_addr,
       length-append receiver [],
-      length-append sender (joined (receiver ∷ [])),
-      length-append number (joined (sender ∷ receiver ∷ [])),
-      length-append usec (joined (number ∷ sender ∷ receiver ∷ [])),
-      length-append secs (joined (usec ∷ number ∷ sender ∷ receiver ∷ [])),
-      length-append user (joined (secs ∷ usec ∷ number ∷ sender ∷ receiver ∷ [])),
-      tagged-short sequence_tag (joined (body_fields b)),
+      length-append sender (concat (receiver ∷ [])),
+      length-append number (concat (sender ∷ receiver ∷ [])),
+      length-append usec (concat (number ∷ sender ∷ receiver ∷ [])),
+      length-append secs (concat (usec ∷ number ∷ sender ∷ receiver ∷ [])),
+      length-append user (concat (secs ∷ usec ∷ number ∷ sender ∷ receiver ∷ [])),
+      tagged-short sequence_tag (concat (body_fields b)),
     )
 
 pub small_part : SmallPart
@@ -112,10 +113,10 @@ small_safe m =
       typed-small m.cksum_type m.checksum,
       tagged-short (context 3) (checksum m.cksum_type m.checksum),
       length-append sum [],
-      length-append inner (joined (sum ∷ [])),
-      length-append kind (joined (inner ∷ sum ∷ [])),
-      length-append pvno (joined (kind ∷ inner ∷ sum ∷ [])),
-      tagged-short sequence_tag (joined (safe_fields m)),
+      length-append inner (concat (sum ∷ [])),
+      length-append kind (concat (inner ∷ sum ∷ [])),
+      length-append pvno (concat (kind ∷ inner ∷ sum ∷ [])),
+      tagged-short sequence_tag (concat (safe_fields m)),
       tagged-short (application 20) (sequence (safe_fields m)),
     )
 
@@ -136,18 +137,18 @@ small_private m =
       tagged-short octet_string_tag m.cipher,
       tagged-short (context 2) (octets m.cipher),
       length-append cipher [],
-      length-append kvno (joined (cipher ∷ [])),
-      length-append etype (joined (kvno ∷ cipher ∷ [])),
-      tagged-short sequence_tag (joined (encrypted_fields m.etype m.kvno m.cipher)),
+      length-append kvno (concat (cipher ∷ [])),
+      length-append etype (concat (kvno ∷ cipher ∷ [])),
+      tagged-short sequence_tag (concat (encrypted_fields m.etype m.kvno m.cipher)),
       tagged-short (context 3) (encrypted_data m.etype m.kvno m.cipher),
       integer-small m.pvno,
       tagged-short (context 0) (integer m.pvno),
       integer-small m.msg_type,
       tagged-short (context 1) (integer m.msg_type),
       length-append inner [],
-      length-append kind (joined (inner ∷ [])),
-      length-append pvno (joined (kind ∷ inner ∷ [])),
-      tagged-short sequence_tag (joined (private_fields m)),
+      length-append kind (concat (inner ∷ [])),
+      length-append pvno (concat (kind ∷ inner ∷ [])),
+      tagged-short sequence_tag (concat (private_fields m)),
       tagged-short (application 21) (sequence (private_fields m)),
     )
 
@@ -194,8 +195,8 @@ typed-longer kind bytes =
     let full : List ℕ = tagged (context 1) (octets bytes) in
     let number : length none ≤ length some = longer (context 0) (integer (pos 0)) (integer kind) (longer integer_tag (int_octets (pos 0)) (int_octets kind) (octets-some kind)) in
     let string : length empty ≤ length full = longer (context 1) (octets []) (octets bytes) (longer octet_string_tag [] bytes (omega arith)) in
-    longer sequence_tag (joined (typed_fields (pos 0) [])) (joined (typed_fields kind bytes))
-    (omega (arith, number, string, length-append none (joined (empty ∷ [])), length-append empty [], length-append some (joined (full ∷ [])), length-append full []))
+    longer sequence_tag (concat (typed_fields (pos 0) [])) (concat (typed_fields kind bytes))
+    (omega (arith, number, string, length-append none (concat (empty ∷ [])), length-append empty [], length-append some (concat (full ∷ [])), length-append full []))
 
 pub shorter_input : ShorterInput
 shorter_input m =
@@ -206,16 +207,16 @@ shorter_input m =
     let sum : List ℕ = tagged (context 3) (checksum m.cksum_type m.checksum) in
     let less : length none ≤ length sum = longer (context 3) (checksum (pos 0) []) (checksum m.cksum_type m.checksum) (typed-longer m.cksum_type m.checksum) in
     longer (application 20) (sequence (safe_fields (with_checksum m (pos 0) []))) (sequence (safe_fields m))
-    (longer sequence_tag (joined (safe_fields (with_checksum m (pos 0) []))) (joined (safe_fields m))
+    (longer sequence_tag (concat (safe_fields (with_checksum m (pos 0) []))) (concat (safe_fields m))
     (omega (
       arith,
       less,
       length-append none [],
-      length-append inner (joined (none ∷ [])),
-      length-append kind (joined (inner ∷ none ∷ [])),
-      length-append pvno (joined (kind ∷ inner ∷ none ∷ [])),
+      length-append inner (concat (none ∷ [])),
+      length-append kind (concat (inner ∷ none ∷ [])),
+      length-append pvno (concat (kind ∷ inner ∷ none ∷ [])),
       length-append sum [],
-      length-append inner (joined (sum ∷ [])),
-      length-append kind (joined (inner ∷ sum ∷ [])),
-      length-append pvno (joined (kind ∷ inner ∷ sum ∷ [])),
+      length-append inner (concat (sum ∷ [])),
+      length-append kind (concat (inner ∷ sum ∷ [])),
+      length-append pvno (concat (kind ∷ inner ∷ sum ∷ [])),
     )))

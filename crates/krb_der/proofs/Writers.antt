@@ -1,7 +1,8 @@
 -- Sizes of spellings, and spellings that are written piece by piece.
 use Rattle.std.proofs.Common.{◌≡◌, ℕ, ℤ, List, [], ◌++◌, length, Option, Some, None, refl, sym, ap, ◌∙◌, arith, append_assoc, length-append}
+use Rattle.std.specs.List.{concat}
 use Rattle.std.proofs.lemmas.List.{append-nil}
-use Rattle.krb_tlv.specs.Element.{header, tagged, joined, sequence, optional}
+use Rattle.krb_tlv.specs.Element.{header, tagged, sequence, optional}
 use Rattle.krb_tlv.specs.Tag.{context, application, sequence_tag}
 use Rattle.krb_tlv.specs.Integer.{integer, natural}
 use Rattle.krb_der.specs.declared.safe.SafeMsg.{SafeMsg}
@@ -17,11 +18,11 @@ use Rattle.krb_tlv.proofs.Readers.{size-tagged}
 -- ---- writing
 
 -- a message from its two headers and its fields
-pub message_written : (tag n k : ℕ) (fields : List (List ℕ)) (s0 s1 s2 s3 : List ℕ) → s0 ≡ [] → n ≡ length (joined fields) → k ≡ element_size n
-    → s1 ≡ s0 ++ header tag k → s2 ≡ s1 ++ header 0x30 n → s3 ≡ s2 ++ joined fields → s3 ≡ tagged tag (sequence fields)
+pub message_written : (tag n k : ℕ) (fields : List (List ℕ)) (s0 s1 s2 s3 : List ℕ) → s0 ≡ [] → n ≡ length (concat fields) → k ≡ element_size n
+    → s1 ≡ s0 ++ header tag k → s2 ≡ s1 ++ header 0x30 n → s3 ≡ s2 ++ concat fields → s3 ≡ tagged tag (sequence fields)
 message_written tag n k fields s0 s1 s2 s3 none size around first second third =
-    let outer : k ≡ length (sequence fields) = around ∙ ap element_size size ∙ sym (size-tagged 0x30 (joined fields)) in
-    begun tag k (sequence fields) s0 s1 s3 outer first (begun 0x30 n (joined fields) s1 s2 s3 size second third) ∙ ap (λ s. s ++ tagged tag (sequence fields)) none
+    let outer : k ≡ length (sequence fields) = around ∙ ap element_size size ∙ sym (size-tagged 0x30 (concat fields)) in
+    begun tag k (sequence fields) s0 s1 s3 outer first (begun 0x30 n (concat fields) s1 s2 s3 size second third) ∙ ap (λ s. s ++ tagged tag (sequence fields)) none
 
 -- what is under a checksum, with the data between what stands around it
 pub covered_is : (m : SafeMsg) (before behind : List ℕ) → before ≡ safe_before_data m → behind ≡ safe_behind_data m
@@ -36,18 +37,18 @@ length-optional tag None = refl
 length-optional tag (Some n) = size-tagged tag (natural n) ∙ sym (size-tagged 0 (natural n))
 
 length-encrypted_fields : (etype : ℤ) (kvno : Option ℕ) (cipher : List ℕ)
-    → length (joined (encrypted_fields etype kvno cipher)) ≡ encrypted_fields_size etype kvno (length cipher)
+    → length (concat (encrypted_fields etype kvno cipher)) ≡ encrypted_fields_size etype kvno (length cipher)
 length-encrypted_fields etype kvno cipher =
     grind (arith, length-append, size-tagged, length-optional (context 1) kvno, length-octets cipher)
 
-length-private_fields : (m : PrivMsg) → length (joined (private_fields m)) ≡ private_fields_size m (length m.cipher)
+length-private_fields : (m : PrivMsg) → length (concat (private_fields m)) ≡ private_fields_size m (length m.cipher)
 unfolding encrypted_data
 length-private_fields m =
     grind (arith, length-append, size-tagged, length-encrypted_fields m.etype m.kvno m.cipher)
 
 pub length-private : (m : PrivMsg) → length (private m) ≡ private_size m (length m.cipher)
 length-private m =
-    size-tagged 0x75 (sequence (private_fields m)) ∙ ap element_size (size-tagged 0x30 (joined (private_fields m)) ∙ ap element_size (length-private_fields m))
+    size-tagged 0x75 (sequence (private_fields m)) ∙ ap element_size (size-tagged 0x30 (concat (private_fields m)) ∙ ap element_size (length-private_fields m))
 
 encrypted_is : (etype : ℤ) (kvno : Option ℕ) (cipher : List ℕ) → encrypted_before_cipher etype kvno (length cipher) ++ cipher ≡ encrypted_data etype kvno cipher
 unfolding encrypted_data tagged
@@ -57,7 +58,7 @@ encrypted_is etype kvno cipher =
 length-encrypted_data : (etype : ℤ) (kvno : Option ℕ) (cipher : List ℕ) → length (encrypted_data etype kvno cipher) ≡ element_size (encrypted_fields_size etype kvno (length cipher))
 unfolding encrypted_data
 length-encrypted_data etype kvno cipher =
-    size-tagged sequence_tag (joined (encrypted_fields etype kvno cipher)) ∙ ap element_size (length-encrypted_fields etype kvno cipher)
+    size-tagged sequence_tag (concat (encrypted_fields etype kvno cipher)) ∙ ap element_size (length-encrypted_fields etype kvno cipher)
 
 -- a message of two fields and one that ends in a cipher
 around_cipher : (tag k n i : ℕ) (a b inner front cipher : List ℕ) → front ++ cipher ≡ inner → i ≡ length inner
@@ -74,4 +75,4 @@ private_is m =
     (encrypted_is m.etype m.kvno m.cipher)
     (sym (length-encrypted_data m.etype m.kvno m.cipher))
     (sym (length-private_fields m))
-    (sym (size-tagged sequence_tag (joined (private_fields m)) ∙ ap element_size (length-private_fields m)))
+    (sym (size-tagged sequence_tag (concat (private_fields m)) ∙ ap element_size (length-private_fields m)))

@@ -1,6 +1,7 @@
 -- The grammar of this project's first version, whose spellings stay: lengths had at most two octets
 -- after the first, and messages at most 65,000. Values, fields and tags were those of today.
 use Rattle.std.specs.Prelude.{ℕ, ℤ, pos, List, [], ◌∷◌, ◌++◌, length, Option, Some, None, nat_lt}
+use Rattle.std.specs.List.{concat}
 use Rattle.std.specs.Prelude.{if◌then◌else◌}
 use Rattle.krb_time.specs.Time.{kerberos_time}
 use Rattle.krb_der.specs.declared.address.HostAddress.{HostAddress}
@@ -12,7 +13,6 @@ use Rattle.krb_der.specs.declared.message.Message.TheVariants.{Safe, Priv}
 use Rattle.krb_tlv.specs.Tag.{integer_tag, octet_string_tag, generalized_time_tag, sequence_tag}
 use Rattle.krb_tlv.specs.Tag.{context, application}
 use Rattle.krb_tlv.specs.Length.{big_endian}
-use Rattle.krb_tlv.specs.Element.{joined}
 use Rattle.krb_tlv.specs.Integer.{int_octets}
 use Rattle.krb_der.specs.Body.{IsBody}
 use Rattle.krb_der.specs.Message.{IsMessage, SpellsWithin, Spells, SpellsPart}
@@ -30,7 +30,7 @@ abbrev pub earlier : ℕ → List ℕ → List ℕ
 earlier tag content = tag ∷ earlier_octets (length content) ++ content
 
 abbrev pub earlier_sequence : List (List ℕ) → List ℕ
-earlier_sequence fields = earlier sequence_tag (joined fields)
+earlier_sequence fields = earlier sequence_tag (concat fields)
 
 abbrev pub earlier_optional : {A : Type 0} → ℕ → (A → List ℕ) → Option A → List ℕ
 earlier_optional tag spell None = []

@@ -2,12 +2,13 @@
 -- is written in. Private functions alone cite this file; the contracts of the encoders are in the
 -- words of Message.antt.
 use Rattle.std.specs.Prelude.{ℕ, ◌+◌, ℤ, pos, List, [], ◌∷◌, ◌++◌, length, Option, IfSome}
+use Rattle.std.specs.List.{concat}
 use Rattle.krb_der.specs.declared.body.Body.{Body}
 use Rattle.krb_der.specs.declared.safe.SafeMsg.{SafeMsg}
 use Rattle.krb_der.specs.declared.private.PrivMsg.{PrivMsg}
 use Rattle.krb_tlv.specs.Tag.{context, application, octet_string_tag, sequence_tag}
 use Rattle.krb_tlv.specs.Writing.{element_size, IsShort}
-use Rattle.krb_tlv.specs.Element.{header, tagged, joined, sequence, optional, octets}
+use Rattle.krb_tlv.specs.Element.{header, tagged, sequence, optional, octets}
 use Rattle.krb_tlv.specs.Integer.{integer, natural}
 use Rattle.krb_der.specs.KerberosTime.{time}
 use Rattle.krb_der.specs.Address.{host_address}
@@ -52,7 +53,7 @@ safe_fields_size m kind k n =
 
 abbrev pub before_data : Body → List ℕ
 before_data b =
-    header sequence_tag (length (joined (body_fields b)))
+    header sequence_tag (length (concat (body_fields b)))
     ++ (header (context 0) (length (octets b.user_data))
     ++ header octet_string_tag (length b.user_data))
 
@@ -71,13 +72,13 @@ abbrev pub safe_before_data : SafeMsg → List ℕ
 safe_before_data m =
     let fields = safe_fields (without_checksum m) in
     header (application 20) (length (sequence fields))
-    ++ (header sequence_tag (length (joined fields))
+    ++ (header sequence_tag (length (concat fields))
     ++ (tagged (context 0) (integer m.pvno)
     ++ (tagged (context 1) (integer m.msg_type)
     ++ (header (context 2) (length (body m.body)) ++ before_data m.body))))
 
 abbrev pub safe_behind_data : SafeMsg → List ℕ
-safe_behind_data m = joined (fields_behind_data m.body) ++ tagged (context 3) (checksum (pos 0) [])
+safe_behind_data m = concat (fields_behind_data m.body) ++ tagged (context 3) (checksum (pos 0) [])
 
 -- ---- KRB-PRIV with a cipher of n octets, up to the cipher
 

@@ -1,6 +1,7 @@
 ghost use Rattle.std.specs.Prelude.{◌≡◌, ◌↔◌, ◌<◌, ◌≤◌, ◌+◌, ◌*◌, ◌++◌, ℕ, List, length, Some, IfOk, IfErr, OnOk, IfSome, IsTrue};
+ghost use Rattle.std.specs.List.{concat};
 ghost use Rattle.krb_base.specs.Limits.{frame_limit};
-ghost use Rattle.krb_tlv.specs.Element.{joined, optional};
+ghost use Rattle.krb_tlv.specs.Element.{optional};
 ghost use Rattle.krb_time.specs.Moment.{secs_of, usec_of};
 ghost use Rattle.krb_time.specs.Time.{IsSecond};
 ghost use Rattle.krb_time.specs.Reading.{time_of};
@@ -366,7 +367,7 @@ impl<'a> BodyRef<'a> {
     fn fields_size(&self) -> usize
         requires short { IsShortBody self.now }
         requires time { IfSome self.now.time IsSecond }
-        ensures value { result ≡ length (joined (body_fields self.now)) }
+        ensures value { result ≡ length (concat (body_fields self.now)) }
         ensures bound { result ≤ 3 * frame_limit + 200 }
     {
         self.fields_size_with(self.user_data.len())
@@ -398,7 +399,7 @@ impl<'a> BodyRef<'a> {
     pub(crate) fn write_behind_data(&self, out: &mut Writer) -> Result<(), AllocError>
         requires short { IsShortBody self.now }
         requires time { IfSome self.now.time IsSecond }
-        ensures { OnOk result (out.new ≡ out.old ++ joined (fields_behind_data self.now)) }
+        ensures { OnOk result (out.new ≡ out.old ++ concat (fields_behind_data self.now)) }
     {
         write_optional_time(out, tag::FIELD_1, self.time)?;
         write_natural_field(out, tag::FIELD_2, self.usec)?;

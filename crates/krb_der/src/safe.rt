@@ -1,7 +1,7 @@
 ghost use Rattle.std.specs.Prelude.{◌≡◌, ◌<◌, ◌≤◌, ◌+◌, ◌*◌, ◌++◌, [], length, Err, IfOk, IfSome, OnOk, OnErr};
+ghost use Rattle.std.specs.List.{concat};
 ghost use Rattle.krb_base.specs.Limits.{frame_limit};
 ghost use Rattle.krb_der.specs.declared.message.Message.TheVariants.{Safe};
-ghost use Rattle.krb_tlv.specs.Element.{joined};
 ghost use Rattle.krb_tlv.specs.Integer.{IsInt32};
 ghost use Rattle.krb_time.specs.Time.{IsSecond};
 ghost use Rattle.krb_der.specs.Body.{InRange, IsBody};
@@ -170,7 +170,7 @@ impl<'a> SafeRef<'a> {
         requires short_checksum { IsShort checksum.now }
         requires time { IfSome self.now.body.time IsSecond }
         ensures value { result
-            ≡ length (joined (safe_fields (with_checksum self.now kind.now checksum.now))) }
+            ≡ length (concat (safe_fields (with_checksum self.now kind.now checksum.now))) }
         ensures bound { result ≤ 4 * frame_limit + 300 }
     {
         self.fields_size_with(kind, checksum.len(), self.body.user_data().len())
@@ -192,7 +192,7 @@ impl<'a> SafeRef<'a> {
         requires short_checksum { IsShort checksum.now }
         requires time { IfSome self.now.body.time IsSecond }
         ensures { OnOk result (out.new
-            ≡ out.old ++ joined (safe_fields (with_checksum self.now kind.now checksum.now))) }
+            ≡ out.old ++ concat (safe_fields (with_checksum self.now kind.now checksum.now))) }
     {
         write_int32_field(out, tag::FIELD_0, &self.pvno)?;
         write_int32_field(out, tag::FIELD_1, &self.msg_type)?;

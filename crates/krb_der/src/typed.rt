@@ -2,7 +2,8 @@
 //! 5.2.9).
 
 ghost use Rattle.std.specs.Prelude.{◌≡◌, ◌<◌, ◌≤◌, ◌+◌, ◌++◌, length, OnOk};
-ghost use Rattle.krb_tlv.specs.Element.{joined, tagged};
+ghost use Rattle.std.specs.List.{concat};
+ghost use Rattle.krb_tlv.specs.Element.{tagged};
 ghost use Rattle.krb_der.specs.Typed.{typed_fields, typed_octets};
 ghost use Rattle.krb_base.specs.Limits.{frame_limit};
 ghost use Rattle.krb_tlv.specs.Writing.{IsShort};
@@ -60,7 +61,7 @@ pub fn typed_size_of(kind: &i32, count: usize) -> usize
 
 fn fields_size(kind: &i32, bytes: &[u8]) -> usize
     requires { IsShort bytes.now }
-    ensures value { result ≡ length (joined (typed_fields kind.now bytes.now)) }
+    ensures value { result ≡ length (concat (typed_fields kind.now bytes.now)) }
     ensures bound { result < length bytes.now + 24 }
 {
     fields_size_of(kind, bytes.len())

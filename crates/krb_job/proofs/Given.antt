@@ -2,14 +2,10 @@
 use Rattle.std.proofs.Common.{◌≡◌, Bool, true, false, cond, Option, Some, None, Result, Ok, Err, ok_or, refl, ap}
 use Rattle.toml.specs.Data.{Data, Members}
 use Rattle.krb_job.specs.declared.place.Place.{Place}
-use Rattle.krb_job.specs.Steps.{◌>>=◌}
+use Rattle.krb_time.specs.Steps.{◌>>=◌}
+use Rattle.krb_time.proofs.OptionSteps.{bind_some}
 use Rattle.krb_job.specs.Checks.{◌>>=◌ as ◌then◌}
 use Rattle.krb_job.specs.Keys.{at_key, needed, barred}
-
--- a step after which there is a value was taken
-pub bound : {A B : Type 0} (o : Option A) (f : A → Option B) (y : B) → (o >>= f) ≡ Some y → (x : A) × (o ≡ Some x) × (f x ≡ Some y)
-bound None f y e = absurd cc
-bound (Some x) f y e = (x, refl, e)
 
 -- a check behind which there is a value was passed
 pub checked : {A B E : Type 0} (r : Result A E) (f : A → Result B E) (y : B) → (r then f) ≡ Ok y → (x : A) × (r ≡ Ok x) × (f x ≡ Ok y)
@@ -28,7 +24,7 @@ within false value x e = absurd cc
 
 -- the value of a key that has to be there
 pub value_at : {A : Type 0} (place : Place) (of : Data → Option A) (ms : Members) (x : A) → needed place of ms ≡ Ok x → (d : Data) × (of d ≡ Some x)
-value_at place of ms x e = let b = bound (at_key place ms) of x (given (at_key place ms >>= of) place x e) in (b.0, b.2)
+value_at place of ms x e = let b = bind_some (at_key place ms) of x (given (at_key place ms >>= of) place x e) in (b.0, b.2)
 
 -- a key that may not be there
 pub barred-absent : {A : Type 0} (absent : A) (place : Place) (o : Option Data) (x : A) → barred absent place o ≡ Ok x → absent ≡ x

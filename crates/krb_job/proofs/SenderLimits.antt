@@ -8,17 +8,18 @@ use Rattle.hex.specs.Hex.{decode_of}
 use Rattle.toml.specs.Data.{Data, string, integer, float, boolean, datetime, array, table, Items, no_items, item, Members}
 use Rattle.krb_base.specs.Limits.{text_limit}
 use Rattle.krb_job.specs.declared.place.Place.{Place}
-use Rattle.krb_job.specs.Steps.{◌>>=◌}
+use Rattle.krb_time.specs.Steps.{◌>>=◌}
 use Rattle.krb_job.specs.Limits.{AreShortTexts}
 use Rattle.krb_job.specs.Values.{sized, bytes_of}
 use Rattle.krb_job.specs.Lists.{count, each, items_of, moment_of, moments_of, texts_of}
 use Rattle.krb_job.specs.Keys.{at_key, needed, only_if}
-use Rattle.krb_job.proofs.Given.{bound, within, value_at, barred-absent}
+use Rattle.krb_time.proofs.OptionSteps.{bind_some}
+use Rattle.krb_job.proofs.Given.{within, value_at, barred-absent}
 
 -- no more bytes than allowed were read
 most-bytes : (high : ℕ) (d : Data) (b : List ℕ) → bytes_of 0 high d ≡ Some b → length b ≤ high
 most-bytes high (string text) b e =
-    let s = bound (result_ok (decode_of text)) (sized 0 high) b e in
+    let s = bind_some (result_ok (decode_of text)) (sized 0 high) b e in
     let fit = within (nat_le 0 (length s.0) && nat_le (length s.0) high) s.0 b s.2 in
     grind (arith, nat_tests, common_steps)
 most-bytes high (integer z) b e = absurd cc
@@ -33,8 +34,8 @@ All-each : {A : Type 0} (P : A → Type 0) (of : Data → Option A) → ((d : Da
     → (ds : Items) (xs : List A) → each of ds ≡ Some xs → All P xs
 All-each P of fits no_items xs e = let same : [] ≡ xs = cc in rw (← same) (All-nil P)
 All-each P of fits (item d ds) xs e =
-    let first = bound (of d) (λ x. each of ds >>= λ ys. Some (x ∷ ys)) xs e in
-    let others = bound (each of ds) (λ ys. Some (first.0 ∷ ys)) xs first.2 in
+    let first = bind_some (of d) (λ x. each of ds >>= λ ys. Some (x ∷ ys)) xs e in
+    let others = bind_some (each of ds) (λ ys. Some (first.0 ∷ ys)) xs first.2 in
     let same : first.0 ∷ others.0 ≡ xs = cc in
     rw (← same) (All-cons P first.0 others.0 (fits d first.0 first.1) (All-each P of fits ds others.0 others.1))
 
@@ -42,8 +43,8 @@ All-each P of fits (item d ds) xs e =
 length-each : {A : Type 0} (of : Data → Option A) (ds : Items) (xs : List A) → each of ds ≡ Some xs → length xs ≡ count ds
 length-each of no_items xs e = let same : [] ≡ xs = cc in rw (← same) refl
 length-each of (item d ds) xs e =
-    let first = bound (of d) (λ x. each of ds >>= λ ys. Some (x ∷ ys)) xs e in
-    let others = bound (each of ds) (λ ys. Some (first.0 ∷ ys)) xs first.2 in
+    let first = bind_some (of d) (λ x. each of ds >>= λ ys. Some (x ∷ ys)) xs e in
+    let others = bind_some (each of ds) (λ ys. Some (first.0 ∷ ys)) xs first.2 in
     let same : first.0 ∷ others.0 ≡ xs = cc in
     rw (← same) (grind (arith, length-each of ds others.0 others.1))
 
@@ -60,7 +61,7 @@ items-within low high (table ms) ds e = absurd cc
 -- there is a moment at least
 some-moments : (d : Data) (moments : List ℕ) → moments_of d ≡ Some moments → 0 < length moments
 some-moments d moments e =
-    let items = bound (items_of 1 2000 d) (each moment_of) moments e in
+    let items = bind_some (items_of 1 2000 d) (each moment_of) moments e in
     omega (arith, items-within 1 2000 d items.0 items.1, length-each moment_of items.0 moments items.2)
 
 -- the moments of a key that has to be there
@@ -70,7 +71,7 @@ moments-there place ms moments e = let at = value_at place moments_of ms moments
 -- no text is too long
 short-texts : (d : Data) (texts : List (List ℕ)) → texts_of d ≡ Some texts → AreShortTexts texts
 short-texts d texts e =
-    let items = bound (items_of 0 1000 d) (each (bytes_of 0 text_limit)) texts e in
+    let items = bind_some (items_of 0 1000 d) (each (bytes_of 0 text_limit)) texts e in
     All-each (λ text. length text ≤ text_limit) (bytes_of 0 text_limit) (most-bytes text_limit) items.0 texts items.2
 
 -- the texts of a key of some commands

@@ -11,6 +11,5 @@ pub mod Place
 pub mod Secret
 pub mod SenderKeys
 pub mod SenderView
-pub mod Steps
 pub mod Text
 pub mod Values

@@ -34,6 +34,7 @@ use Rattle.krb_peers.specs.Ends.{Ends}
 use Rattle.krb_peers.specs.Run.{Run, IsRun}
 use Rattle.krb_peers.specs.Premises.{is_altered_one, altered_at, AlteredAreHonest, IsPaired}
 use Rattle.krb_peers.specs.Claims.{NothingAfterClose, RefusesExactly, RefusalsDeliverNothing}
+use Rattle.krb_peers.proofs.RecordLemmas.{same_first}
 use Rattle.krb_peers.proofs.VerdictLemmas.{AreVerdicts-behind, unique_verdict}
 use Rattle.krb_peers.proofs.AcceptedPrefix.{none_left, texts_prefix}
 use Rattle.krb_peers.proofs.LoggedLemmas.{texts_in-append, has_closed-append, texts_in-texts, has_closed-texts, closed_one, closed_events, or_left, or_right}
@@ -79,9 +80,6 @@ origin frames (Some plan) place frame h = origin_by frames plan place frame (is_
 
 -- ---- each accepted record is the one of its number
 
-same_head : (a b : ℕ) (xs ys : List ℕ) → a ∷ xs ≡ b ∷ ys → a ≡ b
-same_head a b xs ys e = cc
-
 -- the texts of a batch are no larger than a batch may be
 abbrev IsSmall : Record → Type 0
 IsSmall (records.Text text) = Unit {0}
@@ -90,16 +88,16 @@ IsSmall records.Close = Unit {0}
 
 same_record : (r s : Record) (user : List ℕ) → IsSmall r → bytes_of r ≡ user → SpellsRecord s user → r ≡ s
 same_record (records.Text t) (records.Text u) user small e spelled = (let f = e ∙ spelled.1 in let same : t ≡ u = cc in ap records.Text same)
-same_record (records.Text t) (records.Batch us) user small e spelled = absurd (omega (arith, same_head 0x44 0x42 t _ (e ∙ spelled.1)))
-same_record (records.Text t) records.Close user small e spelled = absurd (omega (arith, same_head 0x44 0x43 t [] (e ∙ spelled.1)))
-same_record (records.Batch ts) (records.Text u) user small e spelled = absurd (omega (arith, same_head 0x42 0x44 _ u (e ∙ spelled.1)))
+same_record (records.Text t) (records.Batch us) user small e spelled = absurd (omega (arith, same_first 0x44 0x42 t _ (e ∙ spelled.1)))
+same_record (records.Text t) records.Close user small e spelled = absurd (omega (arith, same_first 0x44 0x43 t [] (e ∙ spelled.1)))
+same_record (records.Batch ts) (records.Text u) user small e spelled = absurd (omega (arith, same_first 0x42 0x44 _ u (e ∙ spelled.1)))
 same_record (records.Batch ts) (records.Batch us) user small e spelled =
     let tails : flat_map text_bytes us ≡ flat_map text_bytes ts = sym (ap (λ l. drop 1 l) (e ∙ spelled.1)) in
     let short : length (flat_map text_bytes us) ≤ batch_size_limit = let few = spelled.0.small in omega (arith, few, length-texts us) in
     ap records.Batch (one_reading (flat_map text_bytes us) us ts short refl tails)
-same_record (records.Batch ts) records.Close user small e spelled = absurd (omega (arith, same_head 0x42 0x43 _ [] (e ∙ spelled.1)))
-same_record records.Close (records.Text u) user small e spelled = absurd (omega (arith, same_head 0x43 0x44 [] u (e ∙ spelled.1)))
-same_record records.Close (records.Batch us) user small e spelled = absurd (omega (arith, same_head 0x43 0x42 [] _ (e ∙ spelled.1)))
+same_record (records.Batch ts) records.Close user small e spelled = absurd (omega (arith, same_first 0x42 0x43 _ [] (e ∙ spelled.1)))
+same_record records.Close (records.Text u) user small e spelled = absurd (omega (arith, same_first 0x43 0x44 [] u (e ∙ spelled.1)))
+same_record records.Close (records.Batch us) user small e spelled = absurd (omega (arith, same_first 0x43 0x42 [] _ (e ∙ spelled.1)))
 same_record records.Close records.Close user small e spelled = refl
 
 -- so is each record of a sender

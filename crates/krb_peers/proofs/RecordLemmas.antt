@@ -24,7 +24,7 @@ bad-memory (Ok got) bytes r spells is = absurd is
 bad-memory (Err e) bytes r spells is = (λ bad. absurd (let both = bad in let same : e ≡ Memory = is in cc), λ none. absurd (none r spells))
 
 -- lists that are equal begin alike
-same_first : (a b : ℕ) (xs ys : List ℕ) → a ∷ xs ≡ b ∷ ys → a ≡ b
+pub same_first : (a b : ℕ) (xs ys : List ℕ) → a ∷ xs ≡ b ∷ ys → a ≡ b
 same_first a b xs ys is = cc
 
 -- no bytes are those of two records

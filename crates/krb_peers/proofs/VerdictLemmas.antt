@@ -202,6 +202,13 @@ module _ (opener : OpenerState) (nows : List ℕ) where
       let P : Verdict → Type 0 = λ x. v ∷ vs ≡ x ∷ verdicts opener nows (demand_after demand (accepted_by x)) (place + 1) frames in
       subst P head (ap (λ z. v ∷ z) tail)
 
+  -- one verdict for each frame
+  pub length-verdicts : (demand : Demand) (place : ℕ) (frames : List (List ℕ)) → length (verdicts opener nows demand place frames) ≡ length frames
+  length-verdicts demand place [] = refl
+  length-verdicts demand place (frame ∷ frames) =
+      let v = verdict opener demand (moment_at nows place) frame in
+      ap suc (length-verdicts (demand_after demand (accepted_by v)) (place + 1) frames)
+
   -- one frame more
   pub verdicts-push : (demand : Demand) (place : ℕ) (frames : List (List ℕ)) (frame : List ℕ)
       → verdicts opener nows demand place (frames ++ frame ∷ [])

@@ -1,12 +1,12 @@
 -- A flush behind a command.
-use Rattle.std.proofs.Common.{◌≡◌, ◌<◌, length, inl, inr, List, ℕ, [], Option, Some, None, Result, Ok, Err, IfSome, IfOk, OnErr, refl, sym, subst, append-nil}
+use Rattle.std.proofs.Common.{◌≡◌, ◌<◌, length, inl, inr, List, ℕ, Option, Some, None, Result, Ok, Err, IfSome, IfOk, OnErr, refl, sym, subst}
 use Rattle.std.specs.Io.KnownBytes.{Appends, Keeps}
 use Rattle.std.proofs.KnownBytes.{Keeps-trans}
 use Rattle.krb_job.specs.declared.bad_input.BadInput.{BadInput}
 use Rattle.krb_commands.specs.declared.fault.Fault.{Fault}
 use Rattle.krb_commands.specs.declared.fault.Fault.TheVariants as fault
 use Rattle.krb_commands.specs.Input.{input_limit}
-use Rattle.krb_commands.specs.Output.{AppendsPrefix}
+use Rattle.krb_commands.proofs.OutputLemmas.{AppendsPrefix-whole}
 use Rattle.krb_commands.specs.Show.{Shows, ShowsPrefix}
 use Rattle.krb_commands.specs.Vectors.{vectors_text}
 use Rattle.krb_program.specs.declared.command.Cmd.{Cmd}
@@ -67,16 +67,13 @@ first_kept Relay lines input old mid new k d = λ told is. stable (λ a b. Stops
 
 -- ---- the whole output is a prefix of itself
 
-whole : (a b : Option (List ℕ)) (text : List ℕ) → Appends a b text → AppendsPrefix a b text
-whole a b text p = (text, p, ([], sym (append-nil text)))
-
 does_prefix : (command : Cmd) (input old new : Option (List ℕ)) (status : ℕ) → Does command input old new status → DoesPrefix command input old new
 does_prefix Show None old new status d = tt
-does_prefix Show (Some bytes) old new status d = (d.0, d.1, whole old new _ d.2)
-does_prefix Vectors input old new status d = whole old new _ d.0
-does_prefix Seal input old new status d = λ told is. let p = (d told is).0 in inr (p.0, p.1, inr (p.2.0, p.2.1, inr (p.2.2.0, p.2.2.1, whole old new _ p.2.2.2)))
-does_prefix Open input old new status d = λ told is. let p = d told is in inr (p.0, p.1, inl (p.2.0, p.2.1, whole old new _ p.2.2))
-does_prefix Relay input old new status d = λ told is. let p = d told is in inr (p.0, p.1, inr (p.2.0, p.2.1, inr (inl (p.2.2.0, p.2.2.1, whole old new _ p.2.2.2))))
+does_prefix Show (Some bytes) old new status d = (d.0, d.1, AppendsPrefix-whole old new _ d.2)
+does_prefix Vectors input old new status d = AppendsPrefix-whole old new _ d.0
+does_prefix Seal input old new status d = λ told is. let p = (d told is).0 in inr (p.0, p.1, inr (p.2.0, p.2.1, inr (p.2.2.0, p.2.2.1, AppendsPrefix-whole old new _ p.2.2.2)))
+does_prefix Open input old new status d = λ told is. let p = d told is in inr (p.0, p.1, inl (p.2.0, p.2.1, AppendsPrefix-whole old new _ p.2.2))
+does_prefix Relay input old new status d = λ told is. let p = d told is in inr (p.0, p.1, inr (p.2.0, p.2.1, inr (inl (p.2.2.0, p.2.2.1, AppendsPrefix-whole old new _ p.2.2.2))))
 
 -- ---- whatever a command answered
 

@@ -1,29 +1,21 @@
 -- What comes of the frames that were heard.
-use Rattle.std.proofs.Common.{◌≡◌, ℕ, suc, ◌+◌, ◌≤◌, List, [], ◌∷◌, ◌++◌, length, map, refl, sym, ap, ◌∙◌, arith}
+use Rattle.std.proofs.Common.{◌≡◌, ℕ, ◌+◌, ◌≤◌, List, [], ◌∷◌, ◌++◌, length, map, refl, sym, ap, ◌∙◌, arith}
 use Rattle.std.specs.Prelude.{All}
 use Rattle.std.specs.List.{AllZip}
 use Rattle.std.proofs.lemmas.List.{length-map}
 use Rattle.std.proofs.lemmas.List.Elements.{All-nil, All-cons, All-head, All-tail}
 use Rattle.krb_base.proofs.PrefixLemmas.{prefix_same}
-use Rattle.krb_seal.specs.Opens.{OpenerState}
 use Rattle.krb_lane.specs.Side.{Side}
 use Rattle.krb_peers.specs.declared.receiver.Receiving.{Receiving}
-use Rattle.krb_peers.specs.Demand.{Demand}
 use Rattle.krb_peers.specs.Order.{demand_after}
 use Rattle.krb_peers.specs.Sender.{moment_at}
 use Rattle.krb_peers.specs.Rounds.{NoneLonger}
-use Rattle.krb_peers.specs.Verdicts.{verdict, verdicts, accepted_by, records_of, events_by}
+use Rattle.krb_peers.specs.Verdicts.{verdict, records_of, events_by}
 use Rattle.krb_peers.proofs.RoundsLemmas.{rounds-from_below}
-use Rattle.krb_peers.proofs.VerdictLemmas.{verdicts-push}
+use Rattle.krb_peers.proofs.VerdictLemmas.{verdicts-push, length-verdicts}
 use Rattle.krb_relay.specs.Heard.{Heard, heard, answers, AreAnswers, groups_in, rounds_heard, BeginsAt, all_heard}
 
 -- ---- one verdict for each frame
-
-length-verdicts : (opener : OpenerState) (nows : List ℕ) (demand : Demand) (place : ℕ) (frames : List (List ℕ)) → length (verdicts opener nows demand place frames) ≡ length frames
-length-verdicts opener nows demand place [] = refl
-length-verdicts opener nows demand place (frame ∷ frames) =
-    let v = verdict opener demand (moment_at nows place) frame in
-    ap suc (length-verdicts opener nows (demand_after demand (accepted_by v)) (place + 1) frames)
 
 pub length-groups : (h : Heard) → length (groups_in h) ≡ length h.frames
 length-groups h =

@@ -1,5 +1,6 @@
 -- What the function `opens` gives is the outcome.
 use Rattle.std.proofs.Common.{◌≡◌, ℕ, zero, suc, ◌-◌, ◌<◌, ◌≤◌, true, false, List, [], ◌∷◌, ◌++◌, length, take, drop, get_or, Option, Some, None, Ok, refl, sym, ap, subst, ◌∙◌, inl, inr, arith, length-drop, length-append}
+use Rattle.std.specs.List.{concat}
 use Rattle.std.proofs.lemmas.List.{take-append-drop, length-take-le}
 use Rattle.std.proofs.lemmas.Bool.{leb-true}
 use Rattle.std.proofs.lemmas.Option.{none-some}
@@ -16,7 +17,7 @@ use Rattle.krb_der.specs.declared.message.Message.{Message}
 use Rattle.krb_der.specs.declared.message.Message.TheVariants as messages
 use Rattle.krb_tlv.specs.Tag.{context, application, sequence_tag, octet_string_tag}
 use Rattle.krb_tlv.specs.Length.{length_octets}
-use Rattle.krb_tlv.specs.Element.{header, tagged, octets, optional, joined, sequence}
+use Rattle.krb_tlv.specs.Element.{header, tagged, octets, optional, sequence}
 use Rattle.krb_tlv.specs.Integer.{integer, natural}
 use Rattle.krb_der.specs.Body.{part}
 use Rattle.krb_der.specs.Private.{private, private_fields, encrypted_data, encrypted_fields}
@@ -74,11 +75,11 @@ after_tag : (tag : ℕ) (content : List ℕ) → AreBytes (tagged tag content) �
 unfolding tagged header
 after_tag tag content h = record { small = after (tag ∷ length_octets (length content)) content h.small }
 
-first_field : (a : List ℕ) (rest : List (List ℕ)) → AreBytes (joined (a ∷ rest)) → AreBytes a
-first_field a rest h = record { small = before a (joined rest) h.small }
+first_field : (a : List ℕ) (rest : List (List ℕ)) → AreBytes (concat (a ∷ rest)) → AreBytes a
+first_field a rest h = record { small = before a (concat rest) h.small }
 
-other_fields : (a : List ℕ) (rest : List (List ℕ)) → AreBytes (joined (a ∷ rest)) → AreBytes (joined rest)
-other_fields a rest h = record { small = after a (joined rest) h.small }
+other_fields : (a : List ℕ) (rest : List (List ℕ)) → AreBytes (concat (a ∷ rest)) → AreBytes (concat rest)
+other_fields a rest h = record { small = after a (concat rest) h.small }
 
 cipher_bytes : (m : PrivMsg) → AreBytes (private m) → AreBytes m.cipher
 unfolding encrypted_data
@@ -90,8 +91,8 @@ cipher_bytes m h =
     let inner : List ℕ = tagged (context 3) (encrypted_data m.etype m.kvno m.cipher) in
     let pvno : List ℕ = tagged (context 0) (integer m.pvno) in
     let kind : List ℕ = tagged (context 1) (integer m.msg_type) in
-    let outer = other_fields kind (inner ∷ []) (other_fields pvno (kind ∷ inner ∷ []) (after_tag sequence_tag (joined (private_fields m)) (after_tag (application 21) (sequence (private_fields m)) h))) in
-    let within = after_tag sequence_tag (joined fields) (after_tag (context 3) (sequence fields) (first_field inner [] outer)) in
+    let outer = other_fields kind (inner ∷ []) (other_fields pvno (kind ∷ inner ∷ []) (after_tag sequence_tag (concat (private_fields m)) (after_tag (application 21) (sequence (private_fields m)) h))) in
+    let within = after_tag sequence_tag (concat fields) (after_tag (context 3) (sequence fields) (first_field inner [] outer)) in
     after_tag octet_string_tag m.cipher (after_tag (context 2) (octets m.cipher) (first_field cipher [] (other_fields kvno (cipher ∷ []) (other_fields etype (kvno ∷ cipher ∷ []) within))))
 
 -- ---- decryption

@@ -1,5 +1,6 @@
 -- What opening a sealed frame gives.
 use Rattle.std.proofs.Common.{◌≡◌, ℕ, ◌*◌, ◌≤◌, ℤ, true, false, not, List, [], ◌∷◌, ◌++◌, length, drop, Option, Some, None, Result, Ok, refl, sym, ap, subst, ◌∙◌, inl, inr, arith, length-append}
+use Rattle.std.specs.List.{concat}
 use Rattle.std.specs.Ordering.{int_eq}
 use Rattle.std.specs.Str.{bytes_eq}
 use Rattle.std.proofs.lemmas.Bool.{and_from, eqb-true, eq-eqb, le-leb}
@@ -16,7 +17,7 @@ use Rattle.krb_der.specs.declared.private.PrivMsg.{PrivMsg}
 use Rattle.krb_der.specs.declared.message.Message.{Message}
 use Rattle.krb_der.specs.declared.message.Message.TheVariants as messages
 use Rattle.krb_tlv.specs.Tag.{context, application, sequence_tag, octet_string_tag}
-use Rattle.krb_tlv.specs.Element.{tagged, octets, optional, joined, sequence}
+use Rattle.krb_tlv.specs.Element.{tagged, octets, optional, sequence}
 use Rattle.krb_tlv.specs.Integer.{integer, natural}
 use Rattle.krb_der.specs.Moment.{micros_per_second, moment_of, secs_of, usec_of}
 use Rattle.krb_der.specs.Address.{same_address}
@@ -61,12 +62,12 @@ all_met ((false, r) ∷ rest) Then outcome h p = absurd (let e : false ≡ true 
 pub same_data : (a b : List ℕ) → ◌≡◌ {A = Outcome} (Ok a) (Ok b) → a ≡ b
 same_data a b e = cc
 
--- a field is no longer than the fields joined
-joined_first : (a : List ℕ) (rest : List (List ℕ)) → length a ≤ length (joined (a ∷ rest))
-joined_first a rest = omega (arith, length-append a (joined rest))
+-- a field is no longer than the fields concat
+concat_first : (a : List ℕ) (rest : List (List ℕ)) → length a ≤ length (concat (a ∷ rest))
+concat_first a rest = omega (arith, length-append a (concat rest))
 
-joined_rest : (a : List ℕ) (rest : List (List ℕ)) → length (joined rest) ≤ length (joined (a ∷ rest))
-joined_rest a rest = omega (arith, length-append a (joined rest))
+concat_rest : (a : List ℕ) (rest : List (List ℕ)) → length (concat rest) ≤ length (concat (a ∷ rest))
+concat_rest a rest = omega (arith, length-append a (concat rest))
 
 pub long_cipher : (m : PrivMsg) → length m.cipher ≤ length (private m)
 unfolding encrypted_data
@@ -80,15 +81,15 @@ long_cipher m =
       arith,
       length-tagged octet_string_tag m.cipher,
       length-tagged (context 2) (octets m.cipher),
-      joined_first cipher [],
-      joined_rest kvno (cipher ∷ []),
-      joined_rest (tagged (context 0) (integer m.etype)) (kvno ∷ cipher ∷ []),
-      length-tagged sequence_tag (joined fields),
+      concat_first cipher [],
+      concat_rest kvno (cipher ∷ []),
+      concat_rest (tagged (context 0) (integer m.etype)) (kvno ∷ cipher ∷ []),
+      length-tagged sequence_tag (concat fields),
       length-tagged (context 3) (sequence fields),
-      joined_first inner [],
-      joined_rest (tagged (context 1) (integer m.msg_type)) (inner ∷ []),
-      joined_rest (tagged (context 0) (integer m.pvno)) (tagged (context 1) (integer m.msg_type) ∷ inner ∷ []),
-      length-tagged sequence_tag (joined outer),
+      concat_first inner [],
+      concat_rest (tagged (context 1) (integer m.msg_type)) (inner ∷ []),
+      concat_rest (tagged (context 0) (integer m.pvno)) (tagged (context 1) (integer m.msg_type) ∷ inner ∷ []),
+      length-tagged sequence_tag (concat outer),
       length-tagged (application 21) (sequence outer),
     )
 

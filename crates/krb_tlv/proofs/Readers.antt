@@ -1,10 +1,11 @@
 -- Readers of a whole content: what is read was spelled so, and what is spelled is read again.
 use Rattle.std.proofs.Common.{◌≡◌, ◌⊎◌, ℕ, ◌+◌, ◌^◌, ◌<◌, ◌≤◌, Bool, true, false, eqb, List, [], ◌∷◌, ◌++◌, length, Option, Some, None, refl, sym, ap, subst, ◌∙◌, arith, inl, inr, lit≤}
+use Rattle.std.specs.List.{concat}
 use Rattle.std.specs.Prelude.{IfSome}
 use Rattle.std.proofs.lemmas.Bool.{eqb-true}
 use Rattle.std.proofs.lemmas.List.{length-append, append-nil}
 use Rattle.krb_tlv.specs.Length.{big_endian, length_octets}
-use Rattle.krb_tlv.specs.Element.{header, tagged, joined, optional}
+use Rattle.krb_tlv.specs.Element.{header, tagged, optional}
 use Rattle.krb_tlv.specs.Writing.{element_size}
 use Rattle.krb_time.specs.Steps.{◌>>=◌}
 use Rattle.krb_tlv.specs.Reading.{ended, tagged_at, alone, with_field, field_at, starts_with, optional_at}
@@ -31,9 +32,9 @@ BeginsAbove low (b ∷ bytes) = low < b
 
 -- The fields that are left, of a value of which K is known.
 pub record ReadsFields {V : Type 0} (low : ℕ) (K P : V → Type 0) (spell : V → List (List ℕ)) (of : List ℕ → Option V) : Type 0 where
-  pub found : (c : List ℕ) (v : V) → IsBytes c → of c ≡ Some v → K v × (P v × (c ≡ joined (spell v)))
-  pub again : (v : V) → K v → P v → length (joined (spell v)) < 2 ^ 24 → of (joined (spell v)) ≡ Some v
-  pub begins : (v : V) → BeginsAbove low (joined (spell v))
+  pub found : (c : List ℕ) (v : V) → IsBytes c → of c ≡ Some v → K v × (P v × (c ≡ concat (spell v)))
+  pub again : (v : V) → K v → P v → length (concat (spell v)) < 2 ^ 24 → of (concat (spell v)) ≡ Some v
+  pub begins : (v : V) → BeginsAbove low (concat (spell v))
 
 ended-found : {A : Type 0} (x v : A) (rest : List ℕ) → ended x rest ≡ Some v → (x ≡ v) × (rest ≡ [])
 ended-found x v [] e = (cc, refl)
@@ -78,11 +79,11 @@ field tag low PA spell of get K P others k one rest lt = record {
       let a = one.found t.0.0 x.0 p.content_fits x.1 in
       let r = (rest x.0).found t.0.1 v p.rest_fits x.2 in
       let same : get v ≡ x.0 = r.0.1 in
-      (r.0.0, ((subst PA (sym same) a.0, r.1.0), p.parts ∙ glue tag t.0.0 t.0.1 (spell (get v)) (joined (others v)) (a.1 ∙ ap spell (sym same)) r.1.1));
+      (r.0.0, ((subst PA (sym same) a.0, r.1.0), p.parts ∙ glue tag t.0.0 t.0.1 (spell (get v)) (concat (others v)) (a.1 ∙ ap spell (sym same)) r.1.1));
   again = λ v known h short.
-      let inner : length (spell (get v)) < 2 ^ 24 = omega (arith, length-tagged tag (spell (get v)), length-append (tagged tag (spell (get v))) (joined (others v))) in
-      let outer : length (joined (others v)) < 2 ^ 24 = omega (arith, length-append (tagged tag (spell (get v))) (joined (others v))) in
-      rw (tagged-again tag (spell (get v)) (joined (others v)) inner, one.again (get v) h.0 inner) ((rest (get v)).again v (known, refl) h.1 outer);
+      let inner : length (spell (get v)) < 2 ^ 24 = omega (arith, length-tagged tag (spell (get v)), length-append (tagged tag (spell (get v))) (concat (others v))) in
+      let outer : length (concat (others v)) < 2 ^ 24 = omega (arith, length-append (tagged tag (spell (get v))) (concat (others v))) in
+      rw (tagged-again tag (spell (get v)) (concat (others v)) inner, one.again (get v) h.0 inner) ((rest (get v)).again v (known, refl) h.1 outer);
   begins = λ v. lt;
 }
 
@@ -109,7 +110,7 @@ pub taken_field : {A V : Type 0} (tag low : ℕ) (PA : A → Type 0) (spell : A 
 taken_field tag low PA spell of get K P others k one rest lt =
     let all = field tag low PA spell of get K P others k one rest lt in record {
       found = λ c v fits e. all.found c v fits (sym (taken tag of k c) ∙ e);
-      again = λ v known h short. taken tag of k (joined (tagged tag (spell (get v)) ∷ others v)) ∙ all.again v known h short;
+      again = λ v known h short. taken tag of k (concat (tagged tag (spell (get v)) ∷ others v)) ∙ all.again v known h short;
       begins = all.begins;
     }
 
@@ -178,17 +179,17 @@ optional_field tag low PA spell of get K P others k one rest lt = record {
       let r = (rest x.0.0).found x.0.1 v p.rest_fits x.2 in
       let same : get v ≡ x.0.0 = r.0.1 in
       let Fits : Option _ → Type 0 = λ o. IfSome o PA in
-      (r.0.0, ((subst Fits (sym same) p.fits, r.1.0), p.parts ∙ glue_two (optional tag spell x.0.0) x.0.1 (joined (others v)) r.1.1 ∙ ap (λ (o : Option _). optional tag spell o ++ joined (others v)) (sym same)));
+      (r.0.0, ((subst Fits (sym same) p.fits, r.1.0), p.parts ∙ glue_two (optional tag spell x.0.0) x.0.1 (concat (others v)) r.1.1 ∙ ap (λ (o : Option _). optional tag spell o ++ concat (others v)) (sym same)));
   again = λ v known h short.
-      let inner : length (optional tag spell (get v)) < 2 ^ 24 = omega (arith, length-append (optional tag spell (get v)) (joined (others v))) in
-      let outer : length (joined (others v)) < 2 ^ 24 = omega (arith, length-append (optional tag spell (get v)) (joined (others v))) in
-      rw (optional-again tag PA spell of (get v) (joined (others v)) one h.0 ((rest (get v)).begins v) inner) ((rest (get v)).again v (known, refl) h.1 outer);
-  begins = λ v. optional-begins tag low spell (get v) (joined (others v)) lt ((rest (get v)).begins v);
+      let inner : length (optional tag spell (get v)) < 2 ^ 24 = omega (arith, length-append (optional tag spell (get v)) (concat (others v))) in
+      let outer : length (concat (others v)) < 2 ^ 24 = omega (arith, length-append (optional tag spell (get v)) (concat (others v))) in
+      rw (optional-again tag PA spell of (get v) (concat (others v)) one h.0 ((rest (get v)).begins v) inner) ((rest (get v)).again v (known, refl) h.1 outer);
+  begins = λ v. optional-begins tag low spell (get v) (concat (others v)) lt ((rest (get v)).begins v);
 }
 
 -- all fields, of a value whose conditions are Q
 pub all_fields : {V : Type 0} (low : ℕ) (P Q : V → Type 0) (spell : V → List (List ℕ)) (of : List ℕ → Option V) → ReadsFields low (λ _. Unit {0}) P spell of → ((v : V) → P v → Q v) → ((v : V) → Q v → P v)
-    → Reads Q (λ v. joined (spell v)) of
+    → Reads Q (λ v. concat (spell v)) of
 all_fields low P Q spell of r to from = record {
   found = λ c v fits e. let h = r.found c v fits e in (to v h.1.0, h.1.1);
   again = λ v h lt. r.again v tt (from v h) lt;

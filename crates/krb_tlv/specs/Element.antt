@@ -1,5 +1,6 @@
 -- Elements: a tag, the length of the content, and the content (X.690 section 8.1).
 use Rattle.std.specs.Prelude.{ℕ, List, [], ◌∷◌, ◌++◌, length, Option, Some, None}
+use Rattle.std.specs.List.{concat}
 use Rattle.krb_tlv.specs.Tag.{octet_string_tag, sequence_tag}
 use Rattle.krb_tlv.specs.Length.{length_octets}
 
@@ -11,14 +12,9 @@ header tag n = tag ∷ length_octets n
 unfoldable pub tagged : ℕ → List ℕ → List ℕ
 tagged tag content = header tag (length content) ++ content
 
--- elements, one after another
-abbrev pub joined : List (List ℕ) → List ℕ
-joined [] = []
-joined (f ∷ fs) = f ++ joined fs
-
--- SEQUENCE (X.690 section 8.9)
+-- SEQUENCE: its elements, one after another (X.690 section 8.9)
 abbrev pub sequence : List (List ℕ) → List ℕ
-sequence fields = tagged sequence_tag (joined fields)
+sequence fields = tagged sequence_tag (concat fields)
 
 -- an OPTIONAL field under its tag
 abbrev pub optional : {A : Type 0} → ℕ → (A → List ℕ) → Option A → List ℕ
