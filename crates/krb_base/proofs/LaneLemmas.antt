@@ -1,18 +1,17 @@
 -- The laws of a lane.
-use Rattle.std.proofs.Common.{◌≡◌, ◌≤◌, ◌<◌, ◌++◌, ◌&&◌, not, cond, nat_lt, ℕ, Bool, true, false, List, [], ◌∷◌, length, refl, sym, ap, subst, ◌∙◌, arith, append_assoc, append-nil, length-append}
-use Rattle.std.proofs.lemmas.Bool.{ltb-true, lt-ltb, not-true}
+use Rattle.std.proofs.Common.{◌≡◌, ◌≤◌, ◌<◌, ◌++◌, not, cond, nat_lt, ℕ, Bool, true, false, List, [], ◌∷◌, length, refl, sym, ap, subst, ◌∙◌, arith, append_assoc, append-nil, length-append}
+use Rattle.std.proofs.lemmas.Bool.{and_parts, ltb-true, lt-ltb, not-true}
 use Rattle.krb_base.specs.Prefix.{IsPrefix}
-use Rattle.krb_base.specs.Lane.{Item, Lane, Event, Frame, End, Send, Take, empty, has_end, frames, is_possible, taken, moved, after_event, after, IsReached, IsEndLast, IsState}
-
-and_left : (a b : Bool) → a && b ≡ true → a ≡ true
-and_left true b h = refl
-and_left false b h = h
-
-and_right : (a b : Bool) → a && b ≡ true → b ≡ true
-and_right true b h = h
-and_right false b h = cc
+use Rattle.krb_base.specs.Lane.{Item, Lane, Event, Frame, End, Send, Take, empty, has_end, frames, is_possible, taken, moved, after_event, after, IsReached, IsEndLast}
 
 module _ {F : Type 0} where
+  -- the state of a lane: what was sent is what was got and then what is queued, which is within the
+  -- capacity
+  pub record IsState (lane : Lane F) : Type 0 where
+    pub linked : lane.sent ≡ lane.got ++ lane.queue
+    pub within : length lane.queue ≤ lane.capacity
+    pub end_last : IsEndLast lane.sent
+
   pub frames-append : (xs ys : List (Item F)) → frames (xs ++ ys) ≡ frames xs ++ frames ys
   frames-append [] ys = refl
   frames-append (Frame f ∷ xs) ys = ap (λ l. f ∷ l) (frames-append xs ys)
@@ -90,8 +89,8 @@ module _ {F : Type 0} where
   pub state_moved : (lane : Lane F) (e : Event F) → is_possible lane e ≡ true → IsState lane → IsState (moved lane e)
   state_moved lane (Send x) may h = record {
     linked = ap (λ (l : List (Item F)). l ++ x ∷ []) h.linked ∙ append_assoc lane.got lane.queue (x ∷ []);
-    within = let room = and_left (nat_lt (length lane.queue) lane.capacity) (not (has_end lane.sent)) may in let less = ltb-true (length lane.queue) lane.capacity room in omega (arith, length-append lane.queue (x ∷ []), less);
-    end_last = end_last-append lane.sent x (not-true (has_end lane.sent) (and_right (nat_lt (length lane.queue) lane.capacity) (not (has_end lane.sent)) may));
+    within = let room = (and_parts (nat_lt (length lane.queue) lane.capacity) (not (has_end lane.sent)) may).0 in let less = ltb-true (length lane.queue) lane.capacity room in omega (arith, length-append lane.queue (x ∷ []), less);
+    end_last = end_last-append lane.sent x (not-true (has_end lane.sent) (and_parts (nat_lt (length lane.queue) lane.capacity) (not (has_end lane.sent)) may).1);
   }
   state_moved lane Take may h = state_taken lane lane.queue refl h
 

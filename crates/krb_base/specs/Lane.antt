@@ -1,5 +1,5 @@
 -- A lane from one sender to one receiver, as a state machine over plain lists.
-use Rattle.std.specs.Prelude.{◌≡◌, ◌≤◌, ◌++◌, ℕ, Bool, true, false, not, cond, nat_lt, ◌&&◌, List}
+use Rattle.std.specs.Prelude.{◌≡◌, ◌++◌, ℕ, Bool, true, false, not, cond, nat_lt, ◌&&◌, List}
 use Rattle.std.specs.Prelude.{[], ◌∷◌, length}
 
 -- what goes through a lane: frames, and End
@@ -70,13 +70,6 @@ module _ {F : Type 0} where
   IsEndLast [] = Unit {0}
   IsEndLast (Frame f ∷ items) = IsEndLast items
   IsEndLast (End ∷ items) = items ≡ []
-
-  -- the state of a lane: what was sent is what was got and then what is queued, which is within the
-  -- capacity
-  pub record IsState (lane : Lane F) : Type 0 where
-    pub linked : lane.sent ≡ lane.got ++ lane.queue
-    pub within : length lane.queue ≤ lane.capacity
-    pub end_last : IsEndLast lane.sent
 
 -- it holds of each lane that events leave of an empty one
 abbrev pub Always : (F : Type 0) → (Lane F → Type 0) → Type 0

@@ -5,9 +5,9 @@ use Rattle.std.proofs.lemmas.Bool.{and_parts, lt-ltb, not-true}
 use Rattle.std.proofs.lemmas.Bool.Decides.{leb_tells}
 use Rattle.std.proofs.lemmas.Option.{slice_get_within}
 use Rattle.krb_aes.specs.Words.{AreBytes}
-use Rattle.krb_base.specs.Lane.{Item, Lane, Frame, End, empty, has_end, frames, is_possible, moved, taken, after_event, IsState}
+use Rattle.krb_base.specs.Lane.{Item, Lane, Frame, End, has_end, frames, is_possible, moved, taken}
 use Rattle.krb_base.specs.Lane as machine
-use Rattle.krb_base.proofs.LaneLemmas.{frames-append, has_end-append, behind_end, state_empty, state_event, state_moved}
+use Rattle.krb_base.proofs.LaneLemmas.{IsState, frames-append, has_end-append, behind_end, state_empty, state_event, state_moved}
 use Rattle.krb_peers.specs.declared.sending.Sent.{Sent}
 use Rattle.krb_core.specs.declared.turn.Turn.{Turn}
 use Rattle.krb_core.specs.declared.turn.Turn.TheVariants.{Send, Take}
