@@ -6,6 +6,7 @@ use Rattle.krb_job.specs.declared.bad_input.BadInput.{BadInput}
 use Rattle.krb_commands.specs.declared.fault.Fault.{Fault}
 use Rattle.krb_commands.specs.declared.fault.Fault.TheVariants as fault
 use Rattle.krb_commands.specs.Input.{input_limit}
+use Rattle.krb_commands.specs.Output.{AppendsPrefix}
 use Rattle.krb_commands.proofs.OutputLemmas.{AppendsPrefix-whole}
 use Rattle.krb_commands.specs.Show.{Shows, ShowsPrefix}
 use Rattle.krb_commands.specs.Vectors.{vectors_text}
