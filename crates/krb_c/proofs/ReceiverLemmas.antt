@@ -6,11 +6,11 @@ use Rattle.krb_seal.specs.declared.refusal.Refusal.{Refusal}
 use Rattle.krb_seal.specs.declared.refusal.Refusal.TheVariants.{BadRecord, Memory}
 use Rattle.krb_seal.specs.Opens.{Outcome, Opens}
 use Rattle.krb_seal.specs.Unseals.{OrMemory}
-use Rattle.krb_peers.specs.declared.record.Record.{Record}
-use Rattle.krb_peers.specs.declared.record.Record.TheVariants.{Text, Batch, Close}
-use Rattle.krb_peers.specs.declared.record.RecordKind.{RecordKind}
-use Rattle.krb_peers.specs.declared.record.RecordKind.TheVariants as kinds
-use Rattle.krb_peers.specs.Record.{is_close, kind_of}
+use Rattle.krb_record.specs.declared.record.Record.{Record}
+use Rattle.krb_record.specs.declared.record.Record.TheVariants.{Text, Batch, Close}
+use Rattle.krb_record.specs.declared.record.RecordKind.{RecordKind}
+use Rattle.krb_record.specs.declared.record.RecordKind.TheVariants as kinds
+use Rattle.krb_record.specs.Record.{is_close, kind_of}
 use Rattle.krb_peers.specs.ReceiverState.{ReceiverState}
 use Rattle.krb_peers.specs.Receiver.{advanced}
 use Rattle.krb_peers.specs.Verdicts.{IsNoRecord}

@@ -2,8 +2,8 @@
 use Rattle.std.specs.Prelude.{◌≡◌, ℕ, false, List, ◌∷◌, Option, Some, None, Ok}
 use Rattle.krb_seal.specs.Opens.{Opens}
 use Rattle.krb_seal.specs.Sealer.{SealerState, SealsNext}
-use Rattle.krb_peers.specs.declared.record.Record.{Record}
-use Rattle.krb_peers.specs.Record.{SpellsRecord, is_close, kind_of, number_of, first_byte_of}
+use Rattle.krb_record.specs.declared.record.Record.{Record}
+use Rattle.krb_record.specs.Record.{SpellsRecord, is_close, kind_of, number_of, first_byte_of}
 use Rattle.krb_peers.specs.ReceiverState.{ReceiverState}
 use Rattle.krb_peers.specs.Receiver.{advanced}
 

@@ -1,8 +1,8 @@
 //! Records as C sees them: the number of one's kind, and its bytes after the first.
 
 ghost use Rattle.std.specs.Prelude.{◌≡◌, ◌⊎◌, IfErr, IfOk};
-ghost use Rattle.krb_peers.specs.declared.record.Record.{Record as RecordValue};
-ghost use Rattle.krb_peers.specs.Record.{kind_of, number_of};
+ghost use Rattle.krb_record.specs.declared.record.Record.{Record as RecordValue};
+ghost use Rattle.krb_record.specs.Record.{kind_of, number_of};
 ghost use Rattle.krb_peers.specs.Verdicts.{IsNoRecord};
 ghost use Rattle.krb_c.specs.Record.{IsNoRecordOf, IsRecordOf};
 

@@ -1,6 +1,6 @@
 -- The answers to a list of offers.
 use Rattle.std.proofs.Common.{◌≡◌, ℕ, zero, suc, List, [], ◌∷◌, ◌++◌, length, take, slice_get, Some, None, Ok, Err, refl, sym, ap, subst, ◌∙◌, arith, append_assoc, append-nil}
-use Rattle.krb_peers.specs.declared.record.Record.{Record}
+use Rattle.krb_record.specs.declared.record.Record.{Record}
 use Rattle.krb_peers.specs.Demand.{Demand}
 use Rattle.krb_peers.specs.Order.{Offer, Answer, answer_to, carried_by, first_demand, demand_after, answers_to}
 use Rattle.krb_peers.specs.Accepted.{accepted_of, IsAnswer, Accepted, HasAnswered}

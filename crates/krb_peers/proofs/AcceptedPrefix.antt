@@ -5,9 +5,9 @@ use Rattle.std.proofs.lemmas.List.Elements.{All-head, All-tail, Contains-append_
 use Rattle.std.proofs.lemmas.List.Concat.{flat_map-append}
 use Rattle.krb_base.specs.Prefix.{IsPrefix}
 use Rattle.krb_base.proofs.PrefixLemmas.{prefix_whole}
-use Rattle.krb_peers.specs.declared.record.Record.{Record}
-use Rattle.krb_peers.specs.declared.record.Record.TheVariants.{Text, Batch, Close}
-use Rattle.krb_peers.specs.Record.{is_close, texts_of}
+use Rattle.krb_record.specs.declared.record.Record.{Record}
+use Rattle.krb_record.specs.declared.record.Record.TheVariants.{Text, Batch, Close}
+use Rattle.krb_record.specs.Record.{is_close, texts_of}
 use Rattle.krb_peers.specs.Order.{Offer, Answer}
 use Rattle.krb_peers.specs.Accepted.{accepted_of, Accepted, IsNumbered, AreNumbered, EndsWithItsClose}
 use Rattle.krb_peers.proofs.OrderLemmas.{any_from_contains, any_from_none}

@@ -11,15 +11,15 @@ use Rattle.krb_base.specs.Prefix.{IsPrefix}
 use Rattle.krb_seal.specs.Laws.{Agree}
 use Rattle.krb_seal.specs.Opens.{OpenerState, Opens}
 use Rattle.krb_seal.proofs.SealedFrames.{at_its_number}
-use Rattle.krb_peers.specs.declared.record.Record.{Record}
-use Rattle.krb_peers.specs.declared.record.Record.TheVariants as records
+use Rattle.krb_record.specs.declared.record.Record.{Record}
+use Rattle.krb_record.specs.declared.record.Record.TheVariants as records
 use Rattle.krb_peers.specs.declared.delivery.Delivery.{Delivery}
 use Rattle.krb_peers.specs.declared.plan.Emit.{Emit}
 use Rattle.krb_peers.specs.declared.plan.Emit.TheVariants.{Frame}
 use Rattle.krb_peers.specs.Demand.{Demand}
-use Rattle.krb_peers.specs.Record.{FitsLimits, bytes_of, texts_of, is_close}
+use Rattle.krb_record.specs.Record.{FitsLimits, bytes_of, texts_of, is_close, record_for}
 use Rattle.krb_peers.specs.Plan.{is_good, is_good_emission, is_planned, emission, emissions, wire, frame_at}
-use Rattle.krb_peers.specs.Sender.{Source, IsWithinLimits, text_groups, texts_of_groups, sealed_count, sealed_groups, record_for, records_for, AreFrames, moment_at}
+use Rattle.krb_peers.specs.Sender.{Source, IsWithinLimits, text_groups, texts_of_groups, sealed_count, sealed_groups, records_for, AreFrames, moment_at}
 use Rattle.krb_peers.specs.Sender as sender
 use Rattle.krb_peers.specs.Order.{demand_after, first_demand}
 use Rattle.krb_peers.specs.Verdicts.{Verdict, record_of, accepted_by, records_of, events_from, IsVerdict}

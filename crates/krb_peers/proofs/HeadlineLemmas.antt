@@ -4,17 +4,17 @@ use Rattle.std.specs.List.{list_any, flat_map}
 use Rattle.std.proofs.lemmas.Bool.{cases_lt}
 use Rattle.std.proofs.lemmas.List.Concat.{flat_map-append}
 use Rattle.krb_base.specs.Limits.{batch_size_limit}
-use Rattle.krb_batch.specs.Batch.{texts_size, text_bytes}
-use Rattle.krb_batch.proofs.BatchLemmas.{length-texts, one_reading}
-use Rattle.krb_batch.proofs.GroupLemmas.{small_groups}
+use Rattle.krb_record.specs.Batch.{texts_size, text_bytes}
+use Rattle.krb_record.proofs.BatchLemmas.{length-texts, one_reading}
+use Rattle.krb_record.proofs.GroupLemmas.{small_groups}
 use Rattle.std.proofs.lemmas.Bool.{ltb-true}
 use Rattle.std.proofs.lemmas.Option.{slice_get-get_or, slice_get_within}
 use Rattle.krb_base.specs.Prefix.{IsPrefix}
 use Rattle.krb_seal.specs.declared.refusal.Refusal.{Refusal}
 use Rattle.krb_seal.specs.Opens.{OpenerState, Opens, opener_of}
 use Rattle.krb_seal.proofs.SealedFrames.{nowhere_else, same_frame}
-use Rattle.krb_peers.specs.declared.record.Record.{Record}
-use Rattle.krb_peers.specs.declared.record.Record.TheVariants as records
+use Rattle.krb_record.specs.declared.record.Record.{Record}
+use Rattle.krb_record.specs.declared.record.Record.TheVariants as records
 use Rattle.krb_peers.specs.declared.delivery.Delivery.{Delivery}
 use Rattle.krb_peers.specs.declared.delivery.Delivery.TheVariants.{Text, Batch, Closed}
 use Rattle.krb_peers.specs.declared.log.Event.{Event}
@@ -22,10 +22,10 @@ use Rattle.krb_peers.specs.declared.log.Event.TheVariants as events
 use Rattle.krb_peers.specs.declared.plan.Emit.{Emit}
 use Rattle.krb_peers.specs.declared.plan.Emit.TheVariants.{Frame, Flip, Raw}
 use Rattle.krb_peers.specs.Demand.{Demand}
-use Rattle.krb_peers.specs.Record.{SpellsRecord, bytes_of, texts_of, is_close}
+use Rattle.krb_record.specs.Record.{SpellsRecord, bytes_of, texts_of, is_close, record_for}
 use Rattle.krb_peers.specs.Log.{texts_in, has_closed}
 use Rattle.krb_peers.specs.Plan.{is_good, is_good_emission, emission, emissions, wire}
-use Rattle.krb_peers.specs.Sender.{Source, text_groups, texts_of_groups, sealed_count, record_for, records_for, AreFrames, moment_at}
+use Rattle.krb_peers.specs.Sender.{Source, text_groups, texts_of_groups, sealed_count, records_for, AreFrames, moment_at}
 use Rattle.krb_peers.specs.Sender as sender
 use Rattle.krb_peers.specs.Order.{demand_after}
 use Rattle.krb_peers.specs.ReceiverState.{ReceiverState}
@@ -34,7 +34,7 @@ use Rattle.krb_peers.specs.Ends.{Ends}
 use Rattle.krb_peers.specs.Run.{Run, IsRun}
 use Rattle.krb_peers.specs.Premises.{is_altered_one, altered_at, AlteredAreHonest, IsPaired}
 use Rattle.krb_peers.specs.Claims.{NothingAfterClose, RefusesExactly, RefusalsDeliverNothing}
-use Rattle.krb_peers.proofs.RecordLemmas.{same_first}
+use Rattle.krb_record.proofs.RecordLemmas.{same_first}
 use Rattle.krb_peers.proofs.VerdictLemmas.{AreVerdicts-behind, unique_verdict}
 use Rattle.krb_peers.proofs.AcceptedPrefix.{none_left, texts_prefix}
 use Rattle.krb_peers.proofs.LoggedLemmas.{texts_in-append, has_closed-append, texts_in-texts, has_closed-texts, closed_one, closed_events, or_left, or_right}

@@ -1,5 +1,4 @@
 pub mod ListLemmas
-pub mod RecordLemmas
 pub mod OrderLemmas
 pub mod AcceptedLemmas
 pub mod AcceptedPrefix

@@ -9,7 +9,7 @@ use Rattle.krb_peers.specs.declared.log.Event.{Event}
 use Rattle.krb_peers.specs.declared.log.Event.TheVariants.{Text, Closed, Refused}
 use Rattle.krb_peers.specs.declared.log.Entry.{Entry}
 use Rattle.krb_peers.specs.Demand.{Demand}
-use Rattle.krb_peers.specs.Record.{is_close}
+use Rattle.krb_record.specs.Record.{is_close}
 use Rattle.krb_peers.specs.Log.{entries_for, events_of, has_closed, texts_in}
 use Rattle.krb_peers.specs.LogState.{LogState}
 use Rattle.krb_peers.specs.ReceiverState.{ReceiverState}

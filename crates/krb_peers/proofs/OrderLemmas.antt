@@ -3,14 +3,14 @@ use Rattle.std.proofs.Common.{◌≡◌, ℕ, ◌+◌, ◌≤◌, ◌==◌, ◌&
 use Rattle.std.specs.List.{Contains, list_any}
 use Rattle.std.proofs.lemmas.List.Folds.{list_any-append}
 use Rattle.std.proofs.lemmas.Bool.Decides.{nat_tests}
-use Rattle.krb_peers.specs.declared.record.Record.{Record}
-use Rattle.krb_peers.specs.declared.record.Record.TheVariants.{Text, Batch, Close}
+use Rattle.krb_record.specs.declared.record.Record.{Record}
+use Rattle.krb_record.specs.declared.record.Record.TheVariants.{Text, Batch, Close}
 use Rattle.krb_peers.specs.declared.order.OrderRefusal.TheVariants.{AfterClose, BadOrder}
 use Rattle.krb_base.specs.Limits.{last_number}
 use Rattle.krb_peers.specs.Demand.{Demand}
 use Rattle.krb_peers.specs.Order.{Offer, Answer, answer_to, carried_by, first_demand, demand_after, next_demand}
 use Rattle.krb_peers.specs.Accepted.{accepted_of, IsAnswer}
-use Rattle.krb_peers.specs.Record.{is_close}
+use Rattle.krb_record.specs.Record.{is_close}
 use Rattle.std.proofs.Math.Bool.{or-false, or_assoc}
 
 -- the test for a close is right

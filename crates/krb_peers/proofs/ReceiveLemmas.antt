@@ -7,7 +7,7 @@ use Rattle.krb_peers.specs.Demand.{Demand}
 use Rattle.krb_peers.specs.LogState.{LogState}
 use Rattle.krb_peers.specs.ReceiverState.{ReceiverState}
 use Rattle.krb_peers.specs.Receiver.{verdict_by, receiver_behind, advanced}
-use Rattle.krb_peers.specs.Record.{is_close}
+use Rattle.krb_record.specs.Record.{is_close}
 use Rattle.krb_peers.specs.Verdicts.{Verdict, IsVerdict, record_of}
 use Rattle.krb_peers.specs.Logged.{noted}
 use Rattle.krb_peers.proofs.OrderLemmas.{demand_after-nil, demand_one}

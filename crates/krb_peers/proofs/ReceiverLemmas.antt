@@ -4,9 +4,9 @@ use Rattle.std.specs.Global.{Vec}
 use Rattle.krb_seal.specs.declared.refusal.Refusal.{Refusal}
 use Rattle.krb_seal.specs.Opens.{OpenerState, Opens}
 use Rattle.krb_seal.specs.Unseals.{OrMemory}
-use Rattle.krb_peers.specs.declared.record.Record.{Record}
+use Rattle.krb_record.specs.declared.record.Record.{Record}
 use Rattle.krb_peers.specs.declared.delivery.Delivery.{Delivery}
-use Rattle.krb_peers.specs.Record.{SpellsRecord}
+use Rattle.krb_record.specs.Record.{SpellsRecord}
 use Rattle.krb_peers.specs.ReceiverState.{ReceiverState}
 use Rattle.krb_peers.specs.Verdicts.{record_of}
 use Rattle.krb_peers.specs.Receiver.{IsJudgement}

@@ -8,17 +8,17 @@ use Rattle.std.specs.List.{list_all}
 use Rattle.std.proofs.lemmas.Bool.{and_parts, cases_lt, leb-true, lt-ltb, le-ltb}
 use Rattle.std.proofs.lemmas.List.Elements.{All-nil, All-cons, All-head, All-take, All-drop}
 use Rattle.krb_base.specs.Limits.{last_number, user_data_limit, text_limit, batch_limit}
-use Rattle.krb_batch.specs.Batch.{IsBatch}
-use Rattle.krb_batch.specs.Groups.{IsFirstGroup, AreGroups, groups}
-use Rattle.krb_batch.proofs.GroupLemmas.{groups_are, groups_behind, next_groups, joined, small_groups, first_is_small, first_is_some}
+use Rattle.krb_record.specs.Batch.{IsBatch}
+use Rattle.krb_record.specs.Groups.{IsFirstGroup, AreGroups, groups}
+use Rattle.krb_record.proofs.GroupLemmas.{groups_are, groups_behind, next_groups, joined, small_groups, first_is_small, first_is_some}
 use Rattle.krb_seal.specs.declared.seal_error.SealError.{SealError}
 use Rattle.krb_seal.specs.declared.seal_error.SealError.TheVariants.{Wiped, TooLong, Exhausted, Memory}
 use Rattle.krb_seal.specs.Sealer.{SealerState, SealsNext, end_of_numbers}
-use Rattle.krb_peers.specs.declared.record.Record.{Record}
-use Rattle.krb_peers.specs.declared.record.Record.TheVariants.{Close}
-use Rattle.krb_peers.specs.Record.{bytes_of, FitsLimits}
+use Rattle.krb_record.specs.declared.record.Record.{Record}
+use Rattle.krb_record.specs.declared.record.Record.TheVariants.{Close}
+use Rattle.krb_record.specs.Record.{bytes_of, FitsLimits, record_for}
 use Rattle.krb_peers.specs.Draws.{after_words, confounder_at}
-use Rattle.krb_peers.specs.Sender.{Source, IsWithinLimits, text_groups, texts_of_groups, sealed_count, sealed_groups, group_behind, texts_before, record_for, record_at, records_for, records, moment_at, IsFrame, AreFrames}
+use Rattle.krb_peers.specs.Sender.{Source, IsWithinLimits, text_groups, texts_of_groups, sealed_count, sealed_groups, group_behind, texts_before, record_at, records_for, records, moment_at, IsFrame, AreFrames}
 use Rattle.krb_peers.specs.Sending.{before, behind, HasSealed, StandsAfterSome}
 use Rattle.krb_peers.proofs.DrawsLemmas.{confounder_at-later, after_words-add}
 use Rattle.krb_peers.proofs.ListLemmas.{slice_get-front, slice_get-end, lt_or_same, slice_get-take, take-below, length-take, get_or-take}

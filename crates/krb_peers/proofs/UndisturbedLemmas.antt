@@ -10,16 +10,16 @@ use Rattle.std.proofs.lemmas.Option.{slice_get-get_or, slice_get_within}
 use Rattle.std.specs.List.{flat_map}
 use Rattle.krb_seal.specs.Opens.{OpenerState, Opens}
 use Rattle.krb_seal.proofs.SealedFrames.{at_its_number}
-use Rattle.krb_peers.specs.declared.record.Record.{Record}
-use Rattle.krb_peers.specs.declared.record.Record.TheVariants as records
+use Rattle.krb_record.specs.declared.record.Record.{Record}
+use Rattle.krb_record.specs.declared.record.Record.TheVariants as records
 use Rattle.krb_peers.specs.declared.delivery.Delivery.{Delivery}
 use Rattle.krb_peers.specs.declared.delivery.Delivery.TheVariants.{Text, Batch, Closed}
 use Rattle.krb_peers.specs.declared.plan.Emit.{Emit}
 use Rattle.krb_peers.specs.declared.plan.Emit.TheVariants.{Frame}
 use Rattle.krb_peers.specs.Demand.{Demand}
-use Rattle.krb_peers.specs.Record.{FitsLimits, bytes_of, texts_of, is_close}
+use Rattle.krb_record.specs.Record.{FitsLimits, bytes_of, texts_of, is_close, record_for}
 use Rattle.krb_peers.specs.Plan.{is_good, is_good_emission, emission, emissions, wire, frame_at}
-use Rattle.krb_peers.specs.Sender.{Source, IsWithinLimits, text_groups, texts_of_groups, sealed_count, sealed_groups, sealed_texts, record_for, records_for, AreFrames, moment_at}
+use Rattle.krb_peers.specs.Sender.{Source, IsWithinLimits, text_groups, texts_of_groups, sealed_count, sealed_groups, sealed_texts, records_for, AreFrames, moment_at}
 use Rattle.krb_peers.specs.Sender as sender
 use Rattle.krb_peers.specs.Order.{demand_after}
 use Rattle.krb_peers.specs.Verdicts.{Verdict, record_of, records_of, delivered, IsVerdict}

@@ -5,9 +5,9 @@ use Rattle.std.proofs.lemmas.Bool.{and_parts, eqb-true, leb-true, le-leb}
 use Rattle.std.proofs.lemmas.List.{take-append-le, take_all}
 use Rattle.std.proofs.lemmas.Option.{slice_get_within}
 use Rattle.krb_base.specs.Limits.{text_limit}
-use Rattle.krb_batch.specs.Batch.{SpellsBatch, spelling}
-use Rattle.krb_batch.specs.Reading.{batch_in}
-use Rattle.krb_batch.proofs.ReadingLemmas.{found_is_spelt, spelt_is_found}
+use Rattle.krb_record.specs.Batch.{SpellsBatch, spelling}
+use Rattle.krb_record.specs.Reading.{batch_in}
+use Rattle.krb_record.proofs.ReadingLemmas.{found_is_spelt, spelt_is_found}
 use Rattle.std.specs.Prelude.{option_map}
 use Rattle.krb_seal.specs.declared.refusal.Refusal.{Refusal}
 use Rattle.krb_seal.specs.declared.refusal.Refusal.TheVariants as refusals
@@ -16,11 +16,11 @@ use Rattle.krb_seal.specs.Opens.{OpenerState, Outcome, Opens}
 use Rattle.krb_seal.specs.Opening.{opens}
 use Rattle.krb_seal.proofs.Openings.{one_outcome}
 use Rattle.krb_seal.proofs.Outcomes.{Unique, outcomes_unique}
-use Rattle.krb_peers.specs.declared.record.Record.TheVariants as records
+use Rattle.krb_record.specs.declared.record.Record.TheVariants as records
 use Rattle.krb_peers.specs.declared.delivery.Delivery.{Delivery}
 use Rattle.krb_peers.specs.declared.delivery.Delivery.TheVariants.{Text, Batch, Closed}
 use Rattle.krb_peers.specs.Demand.{Demand}
-use Rattle.krb_peers.specs.Record.{SpellsRecord, is_close}
+use Rattle.krb_record.specs.Record.{SpellsRecord, is_close}
 use Rattle.krb_peers.specs.Sender.{moment_at}
 use Rattle.krb_peers.specs.Order.{demand_after}
 use Rattle.krb_peers.specs.Verdicts.{Verdict, AllBytes, record_of, accepted_by, records_of, IsNoRecord, IsVerdict, AreVerdicts, delivery_in, judged, verdict_on, verdict, verdicts}

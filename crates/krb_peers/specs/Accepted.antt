@@ -2,8 +2,8 @@
 use Rattle.std.specs.Prelude.{◌≡◌, ◌↔◌, ℕ, ◌+◌, ◌≤◌, List, [], ◌∷◌, ◌++◌, length, take, slice_get}
 use Rattle.std.specs.Prelude.{Some, Ok, Err, IsOk}
 use Rattle.std.specs.List.{All, Contains}
-use Rattle.krb_peers.specs.declared.record.Record.{Record}
-use Rattle.krb_peers.specs.declared.record.Record.TheVariants.{Close}
+use Rattle.krb_record.specs.declared.record.Record.{Record}
+use Rattle.krb_record.specs.declared.record.Record.TheVariants.{Close}
 use Rattle.krb_peers.specs.declared.order.OrderRefusal.TheVariants.{AfterClose}
 use Rattle.krb_peers.specs.Demand.{Demand}
 use Rattle.krb_base.specs.Limits.{last_number}

@@ -1,17 +1,16 @@
 -- What holds of senders, receivers and logs: what the laws state.
-use Rattle.std.specs.Prelude.{◌≡◌, ◌↔◌, ◌<◌, ◌≤◌, ℕ, suc, ◌+◌, List, [], ◌∷◌, ◌++◌, length, take}
+use Rattle.std.specs.Prelude.{◌≡◌, ◌↔◌, ◌<◌, ℕ, suc, ◌+◌, List, [], ◌∷◌, ◌++◌, length, take}
 use Rattle.std.specs.Prelude.{All, IsOk, None}
 use Rattle.std.specs.List.{Contains, flat_map}
 use Rattle.krb_base.specs.Prefix.{IsPrefix}
-use Rattle.krb_base.specs.Limits.{user_data_limit}
 use Rattle.krb_aes.specs.Words.{AreBytes}
 use Rattle.krb_seal.specs.Opens.{OpenerState}
-use Rattle.krb_peers.specs.declared.record.Record.{Record}
-use Rattle.krb_peers.specs.declared.record.Record.TheVariants.{Close}
+use Rattle.krb_record.specs.declared.record.Record.{Record}
+use Rattle.krb_record.specs.declared.record.Record.TheVariants.{Close}
 use Rattle.krb_peers.specs.declared.log.Event.{Event}
 use Rattle.krb_peers.specs.declared.log.Entry.{Entry}
 use Rattle.krb_peers.specs.declared.sending.Sent.{Sent}
-use Rattle.krb_peers.specs.Record.{SpellsRecord, texts_of}
+use Rattle.krb_record.specs.Record.{texts_of}
 use Rattle.krb_peers.specs.Demand.{Demand}
 use Rattle.krb_peers.specs.Order.{Offer, Answer, answers_to, first_demand, demand_after}
 use Rattle.krb_peers.specs.Accepted.{Accepted, accepted_of, AreNumbered, EndsWithItsClose}
@@ -32,17 +31,6 @@ use Rattle.krb_peers.specs.Claims.{DeliversPrefix, DeliversAll, DeliversWhole, N
 use Rattle.krb_peers.specs.Claims.{AllWhereClosed, RefusesExactly, RefusalsDeliverNothing, Headline}
 use Rattle.krb_peers.specs.Rounds.{AreRounds, joined, list_of, rounds, rounds_below, NoneLonger}
 use Rattle.krb_peers.specs.Whole.{rounds_of, EndsWhole, IsRelayed, IsWhole}
-
--- ---- records
-
--- no bytes are those of two records
-abbrev pub OneRecord : Type 0
-OneRecord = (bytes : List ℕ) (r s : Record) → SpellsRecord r bytes → SpellsRecord s bytes → r ≡ s
-
--- and none are longer than the user data
-abbrev pub RecordsAreShort : Type 0
-RecordsAreShort =
-    (bytes : List ℕ) (r : Record) → SpellsRecord r bytes → length bytes ≤ user_data_limit
 
 -- ---- offers
 

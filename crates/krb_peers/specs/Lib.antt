@@ -1,4 +1,3 @@
-pub mod Record
 pub mod Demand
 pub mod Order
 pub mod Accepted

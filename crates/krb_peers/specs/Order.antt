@@ -2,12 +2,12 @@
 use Rattle.std.specs.Prelude.{ℕ, Bool, false, ◌+◌, ◌==◌, ◌&&◌, ◌||◌, nat_le, List, [], ◌∷◌, length}
 use Rattle.std.specs.Prelude.{codes, Result, Ok, Err, ⊤, if◌then◌else◌}
 use Rattle.std.specs.List.{list_any}
-use Rattle.krb_peers.specs.declared.record.Record.{Record}
+use Rattle.krb_record.specs.declared.record.Record.{Record}
 use Rattle.krb_peers.specs.declared.order.OrderRefusal.{OrderRefusal}
 use Rattle.krb_peers.specs.declared.order.OrderRefusal.TheVariants.{AfterClose, BadOrder}
 use Rattle.krb_peers.specs.Demand.{Demand}
 use Rattle.krb_base.specs.Limits.{last_number}
-use Rattle.krb_peers.specs.Record.{is_close}
+use Rattle.krb_record.specs.Record.{is_close}
 
 -- a record that is offered under a number
 pub record Offer : Type 0 where

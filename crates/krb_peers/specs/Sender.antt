@@ -5,13 +5,13 @@ use Rattle.std.specs.Prelude.{Some, All, ◌≤◌}
 use Rattle.std.specs.List.{flat_map}
 use Rattle.rand_chacha.specs.ChaCha.{ChaCha}
 use Rattle.krb_base.specs.Limits.{text_limit, last_number, batch_limit}
-use Rattle.krb_batch.specs.Groups.{groups}
+use Rattle.krb_record.specs.Groups.{groups}
 use Rattle.krb_seal.specs.Sealer.{SealerState}
 use Rattle.krb_seal.specs.Seals.{Seals}
-use Rattle.krb_peers.specs.declared.record.Record.{Record}
-use Rattle.krb_peers.specs.declared.record.Record.TheVariants.{Text, Batch, Close}
+use Rattle.krb_record.specs.declared.record.Record.{Record}
+use Rattle.krb_record.specs.declared.record.Record.TheVariants.{Close}
 use Rattle.krb_peers.specs.declared.plan.Emit.{Emit}
-use Rattle.krb_peers.specs.Record.{bytes_of}
+use Rattle.krb_record.specs.Record.{bytes_of, record_for}
 use Rattle.krb_peers.specs.Draws.{confounder_at}
 
 -- a sealer, the texts for it, how many of them go together at most, the timestamps, a generator,
@@ -61,12 +61,6 @@ group_behind passed source = slice_index_or (groups source.batch (drop passed so
 -- the texts of the first k groups are so many
 abbrev pub texts_before : ℕ → Source → ℕ
 texts_before k source = length (texts_of_groups (take k (text_groups source)))
-
--- the record of a group: a group of one text is a text, and a larger one a batch
-abbrev pub record_for : List (List ℕ) → Record
-record_for [] = Batch []
-record_for (text ∷ []) = Text text
-record_for (text ∷ other ∷ texts) = Batch (text ∷ other ∷ texts)
 
 -- the record that comes at a number: that of the group, or the close if none is left or the number
 -- is the last

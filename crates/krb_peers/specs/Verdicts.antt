@@ -6,14 +6,14 @@ use Rattle.std.specs.Result.{MatchResult}
 use Rattle.std.specs.List.{flat_map}
 use Rattle.krb_aes.specs.Words.{AreBytes}
 use Rattle.krb_base.specs.Limits.{text_limit}
-use Rattle.krb_batch.specs.Reading.{batch_in}
+use Rattle.krb_record.specs.Reading.{batch_in}
 use Rattle.krb_seal.specs.declared.refusal.Refusal.{Refusal}
 use Rattle.krb_seal.specs.declared.refusal.Refusal.TheVariants as refusals
 use Rattle.krb_seal.specs.Opens.{Outcome, OpenerState, Opens}
 use Rattle.krb_seal.specs.Opening.{opens}
-use Rattle.krb_peers.specs.declared.record.Record.{Record}
-use Rattle.krb_peers.specs.declared.record.Record.TheVariants as records
-use Rattle.krb_peers.specs.declared.record.RecordKind.TheVariants as kinds
+use Rattle.krb_record.specs.declared.record.Record.{Record}
+use Rattle.krb_record.specs.declared.record.Record.TheVariants as records
+use Rattle.krb_record.specs.declared.record.RecordKind.TheVariants as kinds
 use Rattle.krb_peers.specs.declared.delivery.Delivery.{Delivery}
 use Rattle.krb_peers.specs.declared.delivery.Delivery.TheVariants.{Text, Batch, Closed}
 use Rattle.krb_peers.specs.declared.log.Event.{Event}
@@ -21,7 +21,7 @@ use Rattle.krb_peers.specs.declared.log.Event.TheVariants as events
 use Rattle.krb_peers.specs.Demand.{Demand}
 use Rattle.krb_peers.specs.Order.{demand_after}
 use Rattle.krb_peers.specs.ReceiverState.{ReceiverState}
-use Rattle.krb_peers.specs.Record.{SpellsRecord, first_byte_of}
+use Rattle.krb_record.specs.Record.{SpellsRecord, first_byte_of}
 use Rattle.krb_peers.specs.Log.{texts_in}
 use Rattle.krb_peers.specs.Sender.{moment_at}
 

@@ -1,12 +1,11 @@
 //! What a receiver delivers.
 
 ghost use Rattle.std.specs.Prelude.{◌≡◌};
-ghost use Rattle.krb_peers.specs.Record.{is_close};
+ghost use Rattle.krb_record.specs.Record.{is_close};
 ghost use Rattle.krb_peers.specs.Verdicts.{record_of};
 
-use crate::record::Record;
 use krb_base::Bytes;
-use krb_batch::Texts;
+use krb_record::{Record, Texts};
 
 /// What an accepted frame carried.
 #[derive(Debug, Drop)]

@@ -1,16 +1,8 @@
 //! Laws of the definitions: what a user may rely on without reading any code.
 
-ghost use Rattle.krb_peers.specs.Laws.{OneRecord, RecordsAreShort, OneListOfAnswers, CloseIsLast, AcceptsPrefix, AcceptsTextsPrefix, AcceptsWhole};
+ghost use Rattle.krb_peers.specs.Laws.{OneListOfAnswers, CloseIsLast, AcceptsPrefix, AcceptsTextsPrefix, AcceptsWhole};
 ghost use Rattle.krb_peers.specs.Laws.{OneVerdict, OneListOfVerdicts, VerdictsGoOn, NextVerdict, OneListOfFrames};
 ghost use Rattle.krb_peers.specs.Laws.{NothingIsLogged, LoggedIsShut, OneListOfRounds, RoundsKeepLanes, RoundGoesOn, RoundsGoOn};
-
-/// The laws of records' bytes.
-///
-/// No bytes are those of two records (`one`), and none are longer than the user data (`short`).
-pub fn record_laws()
-    ensures one { OneRecord }
-    ensures short { RecordsAreShort }
-{}
 
 /// The laws of accepted offers, over their definition alone.
 ///

@@ -35,7 +35,6 @@ mod order;
 mod plan;
 mod receiver;
 mod receivers;
-mod record;
 mod sending;
 mod start;
 
@@ -45,13 +44,14 @@ pub use emission::emit;
 pub use gate::{Gate, NoGate};
 pub use headline::{headline_laws, relay_laws, undisturbed_laws};
 pub use krb_base::{BATCH_LIMIT, LAST_NUMBER, TEXT_LIMIT, USER_DATA_LIMIT};
-pub use krb_batch::Texts;
-pub use laws::{accepted_laws, logged_laws, record_laws, rounds_laws, verdict_laws};
+pub use krb_record::{
+    Record, RecordError, RecordKind, Texts, read_record, record_bytes, record_laws,
+};
+pub use laws::{accepted_laws, logged_laws, rounds_laws, verdict_laws};
 pub use log::{Entry, Event, Log, Status};
 pub use order::{Order, OrderRefusal};
 pub use plan::{Emit, EmitError};
 pub use receiver::{Receiver, Receiving};
 pub use receivers::{Receivers, wipe_receivers};
-pub use record::{Record, RecordError, RecordKind, read_record, record_bytes};
 pub use sending::{Ending, Sending, Sent};
 pub use start::{StartError, emit_sealed, emit_sealed_within};

@@ -8,7 +8,7 @@ ghost use Rattle.krb_peers.specs.Logged.{noted, MayBeNoted};
 
 use crate::delivery::Delivery;
 use krb_base::{Bytes, LANE_LIMIT};
-use krb_batch::Texts;
+use krb_record::Texts;
 use krb_seal::Refusal;
 use std::alloc::{AllocError, Global};
 use std::array;

@@ -4,10 +4,10 @@ ghost use Rattle.std.specs.Prelude.{◌≡◌, ◌≢◌, ◌↔◌, ◌⊎◌, 
 ghost use Rattle.krb_base.specs.Limits.{last_number};
 ghost use Rattle.krb_peers.specs.Order.{Offer, Answer, offer, answer_to, first_demand, next_demand, code_of, words_of};
 ghost use Rattle.krb_peers.specs.Accepted.{HasAnswered};
-ghost use Rattle.krb_peers.specs.Record.{is_close};
+ghost use Rattle.krb_record.specs.Record.{is_close};
 
-use crate::record::Record;
 use krb_base::LAST_NUMBER;
+use krb_record::Record;
 use std::error::Error;
 use std::fmt;
 use std::marker::Model;

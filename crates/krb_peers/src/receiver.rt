@@ -2,7 +2,7 @@
 
 ghost use Rattle.std.specs.Prelude.{◌≡◌, ◌+◌, ◌<◌, ◌≤◌, length, replicate, IsTrue, IfOk, OnOk, OnErr};
 ghost use Rattle.krb_base.specs.Limits.{last_number};
-ghost use Rattle.krb_peers.specs.Record.{is_close};
+ghost use Rattle.krb_record.specs.Record.{is_close};
 ghost use Rattle.krb_peers.specs.Sender.{moment_at};
 ghost use Rattle.krb_peers.specs.Verdicts.{IsVerdict, record_of};
 ghost use Rattle.krb_peers.specs.Order.{first_demand};
@@ -12,8 +12,8 @@ ghost use Rattle.krb_peers.specs.Logged.{noted, IsShut, LogsNext};
 use crate::delivery::Delivery;
 use crate::log::Log;
 use crate::order::Order;
-use crate::record::{RecordError, into_record};
 use krb_der::Moment;
+use krb_record::{RecordError, into_record};
 use krb_seal::{Opener, Refusal};
 use std::alloc::{AllocError, Global};
 use std::marker::Model;

@@ -1,25 +1,23 @@
 //! A sender: its sealer, what it seals, and the plan of its wire.
 
 ghost use Rattle.std.specs.Prelude.{◌≡◌, ◌≢◌, ◌↔◌, ◌≤◌, ◌+◌, ◌∷◌, ◌++◌, [], ℕ, List, length, drop, true, slice_get, Some, IfOk, IfErr, OnOk, OnErr, IsErr, ◌⊎◌, ◌<◌};
-ghost use Rattle.krb_peers.specs.declared.record.Record.{Record};
 ghost use Rattle.krb_base.specs.Limits.{user_data_limit};
 ghost use Rattle.krb_seal.specs.Sealer.{SealsNext};
-ghost use Rattle.krb_peers.specs.Record.{bytes_of, FitsLimits};
+ghost use Rattle.krb_record.specs.Record.{bytes_of, FitsLimits, record_for};
 ghost use Rattle.krb_peers.specs.Draws.{confounder_at};
 ghost use Rattle.krb_peers.specs.Plan.{contents};
 ghost use Rattle.krb_peers.specs.Sender.{Source, AreFrames, records, moment_at, sealed_groups, sealed_texts};
-ghost use Rattle.krb_peers.specs.Sender.{group_behind, texts_before, record_for, record_at};
+ghost use Rattle.krb_peers.specs.Sender.{group_behind, texts_before, record_at};
 ghost use Rattle.krb_peers.specs.Verdicts.{AllBytes};
 ghost use Rattle.krb_peers.specs.Sending.{source_of, sealed_of, sent_of, before, behind, IsSender, HasSealed, SealsAll, StandsAfterSome};
 
 use crate::confounder::draw_confounder;
 use crate::gate::{Gate, NoGate};
 use crate::plan::Emit;
-use crate::record::{close_record, group_record};
 use krb_aes::known_bytes;
 use krb_base::{Bytes, LAST_NUMBER};
-use krb_batch::group_end;
 use krb_der::Moment;
+use krb_record::{Record, group_bytes, group_end, record_bytes};
 use krb_seal::{SealError, Sealer};
 use rand_chacha::ChaCha20Rng;
 use std::alloc::{AllocError, Global};
@@ -266,8 +264,8 @@ impl<S: Sealer> Sending<S> {
         ensures short { IfOk result (λ bytes. length bytes.items ≤ user_data_limit) }
     {
         if group.is_empty() || self.sealer.next() >= LAST_NUMBER {
-            return close_record(alloc);
+            return record_bytes(alloc, &Record::Close);
         }
-        group_record(alloc, group)
+        group_bytes(alloc, group)
     }
 }

@@ -6,7 +6,7 @@ use Rattle.krb_base.specs.Prefix.{IsPrefix}
 use Rattle.krb_peers.specs.Plan.{wire}
 use Rattle.krb_peers.specs.declared.start.StartError.{StartError}
 use Rattle.krb_peers.specs.declared.start.StartError.TheVariants as start
-use Rattle.krb_peers.specs.declared.record.Record.{Record}
+use Rattle.krb_record.specs.declared.record.Record.{Record}
 use Rattle.krb_peers.specs.Sender.{Source, records, AreFrames}
 use Rattle.krb_peers.specs.Sending.{behind, HasSealed, HasSealedSome, StandsAfterSome}
 use Rattle.krb_peers.specs.StartError.{IsReason}

@@ -2,7 +2,7 @@
 
 use crate::asserts::{assert_displayed, assert_same};
 use krb_base::Bytes;
-use krb_batch::{BatchError, Texts, batch_bytes, group_end, read_batch};
+use krb_record::{BatchError, Texts, batch_bytes, group_end, read_batch};
 use std::alloc::{AllocError, Global};
 use std::process::Abort;
 use std::test::Fail;

@@ -1,4 +1,4 @@
-//! The tests of [`krb_aes`], [`krb_base`], [`krb_batch`], [`krb_keys`], [`krb_time`], [`krb_tlv`],
+//! The tests of [`krb_aes`], [`krb_base`], [`krb_record`], [`krb_keys`], [`krb_time`], [`krb_tlv`],
 //! [`krb_der`], [`krb_seal`] and [`krb_peers`], over what these have public: vectors of the
 //! standards, messages worked out by hand, frames of an independent sealer, and what the two ends of
 //! a lane make of them. They stand in a crate of their own, which has no public item, so that each
@@ -19,6 +19,8 @@ mod codec;
 mod keys;
 #[cfg(test)]
 mod peers;
+#[cfg(test)]
+mod record;
 #[cfg(test)]
 mod sealing;
 #[cfg(test)]

@@ -1,8 +1,7 @@
-//! Plans, records, the order and the log of the two ends of a lane.
+//! Plans, the order and the log of the two ends of a lane.
 
 mod confounders;
 mod emission;
 mod log;
 mod order;
-mod record;
 mod start;

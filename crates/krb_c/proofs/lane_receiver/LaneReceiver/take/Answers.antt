@@ -1,7 +1,7 @@
 use Rattle.std.proofs.Common.{ℕ, ◌≤◌, List, length, take, subst, ◌≡◌, ◌∙◌, arith, rules}
 use Rattle.krb_base.specs.Limits.{last_number}
 use Rattle.krb_seal.specs.Opens.{Opens}
-use Rattle.krb_peers.specs.Record.{is_close, number_of}
+use Rattle.krb_record.specs.Record.{is_close, number_of}
 use Rattle.krb_peers.specs.ReceiverState.{ReceiverState}
 use Rattle.krb_peers.proofs.NumberLemmas.{opens_in_range}
 use Rattle.krb_c.specs.Moment.{micros_of}

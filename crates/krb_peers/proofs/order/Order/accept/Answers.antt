@@ -3,7 +3,7 @@ use Rattle.std.proofs.Common.{◌≡◌, Ok, Err, sym, ap, ◌∙◌, arith, rul
 use Rattle.std.proofs.lemmas.Grind.{common_steps}
 use Rattle.krb_peers.specs.declared.order.OrderRefusal.TheVariants.{AfterClose, BadOrder}
 use Rattle.krb_peers.specs.Order.{Offer, answer_to, next_demand}
-use Rattle.krb_peers.specs.Record.{is_close}
+use Rattle.krb_record.specs.Record.{is_close}
 use Rattle.krb_peers.proofs.OrderLemmas.{demand_after-nil, demand_one}
 use Rattle.krb_peers.proofs.AcceptedLemmas.{answered_with}
 use Rattle.krb_peers.proofs.order.Order.accept.Goals as goal

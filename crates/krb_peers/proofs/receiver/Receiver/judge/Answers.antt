@@ -3,7 +3,7 @@ use Rattle.std.proofs.Common.{◌≡◌, ◌≤◌, false, Ok, subst, arith, rul
 use Rattle.krb_base.specs.Limits.{last_number}
 use Rattle.std.proofs.lemmas.Result.{err_from_is_err_and}
 use Rattle.krb_seal.specs.Opens.{Opens}
-use Rattle.krb_peers.specs.Record.{SpellsRecord}
+use Rattle.krb_record.specs.Record.{SpellsRecord}
 use Rattle.krb_peers.specs.ReceiverState.{ReceiverState}
 use Rattle.krb_peers.proofs.NumberLemmas.{opens_in_range}
 use Rattle.krb_peers.proofs.ReceiverLemmas.{opened_is, refused_is, carried_is}

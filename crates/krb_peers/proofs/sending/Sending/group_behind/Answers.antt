@@ -1,7 +1,7 @@
 -- The first group of what is left, which is there where a text is.
 use Rattle.std.proofs.Common.{◌≡◌, ◌<◌, length, drop, take, ap, sym, rules, arith}
 use Rattle.std.proofs.lemmas.List.{length-drop}
-use Rattle.krb_batch.specs.Groups.{IsFirstGroup}
+use Rattle.krb_record.specs.Groups.{IsFirstGroup}
 use Rattle.krb_peers.specs.Sender.{Source}
 use Rattle.krb_peers.specs.Sending.{source_of}
 use Rattle.krb_peers.proofs.SendingLemmas.{first_group_is}

@@ -1,6 +1,6 @@
 -- Each turn passes the texts of one group more.
 use Rattle.std.proofs.Common.{◌≡◌, ◌<◌, ◌≤◌, ◌+◌, length, drop, take, ap, sym, ◌∙◌, rules, arith}
-use Rattle.krb_batch.specs.Groups.{IsFirstGroup}
+use Rattle.krb_record.specs.Groups.{IsFirstGroup}
 use Rattle.krb_peers.specs.Sender.{Source, text_groups, texts_of_groups, sealed_count}
 use Rattle.krb_peers.specs.Sending.{source_of}
 use Rattle.krb_peers.proofs.ListLemmas.{length-take}

@@ -1,3 +1,0 @@
-pub mod BatchLemmas
-pub mod GroupLemmas
-pub mod ReadingLemmas

@@ -1,6 +1,0 @@
-use Rattle.std.proofs.Common.{◌≡◌, take}
-use Rattle.krb_batch.specs.Batch.{texts_size}
-use Rattle.krb_batch.proofs.batch.size_of.Given as goal
-
-abbrev pub invariant-loop-text : goal.invariant-loop-text
-invariant-loop-text l = l.size ≡ texts_size (take l.text-index l.texts)

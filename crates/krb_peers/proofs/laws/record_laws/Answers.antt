@@ -1,8 +1,0 @@
-use Rattle.krb_peers.proofs.RecordLemmas.{one_record, short_record}
-use Rattle.krb_peers.proofs.laws.record_laws.Goals as goal
-
-pub returns-clause-one : goal.returns-clause-one
-returns-clause-one c = one_record
-
-pub returns-clause-short : goal.returns-clause-short
-returns-clause-short c = short_record

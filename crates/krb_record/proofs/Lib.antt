@@ -1,0 +1,4 @@
+pub mod BatchLemmas
+pub mod GroupLemmas
+pub mod ReadingLemmas
+pub mod RecordLemmas

@@ -1,0 +1,90 @@
+-- Answers about the bytes of records.
+use Rattle.std.proofs.Common.{◌≡◌, ◌≤◌, ◌↔◌, List, [], ◌∷◌, ℕ, length, Result, Ok, Err, IsErrAnd, IfOk, refl, sym, ap, subst, ◌∙◌, arith}
+use Rattle.std.specs.Prelude.{MatchResult}
+use Rattle.krb_record.specs.Batch.{SpellsBatch}
+use Rattle.krb_record.proofs.BatchLemmas.{one_batch, short_batch}
+use Rattle.krb_record.specs.declared.record.Record.{Record}
+use Rattle.krb_record.specs.declared.record.RecordError.{RecordError}
+use Rattle.krb_record.specs.declared.record.RecordError.TheVariants.{BadRecord, Memory}
+use Rattle.krb_record.specs.declared.record.Record.TheVariants.{Text, Batch, Close}
+use Rattle.krb_base.specs.Limits.{text_limit, user_data_limit}
+use Rattle.krb_record.specs.Record.{SpellsRecord}
+
+-- an answer is BadRecord exactly where the bytes are those of no record
+abbrev pub IsBadExactly : Result Record RecordError → List ℕ → Type 0
+IsBadExactly answer bytes = (answer ≡ Err BadRecord) ↔ ((r : Record) → SpellsRecord r bytes → ⊥)
+
+-- a record is no wrong answer where the bytes are those of one
+pub bad-ok : (got : Record) (bytes : List ℕ) (r : Record) → SpellsRecord r bytes → IsBadExactly (Ok got) bytes
+bad-ok got bytes r spells = (λ is. absurd (let e = is in cc), λ none. absurd (none r spells))
+
+-- nor is want of memory
+pub bad-memory : (answer : Result Record RecordError) (bytes : List ℕ) (r : Record) → SpellsRecord r bytes → IsErrAnd answer (λ e. e ≡ Memory) → IsBadExactly answer bytes
+bad-memory (Ok got) bytes r spells is = absurd is
+bad-memory (Err e) bytes r spells is = (λ bad. absurd (let both = bad in let same : e ≡ Memory = is in cc), λ none. absurd (none r spells))
+
+-- lists that are equal begin alike
+pub same_first : (a b : ℕ) (xs ys : List ℕ) → a ∷ xs ≡ b ∷ ys → a ≡ b
+same_first a b xs ys is = cc
+
+-- no bytes are those of two records
+pub one_record : (bytes : List ℕ) (r s : Record) → SpellsRecord r bytes → SpellsRecord s bytes → r ≡ s
+one_record bytes (Text t) (Text u) r s = (let e = sym r.1 ∙ s.1 in let same : t ≡ u = cc in ap Text same)
+one_record bytes (Text t) (Batch us) r s = absurd (omega (arith, same_first 0x44 0x42 t _ (sym r.1 ∙ s.1)))
+one_record bytes (Text t) Close r s = absurd (omega (arith, same_first 0x44 0x43 t [] (sym r.1 ∙ s.1)))
+one_record bytes (Batch ts) (Text u) r s = absurd (omega (arith, same_first 0x42 0x44 _ u (sym r.1 ∙ s.1)))
+one_record bytes (Batch ts) (Batch us) r s = ap Batch (one_batch ts us bytes r s)
+one_record bytes (Batch ts) Close r s = absurd (omega (arith, same_first 0x42 0x43 _ [] (sym r.1 ∙ s.1)))
+one_record bytes Close (Text u) r s = absurd (omega (arith, same_first 0x43 0x44 [] u (sym r.1 ∙ s.1)))
+one_record bytes Close (Batch us) r s = absurd (omega (arith, same_first 0x43 0x42 [] _ (sym r.1 ∙ s.1)))
+one_record bytes Close Close r s = refl
+
+-- no record is longer than the user data
+pub short_record : (bytes : List ℕ) (r : Record) → SpellsRecord r bytes → length bytes ≤ user_data_limit
+short_record bytes (Text t) spells = rw spells.1 (omega (arith, spells.0))
+short_record bytes (Batch ts) spells = short_batch ts bytes spells
+short_record bytes Close spells = rw spells.1 (omega arith)
+
+-- ---- bytes that are neither a text nor the close
+
+pub record IsOther (bytes : List ℕ) : Type 0 where
+  pub no_text : (text : List ℕ) → length text ≤ text_limit → bytes ≡ 0x44 ∷ text → ⊥
+  pub no_close : bytes ≡ 0x43 ∷ [] → ⊥
+
+-- what is answered of them, by what is answered of a batch
+module _ (bytes : List ℕ) (other : IsOther bytes) where
+  -- they are no other record
+  none_but : ((texts : List (List ℕ)) → SpellsBatch texts bytes → ⊥) → (r : Record) → SpellsRecord r bytes → ⊥
+  none_but none (Text text) spells = other.no_text text spells.0 spells.1
+  none_but none (Batch texts) spells = none texts spells
+  none_but none Close spells = other.no_close spells.1
+
+  pub batch_only : (answer : Result Record RecordError)
+      → IfOk answer (λ r. (texts : List (List ℕ)) × (r ≡ Batch texts) × SpellsBatch texts bytes)
+      → (answer ≡ Err BadRecord → (texts : List (List ℕ)) → SpellsBatch texts bytes → ⊥)
+      → (r : Record) → SpellsRecord r bytes → MatchResult answer (λ got. got ≡ r) (λ e. e ≡ Memory)
+  batch_only (Ok got) ok bad r spells =
+      let P : Record → Type 0 = λ x. SpellsRecord x bytes in
+      one_record bytes got r (subst P (sym ok.1) ok.2) spells
+  batch_only (Err BadRecord) ok bad r spells = absurd (none_but (bad refl) r spells)
+  batch_only (Err Memory) ok bad r spells = refl
+
+  pub batch_bad : (answer : Result Record RecordError)
+      → (answer ≡ Err BadRecord) ↔ ((texts : List (List ℕ)) → SpellsBatch texts bytes → ⊥) → IsBadExactly answer bytes
+  batch_bad answer bad = (λ is. none_but (bad.0 is), λ none. bad.1 (λ texts spells. none (Batch texts) spells))
+
+-- bytes of another tag, a text that is too long, and a close with more behind it are other bytes
+pub other_by : (tag : ℕ) (rest : List ℕ) → (tag ≡ 0x44 → length rest ≤ text_limit → ⊥) → (tag ≡ 0x43 → rest ≡ [] → ⊥) → IsOther (tag ∷ rest)
+other_by tag rest no_text no_close = record {
+  no_text = λ text short e. (
+      let f = e in
+      let same : tag ≡ 0x44 = cc in
+      let tail : rest ≡ text = cc in
+      let n : length rest ≡ length text = ap length tail in
+      no_text same (omega (arith, n, short)));
+  no_close = λ e. (
+      let f = e in
+      let same : tag ≡ 0x43 = cc in
+      let tail : rest ≡ [] = cc in
+      no_close same tail);
+}

@@ -1,0 +1,4 @@
+pub mod Batch
+pub mod Groups
+pub mod Reading
+pub mod Record
