@@ -1,10 +1,10 @@
 #!/usr/bin/env python3
-"""Proves and builds a program, with the crates that it stands on. Crates that don't stand on each
-other are proved side by side, on all cores, as memory allows.
+"""Proves and builds a program or the C library's crate, with the crates that it stands on. Crates
+that don't stand on each other are proved side by side, on all cores, as memory allows.
 
-    tools/proving.py CRATE      krbrelay or krb_bench, unless it is built from these very sources
+    tools/proving.py CRATE      krbrelay, krb_bench or krb_c, unless it is built from these sources
 
-A line on standard error for each crate has the minutes gone, and an estimate of those left. The
+Of krb_c, the libraries that `rt ci` has built from these sources are proved no second time. A line on standard error for each crate has the minutes gone, and an estimate of those left. The
 prover's output is in out/proving/, a file a crate. It ends with 1 if a crate isn't proved.
 Needed: rt.
 """
@@ -15,7 +15,7 @@ from lib.build import proving
 
 
 def main(words):
-    if len(words) != 1 or words[0] not in ("krbrelay", "krb_bench"):
+    if len(words) != 1 or words[0] not in ("krbrelay", "krb_bench", "krb_c"):
         proving.say(__doc__)
         return 2
     signal.signal(signal.SIGTERM, lambda number, _: sys.exit(128 + number))

@@ -1,8 +1,8 @@
-"""Which programs are built in crates/NAME/out, and from which sources.
+"""Which programs and libraries are built in crates/NAME/out, and from which sources.
 
-Beside each program that a tool has had proved and built is a file with the digest of the sources
-and of the program: while both are the same, it isn't built again. A program that was built without
-its proofs has no such file (unproved.py): nothing here takes it for a proved one.
+Beside each of them that a tool has had proved and built is a file with the digest of the sources
+and of what was built: while both are the same, it isn't built again. A program that was built
+without its proofs has no such file (unproved.py): nothing here takes it for a proved one.
 """
 import filecmp
 import hashlib
@@ -31,6 +31,23 @@ def program_of(crate):
 def tests_of(crate):
     """The test program of a crate."""
     return program_of(crate) + "_tests"
+
+
+def has_program(crate):
+    return os.path.exists(os.path.join(folder_of(crate), "src", "main.rt"))
+
+
+def top_of(crate):
+    """What is built of a crate that no other stands on: its program or, where it has none, its
+    static library."""
+    if has_program(crate):
+        return program_of(crate)
+    return os.path.join(folder_of(crate), "out", f"lib{crate}.a")
+
+
+def library_of(crate):
+    """The library of a crate as `rt ci` builds it, for the crates above: a folder."""
+    return os.path.join(folder_of(crate), "out", "rlib", f"{crate}.rlib")
 
 
 KRBRELAY = program_of("krbrelay")
@@ -97,14 +114,19 @@ def in_order(crate, deps=None, found=None):
 
 # ---- what is built from what
 
-def sources(crates):
-    """The files that these crates are proved and built from."""
-    yield os.path.join(TOP, "crates.txt")
+def files(crates, *parts):
+    """The files of these crates in these folders of them."""
     for crate in crates:
-        for part in ("src", "specs", "proofs"):
+        for part in parts:
             for folder, folders, names in os.walk(os.path.join(folder_of(crate), part)):
                 folders.sort()
                 yield from (os.path.join(folder, name) for name in sorted(names))
+
+
+def sources(crates):
+    """The files that these crates are proved and built from."""
+    yield os.path.join(TOP, "crates.txt")
+    yield from files(crates, "src", "specs", "proofs")
 
 
 def digest(paths):
@@ -121,19 +143,26 @@ def digest_of(crate):
     return digest(sources(in_order(crate)))
 
 
-def stamp_of(program):
-    return program + ".built_from"
+def stamp_of(built):
+    return built + ".built_from"
 
 
-def is_built(crate, program):
-    """Whether a program of the crate is the one that was built last, from these very sources."""
-    if not os.path.exists(stamp_of(program)) or not os.path.exists(program):
+def digest_of_built(built):
+    """A digest of a program or a library. The file `format` of a library that is a folder has a sum
+    of each other file in it, to which the prover holds them."""
+    return digest([os.path.join(built, "format") if os.path.isdir(built) else built])
+
+
+def is_built(crate, built):
+    """Whether a program or library of the crate is the one that was built last, from these very
+    sources."""
+    if not os.path.exists(stamp_of(built)) or not os.path.exists(built):
         return False
-    with open(stamp_of(program), encoding="utf-8") as file:
-        return file.read() == digest_of(crate) + digest([program])
+    with open(stamp_of(built), encoding="utf-8") as file:
+        return file.read() == digest_of(crate) + digest_of_built(built)
 
 
-def note(program, built_from):
-    """Notes that the program was proved and built from sources of this digest."""
-    with open(stamp_of(program), "w", encoding="utf-8") as file:
-        file.write(built_from + digest([program]))
+def note(built, built_from):
+    """Notes that a program or a library was proved and built from sources of this digest."""
+    with open(stamp_of(built), "w", encoding="utf-8") as file:
+        file.write(built_from + digest_of_built(built))

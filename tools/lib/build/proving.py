@@ -1,5 +1,5 @@
-"""Proves and builds a program, with the crates that it stands on. Crates that don't stand on each
-other are proved side by side, on all cores, as memory allows.
+"""Proves and builds a program or a static library, with the crates that it stands on. Crates that
+don't stand on each other are proved side by side, on all cores, as memory allows.
 
 A line on standard error for each crate has the minutes gone, and an estimate of those left. The
 prover's output is in out/proving/, a file a crate.
@@ -12,7 +12,7 @@ import subprocess
 import sys
 import time
 
-from lib.build import building
+from lib.build import building, static_library
 
 LOGS = os.path.join(building.TOP, "out", "proving")
 TREES = os.path.join(LOGS, "trees")
@@ -246,11 +246,11 @@ def harvest(crate):
 
 
 def start(top):
-    """How the proof of a crate is started: `top` is the program."""
-    deps = building.below()
+    """How the proof of a crate is started: `top` is the one on top."""
+    deps, runs = building.below(), building.has_program(top)
 
     def begin(crate, jobs):
-        words = ["rt", "run" if crate == top else "lib", "--jobs", str(jobs)]
+        words = ["rt", "run" if runs and crate == top else "lib", "--jobs", str(jobs)]
         # The program is run once as it is built: by these words it does nothing to speak of.
         words += ["--", "--version"] if crate == "krbrelay" else []
         with open(log_of(crate), "w", encoding="utf-8") as log:
@@ -260,16 +260,24 @@ def start(top):
 
 
 def prove(top):
-    """Proves and builds a program, and notes it. It raises NotProved where a crate isn't."""
+    """Proves and builds a program or a static library, and notes it. It raises NotProved where a
+    crate isn't."""
     crates, built_from = building.in_order(top), building.digest_of(top)
     deps = building.below()
     schedule = Schedule({crate: deps[crate] for crate in crates}, cores(),
                         int(USED * free_memory()))
-    os.makedirs(LOGS, exist_ok=True)
     say(f"{top} is being proved, on {schedule.cores} cores: {len(crates)} crates,"
         f" the prover's output is in {os.path.relpath(LOGS)}")
     Run(schedule, start(top), harvest, say).all()
-    building.note(building.program_of(top), built_from)
+    building.note(building.top_of(top), built_from)
+
+
+def prove_over_gate(top):
+    """Proves and builds a static library over the libraries that `rt ci` has built."""
+    say(f"{top} is being proved, over the libraries that rt ci has built: the prover's output is"
+        f" {os.path.relpath(log_of(top))}")
+    if not static_library.build(top, cores(), log_of(top)):
+        raise NotProved(top)
 
 
 def fail(crate):
@@ -281,10 +289,14 @@ def fail(crate):
 
 
 def ensure(top):
-    """Proves and builds a program unless it is built. Returns the exit status."""
+    """Proves and builds a program or a static library unless it is built. Returns the exit
+    status."""
+    if building.is_built(top, building.top_of(top)):
+        return 0
+    os.makedirs(LOGS, exist_ok=True)
+    is_over_gate = not building.has_program(top) and static_library.can_build(top)
     try:
-        if not building.is_built(top, building.program_of(top)):
-            prove(top)
+        (prove_over_gate if is_over_gate else prove)(top)
         return 0
     except NotProved as fault:
         return fail(str(fault))

@@ -1,0 +1,55 @@
+"""Proves and builds a static library over the libraries that `rt ci` has built.
+
+`rt ci` proves a static library and compiles none. The libraries that it stands on stay in
+crates/NAME/out/rlib, and `tools/test` notes from which sources they were built (building.py). Here
+the kit's prover reads these, proves the static library itself from nothing, and only then compiles
+it. `rt lib` takes no library of `rt ci`: it proves all of them again.
+"""
+import os
+import shutil
+import subprocess
+
+from lib.build import building
+
+MOST_JOBS = 4
+
+
+def kit():
+    """The kit's folder, in which the command rt is in bin/."""
+    return os.path.dirname(os.path.dirname(os.path.realpath(shutil.which("rt"))))
+
+
+def can_build(crate):
+    """Whether each library that it stands on was built by `rt ci`, from the present sources."""
+    return all(building.is_built(it, building.library_of(it))
+               for it in building.in_order(crate)[:-1])
+
+
+def words_for(crate, jobs):
+    """The words for the prover, as `rt ci` has them, with those of a compiler. The crate names
+    std and its own libraries, and no C to be linked."""
+    place = kit()
+    words = [f"{place}/bin/rattle", "build", "--crate-name", crate, "src/lib.rt",
+             "--crate-type", "staticlib", "--links", f"{crate}=", "--jobs", str(jobs),
+             "--antt-project", f"{place}/rattle/logic/antt-project.json",
+             "--logic-built", f"{place}/logic_built", "--toolchain", f"{place}/toolchain",
+             "--extern", f"std={place}/rlibs/std.rlib", "-L", f"dependency={place}/rlibs"]
+    for it in building.below()[crate]:
+        words += ["--extern", f"{it}={building.library_of(it)}"]
+    for it in building.in_order(crate)[:-1]:
+        words += ["-L", f"dependency={os.path.dirname(building.library_of(it))}"]
+    return [*words, "-o", building.top_of(crate)]
+
+
+def build(crate, cores, log):
+    """Proves and builds the static library, with what is said in a file. Returns whether it is
+    proved; then it is noted."""
+    built_from = building.digest_of(crate)
+    os.makedirs(os.path.dirname(building.top_of(crate)), exist_ok=True)
+    with open(log, "w", encoding="utf-8") as file:
+        done = subprocess.run(words_for(crate, min(cores, MOST_JOBS)), check=False, stdout=file,
+                              cwd=building.folder_of(crate), stdin=subprocess.DEVNULL,
+                              stderr=subprocess.STDOUT)
+    if done.returncode == 0:
+        building.note(building.top_of(crate), built_from)
+    return done.returncode == 0
