@@ -4,8 +4,9 @@ that don't stand on each other are proved side by side, on all cores, as memory 
 
     tools/proving.py CRATE      krbrelay, krb_bench or krb_c, unless it is built from these sources
 
-Of krb_c, the libraries that `rt ci` has built from these sources are proved no second time. A line on standard error for each crate has the minutes gone, and an estimate of those left. The
-prover's output is in out/proving/, a file a crate. It ends with 1 if a crate isn't proved.
+Of krb_c, the libraries that `rt ci` has built from these sources are proved no second time. A line
+on standard error for each crate has the minutes gone, and an estimate of those left. The prover's
+output is in out/proving/, a file a crate. It ends with 1 if a crate isn't proved.
 Needed: rt.
 """
 import signal

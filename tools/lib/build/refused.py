@@ -1,10 +1,11 @@
 """Whether the prover refused all mutants of a folder must-fail-more/, as its crate is now.
 
-`rt ci` tries the mutants of must-fail/ in each run, and none of must-fail-more/. `tools/wrong_bodies
---try` tries these, and if all are refused at their goals it notes the digest of what it tried in
-the folder's file refused.md: the crate's sources, the definitions of the crates below, the mutants
-and the list of their goals. `tools/wrong_bodies` fails if the digest is another one now. A contract
-of a crate below that changes asks for no new try: it is proved, so it makes no mutant right.
+`rt ci` tries the mutants of must-fail/ in each run, and none of must-fail-more/.
+`tools/wrong_bodies --try` tries these. If all are refused at their goals, it notes the digest of
+what it tried in the folder's file refused.md: the crate's sources, the definitions of the crates
+below, the mutants and the list of their goals. `tools/wrong_bodies` fails if the digest is another
+one now. A contract of a crate below that changes asks for no new try: it is proved, so it makes no
+mutant right.
 """
 import os
 import re
