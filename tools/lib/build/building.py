@@ -7,6 +7,7 @@ without its proofs has no such file (unproved.py): nothing here takes it for a p
 import filecmp
 import hashlib
 import os
+import shutil
 import subprocess
 import sys
 
@@ -16,6 +17,14 @@ TOP = os.path.dirname(TOOLS)
 
 def folder_of(crate):
     return os.path.join(TOP, "crates", crate)
+
+
+def prover():
+    """The kit's program that checks, formats and compiles: it is beside the command rt."""
+    command = shutil.which("rt")
+    if command is None:
+        sys.exit("there is no command rt, which is the kit's")
+    return os.path.join(os.path.dirname(os.path.realpath(command)), "rattle")
 
 
 def text_of(path):

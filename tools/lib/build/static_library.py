@@ -6,17 +6,11 @@ the kit's prover reads these, proves the static library itself from nothing, and
 it. `rt lib` takes no library of `rt ci`: it proves all of them again.
 """
 import os
-import shutil
 import subprocess
 
 from lib.build import building
 
 MOST_JOBS = 4
-
-
-def kit():
-    """The kit's folder, in which the command rt is in bin/."""
-    return os.path.dirname(os.path.dirname(os.path.realpath(shutil.which("rt"))))
 
 
 def can_build(crate):
@@ -28,8 +22,9 @@ def can_build(crate):
 def words_for(crate, jobs):
     """The words for the prover, as `rt ci` has them, with those of a compiler. The crate names
     std and its own libraries, and no C to be linked."""
-    place = kit()
-    words = [f"{place}/bin/rattle", "build", "--crate-name", crate, "src/lib.rt",
+    prover = building.prover()
+    place = os.path.dirname(os.path.dirname(prover))    # the kit's folder
+    words = [prover, "build", "--crate-name", crate, "src/lib.rt",
              "--crate-type", "staticlib", "--links", f"{crate}=", "--jobs", str(jobs),
              "--antt-project", f"{place}/rattle/logic/antt-project.json",
              "--logic-built", f"{place}/logic_built", "--toolchain", f"{place}/toolchain",
