@@ -34,7 +34,7 @@ def place(crate):
 
 
 def text(crate):
-    """What the note says if all mutants are refused now."""
+    """What the note says if all mutants are refused as the files are now."""
     below = building.in_order(crate)[:-1]
     folder = os.path.dirname(place(crate))
     mutants = sorted(it for it in os.listdir(folder) if it != NOTE)
@@ -51,6 +51,13 @@ def is_noted(crate):
         return False
 
 
-def note(crate):
+def note(crate, tried):
+    """Notes that all mutants were refused; `tried` is what the note said when the try began."""
     with open(place(crate), "w", encoding="utf-8") as file:
-        file.write(text(crate))
+        file.write(tried)
+
+
+def forget(crate):
+    """Removes the note, since a mutant wasn't refused."""
+    if os.path.exists(place(crate)):
+        os.remove(place(crate))
