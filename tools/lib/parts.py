@@ -81,6 +81,7 @@ PARTS = [
     Part("tools/test_tables", 1),
     Part("tools/vector_tables.py --check", 1),
     Part("tools/test_building", 5, (COMPILER, CRYPTOGRAPHY)),
+    Part("tools/test_parts", 5, (COMPILER, CRYPTOGRAPHY, MAKE, SQLITE)),
     Part("tools/test_picture", 2),
     Part("tools/figure --check", 1),
     Part("tools/picture --check", 1, (PROGRAM,)),

@@ -1,0 +1,103 @@
+"""A copy of the repository for the tests of tools, in which scripts take the place of the kit and
+of its prover: they prove nothing, and make scripts as programs, which note that they were run."""
+import os
+import shutil
+import signal
+import subprocess
+
+from lib.build import building
+
+LIMIT = 60      # seconds for one command
+# What takes the place of the kit: the words that it was called with are noted in $NOTES, as what
+# its programs are called with.
+KIT = r'''#!/bin/sh
+name=$(basename "$PWD")
+note() { echo "$*" >> "$NOTES"; }
+program() {
+    printf '#!/bin/sh\n[ "$1" = --version ] && echo krbrelay 0.1.0 && exit\n' > "$1"
+    printf 'echo %s "$*" >> "$NOTES"\necho %s\nexit 3\n' "$2" "$2" >> "$1"
+    chmod 755 "$1"
+}
+case $1 in
+version) echo kit-of-the-test ;;
+try)
+    note try; shift 2
+    if [ "$KEEPS" = no ]; then [ "$1" = --version ] || { echo tried; exit 3; }; exit 0; fi
+    folder=$(mktemp -d); program "$folder/program" unproved; sleep 0.5; rm -r "$folder" ;;
+lib | run)
+    note "begin $name"
+    for it in ../*; do [ ! -e "$it/locked" ] || note "waits $name"; : > "$it/locked"; done
+    sleep 0.1
+    [ "$name" != "$FAILS" ] || { echo goal left; exit 1; }
+    mkdir -p out
+    if [ "$1" = run ]; then program "out/$name" proved; fi
+    if [ "$name" = krb_c ]; then echo of rt > out/libkrb_c.a; fi
+    rm -f ../*/locked
+    note "end $name" ;;
+ci)
+    note "begin ci"
+    cat "$SAYS"; [ -z "$CHANGES" ] || echo >> "$CHANGES"
+    note "end ci"
+    exit "${CI_STATUS:-0}" ;;
+esac
+'''
+# Likewise for the prover: it formats every text, and what it builds is the last of its words.
+PROVER = r'''#!/bin/sh
+[ "$1" = build ] || exit 0
+echo "build $*" >> "$NOTES"
+[ "$FAILS" != krb_c ] || { echo goal left; exit 1; }
+for made; do :; done
+echo of the prover > "$made"
+'''
+
+
+def write_script(path, text):
+    with open(path, "w", encoding="utf-8") as file:
+        file.write(text)
+    os.chmod(path, 0o755)
+
+
+class Copy:
+    """The repository's sources and tools in a folder, and what takes the place of the kit."""
+
+    def __init__(self, folder):
+        self.top, self.notes = os.path.join(folder, "copy"), os.path.join(folder, "notes")
+        ignored = shutil.ignore_patterns("out", "__pycache__", ".git", "must-fail*")
+        shutil.copytree(building.TOP, self.top, ignore=ignored)
+        programs = os.path.join(folder, "bin")
+        os.mkdir(programs)
+        write_script(os.path.join(programs, "rt"), KIT)
+        write_script(os.path.join(programs, "rattle"), PROVER)
+        self.given = {**os.environ, "NOTES": self.notes,
+                      "PATH": programs + ":" + os.environ["PATH"]}
+
+    def begin(self, words, **given):
+        """Begins a tool, with nothing noted. An interrupt ends it, also where the test ignores
+        interrupts, as what a shell starts in the background does."""
+        open(self.notes, "w", encoding="utf-8").close()
+        tool, *rest = words.split()
+        return subprocess.Popen([self.path("tools", tool), *rest], stdin=subprocess.DEVNULL,
+                                stdout=subprocess.PIPE, stderr=subprocess.PIPE, text=True,
+                                env={**self.given, **given},
+                                preexec_fn=lambda: signal.signal(signal.SIGINT, signal.SIG_DFL))
+
+    def run(self, words, **given):
+        """Runs a tool. Returns its status, output and standard error, and what was noted."""
+        with self.begin(words, **given) as ran:
+            try:
+                out, err = ran.communicate(timeout=LIMIT)
+            finally:
+                ran.kill()
+        return ran.returncode, out, err, self.noted()
+
+    def noted(self):
+        """What the tool has called until now, a line each."""
+        with open(self.notes, encoding="utf-8", errors="replace") as file:
+            return file.read().splitlines()
+
+    def path(self, *parts):
+        return os.path.join(self.top, *parts)
+
+    def append(self, text, *parts):
+        with open(self.path(*parts), "a", encoding="utf-8") as file:
+            file.write(text)
