@@ -1,5 +1,6 @@
 """The parts of tools/test, what each of them needs, and the table of all tools."""
 import dataclasses
+import functools
 import os
 import shutil
 import subprocess
@@ -24,6 +25,7 @@ def has(command):
     return shutil.which(command) is not None
 
 
+@functools.cache
 def runs(*words):
     how = dict(stdin=subprocess.DEVNULL, stdout=subprocess.DEVNULL, stderr=subprocess.DEVNULL)
     try:
