@@ -8,9 +8,13 @@ use Rattle.krb_keys.specs.Nfold.{nfold}
 abbrev pub constant : ℕ → ℕ → List ℕ
 constant usage tail = to_be_bytes w32 usage ++ tail ∷ []
 
--- DK: the blocks K1 = E(Key, n-fold(Constant)) and K2 = E(Key, K1), joined and cut to the key's
--- length
-unfoldable pub dk : List ℕ → ℕ → ℕ → List ℕ
-dk key usage tail =
-    let first = aes key (nfold 16 (constant usage tail)) in
+-- DR: the blocks K1 = E(Key, Constant) and K2 = E(Key, K1), joined and cut to the key's length, for
+-- a constant of one block. Its bytes are the derived key (random-to-key of RFC 3962, section 6)
+unfoldable pub dr : List ℕ → List ℕ → List ℕ
+dr key block =
+    let first = aes key block in
     take (length key) (first ++ aes key first)
+
+-- DK: DR of the constant, n-folded to a block
+unfoldable pub dk : List ℕ → ℕ → ℕ → List ℕ
+dk key usage tail = dr key (nfold 16 (constant usage tail))

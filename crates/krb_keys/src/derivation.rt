@@ -1,5 +1,6 @@
 ghost use Rattle.std.specs.Prelude.{◌≡◌, ◌++◌, length};
-ghost use Rattle.krb_keys.specs.Derivation.{constant, dk};
+ghost use Rattle.krb_aes.specs.Keys.{expanded_key};
+ghost use Rattle.krb_keys.specs.Derivation.{constant, dk, dr};
 
 use crate::fold::nfold;
 use krb_aes::{CipherKey, Schedule};
@@ -31,6 +32,25 @@ fn joined(first: &[u8; 16], second: &[u8; 16]) -> [u8; 32]
     both
 }
 
+/// The key that `key` gives for a constant that is n-folded to a block already, DR of RFC 3961
+/// section 5.1, of the same size as `key`. The schedule has the round keys of `key`.
+///
+/// For several keys from one, the schedule is made once, and the n-fold of a constant that never
+/// changes needn't be computed.
+pub fn derive_folded(key: &CipherKey, schedule: &Schedule, folded: &[u8; 16]) -> CipherKey
+    requires { schedule.now ≡ expanded_key key.now }
+    ensures value { result ≡ dr key.now folded.now }
+    ensures size { length result ≡ length key.now }
+{
+    let first = schedule.encrypt_block(folded);
+    if key.bytes().len() == 32 {
+        let second = schedule.encrypt_block(&first);
+        CipherKey::from_256(joined(&first, &second))
+    } else {
+        CipherKey::from_128(first)
+    }
+}
+
 /// The key that `key` gives for a key usage and a tail, DK of RFC 3961 section 5.1, of the same
 /// size as `key`.
 ///
@@ -43,13 +63,8 @@ pub fn derive(key: &CipherKey, usage: u32, tail: u8) -> CipherKey
     let mut block = [0u8; 16];
     nfold(&constant(usage, tail), &mut block);
     let mut schedule = Schedule::new(key);
-    let first = schedule.encrypt_block(&block);
-    let second = schedule.encrypt_block(&first);
+    let derived = derive_folded(key, &schedule, &block);
     schedule.wipe();
     schedule.spend();
-    if key.bytes().len() == 32 {
-        CipherKey::from_256(joined(&first, &second))
-    } else {
-        CipherKey::from_128(first)
-    }
+    derived
 }

@@ -17,7 +17,7 @@ mod fold;
 mod hmac;
 mod mac_key;
 
-pub use derivation::{CHECKSUM_TAIL, ENCRYPTION_TAIL, INTEGRITY_TAIL, derive};
+pub use derivation::{CHECKSUM_TAIL, ENCRYPTION_TAIL, INTEGRITY_TAIL, derive, derive_folded};
 pub use equality::mac_equal;
 pub use fold::{lcm_law, nfold};
 pub use hmac::{hmac_length_law, hmac_sha1, hmac96};

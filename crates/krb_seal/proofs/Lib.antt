@@ -7,3 +7,4 @@ pub mod Frames
 pub mod FrameSizes
 pub mod Checking
 pub mod Authentics
+pub mod Constants

@@ -1,22 +1,29 @@
 -- The keys that protect messages, derived from a session key (RFC 3961 section 5.3) with the key
--- usages of RFC 4120 section 7.5.1: 13 for the encrypted part of KRB-PRIV, 15 for the checksum of
--- KRB-SAFE.
+-- usages of RFC 4120 section 7.5.1.
 use Rattle.std.specs.Prelude.{ℕ, List, ◌++◌}
 use Rattle.krb_aes.specs.Stealing.{cts_of}
 use Rattle.krb_keys.specs.Hmac.{hmac96}
 use Rattle.krb_keys.specs.Derivation.{dk}
 
+-- The key usage of the encrypted part of KRB-PRIV.
+abbrev pub private_usage : ℕ
+private_usage = 13
+
+-- The key usage of the checksum of KRB-SAFE.
+abbrev pub checksum_usage : ℕ
+checksum_usage = 15
+
 -- Kc, under which the checksum of KRB-SAFE is made.
 abbrev pub checksum_key : List ℕ → List ℕ
-checksum_key key = dk key 15 0x99
+checksum_key key = dk key checksum_usage 0x99
 
 -- Ke, under which the part of KRB-PRIV is enciphered.
 abbrev pub encryption_key : List ℕ → List ℕ
-encryption_key key = dk key 13 0xAA
+encryption_key key = dk key private_usage 0xAA
 
 -- Ki, under which the code of that part is made.
 abbrev pub integrity_key : List ℕ → List ℕ
-integrity_key key = dk key 13 0x55
+integrity_key key = dk key private_usage 0x55
 
 -- The code of a text that is encrypted beside it.
 abbrev pub tag_of : List ℕ → List ℕ → List ℕ

@@ -1,15 +1,18 @@
--- The keys beside a session key are those derived from it, until all of them are wiped.
-use Rattle.std.specs.Prelude.{◌≡◌, true, false}
-use Rattle.krb_aes.specs.Keys.{expanded_key, AreZero}
+-- The keys beside a session key are those derived from it, of each mode that was asked for, until
+-- all of them are wiped.
+use Rattle.std.specs.Prelude.{◌≡◌, true, false, IfSome, MatchOption}
+use Rattle.krb_aes.specs.Keys.{AreZero}
 use Rattle.krb_keys.specs.MacKey.{HoldsKey, IsForgotten}
-use Rattle.krb_seal.specs.Keys.{checksum_key, encryption_key, integrity_key}
+use Rattle.krb_seal.specs.declared.session.Mode.TheVariants.{Safe, Priv}
+use Rattle.krb_seal.specs.Keys.{checksum_key}
+use Rattle.krb_seal.specs.PrivateKeys.{AreForgotten, ArePrivateKeys}
 use Rattle.krb_seal.specs.declared.keys.Keys.TheInside.{Inside}
 
 pub record AreDerived (a : Inside) : Type 0 where
-  pub checksum : a.wiped ≡ false → HoldsKey a.checksum (checksum_key a.base)
-  pub integrity : a.wiped ≡ false → HoldsKey a.integrity (integrity_key a.base)
-  pub encryption : a.wiped ≡ false → a.encryption ≡ expanded_key (encryption_key a.base)
+  pub checksum : a.wiped ≡ false
+      → MatchOption a.checksum (a.mode ≡ Priv) (λ key. HoldsKey key (checksum_key a.base))
+  pub private : a.wiped ≡ false
+      → MatchOption a.private (a.mode ≡ Safe) (λ keys. ArePrivateKeys a.end a.base keys)
   pub no_base : a.wiped ≡ true → AreZero a.base
-  pub no_checksum : a.wiped ≡ true → IsForgotten a.checksum
-  pub no_integrity : a.wiped ≡ true → IsForgotten a.integrity
-  pub no_encryption : a.wiped ≡ true → AreZero a.encryption
+  pub no_checksum : a.wiped ≡ true → IfSome a.checksum IsForgotten
+  pub no_private : a.wiped ≡ true → IfSome a.private AreForgotten

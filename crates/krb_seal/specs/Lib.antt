@@ -7,11 +7,13 @@ pub mod Sealer
 pub mod Etype
 pub mod TypedKey
 pub mod SessionKeyInside
+pub mod PrivateKeys
 pub mod HeldKeys
 pub mod KeysInside
 pub mod Opens
 pub mod Authentic
 pub mod Opening
+pub mod OpeningInside
 pub mod OpenerInside
 pub mod Body
 pub mod Checksum

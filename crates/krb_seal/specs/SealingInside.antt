@@ -1,5 +1,6 @@
 -- The state of a sealer, from its parts.
-use Rattle.std.specs.Prelude.{◌≤◌}
+use Rattle.std.specs.Prelude.{◌≡◌, ◌≤◌}
+use Rattle.krb_seal.specs.declared.private_keys.End.TheVariants.{Sealer}
 use Rattle.krb_seal.specs.declared.sealing.Sealing.TheInside.{Inside}
 use Rattle.krb_seal.specs.Etype.{number_of}
 use Rattle.krb_seal.specs.Session.{HasShortAddresses}
@@ -18,3 +19,5 @@ state_of a =
 pub record IsReady (a : Inside) : Type 0 where
   pub session : HasShortAddresses a.session
   pub number : a.next ≤ end_of_numbers
+  pub end : a.keys.end ≡ Sealer
+  pub mode : a.keys.mode ≡ a.session.mode

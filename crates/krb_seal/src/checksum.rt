@@ -2,6 +2,7 @@
 
 ghost use Rattle.std.specs.Prelude.{◌≡◌, false};
 ghost use Rattle.krb_der.specs.Body.{InRange};
+ghost use Rattle.krb_seal.specs.declared.session.Mode.TheVariants.{Safe};
 ghost use Rattle.krb_seal.specs.Checksum.{Sums};
 
 use crate::etype::CODE_SIZE;
@@ -16,6 +17,7 @@ use std::alloc::Global;
 /// message may be.
 pub fn checksum_of(alloc: Global, keys: &Keys, m: &SafeRef<'_>) -> Result<[u8; CODE_SIZE], DerError>
     requires live { keys.now.wiped ≡ false }
+    requires mode { keys.now.mode ≡ Safe }
     requires range { InRange m.now.body }
     ensures { Sums keys.now.key m.now result }
 {

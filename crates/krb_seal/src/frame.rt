@@ -6,6 +6,8 @@ ghost use Rattle.krb_seal.specs.declared.session.Mode.TheVariants.{Safe, Priv};
 ghost use Rattle.krb_aes.specs.Words.{AreBytes};
 ghost use Rattle.krb_seal.specs.Etype.{number_of};
 ghost use Rattle.krb_seal.specs.Keys.{encrypted};
+ghost use Rattle.krb_seal.specs.HeldKeys.{IsEnciphering, fresh_keys};
+ghost use Rattle.krb_seal.specs.declared.private_keys.End.TheVariants.{Sealer};
 ghost use Rattle.krb_seal.specs.Seals.{SealsBody, unsigned, unenciphered};
 ghost use Rattle.krb_base.specs.Limits.{frame_limit, user_data_limit};
 ghost use Rattle.krb_der.specs.Size.{HasPrivateSize};
@@ -36,6 +38,7 @@ fn safe_frame(
     confounder: [u8; 16],
 ) -> Result<Vec<u8>, AllocError>
     requires live { keys.now.wiped ≡ false }
+    requires mode { keys.now.mode ≡ Safe }
     requires draft { draft.now ≡ unsigned etype draft.now.body }
     requires range { InRange draft.now.body }
     requires small { IsSmall draft.now.body }
@@ -48,7 +51,7 @@ fn safe_frame(
 
 /// Enciphers a text in place, and gives the code that follows it.
 fn encipher(keys: &Keys, text: &mut [u8]) -> [u8; CODE_SIZE]
-    requires live { keys.now.wiped ≡ false }
+    requires keys { IsEnciphering keys.now }
     requires long { 16 ≤ length text.old }
     ensures encrypted { text.new ++ result ≡ encrypted keys.now.key text.old }
     ensures bytes { AreBytes text.old }
@@ -61,7 +64,7 @@ fn encipher(keys: &Keys, text: &mut [u8]) -> [u8; CODE_SIZE]
 
 /// The KRB-PRIV of a draft.
 fn finished(keys: &Keys, draft: Draft) -> Result<Vec<u8>, AllocError>
-    requires live { keys.now.wiped ≡ false }
+    requires keys { IsEnciphering keys.now }
     requires within { draft.start ≤ length draft.bytes.items }
     requires long { 16 ≤ length (drop draft.start draft.bytes.items) }
     ensures frame { IfOk result (λ frame. frame.items
@@ -97,7 +100,7 @@ fn priv_frame(
     body: &BodyRef<'_>,
     confounder: [u8; 16],
 ) -> Result<Vec<u8>, AllocError>
-    requires live { keys.now.wiped ≡ false }
+    requires keys { IsEnciphering keys.now }
     requires range { InRange body.now }
     requires small { IsSmall body.now }
     ensures { IfOk result (λ frame. SealsBody Priv (number_of etype) keys.now.key confounder
@@ -117,7 +120,7 @@ pub fn frame_of(
     body: BodyRef<'_>,
     confounder: [u8; 16],
 ) -> Result<Vec<u8>, AllocError>
-    requires live { keys.now.wiped ≡ false }
+    requires keys { keys.now ≡ fresh_keys keys.now.key Sealer mode }
     requires range { InRange body }
     requires small { IsSmall body }
     ensures { IfOk result (λ frame. SealsBody mode (number_of etype) keys.now.key confounder

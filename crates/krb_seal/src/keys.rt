@@ -1,92 +1,112 @@
 //! A session key with the keys derived from it.
 
 ghost use Rattle.std.specs.Prelude.{◌≡◌, ◌↔◌, ◌≤◌, ◌+◌, ◌++◌, IsTrue, false, length};
-ghost use Rattle.krb_aes.specs.Keys.{expanded_key};
 ghost use Rattle.krb_aes.specs.Stealing.{cts_of};
 ghost use Rattle.krb_aes.specs.Words.{AreBytes};
 ghost use Rattle.krb_keys.specs.Hmac.{hmac96, joined};
-ghost use Rattle.krb_keys.specs.MacKey.{HoldsKey};
-ghost use Rattle.krb_keys.specs.Derivation.{dk};
+ghost use Rattle.krb_seal.specs.declared.private_keys.End.TheVariants.{Sealer, Opener};
+ghost use Rattle.krb_seal.specs.declared.session.Mode.TheVariants.{Safe, Priv};
 ghost use Rattle.krb_seal.specs.Etype.{code_size, confounder_size};
 ghost use Rattle.krb_seal.specs.Keys.{checksum_key, encryption_key, tag_of};
 ghost use Rattle.krb_seal.specs.Opens.{IsEncryption};
-ghost use Rattle.krb_seal.specs.HeldKeys.{fresh_keys, wiped_keys};
+ghost use Rattle.krb_seal.specs.HeldKeys.{fresh_keys, keys_in_mode, wiped_keys};
+ghost use Rattle.krb_seal.specs.PrivateKeys.{ArePrivateKeys};
 
+use crate::derived::checksum_key;
 use crate::etype::CODE_SIZE;
-use krb_aes::{CipherKey, Schedule, cts_decrypt, cts_encrypt};
+use crate::private_keys::{End, PrivateKeys};
+use crate::session::Mode;
+use krb_aes::CipherKey;
 use krb_base::Bytes;
-use krb_keys::{CHECKSUM_TAIL, ENCRYPTION_TAIL, INTEGRITY_TAIL, MacKey, derive, mac_equal};
+use krb_keys::{MacKey, mac_equal};
 use std::marker::Model;
 
-/// The key usage of the encrypted part of KRB-PRIV (RFC 4120 section 7.5.1).
-const PRIV_USAGE: u32 = 13;
-
-/// The key usage of the checksum of KRB-SAFE.
-const SAFE_USAGE: u32 = 15;
-
-/// A derived key, ready for message codes.
-fn derived_mac_key(base: &CipherKey, usage: u32, tail: u8) -> MacKey
-    ensures { HoldsKey result (dk base.now usage tail) }
-{
-    let mut key = derive(base, usage, tail);
-    let mac_key = MacKey::new(key.bytes());
-    key.wipe();
-    key.spend();
-    mac_key
+/// Overwrites and ends a key for checksums, if there is one.
+fn end_checksum(key: Option<MacKey>) {
+    if let Some(mut key) = key {
+        key.wipe();
+        key.spend();
+    }
 }
 
-/// The round keys of a derived key.
-fn derived_schedule(base: &CipherKey, usage: u32, tail: u8) -> Schedule
-    ensures { result ≡ expanded_key (dk base.now usage tail) }
-{
-    let mut key = derive(base, usage, tail);
-    let schedule = Schedule::new(&key);
-    key.wipe();
-    key.spend();
-    schedule
+/// The same of the keys of KRB-PRIV.
+fn end_private(keys: Option<PrivateKeys>) {
+    if let Some(mut keys) = keys {
+        keys.wipe();
+        keys.spend();
+    }
 }
 
-/// A session key with the three keys derived from it, each ready for use (RFC 3961 section 5.3).
+/// A session key with the keys derived from it that its end needs in its mode, each ready for use
+/// (RFC 3961 section 5.3).
 ///
-/// Contracts see the session key, and whether all keys were wiped. `Keys` aren't `Drop`: they end
-/// by [`Keys::spend`].
+/// Contracts see the session key, the end, the mode, and whether all keys were wiped. `Keys` aren't
+/// `Drop`: they end by [`Keys::spend`].
 pub struct Keys {
     base: CipherKey,
-    // Kc, for the checksum of KRB-SAFE.
-    checksum: MacKey,
-    // Ki and Ke, for the encrypted part of KRB-PRIV.
-    integrity: MacKey,
-    encryption: Schedule,
+    end: End,
+    mode: Mode,
+    // Kc, for the checksum of KRB-SAFE, once that mode was asked for.
+    checksum: Option<MacKey>,
+    // Ki and Ke, for the encrypted part of KRB-PRIV, once that mode was asked for.
+    private: Option<PrivateKeys>,
     wiped: bool,
 }
 
 impl Model for Keys {
-    ghost use Rattle.krb_seal.specs.Opens.{IsEncryption};
     ghost use Rattle.krb_seal.specs.HeldKeys.{HeldKeys};
 
     ghost Value = { HeldKeys };
 
     ghost use Rattle.krb_seal.specs.KeysInside.{AreDerived};
 
-    ghost view = { λ a. record { key = a.base; wiped = a.wiped } };
+    ghost view = { λ a. record { key = a.base; end = a.end; mode = a.mode; wiped = a.wiped } };
 
     ghost invariant = { AreDerived };
 }
 
 impl Keys {
-    /// Derives the keys of a session key.
-    pub fn new(base: CipherKey) -> Keys
-        ensures { result ≡ fresh_keys base }
+    /// Derives the keys of a session key for an end and a mode.
+    pub fn new(base: CipherKey, end: End, mode: Mode) -> Keys
+        ensures { result ≡ fresh_keys base end mode }
     {
-        let checksum = derived_mac_key(&base, SAFE_USAGE, CHECKSUM_TAIL);
-        let integrity = derived_mac_key(&base, PRIV_USAGE, INTEGRITY_TAIL);
-        let encryption = derived_schedule(&base, PRIV_USAGE, ENCRYPTION_TAIL);
+        let checksum = match mode {
+            Mode::Safe => Some(checksum_key(&base)),
+            Mode::Priv => None,
+        };
+        let private = match mode {
+            Mode::Safe => None,
+            Mode::Priv => Some(PrivateKeys::new(end, &base)),
+        };
         Keys {
             base,
+            end,
+            mode,
             checksum,
-            integrity,
-            encryption,
+            private,
             wiped: false,
+        }
+    }
+
+    /// Serves this mode from now on. Its keys are derived, unless they are there.
+    pub fn set_mode(&mut self, mode: Mode)
+        ensures { self.new ≡ keys_in_mode self.old mode }
+    {
+        self.mode = mode;
+        if self.wiped {
+            return;
+        }
+        match mode {
+            Mode::Safe => {
+                if self.checksum.is_none() {
+                    end_checksum(self.checksum.replace(checksum_key(&self.base)));
+                }
+            }
+            Mode::Priv => {
+                if self.private.is_none() {
+                    end_private(self.private.replace(PrivateKeys::new(self.end, &self.base)));
+                }
+            }
         }
     }
 
@@ -102,9 +122,12 @@ impl Keys {
         ensures { self.new ≡ wiped_keys self.old }
     {
         self.base.wipe();
-        self.checksum.wipe();
-        self.integrity.wipe();
-        self.encryption.wipe();
+        if let Some(key) = &mut self.checksum {
+            key.wipe();
+        }
+        if let Some(keys) = &mut self.private {
+            keys.wipe();
+        }
         self.wiped = true;
     }
 
@@ -112,40 +135,55 @@ impl Keys {
     pub fn spend(self) {
         let Keys {
             mut base,
-            mut checksum,
-            mut integrity,
-            mut encryption,
+            end: _,
+            mode: _,
+            checksum,
+            private,
             wiped: _,
         } = self;
         base.wipe();
         base.spend();
-        checksum.wipe();
-        checksum.spend();
-        integrity.wipe();
-        integrity.spend();
-        encryption.wipe();
-        encryption.spend();
+        end_checksum(checksum);
+        end_private(private);
     }
 
     /// The checksum of KRB-SAFE over these parts, one after another.
     pub fn checksum(&self, parts: &[&[u8]]) -> [u8; CODE_SIZE]
-        requires { self.now.wiped ≡ false }
+        requires live { self.now.wiped ≡ false }
+        requires mode { self.now.mode ≡ Safe }
         ensures { result ≡ hmac96 (checksum_key self.now.key) (joined parts.now) }
     {
-        self.checksum.hmac96(parts)
+        match &self.checksum {
+            Some(key) => key.hmac96(parts),
+            None => unreachable!(),
+        }
+    }
+
+    /// The keys of KRB-PRIV.
+    fn private(&self) -> &PrivateKeys
+        requires live { self.now.wiped ≡ false }
+        requires mode { self.now.mode ≡ Priv }
+        ensures { ArePrivateKeys self.now.end self.now.key result.now }
+    {
+        match &self.private {
+            Some(keys) => keys,
+            None => unreachable!(),
+        }
     }
 
     /// The code of a text that is encrypted beside it.
     pub fn tag(&self, text: &[u8]) -> [u8; CODE_SIZE]
-        requires { self.now.wiped ≡ false }
+        requires live { self.now.wiped ≡ false }
+        requires mode { self.now.mode ≡ Priv }
         ensures { result ≡ tag_of self.now.key text.now }
     {
-        self.integrity.hmac96(&[text])
+        self.private().tag(text)
     }
 
     /// Whether the code is that of a text.
     pub fn is_tag(&self, tag: &[u8; CODE_SIZE], text: &[u8]) -> bool
-        requires { self.now.wiped ≡ false }
+        requires live { self.now.wiped ≡ false }
+        requires mode { self.now.mode ≡ Priv }
         ensures { IsTrue result ↔ (tag.now ≡ tag_of self.now.key text.now) }
     {
         mac_equal(tag, &self.tag(text))
@@ -154,26 +192,32 @@ impl Keys {
     /// Enciphers a text in place.
     pub fn encipher(&self, text: &mut [u8])
         requires live { self.now.wiped ≡ false }
+        requires mode { self.now.mode ≡ Priv }
+        requires end { self.now.end ≡ Sealer }
         requires long { 16 ≤ length text.old }
         ensures { text.new ≡ cts_of (encryption_key self.now.key) text.old }
     {
-        cts_encrypt(&self.encryption, text);
+        self.private().encipher(text);
     }
 
     /// Deciphers a text in place.
     pub fn decipher(&self, text: &mut [u8])
         requires live { self.now.wiped ≡ false }
+        requires mode { self.now.mode ≡ Priv }
+        requires end { self.now.end ≡ Opener }
         requires long { 16 ≤ length text.old }
         ensures image { cts_of (encryption_key self.now.key) text.new ≡ text.old }
         ensures size { length text.new ≡ length text.old }
         ensures bytes { AreBytes text.new }
     {
-        cts_decrypt(&self.encryption, text);
+        self.private().decipher(text);
     }
 
     /// The text and the code of a cipher.
     pub fn decrypted(&self, cipher: Bytes) -> (Vec<u8>, [u8; CODE_SIZE])
         requires live { self.now.wiped ≡ false }
+        requires mode { self.now.mode ≡ Priv }
+        requires end { self.now.end ≡ Opener }
         requires long { confounder_size + code_size ≤ length cipher }
         ensures { IsEncryption self.now.key cipher result.0.items result.1 }
     {

@@ -24,6 +24,7 @@
 mod boxed;
 mod checks;
 mod checksum;
+mod derived;
 mod etype;
 mod frame;
 mod keys;
@@ -31,6 +32,8 @@ mod kinds;
 mod laws;
 mod limit;
 mod opener;
+mod opening;
+mod private_keys;
 mod refusal;
 mod seal_error;
 mod sealer;
@@ -38,6 +41,7 @@ mod sealing;
 mod session;
 mod session_key;
 
+pub use derived::folded_constants;
 pub use etype::Etype;
 pub use kinds::{Aes128Sealer, Aes256Sealer, SessionSealer};
 pub use laws::{authentic_laws, one_outcome, opens_at_its_number_alone};

@@ -9,6 +9,7 @@ ghost use Rattle.krb_seal.specs.Sealer.{HasFrameSize, SealerState, SealsNext, ad
 use crate::etype::Etype;
 use crate::frame::{frame_of, frame_size};
 use crate::keys::Keys;
+use crate::private_keys::End;
 use crate::seal_error::SealError;
 use crate::session::{Mode, Session};
 use crate::session_key::SessionKey;
@@ -48,7 +49,7 @@ impl Sealing {
         let (etype, held) = key.into_parts();
         Sealing {
             etype,
-            keys: Keys::new(held),
+            keys: Keys::new(held, End::Sealer, session.mode),
             next: u64::from(session.first),
             session,
         }
@@ -118,11 +119,12 @@ impl Sealing {
         frame_size(self.etype, session.mode, body, len)
     }
 
-    /// Seals in this mode from now on.
+    /// Seals in this mode from now on. Its keys are derived, unless they are there.
     pub fn set_mode(&mut self, mode: Mode)
         ensures { self.new ≡ in_mode self.old mode }
     {
         self.session.mode = mode;
+        self.keys.set_mode(mode);
     }
 
     /// Overwrites all keys.

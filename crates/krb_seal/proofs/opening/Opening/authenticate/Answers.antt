@@ -4,7 +4,7 @@ use Rattle.krb_der.specs.declared.message.Message.{Message}
 use Rattle.krb_der.specs.Message.{Spells}
 use Rattle.krb_seal.specs.Authentic.{AuthenticMessage}
 use Rattle.krb_seal.proofs.Checking.{frame_passed}
-use Rattle.krb_seal.proofs.opener.Opener.authenticate.Goals as goal
+use Rattle.krb_seal.proofs.opening.Opening.authenticate.Goals as goal
 
 pub returns-in-Ok-Safe-clause-answer : goal.returns-in-Ok-Safe-clause-answer
 returns-in-Ok-Safe-clause-answer c =

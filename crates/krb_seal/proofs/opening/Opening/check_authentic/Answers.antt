@@ -4,17 +4,17 @@ use Rattle.krb_seal.specs.Opens.{OpenerState, checksum_checks, safe_header}
 use Rattle.krb_seal.specs.Authentic.{authentic_checks}
 use Rattle.krb_seal.specs.Unseals.{Checked, refusal_of}
 use Rattle.krb_seal.proofs.Checking.{refused, checked_later}
-use Rattle.krb_seal.proofs.opener.Opener.check_authentic.Goals as goal
+use Rattle.krb_seal.proofs.opening.Opening.check_authentic.Goals as goal
 
 pub returns-in_err-check_safe_header : goal.returns-in_err-check_safe_header
 returns-in_err-check_safe_header c =
     subst (λ (z : OpenerState). Checked (authentic_checks z c.args.m.now) c.from_residual.result) c.self.view_is
-    (refused (safe_header (number_of c.self.inside.etype) c.self.inside.expect c.args.m.now) _ c.check_safe_header.result _ c.from_residual.result c.check_safe_header.ensures c.in_err-check_safe_header.was c.from_residual.ensures.1)
+    (refused (safe_header (number_of c.self.inside.etype) c.self.inside.expect.now c.args.m.now) _ c.check_safe_header.result _ c.from_residual.result c.check_safe_header.ensures c.in_err-check_safe_header.was c.from_residual.ensures.1)
 
 pub returns : goal.returns
 returns c =
-    let x = c.self.inside.expect in let m = c.args.m.now in
-    let code = checksum_checks c.self.inside.keys.key m in
+    let x = c.self.inside.expect.now in let m = c.args.m.now in
+    let code = checksum_checks c.self.inside.keys.now.key m in
     let last = subst (λ (z : OpenerState). Checked (checksum_checks z.key m) c.check_checksum.result) (sym c.self.view_is) c.check_checksum.ensures in
     subst (λ (z : OpenerState). Checked (authentic_checks z m) c.check_checksum.result) c.self.view_is
     (checked_later (safe_header (number_of c.self.inside.etype) x m) code c.check_checksum.result (c.check_safe_header.ensures ∙ ap refusal_of c.in_ok-check_safe_header.was) last)

@@ -2,7 +2,7 @@ use Rattle.std.proofs.Common.{◌≡◌, Ok}
 use Rattle.krb_seal.specs.Opens.{safe_checks}
 use Rattle.krb_seal.specs.Unseals.{seen}
 use Rattle.krb_seal.proofs.Checking.{not_passed, all_passed, gave}
-use Rattle.krb_seal.proofs.opener.Opener.open_safe.Goals as goal
+use Rattle.krb_seal.proofs.opening.Opening.open_safe.Goals as goal
 
 pub returns-in_err-check_safe : goal.returns-in_err-check_safe
 returns-in_err-check_safe c =

@@ -2,7 +2,7 @@ use Rattle.std.proofs.Common.{◌≡◌, Ok, inr, subst}
 use Rattle.krb_seal.specs.Opens.{OpenerState, body_checks}
 use Rattle.krb_seal.specs.Unseals.{first_unmet, refusal_of, seen}
 use Rattle.krb_seal.proofs.Checking.{priv_refused, priv_opened, not_passed, all_passed, gave}
-use Rattle.krb_seal.proofs.opener.Opener.open_priv.Goals as goal
+use Rattle.krb_seal.proofs.opening.Opening.open_priv.Goals as goal
 
 pub returns-in_err-body : goal.returns-in_err-body
 returns-in_err-body c =

@@ -6,7 +6,7 @@ use Rattle.krb_seal.specs.Opens.{OpenerState, Decrypt, IsEncryption, Read, priv_
 use Rattle.krb_seal.specs.Authentic.{AuthenticText, GivesBody}
 use Rattle.krb_seal.specs.Unseals.{first_unmet, refusal_of}
 use Rattle.krb_seal.proofs.Checking.{body_not_passed, all_passed, was_deciphered, text_opened}
-use Rattle.krb_seal.proofs.opener.Opener.authentic_priv.Goals as goal
+use Rattle.krb_seal.proofs.opening.Opening.authentic_priv.Goals as goal
 
 pub returns-in_err-check_priv_header-clause-answer : goal.returns-in_err-check_priv_header-clause-answer
 returns-in_err-check_priv_header-clause-answer c =

@@ -1,7 +1,7 @@
 use Rattle.std.proofs.Common.{Ok, inr, refl}
 use Rattle.krb_seal.specs.Authentic.{GivesBody, authentic_checks}
 use Rattle.krb_seal.proofs.Checking.{body_not_passed, all_passed}
-use Rattle.krb_seal.proofs.opener.Opener.authentic_safe.Goals as goal
+use Rattle.krb_seal.proofs.opening.Opening.authentic_safe.Goals as goal
 
 pub returns-in_err-check_authentic-clause-answer : goal.returns-in_err-check_authentic-clause-answer
 returns-in_err-check_authentic-clause-answer c =

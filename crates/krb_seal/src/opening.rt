@@ -1,0 +1,209 @@
+//! One opening of a frame.
+
+ghost use Rattle.std.specs.Prelude.{◌≡◌, ◌≤◌, drop, length, Err, IfOk};
+ghost use Rattle.krb_base.specs.Limits.{frame_limit};
+ghost use Rattle.krb_der.specs.declared.message.Message.TheVariants as messages;
+ghost use Rattle.krb_der.specs.Body.{InRange};
+ghost use Rattle.krb_der.specs.Safe.{safe};
+ghost use Rattle.krb_der.specs.Message.{SpellsPart};
+ghost use Rattle.krb_seal.specs.declared.session.Mode.TheVariants.{Safe};
+ghost use Rattle.krb_seal.specs.Etype.{number_of};
+ghost use Rattle.krb_seal.specs.HeldKeys.{fresh_keys};
+ghost use Rattle.krb_seal.specs.declared.private_keys.End.TheVariants as ends;
+ghost use Rattle.krb_seal.specs.Opens.{Opens, OpensMessage, Read, checksum_checks, opener_of, safe_checks};
+ghost use Rattle.krb_seal.specs.Authentic.{Authenticates, AuthenticMessage, AuthenticOrMemory, GivesBody, authentic_checks};
+ghost use Rattle.krb_seal.specs.Unseals.{Checked, OrMemory};
+
+use crate::checks::{check_body, check_priv_header, check_safe_header, has_checksum};
+use crate::checksum::checksum_of;
+use crate::etype::{CONFOUNDER_SIZE, Etype};
+use crate::keys::Keys;
+use crate::limit::within_limit;
+use crate::refusal::Refusal;
+use crate::session::Expect;
+use krb_der::{Body, DerError, Message, Moment, PrivMsg, SafeMsg, decode, decode_part_from};
+use std::alloc::Global;
+use std::marker::Model;
+
+/// What frames are opened by: an encryption type, live keys, and what is demanded of each message.
+#[derive(Drop)]
+pub struct Opening<'a> {
+    etype: Etype,
+    keys: &'a Keys,
+    expect: &'a Expect,
+}
+
+impl<'a> Model for Opening<'a> {
+    ghost use Rattle.krb_seal.specs.Etype.{number_of};
+    ghost use Rattle.krb_seal.specs.Opens.{OpenerState, opener_of};
+
+    ghost Value = { OpenerState };
+
+    ghost use Rattle.krb_seal.specs.OpeningInside.{HasLiveKeys};
+
+    ghost view = { λ a. opener_of (number_of a.etype) a.keys.now.key a.expect.now };
+
+    ghost invariant = { HasLiveKeys };
+}
+
+impl<'a> Opening<'a> {
+    /// Opens by these keys, which are those of an opener in the mode that is expected.
+    pub fn new(etype: Etype, keys: &'a Keys, expect: &'a Expect) -> Opening<'a>
+        requires { keys.now ≡ fresh_keys keys.now.key ends.Opener expect.now.mode }
+        ensures { result ≡ opener_of (number_of etype) keys.now.key expect.now }
+    {
+        Opening {
+            etype,
+            keys,
+            expect,
+        }
+    }
+
+    /// As [`Opener::unseal`](crate::Opener::unseal).
+    pub fn unseal(
+        &self,
+        alloc: Global,
+        frame: &[u8],
+        number: u64,
+        now: Moment,
+    ) -> Result<Vec<u8>, Refusal>
+        ensures answer { OrMemory (Opens self.now number now frame.now) result }
+        // A frame over the limit is refused before anything is allocated.
+        ensures memory { result ≡ Err Refusal.Memory → length frame.now ≤ frame_limit }
+    {
+        let now = now.micros();
+        match decode(alloc, frame) {
+            Ok(Message::Safe(m)) => self.open_safe(alloc, m, number, now),
+            Ok(Message::Priv(m)) => self.open_priv(alloc, m, number, now),
+            Err(DerError::TooLong) => Err(Refusal::FieldTooLong),
+            Err(DerError::Malformed) => Err(Refusal::Malformed),
+            Err(DerError::Memory) => Err(Refusal::Memory),
+        }
+    }
+
+    /// As [`Opener::authenticate`](crate::Opener::authenticate).
+    pub fn authenticate(&self, alloc: Global, frame: &[u8]) -> Result<Body, Refusal>
+        ensures answer { AuthenticOrMemory (Authenticates self.now frame.now) result }
+        ensures range { IfOk result InRange }
+        // A frame over the limit is refused before anything is allocated.
+        ensures memory { result ≡ Err Refusal.Memory → length frame.now ≤ frame_limit }
+    {
+        match decode(alloc, frame) {
+            Ok(Message::Safe(m)) => self.authentic_safe(alloc, m),
+            Ok(Message::Priv(m)) => self.authentic_priv(alloc, m),
+            Err(DerError::TooLong) => Err(Refusal::FieldTooLong),
+            Err(DerError::Malformed) => Err(Refusal::Malformed),
+            Err(DerError::Memory) => Err(Refusal::Memory),
+        }
+    }
+}
+
+impl<'a> Opening<'a> {
+    /// The checksum of a KRB-SAFE.
+    fn check_checksum(&self, alloc: Global, m: &SafeMsg) -> Result<(), Refusal>
+        requires mode { self.now.expect.mode ≡ Safe }
+        requires range { InRange m.now.body }
+        requires short { length (safe m.now) ≤ frame_limit }
+        ensures { Checked (checksum_checks self.now.key m.now) result }
+    {
+        let checksum = within_limit(checksum_of(alloc, self.keys, &m.borrowed()))?;
+        if !has_checksum(m, &checksum) {
+            return Err(Refusal::Modified);
+        }
+        Ok(())
+    }
+
+    /// All checks of a KRB-SAFE.
+    fn check_safe(&self, alloc: Global, m: &SafeMsg, number: u64, now: u64) -> Result<(), Refusal>
+        requires range { InRange m.now.body }
+        requires short { length (safe m.now) ≤ frame_limit }
+        ensures { Checked (safe_checks self.now number now m.now) result }
+    {
+        check_safe_header(self.etype, self.expect, m)?;
+        check_body(self.expect, number, now, &m.body)?;
+        self.check_checksum(alloc, m)
+    }
+
+    /// The checks of a KRB-SAFE but for those of its body.
+    fn check_authentic(&self, alloc: Global, m: &SafeMsg) -> Result<(), Refusal>
+        requires range { InRange m.now.body }
+        requires short { length (safe m.now) ≤ frame_limit }
+        ensures { Checked (authentic_checks self.now m.now) result }
+    {
+        check_safe_header(self.etype, self.expect, m)?;
+        self.check_checksum(alloc, m)
+    }
+
+    /// What a KRB-SAFE gives.
+    fn open_safe(
+        &self,
+        alloc: Global,
+        m: SafeMsg,
+        number: u64,
+        now: u64,
+    ) -> Result<Vec<u8>, Refusal>
+        requires range { InRange m.body }
+        requires short { length (safe m) ≤ frame_limit }
+        ensures { OrMemory (OpensMessage self.now number now (messages.Safe m)) result }
+    {
+        self.check_safe(alloc, &m, number, now)?;
+        let SafeMsg { body, .. } = m;
+        let Body { user_data, .. } = body;
+        Ok(user_data.into_vec())
+    }
+
+    /// The body of a KRB-SAFE that is authentic.
+    fn authentic_safe(&self, alloc: Global, m: SafeMsg) -> Result<Body, Refusal>
+        requires range { InRange m.body }
+        requires short { length (safe m) ≤ frame_limit }
+        ensures answer { AuthenticOrMemory (AuthenticMessage self.now (messages.Safe m)) result }
+        ensures range { IfOk result InRange }
+    {
+        self.check_authentic(alloc, &m)?;
+        let SafeMsg { body, .. } = m;
+        Ok(body)
+    }
+
+    /// What a KRB-PRIV gives.
+    fn open_priv(
+        &self,
+        alloc: Global,
+        m: PrivMsg,
+        number: u64,
+        now: u64,
+    ) -> Result<Vec<u8>, Refusal>
+        ensures { OrMemory (OpensMessage self.now number now (messages.Priv m)) result }
+    {
+        let body = self.authentic_priv(alloc, m)?;
+        check_body(self.expect, number, now, &body)?;
+        let Body { user_data, .. } = body;
+        Ok(user_data.into_vec())
+    }
+
+    /// The body of a KRB-PRIV that is authentic.
+    fn authentic_priv(&self, alloc: Global, m: PrivMsg) -> Result<Body, Refusal>
+        ensures answer { AuthenticOrMemory (AuthenticMessage self.now (messages.Priv m)) result }
+        ensures range { IfOk result InRange }
+    {
+        check_priv_header(self.etype, self.expect, &m)?;
+        let PrivMsg { cipher, .. } = m;
+        let (text, tag) = self.keys.decrypted(cipher);
+        if !self.keys.is_tag(&tag, &text) {
+            return Err(Refusal::BadIntegrity);
+        }
+        read_part(alloc, text)
+    }
+}
+
+/// The body after the confounder of a text. Its data take the text's own block.
+fn read_part(alloc: Global, text: Vec<u8>) -> Result<Body, Refusal>
+    requires { 16 ≤ length text.items }
+    ensures answer { AuthenticOrMemory (Read SpellsPart (drop 16 text.items) GivesBody) result }
+    ensures range { IfOk result InRange }
+{
+    match decode_part_from(alloc, text, CONFOUNDER_SIZE) {
+        Ok(body) => Ok(body),
+        Err(DerError::Memory) => Err(Refusal::Memory),
+        Err(DerError::TooLong | DerError::Malformed) => Err(Refusal::Malformed),
+    }
+}
