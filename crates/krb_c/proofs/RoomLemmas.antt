@@ -10,7 +10,7 @@ use Rattle.krb_seal.proofs.Frames.{length-encrypted}
 use Rattle.krb_seal.specs.declared.session.Mode.{Mode}
 use Rattle.krb_seal.specs.declared.session.Mode.TheVariants.{Safe, Priv}
 use Rattle.krb_seal.specs.declared.session.Session.{Session}
-use Rattle.krb_seal.specs.Keys.{checksum_key}
+use Rattle.krb_etype.specs.Keys.{checksum_key}
 use Rattle.krb_seal.specs.Session.{HasShortAddresses, IsShortAddress}
 use Rattle.krb_seal.specs.Seals.{SealsBody, body_of, sealed_safe, sealed_priv, unsigned}
 use Rattle.krb_der.specs.Safe.{safe_input}

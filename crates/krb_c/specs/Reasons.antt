@@ -6,7 +6,7 @@ use Rattle.krb_der.specs.declared.body.Body.{Body}
 use Rattle.krb_der.specs.declared.message.Message.{Message}
 use Rattle.krb_der.specs.Message.{Spells}
 use Rattle.krb_seal.specs.declared.refusal.Refusal.TheVariants as refusals
-use Rattle.krb_seal.specs.Etype.{etype_of, key_size}
+use Rattle.krb_etype.specs.Etype.{etype_of, key_size}
 use Rattle.krb_seal.specs.Sealer.{SealerState, end_of_numbers}
 use Rattle.krb_seal.specs.Opens.{OpenerState, Opens}
 use Rattle.krb_c.specs.declared.moment.KrbMoment.{KrbMoment}

@@ -1,7 +1,7 @@
 //! The two ends of a lane, as a job states them.
 
 ghost use Rattle.std.specs.Prelude.{◌≡◌, ◌+◌, ◌<◌, ◌≤◌, ◌∷◌, ◌++◌, [], false, ℕ, List, length, map, IsSome, IfOk, IfErr, OnOk, Some};
-ghost use Rattle.krb_seal.specs.Etype.{number_of};
+ghost use Rattle.krb_etype.specs.Etype.{number_of};
 ghost use Rattle.krb_seal.specs.Session.{HasShortAddresses};
 ghost use Rattle.krb_peers.specs.Premises.{IsPaired};
 ghost use Rattle.krb_peers.specs.Ends.{lanes_of};

@@ -1,7 +1,7 @@
 -- The limits that a job keeps.
 use Rattle.std.specs.Prelude.{◌≡◌, ◌≤◌, ℕ, ℤ, List, length, All, Some, option_map}
 use Rattle.krb_base.specs.Limits.{text_limit}
-use Rattle.krb_seal.specs.Etype.{etype_of, key_size}
+use Rattle.krb_etype.specs.Etype.{etype_of, key_size}
 
 -- the number is that of an encryption type, and the key has the size of its keys
 abbrev pub IsKeyOf : ℤ → List ℕ → Type 0

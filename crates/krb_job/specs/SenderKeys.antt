@@ -5,7 +5,7 @@ use Rattle.toml.specs.Data.{Members}
 use Rattle.krb_base.specs.Limits.{last_number, skew_limit, batch_limit}
 use Rattle.krb_der.specs.declared.address.HostAddress.{HostAddress}
 use Rattle.krb_seal.specs.declared.session.Mode.{Mode as ModeOf}
-use Rattle.krb_seal.specs.Etype as etypes
+use Rattle.krb_etype.specs.Etype as etypes
 use Rattle.krb_job.specs.declared.place.Place.{Place}
 use Rattle.krb_job.specs.declared.place.Place.TheVariants.{Etype, Key, Mode, First, From, To}
 use Rattle.krb_job.specs.declared.place.Place.TheVariants.{WriteTo, RequireTo, ExpectTime, Skew}

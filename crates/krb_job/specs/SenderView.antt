@@ -1,6 +1,6 @@
 -- What was read, as its definition sees it: each vector is its list.
 use Rattle.std.specs.Prelude.{ℕ, List, map, option_map}
-use Rattle.krb_seal.specs.Etype.{number_of}
+use Rattle.krb_etype.specs.Etype.{number_of}
 use Rattle.krb_job.specs.declared.job.SenderJob.{SenderJob}
 use Rattle.krb_job.specs.declared.parts.Protection.{Protection as ReadProtection}
 use Rattle.krb_job.specs.declared.parts.Parties.{Parties as ReadParties}

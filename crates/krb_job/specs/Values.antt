@@ -6,10 +6,10 @@ use Rattle.std.specs.List.{list_any}
 use Rattle.std.specs.Str.{bytes_eq}
 use Rattle.toml.specs.Data.{Data, string, integer, boolean}
 use Rattle.hex.specs.Hex.{decode_of, decode_sized}
-use Rattle.krb_seal.specs.declared.etype.Etype.{Etype}
+use Rattle.krb_etype.specs.declared.etype.Etype.{Etype}
 use Rattle.krb_seal.specs.declared.session.Mode.{Mode}
 use Rattle.krb_seal.specs.declared.session.Mode.TheVariants as modes
-use Rattle.krb_seal.specs.Etype as etypes
+use Rattle.krb_etype.specs.Etype as etypes
 use Rattle.krb_time.specs.Steps.{◌>>=◌}
 
 -- a whole number from low to high

@@ -3,7 +3,7 @@
 ghost use Rattle.std.specs.Prelude.{◌≡◌, ◌≤◌, length};
 ghost use Rattle.krb_base.specs.Limits.{last_number, skew_limit};
 ghost use Rattle.krb_seal.specs.Session.{IsShortAddress};
-ghost use Rattle.krb_seal.specs.Etype.{key_size};
+ghost use Rattle.krb_etype.specs.Etype.{key_size};
 
 use crate::secret::Secret;
 use krb_der::HostAddress;

@@ -17,13 +17,13 @@ use Rattle.krb_seal.specs.declared.session.Mode.{Mode}
 use Rattle.krb_seal.specs.declared.session.Mode.TheVariants.{Safe, Priv}
 use Rattle.krb_seal.specs.declared.session.Session.{Session}
 use Rattle.krb_seal.specs.declared.session.Expect.{Expect}
-use Rattle.krb_seal.specs.Keys.{encryption_key, tag_of}
-use Rattle.krb_seal.specs.Etype.{number_of}
+use Rattle.krb_etype.specs.Keys.{encryption_key, tag_of}
+use Rattle.krb_etype.specs.Etype.{number_of}
 use Rattle.krb_seal.specs.Seals.{Seals, body_of, safe_checksum, sealed_as, sealed_message, sealed_priv, sealed_safe}
 use Rattle.krb_seal.specs.Opens.{OpenerState, Read, Decrypt, OpensPart, OpensText, OpensMessage, opener_of, frame_checks, safe_checks, priv_header, text_checks, body_checks, is_safe}
 use Rattle.krb_seal.specs.Authentic.{Authenticity, GivesBody, AuthenticText, AuthenticMessage, authentic_checks}
 use Rattle.krb_seal.specs.Laws.{OpensTheAuthentic, SealedIsAuthentic}
-use Rattle.krb_seal.proofs.Etypes.{int_is, own_checksum}
+use Rattle.krb_etype.proofs.Etypes.{int_is, own_checksum}
 use Rattle.krb_seal.proofs.SealedFrames.{met_all, all_met, encrypts, short_part, bytes_same}
 use Rattle.krb_seal.proofs.Checking.{priv_goes_on}
 

@@ -10,13 +10,13 @@ use Rattle.krb_der.specs.Safe.{safe_input}
 use Rattle.krb_der.specs.Size.{with_data, HasPartSize, HasSafeSize, HasPrivateSize}
 use Rattle.krb_der.proofs.Sizes.{small_part}
 use Rattle.krb_seal.specs.declared.session.Mode.TheVariants.{Safe, Priv}
-use Rattle.krb_seal.specs.declared.etype.Etype.{Etype}
-use Rattle.krb_seal.specs.Etype.{number_of}
-use Rattle.krb_seal.specs.Keys.{checksum_key, encrypted}
+use Rattle.krb_etype.specs.declared.etype.Etype.{Etype}
+use Rattle.krb_etype.specs.Etype.{number_of}
+use Rattle.krb_etype.specs.Keys.{checksum_key, encrypted}
 use Rattle.krb_seal.specs.Seals.{SealsBody, body_of, safe_checksum, unsigned, unenciphered}
 use Rattle.krb_seal.specs.Body.{HasSmallAddresses, HasSizeOf}
 use Rattle.krb_seal.specs.Sealer.{SealerState, HasFrameSize}
-use Rattle.krb_seal.proofs.Etypes.{one_number}
+use Rattle.krb_etype.proofs.Etypes.{one_number}
 use Rattle.krb_seal.proofs.Frames.{length-encrypted, optional-small}
 
 -- a part, with a confounder and a code around it, is no longer than a message may be

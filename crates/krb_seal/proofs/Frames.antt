@@ -24,9 +24,9 @@ use Rattle.krb_der.specs.Safe.{safe, safe_input, without_checksum}
 use Rattle.krb_der.proofs.Sizes.{small_part, small_safe, small_private, shorter_input}
 use Rattle.krb_der.specs.declared.private.Draft.{Draft}
 use Rattle.krb_seal.specs.declared.session.Mode.TheVariants.{Priv}
-use Rattle.krb_seal.specs.declared.etype.Etype.{Etype}
-use Rattle.krb_seal.specs.Etype.{number_of}
-use Rattle.krb_seal.specs.Keys.{encryption_key, integrity_key, tag_of, encrypted}
+use Rattle.krb_etype.specs.declared.etype.Etype.{Etype}
+use Rattle.krb_etype.specs.Etype.{number_of}
+use Rattle.krb_etype.specs.Keys.{encryption_key, integrity_key, tag_of, encrypted}
 use Rattle.krb_seal.specs.Seals.{safe_checksum, SealsBody, unenciphered, priv_of}
 use Rattle.krb_seal.specs.Session.{IsShortAddress, session_address_limit}
 use Rattle.krb_seal.specs.Body.{IsSmall}

@@ -1,4 +1,3 @@
-pub mod Etypes
 pub mod CipherTexts
 pub mod Outcomes
 pub mod SealedFrames
@@ -7,4 +6,3 @@ pub mod Frames
 pub mod FrameSizes
 pub mod Checking
 pub mod Authentics
-pub mod Constants

@@ -24,8 +24,9 @@ use Rattle.krb_der.specs.Private.{private, private_fields, encrypted_data, encry
 use Rattle.krb_der.specs.Message.{message, Spells, SpellsPart}
 use Rattle.krb_der.specs.Reading.{message_of, part_of}
 use Rattle.krb_der.proofs.Grammar.{message_reads, part_reads}
-use Rattle.krb_seal.specs.Keys.{encryption_key}
-use Rattle.krb_seal.specs.Opens.{OpenerState, Outcome, Checks, Passes, Read, Decrypt, IsEncryption, OpensPart, OpensText, OpensMessage, Opens, frame_checks, safe_checks, priv_header, text_checks, body_checks}
+use Rattle.krb_etype.specs.Keys.{encryption_key}
+use Rattle.krb_seal.specs.Opens.{OpenerState, Outcome, Checks, Passes, Read, Decrypt, OpensPart, OpensText, OpensMessage, Opens, frame_checks, safe_checks, priv_header, text_checks, body_checks}
+use Rattle.krb_etype.specs.Keys.{IsEncryption}
 use Rattle.krb_seal.specs.Opening.{passed, read, text_in, tag_in, opens_part, opens_text, opens_message, opens}
 use Rattle.krb_seal.specs.Laws.{OneOutcome}
 use Rattle.krb_seal.proofs.Outcomes.{outcomes_unique}

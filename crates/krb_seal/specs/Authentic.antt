@@ -9,7 +9,7 @@ use Rattle.krb_der.specs.declared.message.Message.TheVariants as messages
 use Rattle.krb_der.specs.Message.{Spells, SpellsPart}
 use Rattle.krb_seal.specs.declared.refusal.Refusal.{Refusal}
 use Rattle.krb_seal.specs.declared.refusal.Refusal.TheVariants.{Memory}
-use Rattle.krb_seal.specs.Etype.{confounder_size}
+use Rattle.krb_etype.specs.Etype.{confounder_size}
 use Rattle.krb_seal.specs.Opens.{OpenerState, Checks, Passes, Read, Decrypt, frame_checks}
 use Rattle.krb_seal.specs.Opens.{safe_header, checksum_checks, priv_header, text_checks}
 

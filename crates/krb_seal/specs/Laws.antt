@@ -6,8 +6,8 @@ use Rattle.krb_der.specs.declared.body.Body.{Body}
 use Rattle.krb_der.specs.Moment.{micros_per_second}
 use Rattle.krb_seal.specs.declared.session.Session.{Session}
 use Rattle.krb_seal.specs.declared.session.Expect.{Expect}
-use Rattle.krb_seal.specs.declared.etype.Etype.{Etype}
-use Rattle.krb_seal.specs.Etype.{number_of}
+use Rattle.krb_etype.specs.declared.etype.Etype.{Etype}
+use Rattle.krb_etype.specs.Etype.{number_of}
 use Rattle.krb_seal.specs.Seals.{Seals, sealed, body_of}
 use Rattle.krb_seal.specs.Opens.{OpenerState, Outcome, Opens, OpensPart, opener_of, distance}
 use Rattle.krb_seal.specs.Authentic.{Authenticity, Authenticates}

@@ -1,15 +1,9 @@
 pub mod Refusal
 pub mod SealError
+pub mod Mode
 pub mod Session
-pub mod Keys
 pub mod Seals
 pub mod Sealer
-pub mod Etype
-pub mod TypedKey
-pub mod SessionKeyInside
-pub mod PrivateKeys
-pub mod HeldKeys
-pub mod KeysInside
 pub mod Opens
 pub mod Authentic
 pub mod Opening
@@ -17,6 +11,6 @@ pub mod OpeningInside
 pub mod OpenerInside
 pub mod Body
 pub mod Checksum
-pub mod SealingInside
+pub mod AesSealerInside
 pub mod Unseals
 pub mod Laws

@@ -10,8 +10,8 @@ use Rattle.krb_der.specs.declared.message.Message.TheVariants as messages
 use Rattle.krb_der.specs.Reading.{message_of, part_of}
 use Rattle.krb_seal.specs.declared.session.Expect.{Expect}
 use Rattle.krb_seal.specs.declared.refusal.Refusal.TheVariants.{Malformed}
-use Rattle.krb_seal.specs.Etype.{code_size, confounder_size}
-use Rattle.krb_seal.specs.Keys.{encryption_key}
+use Rattle.krb_etype.specs.Etype.{code_size, confounder_size}
+use Rattle.krb_etype.specs.Keys.{encryption_key}
 use Rattle.krb_seal.specs.Opens.{OpenerState, Outcome, Checks, frame_checks, safe_checks}
 use Rattle.krb_seal.specs.Opens.{priv_header, text_checks, body_checks}
 

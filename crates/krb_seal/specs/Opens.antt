@@ -5,8 +5,6 @@ use Rattle.std.specs.Prelude.{Option, Some, None, Result, Ok, Err, Bool, true, f
 use Rattle.std.specs.Prelude.{◌⊎◌, nat_le, nat_eq}
 use Rattle.std.specs.Ordering.{int_eq}
 use Rattle.std.specs.Str.{bytes_eq}
-use Rattle.krb_aes.specs.Words.{AreBytes}
-use Rattle.krb_aes.specs.Stealing.{cts_of}
 use Rattle.krb_base.specs.Limits.{frame_limit}
 use Rattle.krb_der.specs.declared.address.HostAddress.{HostAddress}
 use Rattle.krb_der.specs.declared.body.Body.{Body}
@@ -25,8 +23,8 @@ use Rattle.krb_seal.specs.declared.refusal.Refusal.TheVariants.{FieldTooLong, Ma
 use Rattle.krb_seal.specs.declared.refusal.Refusal.TheVariants.{MsgType, EtypeNoSupp, BadIntegrity}
 use Rattle.krb_seal.specs.declared.refusal.Refusal.TheVariants.{InappCksum, BadAddr, Skew, BadOrder}
 use Rattle.krb_seal.specs.declared.refusal.Refusal.TheVariants.{Modified}
-use Rattle.krb_seal.specs.Keys.{encryption_key, tag_of}
-use Rattle.krb_seal.specs.Etype.{code_size, confounder_size, etype_of, is_checksum_of}
+use Rattle.krb_etype.specs.Keys.{IsEncryption, tag_of}
+use Rattle.krb_etype.specs.Etype.{code_size, confounder_size, etype_of, is_checksum_of}
 use Rattle.krb_seal.specs.Seals.{safe_checksum}
 
 -- What contracts see of an opener.
@@ -141,13 +139,6 @@ abbrev pub Read : {V A : Type 0} → (V → List ℕ → Type 0) → List ℕ �
 Read Spelt bytes Then outcome =
     (((v : _) → Spelt v bytes → ⊥) × (outcome ≡ Err Malformed))
     ⊎ ((v : _) × Spelt v bytes × Then v outcome)
-
--- The cipher is that of a text that begins with its confounder, followed by a code.
-pub record IsEncryption (key cipher text tag : List ℕ) : Type 0 where
-  pub bytes : AreBytes text
-  pub long : confounder_size ≤ length text
-  pub size : length tag ≡ code_size
-  pub image : cipher ≡ cts_of (encryption_key key) text ++ tag
 
 -- As Then says of the one text and code of a cipher.
 abbrev pub Decrypt : {A : Type 0} → List ℕ → List ℕ → (List ℕ → List ℕ → Result A Refusal → Type 0)

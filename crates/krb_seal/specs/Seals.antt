@@ -14,9 +14,9 @@ use Rattle.krb_der.specs.Message.{message, Spells}
 use Rattle.krb_seal.specs.declared.session.Mode.{Mode}
 use Rattle.krb_seal.specs.declared.session.Mode.TheVariants.{Safe, Priv}
 use Rattle.krb_seal.specs.declared.session.Session.{Session}
-use Rattle.krb_seal.specs.declared.etype.Etype.{Etype}
-use Rattle.krb_seal.specs.Etype.{confounder_size, number_of, checksum_number}
-use Rattle.krb_seal.specs.Keys.{checksum_key, encrypted}
+use Rattle.krb_etype.specs.declared.etype.Etype.{Etype}
+use Rattle.krb_etype.specs.Etype.{confounder_size, number_of, checksum_number}
+use Rattle.krb_etype.specs.Keys.{checksum_key, encrypted}
 
 -- The checksum of KRB-SAFE, over the message with checksum type 0 and an empty checksum (RFC 4120
 -- section 5.6.1).

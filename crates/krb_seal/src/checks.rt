@@ -2,14 +2,14 @@
 
 ghost use Rattle.std.specs.Prelude.{◌≡◌, ◌↔◌, IsTrue};
 ghost use Rattle.krb_der.specs.Body.{InRange};
-ghost use Rattle.krb_seal.specs.Etype.{etype_of, is_checksum_of, number_of};
+ghost use Rattle.krb_etype.specs.Etype.{etype_of, is_checksum_of, number_of};
 ghost use Rattle.krb_seal.specs.Opens.{addresses_fit, body_checks, is_current, is_number, is_safe, priv_header, receiver_fits, safe_header};
 ghost use Rattle.krb_seal.specs.Unseals.{first_unmet, refusal_of};
 
-use crate::etype::{CODE_SIZE, CONFOUNDER_SIZE, Etype};
 use crate::refusal::Refusal;
 use crate::session::{Expect, Mode};
 use krb_der::{Body, HostAddress, MICROS_PER_SECOND, PrivMsg, SafeMsg};
+use krb_etype::{CODE_SIZE, CONFOUNDER_SIZE, Etype};
 use krb_keys::mac_equal;
 
 fn receiver_fits(expect: &Expect, r_addr: &Option<HostAddress>) -> bool

@@ -4,22 +4,23 @@ ghost use Rattle.std.specs.Prelude.{◌≡◌, ◌≤◌, ◌++◌, false, lengt
 ghost use Rattle.krb_der.specs.Body.{InRange};
 ghost use Rattle.krb_seal.specs.declared.session.Mode.TheVariants.{Safe, Priv};
 ghost use Rattle.krb_aes.specs.Words.{AreBytes};
-ghost use Rattle.krb_seal.specs.Etype.{number_of};
-ghost use Rattle.krb_seal.specs.Keys.{encrypted};
-ghost use Rattle.krb_seal.specs.HeldKeys.{IsEnciphering, fresh_keys};
-ghost use Rattle.krb_seal.specs.declared.private_keys.End.TheVariants.{Sealer};
+ghost use Rattle.krb_etype.specs.Etype.{number_of};
+ghost use Rattle.krb_etype.specs.Keys.{encrypted};
+ghost use Rattle.krb_etype.specs.HeldKeys.{IsEnciphering, fresh_keys};
+ghost use Rattle.krb_etype.specs.declared.private_keys.End.TheVariants.{Sealer};
+ghost use Rattle.krb_etype.specs.declared.keys.Purpose.TheVariants.{Checksum};
+ghost use Rattle.krb_seal.specs.Mode.{purpose_of};
 ghost use Rattle.krb_seal.specs.Seals.{SealsBody, unsigned, unenciphered};
 ghost use Rattle.krb_base.specs.Limits.{frame_limit, user_data_limit};
 ghost use Rattle.krb_der.specs.Size.{HasPrivateSize};
 ghost use Rattle.krb_seal.specs.Body.{HasSizeOf, HasSmallAddresses, IsSmall};
 
 use crate::checksum::checksum_of;
-use crate::etype::{CODE_SIZE, CONFOUNDER_SIZE, Etype};
-use crate::keys::Keys;
 use crate::limit::within_limit;
 use crate::session::Mode;
 use krb_aes::known_bytes;
 use krb_der::{BodyRef, Bytes, Draft, PrivMsg, SafeRef, draft_priv, priv_size};
+use krb_etype::{CODE_SIZE, CONFOUNDER_SIZE, Etype, Keys};
 use std::alloc::{AllocError, Global};
 
 /// The KRB-SAFE that carries a body, before it has its checksum.
@@ -38,7 +39,7 @@ fn safe_frame(
     confounder: [u8; 16],
 ) -> Result<Vec<u8>, AllocError>
     requires live { keys.now.wiped ≡ false }
-    requires mode { keys.now.mode ≡ Safe }
+    requires purpose { keys.now.purpose ≡ Checksum }
     requires draft { draft.now ≡ unsigned etype draft.now.body }
     requires range { InRange draft.now.body }
     requires small { IsSmall draft.now.body }
@@ -120,7 +121,7 @@ pub fn frame_of(
     body: BodyRef<'_>,
     confounder: [u8; 16],
 ) -> Result<Vec<u8>, AllocError>
-    requires keys { keys.now ≡ fresh_keys keys.now.key Sealer mode }
+    requires keys { keys.now ≡ fresh_keys keys.now.key Sealer (purpose_of mode) }
     requires range { InRange body }
     requires small { IsSmall body }
     ensures { IfOk result (λ frame. SealsBody mode (number_of etype) keys.now.key confounder

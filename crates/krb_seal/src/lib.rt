@@ -21,33 +21,25 @@
 //! ```
 #![tactic(auto)]
 
+mod aes_sealer;
 mod boxed;
 mod checks;
 mod checksum;
-mod derived;
-mod etype;
 mod frame;
-mod keys;
-mod kinds;
 mod laws;
 mod limit;
 mod opener;
 mod opening;
-mod private_keys;
 mod refusal;
 mod seal_error;
 mod sealer;
-mod sealing;
 mod session;
-mod session_key;
 
-pub use derived::folded_constants;
-pub use etype::Etype;
-pub use kinds::{Aes128Sealer, Aes256Sealer, SessionSealer};
+pub use aes_sealer::{Aes128Sealer, Aes256Sealer, SessionSealer};
+pub use krb_etype::{Etype, SessionKey};
 pub use laws::{authentic_laws, one_outcome, opens_at_its_number_alone};
 pub use opener::Opener;
 pub use refusal::Refusal;
 pub use seal_error::SealError;
 pub use sealer::Sealer;
 pub use session::{Expect, Mode, Session};
-pub use session_key::SessionKey;

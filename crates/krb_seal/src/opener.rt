@@ -3,21 +3,19 @@
 ghost use Rattle.std.specs.Prelude.{◌≡◌, ◌≤◌, pos, true, length, replicate, Err, IfOk};
 ghost use Rattle.krb_base.specs.Limits.{frame_limit};
 ghost use Rattle.krb_der.specs.Body.{InRange};
-ghost use Rattle.krb_seal.specs.declared.private_keys.End.TheVariants as ends;
-ghost use Rattle.krb_seal.specs.Etype.{number_of};
-ghost use Rattle.krb_seal.specs.HeldKeys.{fresh_keys};
+ghost use Rattle.krb_etype.specs.declared.private_keys.End.TheVariants as ends;
+ghost use Rattle.krb_etype.specs.Etype.{number_of};
+ghost use Rattle.krb_etype.specs.HeldKeys.{fresh_keys};
+ghost use Rattle.krb_seal.specs.Mode.{purpose_of};
 ghost use Rattle.krb_seal.specs.Opens.{Opens, opener_of};
 ghost use Rattle.krb_seal.specs.Authentic.{Authenticates, AuthenticOrMemory};
 ghost use Rattle.krb_seal.specs.Unseals.{OrMemory};
 
-use crate::etype::Etype;
-use crate::keys::Keys;
 use crate::opening::Opening;
-use crate::private_keys::End;
 use crate::refusal::Refusal;
 use crate::session::Expect;
-use crate::session_key::SessionKey;
 use krb_der::{Body, Moment};
+use krb_etype::{End, Etype, Keys, SessionKey};
 use std::alloc::Global;
 use std::marker::Model;
 
@@ -29,7 +27,7 @@ pub struct Opener {
 }
 
 impl Model for Opener {
-    ghost use Rattle.krb_seal.specs.Etype.{number_of};
+    ghost use Rattle.krb_etype.specs.Etype.{number_of};
     ghost use Rattle.krb_seal.specs.Opens.{OpenerState, opener_of};
 
     ghost Value = { OpenerState };
@@ -60,7 +58,7 @@ impl Opener {
         let (etype, held) = key.into_parts();
         Opener {
             etype,
-            keys: Keys::new(held, End::Opener, expect.mode),
+            keys: Keys::new(held, End::Opener, expect.mode.purpose()),
             expect,
         }
     }
@@ -142,9 +140,9 @@ impl Opener {
     /// still opens frames by it has them derived.
     fn keys_of_zeros(&self) -> Keys
         requires { self.now.key ≡ replicate (length self.now.key) 0 }
-        ensures { result ≡ fresh_keys self.now.key ends.Opener self.now.expect.mode }
+        ensures { result ≡ fresh_keys self.now.key ends.Opener (purpose_of self.now.expect.mode) }
     {
         let (_, zeros) = SessionKey::filled(self.etype, 0).into_parts();
-        Keys::new(zeros, End::Opener, self.expect.mode)
+        Keys::new(zeros, End::Opener, self.expect.mode.purpose())
     }
 }

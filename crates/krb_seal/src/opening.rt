@@ -7,21 +7,21 @@ ghost use Rattle.krb_der.specs.Body.{InRange};
 ghost use Rattle.krb_der.specs.Safe.{safe};
 ghost use Rattle.krb_der.specs.Message.{SpellsPart};
 ghost use Rattle.krb_seal.specs.declared.session.Mode.TheVariants.{Safe};
-ghost use Rattle.krb_seal.specs.Etype.{number_of};
-ghost use Rattle.krb_seal.specs.HeldKeys.{fresh_keys};
-ghost use Rattle.krb_seal.specs.declared.private_keys.End.TheVariants as ends;
+ghost use Rattle.krb_etype.specs.Etype.{number_of};
+ghost use Rattle.krb_etype.specs.HeldKeys.{fresh_keys};
+ghost use Rattle.krb_etype.specs.declared.private_keys.End.TheVariants as ends;
+ghost use Rattle.krb_seal.specs.Mode.{purpose_of};
 ghost use Rattle.krb_seal.specs.Opens.{Opens, OpensMessage, Read, checksum_checks, opener_of, safe_checks};
 ghost use Rattle.krb_seal.specs.Authentic.{Authenticates, AuthenticMessage, AuthenticOrMemory, GivesBody, authentic_checks};
 ghost use Rattle.krb_seal.specs.Unseals.{Checked, OrMemory};
 
 use crate::checks::{check_body, check_priv_header, check_safe_header, has_checksum};
 use crate::checksum::checksum_of;
-use crate::etype::{CONFOUNDER_SIZE, Etype};
-use crate::keys::Keys;
 use crate::limit::within_limit;
 use crate::refusal::Refusal;
 use crate::session::Expect;
 use krb_der::{Body, DerError, Message, Moment, PrivMsg, SafeMsg, decode, decode_part_from};
+use krb_etype::{CONFOUNDER_SIZE, Etype, Keys};
 use std::alloc::Global;
 use std::marker::Model;
 
@@ -34,7 +34,7 @@ pub struct Opening<'a> {
 }
 
 impl<'a> Model for Opening<'a> {
-    ghost use Rattle.krb_seal.specs.Etype.{number_of};
+    ghost use Rattle.krb_etype.specs.Etype.{number_of};
     ghost use Rattle.krb_seal.specs.Opens.{OpenerState, opener_of};
 
     ghost Value = { OpenerState };
@@ -49,7 +49,7 @@ impl<'a> Model for Opening<'a> {
 impl<'a> Opening<'a> {
     /// Opens by these keys, which are those of an opener in the mode that is expected.
     pub fn new(etype: Etype, keys: &'a Keys, expect: &'a Expect) -> Opening<'a>
-        requires { keys.now ≡ fresh_keys keys.now.key ends.Opener expect.now.mode }
+        requires { keys.now ≡ fresh_keys keys.now.key ends.Opener (purpose_of expect.now.mode) }
         ensures { result ≡ opener_of (number_of etype) keys.now.key expect.now }
     {
         Opening {

@@ -1,6 +1,10 @@
 //! What both ends of a session agree on.
 
+ghost use Rattle.std.specs.Prelude.{◌≡◌};
+ghost use Rattle.krb_seal.specs.Mode.{purpose_of};
+
 use krb_der::HostAddress;
+use krb_etype::Purpose;
 
 /// How the texts of a session are protected.
 #[derive(Clone, Copy, Debug, PartialEq, Eq)]
@@ -9,6 +13,18 @@ pub enum Mode {
     Safe,
     /// By encryption: the messages are KRB-PRIV (RFC 4120 section 3.5).
     Priv,
+}
+
+impl Mode {
+    /// What the keys of a session are for in this mode.
+    pub(crate) fn purpose(self) -> Purpose
+        ensures { result ≡ purpose_of self }
+    {
+        match self {
+            Mode::Safe => Purpose::Checksum,
+            Mode::Priv => Purpose::Encryption,
+        }
+    }
 }
 
 /// What a sealer writes into each message. An address has at most 40 bytes.

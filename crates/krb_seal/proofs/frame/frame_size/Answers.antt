@@ -2,7 +2,7 @@ use Rattle.std.proofs.Common.{sym, subst}
 use Rattle.krb_der.specs.declared.safe.SafeMsg.{SafeMsg}
 use Rattle.krb_seal.specs.declared.session.Mode.{Mode}
 use Rattle.krb_seal.specs.declared.session.Mode.TheVariants.{Safe}
-use Rattle.krb_seal.specs.Etype.{number_of}
+use Rattle.krb_etype.specs.Etype.{number_of}
 use Rattle.krb_seal.specs.Body.{HasSizeOf}
 use Rattle.krb_seal.proofs.frame.frame_size.Goals as goal
 

@@ -1,8 +1,9 @@
 use Rattle.std.proofs.Common.{◌≡◌, ◌↔◌, inr, subst, drop, refl}
 use Rattle.std.specs.Prelude.{IsTrue}
 use Rattle.krb_der.specs.Message.{SpellsPart}
-use Rattle.krb_seal.specs.Keys.{tag_of}
-use Rattle.krb_seal.specs.Opens.{OpenerState, Decrypt, IsEncryption, Read, priv_header}
+use Rattle.krb_etype.specs.Keys.{tag_of}
+use Rattle.krb_seal.specs.Opens.{OpenerState, Decrypt, Read, priv_header}
+use Rattle.krb_etype.specs.Keys.{IsEncryption}
 use Rattle.krb_seal.specs.Authentic.{AuthenticText, GivesBody}
 use Rattle.krb_seal.specs.Unseals.{first_unmet, refusal_of}
 use Rattle.krb_seal.proofs.Checking.{body_not_passed, all_passed, was_deciphered, text_opened}

@@ -1,0 +1,2 @@
+pub mod Etypes
+pub mod Constants

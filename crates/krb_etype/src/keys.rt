@@ -1,0 +1,240 @@
+//! A session key with the keys derived from it.
+
+ghost use Rattle.std.specs.Prelude.{◌≡◌, ◌↔◌, ◌≤◌, ◌+◌, ◌++◌, IsTrue, false, length};
+ghost use Rattle.krb_aes.specs.Stealing.{cts_of};
+ghost use Rattle.krb_aes.specs.Words.{AreBytes};
+ghost use Rattle.krb_keys.specs.Hmac.{hmac96, joined};
+ghost use Rattle.krb_etype.specs.declared.private_keys.End.TheVariants.{Sealer, Opener};
+ghost use Rattle.krb_etype.specs.declared.keys.Purpose.TheVariants.{Checksum, Encryption};
+ghost use Rattle.krb_etype.specs.Etype.{code_size, confounder_size};
+ghost use Rattle.krb_etype.specs.Keys.{checksum_key, encryption_key, tag_of};
+ghost use Rattle.krb_etype.specs.Keys.{IsEncryption};
+ghost use Rattle.krb_etype.specs.HeldKeys.{fresh_keys, keys_for, wiped_keys};
+ghost use Rattle.krb_etype.specs.PrivateKeys.{ArePrivateKeys};
+
+use crate::derived::checksum_key;
+use crate::etype::CODE_SIZE;
+use crate::private_keys::{End, PrivateKeys};
+use krb_aes::CipherKey;
+use krb_base::Bytes;
+use krb_keys::{MacKey, mac_equal};
+use std::marker::Model;
+
+/// What derived keys are for.
+#[derive(Clone, Copy, Debug, PartialEq, Eq)]
+pub enum Purpose {
+    /// The checksum of KRB-SAFE (RFC 4120 section 5.6.1).
+    Checksum,
+    /// The encrypted part of KRB-PRIV (RFC 4120 section 5.7.1).
+    Encryption,
+}
+
+/// Overwrites and ends a key for checksums, if there is one.
+fn end_checksum(key: Option<MacKey>) {
+    if let Some(mut key) = key {
+        key.wipe();
+        key.spend();
+    }
+}
+
+/// The same of the keys of KRB-PRIV.
+fn end_private(keys: Option<PrivateKeys>) {
+    if let Some(mut keys) = keys {
+        keys.wipe();
+        keys.spend();
+    }
+}
+
+/// A session key with the keys derived from it that its end needs for its purpose, each ready for use
+/// (RFC 3961 section 5.3).
+///
+/// Contracts see the session key, the end, the purpose, and whether all keys were wiped. `Keys` aren't
+/// `Drop`: they end by [`Keys::spend`].
+pub struct Keys {
+    base: CipherKey,
+    end: End,
+    purpose: Purpose,
+    // Kc, for the checksum of KRB-SAFE, once that purpose was asked for.
+    checksum: Option<MacKey>,
+    // Ki and Ke, for the encrypted part of KRB-PRIV, once that purpose was asked for.
+    private: Option<PrivateKeys>,
+    wiped: bool,
+}
+
+impl Model for Keys {
+    ghost use Rattle.krb_etype.specs.HeldKeys.{HeldKeys};
+
+    ghost Value = { HeldKeys };
+
+    ghost use Rattle.krb_etype.specs.KeysInside.{AreDerived};
+
+    ghost view = { λ a. record { key = a.base; end = a.end; purpose = a.purpose; wiped = a.wiped } };
+
+    ghost invariant = { AreDerived };
+}
+
+impl Keys {
+    /// Derives the keys of a session key for an end and a purpose.
+    pub fn new(base: CipherKey, end: End, purpose: Purpose) -> Keys
+        ensures { result ≡ fresh_keys base end purpose }
+    {
+        let checksum = match purpose {
+            Purpose::Checksum => Some(checksum_key(&base)),
+            Purpose::Encryption => None,
+        };
+        let private = match purpose {
+            Purpose::Checksum => None,
+            Purpose::Encryption => Some(PrivateKeys::new(end, &base)),
+        };
+        Keys {
+            base,
+            end,
+            purpose,
+            checksum,
+            private,
+            wiped: false,
+        }
+    }
+
+    /// Serves this purpose from now on. Its keys are derived, unless they are there.
+    pub fn set_purpose(&mut self, purpose: Purpose)
+        ensures { self.new ≡ keys_for self.old purpose }
+    {
+        self.purpose = purpose;
+        if self.wiped {
+            return;
+        }
+        match purpose {
+            Purpose::Checksum => {
+                if self.checksum.is_none() {
+                    end_checksum(self.checksum.replace(checksum_key(&self.base)));
+                }
+            }
+            Purpose::Encryption => {
+                if self.private.is_none() {
+                    end_private(self.private.replace(PrivateKeys::new(self.end, &self.base)));
+                }
+            }
+        }
+    }
+
+    /// Whether the keys were wiped.
+    pub fn is_wiped(&self) -> bool
+        ensures { result ≡ self.now.wiped }
+    {
+        self.wiped
+    }
+
+    /// Overwrites all keys.
+    pub fn wipe(&mut self)
+        ensures { self.new ≡ wiped_keys self.old }
+    {
+        self.base.wipe();
+        if let Some(key) = &mut self.checksum {
+            key.wipe();
+        }
+        if let Some(keys) = &mut self.private {
+            keys.wipe();
+        }
+        self.wiped = true;
+    }
+
+    /// Overwrites and ends all keys.
+    pub fn spend(self) {
+        let Keys {
+            mut base,
+            end: _,
+            purpose: _,
+            checksum,
+            private,
+            wiped: _,
+        } = self;
+        base.wipe();
+        base.spend();
+        end_checksum(checksum);
+        end_private(private);
+    }
+
+    /// The checksum of KRB-SAFE over these parts, one after another.
+    pub fn checksum(&self, parts: &[&[u8]]) -> [u8; CODE_SIZE]
+        requires live { self.now.wiped ≡ false }
+        requires purpose { self.now.purpose ≡ Checksum }
+        ensures { result ≡ hmac96 (checksum_key self.now.key) (joined parts.now) }
+    {
+        match &self.checksum {
+            Some(key) => key.hmac96(parts),
+            None => unreachable!(),
+        }
+    }
+
+    /// The keys of KRB-PRIV.
+    fn private(&self) -> &PrivateKeys
+        requires live { self.now.wiped ≡ false }
+        requires purpose { self.now.purpose ≡ Encryption }
+        ensures { ArePrivateKeys self.now.end self.now.key result.now }
+    {
+        match &self.private {
+            Some(keys) => keys,
+            None => unreachable!(),
+        }
+    }
+
+    /// The code of a text that is encrypted beside it.
+    pub fn tag(&self, text: &[u8]) -> [u8; CODE_SIZE]
+        requires live { self.now.wiped ≡ false }
+        requires purpose { self.now.purpose ≡ Encryption }
+        ensures { result ≡ tag_of self.now.key text.now }
+    {
+        self.private().tag(text)
+    }
+
+    /// Whether the code is that of a text.
+    pub fn is_tag(&self, tag: &[u8; CODE_SIZE], text: &[u8]) -> bool
+        requires live { self.now.wiped ≡ false }
+        requires purpose { self.now.purpose ≡ Encryption }
+        ensures { IsTrue result ↔ (tag.now ≡ tag_of self.now.key text.now) }
+    {
+        mac_equal(tag, &self.tag(text))
+    }
+
+    /// Enciphers a text in place.
+    pub fn encipher(&self, text: &mut [u8])
+        requires live { self.now.wiped ≡ false }
+        requires purpose { self.now.purpose ≡ Encryption }
+        requires end { self.now.end ≡ Sealer }
+        requires long { 16 ≤ length text.old }
+        ensures { text.new ≡ cts_of (encryption_key self.now.key) text.old }
+    {
+        self.private().encipher(text);
+    }
+
+    /// Deciphers a text in place.
+    pub fn decipher(&self, text: &mut [u8])
+        requires live { self.now.wiped ≡ false }
+        requires purpose { self.now.purpose ≡ Encryption }
+        requires end { self.now.end ≡ Opener }
+        requires long { 16 ≤ length text.old }
+        ensures image { cts_of (encryption_key self.now.key) text.new ≡ text.old }
+        ensures size { length text.new ≡ length text.old }
+        ensures bytes { AreBytes text.new }
+    {
+        self.private().decipher(text);
+    }
+
+    /// The text and the code of a cipher.
+    pub fn decrypted(&self, cipher: Bytes) -> (Vec<u8>, [u8; CODE_SIZE])
+        requires live { self.now.wiped ≡ false }
+        requires purpose { self.now.purpose ≡ Encryption }
+        requires end { self.now.end ≡ Opener }
+        requires long { confounder_size + code_size ≤ length cipher }
+        ensures { IsEncryption self.now.key cipher result.0.items result.1 }
+    {
+        let mut text = cipher.into_vec();
+        let size = text.len() - CODE_SIZE;
+        let mut tag = [0u8; CODE_SIZE];
+        tag.copy_from_slice(&text[size..]);
+        text.truncate(size);
+        self.decipher(&mut text);
+        (text, tag)
+    }
+}
