@@ -8,7 +8,7 @@ use lib.Lanes.{Each1, zip2, pick_l}
 use Rattle.krb_aes.specs.Field.{times, product, remainder}
 use Rattle.krb_aes.specs.Cipher.{sum4, cell, from_cells, add_round_key}
 use Rattle.krb_aes.specs.InverseCipher.{inv_affine, inv_sbox, inv_mixed}
-use Rattle.krb_aes.specs.Words.{AreBytes}
+use Rattle.krb_base.specs.Bytes.{AreBytes}
 use Rattle.krb_aes.specs.Nibbles.{entry, first_place, second_place, inv_linear_high, inv_linear_low, inv_linear_nibbles, inv_affine_nibbles}
 use Rattle.krb_aes.specs.Rounds.{rows_shifted, round_key}
 use Rattle.krb_aes.specs.declared.inverse_sbox.TheConstants.{UNDONE_HIGH, UNDONE_LOW, TIMES_14_FIRST, TIMES_14_SECOND, TIMES_11_FIRST, TIMES_11_SECOND, TIMES_13_FIRST, TIMES_13_SECOND, TIMES_9_FIRST, TIMES_9_SECOND, INV_SBOX_FIRST, INV_SBOX_SECOND}

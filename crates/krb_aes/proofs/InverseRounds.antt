@@ -8,7 +8,7 @@ use Rattle.krb_aes.specs.Chain.{unchained_four}
 use Rattle.krb_aes.proofs.Rounds.{xored}
 use Rattle.krb_aes.specs.Cipher.{add_round_key}
 use Rattle.krb_aes.specs.InverseCipher.{inv_sub_bytes, inv_shift_rows, inv_mix_columns, inv_round, inv_rounds, inv_cipher_rounds, inv_cipher}
-use Rattle.krb_aes.specs.Words.{AreBytes}
+use Rattle.krb_base.specs.Bytes.{AreBytes}
 use Rattle.krb_aes.specs.Nibbles.{inv_affine_nibbles}
 use Rattle.krb_aes.specs.Rounds.{rows_shifted, columns_raised, round_key, AreInverseRoundKeys}
 use Rattle.krb_aes.proofs.StateLemmas.{AreBytes-add_round_key}

@@ -7,7 +7,7 @@ use lib.Bits.{xor_assoc, xor_comm, xor_self, xor_zero_r, xor_shr, xor_mod, xor_l
 use lib.Lanes.{Each1}
 use Rattle.krb_aes.specs.Field.{times, product, remainder, affine, sbox}
 use Rattle.krb_aes.specs.Cipher.{mixed}
-use Rattle.krb_aes.specs.Words.{AreBytes}
+use Rattle.krb_base.specs.Bytes.{AreBytes}
 use Rattle.krb_aes.specs.Nibbles.{entry, first_place, second_place, nibbles_of_high, nibbles_of_low, nibbles_of, bare_nibbles, bare_doubled}
 use Rattle.krb_aes.specs.declared.sbox.TheConstants.{SBOX_FIRST, SBOX_SECOND, DOUBLED_FIRST, DOUBLED_SECOND, BARE_FIRST, BARE_SECOND}
 use Rattle.krb_aes.proofs.Mixing.{all_below, all_below_at, small}

@@ -11,7 +11,7 @@ use Rattle.krb_aes.specs.Rounds.{rows_shifted, columns_raised, round_key}
 use Rattle.krb_aes.specs.Field.{times, product, remainder}
 use Rattle.krb_aes.specs.Cipher.{sub_bytes, shift_rows, add_round_key}
 use Rattle.krb_aes.specs.InverseCipher.{inv_mixed, inv_sub_bytes, inv_shift_rows, inv_mix_columns}
-use Rattle.krb_aes.specs.Words.{AreBytes}
+use Rattle.krb_base.specs.Bytes.{AreBytes}
 use Rattle.krb_aes.specs.Nibbles.{inv_linear_nibbles, inv_affine_nibbles}
 use Rattle.krb_aes.proofs.Inverse.{inv_sub-sub, inv_shift-shift, IsState-sub}
 use Rattle.krb_aes.proofs.Xor.{xor_cancel}

@@ -6,7 +6,7 @@ use Rattle.krb_aes.specs.Cipher.{from_cells, cell, add_round_key, after_rounds, 
 use Rattle.krb_aes.specs.Stealing.{xor_block}
 use Rattle.krb_aes.proofs.Inverse.{cells_16}
 use Rattle.krb_aes.proofs.Nibbles.{nibbles_of-xor}
-use Rattle.krb_aes.specs.Words.{AreBytes}
+use Rattle.krb_base.specs.Bytes.{AreBytes}
 use Rattle.krb_aes.specs.Nibbles.{nibbles_of, bare_nibbles}
 use Rattle.krb_aes.specs.Rounds.{rows_shifted, columns_raised, round_key, AreRoundKeys}
 use Rattle.krb_aes.proofs.StateLemmas.{AreBytes-from_cells, word_byte-lt, after_more}

@@ -3,7 +3,8 @@ use Rattle.std.proofs.Common.{◌≡◌, ℕ, zero, suc, ◌+◌, ◌-◌, ◌*�
 use Rattle.std.proofs.lemmas.Bool.{le-ltb}
 use Rattle.std.proofs.lemmas.List.{get_or_append_left, get_or-append-add, length-take-le, append-nil}
 use Rattle.krb_aes.specs.Field.{power, times, product, remainder, inverse, affine, sbox}
-use Rattle.krb_aes.specs.Keys.{sub_word, rot_word, round_constant, transformed, next_word, key_word, first_words, expanded_key, AreZero, IsPadded}
+use Rattle.krb_base.specs.Bytes.{AreZero}
+use Rattle.krb_aes.specs.Keys.{sub_word, rot_word, round_constant, transformed, next_word, key_word, first_words, expanded_key, IsPadded}
 use Rattle.krb_aes.specs.InverseCipher.{inv_mixed, inv_mix_columns}
 use Rattle.krb_aes.specs.Nibbles.{nibbles_of, bare_nibbles, inv_linear_nibbles, inv_affine_nibbles}
 use Rattle.krb_aes.specs.Rounds.{rows_shifted, columns_raised, round_key, AreRoundKeys, AreInverseRoundKeys}

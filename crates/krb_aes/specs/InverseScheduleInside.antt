@@ -1,6 +1,7 @@
 -- What the code follows: the same of the round keys of the inverse cipher.
 use Rattle.std.specs.Prelude.{◌≡◌, true, false}
-use Rattle.krb_aes.specs.Keys.{AreZero, IsPadded, key_words}
+use Rattle.krb_base.specs.Bytes.{AreZero}
+use Rattle.krb_aes.specs.Keys.{IsPadded, key_words}
 use Rattle.krb_aes.specs.Rounds.{AreInverseRoundKeys, turns_of, zero_keys}
 use Rattle.krb_aes.specs.declared.keys.InverseSchedule.TheInside.{Inside}
 

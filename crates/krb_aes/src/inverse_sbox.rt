@@ -8,7 +8,7 @@
 ghost use Rattle.std.specs.Prelude.{◌≡◌, List, ℕ, map};
 ghost use Rattle.krb_aes.specs.Field.{times};
 ghost use Rattle.krb_aes.specs.InverseCipher.{inv_sbox};
-ghost use Rattle.krb_aes.specs.Words.{AreBytes};
+ghost use Rattle.krb_base.specs.Bytes.{AreBytes};
 ghost use Rattle.krb_aes.specs.Nibbles.{inv_linear_nibbles, inv_affine_nibbles};
 
 use crate::sbox::{high, look_up, low, places};

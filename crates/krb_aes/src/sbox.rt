@@ -11,7 +11,7 @@
 ghost use Rattle.std.specs.Prelude.{◌≡◌, ◌/◌, List, ℕ, map, bit_xor, bit_and};
 ghost use Rattle.krb_aes.specs.Field.{sbox};
 ghost use Rattle.krb_aes.specs.Keys.{sub_word};
-ghost use Rattle.krb_aes.specs.Words.{AreBytes};
+ghost use Rattle.krb_base.specs.Bytes.{AreBytes};
 ghost use Rattle.krb_aes.specs.Nibbles.{ArePlaces, entry, first_place, second_place, nibbles_of, bare_nibbles, bare_doubled};
 
 use crate::words;

@@ -1,2 +1,3 @@
+pub mod OptionSteps
 pub mod LaneLemmas
 pub mod PrefixLemmas

@@ -1,3 +1,6 @@
+pub mod Bytes
+pub mod Secret
+pub mod Steps
 pub mod Lane
 pub mod Limits
 pub mod Prefix

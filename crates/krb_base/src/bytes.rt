@@ -1,6 +1,7 @@
 //! Byte strings, and a part of one in its own block.
 
 ghost use Rattle.std.specs.Prelude.{◌≡◌, ◌≤◌, ◌-◌, drop, length, take};
+ghost use Rattle.krb_base.specs.Bytes.{AreBytes};
 
 use std::alloc::AllocError;
 use std::collections::VecDeque;
@@ -69,3 +70,8 @@ pub fn cut_out(bytes: Vec<u8>, start: usize, end: usize) -> Vec<u8>
     bytes.drain(..start);
     Vec::from(bytes)
 }
+
+/// A law, and no work: the elements of a slice of bytes are bytes, as their type says.
+pub fn known_bytes(bytes: &[u8])
+    ensures { AreBytes bytes.now }
+{}

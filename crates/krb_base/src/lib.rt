@@ -1,4 +1,5 @@
-//! What several crates of the relay use: byte strings on the heap, prefixes of lists, the lane as a
+//! What several crates of the relay use: byte strings on the heap, some of which are
+//! overwritten when they end, prefixes of lists, the lane as a
 //! state machine, and the limits of texts and messages.
 //!
 //! ```rust crates/krb_seal_tests/src/base.rt
@@ -12,8 +13,9 @@ mod bytes;
 mod lane;
 mod limits;
 mod prefix;
+mod secret;
 
-pub use bytes::{Bytes, cut_out};
+pub use bytes::{Bytes, cut_out, known_bytes};
 pub use lane::lane_laws;
 pub use limits::{
     ADDRESS_LIMIT, BATCH_LIMIT, BATCH_SIZE_LIMIT, CAPACITY_LIMIT, ENTRIES_LIMIT, FRAME_LIMIT,
@@ -21,3 +23,4 @@ pub use limits::{
     limit_laws,
 };
 pub use prefix::prefix_laws;
+pub use secret::Secret;

@@ -1,6 +1,6 @@
 -- What wiped openers and receivers are.
 use Rattle.std.specs.Prelude.{◌≡◌, Bool, true, false, Option, Some, None}
-use Rattle.krb_aes.specs.Keys.{AreZero}
+use Rattle.krb_base.specs.Bytes.{AreZero}
 use Rattle.krb_seal.specs.Opens.{OpenerState}
 use Rattle.krb_peers.specs.ReceiverState.{ReceiverState}
 

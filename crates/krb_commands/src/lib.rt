@@ -6,7 +6,8 @@
 //! Each command answers the exit status, or the [`Fault`] that ended it.
 //!
 //! ```text
-//! let job = read_job(alloc, &read_all(alloc, &mut reader)?, Command::Open)?;
+//! let input = read_all(alloc, &mut reader)?;
+//! let job = read_job(alloc, input.as_slice(), Command::Open)?;
 //! let receiving = receiving_of(alloc, &job.senders[0])?;
 //! let status = open_job(alloc, receiving, job.senders[0].frames.as_slice(), &mut writer)?;
 //! ```

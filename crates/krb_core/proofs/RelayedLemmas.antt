@@ -4,7 +4,7 @@ use Rattle.std.proofs.lemmas.List.{length-set, get_or-set_same, get_or-set_other
 use Rattle.std.proofs.lemmas.Bool.{and_parts, lt-ltb, not-true}
 use Rattle.std.proofs.lemmas.Bool.Decides.{leb_tells}
 use Rattle.std.proofs.lemmas.Option.{slice_get_within}
-use Rattle.krb_aes.specs.Words.{AreBytes}
+use Rattle.krb_base.specs.Bytes.{AreBytes}
 use Rattle.krb_base.specs.Lane.{Item, Lane, Frame, End, has_end, frames, is_possible, moved, taken}
 use Rattle.krb_base.specs.Lane as machine
 use Rattle.krb_base.proofs.LaneLemmas.{IsState, frames-append, has_end-append, behind_end, state_empty, state_event, state_moved}

@@ -22,12 +22,12 @@ use Rattle.krb_der.specs.Safe.{safe_fields, safe, IsSafe}
 use Rattle.krb_der.specs.Private.{encrypted_data, private_fields, private, IsPrivate}
 use Rattle.krb_der.specs.Message.{message, IsMessage, SpellsWithin, Spells, SpellsPart, OneSpelling, UniqueSpelling, Decodes}
 use Rattle.krb_base.specs.Limits.{frame_limit}
-use Rattle.krb_time.specs.Steps.{◌>>=◌}
+use Rattle.krb_base.specs.Steps.{◌>>=◌}
 use Rattle.krb_tlv.specs.Reading.{alone, signed, int_of, as_int32, as_below, int32_of, below_of, int32_element_of, below_element_of, octets_of, starts_with, tagged_at, Gives}
 use Rattle.krb_der.specs.Reading.{typed_of, address_of, time_element_of, behind_of, body_of, safe_of, encrypted_of, private_of, message_of, part_of, FindsSpelt}
-use Rattle.krb_tlv.proofs.Numbers.{IsBytes}
+use Rattle.krb_base.specs.Bytes.{AreBytes}
 use Rattle.krb_time.proofs.Times.{time-found, time-again}
-use Rattle.krb_time.proofs.OptionSteps.{bind_some, provided, some_is}
+use Rattle.krb_base.proofs.OptionSteps.{bind_some, provided, some_is}
 use Rattle.krb_tlv.proofs.Elements.{int-found, int-again, chosen, tagged-again}
 use Rattle.krb_tlv.proofs.Readers.{Reads, no_field, field, taken_field, optional_field, all_fields, in_tag, under_tag, length-tagged}
 use Rattle.std.proofs.lemmas.Option.{some_pair_parts, none-some}
@@ -118,7 +118,7 @@ typed_reads =
     let f1 = taken_field 0xA0 0 IsInt32 integer int32_element_of (λ v. v.0) Any _ _ _ integer_reads f2 (omega arith) in
     under_tag 0x30 IsTyped (λ t. concat (TypedFields t)) _ (all_fields 0 _ IsTyped TypedFields _ f1 (λ v h. h.0) (λ v h. (h, (tt, tt))))
 
-address-found : (c : List ℕ) (a : HostAddress) → IsBytes c → address_of c ≡ Some a → IsAddress a × (c ≡ host_address a)
+address-found : (c : List ℕ) (a : HostAddress) → AreBytes c → address_of c ≡ Some a → IsAddress a × (c ≡ host_address a)
 unfolding address_of
 address-found c a fits e =
     let t = bind_some (typed_of c) (λ t. Some (record { kind = t.0; bytes = t.1 })) a e in
@@ -148,7 +148,7 @@ u32_reads = natural_reads (2 ^ 32) (lit≤ tt)
 below_micros : Reads (λ n. n < last_usec + 1) natural (below_element_of (last_usec + 1))
 below_micros = natural_reads (last_usec + 1) (lit≤ tt)
 
-micro-found : (c : List ℕ) (n : ℕ) → IsBytes c → below_element_of (last_usec + 1) c ≡ Some n → IsMicroseconds n × (c ≡ natural n)
+micro-found : (c : List ℕ) (n : ℕ) → AreBytes c → below_element_of (last_usec + 1) c ≡ Some n → IsMicroseconds n × (c ≡ natural n)
 micro-found c n fits e = let f = below_micros.found c n fits e in (omega (arith, f.0), f.1)
 
 micro_reads : Reads IsMicroseconds natural (below_element_of (last_usec + 1))
@@ -249,7 +249,7 @@ priv_reads = under_tag 0x75 IsPrivate (λ m. sequence (private_fields m)) privat
 
 -- ---- a message of either kind
 
-message-found : (c : List ℕ) (m : Message) → IsBytes c → message_of c ≡ Some m → IsMessage m × (c ≡ message m)
+message-found : (c : List ℕ) (m : Message) → AreBytes c → message_of c ≡ Some m → IsMessage m × (c ≡ message m)
 unfolding message_of
 message-found c m fits e =
     elim (chosen (starts_with 0x74 c) _ _ (Some m) e) [
@@ -350,7 +350,7 @@ parts_found = finds IsBody part part_of part_reads
 -- ---- decoding
 
 decodes : {V : Type 0} (P : V → Type 0) (spell : V → List ℕ) (of : List ℕ → Option V) → Reads P spell of → (bytes : List ℕ) (r : Result V DerError)
-    → IsBytes bytes → length bytes ≤ frame_limit → Gives (λ v. v) r (of bytes) → Decodes (SpellsWithin frame_limit P spell) r bytes
+    → AreBytes bytes → length bytes ≤ frame_limit → Gives (λ v. v) r (of bytes) → Decodes (SpellsWithin frame_limit P spell) r bytes
 decodes P spell of r bytes (Ok v) fits le e = let h = r.found bytes v fits e in record { in_range = h.0; spelt = h.1; short = le }
 decodes P spell of r bytes (Err errors.TooLong) fits le e = absurd e
 decodes P spell of r bytes (Err errors.Malformed) fits le e = (
@@ -361,10 +361,10 @@ decodes P spell of r bytes (Err errors.Malformed) fits le e = (
 )
 decodes P spell of r bytes (Err errors.Memory) fits le e = le
 
-pub message_decodes : (bytes : List ℕ) (r : Result Message DerError) → IsBytes bytes → length bytes ≤ frame_limit → Gives (λ m. m) r (message_of bytes) → Decodes Spells r bytes
+pub message_decodes : (bytes : List ℕ) (r : Result Message DerError) → AreBytes bytes → length bytes ≤ frame_limit → Gives (λ m. m) r (message_of bytes) → Decodes Spells r bytes
 message_decodes = decodes IsMessage message message_of message_reads
 
-pub part_decodes : (bytes : List ℕ) (r : Result Body DerError) → IsBytes bytes → length bytes ≤ frame_limit → Gives (λ b. b) r (part_of bytes) → Decodes SpellsPart r bytes
+pub part_decodes : (bytes : List ℕ) (r : Result Body DerError) → AreBytes bytes → length bytes ≤ frame_limit → Gives (λ b. b) r (part_of bytes) → Decodes SpellsPart r bytes
 part_decodes = decodes IsBody part part_of part_reads
 
 -- where bytes are spelt, reading gives their value, or memory runs out

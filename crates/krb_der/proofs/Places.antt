@@ -7,18 +7,18 @@ use Rattle.krb_tlv.specs.Length.{length_octets}
 use Rattle.krb_tlv.specs.Element.{header, tagged}
 use Rattle.krb_tlv.specs.Reading.{alone, tagged_at}
 use Rattle.krb_der.specs.Reading.{EndsWith}
-use Rattle.krb_tlv.proofs.Numbers.{IsBytes}
-use Rattle.krb_tlv.proofs.Elements.{IsBytes-back, tagged-found}
+use Rattle.krb_base.specs.Bytes.{AreBytes}
+use Rattle.krb_tlv.proofs.Elements.{AreBytes-back, tagged-found}
 use Rattle.krb_tlv.proofs.Readers.{in_tag}
 use Rattle.krb_der.proofs.Grammar.{all_bytes}
 
 -- one element stands alone
-alone-found : (tag : ℕ) (bytes content : List ℕ) → IsBytes bytes → alone tag Some bytes ≡ Some content → bytes ≡ tagged tag content
+alone-found : (tag : ℕ) (bytes content : List ℕ) → AreBytes bytes → alone tag Some bytes ≡ Some content → bytes ≡ tagged tag content
 alone-found tag bytes content fits e = ((in_tag tag (λ _. Unit {0}) (λ c. c) Some all_bytes).found bytes content fits e).1
 
-content-fits : (tag : ℕ) (content : List ℕ) → IsBytes (tagged tag content) → IsBytes content
+content-fits : (tag : ℕ) (content : List ℕ) → AreBytes (tagged tag content) → AreBytes content
 unfolding tagged header
-content-fits tag content h = IsBytes-back (tag ∷ length_octets (length content)) content h
+content-fits tag content h = AreBytes-back (tag ∷ length_octets (length content)) content h
 
 -- bytes that end others end what those end, and what stands under a tag is the last of its element
 ends-again : (last inner bytes : List ℕ) → EndsWith last inner → EndsWith inner bytes → EndsWith last bytes
@@ -28,14 +28,14 @@ ends-tagged : (tag : ℕ) (content rest : List ℕ) → EndsWith (content ++ res
 unfolding tagged header
 ends-tagged tag content rest = (tag ∷ length_octets (length content), rw append_assoc refl)
 
-pub ends-alone : (tag : ℕ) (last content bytes : List ℕ) → IsBytes bytes → alone tag Some bytes ≡ Some content → (IsBytes content → EndsWith last content) → EndsWith last bytes
+pub ends-alone : (tag : ℕ) (last content bytes : List ℕ) → AreBytes bytes → alone tag Some bytes ≡ Some content → (AreBytes content → EndsWith last content) → EndsWith last bytes
 ends-alone tag last content bytes fits e inside =
     let spelt = alone-found tag bytes content fits e in
     let one : EndsWith content bytes = subst (EndsWith content) (sym spelt) (rw (append-nil content, append-nil (tagged tag content)) at (ends-tagged tag content [])) in
-    ends-again last content bytes (inside (content-fits tag content (subst IsBytes spelt fits))) one
+    ends-again last content bytes (inside (content-fits tag content (subst AreBytes spelt fits))) one
 
 -- the data, and what stands behind them, end the fields of a body
-pub ends-data : (fields element user_data rest : List ℕ) → IsBytes fields → tagged_at (context 0) fields ≡ Some (element, rest) → alone octet_string_tag Some element ≡ Some user_data → EndsWith (user_data ++ rest) fields
+pub ends-data : (fields element user_data rest : List ℕ) → AreBytes fields → tagged_at (context 0) fields ≡ Some (element, rest) → alone octet_string_tag Some element ≡ Some user_data → EndsWith (user_data ++ rest) fields
 ends-data fields element user_data rest fits e d =
     let t = tagged-found (context 0) fields (element, rest) fits e in
     let spelt = alone-found octet_string_tag element user_data t.content_fits d in

@@ -3,10 +3,11 @@
 -- grammar; the contracts of `decode` and `decode_part` are in the words of Message.antt.
 use Rattle.std.specs.Prelude.{◌≡◌, ℕ, ◌+◌, ◌^◌, ◌<◌, ◌≤◌, ◌↔◌, ℤ, List, ◌++◌, length, get_or}
 use Rattle.std.specs.Prelude.{Option, Some, if◌then◌else◌}
+use Rattle.krb_base.specs.Bytes.{AreBytes}
 use Rattle.krb_base.specs.Limits.{frame_limit}
 use Rattle.krb_time.specs.Moment.{last_usec}
 use Rattle.krb_time.specs.Reading.{time_of}
-use Rattle.krb_time.specs.Steps.{◌>>=◌}
+use Rattle.krb_base.specs.Steps.{◌>>=◌}
 use Rattle.krb_der.specs.declared.address.HostAddress.{HostAddress}
 use Rattle.krb_der.specs.declared.body.Body.{Body}
 use Rattle.krb_der.specs.declared.body.Details.{Details}
@@ -128,5 +129,5 @@ part_of bytes = do
 -- Of bytes within the limit, reading finds a value if and only if they spell it.
 abbrev pub FindsSpelt : {V : Type 0} → (V → List ℕ → Type 0) → (List ℕ → Option V) → Type 0
 FindsSpelt {V} Spelt of =
-    (v : V) (bytes : List ℕ) → ((i : ℕ) → get_or bytes i 0 < 256) → length bytes ≤ frame_limit
+    (v : V) (bytes : List ℕ) → AreBytes bytes → length bytes ≤ frame_limit
     → (of bytes ≡ Some v) ↔ Spelt v bytes

@@ -14,7 +14,7 @@ ghost use Rattle.krb_der.specs.Writing.{IsShortBody};
 
 use crate::body::{Body, BodyRef, read_body, read_details, split_data};
 use crate::tag;
-use krb_base::{Bytes, FRAME_LIMIT, cut_out};
+use krb_base::{Bytes, FRAME_LIMIT, Secret, cut_out, known_bytes};
 use krb_tlv::{DerError, Writer, only_element, size_around};
 use std::alloc::{AllocError, Global};
 
@@ -130,35 +130,33 @@ pub fn decode_part(alloc: Global, bytes: &[u8]) -> Result<Body, DerError>
     read_part(alloc, bytes)
 }
 
-/// The same as `read_part` of the bytes from `start` on; its data keep the block of the bytes.
-fn take_part(alloc: Global, bytes: Vec<u8>, start: usize) -> Result<Body, DerError>
-    requires { start ≤ length bytes.items }
-    ensures { Gives (λ x. x) result (part_of (drop start bytes.items)) }
+/// The same as `read_part` of the bytes from `start` on; its data keep the block of the bytes, and
+/// the block is overwritten if there is no body.
+fn take_part(alloc: Global, bytes: Secret, start: usize) -> Result<Body, DerError>
+    requires { start ≤ length bytes }
+    ensures { Gives (λ x. x) result (part_of (drop start bytes)) }
 {
-    let (data, behind) = split_part(&bytes[start..])?;
+    let (data, behind) = split_part(&bytes.as_slice()[start..])?;
     let details = read_details(alloc, behind)?;
-    let end = bytes.len() - behind.len();
+    let end = bytes.as_slice().len() - behind.len();
     let front = end - data.len();
-    Ok(details.with(Bytes::new(cut_out(bytes, front, end))))
+    let data = cut_out(bytes.into_vec(alloc), front, end);
+    Ok(details.with(Bytes::new(data)))
 }
-
-// A law: the elements of a slice of bytes are bytes, as their type says. It does nothing when it
-// runs.
-fn known_bytes(bytes: &[u8])
-    ensures { (i : ℕ) → get_or bytes.now i 0 < 256 }
-{}
 
 /// The body that the bytes from `start` on spell as the encrypted part of KRB-PRIV, as
 /// [`decode_part`] gives it. Its data stay in the block of the bytes: they are moved to its
-/// beginning, and nothing is allocated for them.
+/// beginning, and nothing is allocated for them. If there is no body, the block is overwritten before
+/// it is freed, since it holds what was deciphered.
 pub fn decode_part_from(alloc: Global, bytes: Vec<u8>, start: usize) -> Result<Body, DerError>
     requires { start ≤ length bytes.items }
     ensures answer { Decodes SpellsPart result (drop start bytes.items) }
     ensures only { (b : BodyValue) → SpellsPart b (drop start bytes.items)
         → MatchResult result (λ v. v ≡ b) (λ e. e ≡ Memory) }
 {
-    known_bytes(&bytes);
-    if bytes.len() - start > FRAME_LIMIT {
+    let bytes = Secret::new(bytes);
+    known_bytes(bytes.as_slice());
+    if bytes.as_slice().len() - start > FRAME_LIMIT {
         return Err(DerError::TooLong);
     }
     take_part(alloc, bytes, start)

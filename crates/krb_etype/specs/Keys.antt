@@ -1,7 +1,7 @@
 -- The keys that protect messages, derived from a session key (RFC 3961 section 5.3) with the key
 -- usages of RFC 4120 section 7.5.1.
 use Rattle.std.specs.Prelude.{◌≡◌, ◌≤◌, ℕ, List, ◌++◌, length}
-use Rattle.krb_aes.specs.Words.{AreBytes}
+use Rattle.krb_base.specs.Bytes.{AreBytes}
 use Rattle.krb_aes.specs.Stealing.{cts_of}
 use Rattle.krb_keys.specs.Hmac.{hmac96}
 use Rattle.krb_keys.specs.Derivation.{dk}

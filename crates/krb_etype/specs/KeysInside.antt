@@ -1,7 +1,7 @@
 -- The keys beside a session key are those derived from it, for each purpose that was asked for, until
 -- all of them are wiped.
 use Rattle.std.specs.Prelude.{◌≡◌, true, false, IfSome, MatchOption}
-use Rattle.krb_aes.specs.Keys.{AreZero}
+use Rattle.krb_base.specs.Bytes.{AreZero}
 use Rattle.krb_keys.specs.MacKey.{HoldsKey, IsForgotten}
 use Rattle.krb_etype.specs.declared.keys.Purpose.TheVariants.{Checksum, Encryption}
 use Rattle.krb_etype.specs.Keys.{checksum_key}

@@ -1,6 +1,7 @@
 -- What the keys of KRB-PRIV of one end are, and what is left of them once they are wiped.
 use Rattle.std.specs.Prelude.{◌≡◌, ℕ, List}
-use Rattle.krb_aes.specs.Keys.{expanded_key, AreZero}
+use Rattle.krb_base.specs.Bytes.{AreZero}
+use Rattle.krb_aes.specs.Keys.{expanded_key}
 use Rattle.krb_keys.specs.MacKey.{HoldsKey, IsForgotten}
 use Rattle.krb_etype.specs.Keys.{encryption_key, integrity_key}
 use Rattle.krb_etype.specs.declared.private_keys.End.{End}

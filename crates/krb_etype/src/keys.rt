@@ -2,13 +2,12 @@
 
 ghost use Rattle.std.specs.Prelude.{◌≡◌, ◌↔◌, ◌≤◌, ◌+◌, ◌++◌, IsTrue, false, length};
 ghost use Rattle.krb_aes.specs.Stealing.{cts_of};
-ghost use Rattle.krb_aes.specs.Words.{AreBytes};
+ghost use Rattle.krb_base.specs.Bytes.{AreBytes};
 ghost use Rattle.krb_keys.specs.Hmac.{hmac96, joined};
 ghost use Rattle.krb_etype.specs.declared.private_keys.End.TheVariants.{Sealer, Opener};
 ghost use Rattle.krb_etype.specs.declared.keys.Purpose.TheVariants.{Checksum, Encryption};
 ghost use Rattle.krb_etype.specs.Etype.{code_size, confounder_size};
-ghost use Rattle.krb_etype.specs.Keys.{checksum_key, encryption_key, tag_of};
-ghost use Rattle.krb_etype.specs.Keys.{IsEncryption};
+ghost use Rattle.krb_etype.specs.Keys.{checksum_key, encryption_key, tag_of, IsEncryption};
 ghost use Rattle.krb_etype.specs.HeldKeys.{fresh_keys, keys_for, wiped_keys};
 ghost use Rattle.krb_etype.specs.PrivateKeys.{ArePrivateKeys};
 

@@ -1,9 +1,9 @@
 //! The keys of KRB-PRIV, as one end uses them.
 
 ghost use Rattle.std.specs.Prelude.{◌≡◌, ◌≤◌, ℕ, List, length};
-ghost use Rattle.krb_aes.specs.Keys.{expanded_key, AreZero};
+ghost use Rattle.krb_base.specs.Bytes.{AreZero, AreBytes};
+ghost use Rattle.krb_aes.specs.Keys.{expanded_key};
 ghost use Rattle.krb_aes.specs.Stealing.{cts_of};
-ghost use Rattle.krb_aes.specs.Words.{AreBytes};
 ghost use Rattle.krb_etype.specs.Keys.{encryption_key, tag_of};
 ghost use Rattle.krb_etype.specs.PrivateKeys.{AreForgotten, AreOf, ArePrivateKeys, words_of};
 ghost use Rattle.krb_etype.specs.declared.private_keys.End.TheVariants as ends;

@@ -1,7 +1,7 @@
 -- The digits of a text one after another.
 use Rattle.std.proofs.Common.{◌≡◌, ℕ, ◌+◌, ◌*◌, ◌<◌, ◌≤◌, List, length, drop, get_or, Some, None, ap, ◌∙◌}
 use Rattle.std.proofs.lemmas.List.{at_drop_more, at_drop_all}
-use Rattle.krb_time.specs.Steps.{◌>>=◌}
+use Rattle.krb_base.specs.Steps.{◌>>=◌}
 use Rattle.krb_job.specs.Decimal.{digit_of, digits_from}
 
 pub digit_step : (text : List ℕ) (i n d : ℕ) → i < length text → digit_of (get_or text i 0) ≡ Some d

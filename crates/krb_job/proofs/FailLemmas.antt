@@ -5,7 +5,7 @@ use Rattle.krb_job.specs.declared.place.Place.{Place}
 use Rattle.krb_job.specs.declared.place.KeyError.{KeyError}
 use Rattle.krb_job.specs.declared.place.KeyError.TheVariants as errors
 use Rattle.toml.specs.Data.{Data, Members}
-use Rattle.krb_time.specs.Steps.{◌>>=◌}
+use Rattle.krb_base.specs.Steps.{◌>>=◌}
 use Rattle.krb_job.specs.Checks.{Fails, Gives}
 use Rattle.krb_job.specs.Keys.{at_key, needed, barred, only_if, some}
 

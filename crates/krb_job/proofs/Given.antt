@@ -2,8 +2,8 @@
 use Rattle.std.proofs.Common.{◌≡◌, Bool, true, false, cond, Option, Some, None, Result, Ok, Err, ok_or, refl, ap}
 use Rattle.toml.specs.Data.{Data, Members}
 use Rattle.krb_job.specs.declared.place.Place.{Place}
-use Rattle.krb_time.specs.Steps.{◌>>=◌}
-use Rattle.krb_time.proofs.OptionSteps.{bind_some}
+use Rattle.krb_base.specs.Steps.{◌>>=◌}
+use Rattle.krb_base.proofs.OptionSteps.{bind_some}
 use Rattle.krb_job.specs.Checks.{◌>>=◌ as ◌then◌}
 use Rattle.krb_job.specs.Keys.{at_key, needed, barred}
 

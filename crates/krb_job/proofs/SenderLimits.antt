@@ -8,12 +8,12 @@ use Rattle.hex.specs.Hex.{decode_of}
 use Rattle.toml.specs.Data.{Data, string, integer, float, boolean, datetime, array, table, Items, no_items, item, Members}
 use Rattle.krb_base.specs.Limits.{text_limit}
 use Rattle.krb_job.specs.declared.place.Place.{Place}
-use Rattle.krb_time.specs.Steps.{◌>>=◌}
+use Rattle.krb_base.specs.Steps.{◌>>=◌}
 use Rattle.krb_job.specs.Limits.{AreShortTexts}
 use Rattle.krb_job.specs.Values.{sized, bytes_of}
 use Rattle.krb_job.specs.Lists.{count, each, items_of, moment_of, moments_of, texts_of}
 use Rattle.krb_job.specs.Keys.{at_key, needed, only_if}
-use Rattle.krb_time.proofs.OptionSteps.{bind_some}
+use Rattle.krb_base.proofs.OptionSteps.{bind_some}
 use Rattle.krb_job.proofs.Given.{within, value_at, barred-absent}
 
 -- no more bytes than allowed were read

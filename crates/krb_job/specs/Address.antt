@@ -4,7 +4,7 @@ use Rattle.std.specs.Prelude.{ℕ, List, Option, Some, None}
 use Rattle.krb_base.specs.Limits.{address_limit}
 use Rattle.toml.specs.Data.{Data, string}
 use Rattle.krb_der.specs.declared.address.HostAddress.{HostAddress}
-use Rattle.krb_time.specs.Steps.{◌>>=◌}
+use Rattle.krb_base.specs.Steps.{◌>>=◌}
 use Rattle.krb_job.specs.Decimal.{int32_of}
 use Rattle.krb_job.specs.Text.{split_at}
 use Rattle.krb_job.specs.Values.{hex_of}

@@ -2,7 +2,7 @@
 use Rattle.std.specs.Prelude.{ℕ, ◌+◌, ◌-◌, ◌*◌, ◌^◌, ◌==◌, nat_le, nat_lt, ℤ, pos, ◌-ℤ◌, Bool, true}
 use Rattle.std.specs.Prelude.{false, not, ◌&&◌, List, [], ◌∷◌, length, Option, Some, None}
 use Rattle.std.specs.Prelude.{if◌then◌else◌}
-use Rattle.krb_time.specs.Steps.{◌>>=◌}
+use Rattle.krb_base.specs.Steps.{◌>>=◌}
 
 -- the value of a digit from `0` to `9`, which are 48 to 57
 abbrev pub digit_of : ℕ → Option ℕ

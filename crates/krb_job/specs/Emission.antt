@@ -8,7 +8,7 @@ use Rattle.hex.specs.Hex.{decode_sized}
 use Rattle.krb_base.specs.Limits.{raw_limit}
 use Rattle.krb_peers.specs.declared.plan.Emit.{Emit}
 use Rattle.krb_peers.specs.declared.plan.Emit.TheVariants.{Frame, Flip, Raw}
-use Rattle.krb_time.specs.Steps.{◌>>=◌}
+use Rattle.krb_base.specs.Steps.{◌>>=◌}
 use Rattle.krb_job.specs.Decimal.{decimal_of}
 use Rattle.krb_job.specs.Text.{split_at}
 use Rattle.krb_job.specs.Values.{hex_of}

@@ -8,7 +8,6 @@ pub mod Keys
 pub mod Limits
 pub mod Lists
 pub mod Place
-pub mod Secret
 pub mod SenderKeys
 pub mod SenderView
 pub mod Text

@@ -1,7 +1,7 @@
 -- Parts of a text.
 use Rattle.std.specs.Prelude.{ℕ, ◌+◌, ◌==◌, List, take, drop, Option, Some}
 use Rattle.std.specs.List.{position}
-use Rattle.krb_time.specs.Steps.{◌>>=◌}
+use Rattle.krb_base.specs.Steps.{◌>>=◌}
 
 -- the text before the first such byte, and the text after it
 abbrev pub split_at : ℕ → List ℕ → Option (List ℕ × List ℕ)

@@ -10,7 +10,7 @@ use Rattle.krb_etype.specs.declared.etype.Etype.{Etype}
 use Rattle.krb_seal.specs.declared.session.Mode.{Mode}
 use Rattle.krb_seal.specs.declared.session.Mode.TheVariants as modes
 use Rattle.krb_etype.specs.Etype as etypes
-use Rattle.krb_time.specs.Steps.{◌>>=◌}
+use Rattle.krb_base.specs.Steps.{◌>>=◌}
 
 -- a whole number from low to high
 abbrev pub number_of : ℕ → ℕ → Data → Option ℕ

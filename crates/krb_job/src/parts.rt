@@ -5,7 +5,7 @@ ghost use Rattle.krb_base.specs.Limits.{last_number, skew_limit};
 ghost use Rattle.krb_seal.specs.Session.{IsShortAddress};
 ghost use Rattle.krb_etype.specs.Etype.{key_size};
 
-use crate::secret::Secret;
+use krb_base::Secret;
 use krb_der::HostAddress;
 use krb_seal::{Etype, Mode};
 

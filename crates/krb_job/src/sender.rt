@@ -15,12 +15,12 @@ ghost use Rattle.krb_job.specs.SenderView.{keys_of, protection_view, parties_vie
 use crate::job::{Command, SenderJob};
 use crate::parts::{Parties, Protection};
 use crate::place::{KeyError, Place, SENDER_KEYS};
-use crate::secret::Secret;
+use krb_base::Secret;
 use crate::table::{
     address, batch, etype, flag, frames, has_only, mode, moments, moments_if, needed, number, plan,
     seed, texts,
 };
-use crate::values::read_bytes;
+use crate::values::read_secret;
 use krb_base::SKEW_LIMIT;
 use krb_seal::Etype;
 use std::alloc::Global;
@@ -44,9 +44,7 @@ fn key(
         (needed Place.Key (key_of etype (keys_of earlier.now)) (table_view table.now)) }
 {
     let value = needed(table, Place::Key)?;
-    let size = etype.key_size();
-    let bytes = read_bytes(alloc, Place::Key, value, size, size)?;
-    let key = Secret::new(bytes.into_vec());
+    let key = read_secret(alloc, Place::Key, value, etype.key_size())?;
     if is_used(key.as_slice(), earlier) {
         Err(KeyError::Bad(Place::Key))
     } else {

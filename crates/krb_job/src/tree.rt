@@ -9,7 +9,7 @@ ghost use Rattle.krb_job.specs.Job.{are_senders, most_senders, has_top_keys};
 
 use crate::bad_input::{BadInput, JobError};
 use crate::job::Command;
-use crate::secret::Secret;
+use krb_base::Secret;
 use crate::table::{get, has_only};
 use crate::values::read_number;
 use krb_base::{CAPACITY_LIMIT, LANE_LIMIT};
@@ -28,28 +28,25 @@ pub(crate) fn read_tree(alloc: Global, bytes: &[u8]) -> Result<Table, JobError>
     }
 }
 
-/// Drops a document, and first overwrites the texts of its senders, with their keys.
+/// Drops a document, and first overwrites each text in it, at every depth: its keys may stand
+/// anywhere.
 pub(crate) fn wipe_tree(table: Table) {
-    for (_, value) in table {
-        if let Value::Array(items) = value {
-            wipe_senders(items);
-        }
+    for (name, value) in table {
+        drop(Secret::new(name.into_bytes()));
+        wipe_value(value);
     }
 }
 
-fn wipe_senders(items: Array) {
-    for item in items {
-        if let Value::Table(table) = item {
-            wipe_texts(table);
+fn wipe_value(value: Value) {
+    match value {
+        Value::String(text) => drop(Secret::new(text.into_bytes())),
+        Value::Array(items) => {
+            for item in items {
+                wipe_value(item);
+            }
         }
-    }
-}
-
-fn wipe_texts(table: Table) {
-    for (_, value) in table {
-        if let Value::String(text) = value {
-            drop(Secret::new(text.into_bytes()));
-        }
+        Value::Table(table) => wipe_tree(table),
+        _ => {}
     }
 }
 

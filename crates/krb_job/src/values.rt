@@ -8,7 +8,7 @@ ghost use Rattle.krb_job.specs.Values.{bytes_of, seed_of};
 
 use crate::place::{KeyError, Place};
 use hex::FromHexError;
-use krb_base::Bytes;
+use krb_base::{Bytes, Secret};
 use krb_seal::{Etype, Mode};
 use std::alloc::Global;
 use toml::Value;
@@ -83,6 +83,40 @@ pub(crate) fn read_bytes(
     match value.as_str() {
         Some(text) => read_hex(alloc, place, text.as_bytes(), low, high),
         None => Err(KeyError::Bad(place)),
+    }
+}
+
+/// The bytes of a hexadecimal text, so many of them, in a block that is overwritten before it is
+/// freed: also if they are too few or too many, or a digit is none.
+pub(crate) fn read_secret(
+    alloc: Global,
+    place: Place,
+    value: &Value,
+    size: usize,
+) -> Result<Secret, KeyError>
+    ensures { Gives (λ b. b) result (ok_or (bytes_of size size (view value.now)) place) }
+{
+    match value.as_str() {
+        Some(text) => decode_secret(alloc, place, text.as_bytes(), size),
+        None => Err(KeyError::Bad(place)),
+    }
+}
+
+/// The same of its digits.
+fn decode_secret(
+    alloc: Global,
+    place: Place,
+    text: &[u8],
+    size: usize,
+) -> Result<Secret, KeyError>
+    ensures { Gives (λ b. b) result (ok_or (hex_of size size text.now) place) }
+{
+    let mut bytes = vec![in alloc; 0; text.len() / 2]?;
+    let decoded = hex::decode_to_slice(text, &mut bytes);
+    let secret = Secret::new(bytes);
+    match decoded {
+        Ok(()) if secret.as_slice().len() == size => Ok(secret),
+        _ => Err(KeyError::Bad(place)),
     }
 }
 

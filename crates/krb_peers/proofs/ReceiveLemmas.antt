@@ -1,6 +1,6 @@
 -- What a verdict leaves of a receiver and of a log.
 use Rattle.std.proofs.Common.{◌≡◌, ℕ, Bool, List, Ok, Err, sym, ap, ◌∙◌}
-use Rattle.krb_aes.specs.Words.{AreBytes}
+use Rattle.krb_base.specs.Bytes.{AreBytes}
 use Rattle.krb_seal.specs.declared.refusal.Refusal.{Refusal}
 use Rattle.krb_peers.specs.declared.delivery.Delivery.{Delivery}
 use Rattle.krb_peers.specs.Demand.{Demand}

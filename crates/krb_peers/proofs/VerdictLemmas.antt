@@ -11,7 +11,7 @@ use Rattle.krb_record.proofs.ReadingLemmas.{found_is_spelt, spelt_is_found}
 use Rattle.std.specs.Prelude.{option_map}
 use Rattle.krb_seal.specs.declared.refusal.Refusal.{Refusal}
 use Rattle.krb_seal.specs.declared.refusal.Refusal.TheVariants as refusals
-use Rattle.krb_aes.specs.Words.{AreBytes}
+use Rattle.krb_base.specs.Bytes.{AreBytes}
 use Rattle.krb_seal.specs.Opens.{OpenerState, Outcome, Opens}
 use Rattle.krb_seal.specs.Opening.{opens}
 use Rattle.krb_seal.proofs.Openings.{one_outcome}

@@ -3,7 +3,7 @@ use Rattle.std.specs.Prelude.{◌≡◌, ◌↔◌, ◌<◌, ℕ, suc, ◌+◌, 
 use Rattle.std.specs.Prelude.{All, IsOk, None}
 use Rattle.std.specs.List.{Contains, flat_map}
 use Rattle.krb_base.specs.Prefix.{IsPrefix}
-use Rattle.krb_aes.specs.Words.{AreBytes}
+use Rattle.krb_base.specs.Bytes.{AreBytes}
 use Rattle.krb_seal.specs.Opens.{OpenerState}
 use Rattle.krb_record.specs.declared.record.Record.{Record}
 use Rattle.krb_record.specs.declared.record.Record.TheVariants.{Close}

@@ -1,7 +1,7 @@
 -- What a receiver returns.
 use Rattle.std.specs.Prelude.{◌≡◌, ◌⊎◌, ◌≤◌, ℕ, Bool, false, List, length, Err}
 use Rattle.krb_seal.specs.declared.refusal.Refusal.TheVariants.{Memory}
-use Rattle.krb_aes.specs.Keys.{AreZero}
+use Rattle.krb_base.specs.Bytes.{AreZero}
 use Rattle.krb_base.specs.Limits.{frame_limit}
 use Rattle.krb_peers.specs.declared.receiver.Receiving.{Receiving}
 use Rattle.krb_peers.specs.Order.{demand_after, next_demand}

@@ -4,7 +4,7 @@ use Rattle.std.specs.Prelude.{◌∷◌, length, map, take, slice_get, Option, S
 use Rattle.std.specs.Prelude.{Result, Ok, Err, if◌then◌else◌}
 use Rattle.std.specs.Result.{MatchResult}
 use Rattle.std.specs.List.{flat_map}
-use Rattle.krb_aes.specs.Words.{AreBytes}
+use Rattle.krb_base.specs.Bytes.{AreBytes}
 use Rattle.krb_base.specs.Limits.{text_limit}
 use Rattle.krb_record.specs.Reading.{batch_in}
 use Rattle.krb_seal.specs.declared.refusal.Refusal.{Refusal}

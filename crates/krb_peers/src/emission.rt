@@ -5,7 +5,7 @@ ghost use Rattle.krb_peers.specs.Plan.{contents, is_good, is_good_emission, emis
 ghost use Rattle.krb_peers.specs.Verdicts.{AllBytes};
 
 use crate::plan::{Emit, EmitError};
-use krb_aes::known_bytes;
+use krb_base::known_bytes;
 use std::alloc::{AllocError, Global};
 
 /// What `plan` makes of `frames`: one frame for each emission, in order.

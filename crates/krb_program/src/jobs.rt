@@ -20,7 +20,7 @@ ghost use Rattle.krb_program.specs.Commands.{RelaysTold, RelaysToldPrefix, Relay
 use krb_commands::{
     Fault, open_job, push_lane, read_all, receiving_of, relay_job, seal_job, sealer_of, sending_of,
 };
-use krb_job::{Command, Job, Secret, SenderJob, read_job};
+use krb_job::{Command, Job, SenderJob, read_job};
 use krb_peers::{Receivers, Receiving, Sending};
 use krb_relay::Gate;
 use krb_seal::Sealer;
@@ -209,8 +209,7 @@ fn told_job<R: Read>(alloc: Global, reader: &mut R, command: Command) -> Result<
     ensures reading { ReadsInput command (R.remaining reader.old) FailsCheck result }
     ensures faults { IfErr result IsOfTelling }
 {
-    let bytes = read_all(alloc, reader)?;
-    let input = Secret::new(bytes);
+    let input = read_all(alloc, reader)?;
     Ok(read_job(alloc, input.as_slice(), command)?)
 }
 

@@ -1,7 +1,7 @@
 //! What a worker does: it seals its sender's records, and sends the frames.
 
 ghost use Rattle.std.specs.Prelude.{◌≡◌, ◌+◌, ◌<◌, ◌≤◌, ◌++◌, ◌∷◌, [], ℕ, List, length, false, true, None, IfOk, IfErr, OnOk, OnErr};
-ghost use Rattle.krb_aes.specs.Words.{AreBytes};
+ghost use Rattle.krb_base.specs.Bytes.{AreBytes};
 ghost use Rattle.krb_base.specs.Prefix.{IsPrefix};
 ghost use Rattle.krb_peers.specs.Plan.{contents};
 ghost use Rattle.krb_peers.specs.Sender.{Source, records, texts_before};
@@ -9,7 +9,7 @@ ghost use Rattle.krb_peers.specs.Sending.{source_of, before, IsSender, HasSealed
 ghost use Rattle.krb_relay.specs.Sent.{IsAll, IsCut, IsOfSealing, Sends, Served, sealed_since};
 
 use crate::cause::Cause;
-use krb_aes::known_bytes;
+use krb_base::known_bytes;
 use krb_lane::{LaneTx, SentAll};
 use krb_peers::{Gate, Sending, emit_sealed_within};
 use krb_seal::{SealError, Sealer};

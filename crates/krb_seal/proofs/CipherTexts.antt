@@ -4,8 +4,7 @@ use Rattle.krb_aes.specs.Keys.{expanded_key}
 use Rattle.krb_aes.specs.Stealing.{cts}
 use Rattle.krb_aes.proofs.StealingLemmas.{length-cts}
 use Rattle.krb_aes.proofs.UniqueLemmas.{cts_same, front_same, back_same}
-use Rattle.krb_etype.specs.Keys.{encryption_key}
-use Rattle.krb_etype.specs.Keys.{IsEncryption}
+use Rattle.krb_etype.specs.Keys.{encryption_key, IsEncryption}
 
 pub one_text : (key cipher a s b t : List ℕ) → IsEncryption key cipher a s → IsEncryption key cipher b t → (a ≡ b) × (s ≡ t)
 one_text key cipher a s b t p q =

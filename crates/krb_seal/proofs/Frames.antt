@@ -3,7 +3,7 @@ use Rattle.std.proofs.Common.{◌≡◌, ℕ, ◌+◌, ◌*◌, ◌≤◌, List,
 use Rattle.std.proofs.lemmas.List.{length-replicate}
 use Rattle.krb_aes.specs.Keys.{expanded_key}
 use Rattle.krb_aes.specs.Stealing.{cts}
-use Rattle.krb_aes.specs.Words.{AreBytes}
+use Rattle.krb_base.specs.Bytes.{AreBytes}
 use Rattle.krb_aes.proofs.StealingLemmas.{length-cts}
 use Rattle.krb_keys.proofs.HmacLemmas.{length-hmac96}
 use Rattle.std.specs.Prelude.{IfOk, OnOk}

@@ -4,7 +4,7 @@ use Rattle.std.specs.List.{concat}
 use Rattle.std.proofs.lemmas.List.{take-append-drop, length-take-le}
 use Rattle.std.proofs.lemmas.Bool.{leb-true}
 use Rattle.std.proofs.lemmas.Option.{none-some}
-use Rattle.krb_aes.specs.Words.{AreBytes}
+use Rattle.krb_base.specs.Bytes.{AreBytes}
 use Rattle.krb_aes.specs.Keys.{expanded_key}
 use Rattle.krb_aes.specs.Stealing.{cts}
 use Rattle.krb_aes.proofs.StealingLemmas.{cts_is, length-cts}
@@ -24,9 +24,8 @@ use Rattle.krb_der.specs.Private.{private, private_fields, encrypted_data, encry
 use Rattle.krb_der.specs.Message.{message, Spells, SpellsPart}
 use Rattle.krb_der.specs.Reading.{message_of, part_of}
 use Rattle.krb_der.proofs.Grammar.{message_reads, part_reads}
-use Rattle.krb_etype.specs.Keys.{encryption_key}
+use Rattle.krb_etype.specs.Keys.{encryption_key, IsEncryption}
 use Rattle.krb_seal.specs.Opens.{OpenerState, Outcome, Checks, Passes, Read, Decrypt, OpensPart, OpensText, OpensMessage, Opens, frame_checks, safe_checks, priv_header, text_checks, body_checks}
-use Rattle.krb_etype.specs.Keys.{IsEncryption}
 use Rattle.krb_seal.specs.Opening.{passed, read, text_in, tag_in, opens_part, opens_text, opens_message, opens}
 use Rattle.krb_seal.specs.Laws.{OneOutcome}
 use Rattle.krb_seal.proofs.Outcomes.{outcomes_unique}
@@ -46,7 +45,7 @@ reads Spelt bytes (Some v) Then next found again h = inr (v, found v refl, h v (
 -- ---- reading is spelling
 
 message_found : (bytes : List ℕ) (m : Message) → AreBytes bytes → length bytes ≤ frame_limit → message_of bytes ≡ Some m → Spells m bytes
-message_found bytes m fits le e = let h = message_reads.found bytes m fits.small e in record { in_range = h.0; spelt = h.1; short = le }
+message_found bytes m fits le e = let h = message_reads.found bytes m fits e in record { in_range = h.0; spelt = h.1; short = le }
 
 message_again : (bytes : List ℕ) (m : Message) → Spells m bytes → message_of bytes ≡ Some m
 message_again bytes m s =
@@ -54,7 +53,7 @@ message_again bytes m s =
     ap message_of s.spelt ∙ message_reads.again m s.in_range (omega arith)
 
 part_found : (bytes : List ℕ) (b : Body) → AreBytes bytes → length bytes ≤ frame_limit → part_of bytes ≡ Some b → SpellsPart b bytes
-part_found bytes b fits le e = let h = part_reads.found bytes b fits.small e in record { in_range = h.0; spelt = h.1; short = le }
+part_found bytes b fits le e = let h = part_reads.found bytes b fits e in record { in_range = h.0; spelt = h.1; short = le }
 
 part_again : (bytes : List ℕ) (b : Body) → SpellsPart b bytes → part_of bytes ≡ Some b
 part_again bytes b s =

@@ -32,11 +32,10 @@ use Rattle.krb_seal.specs.declared.session.Session.{Session}
 use Rattle.krb_seal.specs.declared.session.Expect.{Expect}
 use Rattle.krb_seal.specs.declared.refusal.Refusal.{Refusal}
 use Rattle.krb_etype.specs.declared.etype.Etype.{Etype}
-use Rattle.krb_etype.specs.Keys.{encryption_key, tag_of, encrypted}
+use Rattle.krb_etype.specs.Keys.{encryption_key, tag_of, encrypted, IsEncryption}
 use Rattle.krb_etype.specs.Etype.{number_of}
 use Rattle.krb_seal.specs.Seals.{safe_checksum, body_of, sealed_safe, sealed_priv, sealed_as, sealed_message, sealed, Seals}
 use Rattle.krb_seal.specs.Opens.{OpenerState, Outcome, Checks, Passes, Read, Decrypt, OpensPart, OpensText, OpensMessage, opener_of, frame_checks, safe_checks, priv_header, text_checks, body_checks, receiver_fits, addresses_fit, is_current, is_number, is_safe, distance}
-use Rattle.krb_etype.specs.Keys.{IsEncryption}
 use Rattle.krb_seal.specs.Laws.{ReceiverAgrees, Agree, OneFrame, NowhereElse, AtItsNumber}
 use Rattle.krb_etype.proofs.Etypes.{one_number, int_is, own_checksum}
 use Rattle.krb_seal.proofs.CipherTexts.{one_text}

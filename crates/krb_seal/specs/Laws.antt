@@ -1,6 +1,6 @@
 -- What holds of sealing and opening.
 use Rattle.std.specs.Prelude.{◌≡◌, ℕ, ◌*◌, ◌≤◌, ◌↔◌, ℤ, List, Option, Some, None, Ok, false}
-use Rattle.krb_aes.specs.Words.{AreBytes}
+use Rattle.krb_base.specs.Bytes.{AreBytes}
 use Rattle.krb_der.specs.declared.address.HostAddress.{HostAddress}
 use Rattle.krb_der.specs.declared.body.Body.{Body}
 use Rattle.krb_der.specs.Moment.{micros_per_second}

@@ -1,7 +1,7 @@
 -- What an opener keeps of its keys: they are those of an opener for the mode that it expects, and the
 -- session key has its type's size. Once they are wiped, the session key is zeros.
 use Rattle.std.specs.Prelude.{◌≡◌, true, length}
-use Rattle.krb_aes.specs.Keys.{AreZero}
+use Rattle.krb_base.specs.Bytes.{AreZero}
 use Rattle.krb_etype.specs.Etype.{key_size}
 use Rattle.krb_etype.specs.declared.private_keys.End.TheVariants as ends
 use Rattle.krb_seal.specs.Mode.{purpose_of}

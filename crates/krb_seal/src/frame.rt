@@ -3,7 +3,7 @@
 ghost use Rattle.std.specs.Prelude.{◌≡◌, ◌≤◌, ◌++◌, false, length, take, drop, IfOk, OnOk};
 ghost use Rattle.krb_der.specs.Body.{InRange};
 ghost use Rattle.krb_seal.specs.declared.session.Mode.TheVariants.{Safe, Priv};
-ghost use Rattle.krb_aes.specs.Words.{AreBytes};
+ghost use Rattle.krb_base.specs.Bytes.{AreBytes};
 ghost use Rattle.krb_etype.specs.Etype.{number_of};
 ghost use Rattle.krb_etype.specs.Keys.{encrypted};
 ghost use Rattle.krb_etype.specs.HeldKeys.{IsEnciphering, fresh_keys};
@@ -18,7 +18,7 @@ ghost use Rattle.krb_seal.specs.Body.{HasSizeOf, HasSmallAddresses, IsSmall};
 use crate::checksum::checksum_of;
 use crate::limit::within_limit;
 use crate::session::Mode;
-use krb_aes::known_bytes;
+use krb_base::known_bytes;
 use krb_der::{BodyRef, Bytes, Draft, PrivMsg, SafeRef, draft_priv, priv_size};
 use krb_etype::{CODE_SIZE, CONFOUNDER_SIZE, Etype, Keys};
 use std::alloc::{AllocError, Global};

@@ -20,6 +20,7 @@ use crate::checksum::checksum_of;
 use crate::limit::within_limit;
 use crate::refusal::Refusal;
 use crate::session::Expect;
+use krb_base::Secret;
 use krb_der::{Body, DerError, Message, Moment, PrivMsg, SafeMsg, decode, decode_part_from};
 use krb_etype::{CONFOUNDER_SIZE, Etype, Keys};
 use std::alloc::Global;
@@ -164,7 +165,7 @@ impl<'a> Opening<'a> {
         Ok(body)
     }
 
-    /// What a KRB-PRIV gives.
+    /// What a KRB-PRIV gives. If it is refused, what was deciphered is overwritten before it is freed.
     fn open_priv(
         &self,
         alloc: Global,
@@ -175,12 +176,15 @@ impl<'a> Opening<'a> {
         ensures { OrMemory (OpensMessage self.now number now (messages.Priv m)) result }
     {
         let body = self.authentic_priv(alloc, m)?;
-        check_body(self.expect, number, now, &body)?;
+        let checked = check_body(self.expect, number, now, &body);
         let Body { user_data, .. } = body;
-        Ok(user_data.into_vec())
+        let user_data = Secret::new(user_data.into_vec());
+        checked?;
+        Ok(user_data.into_vec(alloc))
     }
 
-    /// The body of a KRB-PRIV that is authentic.
+    /// The body of a KRB-PRIV that is authentic. If it is refused, what was deciphered is overwritten
+    /// before it is freed.
     fn authentic_priv(&self, alloc: Global, m: PrivMsg) -> Result<Body, Refusal>
         ensures answer { AuthenticOrMemory (AuthenticMessage self.now (messages.Priv m)) result }
         ensures range { IfOk result InRange }
@@ -188,10 +192,11 @@ impl<'a> Opening<'a> {
         check_priv_header(self.etype, self.expect, &m)?;
         let PrivMsg { cipher, .. } = m;
         let (text, tag) = self.keys.decrypted(cipher);
-        if !self.keys.is_tag(&tag, &text) {
+        let text = Secret::new(text);
+        if !self.keys.is_tag(&tag, text.as_slice()) {
             return Err(Refusal::BadIntegrity);
         }
-        read_part(alloc, text)
+        read_part(alloc, text.into_vec(alloc))
     }
 }
 

@@ -20,7 +20,7 @@ use Rattle.jiff_core.proofs.CalendarLemmas.{day_count-epoch}
 use Rattle.krb_time.specs.Calendar.{day_number}
 use Rattle.krb_time.specs.Time.{last_second}
 use Rattle.krb_time.specs.Reading.{second_of}
-use Rattle.krb_time.proofs.OptionSteps.{some_is}
+use Rattle.krb_base.proofs.OptionSteps.{some_is}
 use Rattle.krb_time.proofs.Calendar.{IsCommonDate, Named, named, dated, number-count, number-bound}
 use Rattle.krb_time.proofs.Times.{second-is, second-yes, date-signed, clock-signed}
 

@@ -1,4 +1,3 @@
-pub mod OptionSteps
 pub mod Calendar
 pub mod Times
 pub mod DateTimes

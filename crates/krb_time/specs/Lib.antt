@@ -1,4 +1,3 @@
-pub mod Steps
 pub mod Calendar
 pub mod Time
 pub mod Reading

@@ -6,7 +6,7 @@ use Rattle.std.specs.Prelude.{None, pos, nat_lt, nat_le, nat_eq, if◌then◌els
 use Rattle.std.specs.Char.{is_ascii_digit}
 use Rattle.jiff_core.specs.Calendar.{days_in_month}
 use Rattle.krb_time.specs.Calendar.{day_number}
-use Rattle.krb_time.specs.Steps.{◌>>=◌}
+use Rattle.krb_base.specs.Steps.{◌>>=◌}
 use Rattle.krb_time.specs.Time.{zero_digit, zulu}
 
 -- the number that two digits write, and what follows them

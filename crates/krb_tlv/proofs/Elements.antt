@@ -6,8 +6,9 @@ use Rattle.krb_tlv.specs.Length.{big_endian, length_octets}
 use Rattle.krb_tlv.specs.Element.{header, tagged}
 use Rattle.krb_tlv.specs.Integer.{width, complement, int_octets}
 use Rattle.krb_tlv.specs.Reading.{be_value, wide_length_at, length_at, cut_at, tagged_at, signed, int_of}
-use Rattle.krb_time.proofs.OptionSteps.{bind_some, provided, some_is}
-use Rattle.krb_tlv.proofs.Numbers.{IsBytes, IsBytes-drop, IsBytes-take, IsBytes-rest, IsBytes-big_endian, IsBytes-complement, length-big_endian, length-complement, complement-twice, be_value-below, be_value-again, big_endian-back, width_is}
+use Rattle.krb_base.proofs.OptionSteps.{bind_some, provided, some_is}
+use Rattle.krb_base.specs.Bytes.{AreBytes}
+use Rattle.krb_tlv.proofs.Numbers.{AreBytes-drop, AreBytes-take, AreBytes-rest, AreBytes-big_endian, AreBytes-complement, length-big_endian, length-complement, complement-twice, be_value-below, be_value-again, big_endian-back, width_is}
 
 pub chosen : {A : Type 0} (b : Bool) (x y z : A) → cond b x y ≡ z → ((b ≡ true) × (x ≡ z)) ⊎ ((b ≡ false) × (y ≡ z))
 chosen true x y z e = inl (refl, e)
@@ -32,13 +33,13 @@ pub record WideLength (k low : ℕ) (bytes : List ℕ) (x : ℕ × List ℕ) : T
   pub high : low ≤ x.0
   pub below : x.0 < 256 ^ k
 
-wide-found : (k low : ℕ) (bytes : List ℕ) (x : ℕ × List ℕ) → IsBytes bytes → wide_length_at k low bytes ≡ Some x → WideLength k low bytes x
+wide-found : (k low : ℕ) (bytes : List ℕ) (x : ℕ × List ℕ) → AreBytes bytes → wide_length_at k low bytes ≡ Some x → WideLength k low bytes x
 wide-found k low bytes x fits e =
     let a = unless (ltb (length bytes) k) _ x e in
     let b = unless (ltb (be_value (take k bytes)) low) _ x a.1 in
     let long : k ≤ length bytes = ltb-false _ _ a.0 in
     let len : length (take k bytes) ≡ k = length-take-le k bytes long in
-    let front : IsBytes (take k bytes) = IsBytes-take k bytes fits in
+    let front : AreBytes (take k bytes) = AreBytes-take k bytes fits in
     let value : be_value (take k bytes) < 256 ^ k = subst (λ (j : ℕ). be_value (take k bytes) < 256 ^ j) len (be_value-below (take k bytes) front) in
     let back : big_endian k (be_value (take k bytes)) ≡ take k bytes = subst (λ (j : ℕ). big_endian j (be_value (take k bytes)) ≡ take k bytes) len (big_endian-back (take k bytes) front) in
     let made : WideLength k low bytes (be_value (take k bytes), drop k bytes) = record { parts = rw back (sym (take-append-drop k bytes)); high = ltb-false _ _ b.0; below = value } in
@@ -78,11 +79,11 @@ pub record Length (bytes : List ℕ) (x : ℕ × List ℕ) : Type 0 where
   pub parts : bytes ≡ length_octets x.0 ++ x.1
   pub below : x.0 < 2 ^ 24
 
-pub length-found : (bytes : List ℕ) (x : ℕ × List ℕ) → IsBytes bytes → length_at bytes ≡ Some x → Length bytes x
+pub length-found : (bytes : List ℕ) (x : ℕ × List ℕ) → AreBytes bytes → length_at bytes ≡ Some x → Length bytes x
 unfolding length_at
 length-found [] x fits e = absurd cc
 length-found (b ∷ rest) x fits e =
-    let fr = IsBytes-rest b rest fits in
+    let fr = AreBytes-rest b rest fits in
     elim (chosen (ltb b 128) _ _ (Some x) e) [
       | inl p ↦ let lt : b < 128 = ltb-true _ _ p.0 in
           let made : Length (b ∷ rest) (b, rest) = record { parts = rw (one_byte b lt) refl; below = omega arith } in
@@ -115,12 +116,12 @@ tagged-again tag content rest lt =
 pub record Tagged (tag : ℕ) (bytes : List ℕ) (x : List ℕ × List ℕ) : Type 0 where
   pub parts : bytes ≡ tagged tag x.0 ++ x.1
   pub below : length x.0 < 2 ^ 24
-  pub content_fits : IsBytes x.0
-  pub rest_fits : IsBytes x.1
+  pub content_fits : AreBytes x.0
+  pub rest_fits : AreBytes x.1
 
-pub IsBytes-back : (a b : List ℕ) → IsBytes (a ++ b) → IsBytes b
-IsBytes-back [] b h = h
-IsBytes-back (x ∷ a) b h = IsBytes-back a b (IsBytes-rest x (a ++ b) h)
+pub AreBytes-back : (a b : List ℕ) → AreBytes (a ++ b) → AreBytes b
+AreBytes-back [] b h = h
+AreBytes-back (x ∷ a) b h = AreBytes-back a b (AreBytes-rest x (a ++ b) h)
 
 parts_whole : (tag t n : ℕ) (rest after : List ℕ) → t ≡ tag → rest ≡ length_octets n ++ after → n ≤ length after → t ∷ rest ≡ tagged tag (take n after) ++ drop n after
 unfolding tagged header
@@ -128,25 +129,25 @@ parts_whole tag t n rest after same parts le =
     let len : length (take n after) ≡ n = length-take-le n after le in
     rw (same, parts, len, append_assoc (length_octets n) (take n after) (drop n after), take-append-drop n after) refl
 
-pub tagged-found : (tag : ℕ) (bytes : List ℕ) (x : List ℕ × List ℕ) → IsBytes bytes → tagged_at tag bytes ≡ Some x → Tagged tag bytes x
+pub tagged-found : (tag : ℕ) (bytes : List ℕ) (x : List ℕ × List ℕ) → AreBytes bytes → tagged_at tag bytes ≡ Some x → Tagged tag bytes x
 unfolding tagged_at
 tagged-found tag [] x fits e = absurd cc
 tagged-found tag (t ∷ rest) x fits e =
     let p = provided (eqb t tag) _ x e in
     let b = bind_some (length_at rest) cut_at x p.1 in
     let n = b.0 in
-    let l = length-found rest n (IsBytes-rest t rest fits) b.1 in
+    let l = length-found rest n (AreBytes-rest t rest fits) b.1 in
     let g = unless (ltb (length n.1) n.0) _ x b.2 in
     let long : n.0 ≤ length n.1 = ltb-false _ _ g.0 in
     let len : length (take n.0 n.1) ≡ n.0 = length-take-le n.0 n.1 long in
-    let after : IsBytes n.1 = IsBytes-back (length_octets n.0) n.1 (subst IsBytes l.parts (IsBytes-rest t rest fits)) in
+    let after : AreBytes n.1 = AreBytes-back (length_octets n.0) n.1 (subst AreBytes l.parts (AreBytes-rest t rest fits)) in
     let whole = parts_whole tag t n.0 rest n.1 (eqb-true _ _ p.0) l.parts long in
-    let made : Tagged tag (t ∷ rest) (take n.0 n.1, drop n.0 n.1) = record { parts = whole; below = omega (arith, l.below); content_fits = IsBytes-take n.0 n.1 after; rest_fits = IsBytes-drop n.0 n.1 after } in
+    let made : Tagged tag (t ∷ rest) (take n.0 n.1, drop n.0 n.1) = record { parts = whole; below = omega (arith, l.below); content_fits = AreBytes-take n.0 n.1 after; rest_fits = AreBytes-drop n.0 n.1 after } in
     subst (Tagged tag (t ∷ rest)) (some_is _ x g.1) made
 
 -- ---- whole numbers
 
-pub int-found : (content : List ℕ) (x : Bool × ℕ) → IsBytes content → int_of content ≡ Some x → content ≡ int_octets (signed x.0 x.1)
+pub int-found : (content : List ℕ) (x : Bool × ℕ) → AreBytes content → int_of content ≡ Some x → content ≡ int_octets (signed x.0 x.1)
 unfolding int_of int_octets
 int-found content x fits e =
     let a = unless (ltb 5 (length content)) _ x e in
@@ -157,7 +158,7 @@ int-found content x fits e =
           subst (λ (y : Bool × ℕ). content ≡ int_octets (signed y.0 y.1)) (some_is _ x g.1) made
       | inr p ↦ let g = provided (eqb (width (be_value (complement content))) (length content)) _ x p.1 in
           let w : width (be_value (complement content)) ≡ length (complement content) = eqb-true _ _ g.0 ∙ sym (length-complement content) in
-          let made : content ≡ int_octets (signed true (be_value (complement content))) = rw (w, big_endian-back (complement content) (IsBytes-complement content)) (sym (complement-twice content fits)) in
+          let made : content ≡ int_octets (signed true (be_value (complement content))) = rw (w, big_endian-back (complement content) (AreBytes-complement content)) (sym (complement-twice content fits)) in
           subst (λ (y : Bool × ℕ). content ≡ int_octets (signed y.0 y.1)) (some_is _ x g.1) made
     ]
 
@@ -178,5 +179,5 @@ int-again true n lt =
     let len : length (complement bs) ≡ width n = length-complement bs ∙ length-big_endian (width n) n in
     let short : ltb 5 (width n) ≡ false = le-ltb _ _ w.short in
     let top : 128 ≤ get_or (complement bs) 0 0 = complement-top bs (omega (arith, length-big_endian (width n) n, w.some)) w.free in
-    let back : complement (complement bs) ≡ bs = complement-twice bs (IsBytes-big_endian (width n) n w.fits) in
+    let back : complement (complement bs) ≡ bs = complement-twice bs (AreBytes-big_endian (width n) n w.fits) in
     rw (len, short, le-ltb _ _ top, back, be_value-again (width n) n w.fits, eqb-same (width n)) refl

@@ -4,29 +4,33 @@ use Rattle.std.proofs.Math.Nat.{pow-le-pow_right, pow-succ', mod-lt, mod-eq_of_l
 use Rattle.std.proofs.lemmas.Nat.{div-mul-add, div-add-mod'}
 use Rattle.std.proofs.lemmas.Bool.{cases_lt, lt-ltb, le-ltb}
 use Rattle.std.proofs.lemmas.List.{drop-map, length-map, get_or-drop, get_or-take, get_or_past, length-take, length-take-le}
+use Rattle.krb_base.specs.Bytes.{AreBytes}
 use Rattle.krb_tlv.specs.Length.{big_endian}
 use Rattle.krb_tlv.specs.Reading.{be_value}
 use Rattle.krb_tlv.specs.Integer.{width, complement}
 
-abbrev pub IsBytes : List ℕ → Type 0
-IsBytes bytes = (i : ℕ) → get_or bytes i 0 < 256
+pub AreBytes-drop : (n : ℕ) (bytes : List ℕ) → AreBytes bytes → AreBytes (drop n bytes)
+AreBytes-drop n bytes h = record { small = λ i. rw get_or-drop (h.small (n + i)) }
 
-pub IsBytes-drop : (n : ℕ) (bytes : List ℕ) → IsBytes bytes → IsBytes (drop n bytes)
-IsBytes-drop n bytes h i = rw get_or-drop (h (n + i))
+pub AreBytes-take : (n : ℕ) (bytes : List ℕ) → AreBytes bytes → AreBytes (take n bytes)
+AreBytes-take n bytes h =
+    record {
+      small =
+          λ i. elim (cases_lt i n) [
+            | inl lt ↦ rw (get_or-take n bytes i 0 lt) (h.small i)
+            | inr le ↦ rw (get_or_past (take n bytes) i 0 (omega (arith, length-take n bytes))) (omega arith)
+          ];
+    }
 
-pub IsBytes-take : (n : ℕ) (bytes : List ℕ) → IsBytes bytes → IsBytes (take n bytes)
-IsBytes-take n bytes h i =
-    elim (cases_lt i n) [
-      | inl lt ↦ rw (get_or-take n bytes i 0 lt) (h i)
-      | inr le ↦ rw (get_or_past (take n bytes) i 0 (omega (arith, length-take n bytes))) (omega arith)
-    ]
+pub AreBytes-rest : (b : ℕ) (bytes : List ℕ) → AreBytes (b ∷ bytes) → AreBytes bytes
+AreBytes-rest b bytes h = record { small = λ i. h.small (suc i) }
 
-pub IsBytes-rest : (b : ℕ) (bytes : List ℕ) → IsBytes (b ∷ bytes) → IsBytes bytes
-IsBytes-rest b bytes h i = h (suc i)
+small_cons : (b : ℕ) (bytes : List ℕ) → b < 256 → AreBytes bytes → (i : ℕ) → get_or (b ∷ bytes) i 0 < 256
+small_cons b bytes lt h zero = lt
+small_cons b bytes lt h (suc i) = h.small i
 
-pub IsBytes-cons : (b : ℕ) (bytes : List ℕ) → b < 256 → IsBytes bytes → IsBytes (b ∷ bytes)
-IsBytes-cons b bytes lt h zero = lt
-IsBytes-cons b bytes lt h (suc i) = h i
+pub AreBytes-cons : (b : ℕ) (bytes : List ℕ) → b < 256 → AreBytes bytes → AreBytes (b ∷ bytes)
+AreBytes-cons b bytes lt h = record { small = small_cons b bytes lt h }
 
 pub power_pos : (k : ℕ) → 0 < 256 ^ k
 power_pos k = omega (arith, one-le-pow k 256 (omega arith))
@@ -35,11 +39,11 @@ pub length-big_endian : (k n : ℕ) → length (big_endian k n) ≡ k
 length-big_endian zero n = refl
 length-big_endian (suc k) n = ap suc (length-big_endian k (n % 256 ^ k))
 
-pub be_value-below : (bs : List ℕ) → IsBytes bs → be_value bs < 256 ^ length bs
+pub be_value-below : (bs : List ℕ) → AreBytes bs → be_value bs < 256 ^ length bs
 be_value-below [] h = lit< tt
 be_value-below (b ∷ bs) h =
-    let low : be_value bs < 256 ^ length bs = be_value-below bs (IsBytes-rest b bs h) in
-    let high : b * 256 ^ length bs ≤ 255 * 256 ^ length bs = mul-le-mul_right (256 ^ length bs) (omega (arith, h 0)) in
+    let low : be_value bs < 256 ^ length bs = be_value-below bs (AreBytes-rest b bs h) in
+    let high : b * 256 ^ length bs ≤ 255 * 256 ^ length bs = mul-le-mul_right (256 ^ length bs) (omega (arith, h.small 0)) in
     rw (pow-succ' 256 (length bs)) (omega arith)
 
 -- an octet more at the end
@@ -52,9 +56,9 @@ be_value-next (b ∷ bs) (suc i) lt =
     rw (long, short, pow-succ' 256 i, be_value-next bs i (omega arith)) (omega arith)
 
 -- no more than four of five octets make a number of four
-pub be_value-four : (bs : List ℕ) (i : ℕ) → IsBytes bs → length bs ≤ 5 → i < length bs → be_value (take i bs) < 256 ^ 4
+pub be_value-four : (bs : List ℕ) (i : ℕ) → AreBytes bs → length bs ≤ 5 → i < length bs → be_value (take i bs) < 256 ^ 4
 be_value-four bs i h five lt =
-    let below = be_value-below (take i bs) (IsBytes-take i bs h) in
+    let below = be_value-below (take i bs) (AreBytes-take i bs h) in
     let short : length (take i bs) ≡ i = length-take-le i bs (omega arith) in
     let most : 256 ^ i ≤ 256 ^ 4 = pow-le-pow_right (lit< tt) {i = i} {j = 4} (omega arith) in
     omega (arith, subst (λ (n : ℕ). be_value (take i bs) < 256 ^ n) short below, most)
@@ -64,42 +68,42 @@ be_value-again zero n lt = omega arith
 be_value-again (suc k) n lt =
     rw (length-big_endian k (n % 256 ^ k), be_value-again k (n % 256 ^ k) (mod-lt n (power_pos k))) (div-add-mod' n (256 ^ k))
 
-pub big_endian-back : (bs : List ℕ) → IsBytes bs → big_endian (length bs) (be_value bs) ≡ bs
+pub big_endian-back : (bs : List ℕ) → AreBytes bs → big_endian (length bs) (be_value bs) ≡ bs
 big_endian-back [] h = refl
 big_endian-back (b ∷ bs) h =
-    let low : be_value bs < 256 ^ length bs = be_value-below bs (IsBytes-rest b bs h) in
+    let low : be_value bs < 256 ^ length bs = be_value-below bs (AreBytes-rest b bs h) in
     let top : (b * 256 ^ length bs + be_value bs) / 256 ^ length bs ≡ b = div-mul-add b (256 ^ length bs) (be_value bs) low in
     let rest : (b * 256 ^ length bs + be_value bs) % 256 ^ length bs ≡ be_value bs = mul-add-mod_self_right b (256 ^ length bs) (be_value bs) ∙ mod-eq_of_lt low in
-    rw (top, rest, big_endian-back bs (IsBytes-rest b bs h)) refl
+    rw (top, rest, big_endian-back bs (AreBytes-rest b bs h)) refl
 
-pub IsBytes-big_endian : (k n : ℕ) → n < 256 ^ k → IsBytes (big_endian k n)
-IsBytes-big_endian zero n lt i = lit< tt
-IsBytes-big_endian (suc k) n lt i =
+pub AreBytes-big_endian : (k n : ℕ) → n < 256 ^ k → AreBytes (big_endian k n)
+AreBytes-big_endian zero n lt = record { small = λ i. lit< tt }
+AreBytes-big_endian (suc k) n lt =
     let bound : n < 256 * 256 ^ k = rw (← pow-succ' 256 k) lt in
-    IsBytes-cons (n / 256 ^ k) (big_endian k (n % 256 ^ k)) ((div-lt_iff_lt-mul (power_pos k)).1 bound) (IsBytes-big_endian k (n % 256 ^ k) (mod-lt n (power_pos k))) i
+    AreBytes-cons (n / 256 ^ k) (big_endian k (n % 256 ^ k)) ((div-lt_iff_lt-mul (power_pos k)).1 bound) (AreBytes-big_endian k (n % 256 ^ k) (mod-lt n (power_pos k)))
 
 -- ---- complements
 
 pub length-complement : (bs : List ℕ) → length (complement bs) ≡ length bs
 length-complement bs = length-map bs (λ b. 255 - b)
 
-pub complement-twice : (bs : List ℕ) → IsBytes bs → complement (complement bs) ≡ bs
+pub complement-twice : (bs : List ℕ) → AreBytes bs → complement (complement bs) ≡ bs
 complement-twice [] h = refl
 complement-twice (b ∷ bs) h =
-    let same : 255 - (255 - b) ≡ b = omega (arith, h 0) in
-    rw (same, complement-twice bs (IsBytes-rest b bs h)) refl
+    let same : 255 - (255 - b) ≡ b = omega (arith, h.small 0) in
+    rw (same, complement-twice bs (AreBytes-rest b bs h)) refl
 
-pub IsBytes-complement : (bs : List ℕ) → IsBytes (complement bs)
-IsBytes-complement [] i = lit< tt
-IsBytes-complement (b ∷ bs) i = IsBytes-cons (255 - b) (complement bs) (omega arith) (IsBytes-complement bs) i
+pub AreBytes-complement : (bs : List ℕ) → AreBytes (complement bs)
+AreBytes-complement [] = record { small = λ i. lit< tt }
+AreBytes-complement (b ∷ bs) = AreBytes-cons (255 - b) (complement bs) (omega arith) (AreBytes-complement bs)
 
 -- the complements of octets are what is left to the most that they can be
-pub be_value-complement : (bs : List ℕ) → IsBytes bs → be_value (complement bs) + be_value bs + 1 ≡ 256 ^ length bs
+pub be_value-complement : (bs : List ℕ) → AreBytes bs → be_value (complement bs) + be_value bs + 1 ≡ 256 ^ length bs
 be_value-complement [] h = refl
 be_value-complement (b ∷ bs) h =
     let p : ℕ = 256 ^ length bs in
-    let rest = be_value-complement bs (IsBytes-rest b bs h) in
-    let whole : (255 - b) + b ≡ 255 = omega (arith, h 0) in
+    let rest = be_value-complement bs (AreBytes-rest b bs h) in
+    let whole : (255 - b) + b ≡ 255 = omega (arith, h.small 0) in
     let both : p * 255 ≡ p * (255 - b) + p * b = ap (λ (z : ℕ). p * z) (sym whole) ∙ mul-add p (255 - b) b in
     rw (length-complement bs, pow-succ' 256 (length bs)) (omega (arith, rest, both))
 

@@ -7,10 +7,11 @@ use Rattle.std.proofs.lemmas.List.{length-append, append-nil}
 use Rattle.krb_tlv.specs.Length.{big_endian, length_octets}
 use Rattle.krb_tlv.specs.Element.{header, tagged, optional}
 use Rattle.krb_tlv.specs.Writing.{element_size}
-use Rattle.krb_time.specs.Steps.{◌>>=◌}
+use Rattle.krb_base.specs.Steps.{◌>>=◌}
 use Rattle.krb_tlv.specs.Reading.{ended, tagged_at, alone, with_field, field_at, starts_with, optional_at}
-use Rattle.krb_tlv.proofs.Numbers.{IsBytes, if_case}
-use Rattle.krb_time.proofs.OptionSteps.{bind_some, some_is}
+use Rattle.krb_base.specs.Bytes.{AreBytes}
+use Rattle.krb_tlv.proofs.Numbers.{if_case}
+use Rattle.krb_base.proofs.OptionSteps.{bind_some, some_is}
 use Rattle.krb_tlv.proofs.Elements.{tagged-again, tagged-found, eqb-same}
 
 cases_bool : (b : Bool) → (b ≡ true) ⊎ (b ≡ false)
@@ -22,7 +23,7 @@ cases_eqb a b = elim (cases_bool (eqb a b)) [ inl e ↦ inl (eqb-true a b e) | i
 
 -- The values that meet P are read from their spelling, and nothing else is read.
 pub record Reads {V : Type 0} (P : V → Type 0) (spell : V → List ℕ) (of : List ℕ → Option V) : Type 0 where
-  pub found : (c : List ℕ) (v : V) → IsBytes c → of c ≡ Some v → P v × (c ≡ spell v)
+  pub found : (c : List ℕ) (v : V) → AreBytes c → of c ≡ Some v → P v × (c ≡ spell v)
   pub again : (v : V) → P v → length (spell v) < 2 ^ 24 → of (spell v) ≡ Some v
 
 -- each byte that can begin the bytes is above the tag
@@ -32,7 +33,7 @@ BeginsAbove low (b ∷ bytes) = low < b
 
 -- The fields that are left, of a value of which K is known.
 pub record ReadsFields {V : Type 0} (low : ℕ) (K P : V → Type 0) (spell : V → List (List ℕ)) (of : List ℕ → Option V) : Type 0 where
-  pub found : (c : List ℕ) (v : V) → IsBytes c → of c ≡ Some v → K v × (P v × (c ≡ concat (spell v)))
+  pub found : (c : List ℕ) (v : V) → AreBytes c → of c ≡ Some v → K v × (P v × (c ≡ concat (spell v)))
   pub again : (v : V) → K v → P v → length (concat (spell v)) < 2 ^ 24 → of (concat (spell v)) ≡ Some v
   pub begins : (v : V) → BeginsAbove low (concat (spell v))
 
@@ -134,9 +135,9 @@ begins_lower low high (b ∷ bytes) le h = omega arith
 pub record TakesOptional {A : Type 0} (tag : ℕ) (PA : A → Type 0) (spell : A → List ℕ) (bytes : List ℕ) (x : Option A × List ℕ) : Type 0 where
   pub parts : bytes ≡ optional tag spell x.0 ++ x.1
   pub fits : IfSome x.0 PA
-  pub rest_fits : IsBytes x.1
+  pub rest_fits : AreBytes x.1
 
-optional-found : {A : Type 0} (tag : ℕ) (PA : A → Type 0) (spell : A → List ℕ) (of : List ℕ → Option A) (bytes : List ℕ) (x : Option A × List ℕ) → Reads PA spell of → IsBytes bytes
+optional-found : {A : Type 0} (tag : ℕ) (PA : A → Type 0) (spell : A → List ℕ) (of : List ℕ → Option A) (bytes : List ℕ) (x : Option A × List ℕ) → Reads PA spell of → AreBytes bytes
     → optional_at tag of bytes ≡ Some x → TakesOptional tag PA spell bytes x
 optional-found tag PA spell of bytes x one fits e =
     elim (cases_bool (starts_with tag bytes)) [
@@ -226,7 +227,7 @@ under_tag tag P spell of one = record {
       let t = bind_some (tagged_at tag c) (λ t. ended t.0 t.1) b.0 b.1 in
       let p = tagged-found tag c t.0 fits t.1 in
       let h = ended-found t.0.0 b.0 t.0.1 t.2 in
-      let a = one.found b.0 v (subst IsBytes h.0 p.content_fits) b.2 in
+      let a = one.found b.0 v (subst AreBytes h.0 p.content_fits) b.2 in
       (a.0, p.parts ∙ glue_end tag t.0.0 t.0.1 (spell v) (h.0 ∙ a.1) h.1);
   again = λ v h lt.
       let inner : length (spell v) < 2 ^ 24 = omega (arith, length-tagged tag (spell v)) in

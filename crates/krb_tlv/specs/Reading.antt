@@ -3,7 +3,7 @@
 use Rattle.std.specs.Prelude.{◌≡◌, ℕ, ◌+◌, ◌*◌, ◌^◌, Bool, true, false, ℤ, pos, negsuc, List, []}
 use Rattle.std.specs.Prelude.{◌∷◌, length, get_or, take, drop, Option, Some, None, Result, Ok, Err}
 use Rattle.std.specs.Prelude.{nat_lt, nat_eq, if◌then◌else◌}
-use Rattle.krb_time.specs.Steps.{◌>>=◌}
+use Rattle.krb_base.specs.Steps.{◌>>=◌}
 use Rattle.krb_tlv.specs.declared.error.DerError.{DerError}
 use Rattle.krb_tlv.specs.declared.error.DerError.TheVariants as errors
 use Rattle.krb_tlv.specs.Tag.{integer_tag, octet_string_tag}

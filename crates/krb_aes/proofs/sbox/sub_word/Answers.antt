@@ -3,7 +3,8 @@ use lib.Lanes.{zip2}
 use Rattle.krb_aes.specs.Field.{sbox}
 use Rattle.krb_aes.specs.Cipher.{word, word_byte}
 use Rattle.krb_aes.specs.Keys.{sub_word}
-use Rattle.krb_aes.specs.Words.{AreBytes, columns}
+use Rattle.krb_base.specs.Bytes.{AreBytes}
+use Rattle.krb_aes.specs.Words.{columns}
 use Rattle.krb_aes.specs.Nibbles.{nibbles_of}
 use Rattle.krb_aes.proofs.Xor.{xor_cancel}
 use Rattle.krb_aes.proofs.WordLemmas.{word_of_bytes}

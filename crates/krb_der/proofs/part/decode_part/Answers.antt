@@ -4,5 +4,5 @@ use Rattle.krb_der.proofs.part.decode_part.Goals as goal
 
 pub returns : goal.returns
 returns c =
-    let d = part_decodes c.args.bytes.now c.read_part.result (λ i. omega (arith, c.type_inv.bytes i)) (omega arith) c.read_part.ensures in
+    let d = part_decodes c.args.bytes.now c.read_part.result (record { small = λ i. omega (arith, c.type_inv.bytes i) }) (omega arith) c.read_part.ensures in
     record { answer = d; only = part_decided c.args.bytes.now c.read_part.result d }

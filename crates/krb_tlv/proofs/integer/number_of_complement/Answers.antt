@@ -10,15 +10,15 @@ pow-end-requires c =
 
 pub overflow_sub-result : goal.overflow_sub-result
 overflow_sub-result c =
-    let all = be_value-complement c.args.octets.now (λ i. omega (arith, c.type_inv.octets i)) in
+    let all = be_value-complement c.args.octets.now (record { small = λ i. omega (arith, c.type_inv.octets i) }) in
     omega (arith, all, c.pow-end.ensures)
 
 pub overflow_sub-result-2 : goal.overflow_sub-result-2
 overflow_sub-result-2 c =
-    let all = be_value-complement c.args.octets.now (λ i. omega (arith, c.type_inv.octets i)) in
+    let all = be_value-complement c.args.octets.now (record { small = λ i. omega (arith, c.type_inv.octets i) }) in
     omega (arith, all, c.pow-end.ensures, c.be_number.ensures)
 
 pub returns : goal.returns
 returns c =
-    let all = be_value-complement c.args.octets.now (λ i. omega (arith, c.type_inv.octets i)) in
+    let all = be_value-complement c.args.octets.now (record { small = λ i. omega (arith, c.type_inv.octets i) }) in
     omega (arith, all, c.pow-end.ensures, c.be_number.ensures)

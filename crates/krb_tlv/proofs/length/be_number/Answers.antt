@@ -1,17 +1,18 @@
 use Rattle.std.proofs.Common.{◌≡◌, ◌+◌, ◌∙◌, ℕ, suc, ap, arith, take}
 use Rattle.krb_tlv.specs.Reading.{be_value}
-use Rattle.krb_tlv.proofs.Numbers.{IsBytes, be_value-four, be_value-next}
+use Rattle.krb_base.specs.Bytes.{AreBytes}
+use Rattle.krb_tlv.proofs.Numbers.{be_value-four, be_value-next}
 use Rattle.krb_tlv.proofs.length.be_number.Goals as goal
 
 pub overflow_mul-number : goal.overflow_mul-number
 overflow_mul-number c =
-    let fits : IsBytes c.args.octets.now = λ i. omega (arith, c.type_inv.octets i) in
+    let fits : AreBytes c.args.octets.now = record { small = λ i. omega (arith, c.type_inv.octets i) } in
     let four = be_value-four c.args.octets.now c.loop-octet.octet-index fits c.requires c.loop-octet-test.true in
     omega (arith, c.loop-octet.invariant, four)
 
 pub overflow_add-number : goal.overflow_add-number
 overflow_add-number c =
-    let fits : IsBytes c.args.octets.now = λ i. omega (arith, c.type_inv.octets i) in
+    let fits : AreBytes c.args.octets.now = record { small = λ i. omega (arith, c.type_inv.octets i) } in
     let four = be_value-four c.args.octets.now c.loop-octet.octet-index fits c.requires c.loop-octet-test.true in
     omega (arith, c.loop-octet.invariant, four, c.from.ensures, c.type_inv.octets c.loop-octet.octet-index)
 

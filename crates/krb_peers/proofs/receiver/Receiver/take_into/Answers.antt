@@ -1,6 +1,6 @@
 -- The answer is the verdict, and what follows is what a verdict leaves.
 use Rattle.std.proofs.Common.{◌≡◌, Ok, Err, subst, rules}
-use Rattle.krb_aes.specs.Words.{AreBytes}
+use Rattle.krb_base.specs.Bytes.{AreBytes}
 use Rattle.krb_record.specs.Record.{is_close}
 use Rattle.krb_peers.specs.Verdicts.{Verdict, IsVerdict, record_of}
 use Rattle.krb_peers.proofs.ReceiveLemmas.{received, received_refusal, verdict_is}

@@ -1,16 +1,17 @@
 //! Bytes that are overwritten before their memory is freed.
 
-ghost use Rattle.std.specs.Prelude.{◌≡◌, ◌++◌, replicate, vec_len, OnOk, OnErr, Some};
-ghost use Rattle.krb_job.specs.Secret.{words};
+ghost use Rattle.std.specs.Prelude.{◌≡◌, ◌++◌, replicate, vec_capacity, vec_len, OnOk, OnErr, Some};
+ghost use Rattle.krb_base.specs.Secret.{words};
 
 use std::alloc::{AllocError, Global};
 use std::marker::Model;
 use std::{fmt, mem};
 
-/// A key on the heap, or a text that holds keys. Contracts see it as the list of its bytes.
+/// A key on the heap, a text that holds keys, or user data. Contracts see it as the list of its
+/// bytes.
 ///
-/// The bytes are overwritten when it is dropped, and the old buffer is overwritten when it grows.
-/// `Debug` shows none of them.
+/// Its whole block is overwritten when it is dropped, with what is left of earlier bytes behind the
+/// present ones, and so is its old block when it grows. `Debug` shows none of them.
 pub struct Secret {
     held: Held,
 }
@@ -87,12 +88,14 @@ struct Held {
 }
 
 impl Held {
-    /// Makes all bytes zero.
+    /// Makes all bytes of the block zero, also those behind its bytes. It allocates nothing.
     fn wipe(&mut self)
-        ensures zeros { self.new.bytes.items ≡ replicate (vec_len self.old.bytes) 0 }
-        ensures size { vec_len self.new.bytes ≡ vec_len self.old.bytes }
+        ensures zeros { self.new.bytes.items ≡ replicate (vec_capacity self.old.bytes) 0 }
+        ensures size { vec_len self.new.bytes ≡ vec_capacity self.old.bytes }
     {
-        self.bytes.fill(0);
+        let room = self.bytes.capacity();
+        self.bytes.clear();
+        self.bytes.resize(room, 0).unwrap();
     }
 
     /// Ends a buffer whose bytes are zero.

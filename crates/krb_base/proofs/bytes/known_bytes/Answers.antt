@@ -1,4 +1,4 @@
-use Rattle.krb_aes.proofs.laws.known_bytes.Goals as goal
+use Rattle.krb_base.proofs.bytes.known_bytes.Goals as goal
 
 pub returns : goal.returns
 returns c = record { small = λ i. (c.type_inv.bytes i).fits }

@@ -1,6 +1,6 @@
 -- What it says that a reading by steps found something.
 use Rattle.std.proofs.Common.{◌≡◌, Bool, true, false, cond, ◌&&◌, Option, Some, None, refl}
-use Rattle.krb_time.specs.Steps.{◌>>=◌}
+use Rattle.krb_base.specs.Steps.{◌>>=◌}
 
 -- each step found something
 pub bind_some : {A B : Type 0} (r : Option A) (f : A → Option B) (y : B) → (r >>= f) ≡ Some y → (x : A) × (r ≡ Some x) × (f x ≡ Some y)
