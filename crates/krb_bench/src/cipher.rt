@@ -2,24 +2,41 @@
 //! direction, in thousands of bytes a second, as `openssl speed` does. `tools/bench_aes` runs it
 //! side by side with OpenSSL.
 
-use krb_aes::{CipherKey, Schedule, cts_decrypt, cts_encrypt};
+use krb_aes::{CipherKey, InverseSchedule, Schedule, cts_decrypt, cts_encrypt};
 use std::io;
 use std::time::{Clock, Instant};
 
 // How many times the text goes through in one run.
 const TIMES: u32 = 64;
 
-fn end(mut schedule: Schedule) {
-    schedule.wipe();
-    schedule.spend();
+// The round keys of a key, for both directions.
+struct Schedules {
+    forward: Schedule,
+    backward: InverseSchedule,
 }
 
-// The schedule of a key, which ends here.
-fn schedule_of(mut key: CipherKey) -> Schedule {
-    let schedule = Schedule::new(&key);
-    key.wipe();
-    key.spend();
-    schedule
+impl Schedules {
+    // The schedules of a key, which ends here.
+    fn new(mut key: CipherKey) -> Schedules {
+        let schedules = Schedules {
+            forward: Schedule::new(&key),
+            backward: InverseSchedule::new(&key),
+        };
+        key.wipe();
+        key.spend();
+        schedules
+    }
+
+    fn end(self) {
+        let Schedules {
+            mut forward,
+            mut backward,
+        } = self;
+        forward.wipe();
+        forward.spend();
+        backward.wipe();
+        backward.spend();
+    }
 }
 
 fn encrypt_often(schedule: &Schedule, text: &mut [u8; 16384]) {
@@ -28,7 +45,7 @@ fn encrypt_often(schedule: &Schedule, text: &mut [u8; 16384]) {
     }
 }
 
-fn decrypt_often(schedule: &Schedule, text: &mut [u8; 16384]) {
+fn decrypt_often(schedule: &InverseSchedule, text: &mut [u8; 16384]) {
     for _ in 0..TIMES {
         cts_decrypt(schedule, text);
     }
@@ -62,21 +79,21 @@ fn encrypt_time(rt: &impl Clock, schedule: &Schedule, text: &mut [u8; 16384]) ->
 }
 
 // The time that decryption takes, in microseconds.
-fn decrypt_time(rt: &impl Clock, schedule: &Schedule, text: &mut [u8; 16384]) -> io::Result<u128> {
+fn decrypt_time(rt: &impl Clock, schedule: &InverseSchedule, text: &mut [u8; 16384]) -> io::Result<u128> {
     let start = Instant::now(rt)?;
     decrypt_often(schedule, text);
     Ok(start.elapsed(rt)?.as_micros())
 }
 
 // The best of `rounds` runs of each kind, in turn.
-fn best_of(rt: &impl Clock, narrow: &Schedule, wide: &Schedule, rounds: u32) -> io::Result<Best> {
+fn best_of(rt: &impl Clock, narrow: &Schedules, wide: &Schedules, rounds: u32) -> io::Result<Best> {
     let mut text = [7u8; 16384];
     let mut best = Best::none_yet();
     for _ in 0..rounds {
-        best.encrypt_128 = best.encrypt_128.min(encrypt_time(rt, narrow, &mut text)?);
-        best.decrypt_128 = best.decrypt_128.min(decrypt_time(rt, narrow, &mut text)?);
-        best.encrypt_256 = best.encrypt_256.min(encrypt_time(rt, wide, &mut text)?);
-        best.decrypt_256 = best.decrypt_256.min(decrypt_time(rt, wide, &mut text)?);
+        best.encrypt_128 = best.encrypt_128.min(encrypt_time(rt, &narrow.forward, &mut text)?);
+        best.decrypt_128 = best.decrypt_128.min(decrypt_time(rt, &narrow.backward, &mut text)?);
+        best.encrypt_256 = best.encrypt_256.min(encrypt_time(rt, &wide.forward, &mut text)?);
+        best.decrypt_256 = best.decrypt_256.min(decrypt_time(rt, &wide.backward, &mut text)?);
     }
     Ok(best)
 }
@@ -96,11 +113,11 @@ fn print(rt: &impl Print, best: &Best) -> io::Result<()> {
 
 /// Prints the best speed of so many runs of each kind.
 pub(crate) fn measure(rt: &(impl Clock + Print), rounds: u32) -> io::Result<bool> {
-    let narrow = schedule_of(CipherKey::from_128(*b"chicken teriyaki"));
-    let wide = schedule_of(CipherKey::from_256(*b"chicken teriyaki and wonton soup"));
+    let narrow = Schedules::new(CipherKey::from_128(*b"chicken teriyaki"));
+    let wide = Schedules::new(CipherKey::from_256(*b"chicken teriyaki and wonton soup"));
     let best = best_of(rt, &narrow, &wide, rounds);
-    end(narrow);
-    end(wide);
+    narrow.end();
+    wide.end();
     print(rt, &best?)?;
     Ok(true)
 }

@@ -33,11 +33,10 @@ take_refused s now frame room r (Err f) live (inl h) p = inl (r, p, inl (is_memo
 take_refused s now frame room r (Err f) live (inr h) p = inl (r, p, inr (inr (live, inl h)))
 
 pub take_no_record : {X : Type 0} (s : ReceiverState) (now : ℕ) (frame : List ℕ) (room : ℕ) (user : List ℕ) (r : Refusal) (result : Result X Fault) → s.demand.closed ≡ false
-    → Opens s.opener s.demand.expected now frame (Ok user) → ((r ≡ BadRecord) × IsNoRecord user) ⊎ (r ≡ Memory) → IsErrAnd result (λ f. f ≡ Refused r)
+    → Opens s.opener s.demand.expected now frame (Ok user) → (r ≡ BadRecord) × IsNoRecord user → IsErrAnd result (λ f. f ≡ Refused r)
     → IfErr result (TakeReason s now frame room)
 take_no_record s now frame room user r (Ok x) live h n p = absurd p
-take_no_record s now frame room user r (Err f) live h (inl n) p = inl (r, p, inr (inr (live, inr (user, h, n.1, n.0))))
-take_no_record s now frame room user r (Err f) live h (inr n) p = inl (r, p, inl n)
+take_no_record s now frame room user r (Err f) live h n p = inl (r, p, inr (inr (live, inr (user, h, n.1, n.0))))
 
 -- whether a kind is that of the close
 abbrev pub closes : RecordKind → Bool

@@ -129,7 +129,7 @@ impl AnySealer {
             (RecordReason self.old kind body.now at.now (length out.old)) }
     {
         let user = record_of(alloc, kind, body)?;
-        self.seal(alloc, &user, at, confounder, out)
+        self.seal(alloc, user.as_slice(), at, confounder, out)
     }
 
     /// Seals in the mode with this number from now on.

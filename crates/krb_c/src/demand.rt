@@ -9,6 +9,7 @@ ghost use Rattle.krb_c.specs.Session.{address_of, address_room};
 ghost use Rattle.krb_c.specs.Demand.{AreShort, IsDemand, OpensWith, all_have_room, demand_checks, has_room, is_within, number_meets, receiver_meets, sender_meets, time_meets};
 
 use crate::session::{ADDRESS_ROOM, KrbAddress};
+use krb_base::Secret;
 use krb_der::{Body, HostAddress, MICROS_PER_SECOND};
 use krb_seal::{Opener, Refusal};
 use std::alloc::Global;
@@ -146,6 +147,12 @@ fn check_demand(demand: &KrbDemand, now: u64, body: &Body) -> Result<(), Refusal
     Ok(())
 }
 
+/// Ends a body whose user data the caller doesn't get: they are overwritten before they are freed.
+fn refuse(body: Body) {
+    let Body { user_data, .. } = body;
+    drop(Secret::new(user_data.into_vec()));
+}
+
 /// The authentic body of a frame, where it meets the demands.
 pub fn open_body(
     alloc: Global,
@@ -159,6 +166,10 @@ pub fn open_body(
     ensures short { IfOk result (λ b. AreShort b.s_addr b.r_addr) }
 {
     let body = opener.authenticate(alloc, frame)?;
-    check_demand(demand, now, &body)?;
+    let checked = check_demand(demand, now, &body);
+    if let Err(refusal) = checked {
+        refuse(body);
+        return Err(refusal);
+    }
     Ok(body)
 }

@@ -14,7 +14,7 @@ use crate::held::Wipe;
 use crate::moment::KrbMoment;
 use crate::record::record_kind;
 use crate::session::{KrbExpect, expectation, session_key};
-use krb_base::LAST_NUMBER;
+use krb_base::{LAST_NUMBER, Secret};
 use krb_peers::RecordKind;
 use krb_seal::{Opener, Refusal};
 use std::alloc::Global;
@@ -88,7 +88,8 @@ impl LaneReceiver {
     }
 
     /// Takes a frame at a moment, and writes the bytes of its record after the first: answers the
-    /// record's kind and their number. Each fault leaves all as it was.
+    /// record's kind and their number. Each fault leaves all as it was. The user data's block is
+    /// overwritten before it is freed.
     pub fn take(
         &mut self,
         alloc: Global,
@@ -108,8 +109,9 @@ impl LaneReceiver {
         if self.closed {
             return Err(Fault::Refused(Refusal::AfterClose));
         }
-        let user_data = self.opener.unseal(alloc, frame, self.expected, now)?;
-        let (kind, body) = record_kind(alloc, &user_data)?;
+        let opened = self.opener.unseal(alloc, frame, self.expected, now)?;
+        let user_data = Secret::new(opened);
+        let (kind, body) = record_kind(user_data.as_slice())?;
         let size = put_within(out, body)?;
         let closes = matches!(kind, RecordKind::Close);
         self.expected += 1;

@@ -12,25 +12,29 @@ use crate::demand::{KrbDemand, is_demand, open_body};
 use crate::fault::Fault;
 use crate::moment::KrbMoment;
 use crate::wipeable_opener::WipeableOpener;
+use krb_base::Secret;
+use krb_der::Body;
 use std::alloc::Global;
 
-/// The user data of a frame, unless the opener was wiped.
+/// The user data of a frame, unless the opener was wiped. Their block is overwritten before it is
+/// freed.
 fn unsealed(
     alloc: Global,
     opener: &WipeableOpener,
     frame: &[u8],
     number: u64,
     at: &KrbMoment,
-) -> Result<Vec<u8>, Fault>
+) -> Result<Secret, Fault>
     ensures opened { IfOk result (λ user. OpensTo (Some opener.now) number (micros_of at.now)
-        frame.now (Ok user.items)) }
+        frame.now (Ok user)) }
     // Whatever room a buffer has: it is too small in none of the reasons.
     ensures why { (room : ℕ) → IfErr result
         (OpenFault (Some opener.now) number at.now frame.now room) }
 {
     let opener = opener.live()?;
     let now = at.moment()?;
-    Ok(opener.unseal(alloc, frame, number, now)?)
+    let user_data = opener.unseal(alloc, frame, number, now)?;
+    Ok(Secret::new(user_data))
 }
 
 /// Opens into a buffer, unless the opener was wiped, and answers the size of the user data. What is
@@ -46,7 +50,7 @@ pub fn unseal_into(
     ensures { UnsealsInto (Some opener.now) number at.now frame.now out.old out.new result }
 {
     let user_data = unsealed(alloc, opener, frame, number, at)?;
-    put_within(out, &user_data)
+    put_within(out, user_data.as_slice())
 }
 
 /// Opens a frame into its own bytes, unless the opener was wiped, and answers the size of the user
@@ -61,7 +65,7 @@ pub fn unseal_in_place(
     ensures { UnsealsInto (Some opener.now) number at.now frame.old frame.old frame.new result }
 {
     let user_data = unsealed(alloc, opener, frame, number, at)?;
-    put_within(frame, &user_data)
+    put_within(frame, user_data.as_slice())
 }
 
 /// Opens with demands of the caller's into a buffer, unless the opener was wiped, tells what else
@@ -92,7 +96,10 @@ pub fn open_into(
         return Err(Fault::Argument);
     }
     let body = open_body(alloc, opener, frame, demand, now)?;
-    let size = put_within(out, body.user_data.as_slice())?;
-    *told = carried(&body);
+    let carried = carried(&body);
+    let Body { user_data, .. } = body;
+    let user_data = Secret::new(user_data.into_vec());
+    let size = put_within(out, user_data.as_slice())?;
+    *told = carried;
     Ok(size)
 }

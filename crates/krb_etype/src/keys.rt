@@ -30,17 +30,17 @@ pub enum Purpose {
 
 /// Overwrites and ends a key for checksums, if there is one.
 fn end_checksum(key: Option<MacKey>) {
-    if let Some(mut key) = key {
-        key.wipe();
-        key.spend();
+    if let Some(mut held) = key {
+        held.wipe();
+        held.spend();
     }
 }
 
 /// The same of the keys of KRB-PRIV.
 fn end_private(keys: Option<PrivateKeys>) {
-    if let Some(mut keys) = keys {
-        keys.wipe();
-        keys.spend();
+    if let Some(mut held) = keys {
+        held.wipe();
+        held.spend();
     }
 }
 

@@ -1,6 +1,6 @@
 //! Batches, and their bytes.
 
-ghost use Rattle.std.specs.Prelude.{◌≡◌, ◌↔◌, ◌≤◌, ◌<◌, ◌+◌, ◌^◌, ◌++◌, ◌∷◌, ℕ, List, length, All, IfOk, IfSome, IfNone, OnOk, MatchResult, Some};
+ghost use Rattle.std.specs.Prelude.{◌≡◌, ◌↔◌, ◌≤◌, ◌<◌, ◌+◌, ◌^◌, ◌++◌, ◌∷◌, ℕ, List, length, All, IfOk, IfSome, IfNone, IsTrue, OnOk, MatchResult, Some};
 ghost use Rattle.std.specs.List.{flat_map};
 ghost use Rattle.krb_base.specs.Limits.{batch_size_limit, text_limit, user_data_limit};
 ghost use Rattle.krb_record.specs.Batch.{IsBatch, SpellsBatch, text_bytes, texts_size, words_of};
@@ -164,6 +164,13 @@ fn batch_in(bytes: &[u8]) -> Option<(usize, &[u8])>
     } else {
         None
     }
+}
+
+/// Whether the bytes are those of a batch. Nothing is allocated, and the time is linear in the bytes.
+pub(crate) fn is_batch(bytes: &[u8]) -> bool
+    ensures { IsTrue result ↔ ((texts : List (List ℕ)) × SpellsBatch texts bytes.now) }
+{
+    batch_in(bytes).is_some()
 }
 
 /// The texts of the batch whose spelling `bytes` is.

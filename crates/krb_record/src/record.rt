@@ -1,12 +1,12 @@
 //! Records, and their bytes.
 
-ghost use Rattle.std.specs.Prelude.{◌≡◌, ◌≢◌, ◌↔◌, ◌≤◌, ℕ, List, length, IfOk, IsTrue, MatchResult, Some};
+ghost use Rattle.std.specs.Prelude.{◌≡◌, ◌≢◌, ◌↔◌, ◌≤◌, ℕ, List, length, IfNone, IfOk, IfSome, IsTrue, MatchResult, Some};
 ghost use Rattle.krb_base.specs.Limits.{text_limit, user_data_limit};
 ghost use Rattle.krb_record.specs.Batch.{SpellsBatch};
 ghost use Rattle.krb_record.specs.Record.{FitsLimits, SpellsRecord, bytes_of, code_of, record_for, words_of};
 ghost use Rattle.krb_record.specs.Record.{kind_of, kind_of_number, number_of, first_byte_of};
 
-use crate::batch::{BATCH_BYTE, BatchError, batch_bytes, read_batch};
+use crate::batch::{BATCH_BYTE, BatchError, batch_bytes, is_batch, read_batch};
 use crate::texts::Texts;
 use krb_base::{Bytes, TEXT_LIMIT, cut_out};
 use std::alloc::{AllocError, Global};
@@ -56,6 +56,25 @@ pub enum RecordKind {
 }
 
 impl RecordKind {
+    /// The kind of the record that the bytes are, if they are one. Nothing is allocated.
+    pub fn of(bytes: &[u8]) -> Option<RecordKind>
+        ensures some { IfSome result (λ kind.
+            (r : Record) × SpellsRecord r bytes.now × (kind ≡ kind_of r)) }
+        ensures none { IfNone result ((r : Record) → ¬ SpellsRecord r bytes.now) }
+    {
+        if is_text(bytes) {
+            return Some(RecordKind::Text);
+        }
+        if is_close(bytes) {
+            return Some(RecordKind::Close);
+        }
+        if is_batch(bytes) {
+            Some(RecordKind::Batch)
+        } else {
+            None
+        }
+    }
+
     /// The kind that has this number, if one has it.
     pub fn from_number(number: u32) -> Option<RecordKind>
         ensures { result ≡ kind_of_number number }
@@ -235,6 +254,13 @@ fn is_text(bytes: &[u8]) -> bool
         Some((first, rest)) => *first == TEXT_BYTE && rest.len() <= TEXT_LIMIT,
         None => false,
     }
+}
+
+/// Whether the bytes are those of the close.
+fn is_close(bytes: &[u8]) -> bool
+    ensures { IsTrue result ↔ SpellsRecord Record.Close bytes.now }
+{
+    bytes.len() == 1 && bytes[0] == CLOSE_BYTE
 }
 
 /// The batch whose bytes these are, as a record.

@@ -5,10 +5,10 @@ use Rattle.krb_c.specs.Reasons.{OpenFault}
 use Rattle.krb_c.proofs.Refusals.{but_memory, refused_as}
 use Rattle.krb_c.proofs.opening.unsealed.Goals as goal
 
-pub returns-in_err-unseal-clause-why : goal.returns-in_err-unseal-clause-why
-returns-in_err-unseal-clause-why c = λ room.
+pub returns-in_err-user_data-clause-why : goal.returns-in_err-user_data-clause-why
+returns-in_err-user_data-clause-why c = λ room.
     let number = c.args.number in let frame = c.args.frame.now in
-    let opener = c.in_ok-opener.opener.now in let r = c.in_err-unseal.field-0.0 in
+    let opener = c.in_ok-opener.opener.now in let r = c.in_err-user_data.field-0.0 in
     let why = subst (λ (o : Option OpenerState). OpenFault (Some o) number c.args.at.now frame room (Refused r)) (sym c.in_ok-opener.ensures.live)
-    (λ other. subst (λ (m : ℕ). Opens opener number m frame (Err r)) c.in_ok-now.ensures.value (but_memory r c.in_err-unseal.ensures.answer other)) in
-    refused_as (OpenFault (Some c.args.opener.now) number c.args.at.now frame room) r c.from_residual-in_err-unseal.result why c.from_residual-in_err-unseal.ensures.1
+    (λ other. subst (λ (m : ℕ). Opens opener number m frame (Err r)) c.in_ok-now.ensures.value (but_memory r c.in_err-user_data.ensures.answer other)) in
+    refused_as (OpenFault (Some c.args.opener.now) number c.args.at.now frame room) r c.from_residual-in_err-user_data.result why c.from_residual-in_err-user_data.ensures.1
