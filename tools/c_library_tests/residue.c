@@ -1,9 +1,12 @@
 /* The block of a handle, once freed, has no eight bytes in a row of what it held while it was in
- * use. Handles end in either order, by free, after a wipe, and by a new key in their place. Built
- * with -Wl,--wrap=free, and run by tools/residue, which looks for keys in all blocks that are freed.
+ * use. Handles end in either order, by free, after a wipe, and by a new key in their place. And user
+ * data of KRB-PRIV go through each call, with answers before and after they are deciphered. Built
+ * with -Wl,--wrap=free, and run by tools/residue, which looks for keys, user data and confounders in
+ * all blocks that are freed.
  *
- *   residue         ends handles in each way
- *   residue left    frees a block with the key in it, which is to be reported */
+ *   residue         ends handles in each way, and seals and opens
+ *   residue left    frees a block with the key in it, and one with user data, which is to be
+ *                   reported */
 #define _GNU_SOURCE
 #include "check.h"
 #include "krbrelay.h"
@@ -99,7 +102,7 @@ static void end_both(struct krbrelay_sealer *s, struct krbrelay_opener *o, enum 
 static void no_residue(uint32_t mode, int etype, enum ending how)
 {
     static uint8_t frame[KRBRELAY_FRAME_LIMIT], text[KRBRELAY_FRAME_LIMIT];
-    static const uint8_t confounder[16];
+    static const uint8_t zeros[16];
     struct krbrelay_session session = session_of(mode, 7);
     struct krbrelay_expect expect = expect_of(mode);
     struct krbrelay_sealer s = { 0 };
@@ -109,7 +112,7 @@ static void no_residue(uint32_t mode, int etype, enum ending how)
     CHECK(krbrelay_opener_new(&o, etype, key, key_size(etype), &expect) == KRBRELAY_OK);
     watch_block(0, s.at);
     watch_block(1, o.at);
-    CHECK(krbrelay_sealer_seal(&s, frame, 50, &now, confounder, frame + 100, 60000, &n) == 0);
+    CHECK(krbrelay_sealer_seal(&s, frame, 50, &now, zeros, frame + 100, 60000, &n) == 0);
     CHECK(krbrelay_opener_unseal(&o, frame + 100, n, 7, &now, text, sizeof text, &m) == 0);
     end_both(&s, &o, how, mode);
     for (int i = 0; i < 2; i++) {
@@ -132,6 +135,99 @@ static void no_residue_of_receiver(uint32_t mode, int etype, int new_key)
     CHECK(watch[0].freed >= 1 && watch[0].runs == 0);
 }
 
+/* ---- user data */
+
+enum { SIZE = 64, ROOM = 4096 };
+
+static uint8_t user_data[SIZE];
+static uint8_t confounder[16];
+
+/* One KRB-PRIV of the user data at number 7. */
+static size_t sealed(int etype, uint8_t *frame)
+{
+    struct krbrelay_session session = session_of(KRBRELAY_PRIV, 7);
+    struct krbrelay_sealer s = { 0 };
+    size_t n = 0;
+    CHECK(krbrelay_sealer_new(&s, etype, key, key_size(etype), &session) == KRBRELAY_OK);
+    CHECK(krbrelay_sealer_seal(&s, user_data, SIZE, &now, confounder, frame, ROOM, &n) == 0);
+    krbrelay_sealer_free(&s);
+    return n;
+}
+
+/* Opened, and refused after it was deciphered: for its number, its time, and its room. */
+static void unseal_in_each_way(int etype)
+{
+    static uint8_t frame[ROOM], text[ROOM];
+    struct krbrelay_expect expect = expect_of(KRBRELAY_PRIV);
+    struct krbrelay_moment late = moment(SECS + 1000, USEC);
+    struct krbrelay_opener o = { 0 };
+    size_t n = sealed(etype, frame), m = 0;
+    CHECK(krbrelay_opener_new(&o, etype, key, key_size(etype), &expect) == KRBRELAY_OK);
+    CHECK(krbrelay_opener_unseal(&o, frame, n, 7, &now, text, ROOM, &m) == 0 && m == SIZE);
+    CHECK(memcmp(text, user_data, SIZE) == 0);
+    CHECK(krbrelay_opener_unseal(&o, frame, n, 8, &now, text, ROOM, &m) == KRBRELAY_BADORDER);
+    CHECK(krbrelay_opener_unseal(&o, frame, n, 7, &late, text, ROOM, &m) == KRBRELAY_SKEW);
+    CHECK(krbrelay_opener_unseal(&o, frame, n, 7, &now, text, SIZE - 1, &m) == KRBRELAY_ROOM);
+    frame[n - 1] ^= 1;
+    CHECK(krbrelay_opener_unseal(&o, frame, n, 7, &now, text, ROOM, &m) == KRBRELAY_BAD_INTEGRITY);
+    frame[n - 1] ^= 1;
+    CHECK(krbrelay_opener_unseal_in_place(&o, frame, n, 7, &now, &m) == 0 && m == SIZE);
+    krbrelay_opener_free(&o);
+}
+
+/* The same by demands. */
+static void open_in_each_way(int etype)
+{
+    static uint8_t frame[ROOM], text[ROOM];
+    struct krbrelay_expect expect = expect_of(KRBRELAY_PRIV);
+    struct krbrelay_demand demand = { .how_number = KRBRELAY_REQUIRED, .number = 7 };
+    struct krbrelay_carried carried;
+    struct krbrelay_opener o = { 0 };
+    size_t n = sealed(etype, frame), m = 0;
+    CHECK(krbrelay_opener_new(&o, etype, key, key_size(etype), &expect) == KRBRELAY_OK);
+    CHECK(krbrelay_opener_open(&o, frame, n, &demand, &now, text, ROOM, &m, &carried) == 0);
+    CHECK(m == SIZE && memcmp(text, user_data, SIZE) == 0);
+    CHECK(krbrelay_opener_open(&o, frame, n, &demand, &now, text, 1, &m, &carried) == KRBRELAY_ROOM);
+    demand.number = 8;
+    CHECK(krbrelay_opener_open(&o, frame, n, &demand, &now, text, ROOM, &m, &carried)
+          == KRBRELAY_BADORDER);
+    krbrelay_opener_free(&o);
+}
+
+/* Records: a text and a batch, taken, and refused for their room; and user data that are no record. */
+static void take_in_each_way(int etype)
+{
+    static uint8_t frames[3][ROOM], batch[ROOM], bytes[ROOM];
+    struct krbrelay_session session = session_of(KRBRELAY_PRIV, 7);
+    struct krbrelay_expect expect = expect_of(KRBRELAY_PRIV);
+    struct krbrelay_sealer s = { 0 };
+    struct krbrelay_receiver r = { 0 };
+    size_t n[3] = { 0, 0, 0 }, size = 0, m = 0;
+    uint32_t kind = 0;
+    CHECK(krbrelay_batch_add(batch, ROOM, &size, user_data, SIZE) == KRBRELAY_OK);
+    CHECK(krbrelay_batch_add(batch, ROOM, &size, user_data, SIZE) == KRBRELAY_OK);
+    CHECK(krbrelay_sealer_new(&s, etype, key, key_size(etype), &session) == KRBRELAY_OK);
+    CHECK(krbrelay_sealer_seal_record(&s, KRBRELAY_TEXT, user_data, SIZE, &now, confounder,
+                                      frames[0], ROOM, &n[0]) == 0);
+    CHECK(krbrelay_sealer_seal_record(&s, KRBRELAY_BATCH, batch, size, &now, confounder,
+                                      frames[1], ROOM, &n[1]) == 0);
+    CHECK(krbrelay_sealer_seal_record(&s, KRBRELAY_BATCH, batch, size - 1, &now, confounder,
+                                      frames[2], ROOM, &n[2]) == KRBRELAY_RECORD);
+    CHECK(krbrelay_sealer_seal(&s, user_data, SIZE, &now, confounder, frames[2], ROOM, &n[2]) == 0);
+    CHECK(krbrelay_receiver_new(&r, etype, key, key_size(etype), &expect, 7, 0) == KRBRELAY_OK);
+    CHECK(krbrelay_receiver_take(&r, frames[0], n[0], &now, &kind, bytes, 1, &m) == KRBRELAY_ROOM);
+    for (int i = 0; i < 2; i++) {
+        CHECK(krbrelay_receiver_take(&r, frames[i], n[i], &now, &kind, bytes, ROOM, &m) == 0);
+        CHECK(m == (i == 0 ? SIZE : size));
+    }
+    CHECK(krbrelay_receiver_take(&r, frames[0], n[0], &now, &kind, bytes, ROOM, &m)
+          == KRBRELAY_BADORDER);
+    CHECK(krbrelay_receiver_take(&r, frames[2], n[2], &now, &kind, bytes, ROOM, &m)
+          == KRBRELAY_BAD_RECORD);
+    krbrelay_sealer_free(&s);
+    krbrelay_receiver_free(&r);
+}
+
 /* A block that is freed with its key in it is reported. */
 static void leave_key(void)
 {
@@ -144,6 +240,11 @@ static void leave_key(void)
     watch_block(0, block);
     free(block);
     CHECK(watch[0].freed == 1 && watch[0].runs == 1);
+    block = malloc(SIZE);
+    CHECK(block != NULL);
+    if (block != NULL)
+        memcpy(block, user_data, SIZE);
+    free(block);
 }
 
 static void end_in_each_way(void)
@@ -155,6 +256,11 @@ static void end_in_each_way(void)
             no_residue_of_receiver(mode, etype, 0);
             no_residue_of_receiver(mode, etype, 1);
         }
+    for (int etype = 17; etype <= 18; etype++) {
+        unseal_in_each_way(etype);
+        open_in_each_way(etype);
+        take_in_each_way(etype);
+    }
     CHECK(blocks_freed > 0);
 }
 
@@ -162,6 +268,10 @@ int main(int argc, char **argv)
 {
     for (int i = 0; i < 32; i++)
         key[i] = (uint8_t)(0xa0 + i * 5);
+    for (int i = 0; i < SIZE; i++)
+        user_data[i] = (uint8_t)(0x21 + i);
+    for (int i = 0; i < 16; i++)
+        confounder[i] = (uint8_t)(0xc1 + 3 * i);
     if (argc > 1 && strcmp(argv[1], "left") == 0)
         leave_key();
     else

@@ -45,6 +45,15 @@ def preloaded(folder, *source):
     return built
 
 
+def program(folder, *source):
+    """A program of a source below tools/, built with no optimization: each store in it is made."""
+    built = os.path.join(folder, source[-1].removesuffix(".c"))
+    words = [*c_compiler(), "-O0", "-fno-builtin", os.path.join(building.TOOLS, *source), "-o", built]
+    if subprocess.run(words, check=False).returncode != 0:
+        raise NotBuilt("the C compiler failed")
+    return built
+
+
 def c_library(words, folder):
     """Where libkrbrelay is installed: at the prefix that is named, or in a new folder, for which it
     is built. The tool ends if it can't be built."""
