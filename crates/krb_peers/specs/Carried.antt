@@ -1,6 +1,6 @@
 -- A lane whose carrier brings each frame in its turn. Anything may come between: frames repeated,
 -- early, changed or made up.
-use Rattle.std.specs.Prelude.{◌≡◌, ℕ, suc, ◌+◌, ◌<◌, ◌≤◌, true, List, length, take, slice_get}
+use Rattle.std.specs.Prelude.{◌≡◌, ◌⊎◌, ℕ, suc, ◌+◌, ◌<◌, ◌≤◌, true, List, length, take, slice_get}
 use Rattle.std.specs.Prelude.{Option, Some, None, Ok}
 use Rattle.krb_base.specs.Prefix.{IsPrefix}
 use Rattle.krb_seal.specs.Laws.{Agree}
@@ -9,7 +9,7 @@ use Rattle.krb_peers.specs.declared.plan.Emit.{Emit}
 use Rattle.krb_peers.specs.declared.plan.Emit.TheVariants.{Frame}
 use Rattle.krb_peers.specs.Ends.{Ends}
 use Rattle.krb_peers.specs.Order.{demand_after, first_demand}
-use Rattle.krb_peers.specs.Premises.{IsPaired, altered_at}
+use Rattle.krb_peers.specs.Premises.{IsPaired, IsOwn, altered_at}
 use Rattle.krb_peers.specs.Run.{Run}
 use Rattle.krb_peers.specs.Sender.{Source, moment_at, records}
 use Rattle.krb_peers.specs.Verdicts.{Verdict, record_of, records_of}
@@ -59,7 +59,9 @@ pub record GoesOnBehind (source : Source) (before : List Verdict) (ends : Ends) 
 -- the altered-frames premise, after so many records were accepted before
 abbrev pub AlteredAreHonestBehind : ℕ → Run → Type 0
 AlteredAreHonestBehind before run =
-    (place : ℕ) (d : Delivery) → altered_at run.ends.source.plan place ≡ true
-    → slice_get run.verdicts place ≡ Some (Ok d)
-    → slice_get (records run.ends.source) (before + length (records_of (take place run.verdicts)))
-    ≡ Some (record_of d)
+    (place : ℕ) (frame : List ℕ) (d : Delivery) → altered_at run.ends.source.plan place ≡ true
+    → slice_get run.took place ≡ Some frame → slice_get run.verdicts place ≡ Some (Ok d)
+    → IsOwn run.ends.source frame
+    ⊎ (slice_get (records run.ends.source)
+    (before + length (records_of (take place run.verdicts)))
+    ≡ Some (record_of d))

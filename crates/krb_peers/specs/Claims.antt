@@ -1,11 +1,17 @@
 -- What is claimed of a lane. Each claim is here once, about a list of events: `headline_laws`
 -- states it of those that verdicts bring, and `Headline` of those that a log has of the lane.
-use Rattle.std.specs.Prelude.{◌≡◌, ◌↔◌, ℕ, Bool, true, false, List, [], ◌∷◌, ◌++◌, take, slice_get}
-use Rattle.std.specs.Prelude.{slice_index_or, Some, Err}
+use Rattle.std.specs.Prelude.{◌≡◌, ◌↔◌, ℕ, Bool, true, false, List, [], ◌∷◌, ◌++◌, ◌+◌, length, take, drop, slice_get}
+use Rattle.std.specs.Prelude.{slice_index_or, Some, Err, All, IsOk}
+use Rattle.std.specs.List.{flat_map, list_any}
 use Rattle.krb_base.specs.Prefix.{IsPrefix}
+use Rattle.krb_record.specs.declared.record.Record.{Record}
+use Rattle.krb_record.specs.Record.{texts_of, is_close}
+use Rattle.krb_seal.specs.Sealer.{SealerState}
 use Rattle.krb_seal.specs.declared.refusal.Refusal.{Refusal}
 use Rattle.krb_peers.specs.declared.log.Event.{Event}
 use Rattle.krb_peers.specs.declared.log.Event.TheVariants.{Closed}
+use Rattle.krb_peers.specs.Attempt.{Attempt, begins_at, IsAttemptAt, BeginsBehind, AreRecords}
+use Rattle.krb_peers.specs.Attempt.{TakesRecordsInTurn, RecordsFit}
 use Rattle.krb_peers.specs.Demand.{Demand}
 use Rattle.krb_peers.specs.Log.{events_of, texts_in, has_closed}
 use Rattle.krb_peers.specs.LogState.{LogState}
@@ -56,6 +62,48 @@ RefusalsDeliverNothing start verdicts events =
     (front back : List Verdict) (refusal : Refusal) → verdicts ≡ front ++ Err refusal ∷ back
     → (texts_in events ≡ delivered (front ++ back))
     × (demand_after start (records_of verdicts) ≡ demand_after start (records_of (front ++ back)))
+
+-- ---- all of them, of the frames of a session
+
+-- the texts of the first records, and those of events behind them
+abbrev pub texts_with : List Record → ℕ → List Event → List (List ℕ)
+texts_with records first events = flat_map texts_of (take first records) ++ texts_in events
+
+-- an attempt at the records of a session, whoever seals them, by a receiver that begins behind the
+-- first ones
+pub record IsAttemptBehind (sealer : SealerState) (records : List Record) (first : ℕ)
+    (attempt : Attempt) : Type 0 where
+  pub are : AreRecords records
+  pub tries : IsAttemptAt sealer records attempt
+  pub begins : BeginsBehind sealer records first (begins_at attempt)
+
+-- the seven claims, about the events of an attempt and about its verdicts: nothing is said of who
+-- seals its frames and who brings them
+pub record FramesHeadline (sealer : SealerState) (records : List Record) (first : ℕ)
+    (attempt : Attempt) (events : List Event) : Type 0 where
+  pub delivered_prefix :
+      IsAttemptBehind sealer records first attempt
+      → IsPrefix (texts_with records first events) (flat_map texts_of records)
+  pub nothing_after_close : NothingAfterClose events
+  pub all_where_closed :
+      IsAttemptBehind sealer records first attempt → has_closed events ≡ true
+      → texts_with records first events ≡ flat_map texts_of records
+  -- all texts are delivered if the frames come in turn, and nothing else comes: none is refused
+  pub all_where_undisturbed :
+      IsAttemptBehind sealer records first attempt → RecordsFit records
+      → TakesRecordsInTurn sealer records first (length records) attempt
+      → first + length attempt.took ≡ length records
+      → (texts_with records first events ≡ flat_map texts_of records) × All IsOk attempt.verdicts
+  -- and if they come in turn, whatever else comes; and the close is accepted if there is one
+  pub all_where_carried :
+      IsAttemptBehind sealer records first attempt → RecordsFit records
+      → TakesRecordsInTurn sealer records first (length records) attempt
+      → (texts_with records first events ≡ flat_map texts_of records)
+      × (has_closed events ≡ list_any is_close (drop first records))
+  pub refused_exactly :
+      RefusesExactly attempt.receiver attempt.nows attempt.took attempt.verdicts
+  pub refusals_deliver_nothing :
+      RefusalsDeliverNothing (begins_at attempt) attempt.verdicts events
 
 -- ---- all of them, of a lane of a log
 

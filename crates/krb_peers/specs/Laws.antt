@@ -1,7 +1,7 @@
 -- What holds of senders, receivers and logs: what the laws state.
-use Rattle.std.specs.Prelude.{◌≡◌, ◌↔◌, ◌<◌, ℕ, suc, ◌+◌, List, [], ◌∷◌, ◌++◌, length, take}
-use Rattle.std.specs.Prelude.{All, IsOk, None}
-use Rattle.std.specs.List.{Contains, flat_map}
+use Rattle.std.specs.Prelude.{◌≡◌, ◌↔◌, ◌<◌, ℕ, suc, ◌+◌, ◌≤◌, List, [], ◌∷◌, ◌++◌, length, take}
+use Rattle.std.specs.Prelude.{All, IsOk, None, Some, slice_get, true, drop}
+use Rattle.std.specs.List.{Contains, flat_map, list_any}
 use Rattle.krb_base.specs.Prefix.{IsPrefix}
 use Rattle.krb_aes.specs.Words.{AreBytes}
 use Rattle.krb_seal.specs.Opens.{OpenerState}
@@ -10,15 +10,22 @@ use Rattle.krb_record.specs.declared.record.Record.TheVariants.{Close}
 use Rattle.krb_peers.specs.declared.log.Event.{Event}
 use Rattle.krb_peers.specs.declared.log.Entry.{Entry}
 use Rattle.krb_peers.specs.declared.sending.Sent.{Sent}
-use Rattle.krb_record.specs.Record.{texts_of}
+use Rattle.krb_seal.specs.Laws.{Agree}
+use Rattle.krb_seal.specs.Sealer.{SealerState}
+use Rattle.krb_record.specs.Record.{texts_of, is_close}
 use Rattle.krb_peers.specs.Demand.{Demand}
 use Rattle.krb_peers.specs.Order.{Offer, Answer, answers_to, first_demand, demand_after}
 use Rattle.krb_peers.specs.Accepted.{Accepted, accepted_of, AreNumbered, EndsWithItsClose}
 use Rattle.krb_peers.specs.Sender.{Source, IsWithinLimits, AreFrames, moment_at, records}
 use Rattle.krb_peers.specs.ReceiverState.{ReceiverState}
 use Rattle.krb_peers.specs.Verdicts.{Verdict, AllBytes, AreVerdicts, AreJudged, IsVerdict, verdict}
-use Rattle.krb_peers.specs.Verdicts.{verdicts, records_of, events_from}
+use Rattle.krb_peers.specs.Verdicts.{verdicts, records_of, events_from, delivered}
 use Rattle.krb_peers.specs.Log.{events_of, entries_for}
+use Rattle.krb_peers.specs.Sealed.{Sealed, records_in, texts_in, frames_in, AreSealed}
+use Rattle.krb_peers.specs.Sealed.{FitLimits}
+use Rattle.krb_peers.specs.Attempt.{Attempt, begins_at, ends_at, demand_at, IsAttempt, BeginsBehind}
+use Rattle.krb_peers.specs.Attempt.{TakesInTurn, AreRecords, IsAttemptAt}
+use Rattle.krb_peers.specs.Attempt.{TakesRecordsInTurn, RecordsFit}
 use Rattle.krb_peers.specs.LogState.{LogState}
 use Rattle.krb_peers.specs.Logged.{HasLogged, IsShut}
 use Rattle.krb_peers.specs.Ends.{Ends}
@@ -29,6 +36,7 @@ use Rattle.krb_peers.specs.Carried.{ComeInTurn, Carried, AcceptInOrder, GoesOnBe
 use Rattle.krb_peers.specs.Carried.{AlteredAreHonestBehind}
 use Rattle.krb_peers.specs.Claims.{DeliversPrefix, DeliversAll, DeliversWhole, NothingAfterClose}
 use Rattle.krb_peers.specs.Claims.{AllWhereClosed, RefusesExactly, RefusalsDeliverNothing, Headline}
+use Rattle.krb_peers.specs.Claims.{FramesHeadline}
 use Rattle.krb_peers.specs.Rounds.{AreRounds, joined, list_of, rounds, rounds_below, NoneLonger}
 use Rattle.krb_peers.specs.Whole.{rounds_of, EndsWhole, IsRelayed, IsWhole}
 
@@ -145,6 +153,141 @@ abbrev pub VerdictsOfRefusalsDeliverNothing : Type 0
 VerdictsOfRefusalsDeliverNothing =
     (start : Demand) (answers : List Verdict)
     → RefusalsDeliverNothing start answers (events_from answers)
+
+-- ---- a session whose frames anyone brings
+
+-- it holds of each attempt at what any sender sealed, by a receiver that begins behind the first
+-- `first` records: a new one begins behind none
+abbrev pub OfAttempts : (SealerState → List Sealed → ℕ → Attempt → Type 0) → Type 0
+OfAttempts Claim =
+    (sealer : SealerState) (sealed : List Sealed) (first : ℕ) (attempt : Attempt)
+    → AreSealed sealer sealed → IsAttempt sealer sealed attempt
+    → BeginsBehind sealer (records_in sealed) first (begins_at attempt)
+    → Claim sealer sealed first attempt
+
+-- together with the first records, what is accepted are the first records
+abbrev pub AttemptsAcceptInOrder : Type 0
+AttemptsAcceptInOrder = OfAttempts (λ sealer sealed first attempt.
+    let all = records_in sealed in
+    let accepted = records_of attempt.verdicts in
+    (first + length accepted ≤ length all)
+    × (take first all ++ accepted ≡ take (first + length accepted) all))
+
+-- the texts of the first records, and what is delivered behind them
+abbrev pub delivered_with : List Sealed → ℕ → Attempt → List (List ℕ)
+delivered_with sealed first attempt =
+    flat_map texts_of (take first (records_in sealed)) ++ delivered attempt.verdicts
+
+-- they are a prefix of the texts that were sealed
+abbrev pub AttemptsDeliverPrefix : Type 0
+AttemptsDeliverPrefix = OfAttempts (λ sealer sealed first attempt.
+    IsPrefix (delivered_with sealed first attempt) (texts_in sealed))
+
+-- and all of them if the close was accepted
+abbrev pub AttemptsDeliverAllWhereClosed : Type 0
+AttemptsDeliverAllWhereClosed = OfAttempts (λ sealer sealed first attempt.
+    (ends_at attempt).closed ≡ true → delivered_with sealed first attempt ≡ texts_in sealed)
+
+-- after frame k in its turn, a number after that of record k is demanded
+abbrev pub AttemptsDemandInTurn : Type 0
+AttemptsDemandInTurn = OfAttempts (λ sealer sealed first attempt.
+    (end : ℕ) (turn : TakesInTurn sealer sealed first end attempt) (k : ℕ) → FitLimits sealed
+    → first ≤ k → k < end
+    → sealer.next + k < (demand_at attempt (suc (turn.place k))).expected)
+
+-- all of the rest is accepted if each frame of it comes in its turn: so all texts are delivered, and
+-- the close is accepted if there is one
+abbrev pub AttemptsAcceptRest : Type 0
+AttemptsAcceptRest = OfAttempts (λ sealer sealed first attempt.
+    FitLimits sealed → TakesInTurn sealer sealed first (length sealed) attempt
+    → (records_of attempt.verdicts ≡ drop first (records_in sealed))
+    × (delivered_with sealed first attempt ≡ texts_in sealed)
+    × ((ends_at attempt).closed ≡ list_any is_close (records_in sealed)))
+
+-- nothing else comes: no frame is refused, and the next records are accepted, one for each frame
+abbrev pub AttemptsRefuseNone : Type 0
+AttemptsRefuseNone = OfAttempts (λ sealer sealed first attempt.
+    FitLimits sealed
+    → (turn : TakesInTurn sealer sealed first (first + length attempt.took) attempt)
+    → All IsOk attempt.verdicts
+    × (records_of attempt.verdicts ≡ take (length attempt.took) (drop first (records_in sealed))))
+
+-- the headline holds of what a log has of a lane, if it has what the verdicts of an attempt bring
+abbrev pub FramesHaveHeadline : Type 0
+FramesHaveHeadline =
+    (sealer : SealerState) (records : List Record) (first : ℕ) (attempt : Attempt)
+    (lane : ℕ) (log : LogState) (receiver : ReceiverState)
+    → HasLogged attempt.receiver attempt.nows lane attempt.took log receiver attempt.verdicts
+    → FramesHeadline sealer records first attempt (events_of lane log.entries)
+
+-- by the records alone: what is accepted with the first records are the first records, what is
+-- delivered is a prefix of their texts, and all of them if the close was accepted
+abbrev pub RecordsAreAccepted : Type 0
+RecordsAreAccepted =
+    (sealer : SealerState) (records : List Record) (first : ℕ) (attempt : Attempt)
+    → AreRecords records → IsAttemptAt sealer records attempt
+    → BeginsBehind sealer records first (begins_at attempt)
+    → let accepted = records_of attempt.verdicts in
+    let texts = flat_map texts_of (take first records) ++ delivered attempt.verdicts in
+    (first + length accepted ≤ length records)
+    × (take first records ++ accepted ≡ take (first + length accepted) records)
+    × IsPrefix texts (flat_map texts_of records)
+    × ((ends_at attempt).closed ≡ true → texts ≡ flat_map texts_of records)
+
+-- and all of the rest is accepted if each record of it comes in its turn
+abbrev pub RecordsInTurnAreAccepted : Type 0
+RecordsInTurnAreAccepted =
+    (sealer : SealerState) (records : List Record) (first : ℕ) (attempt : Attempt)
+    → AreRecords records → IsAttemptAt sealer records attempt
+    → BeginsBehind sealer records first (begins_at attempt)
+    → RecordsFit records
+    → TakesRecordsInTurn sealer records first (length records) attempt
+    → (records_of attempt.verdicts ≡ drop first records)
+    × ((ends_at attempt).closed ≡ list_any is_close records)
+
+-- an attempt at what was sealed is one at its records
+abbrev pub SealedAreRecords : Type 0
+SealedAreRecords =
+    (sealer : SealerState) (sealed : List Sealed) (attempt : Attempt)
+    → AreSealed sealer sealed → IsAttempt sealer sealed attempt
+    → AreRecords (records_in sealed) × IsAttemptAt sealer (records_in sealed) attempt
+
+-- and so is each run of a paired lane in which altered frames are honest, at the records of its
+-- sender
+abbrev pub RunsAreAttempts : Type 0
+RunsAreAttempts =
+    (run : Run) → IsPaired run.ends → IsRun run → AlteredAreHonest run
+    → let attempt : Attempt = record {
+      receiver = run.ends.receiver;
+      nows = run.ends.nows;
+      took = run.took;
+      verdicts = run.verdicts;
+    } in
+    let sealer = run.ends.source.sealer in
+    AreRecords (records run.ends.source)
+    × IsAttemptAt sealer (records run.ends.source) attempt
+    × BeginsBehind sealer (records run.ends.source) 0 (begins_at attempt)
+
+-- a new receiver that agrees and takes all frames makes an attempt, and accepts all
+abbrev pub AttemptsHappen : Type 0
+AttemptsHappen =
+    (sealer : SealerState) (sealed : List Sealed) (receiver : ReceiverState) (nows : List ℕ)
+    → AreSealed sealer sealed → FitLimits sealed
+    → receiver.opener.etype ≡ sealer.etype → receiver.opener.key ≡ sealer.key
+    → receiver.demand ≡ first_demand sealer.next
+    → ((k : ℕ) (it : Sealed) → slice_get sealed k ≡ Some it
+    → Agree sealer.session receiver.opener.expect it.at (moment_at nows k))
+    → (attempt : Attempt) × (attempt.receiver ≡ receiver) × (attempt.took ≡ frames_in sealed)
+    × IsAttempt sealer sealed attempt × (records_of attempt.verdicts ≡ records_in sealed)
+
+-- what a sender seals is sealed so, of however many of its records
+abbrev pub SourcesAreSealed : Type 0
+SourcesAreSealed =
+    (source : Source) (count : ℕ) (frames : List (List ℕ))
+    → AreFrames source (take count (records source)) frames
+    → (sealed : List Sealed) × AreSealed source.sealer sealed
+    × (IsWithinLimits source → FitLimits sealed)
+    × (records_in sealed ≡ take count (records source)) × (frames_in sealed ≡ frames)
 
 -- ---- a clean lane
 

@@ -12,6 +12,8 @@ pub mod ReceiverState
 pub mod Verdicts
 pub mod Receiver
 pub mod Logged
+pub mod Sealed
+pub mod Attempt
 pub mod Ends
 pub mod Wire
 pub mod StartError

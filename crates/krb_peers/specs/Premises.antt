@@ -1,12 +1,13 @@
 -- What the claims about sealed texts assume of a lane.
-use Rattle.std.specs.Prelude.{◌≡◌, ℕ, Bool, true, false, List, length, take, slice_get, Option}
+use Rattle.std.specs.Prelude.{◌≡◌, ◌⊎◌, ℕ, Bool, true, false, List, length, take, slice_get, Option}
 use Rattle.std.specs.Prelude.{Some, None, Ok}
 use Rattle.krb_peers.specs.declared.delivery.Delivery.{Delivery}
 use Rattle.krb_peers.specs.declared.plan.Emit.{Emit}
 use Rattle.krb_peers.specs.declared.plan.Emit.TheVariants.{Frame, Flip, Raw}
 use Rattle.krb_peers.specs.Ends.{Ends}
 use Rattle.krb_peers.specs.Run.{Run}
-use Rattle.krb_peers.specs.Sender.{records}
+use Rattle.krb_record.specs.declared.record.Record.{Record}
+use Rattle.krb_peers.specs.Sender.{Source, IsFrame, records}
 use Rattle.krb_peers.specs.Verdicts.{record_of, records_of}
 
 -- the lane is paired: both ends have one key, and the number demanded first is the sealer's next
@@ -33,12 +34,20 @@ abbrev pub altered_at : Option (List Emit) → ℕ → Bool
 altered_at None place = false
 altered_at (Some plan) place = is_altered_one (slice_get plan place)
 
--- The altered-frames premise. If a changed or a raw frame was accepted in this run, it carried the
--- record of its number. Nothing is assumed of the sender's own frames, however they are repeated,
--- dropped or reordered.
+-- the frame is one that the sender seals, or is to seal
+pub record IsOwn (source : Source) (frame : List ℕ) : Type 0 where
+  pub k : ℕ
+  pub carried : Record
+  pub there : slice_get (records source) k ≡ Some carried
+  pub is : IsFrame source k carried frame
+
+-- The altered-frames premise. If a changed or a raw frame was accepted in this run, it is one of the
+-- sender's own after all, or it carried the record of its number. Nothing is assumed of the sender's
+-- own frames, however they are repeated, dropped or reordered.
 abbrev pub AlteredAreHonest : Run → Type 0
 AlteredAreHonest run =
-    (place : ℕ) (d : Delivery) → altered_at run.ends.source.plan place ≡ true
-    → slice_get run.verdicts place ≡ Some (Ok d)
-    → slice_get (records run.ends.source) (length (records_of (take place run.verdicts)))
-    ≡ Some (record_of d)
+    (place : ℕ) (frame : List ℕ) (d : Delivery) → altered_at run.ends.source.plan place ≡ true
+    → slice_get run.took place ≡ Some frame → slice_get run.verdicts place ≡ Some (Ok d)
+    → IsOwn run.ends.source frame
+    ⊎ (slice_get (records run.ends.source) (length (records_of (take place run.verdicts)))
+    ≡ Some (record_of d))

@@ -8,7 +8,7 @@ ghost use Rattle.krb_peers.specs.Laws.{PairedAcceptInOrder, GoingOnAcceptsInOrde
 /// The carrier may bring frames repeated and early, and others that are changed or made up. Both
 /// ends have one key and agree on mode and addresses, each of the sender's frames comes somewhere
 /// after the one before and is taken there within the skew, and no changed or made-up frame is
-/// accepted unless it carries the record of its number.
+/// accepted unless it is one of the sender's own after all, or carries the record of its number.
 ///
 /// Then, after frame k in its turn, a number after that of record k is demanded (`demands_next`).
 /// If the receiver takes all of the wire, it delivers all texts, in order and each once, and

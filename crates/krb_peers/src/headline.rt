@@ -9,8 +9,8 @@ ghost use Rattle.krb_peers.specs.Laws.{FrontsHaveHeadline, FrontsAreRelayed, One
 ///
 /// The sender's frames go over a wire that repeats, drops, reorders, changes and makes up frames by
 /// a plan, and the receiver takes any number of them. The claims about what was sealed need a
-/// paired lane, and that no changed or made-up frame is accepted unless it carries the record of
-/// its number.
+/// paired lane, and that no changed or made-up frame is accepted unless it is one of the sender's
+/// own after all, or carries the record of its number.
 ///
 /// What is delivered is a prefix of the texts sealed, in order and each once (`delivered_prefix`);
 /// without a plan, if sealing was stopped, of those sealed until then (`sealed_only`). Nothing is

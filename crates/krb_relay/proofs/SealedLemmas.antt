@@ -14,7 +14,8 @@ use Rattle.krb_peers.specs.Sender.{records}
 use Rattle.krb_record.specs.declared.record.Record.{Record}
 use Rattle.krb_peers.specs.Verdicts.{Verdict, AreJudged, events_from, records_of}
 use Rattle.krb_peers.proofs.AcceptedPrefix.{texts_prefix}
-use Rattle.krb_peers.proofs.HeadlineLemmas.{delivered_texts, records_prefix, sealed_prefix}
+use Rattle.krb_peers.proofs.AnswerLemmas.{delivered_texts}
+use Rattle.krb_peers.proofs.SourceLemmas.{records_prefix, sealed_prefix}
 use Rattle.krb_relay.specs.Sealed.{DeliversSealed, first_texts}
 use Rattle.krb_relay.specs.Sent.{IsFront}
 

@@ -7,7 +7,7 @@ returns c = record {
   demands_next = λ run carried honest fits is k lt inside.
       let past = carried_demands run carried honest fits is k lt inside in
       omega (arith, past);
-  all_texts = λ run carried honest fits is all. carried_whole run carried honest fits is all;
+  all_texts = λ run carried honest fits is all. carried_whole run carried honest is all;
   undisturbed = undisturbed_carried;
   honest = undisturbed_honest;
 }

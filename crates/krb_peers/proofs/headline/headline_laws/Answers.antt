@@ -1,5 +1,6 @@
 use Rattle.krb_peers.specs.Sender.{sealed_groups}
-use Rattle.krb_peers.proofs.HeadlineLemmas.{records_prefix, sealed_prefix, delivered_prefix, delivered_whole, quiet_after, refuses, refusal_nothing}
+use Rattle.krb_peers.proofs.SourceLemmas.{records_prefix, sealed_prefix}
+use Rattle.krb_peers.proofs.HeadlineLemmas.{delivered_prefix, delivered_whole, quiet_after, refuses, refusal_nothing}
 use Rattle.krb_peers.proofs.headline.headline_laws.Goals as goal
 
 pub returns : goal.returns
