@@ -11,18 +11,20 @@ use Rattle.krb_record.specs.declared.record.Record.{Record}
 use Rattle.krb_record.specs.declared.record.Record.TheVariants.{Text, Batch, Close}
 use Rattle.krb_seal.specs.Laws.{Agree}
 use Rattle.krb_seal.specs.Sealer.{SealerState}
-use Rattle.krb_peers.specs.Order.{first_demand}
+use Rattle.krb_peers.specs.Attempt.{CanTakeAll}
 use Rattle.krb_peers.specs.ReceiverState.{ReceiverState}
-use Rattle.krb_peers.specs.Sender.{moment_at}
+use Rattle.krb_peers.specs.Moments.{moment_at}
 use Rattle.krb_carry.specs.ProgressState.{ProgressState}
 use Rattle.krb_carry.specs.Progress.{counted, new_progress, Happening, Store, Confirm, after, after_all, IsTruthful}
-use Rattle.krb_peers.specs.Sealed.{Sealed, records_in, AreSealed, FitLimits}
+use Rattle.krb_peers.specs.Session.{AreRecords, Sealed, AreSealed}
 use Rattle.krb_carry.specs.Shard.{Item, frames_of, StandsAt, Stands}
-use Rattle.krb_carry.specs.Outbox.{Put, has_close_put, puts_of, puts_in, Outbox, new_outbox, sealed_in, Sealing, Act, Insert, Seal, IsAct, with_put, with_frames, LeadsOutbox}
+use Rattle.krb_carry.specs.Outbox.{Put, has_close_put, puts_of, records_in, puts_in, Outbox, new_outbox, sealed_in, Sealing, IsSealing, Act, Insert, Seal, IsAct, with_put, with_frames, LeadsOutbox}
 use Rattle.krb_carry.specs.Reading.{Reading, StoredShard, IsReading}
 use Rattle.krb_carry.specs.Store.{new_session, applied}
 use Rattle.krb_carry.specs.Laws.{HasDelivery}
+use Rattle.krb_peers.proofs.AnswerLemmas.{image}
 use Rattle.krb_peers.proofs.HappenLemmas.{taking_all, is_attempt, demanded_at}
+use Rattle.krb_peers.proofs.MomentLemmas.{one_moment}
 use Rattle.krb_carry.proofs.ShardLemmas.{item_of, own_item}
 use Rattle.krb_carry.proofs.OutboxLemmas.{IsLast, it-numbered}
 
@@ -111,12 +113,12 @@ from_close (Close ∷ rs) (f ∷ front) back is =
     let there = from_close rs front back tail in
     record { front = Close ∷ there.front; rest = there.rest; is = ap (λ l. Close ∷ l) there.is; back_is = there.back_is }
 
-puts_last : (sealer : SealerState) (sealed : List Sealed) → AreSealed sealer sealed → IsLast (puts_in sealed)
-puts_last sealer sealed are front back is =
+puts_last : (sealed : List Sealed) → AreRecords (records_in sealed) → IsLast (puts_in sealed)
+puts_last sealed are front back is =
     let there = from_close (records_in sealed) front back is in
     there.back_is ∙ ap (λ rs. flat_map puts_of rs) (are.close_last there.front there.rest there.is)
 
-module _ (sealer : SealerState) (sealed : List Sealed) (are : AreSealed sealer sealed) (fits : FitLimits sealed) where
+module _ (sealer : SealerState) (sealed : List Sealed) (receiver : ReceiverState) (nows : List ℕ) (can : CanTakeAll sealer (records_in sealed) sealed receiver nows) where
   abbrev sealing : Sealing
   sealing = record { from = sealer.next; sealed = sealed }
 
@@ -126,16 +128,22 @@ module _ (sealer : SealerState) (sealed : List Sealed) (are : AreSealed sealer s
   abbrev pub outbox : Outbox
   outbox = with_frames (with_all (new_outbox sealer) (puts_in sealed)) sealing []
 
+  is_sealing : IsSealing sealer sealing
+  is_sealing = record {
+    frames = λ i it at. ((can.each).each i it at).seals;
+    limits = λ i it at. can.fit i it.carried ((can.each).each i it at).there;
+  }
+
   pub all_acts : All (IsAct sealer) acts
   all_acts = each (puts_in sealed)
     where
       each : (puts : List Put) → All (IsAct sealer) (map Insert puts ++ Seal sealing ∷ [])
-      each [] = All-cons (IsAct sealer) (Seal sealing) [] (record { frames = are.frames; limits = fits }) (All-nil (IsAct sealer))
+      each [] = All-cons (IsAct sealer) (Seal sealing) [] is_sealing (All-nil (IsAct sealer))
       each (put ∷ puts) = All-cons (IsAct sealer) (Insert put) (map Insert puts ++ Seal sealing ∷ []) tt (each puts)
 
   pub acts_lead : LeadsOutbox (new_outbox sealer) acts outbox
   acts_lead =
-      insert_all (new_outbox sealer) (puts_in sealed) (Seal sealing ∷ []) outbox (puts_last sealer sealed are)
+      insert_all (new_outbox sealer) (puts_in sealed) (Seal sealing ∷ []) outbox (puts_last sealed can.are)
       (outbox, inl (refl, ([], sym (append-nil (puts_in sealed)), refl)), refl)
 
   pub sealed_is : sealed_in outbox ≡ sealed
@@ -177,70 +185,72 @@ all_confirmed first k (it ∷ sealed) p is le =
     subst (λ s. IsAt first (k + suc (length sealed)) (after_all s (confirms first (k + 1) sealed))) (sym step) (subst (λ m. IsAt first m (after_all q (confirms first (k + 1) sealed))) n rest)
 
 -- each of these confirmations is true
-stands_at : (sealed : List Sealed) (k : ℕ) (it : Sealed) → slice_get sealed k ≡ Some it → StandsAt (shard_of sealed) 0 sealed k k
-stands_at sealed k it at = record {
+stands_at : (sealer : SealerState) (records : List Record) (sealed : List Sealed) → AreSealed sealer records sealed → (k : ℕ) (it : Sealed) → slice_get sealed k ≡ Some it → StandsAt sealer records 0 (shard_of sealed) k k
+stands_at sealer records sealed are k it at = record {
   it = it;
-  sealed_so = at;
+  sealed = are.each k it at;
   there = slice_get-map (λ (s : Sealed). item_of 0 s.frame) sealed k ∙ ap (λ o. option_map (λ (s : Sealed). item_of 0 s.frame) o) at;
 }
 
-all_true : (sealed : List Sealed) (first k : ℕ) (rest : List Sealed) → ((i : ℕ) (it : Sealed) → slice_get rest i ≡ Some it → slice_get sealed (k + i) ≡ Some it)
-    → All (IsTruthful (shard_of sealed) 0 sealed first) (confirms first k rest)
-all_true sealed first k [] there = All-nil (IsTruthful (shard_of sealed) 0 sealed first)
-all_true sealed first k (it ∷ rest) there =
+all_true : (sealer : SealerState) (records : List Record) (sealed : List Sealed) → AreSealed sealer records sealed → (k : ℕ) (rest : List Sealed) → ((i : ℕ) (it : Sealed) → slice_get rest i ≡ Some it → slice_get sealed (k + i) ≡ Some it)
+    → All (IsTruthful sealer records 0 (shard_of sealed)) (confirms sealer.next k rest)
+all_true sealer records sealed are k [] there = All-nil (IsTruthful sealer records 0 (shard_of sealed))
+all_true sealer records sealed are k (it ∷ rest) there =
     let here : k + 0 ≡ k = omega arith in
-    let stands : Stands (shard_of sealed) 0 sealed first (first + k) (k + 1) = record {
+    let stands : Stands sealer records 0 (shard_of sealed) (sealer.next + k) (k + 1) = record {
       k = k;
       number_is = refl;
       place = k;
       offset_is = refl;
-      stands = stands_at sealed k it (ap (λ n. slice_get sealed n) (sym here) ∙ there 0 it refl);
+      stands = stands_at sealer records sealed are k it (ap (λ n. slice_get sealed n) (sym here) ∙ there 0 it refl);
     } in
-    All-cons (IsTruthful (shard_of sealed) 0 sealed first) (Confirm (first + k) (k + 1)) (confirms first (k + 1) rest) stands (
-    all_true sealed first (k + 1) rest (λ i other at.
+    All-cons (IsTruthful sealer records 0 (shard_of sealed)) (Confirm (sealer.next + k) (k + 1)) (confirms sealer.next (k + 1) rest) stands (
+    all_true sealer records sealed are (k + 1) rest (λ i other at.
     let next : k + 1 + i ≡ k + suc i = omega arith in
     ap (λ n. slice_get sealed n) next ∙ there (suc i) other at))
 
 -- ---- all of it at once
 
-pub delivery : (sealer : SealerState) (sealed : List Sealed) (receiver : ReceiverState) (nows : List ℕ) → AreSealed sealer sealed → FitLimits sealed → receiver.opener.etype ≡ sealer.etype → receiver.opener.key ≡ sealer.key
-    → receiver.demand ≡ first_demand sealer.next → ((k : ℕ) (it : Sealed) → slice_get sealed k ≡ Some it → Agree sealer.session receiver.opener.expect it.at (moment_at nows k)) → HasDelivery sealer sealed
-delivery sealer sealed receiver nows are fits etype key demand agree =
+pub delivery : (sealer : SealerState) (sealed : List Sealed) (receiver : ReceiverState) (nows : List ℕ) → CanTakeAll sealer (records_in sealed) sealed receiver nows → HasDelivery sealer sealed
+delivery sealer sealed receiver nows can =
     let n = length sealed in
     let first = sealer.next in
-    let kept = sealed_is sealer sealed are fits in
+    let records = records_in sealed in
+    let kept = sealed_is sealer sealed receiver nows can in
     let shard = shard_of sealed in
-    let attempt = taking_all sealer sealed are fits receiver nows etype key demand agree in
+    let attempt = taking_all sealer records sealed receiver nows can in
     let reading : Reading = record { from = 0; count = n; attempt = attempt } in
     let stored : StoredShard = record { offset = 0 + n; session = applied (new_session sealer) attempt } in
     let start = after (new_progress first) (Store n) in
     let begun : IsAt first 0 start = record { carried = omega arith; at = refl } in
     let end = all_confirmed first 0 sealed start begun (omega arith) in
-    let is_reading : IsReading sealer sealed 0 shard reading = record {
-      attempt = is_attempt sealer sealed are fits receiver nows etype key demand agree;
+    let is_reading : IsReading sealer records 0 shard reading = record {
+      attempt = is_attempt sealer records sealed receiver nows can;
       takes = sym (frames-shard sealed) ∙ ap (λ items. frames_of 0 items) (sym (take_all n shard (omega (arith, length-map sealed (λ (it : Sealed). item_of 0 it.frame)))));
-      agree = λ k place it at taken demanded.
-          let counted_so = demanded_at sealer sealed are fits receiver nows etype key demand agree place (omega (arith, slice_get_within attempt.took place it.frame taken, length-map sealed (λ (s : Sealed). s.frame))) in
-          let same : k ≡ place = omega (arith, counted_so, demanded) in
-          subst (λ p. Agree sealer.session receiver.opener.expect it.at (moment_at nows p)) same (agree k it at);
+      agree = λ k place it its taken demanded.
+          let mine = image (λ (s : Sealed). s.frame) sealed place it.frame taken in
+          let own = (can.each).each place mine.source mine.at in
+          let number = demanded_at sealer records sealed receiver nows can place (omega (arith, slice_get_within sealed place mine.source mine.at)) in
+          let at : mine.source.at ≡ it.at = one_moment sealer receiver.opener.expect (sealer.next + place) (sealer.next + k) mine.source it own.seals its.seals (sym mine.is) in
+          subst (λ at. Agree sealer.session receiver.opener.expect at (moment_at nows place)) at (can.agree place mine.source mine.at);
     } in
     record {
-      acts = acts sealer sealed are fits;
-      outbox = outbox sealer sealed are fits;
-      are_acts = all_acts sealer sealed are fits;
-      lead = acts_lead sealer sealed are fits;
+      acts = acts sealer sealed receiver nows can;
+      outbox = outbox sealer sealed receiver nows can;
+      are_acts = all_acts sealer sealed receiver nows can;
+      lead = acts_lead sealer sealed receiver nows can;
       sealed_is = kept;
       none_waits = refl;
       shard = shard;
       happenings = Store n ∷ confirms first 0 sealed;
-      are_true = subst (λ s. All (IsTruthful shard 0 s first) (Store n ∷ confirms first 0 sealed)) (sym kept) (
-          All-cons (IsTruthful shard 0 sealed first) (Store n) (confirms first 0 sealed) tt (
-          all_true sealed first 0 sealed (λ i it at. let same : 0 + i ≡ i = omega arith in rw same at)));
+      are_true = subst (λ s. All (IsTruthful sealer (records_in s) 0 shard) (Store n ∷ confirms first 0 sealed)) (sym kept) (
+          All-cons (IsTruthful sealer records 0 shard) (Store n) (confirms first 0 sealed) tt (
+          all_true sealer records sealed can.each 0 sealed (λ i it at. let same : 0 + i ≡ i = omega arith in rw same at)));
       readings = reading ∷ [];
       stored = stored;
-      are_readings = subst (λ s. All (IsReading sealer s 0 shard) (reading ∷ [])) (sym kept) (
-          All-cons (IsReading sealer sealed 0 shard) reading [] is_reading (All-nil (IsReading sealer sealed 0 shard)));
-      read = (stored, inl (refl, sym demand, refl), refl);
+      are_readings = subst (λ s. All (IsReading sealer (records_in s) 0 shard) (reading ∷ [])) (sym kept) (
+          All-cons (IsReading sealer records 0 shard) reading [] is_reading (All-nil (IsReading sealer records 0 shard)));
+      read = (stored, inl (refl, sym can.demand, refl), refl);
       carried = omega (arith, end.carried);
       past = omega (arith, end.at);
     }

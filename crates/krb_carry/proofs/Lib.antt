@@ -3,5 +3,5 @@ pub mod ShardLemmas
 pub mod ProgressLemmas
 pub mod ReadingLemmas
 pub mod OutboxLemmas
-pub mod SealedLemmas
+pub mod TwiceLemmas
 pub mod DeliveryLemmas

@@ -2,7 +2,9 @@
 use Rattle.std.proofs.Common.{◌≡◌, ℕ, zero, suc, ◌+◌, ◌||◌, true, false, List, [], ◌∷◌, ◌++◌, length, map, slice_get, Some, None, refl, sym, ap, ap₂, subst, ◌∙◌, arith, inl, inr, length-append, append_assoc, append-nil}
 use Rattle.std.specs.Prelude.{All, is_none}
 use Rattle.std.specs.List.{flat_map, list_any}
+use Rattle.std.specs.Option.{option_map}
 use Rattle.std.proofs.lemmas.List.{map-append, length-map}
+use Rattle.std.proofs.lemmas.Option.{slice_get-map}
 use Rattle.std.proofs.lemmas.List.Concat.{flat_map-append}
 use Rattle.std.proofs.lemmas.List.Elements.{All-head, All-tail}
 use Rattle.std.proofs.lemmas.List.Folds.{list_any-append}
@@ -13,8 +15,9 @@ use Rattle.krb_record.specs.Record.{FitsLimits, texts_of, is_close}
 use Rattle.krb_seal.specs.Sealer.{SealerState}
 use Rattle.krb_peers.proofs.AnswerLemmas.{image}
 use Rattle.krb_peers.proofs.FrameLemmas.{all_readable}
-use Rattle.krb_peers.specs.Sealed.{Sealed, records_in, texts_in, SealsAt, AreSealed}
-use Rattle.krb_carry.specs.Outbox.{Put, texts_put, has_close_put, puts_of, puts_in, Kept, numbered, Outbox, new_outbox, sealed_in, MayLeave, Sealing, IsSealing, Act, Insert, Seal, IsAct, with_put, with_frames, Acts, LeadsOutbox}
+use Rattle.krb_peers.specs.Claims.{texts_of_all}
+use Rattle.krb_peers.specs.Session.{AreRecords, FitLimits, Sealed, SealsAt, AreSealed}
+use Rattle.krb_carry.specs.Outbox.{Put, texts_put, has_close_put, puts_of, records_in, puts_in, Kept, numbered, Outbox, new_outbox, sealed_in, stored_records, MayLeave, Sealing, IsSealing, Act, Insert, Seal, IsAct, with_put, with_frames, Acts, LeadsOutbox}
 
 -- ---- lists
 
@@ -198,27 +201,43 @@ second_behind (f ∷ front) x y back =
     let n : suc (length front) + 1 ≡ suc (length front + 1) = omega arith in
     rw n (second_behind front x y back)
 
-pub sound_sealed : (sealer : SealerState) (outbox : Outbox) → IsSound sealer outbox → AreSealed sealer (sealed_in outbox)
-sound_sealed sealer outbox sound = record {
-  frames = sound.seals;
-  readable = all_readable (sealed_in outbox) sound.limits;
-  close_last = λ front back is. none_behind front back is;
-}
-  where
-    none_behind : (front back : List Record) → records_in (sealed_in outbox) ≡ front ++ Close ∷ back → back ≡ []
-    none_behind front [] is = refl
-    none_behind front (r ∷ back) is =
-        let here : slice_get (records_in (sealed_in outbox)) (length front + 1) ≡ Some r = ap (λ l. slice_get l (length front + 1)) is ∙ second_behind front Close r back in
-        let it = image (λ (s : Sealed). s.carried) (sealed_in outbox) (length front + 1) r here in
-        let fits : FitsLimits r = subst FitsLimits (sym it.is) (sound.limits (length front + 1) it.source it.at) in
-        let rest = flat_map puts_of back ++ outbox.waiting in
-        let whole : outbox.inserted ≡ flat_map puts_of front ++ None ∷ (puts_of r ++ rest) =
-        sound.puts
-        ∙ (ap (λ rs. flat_map puts_of rs ++ outbox.waiting) is
-        ∙ (ap (λ l. l ++ outbox.waiting) (flat_map-append puts_of front (Close ∷ r ∷ back))
-        ∙ (append_assoc (flat_map puts_of front) (None ∷ (puts_of r ++ flat_map puts_of back)) outbox.waiting
-        ∙ ap (λ l. flat_map puts_of front ++ None ∷ l) (append_assoc (puts_of r) (flat_map puts_of back) outbox.waiting)))) in
-        absurd (some_put r fits (none_left (puts_of r) rest (sound.last (flat_map puts_of front) (puts_of r ++ rest) whole)))
+pub sealed_record : (sealed : List Sealed) (k : ℕ) (it : Sealed) → slice_get sealed k ≡ Some it → slice_get (records_in sealed) k ≡ Some it.carried
+sealed_record sealed k it at =
+    slice_get-map (λ (s : Sealed). s.carried) sealed k ∙ ap (λ o. option_map (λ (s : Sealed). s.carried) o) at
+
+pub length-records : (sealed : List Sealed) → length (records_in sealed) ≡ length sealed
+length-records sealed = length-map sealed (λ (it : Sealed). it.carried)
+
+module _ (sealer : SealerState) (outbox : Outbox) (sound : IsSound sealer outbox) where
+  abbrev records : List Record
+  records = stored_records outbox
+
+  pub sound_fit : FitLimits records
+  sound_fit k r at =
+      let it = image (λ (s : Sealed). s.carried) (sealed_in outbox) k r at in
+      subst FitsLimits (sym it.is) (sound.limits k it.source it.at)
+
+  none_behind : (front back : List Record) → records ≡ front ++ Close ∷ back → back ≡ []
+  none_behind front [] is = refl
+  none_behind front (r ∷ back) is =
+      let here : slice_get records (length front + 1) ≡ Some r = ap (λ l. slice_get l (length front + 1)) is ∙ second_behind front Close r back in
+      let rest = flat_map puts_of back ++ outbox.waiting in
+      let whole : outbox.inserted ≡ flat_map puts_of front ++ None ∷ (puts_of r ++ rest) =
+      sound.puts
+      ∙ (ap (λ rs. flat_map puts_of rs ++ outbox.waiting) is
+      ∙ (ap (λ l. l ++ outbox.waiting) (flat_map-append puts_of front (Close ∷ r ∷ back))
+      ∙ (append_assoc (flat_map puts_of front) (None ∷ (puts_of r ++ flat_map puts_of back)) outbox.waiting
+      ∙ ap (λ l. flat_map puts_of front ++ None ∷ l) (append_assoc (puts_of r) (flat_map puts_of back) outbox.waiting)))) in
+      absurd (some_put r (sound_fit (length front + 1) r here) (none_left (puts_of r) rest (sound.last (flat_map puts_of front) (puts_of r ++ rest) whole)))
+
+  pub sound_records : AreRecords records
+  sound_records = record { readable = all_readable records sound_fit; close_last = none_behind }
+
+  pub sound_sealed : AreSealed sealer records (sealed_in outbox)
+  sound_sealed = record {
+    one_each = sym (length-records (sealed_in outbox));
+    each = λ k it at. record { there = sealed_record (sealed_in outbox) k it at; seals = sound.seals k it at };
+  }
 
 -- ---- one frame for each number
 
@@ -284,7 +303,7 @@ close_put-records (r ∷ rs) =
     list_any-append is_none (puts_of r) (flat_map puts_of rs) ∙ ap₂ (λ x y. x || y) (close_put-of r) (close_put-records rs)
 
 -- what was sealed, and then what waits, are the texts that were put in
-pub texts_are : (sealer : SealerState) (outbox : Outbox) → IsSound sealer outbox → texts_put outbox.inserted ≡ texts_in (sealed_in outbox) ++ texts_put outbox.waiting
+pub texts_are : (sealer : SealerState) (outbox : Outbox) → IsSound sealer outbox → texts_put outbox.inserted ≡ texts_of_all (stored_records outbox) ++ texts_put outbox.waiting
 texts_are sealer outbox sound =
     ap texts_put sound.puts
     ∙ (texts_put-append (puts_in (sealed_in outbox)) outbox.waiting ∙ ap (λ l. l ++ texts_put outbox.waiting) (texts_put-records (records_in (sealed_in outbox))))

@@ -5,41 +5,43 @@ use Rattle.std.specs.List.{flat_map}
 use Rattle.std.proofs.lemmas.Bool.{cases_lt}
 use Rattle.std.proofs.lemmas.List.{take_all}
 use Rattle.std.proofs.lemmas.List.Elements.{All-head, All-tail, All-map, All-cons, All-nil}
+use Rattle.krb_record.specs.declared.record.Record.{Record}
 use Rattle.krb_record.specs.Record.{texts_of}
 use Rattle.krb_seal.specs.Sealer.{SealerState}
-use Rattle.krb_peers.specs.Order.{demand_after, first_demand}
+use Rattle.krb_peers.specs.Attempt.{Attempt, begins_at, IsAttempt, IsAttemptAfter, DemandsAfter}
+use Rattle.krb_peers.specs.Claims.{texts_of_all}
+use Rattle.krb_peers.specs.Order.{demand_after}
+use Rattle.krb_peers.specs.Session.{AreRecords, FitLimits}
 use Rattle.krb_peers.specs.Verdicts.{accepted_by, records_of}
-use Rattle.krb_peers.proofs.OrderLemmas.{demand_after-nil}
 use Rattle.krb_peers.proofs.AnswerLemmas.{delivered_texts}
+use Rattle.krb_peers.proofs.AttemptLemmas.{past_it}
+use Rattle.krb_peers.proofs.FrameLemmas.{fewer, none_more}
+use Rattle.krb_peers.proofs.OrderLemmas.{demand_after-nil}
 use Rattle.krb_carry.specs.ProgressState.{ProgressState}
-use Rattle.krb_peers.specs.Sealed.{Sealed, records_in, texts_in, AreSealed, FitLimits}
 use Rattle.krb_carry.specs.Shard.{Item}
 use Rattle.krb_carry.specs.Progress.{StandInTurn}
-use Rattle.krb_peers.specs.Attempt.{BeginsBehind, Attempt, begins_at, IsAttempt}
 use Rattle.krb_carry.specs.Store.{Stored, new_session, applied, Commits, Leads, IsAfter}
 use Rattle.krb_carry.specs.Reading.{StoredShard, new_shard, Reading, IsReading, CommitsReading, LeadsReading, WasRead, CommitsLess, LeadsLess}
-use Rattle.krb_peers.proofs.FrameLemmas.{fewer, none_more, sealed_record, length-records}
-use Rattle.krb_peers.proofs.AttemptLemmas.{stands_of, past_it}
 use Rattle.krb_carry.proofs.ShardLemmas.{item_of, count_before, frame_there, count_rises, slice_get-part}
-use Rattle.krb_carry.proofs.StoreLemmas.{after_none, same_stored, after_more, begins_behind, number_is}
+use Rattle.krb_carry.proofs.StoreLemmas.{after_none, same_stored, after_more, attempt_after, number_is}
 
-module _ (sealer : SealerState) (sealed : List Sealed) (are : AreSealed sealer sealed) (fits : FitLimits sealed) (session : ℕ) (shard : List Item) (p : ProgressState) (turn : StandInTurn shard session sealed sealer.next p) where
+module _ (sealer : SealerState) (records : List Record) (are : AreRecords records) (fits : FitLimits records) (session : ℕ) (shard : List Item) (p : ProgressState) (turn : StandInTurn sealer records session shard p) where
   -- each frame that counts as carried at a place before the offset was accepted
   record HasRead (stored : StoredShard) : Type 0 where
     pub count : ℕ
-    pub after : IsAfter sealer sealed count stored.session
+    pub after : IsAfter sealer records count stored.session
     pub past : (k : ℕ) → sealer.next + k < p.carried → turn.place k < stored.offset → k < count
 
   read_none : HasRead (new_shard sealer)
   read_none = record {
     count = 0;
-    after = after_none sealer sealed;
+    after = after_none sealer records;
     past = λ k lt before. absurd (omega (arith, before));
   }
 
   -- ---- a reading that took effect
 
-  module _ (old : StoredShard) (reading : Reading) (read : HasRead old) (is : IsReading sealer sealed session shard reading) (at : old.offset ≡ reading.from) (began : old.session.demand ≡ begins_at reading.attempt) where
+  module _ (old : StoredShard) (reading : Reading) (read : HasRead old) (is : IsReading sealer records session shard reading) (at : old.offset ≡ reading.from) (began : old.session.demand ≡ begins_at reading.attempt) where
     abbrev attempt : Attempt
     attempt = reading.attempt
 
@@ -49,8 +51,8 @@ module _ (sealer : SealerState) (sealed : List Sealed) (are : AreSealed sealer s
     abbrev so_far : ℕ → ℕ
     so_far i = length (records_of (take i attempt.verdicts))
 
-    begins : BeginsBehind sealer (records_in sealed) read.count attempt.receiver.demand
-    begins = begins_behind sealer sealed are read.count old.session attempt read.after began
+    its_attempt : IsAttemptAfter sealer records read.count attempt
+    its_attempt = attempt_after sealer records are read.count old.session attempt read.after is.attempt began
 
     -- the frame is one of those that the receiver takes
     abbrev IsInside : ℕ → Type 0
@@ -68,7 +70,7 @@ module _ (sealer : SealerState) (sealed : List Sealed) (are : AreSealed sealer s
         let stands = turn.stands k inside.0 in
         let taken : slice_get attempt.took (place_of k) ≡ Some stands.it.frame =
         ap (λ frames. slice_get frames (place_of k)) is.takes ∙ frame_there session part (turn.place k - reading.from) stands.it.frame (in_part k inside) in
-        past_it sealer (records_in sealed) read.count attempt (stands_of sealer sealed read.count attempt are is.attempt begins) k (place_of k) stands.it (sealed_record sealed k stands.it stands.sealed_so) (are.frames k stands.it stands.sealed_so) (fits k stands.it stands.sealed_so) taken (is.agree k (place_of k) stands.it stands.sealed_so taken) reached
+        past_it sealer records read.count attempt its_attempt k (place_of k) stands.it stands.sealed (fits k (stands.it).carried (stands.sealed).there) taken (is.agree k (place_of k) stands.it stands.sealed taken) reached
 
     past_each : (k : ℕ) → IsInside k → k < read.count + so_far (suc (place_of k))
     past_each zero inside = past_here zero inside (omega arith)
@@ -90,7 +92,7 @@ module _ (sealer : SealerState) (sealed : List Sealed) (are : AreSealed sealer s
     read_more : HasRead (record { offset = reading.from + reading.count; session = applied old.session attempt })
     read_more = record {
       count = read.count + length (records_of attempt.verdicts);
-      after = after_more sealer sealed are read.count old.session attempt read.after is.attempt began;
+      after = after_more sealer records are read.count old.session attempt read.after is.attempt began;
       past = λ k lt below.
           elim (cases_lt (turn.place k) reading.from) [
             | inl earlier ↦
@@ -102,19 +104,19 @@ module _ (sealer : SealerState) (sealed : List Sealed) (are : AreSealed sealer s
           ];
     }
 
-  read_commit : (old : StoredShard) (reading : Reading) (new : StoredShard) → HasRead old → IsReading sealer sealed session shard reading → CommitsReading old reading new → HasRead new
+  read_commit : (old : StoredShard) (reading : Reading) (new : StoredShard) → HasRead old → IsReading sealer records session shard reading → CommitsReading old reading new → HasRead new
   read_commit old reading new read is (inl took) = subst HasRead (sym took.2) (read_more old reading read is took.0 took.1)
   read_commit old reading new read is (inr same) = subst HasRead (sym same) read
 
-  read_all : (old : StoredShard) (readings : List Reading) (new : StoredShard) → HasRead old → All (IsReading sealer sealed session shard) readings → LeadsReading old readings new → HasRead new
+  read_all : (old : StoredShard) (readings : List Reading) (new : StoredShard) → HasRead old → All (IsReading sealer records session shard) readings → LeadsReading old readings new → HasRead new
   read_all old [] new read each same = subst HasRead (sym same) read
   read_all old (reading ∷ readings) new read each leads =
-      let then = read_commit old reading (leads.0) read (All-head (IsReading sealer sealed session shard) reading readings each) leads.1 in
-      read_all (leads.0) readings new then (All-tail (IsReading sealer sealed session shard) reading readings each) leads.2
+      let then = read_commit old reading (leads.0) read (All-head (IsReading sealer records session shard) reading readings each) leads.1 in
+      read_all (leads.0) readings new then (All-tail (IsReading sealer records session shard) reading readings each) leads.2
 
   has_past : (stored : StoredShard) → HasRead stored → p.at ≤ stored.offset → p.carried ≤ stored.session.demand.expected
   has_past stored read at =
-      let number = number_is sealer sealed are read.count stored.session read.after in
+      let number = number_is sealer records are read.count stored.session read.after in
       elim (cases_lt (sealer.next + read.count) p.carried) [
         | inl missing ↦
             let place = turn.within read.count missing in
@@ -123,24 +125,23 @@ module _ (sealer : SealerState) (sealed : List Sealed) (are : AreSealed sealer s
         | inr reached ↦ omega (arith, reached, number)
       ]
 
-  pub carried_accepted : (readings : List Reading) (stored : StoredShard) → All (IsReading sealer sealed session shard) readings → LeadsReading (new_shard sealer) readings stored → p.at ≤ stored.offset
+  pub carried_accepted : (readings : List Reading) (stored : StoredShard) → All (IsReading sealer records session shard) readings → LeadsReading (new_shard sealer) readings stored → p.at ≤ stored.offset
       → p.carried ≤ stored.session.demand.expected
   carried_accepted readings stored each leads at = has_past stored (read_all (new_shard sealer) readings stored read_none each leads) at
 
-  pub all_accepted : (readings : List Reading) (stored : StoredShard) → All (IsReading sealer sealed session shard) readings → LeadsReading (new_shard sealer) readings stored → p.at ≤ stored.offset
-      → p.carried ≡ sealer.next + length sealed → IsAfter sealer sealed (length sealed) stored.session
+  pub all_accepted : (readings : List Reading) (stored : StoredShard) → All (IsReading sealer records session shard) readings → LeadsReading (new_shard sealer) readings stored → p.at ≤ stored.offset
+      → p.carried ≡ sealer.next + length records → IsAfter sealer records (length records) stored.session
   all_accepted readings stored each leads at whole =
       let read = read_all (new_shard sealer) readings stored read_none each leads in
       let past = has_past stored read at in
-      let number = number_is sealer sealed are read.count stored.session read.after in
-      let every : read.count ≡ length sealed = let few = (read.after).few in omega (arith, past, whole, number, few) in
-      subst (λ n. IsAfter sealer sealed n stored.session) every read.after
+      let number = number_is sealer records are read.count stored.session read.after in
+      let every : read.count ≡ length records = let few = ((read.after).demands).within in omega (arith, past, whole, number, few) in
+      subst (λ n. IsAfter sealer records n stored.session) every read.after
 
-pub after_whole : (sealer : SealerState) (sealed : List Sealed) (stored : Stored) → IsAfter sealer sealed (length sealed) stored
-    → (stored.effects ≡ texts_in sealed) × (stored.demand ≡ demand_after (first_demand sealer.next) (records_in sealed))
-after_whole sealer sealed stored after =
-    let every : take (length sealed) (records_in sealed) ≡ records_in sealed = take_all (length sealed) (records_in sealed) (omega (arith, length-records sealed)) in
-    (after.effects ∙ ap (λ l. flat_map texts_of l) every, after.demand ∙ ap (λ l. demand_after (first_demand sealer.next) l) every)
+pub after_whole : (sealer : SealerState) (records : List Record) (stored : Stored) → IsAfter sealer records (length records) stored
+    → (stored.effects ≡ texts_of_all records) × DemandsAfter sealer records (length records) stored.demand
+after_whole sealer records stored after =
+    (after.effects ∙ ap (λ l. flat_map texts_of l) (take_all (length records) records (omega arith)), after.demands)
 
 -- ---- a history of readings is one of attempts
 
@@ -153,10 +154,10 @@ attempts_lead old (reading ∷ readings) new leads =
     one old reading between (inl took) = inl (took.1, ap (λ (s : StoredShard). s.session) took.2)
     one old reading between (inr same) = inr (ap (λ (s : StoredShard). s.session) same)
 
-pub readings_attempts : (sealer : SealerState) (sealed : List Sealed) (session : ℕ) (shard : List Item) (readings : List Reading) (stored : StoredShard) → All (IsReading sealer sealed session shard) readings → LeadsReading (new_shard sealer) readings stored
-    → All (IsAttempt sealer sealed) (map (λ (reading : Reading). reading.attempt) readings) × Leads (new_session sealer) (map (λ (reading : Reading). reading.attempt) readings) stored.session
-readings_attempts sealer sealed session shard readings stored each leads = (
-  All-map (IsAttempt sealer sealed) (λ (reading : Reading). reading.attempt) readings (λ k d lt. (each k d lt).attempt),
+pub readings_attempts : (sealer : SealerState) (records : List Record) (session : ℕ) (shard : List Item) (readings : List Reading) (stored : StoredShard) → All (IsReading sealer records session shard) readings → LeadsReading (new_shard sealer) readings stored
+    → All (IsAttempt sealer records) (map (λ (reading : Reading). reading.attempt) readings) × Leads (new_session sealer) (map (λ (reading : Reading). reading.attempt) readings) stored.session
+readings_attempts sealer records session shard readings stored each leads = (
+  All-map (IsAttempt sealer records) (λ (reading : Reading). reading.attempt) readings (λ k d lt. (each k d lt).attempt),
   attempts_lead (new_shard sealer) readings stored leads,
 )
 

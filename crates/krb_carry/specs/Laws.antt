@@ -1,48 +1,32 @@
 -- What the laws state.
 use Rattle.std.specs.Prelude.{◌≡◌, ◌≢◌, ℕ, ◌+◌, ◌≤◌, true, List, [], ◌∷◌, ◌++◌, length, map}
-use Rattle.std.specs.Prelude.{slice_get, Some, All}
+use Rattle.std.specs.Prelude.{All}
 use Rattle.krb_base.specs.Prefix.{IsPrefix}
-use Rattle.krb_seal.specs.Laws.{Agree}
+use Rattle.krb_record.specs.declared.record.Record.{Record}
 use Rattle.krb_seal.specs.Sealer.{SealerState}
-use Rattle.krb_peers.specs.Order.{demand_after, first_demand}
+use Rattle.krb_peers.specs.Attempt.{Attempt, IsAttempt, DemandsAfter, CanTakeAll}
+use Rattle.krb_peers.specs.Claims.{texts_of_all}
 use Rattle.krb_peers.specs.ReceiverState.{ReceiverState}
-use Rattle.krb_peers.specs.Sender.{moment_at}
+use Rattle.krb_peers.specs.Session.{AreRecords, FitLimits, Sealed, AreSealed}
 use Rattle.krb_peers.specs.Verdicts.{delivered}
-use Rattle.krb_carry.specs.Outbox.{texts_put, has_close_put, numbered, Outbox, new_outbox, sealed_in}
+use Rattle.krb_carry.specs.Outbox.{texts_put, has_close_put, numbered, Outbox, new_outbox}
+use Rattle.krb_carry.specs.Outbox.{records_in, sealed_in, stored_records}
 use Rattle.krb_carry.specs.Outbox.{MayLeave, Sealing, Act, IsAct, with_frames, LeadsOutbox}
 use Rattle.krb_carry.specs.Progress.{Happening, new_progress, after_all, IsTruthful, StandInTurn}
 use Rattle.krb_carry.specs.ProgressState.{ProgressState}
 use Rattle.krb_carry.specs.Reading.{Reading, StoredShard, new_shard, IsReading, LeadsReading}
 use Rattle.krb_carry.specs.Reading.{LeadsLess}
-use Rattle.krb_peers.specs.Sealed.{Sealed, records_in, texts_in, AreSealed, FitLimits}
 use Rattle.krb_carry.specs.Shard.{Item}
-use Rattle.krb_peers.specs.Attempt.{Attempt, IsAttempt}
 use Rattle.krb_carry.specs.Store.{Stored, new_session, applied, Leads, HasFirst}
-
--- ---- what is sealed of a session
-
--- a new receiver that takes them all in agreement makes an attempt, and though its transaction comes
--- twice, each text takes effect once
-abbrev pub OneReceiverDoes : Type 0
-OneReceiverDoes =
-    (sealer : SealerState) (sealed : List Sealed) (receiver : ReceiverState) (nows : List ℕ)
-    → AreSealed sealer sealed → FitLimits sealed
-    → receiver.opener.etype ≡ sealer.etype → receiver.opener.key ≡ sealer.key
-    → receiver.demand ≡ first_demand sealer.next
-    → ((k : ℕ) (it : Sealed) → slice_get sealed k ≡ Some it
-    → Agree sealer.session receiver.opener.expect it.at (moment_at nows k))
-    → (attempt : Attempt) × (attempt.receiver ≡ receiver) × IsAttempt sealer sealed attempt
-    × ((stored : Stored) × Leads (new_session sealer) (attempt ∷ attempt ∷ []) stored
-    × (stored.effects ≡ texts_in sealed))
 
 -- ---- a session whose receivers share a store
 
--- it holds of what any history of attempts leaves
-abbrev pub OfHistories : (SealerState → List Sealed → Stored → Type 0) → Type 0
+-- it holds of what any history of attempts at a session's records leaves
+abbrev pub OfHistories : (SealerState → List Record → Stored → Type 0) → Type 0
 OfHistories Claim =
-    (sealer : SealerState) (sealed : List Sealed) (attempts : List Attempt) (stored : Stored)
-    → AreSealed sealer sealed → All (IsAttempt sealer sealed) attempts
-    → Leads (new_session sealer) attempts stored → Claim sealer sealed stored
+    (sealer : SealerState) (records : List Record) (attempts : List Attempt) (stored : Stored)
+    → AreRecords records → All (IsAttempt sealer records) attempts
+    → Leads (new_session sealer) attempts stored → Claim sealer records stored
 
 -- the texts of the first records took effect, each once, and what comes after them is demanded
 abbrev pub FirstRecordsTakeEffect : Type 0
@@ -51,84 +35,94 @@ FirstRecordsTakeEffect = OfHistories HasFirst
 -- so what took effect is a prefix of the texts
 abbrev pub TextsTakeEffectInOrder : Type 0
 TextsTakeEffectInOrder =
-    OfHistories (λ sealer sealed stored. IsPrefix stored.effects (texts_in sealed))
+    OfHistories (λ sealer records stored. IsPrefix stored.effects (texts_of_all records))
 
 -- and all of them, if the close was accepted
 abbrev pub AllTakeEffectWhereClosed : Type 0
 AllTakeEffectWhereClosed =
     OfHistories
-    (λ sealer sealed stored. stored.demand.closed ≡ true → stored.effects ≡ texts_in sealed)
+    (λ sealer records stored. stored.demand.closed ≡ true
+    → stored.effects ≡ texts_of_all records)
 
 -- after the close nothing changes, whatever attempts come
 abbrev pub NothingAfterTheClose : Type 0
 NothingAfterTheClose =
-    (sealer : SealerState) (sealed : List Sealed) (attempts : List Attempt) (old new : Stored)
-    → All (IsAttempt sealer sealed) attempts → old.demand.closed ≡ true → Leads old attempts new
+    (sealer : SealerState) (records : List Record) (attempts : List Attempt) (old new : Stored)
+    → All (IsAttempt sealer records) attempts → old.demand.closed ≡ true → Leads old attempts new
     → new ≡ old
 
 -- two histories of a session that demand one number leave the same
 abbrev pub NumberTellsTheRest : Type 0
 NumberTellsTheRest =
-    (sealer : SealerState) (sealed : List Sealed) (attempts others : List Attempt)
+    (sealer : SealerState) (records : List Record) (attempts others : List Attempt)
     (stored other : Stored)
-    → AreSealed sealer sealed
-    → All (IsAttempt sealer sealed) attempts → Leads (new_session sealer) attempts stored
-    → All (IsAttempt sealer sealed) others → Leads (new_session sealer) others other
+    → AreRecords records
+    → All (IsAttempt sealer records) attempts → Leads (new_session sealer) attempts stored
+    → All (IsAttempt sealer records) others → Leads (new_session sealer) others other
     → stored.demand.expected ≡ other.demand.expected → stored ≡ other
 
 -- without compare-and-set, an attempt that delivered all texts delivers each of them twice
 abbrev pub BlindTransactionsRepeat : Type 0
 BlindTransactionsRepeat =
-    (sealer : SealerState) (sealed : List Sealed) (attempt : Attempt)
-    → delivered attempt.verdicts ≡ texts_in sealed → texts_in sealed ≢ []
+    (sealer : SealerState) (records : List Record) (attempt : Attempt)
+    → delivered attempt.verdicts ≡ texts_of_all records → texts_of_all records ≢ []
     → let twice = applied (applied (new_session sealer) attempt) attempt in
-    ¬ IsPrefix twice.effects (texts_in sealed)
+    ¬ IsPrefix twice.effects (texts_of_all records)
+
+-- a new receiver that takes all in agreement makes an attempt, and though its transaction comes
+-- twice, each text takes effect once
+abbrev pub OneReceiverDoes : Type 0
+OneReceiverDoes =
+    (sealer : SealerState) (records : List Record) (sealed : List Sealed)
+    (receiver : ReceiverState) (nows : List ℕ) → CanTakeAll sealer records sealed receiver nows
+    → (attempt : Attempt) × (attempt.receiver ≡ receiver) × IsAttempt sealer records attempt
+    × ((stored : Stored) × Leads (new_session sealer) (attempt ∷ attempt ∷ []) stored
+    × (stored.effects ≡ texts_of_all records))
 
 -- ---- the rule of carried frames
 
 -- it holds of what a sender knows of a shard after whatever happened, if each confirmation is true
 abbrev pub OfProgress :
-    (SealerState → List Sealed → ℕ → List Item → ProgressState → Type 0) → Type 0
+    (SealerState → List Record → ℕ → List Item → ProgressState → Type 0) → Type 0
 OfProgress Claim =
-    (sealer : SealerState) (sealed : List Sealed) (session : ℕ) (shard : List Item)
+    (sealer : SealerState) (records : List Record) (session : ℕ) (shard : List Item)
     (happenings : List Happening)
-    → All (IsTruthful shard session sealed sealer.next) happenings
-    → Claim sealer sealed session shard (after_all (new_progress sealer.next) happenings)
+    → All (IsTruthful sealer records session shard) happenings
+    → Claim sealer records session shard (after_all (new_progress sealer.next) happenings)
 
 -- each frame that counts stands after the one before
 abbrev pub CountedStandInTurn : Type 0
-CountedStandInTurn = OfProgress (λ sealer sealed session shard progress.
-    StandInTurn shard session sealed sealer.next progress)
+CountedStandInTurn = OfProgress StandInTurn
 
 -- none of them beyond the shard
 abbrev pub CountedStandInside : Type 0
 CountedStandInside =
-    OfProgress (λ sealer sealed session shard progress. progress.at ≤ length shard)
+    OfProgress (λ sealer records session shard progress. progress.at ≤ length shard)
 
 -- ---- receivers that read a shard on from the stored offset
 
 -- it holds of what any history of readings leaves, if the stored offset is past the last frame that
 -- counts as carried
-abbrev pub OfReadings : (SealerState → List Sealed → ProgressState → Stored → Type 0) → Type 0
-OfReadings Claim = OfProgress (λ sealer sealed session shard progress.
+abbrev pub OfReadings : (SealerState → List Record → ProgressState → Stored → Type 0) → Type 0
+OfReadings Claim = OfProgress (λ sealer records session shard progress.
     (readings : List Reading) (stored : StoredShard)
-    → AreSealed sealer sealed → FitLimits sealed
-    → All (IsReading sealer sealed session shard) readings
+    → AreRecords records → FitLimits records
+    → All (IsReading sealer records session shard) readings
     → LeadsReading (new_shard sealer) readings stored
-    → progress.at ≤ stored.offset → Claim sealer sealed progress stored.session)
+    → progress.at ≤ stored.offset → Claim sealer records progress stored.session)
 
 -- each frame that counts was accepted
 abbrev pub CarriedIsAccepted : Type 0
 CarriedIsAccepted =
-    OfReadings (λ sealer sealed progress stored. progress.carried ≤ stored.demand.expected)
+    OfReadings (λ sealer records progress stored. progress.carried ≤ stored.demand.expected)
 
 -- and if all frames count, all texts took effect, and what is demanded is what comes after all
 -- records: nothing, if the last one is the close
 abbrev pub CarriedTakesEffect : Type 0
-CarriedTakesEffect = OfReadings (λ sealer sealed progress stored.
-    progress.carried ≡ sealer.next + length sealed
-    → (stored.effects ≡ texts_in sealed)
-    × (stored.demand ≡ demand_after (first_demand sealer.next) (records_in sealed)))
+CarriedTakesEffect = OfReadings (λ sealer records progress stored.
+    progress.carried ≡ sealer.next + length records
+    → (stored.effects ≡ texts_of_all records)
+    × DemandsAfter sealer records (length records) stored.demand)
 
 -- it is enough to compare the offset, and the number where something was accepted, if receivers read
 -- the offset first
@@ -140,12 +134,12 @@ ComparingLessIsEnough =
 -- a history of readings is one of attempts: what holds of these holds of it
 abbrev pub ReadingsAreAttempts : Type 0
 ReadingsAreAttempts =
-    (sealer : SealerState) (sealed : List Sealed) (session : ℕ) (shard : List Item)
+    (sealer : SealerState) (records : List Record) (session : ℕ) (shard : List Item)
     (readings : List Reading) (stored : StoredShard)
-    → All (IsReading sealer sealed session shard) readings
+    → All (IsReading sealer records session shard) readings
     → LeadsReading (new_shard sealer) readings stored
     → let attempts = map (λ (reading : Reading). reading.attempt) readings in
-    All (IsAttempt sealer sealed) attempts × Leads (new_session sealer) attempts stored.session
+    All (IsAttempt sealer records) attempts × Leads (new_session sealer) attempts stored.session
 
 -- ---- an outbox from which any number of processes seal
 
@@ -155,10 +149,11 @@ OfOutboxes Claim =
     (sealer : SealerState) (acts : List Act) (outbox : Outbox) → All (IsAct sealer) acts
     → LeadsOutbox (new_outbox sealer) acts outbox → Claim sealer outbox
 
--- the stored frames are those of one session, under one number after another
+-- the stored frames are sealed of the records of one session, under one number after another
 abbrev pub StoredIsSealed : Type 0
-StoredIsSealed = OfOutboxes (λ sealer outbox. AreSealed sealer (sealed_in outbox)
-    × FitLimits (sealed_in outbox)
+StoredIsSealed = OfOutboxes (λ sealer outbox.
+    AreRecords (stored_records outbox) × FitLimits (stored_records outbox)
+    × AreSealed sealer (stored_records outbox) (sealed_in outbox)
     × (outbox.frames ≡ numbered sealer.next (sealed_in outbox))
     × (outbox.next ≡ sealer.next + length outbox.frames))
 
@@ -168,7 +163,7 @@ abbrev pub EachTextIsSealedOnce : Type 0
 EachTextIsSealedOnce =
     OfOutboxes
     (λ sealer outbox. texts_put outbox.inserted
-    ≡ texts_in (sealed_in outbox) ++ texts_put outbox.waiting)
+    ≡ texts_of_all (stored_records outbox) ++ texts_put outbox.waiting)
 
 -- at most one frame ever leaves under a number: one that may leave now is the one that may later
 abbrev pub OneFrameForEachNumber : Type 0
@@ -195,7 +190,7 @@ BlindSealingsClash =
 abbrev pub EachTakesEffectAtMostOnce : Type 0
 EachTakesEffectAtMostOnce = OfOutboxes (λ sealer outbox.
     (attempts : List Attempt) (stored : Stored)
-    → All (IsAttempt sealer (sealed_in outbox)) attempts
+    → All (IsAttempt sealer (stored_records outbox)) attempts
     → Leads (new_session sealer) attempts stored
     → IsPrefix stored.effects (texts_put outbox.inserted))
 
@@ -205,8 +200,8 @@ abbrev pub OfDeliveries : (Outbox → ProgressState → StoredShard → Type 0) 
 OfDeliveries Claim = OfOutboxes (λ sealer outbox.
     (session : ℕ) (shard : List Item) (happenings : List Happening) (readings : List Reading)
     (stored : StoredShard)
-    → All (IsTruthful shard session (sealed_in outbox) sealer.next) happenings
-    → All (IsReading sealer (sealed_in outbox) session shard) readings
+    → All (IsTruthful sealer (stored_records outbox) session shard) happenings
+    → All (IsReading sealer (stored_records outbox) session shard) readings
     → LeadsReading (new_shard sealer) readings stored
     → Claim outbox (after_all (new_progress sealer.next) happenings) stored)
 
@@ -229,21 +224,16 @@ pub record HasDelivery (sealer : SealerState) (sealed : List Sealed) : Type 0 wh
   pub none_waits : outbox.waiting ≡ []
   pub shard : List Item
   pub happenings : List Happening
-  pub are_true : All (IsTruthful shard 0 (sealed_in outbox) sealer.next) happenings
+  pub are_true : All (IsTruthful sealer (stored_records outbox) 0 shard) happenings
   pub readings : List Reading
   pub stored : StoredShard
-  pub are_readings : All (IsReading sealer (sealed_in outbox) 0 shard) readings
+  pub are_readings : All (IsReading sealer (stored_records outbox) 0 shard) readings
   pub read : LeadsReading (new_shard sealer) readings stored
   pub carried : (after_all (new_progress sealer.next) happenings).carried ≡ outbox.next
   pub past : (after_all (new_progress sealer.next) happenings).at ≤ stored.offset
 
--- there is one, of whatever is sealed, with a receiver that agrees
+-- there is one, of whatever is sealed, with a receiver that can take it
 abbrev pub DeliveriesHappen : Type 0
 DeliveriesHappen =
     (sealer : SealerState) (sealed : List Sealed) (receiver : ReceiverState) (nows : List ℕ)
-    → AreSealed sealer sealed → FitLimits sealed
-    → receiver.opener.etype ≡ sealer.etype → receiver.opener.key ≡ sealer.key
-    → receiver.demand ≡ first_demand sealer.next
-    → ((k : ℕ) (it : Sealed) → slice_get sealed k ≡ Some it
-    → Agree sealer.session receiver.opener.expect it.at (moment_at nows k))
-    → HasDelivery sealer sealed
+    → CanTakeAll sealer (records_in sealed) sealed receiver nows → HasDelivery sealer sealed

@@ -6,7 +6,7 @@ use Rattle.krb_record.specs.declared.record.Record.{Record}
 use Rattle.krb_record.specs.declared.record.Record.TheVariants.{Text, Batch, Close}
 use Rattle.krb_record.specs.Record.{FitsLimits}
 use Rattle.krb_seal.specs.Sealer.{SealerState}
-use Rattle.krb_peers.specs.Sealed.{Sealed, records_in, SealsAt}
+use Rattle.krb_peers.specs.Session.{Sealed, SealsAt}
 
 -- ---- what an application puts in
 
@@ -28,6 +28,10 @@ abbrev pub puts_of : Record → List Put
 puts_of (Text text) = Some text ∷ []
 puts_of (Batch texts) = map Some texts
 puts_of Close = None ∷ []
+
+-- the records that were sealed, and what they carry of it
+abbrev pub records_in : List Sealed → List Record
+records_in sealed = map (λ (it : Sealed). it.carried) sealed
 
 abbrev pub puts_in : List Sealed → List Put
 puts_in sealed = flat_map puts_of (records_in sealed)
@@ -54,8 +58,12 @@ pub record Outbox : Type 0 where
 abbrev pub new_outbox : SealerState → Outbox
 new_outbox sealer = record { inserted = []; waiting = []; next = sealer.next; frames = [] }
 
+-- what was sealed, and the records of the session so far
 abbrev pub sealed_in : Outbox → List Sealed
 sealed_in outbox = map (λ (kept : Kept). kept.it) outbox.frames
+
+abbrev pub stored_records : Outbox → List Record
+stored_records outbox = records_in (sealed_in outbox)
 
 -- a frame leaves under a number only as it is stored
 pub record MayLeave (outbox : Outbox) (number : ℕ) (frame : List ℕ) : Type 0 where

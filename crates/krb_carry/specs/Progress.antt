@@ -1,8 +1,9 @@
 -- The rule of carried frames: which copies count.
 use Rattle.std.specs.Prelude.{◌≡◌, ℕ, suc, ◌+◌, ◌<◌, ◌==◌, nat_lt, ◌&&◌, max, Bool, List, [], ◌∷◌}
 use Rattle.std.specs.Prelude.{if◌then◌else◌}
+use Rattle.krb_record.specs.declared.record.Record.{Record}
+use Rattle.krb_seal.specs.Sealer.{SealerState}
 use Rattle.krb_carry.specs.ProgressState.{ProgressState}
-use Rattle.krb_peers.specs.Sealed.{Sealed}
 use Rattle.krb_carry.specs.Shard.{Item, StandsAt, Stands}
 
 -- these four numbers
@@ -63,19 +64,20 @@ after_all progress [] = progress
 after_all progress (it ∷ happenings) = after_all (after progress it) happenings
 
 -- what a sender hears of a shard is true
-abbrev pub IsTruthful : List Item → ℕ → List Sealed → ℕ → Happening → Type 0
-IsTruthful shard session sealed first (Store count) = Unit {0}
-IsTruthful shard session sealed first (Publish count) = Unit {0}
-IsTruthful shard session sealed first Rewind = Unit {0}
-IsTruthful shard session sealed first (Confirm number offset) =
-    Stands shard session sealed first number offset
+abbrev pub IsTruthful : SealerState → List Record → ℕ → List Item → Happening → Type 0
+IsTruthful sealer records session shard (Store count) = Unit {0}
+IsTruthful sealer records session shard (Publish count) = Unit {0}
+IsTruthful sealer records session shard Rewind = Unit {0}
+IsTruthful sealer records session shard (Confirm number offset) =
+    Stands sealer records session shard number offset
 
 -- ---- what is claimed of it
 
 -- of the frames that count as carried, each stands in the shard after the one before, up to `at`
-pub record StandInTurn (shard : List Item) (session : ℕ) (sealed : List Sealed) (first : ℕ)
-    (progress : ProgressState) : Type 0 where
+pub record StandInTurn (sealer : SealerState) (records : List Record) (session : ℕ)
+    (shard : List Item) (progress : ProgressState) : Type 0 where
   pub place : ℕ → ℕ
-  pub stands : (k : ℕ) → first + k < progress.carried → StandsAt shard session sealed k (place k)
-  pub rises : (k : ℕ) → first + suc k < progress.carried → place k < place (suc k)
-  pub within : (k : ℕ) → first + k < progress.carried → place k < progress.at
+  pub stands : (k : ℕ) → sealer.next + k < progress.carried
+      → StandsAt sealer records session shard k (place k)
+  pub rises : (k : ℕ) → sealer.next + suc k < progress.carried → place k < place (suc k)
+  pub within : (k : ℕ) → sealer.next + k < progress.carried → place k < progress.at

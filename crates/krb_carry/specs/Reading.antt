@@ -1,15 +1,13 @@
 -- Receivers that read a shard on from the stored offset.
 use Rattle.std.specs.Prelude.{◌≡◌, ◌⊎◌, ℕ, ◌+◌, ◌<◌, ◌≤◌, List, [], ◌∷◌, take, drop, slice_get, Some}
 use Rattle.std.specs.List.{Contains}
-use Rattle.krb_seal.specs.Laws.{Agree}
+use Rattle.krb_record.specs.declared.record.Record.{Record}
 use Rattle.krb_seal.specs.Sealer.{SealerState}
-use Rattle.krb_peers.specs.Sender.{moment_at}
+use Rattle.krb_peers.specs.Attempt.{Attempt, begins_at, IsAttempt, AgreesWhereDemanded}
+use Rattle.krb_peers.specs.Session.{Sealed, IsSealed}
 use Rattle.krb_peers.specs.Verdicts.{records_of}
-use Rattle.krb_peers.specs.Sealed.{Sealed}
 use Rattle.krb_carry.specs.Shard.{Item, frames_of}
-use Rattle.krb_peers.specs.Attempt.{Attempt, begins_at, demand_at, IsAttempt}
-use Rattle.krb_carry.specs.Store.{Stored, new_session}
-use Rattle.krb_carry.specs.Store.{applied}
+use Rattle.krb_carry.specs.Store.{Stored, new_session, applied}
 
 -- what is stored of a shard and of one of its sessions: all up to the offset was taken
 pub record StoredShard : Type 0 where
@@ -25,19 +23,17 @@ pub record Reading : Type 0 where
   pub count : ℕ
   pub attempt : Attempt
 
--- The receiver takes the session's frames among these items. Where it takes the frame that it
--- demands, both ends agree on mode and addresses, and the timestamps are within the skew.
-pub record IsReading (sealer : SealerState) (sealed : List Sealed) (session : ℕ) (shard : List Item)
-    (reading : Reading) : Type 0 where
-  pub attempt : IsAttempt sealer sealed reading.attempt
+-- The receiver takes the session's frames among these items, and the frame that it demands in
+-- agreement.
+pub record IsReading (sealer : SealerState) (records : List Record) (session : ℕ)
+    (shard : List Item) (reading : Reading) : Type 0 where
+  pub attempt : IsAttempt sealer records reading.attempt
   pub takes : reading.attempt.took
       ≡ frames_of session (take reading.count (drop reading.from shard))
   pub agree :
-      (k place : ℕ) (it : Sealed) → slice_get sealed k ≡ Some it
+      (k place : ℕ) (it : Sealed) → IsSealed sealer records k it
       → slice_get reading.attempt.took place ≡ Some it.frame
-      → (demand_at reading.attempt place).expected ≡ sealer.next + k
-      → Agree sealer.session reading.attempt.receiver.opener.expect it.at
-      (moment_at reading.attempt.nows place)
+      → AgreesWhereDemanded sealer reading.attempt k place it.at
 
 -- Compare-and-set, of the offset too: the transaction takes effect, which it may only if both stand
 -- where the attempt began, or it changes nothing.

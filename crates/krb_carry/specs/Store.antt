@@ -1,12 +1,11 @@
 -- What a store has of a session, and what receivers do to it.
-use Rattle.std.specs.Prelude.{◌≡◌, ◌⊎◌, ℕ, ◌≤◌, List, [], ◌∷◌, ◌++◌, length, take}
-use Rattle.std.specs.List.{flat_map}
-use Rattle.krb_record.specs.Record.{texts_of}
+use Rattle.std.specs.Prelude.{◌≡◌, ◌⊎◌, ℕ, List, [], ◌∷◌, ◌++◌, take}
+use Rattle.krb_record.specs.declared.record.Record.{Record}
 use Rattle.krb_seal.specs.Sealer.{SealerState}
-use Rattle.krb_peers.specs.Attempt.{Attempt, begins_at, ends_at}
+use Rattle.krb_peers.specs.Attempt.{Attempt, begins_at, ends_at, DemandsAfter}
+use Rattle.krb_peers.specs.Claims.{texts_of_all}
 use Rattle.krb_peers.specs.Demand.{Demand}
-use Rattle.krb_peers.specs.Order.{demand_after, first_demand}
-use Rattle.krb_peers.specs.Sealed.{Sealed, records_in}
+use Rattle.krb_peers.specs.Order.{first_demand}
 use Rattle.krb_peers.specs.Verdicts.{delivered}
 
 -- what is demanded next, and the texts that took effect, in order
@@ -42,13 +41,11 @@ Leads old (attempt ∷ attempts) new =
 
 -- The texts of the session's first `count` records took effect, in order and each once. What is
 -- demanded is what comes after exactly these.
-pub record IsAfter (sealer : SealerState) (sealed : List Sealed) (count : ℕ)
+pub record IsAfter (sealer : SealerState) (records : List Record) (count : ℕ)
     (stored : Stored) : Type 0 where
-  pub few : count ≤ length sealed
-  pub effects : stored.effects ≡ flat_map texts_of (take count (records_in sealed))
-  pub demand : stored.demand
-      ≡ demand_after (first_demand sealer.next) (take count (records_in sealed))
+  pub effects : stored.effects ≡ texts_of_all (take count records)
+  pub demands : DemandsAfter sealer records count stored.demand
 
 -- for some count
-abbrev pub HasFirst : SealerState → List Sealed → Stored → Type 0
-HasFirst sealer sealed stored = (count : ℕ) × IsAfter sealer sealed count stored
+abbrev pub HasFirst : SealerState → List Record → Stored → Type 0
+HasFirst sealer records stored = (count : ℕ) × IsAfter sealer records count stored

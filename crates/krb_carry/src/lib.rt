@@ -10,16 +10,18 @@
 //! once if the shard keeps it and it is read in time. It follows from three rules, each of which has
 //! laws of its own: compare-and-set at the store ([`store_laws`]), one frame for each number at the
 //! outbox ([`outbox_laws`]), and the rule of carried frames ([`progress_laws`]), which [`Progress`]
-//! keeps. [`sealed_laws`] shows that their premises can be met. A database's transactions and a
-//! carrier's log are what the definitions say of them: no code of theirs is proved here.
+//! keeps. A database's transactions and a carrier's log are what the definitions say of them: no code
+//! of theirs is proved here.
+//!
+//! All of these stand on what krb_peers claims of any frames
+//! ([`frames_laws`](krb_peers::frames_laws)): a session has one record under each number, whoever
+//! seals it, and a receiver takes whatever comes.
 #![tactic(auto)]
 
 mod outbox;
 mod progress;
-mod sealed;
 mod store;
 
 pub use outbox::{delivery_laws, outbox_laws};
 pub use progress::{Progress, progress_laws};
-pub use sealed::sealed_laws;
 pub use store::store_laws;

@@ -10,8 +10,8 @@ ghost use Rattle.krb_carry.specs.Laws.{EachTakesEffectAtMostOnce, EachTakesEffec
 /// that it sealed of them, each with its number, and moves the next number: all of it or nothing,
 /// and only if the stored number is that from which it sealed. A frame leaves only as it is stored.
 ///
-/// Then whatever processes there were, the stored frames are those of one session, under one number
-/// after another, with the close last (`sealed`), which is what [`store_laws`](crate::store_laws)
+/// Then whatever processes there were, the stored frames are sealed of the records of one session,
+/// under one number after another, with the close last (`sealed`), which is what [`store_laws`](crate::store_laws)
 /// and [`progress_laws`](crate::progress_laws) speak of. Each text is sealed once and in order
 /// (`texts`), and at most one frame ever leaves under a number (`one`). Without compare-and-set two
 /// may (`blind`).
@@ -35,7 +35,7 @@ pub fn outbox_laws()
 /// from the stored offset on, that they agree with the senders on mode and addresses, and that a
 /// frame that is demanded is taken within the skew. That all this comes to pass, since processes are
 /// started again, is assumed and not claimed. That it can, all at once, is proved: of whatever is
-/// sealed there is such a delivery, with a receiver that agrees (`happens`).
+/// sealed there is such a delivery, with a receiver that can take it (`happens`).
 pub fn delivery_laws()
     ensures at_most_once { EachTakesEffectAtMostOnce }
     ensures once { EachTakesEffectOnce }

@@ -1,5 +1,5 @@
--- What one receiver accepts, that begins behind the first records of a session, whatever it takes.
-use Rattle.std.proofs.Common.{◌≡◌, ◌⊎◌, ℕ, zero, suc, ◌+◌, ◌<◌, ◌≤◌, true, false, List, [], ◌∷◌, ◌++◌, length, take, drop, get_or, slice_get, Some, Ok, Err, refl, sym, ap, subst, ◌∙◌, arith, length-append, append-nil, append_assoc, inl, inr}
+-- What a receiver accepts that begins after the first records of a session, whatever it takes.
+use Rattle.std.proofs.Common.{◌≡◌, ℕ, zero, suc, ◌+◌, ◌<◌, ◌≤◌, true, false, List, [], ◌∷◌, ◌++◌, length, take, drop, get_or, slice_get, Some, Ok, Err, refl, sym, ap, subst, ◌∙◌, arith, length-append, append-nil, append_assoc, inl, inr}
 use Rattle.std.specs.Prelude.{All, IsOk}
 use Rattle.std.specs.List.{list_any, flat_map}
 use Rattle.std.proofs.lemmas.Bool.{cases_lt}
@@ -16,18 +16,17 @@ use Rattle.krb_record.specs.declared.record.Record.{Record}
 use Rattle.krb_record.specs.declared.record.Record.TheVariants as records
 use Rattle.krb_record.specs.Record.{FitsLimits, SpellsRecord, bytes_of, texts_of, is_close}
 use Rattle.krb_peers.specs.declared.delivery.Delivery.{Delivery}
-use Rattle.krb_peers.specs.Attempt.{Attempt, demand_at, IsAttempt, BeginsBehind, TakesInTurn, TakesRecordsInTurn, RecordsFit}
+use Rattle.krb_peers.specs.Attempt.{Attempt, HasKey, DemandsAfter, IsAttemptAfter, AgreesWhereDemanded, TakesInTurn}
 use Rattle.krb_peers.specs.Demand.{Demand}
 use Rattle.krb_peers.specs.ReceiverState.{ReceiverState}
-use Rattle.krb_peers.specs.Accepted.{IsNumbered}
-use Rattle.krb_peers.specs.Order.{demand_after, first_demand, offer}
-use Rattle.krb_peers.specs.Sealed.{Sealed, records_in, CloseIsLastOf, SealsAt, IsReadable, AreSealed, FitLimits}
-use Rattle.krb_peers.specs.Sender.{moment_at}
-use Rattle.krb_peers.specs.Verdicts.{Verdict, AreJudged, accepted_by, record_of, records_of, delivered, IsVerdict}
+use Rattle.krb_peers.specs.Order.{demand_after, first_demand}
+use Rattle.krb_peers.specs.Session.{CloseIsLastOf, FitLimits, Sealed, IsSealed, IsFrameOf}
+use Rattle.krb_peers.specs.Moments.{moment_at}
+use Rattle.krb_peers.specs.Verdicts.{Verdict, accepted_by, record_of, records_of, delivered, IsVerdict}
 use Rattle.krb_peers.proofs.OrderLemmas.{demand_after-append}
 use Rattle.krb_peers.proofs.VerdictLemmas.{unique_verdict}
-use Rattle.krb_peers.proofs.AnswerLemmas.{image, answer_of, same_record, records_from, delivered_texts}
-use Rattle.krb_peers.proofs.FrameLemmas.{fewer, none_more, front_is, no_rest, sealed_record, closed_whole, quiet_before}
+use Rattle.krb_peers.proofs.AnswerLemmas.{answer_of, same_record, records_from, delivered_texts}
+use Rattle.krb_peers.proofs.FrameLemmas.{fewer, none_more, front_is, no_rest, closed_whole, quiet_before}
 
 -- ---- as many are accepted as there are verdicts, or fewer
 
@@ -44,7 +43,7 @@ all_ok (Err refusal ∷ vs) same k e h = absurd (omega (arith, same, few_accepte
 
 -- ---- what is demanded behind the records accepted before and here
 
-module _ (sealer : SealerState) (all : List Record) (first : ℕ) (start : Demand) (begins : BeginsBehind sealer all first start) where
+module _ (sealer : SealerState) (all : List Record) (first : ℕ) (start : Demand) (begins : DemandsAfter sealer all first start) where
   demanded_behind : (rs : List Record) → demand_after start rs ≡ demand_after (first_demand sealer.next) (take first all ++ rs)
   demanded_behind rs = ap (λ d. demand_after d rs) begins.is ∙ demand_after-append (first_demand sealer.next) (take first all) rs
 
@@ -55,43 +54,25 @@ module _ (sealer : SealerState) (all : List Record) (first : ℕ) (start : Deman
 
 -- ---- a frame is accepted in its turn, where both ends agree
 
-module _ (sealer : SealerState) (all : List Record) (close_last : CloseIsLastOf all) (receiver : ReceiverState) (etype : receiver.opener.etype ≡ sealer.etype) (key : receiver.opener.key ≡ sealer.key) (first : ℕ) (begins : BeginsBehind sealer all first receiver.demand) where
-  pub accepted_here : (k now : ℕ) (it : Sealed) (rs : List Record) → slice_get all k ≡ Some it.carried → SealsAt sealer (sealer.next + k) it → FitsLimits it.carried → Agree sealer.session receiver.opener.expect it.at now → first + length rs ≡ k → take first all ++ rs ≡ take k all
+module _ (sealer : SealerState) (all : List Record) (close_last : CloseIsLastOf all) (receiver : ReceiverState) (has_key : HasKey sealer receiver) (first : ℕ) (begins : DemandsAfter sealer all first receiver.demand) where
+  pub accepted_here : (k now : ℕ) (it : Sealed) (rs : List Record) → IsSealed sealer all k it → FitsLimits it.carried → Agree sealer.session receiver.opener.expect it.at now → first + length rs ≡ k → take first all ++ rs ≡ take k all
       → IsVerdict receiver.opener (demand_after receiver.demand rs) now it.frame (answer_of it.carried)
-  accepted_here k now it rs at seals fits agree count before =
+  accepted_here k now it rs sealed fits agree count before =
       let r = it.carried in
       let opener = receiver.opener in
       let start = receiver.demand in
-      let lt : k < length all = slice_get_within all k r at in
+      let seals = sealed.seals in
+      let lt : k < length all = slice_get_within all k r sealed.there in
       let closes : (demand_after start rs).closed ≡ list_any is_close (take k all) = ap (λ (d : Demand). d.closed) (demanded_behind sealer all first start begins rs) ∙ ap (λ l. list_any is_close l) before in
       let quiet : (demand_after start rs).closed ≡ false = closes ∙ quiet_before all close_last k lt in
       let as_sealer = at_its_number sealer.etype sealer.key sealer.session opener.expect (sealer.next + k) it.at now (bytes_of r) seals.confounder it.frame seals.seals agree in
       let its : (demand_after start rs).expected ≡ sealer.next + k = number_behind sealer all first start begins rs ∙ ap (λ n. sealer.next + n) count in
-      let opened : Opens opener (demand_after start rs).expected now it.frame (Ok (bytes_of r)) = rw (etype, key, its) as_sealer in
+      let opened : Opens opener (demand_after start rs).expected now it.frame (Ok (bytes_of r)) = rw (has_key.etype, has_key.key, its) as_sealer in
       (quiet, (bytes_of r, opened, rw (same_record r) (fits, refl)))
 
 -- ---- an attempt
 
--- the frame is sealed so under the number of one of these records
-pub record IsOneOf (sealer : SealerState) (all : List Record) (frame : List ℕ) : Type 0 where
-  pub k : ℕ
-  pub it : Sealed
-  pub there : slice_get all k ≡ Some it.carried
-  pub is : it.frame ≡ frame
-  pub seals : SealsAt sealer (sealer.next + k) it
-  pub readable : IsReadable it.carried
-
--- What is known of an attempt, where the records of the session are `all`.
-pub record Stands (sealer : SealerState) (all : List Record) (first : ℕ) (attempt : Attempt) : Type 0 where
-  pub close_last : CloseIsLastOf all
-  pub etype : attempt.receiver.opener.etype ≡ sealer.etype
-  pub key : attempt.receiver.opener.key ≡ sealer.key
-  pub judged : AreJudged attempt.receiver attempt.nows attempt.took attempt.verdicts
-  pub honest : (place : ℕ) (frame : List ℕ) (d : Delivery) → slice_get attempt.took place ≡ Some frame → slice_get attempt.verdicts place ≡ Some (Ok d)
-      → IsOneOf sealer all frame ⊎ IsNumbered sealer.next all (offer (demand_at attempt place).expected (record_of d))
-  pub begins : BeginsBehind sealer all first attempt.receiver.demand
-
-module _ (sealer : SealerState) (all : List Record) (first : ℕ) (attempt : Attempt) (s : Stands sealer all first attempt) where
+module _ (sealer : SealerState) (all : List Record) (first : ℕ) (attempt : Attempt) (s : IsAttemptAfter sealer all first attempt) where
   abbrev opener : OpenerState
   opener = attempt.receiver.opener
 
@@ -115,34 +96,34 @@ module _ (sealer : SealerState) (all : List Record) (first : ℕ) (attempt : Att
   so_far i = length (records_of (take i vs))
 
   demanded : (rs : List Record) → demand_after start rs ≡ demand_after next (take first all ++ rs)
-  demanded rs = demanded_behind sealer all first start s.begins rs
+  demanded rs = demanded_behind sealer all first start (s.begins) rs
 
   pub number : (rs : List Record) → (demand_after start rs).expected ≡ sealer.next + (first + length rs)
-  number rs = number_behind sealer all first start s.begins rs
+  number rs = number_behind sealer all first start (s.begins) rs
 
   -- ---- each accepted record is the one of its number
 
   -- a frame that was sealed carries its own record, and no other number opens it
-  own_record : (c now : ℕ) (frame user : List ℕ) (r : Record) → IsOneOf sealer all frame → Opens opener (sealer.next + c) now frame (Ok user) → SpellsRecord r user → slice_get all c ≡ Some r
+  own_record : (c now : ℕ) (frame user : List ℕ) (r : Record) → IsFrameOf sealer all frame → Opens opener (sealer.next + c) now frame (Ok user) → SpellsRecord r user → slice_get all c ≡ Some r
   own_record c now frame user r own opened spelled =
       let it = own.it in
-      let seals = own.seals in
+      let seals = (own.sealed).seals in
       let sealed_so : Seals sealer.etype sealer.key sealer.session (sealer.next + own.k) (bytes_of it.carried) it.at seals.confounder frame =
       subst (λ f. Seals sealer.etype sealer.key sealer.session (sealer.next + own.k) (bytes_of it.carried) it.at seals.confounder f) own.is seals.seals in
-      let as_sealer : Opens (opener_of sealer.etype sealer.key opener.expect) (sealer.next + c) now frame (Ok user) = rw (← s.etype, ← s.key) opened in
+      let as_sealer : Opens (opener_of sealer.etype sealer.key opener.expect) (sealer.next + c) now frame (Ok user) = rw (← (s.tries).has_key.etype, ← (s.tries).has_key.key) opened in
       let w = nowhere_else sealer.etype sealer.key sealer.session opener.expect (sealer.next + own.k) it.at now (sealer.next + c) (bytes_of it.carried) seals.confounder frame user sealed_so as_sealer in
       let place : own.k ≡ c = omega (arith, w.0) in
-      let same : it.carried ≡ r = own.readable r (subst (λ u. SpellsRecord r u) w.1 spelled) in
-      ap (λ n. slice_get all n) (sym place) ∙ (own.there ∙ ap (λ x. Some x) same)
+      let same : it.carried ≡ r = (s.are).readable own.k it.carried (own.sealed).there r (subst (λ u. SpellsRecord r u) w.1 spelled) in
+      ap (λ n. slice_get all n) (sym place) ∙ ((own.sealed).there ∙ ap (λ x. Some x) same)
 
   each_record : (i : ℕ) (d : Delivery) → slice_get vs i ≡ Some (Ok d) → slice_get all (first + so_far i) ≡ Some (record_of d)
   each_record i d at =
-      let within : i < length took = omega (arith, slice_get_within vs i (Ok d) at, s.judged.one_each) in
+      let within : i < length took = omega (arith, slice_get_within vs i (Ok d) at, (s.tries).judged.one_each) in
       let frame = get_or took i [] in
       let at-f : slice_get took i ≡ Some frame = slice_get-get_or took i [] within in
-      let carries = s.judged.each i frame (Ok d) at-f at in
+      let carries = (s.tries).judged.each i frame (Ok d) at-f at in
       let c = first + so_far i in
-      elim (s.honest i frame d at-f at) [
+      elim ((s.tries).no_forgery i frame d at-f at) [
         | inl own ↦
             let here : Opens opener (sealer.next + c) (now (0 + i)) frame (Ok carries.1.0) =
             subst (λ n. Opens opener n (now (0 + i)) frame (Ok carries.1.0)) (number (records_of (take i vs))) carries.1.1 in
@@ -175,14 +156,14 @@ module _ (sealer : SealerState) (all : List Record) (first : ℕ) (attempt : Att
       accepted_prefix.1 ∙ (ap (λ l. l ++ left) (sym joined) ∙ append_assoc (records_of (take p vs)) (records_of (drop p vs)) left) in
       let whole : all ≡ (take first all ++ records_of (take p vs)) ++ rest =
       sym (take-append-drop first all) ∙ (ap (λ l. take first all ++ l) after ∙ sym (append_assoc (take first all) (records_of (take p vs)) rest)) in
-      let long : length (take first all ++ records_of (take p vs)) ≡ k = omega (arith, length-append (take first all) (records_of (take p vs)), length-take-le first all s.begins.within, count) in
+      let long : length (take first all ++ records_of (take p vs)) ≡ k = omega (arith, length-append (take first all) (records_of (take p vs)), length-take-le first all (s.begins).within, count) in
       front_is (take first all ++ records_of (take p vs)) rest all k whole long
 
   -- behind it, more than k records were accepted
-  pub past_it : (k p : ℕ) (it : Sealed) → slice_get all k ≡ Some it.carried → SealsAt sealer (sealer.next + k) it → FitsLimits it.carried → slice_get took p ≡ Some it.frame
-      → ((demand_at attempt p).expected ≡ sealer.next + k → Agree sealer.session opener.expect it.at (now p)) → k ≤ first + so_far p → k < first + so_far (suc p)
-  past_it k p it at seals fits at-f agree reached =
-      let lt : p < length vs = omega (arith, slice_get_within took p it.frame at-f, s.judged.one_each) in
+  pub past_it : (k p : ℕ) (it : Sealed) → IsSealed sealer all k it → FitsLimits it.carried → slice_get took p ≡ Some it.frame
+      → AgreesWhereDemanded sealer attempt k p it.at → k ≤ first + so_far p → k < first + so_far (suc p)
+  past_it k p it sealed fits at-f agree reached =
+      let lt : p < length vs = omega (arith, slice_get_within took p it.frame at-f, (s.tries).judged.one_each) in
       let v = get_or vs p (answer_of records.Close) in
       let more : so_far (suc p) ≡ so_far p + length (accepted_by v) = ap length (one_more p lt) ∙ length-append (records_of (take p vs)) (accepted_by v) in
       elim (cases_lt k (first + so_far p)) [
@@ -191,9 +172,9 @@ module _ (sealer : SealerState) (all : List Record) (first : ℕ) (attempt : Att
             let count : first + so_far p ≡ k = omega (arith, reached, not_yet) in
             let zero_more : 0 + p ≡ p = omega arith in
             let here : IsVerdict opener (demand_after start (records_of (take p vs))) (now p) it.frame v =
-            rw zero_more at (s.judged.each p it.frame v at-f (slice_get-get_or vs p (answer_of records.Close) lt)) in
+            rw zero_more at ((s.tries).judged.each p it.frame v at-f (slice_get-get_or vs p (answer_of records.Close) lt)) in
             let demanded_it = number (records_of (take p vs)) ∙ ap (λ n. sealer.next + n) count in
-            let right = accepted_here sealer all s.close_last attempt.receiver s.etype s.key first s.begins k (now p) it (records_of (take p vs)) at seals fits (agree demanded_it) count (front_here p k count) in
+            let right = accepted_here sealer all (s.are).close_last attempt.receiver (s.tries).has_key first (s.begins) k (now p) it (records_of (take p vs)) sealed fits (agree demanded_it) count (front_here p k count) in
             let same : v ≡ answer_of it.carried =
             unique_verdict opener (demand_after start (records_of (take p vs))) (now p) it.frame v (answer_of it.carried) here right in
             let one : length (accepted_by v) ≡ 1 = ap (λ x. length (accepted_by x)) same in
@@ -206,21 +187,21 @@ module _ (sealer : SealerState) (all : List Record) (first : ℕ) (attempt : Att
       let left = accepted_prefix.0 in
       let whole : all ≡ (take first all ++ records_of vs) ++ left =
       sym (take-append-drop first all) ∙ (ap (λ l. take first all ++ l) accepted_prefix.1 ∙ sym (append_assoc (take first all) (records_of vs) left)) in
-      front_is (take first all ++ records_of vs) left all (first + length (records_of vs)) whole (omega (arith, length-append (take first all) (records_of vs), length-take-le first all s.begins.within))
+      front_is (take first all ++ records_of vs) left all (first + length (records_of vs)) whole (omega (arith, length-append (take first all) (records_of vs), length-take-le first all (s.begins).within))
 
   pub accepted_within : first + length (records_of vs) ≤ length all
   accepted_within =
-      omega (arith, ap length (sym (take-append-drop first all)), length-append (take first all) (drop first all), ap length accepted_prefix.1, length-append (records_of vs) accepted_prefix.0, length-take-le first all s.begins.within)
+      omega (arith, ap length (sym (take-append-drop first all)), length-append (take first all) (drop first all), ap length accepted_prefix.1, length-append (records_of vs) accepted_prefix.0, length-take-le first all (s.begins).within)
 
   -- ---- frames that come in turn
 
-  pub past_each : RecordsFit all → (end : ℕ) (turn : TakesRecordsInTurn sealer all first end attempt) (k : ℕ) → first ≤ k → k < end → k < first + so_far (suc (turn.place k))
+  pub past_each : FitLimits all → (end : ℕ) (turn : TakesInTurn sealer all first end attempt) (k : ℕ) → first ≤ k → k < end → k < first + so_far (suc (turn.place k))
   past_each fits end turn k from lt = by_place k from lt
     where
       here : (k : ℕ) → first ≤ k → k < end → k ≤ first + so_far (turn.place k) → k < first + so_far (suc (turn.place k))
       here k from lt reached =
-          let at = turn.there k from lt in
-          past_it k (turn.place k) (turn.its k) at (turn.seals k from lt) (fits k (turn.its k).carried at) (turn.stands k from lt) (turn.agree k from lt) reached
+          let sealed = turn.sealed k from lt in
+          past_it k (turn.place k) (turn.its k) sealed (fits k (turn.its k).carried sealed.there) (turn.stands k from lt) (turn.agree k from lt) reached
 
       by_place : (k : ℕ) → first ≤ k → k < end → k < first + so_far (suc (turn.place k))
       by_place zero from lt = here zero from lt (omega arith)
@@ -234,7 +215,7 @@ module _ (sealer : SealerState) (all : List Record) (first : ℕ) (attempt : Att
           ]
 
   -- so many are accepted at least
-  pub accepts_until : RecordsFit all → (end : ℕ) → TakesRecordsInTurn sealer all first end attempt → end ≤ first + length (records_of vs)
+  pub accepts_until : FitLimits all → (end : ℕ) → TakesInTurn sealer all first end attempt → end ≤ first + length (records_of vs)
   accepts_until fits zero turn = omega arith
   accepts_until fits (suc k) turn =
       elim (cases_lt k first) [
@@ -245,7 +226,7 @@ module _ (sealer : SealerState) (all : List Record) (first : ℕ) (attempt : Att
       ]
 
   -- and all of the rest, where all of it comes in turn
-  pub accepts_rest : RecordsFit all → TakesRecordsInTurn sealer all first (length all) attempt → records_of vs ≡ drop first all
+  pub accepts_rest : FitLimits all → TakesInTurn sealer all first (length all) attempt → records_of vs ≡ drop first all
   accepts_rest fits turn =
       no_rest (records_of vs) accepted_prefix.0 (drop first all) accepted_prefix.1 (omega (arith, accepts_until fits (length all) turn, length-drop first all))
 
@@ -270,7 +251,7 @@ module _ (sealer : SealerState) (all : List Record) (first : ℕ) (attempt : Att
   pub texts_whole : (demand_after start (records_of vs)).closed ≡ true → flat_map texts_of (take first all) ++ delivered vs ≡ flat_map texts_of all
   texts_whole closed =
       let n = first + length (records_of vs) in
-      delivered_together ∙ ap (λ l. flat_map texts_of l) (closed_whole all s.close_last n (sym closed_is ∙ closed))
+      delivered_together ∙ ap (λ l. flat_map texts_of l) (closed_whole all (s.are).close_last n (sym closed_is ∙ closed))
 
   pub rest_whole : records_of vs ≡ drop first all → (flat_map texts_of (take first all) ++ delivered vs ≡ flat_map texts_of all) × ((demand_after start (records_of vs)).closed ≡ list_any is_close all)
   rest_whole is =
@@ -280,64 +261,12 @@ module _ (sealer : SealerState) (all : List Record) (first : ℕ) (attempt : Att
 
   -- ---- where nothing else comes
 
-  pub all_accepted : RecordsFit all → TakesRecordsInTurn sealer all first (first + length took) attempt → length (records_of vs) ≡ length took
+  pub all_accepted : FitLimits all → TakesInTurn sealer all first (first + length took) attempt → length (records_of vs) ≡ length took
   all_accepted fits turn =
-      omega (arith, accepts_until fits (first + length took) turn, few_accepted vs, s.judged.one_each)
+      omega (arith, accepts_until fits (first + length took) turn, few_accepted vs, (s.tries).judged.one_each)
 
   pub first_accepted : length (records_of vs) ≡ length took → records_of vs ≡ take (length took) (drop first all)
   first_accepted count = front_is (records_of vs) accepted_prefix.0 (drop first all) (length took) accepted_prefix.1 count
 
   pub none_refused : length (records_of vs) ≡ length took → All IsOk vs
-  none_refused count = all_ok vs (omega (arith, count, s.judged.one_each))
-
--- ---- all that is known of an attempt whose records were all sealed
-
-pub stands_of : (sealer : SealerState) (sealed : List Sealed) (first : ℕ) (attempt : Attempt) → AreSealed sealer sealed → IsAttempt sealer sealed attempt → BeginsBehind sealer (records_in sealed) first attempt.receiver.demand
-    → Stands sealer (records_in sealed) first attempt
-stands_of sealer sealed first attempt are is begins = record {
-  close_last = are.close_last;
-  etype = is.etype;
-  key = is.key;
-  judged = is.judged;
-  honest = λ place frame d at-f at-v.
-      elim (is.no_forgery place frame d at-f at-v) [
-        | inl was ↦ inl (record {
-            k = was.k;
-            it = was.it;
-            there = sealed_record sealed was.k was.it was.there;
-            is = was.is;
-            seals = are.frames was.k was.it was.there;
-            readable = are.readable was.k was.it was.there;
-          })
-        | inr numbered ↦ inr numbered
-      ];
-  begins = begins;
-}
-
-pub records_fit : (sealed : List Sealed) → FitLimits sealed → RecordsFit (records_in sealed)
-records_fit sealed fits k r at =
-    let its = image (λ (it : Sealed). it.carried) sealed k r at in
-    subst FitsLimits (sym its.is) (fits k its.source its.at)
-
-pub records_turn : (sealer : SealerState) (sealed : List Sealed) (first end : ℕ) (attempt : Attempt) → AreSealed sealer sealed → TakesInTurn sealer sealed first end attempt → TakesRecordsInTurn sealer (records_in sealed) first end attempt
-records_turn sealer sealed first end attempt are turn = record {
-  place = turn.place;
-  its = its;
-  there = λ k from lt. sealed_record sealed k (its k) (at k from lt);
-  seals = λ k from lt. are.frames k (its k) (at k from lt);
-  stands = λ k from lt. turn.stands k (its k) from lt (at k from lt);
-  rises = turn.rises;
-  agree = λ k from lt. turn.agree k (its k) from lt (at k from lt);
-}
-  where
-    its : ℕ → Sealed
-    its k = get_or sealed k (record { carried = records.Close; at = 0; frame = [] })
-
-    at : (k : ℕ) → first ≤ k → k < end → slice_get sealed k ≡ Some (its k)
-    at k from lt = slice_get-get_or sealed k (record { carried = records.Close; at = 0; frame = [] }) (turn.sealed_so k from lt)
-
-pub past_in_turn : (sealer : SealerState) (sealed : List Sealed) (first end : ℕ) (attempt : Attempt) (are : AreSealed sealer sealed) (s : Stands sealer (records_in sealed) first attempt) → FitLimits sealed → (turn : TakesInTurn sealer sealed first end attempt) (k : ℕ)
-    → first ≤ k → k < end → k < first + length (records_of (take (suc (turn.place k)) attempt.verdicts))
-unfolding records_turn
-past_in_turn sealer sealed first end attempt are s fits turn k from lt =
-    past_each sealer (records_in sealed) first attempt s (records_fit sealed fits) end (records_turn sealer sealed first end attempt are turn) k from lt
+  none_refused count = all_ok vs (omega (arith, count, (s.tries).judged.one_each))

@@ -11,28 +11,25 @@ use Rattle.krb_record.specs.declared.record.Record.TheVariants as records
 use Rattle.krb_record.specs.Record.{texts_of, is_close, record_for}
 use Rattle.krb_peers.specs.declared.plan.Emit.{Emit}
 use Rattle.krb_peers.specs.declared.plan.Emit.TheVariants.{Frame}
-use Rattle.krb_peers.specs.Attempt.{BeginsBehind, TakesRecordsInTurn}
-use Rattle.krb_peers.specs.Carried.{StandsAt, ComeInTurn, Carried, AcceptInOrder, GoesOnBehind, AlteredAreHonestBehind}
-use Rattle.krb_peers.specs.Claims.{DeliversPrefix, DeliversAll, DeliversWhole}
-use Rattle.krb_peers.specs.Draws.{confounder_at}
+use Rattle.krb_peers.specs.Attempt.{DemandsAfter, IsAttemptAfter, TakesInTurn}
 use Rattle.krb_peers.specs.Ends.{Ends}
 use Rattle.krb_peers.specs.Order.{demand_after, first_demand}
 use Rattle.krb_peers.specs.Plan.{is_good, is_good_emission, is_planned, emission, emissions, wire, frame_at}
-use Rattle.krb_peers.specs.Premises.{is_altered, is_altered_one, altered_at, AlteredAreHonest}
+use Rattle.krb_peers.specs.Planned.{attempt_of, is_altered, is_altered_one, altered_at, AlteredAreHonest, StandsAt, ComeInTurn, Carried, AcceptInOrder, GoesOnBehind, AlteredAreHonestBehind, in_order, IsInOrder, Undisturbed}
+use Rattle.krb_peers.specs.Planned.{DeliversPrefix, DeliversAll, DeliversWhole}
 use Rattle.krb_peers.specs.Run.{Run, IsRun}
-use Rattle.krb_peers.specs.Sealed.{Sealed}
-use Rattle.krb_peers.specs.Sender.{Source, IsWithinLimits, sealed_groups, records_for, AreFrames, moment_at}
+use Rattle.krb_peers.specs.Sender.{Source, IsWithinLimits, sealed_groups, records_for, AreFrames}
 use Rattle.krb_peers.specs.Sender as sender
-use Rattle.krb_peers.specs.Undisturbed.{in_order, IsInOrder, Undisturbed, TakesAll}
+use Rattle.krb_peers.specs.Session.{Sealed}
 use Rattle.krb_peers.specs.Verdicts.{Verdict, accepted_by, records_of, events_from}
-use Rattle.krb_peers.specs.Wire.{IsBad}
+use Rattle.krb_peers.specs.Wire.{IsBad, TakesAll}
 use Rattle.krb_peers.proofs.AnswerLemmas.{image, delivered_texts}
-use Rattle.krb_peers.proofs.AttemptLemmas.{Stands, accepted_prefix, past_each, accepts_rest, all_accepted, first_accepted, none_refused}
+use Rattle.krb_peers.proofs.AttemptLemmas.{accepted_prefix, past_each, accepts_rest, all_accepted, first_accepted, none_refused}
 use Rattle.krb_peers.proofs.FrameLemmas.{front_is}
 use Rattle.krb_peers.proofs.HeadlineLemmas.{delivered_prefix}
 use Rattle.krb_peers.proofs.ListLemmas.{slice_get-take, all_pass, length-take}
 use Rattle.krb_peers.proofs.LoggedLemmas.{closed_events, or_right}
-use Rattle.krb_peers.proofs.SourceLemmas.{texts_of_records, attempt_of, on_wire, run_fits, run_stands, paired_stands}
+use Rattle.krb_peers.proofs.SourceLemmas.{texts_of_records, fit_limits, sealed_of, one_of, among, on_wire, run_attempt, paired_attempt}
 use Rattle.krb_peers.proofs.UndisturbedLemmas.{length-in_order, in_order-at, good_in_order, none_longer}
 
 -- ---- the wire
@@ -98,33 +95,34 @@ module _ (run : Run) (is : IsRun run) (first : ℕ) (turn : ComeInTurn first run
       let at : slice_get run.took (turn.place k) ≡ Some frame = slice_get-get_or run.took (turn.place k) [] (inside k from lt) in
       (frame, at, stands_there is.frames run.ends.source.plan k (turn.place k) frame (turn.stands k from (omega (arith, lt, few))) (on_wire run is (turn.place k) frame at))
 
-  pub takes_in_turn : TakesRecordsInTurn run.ends.source.sealer (sender.records run.ends.source) first end (attempt_of run)
+  pub takes_in_turn : TakesInTurn run.ends.source.sealer (sender.records run.ends.source) first end (attempt_of run)
   takes_in_turn =
       let source = run.ends.source in
-      let some = take is.count (sender.records source) in
-      let its : ℕ → Sealed = λ k. record { carried = get_or some k records.Close; at = moment_at source.ats k; frame = get_or is.frames k [] } in
-      let within : (k : ℕ) → first ≤ k → k < end → k < length is.frames = λ k from lt. slice_get_within is.frames k (own_frame k from lt).0 (own_frame k from lt).2 in
-      let frame_at : (k : ℕ) → first ≤ k → k < end → slice_get is.frames k ≡ Some (get_or is.frames k []) = λ k from lt. slice_get-get_or is.frames k [] (within k from lt) in
-      let record_at : (k : ℕ) → first ≤ k → k < end → slice_get some k ≡ Some (get_or some k records.Close) =
-      λ k from lt. slice_get-get_or some k records.Close (omega (arith, within k from lt, is.sealed.one_each)) in
+      let all = sender.records source in
+      let some = take is.count all in
+      let its : ℕ → Sealed = λ k. sealed_of source k (get_or some k records.Close) (get_or is.frames k []) in
+      let at : (k : ℕ) → first ≤ k → k < end → slice_get is.frames k ≡ Some (get_or is.frames k []) =
+      λ k from lt. slice_get-get_or is.frames k [] (slice_get_within is.frames k (own_frame k from lt).0 (own_frame k from lt).2) in
       record {
         place = turn.place;
         its = its;
-        there = λ k from lt. slice_get-take is.count k (sender.records source) (get_or some k records.Close) (record_at k from lt);
-        seals = λ k from lt. record { confounder = confounder_at source.draws k; seals = is.sealed.each k (get_or some k records.Close) (get_or is.frames k []) (record_at k from lt) (frame_at k from lt) };
-        stands = λ k from lt. (own_frame k from lt).1 ∙ (sym (own_frame k from lt).2 ∙ frame_at k from lt);
+        sealed = λ k from lt. among source.sealer some all k (its k) (λ r there. slice_get-take is.count k all r there) (one_of source some is.frames is.sealed k (get_or is.frames k []) (at k from lt));
+        stands = λ k from lt. (own_frame k from lt).1 ∙ (sym (own_frame k from lt).2 ∙ at k from lt);
         rises = λ k from lt. turn.rises k from (omega (arith, lt, few));
-        agree = λ k from lt demanded. turn.agree k from (omega (arith, lt, few));
+        agree = λ k from lt demanded. turn.agree k run from (omega (arith, lt, few)) refl is demanded;
       }
 
+pub takes_all_in_turn : (run : Run) (is : IsRun run) (first : ℕ) → ComeInTurn first run.ends → TakesAll run.ends.source run.took → TakesInTurn run.ends.source.sealer (sender.records run.ends.source) first (length (sender.records run.ends.source)) (attempt_of run)
+takes_all_in_turn run is first turn all =
+    takes_in_turn run is first turn (length (sender.records run.ends.source)) (omega arith) (taken_in_turn run first turn all)
+
 -- so all of the rest is accepted where all of the wire is taken
-rest_accepted : (run : Run) (is : IsRun run) (first : ℕ) → Stands run.ends.source.sealer (sender.records run.ends.source) first (attempt_of run) → ComeInTurn first run.ends → TakesAll run.ends.source run.took
+rest_accepted : (run : Run) (is : IsRun run) (first : ℕ) → IsAttemptAfter run.ends.source.sealer (sender.records run.ends.source) first (attempt_of run) → ComeInTurn first run.ends → TakesAll run.ends.source run.took
     → records_of run.verdicts ≡ drop first (sender.records run.ends.source)
 rest_accepted run is first s turn all =
     let source = run.ends.source in
     let rs = sender.records source in
-    accepts_rest source.sealer rs first (attempt_of run) s (run_fits run is all.fits)
-    (takes_in_turn run is first turn (length rs) (omega arith) (taken_in_turn run first turn all))
+    accepts_rest source.sealer rs first (attempt_of run) s (fit_limits source all.fits) (takes_all_in_turn run is first turn all)
 
 -- ---- all records are accepted, so all texts are delivered, and the close stands
 
@@ -148,13 +146,13 @@ carried_demands run carried honest fits is k lt inside =
     let source = run.ends.source in
     let turn = carried.in_turn in
     let in_turn = takes_in_turn run is 0 turn (suc k) (omega (arith, lt)) (λ j from below. omega (arith, inside, placed run 0 turn j k from (omega (arith, below)) lt)) in
-    let past : k < 0 + length (records_of (take (suc (turn.place k)) run.verdicts)) = past_each source.sealer (sender.records source) 0 (attempt_of run) (paired_stands run is carried.paired honest) (run_fits run is fits) (suc k) in_turn k (omega arith) (omega arith) in
+    let past : k < 0 + length (records_of (take (suc (turn.place k)) run.verdicts)) = past_each source.sealer (sender.records source) 0 (attempt_of run) (paired_attempt run is carried.paired honest) (fit_limits source fits) (suc k) in_turn k (omega arith) (omega arith) in
     omega (arith, past)
 
 pub carried_whole : (run : Run) → Carried run.ends → AlteredAreHonest run → IsRun run
     → TakesAll run.ends.source run.took → DeliversWhole run.ends.source (events_from run.verdicts)
 carried_whole run carried honest is all =
-    delivers_whole run.ends.source run.verdicts (rest_accepted run is 0 (paired_stands run is carried.paired honest) carried.in_turn all)
+    delivers_whole run.ends.source run.verdicts (rest_accepted run is 0 (paired_attempt run is carried.paired honest) carried.in_turn all)
 
 -- ---- a lane that nothing disturbs
 
@@ -178,7 +176,7 @@ undisturbed_carried ends calm =
         place = λ k. k;
         stands = λ k from lt. in_order_stands ends.source.plan n k calm.plan lt;
         rises = λ k from lt. omega arith;
-        agree = λ k from lt. calm.agree k lt;
+        agree = λ k run from lt same is demanded. calm.agree k lt;
       };
     }
 
@@ -205,21 +203,21 @@ module _ (run : Run) (calm : Undisturbed run.ends) (fits : IsWithinLimits run.en
       let long = none_longer is.frames source.plan (length all_records) calm.plan sealed in
       omega (arith, long, ap length is.taken, length-take is.n (wire is.frames source.plan))
 
-  calm_stands : Stands run.ends.source.sealer all_records 0 (attempt_of run)
-  calm_stands = paired_stands run is calm.paired (undisturbed_honest run calm)
+  calm_attempt : IsAttemptAfter run.ends.source.sealer all_records 0 (attempt_of run)
+  calm_attempt = paired_attempt run is calm.paired (undisturbed_honest run calm)
 
   pub as_many : length (records_of run.verdicts) ≡ length run.took
   unfolding undisturbed_carried
   as_many =
       let source = run.ends.source in
-      all_accepted source.sealer all_records 0 (attempt_of run) calm_stands (run_fits run is fits)
+      all_accepted source.sealer all_records 0 (attempt_of run) calm_attempt (fit_limits source fits)
       (takes_in_turn run is 0 (undisturbed_carried run.ends calm).in_turn (0 + length run.took) (omega (arith, short)) (λ k from lt. omega (arith, lt)))
 
   pub calm_records : records_of run.verdicts ≡ take (length run.took) all_records
-  calm_records = first_accepted run.ends.source.sealer all_records 0 (attempt_of run) calm_stands as_many
+  calm_records = first_accepted run.ends.source.sealer all_records 0 (attempt_of run) calm_attempt as_many
 
   pub calm_none_refused : All IsOk run.verdicts
-  calm_none_refused = none_refused run.ends.source.sealer all_records 0 (attempt_of run) calm_stands as_many
+  calm_none_refused = none_refused run.ends.source.sealer all_records 0 (attempt_of run) calm_attempt as_many
 
 pub calm_whole : (run : Run) → Undisturbed run.ends → IsRun run → TakesAll run.ends.source run.took → DeliversAll run.ends.source (events_from run.verdicts)
 calm_whole run calm is all = (carried_whole run (undisturbed_carried run.ends calm) (undisturbed_honest run calm) is all).0
@@ -237,7 +235,7 @@ module _ (source : Source) (before : List Verdict) (run : Run) (accepted : Accep
   accepted_first : records_of before ≡ take done (sender.records source)
   accepted_first = front_is (records_of before) accepted.0 (sender.records source) done accepted.1 refl
 
-  begins : BeginsBehind run.ends.source.sealer (sender.records run.ends.source) done run.ends.receiver.demand
+  begins : DemandsAfter run.ends.source.sealer (sender.records run.ends.source) done run.ends.receiver.demand
   begins = record {
     within = omega (arith, ap length accepted.1, length-append (records_of before) accepted.0, ap length same_all);
     is = goes_on.demand
@@ -245,9 +243,11 @@ module _ (source : Source) (before : List Verdict) (run : Run) (accepted : Accep
         ∙ ap (λ (s : Source). demand_after (first_demand s.sealer.next) (take done (sender.records run.ends.source))) (sym goes_on.sender));
   }
 
-  its_stands : Stands run.ends.source.sealer (sender.records run.ends.source) done (attempt_of run)
-  its_stands =
-      run_stands run is done (goes_on.etype ∙ ap (λ (s : Source). s.sealer.etype) (sym goes_on.sender)) (goes_on.key ∙ ap (λ (s : Source). s.sealer.key) (sym goes_on.sender)) begins honest
+  its_attempt : IsAttemptAfter run.ends.source.sealer (sender.records run.ends.source) done (attempt_of run)
+  its_attempt =
+      run_attempt run is done
+      (record { etype = goes_on.etype ∙ ap (λ (s : Source). s.sealer.etype) (sym goes_on.sender); key = goes_on.key ∙ ap (λ (s : Source). s.sealer.key) (sym goes_on.sender) })
+      begins honest
 
   together : records_of (before ++ run.verdicts) ≡ records_of before ++ records_of run.verdicts
   together = flat_map-append accepted_by before run.verdicts
@@ -257,7 +257,7 @@ module _ (source : Source) (before : List Verdict) (run : Run) (accepted : Accep
 
   pub goes_on_in_order : AcceptInOrder source (before ++ run.verdicts)
   goes_on_in_order =
-      let rest = accepted_prefix run.ends.source.sealer (sender.records run.ends.source) done (attempt_of run) its_stands in (
+      let rest = accepted_prefix run.ends.source.sealer (sender.records run.ends.source) done (attempt_of run) its_attempt in (
         rest.0,
         sym joined
             ∙ (ap₂ (λ xs ys. xs ++ ys) (sym accepted_first) rest.1
@@ -266,7 +266,7 @@ module _ (source : Source) (before : List Verdict) (run : Run) (accepted : Accep
 
   pub goes_on_whole : ComeInTurn done run.ends → TakesAll run.ends.source run.took → DeliversWhole source (events_from (before ++ run.verdicts))
   goes_on_whole turn all =
-      let rest = rest_accepted run is done its_stands turn all in
+      let rest = rest_accepted run is done its_attempt turn all in
       delivers_whole source (before ++ run.verdicts) (together ∙ (ap₂ (λ xs ys. xs ++ ys) accepted_first rest ∙ joined))
 
 pub in_order_prefix : (source : Source) (verdicts : List Verdict) → AcceptInOrder source verdicts → DeliversPrefix source (events_from verdicts)

@@ -1,24 +1,23 @@
 -- The headline of a session's frames, and of a lane, by what a log has of it.
 use Rattle.std.proofs.Common.{◌≡◌, ℕ, true, List, sym, ap, subst, ◌∙◌}
-use Rattle.std.specs.List.{list_any, flat_map}
+use Rattle.std.specs.List.{list_any}
 use Rattle.krb_base.specs.Prefix.{IsPrefix}
 use Rattle.krb_record.specs.declared.record.Record.{Record}
-use Rattle.krb_record.specs.Record.{texts_of, is_close}
+use Rattle.krb_record.specs.Record.{is_close}
 use Rattle.krb_seal.specs.Sealer.{SealerState}
 use Rattle.krb_peers.specs.declared.log.Event.{Event}
-use Rattle.krb_peers.specs.Attempt.{Attempt, TakesRecordsInTurn}
-use Rattle.krb_peers.specs.Log.{events_of, texts_in, has_closed}
+use Rattle.krb_peers.specs.Attempt.{Attempt, TakesInTurn}
+use Rattle.krb_peers.specs.Log.{events_of, texts_in, has_closed, has_ended}
 use Rattle.krb_peers.specs.LogState.{LogState}
-use Rattle.krb_peers.specs.Premises.{IsPaired, AlteredAreHonest}
+use Rattle.krb_peers.specs.Planned.{attempt_of, Headline, DeliversWhole}
 use Rattle.krb_peers.specs.Sender.{records, sealed_groups}
 use Rattle.krb_peers.specs.Verdicts.{AreJudged, events_from, records_of}
 use Rattle.krb_peers.specs.Run.{Run, IsRun}
-use Rattle.krb_peers.specs.Undisturbed.{TakesAll}
-use Rattle.krb_peers.specs.Claims.{has_ended, Headline, FramesHeadline, IsAttemptBehind, texts_with, DeliversWhole}
+use Rattle.krb_peers.specs.Wire.{TakesAll}
+use Rattle.krb_peers.specs.Claims.{FramesHeadline, texts_of_all, texts_with}
 use Rattle.krb_peers.proofs.AttemptLemmas.{texts_prefix, texts_whole, accepts_rest, rest_whole, all_accepted, none_refused}
 use Rattle.krb_peers.proofs.LoggedLemmas.{closed_events, or_right}
-use Rattle.krb_peers.proofs.SourceLemmas.{attempt_of, texts_of_records}
-use Rattle.krb_peers.proofs.RecordsLemmas.{stands_at, run_records}
+use Rattle.krb_peers.proofs.SourceLemmas.{texts_of_records, paired_attempt}
 use Rattle.krb_peers.proofs.HeadlineLemmas.{quiet_after, refuses, refusal_nothing}
 use Rattle.krb_peers.proofs.CarriedLemmas.{calm_whole, carried_whole}
 
@@ -33,21 +32,19 @@ frames_headline_of sealer all first attempt events judged same =
     let texts : texts_with all first events ≡ texts_with all first (events_from vs) = ap (λ es. texts_with all first es) same in
     record {
       delivered_prefix = λ is.
-          let P : List (List ℕ) → Type 0 = λ l. IsPrefix l (flat_map texts_of all) in
-          subst P (sym texts) (texts_prefix sealer all first attempt (stands_at sealer all first attempt is.are is.tries is.begins));
+          let P : List (List ℕ) → Type 0 = λ l. IsPrefix l (texts_of_all all) in
+          subst P (sym texts) (texts_prefix sealer all first attempt is);
       nothing_after_close = λ front back at. quiet_after receiver.opener attempt.nows start 0 attempt.took vs judged front back (sym same ∙ at);
       all_where_closed = λ is closed.
           let any : list_any is_close (records_of vs) ≡ true = sym (closed_events vs) ∙ (ap has_closed (sym same) ∙ closed) in
-          texts ∙ texts_whole sealer all first attempt (stands_at sealer all first attempt is.are is.tries is.begins) (or_right start.closed (list_any is_close (records_of vs)) any);
+          texts ∙ texts_whole sealer all first attempt is (or_right start.closed (list_any is_close (records_of vs)) any);
       all_where_undisturbed = λ is fits turn count.
-          let s = stands_at sealer all first attempt is.are is.tries is.begins in
-          let accepted = accepts_rest sealer all first attempt s fits turn in
-          let every = all_accepted sealer all first attempt s fits (subst (λ n. TakesRecordsInTurn sealer all first n attempt) (sym count) turn) in
-          (texts ∙ (rest_whole sealer all first attempt s accepted).0, none_refused sealer all first attempt s every);
+          let accepted = accepts_rest sealer all first attempt is fits turn in
+          let every = all_accepted sealer all first attempt is fits (subst (λ n. TakesInTurn sealer all first n attempt) (sym count) turn) in
+          (texts ∙ (rest_whole sealer all first attempt is accepted).0, none_refused sealer all first attempt is every);
       all_where_carried = λ is fits turn.
-          let s = stands_at sealer all first attempt is.are is.tries is.begins in
-          let accepted = accepts_rest sealer all first attempt s fits turn in
-          (texts ∙ (rest_whole sealer all first attempt s accepted).0, ap has_closed same ∙ (closed_events vs ∙ ap (λ l. list_any is_close l) accepted));
+          let accepted = accepts_rest sealer all first attempt is fits turn in
+          (texts ∙ (rest_whole sealer all first attempt is accepted).0, ap has_closed same ∙ (closed_events vs ∙ ap (λ l. list_any is_close l) accepted));
       refused_exactly = λ place frame refusal at. refuses receiver.opener attempt.nows start attempt.took vs judged place frame refusal at;
       refusals_deliver_nothing = λ front back refusal at.
           let w = refusal_nothing start vs front back refusal at in
@@ -55,11 +52,6 @@ frames_headline_of sealer all first attempt events judged same =
     }
 
 -- ---- of a lane
-
-run_behind : (run : Run) → IsRun run → IsPaired run.ends → AlteredAreHonest run → IsAttemptBehind run.ends.source.sealer (records run.ends.source) 0 (attempt_of run)
-run_behind run is paired honest =
-    let w = run_records run paired is honest in
-    record { are = w.0; tries = w.1; begins = w.2 }
 
 -- it follows where the log has of the lane what the verdicts of a run bring, and where the lane
 -- ends only behind all that its wire carries
@@ -72,10 +64,10 @@ headline_of run lane log is entries takes_all =
     let sealed = texts_of_records (sealed_groups source) in
     record {
       delivered_prefix = λ paired honest.
-          let w = all.delivered_prefix (run_behind run is paired honest) in
+          let w = all.delivered_prefix (paired_attempt run is paired honest) in
           (w.0, sym sealed ∙ w.1);
       nothing_after_close = all.nothing_after_close;
-      all_where_closed = λ paired honest closed. all.all_where_closed (run_behind run is paired honest) closed ∙ sealed;
+      all_where_closed = λ paired honest closed. all.all_where_closed (paired_attempt run is paired honest) closed ∙ sealed;
       all_where_undisturbed = λ calm ended. ap texts_in entries ∙ calm_whole run calm is (takes_all ended);
       all_where_carried = λ carried honest ended.
           let P : List Event → Type 0 = λ es. DeliversWhole source es in

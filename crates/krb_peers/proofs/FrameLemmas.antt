@@ -1,15 +1,13 @@
 -- Lists, and the records of a session.
 use Rattle.std.proofs.Common.{◌≡◌, ℕ, zero, suc, ◌<◌, ◌≤◌, Bool, true, false, List, [], ◌∷◌, ◌++◌, length, take, drop, slice_get, Some, refl, sym, ap, ◌∙◌, arith, length-append, append-nil, append_assoc}
-use Rattle.std.specs.Option.{option_map}
 use Rattle.std.specs.List.{list_any, flat_map}
-use Rattle.std.proofs.lemmas.List.{length-take-le, length-map, take-append-drop}
-use Rattle.std.proofs.lemmas.Option.{slice_get-map}
+use Rattle.std.proofs.lemmas.List.{length-take-le, take-append-drop}
 use Rattle.std.proofs.Math.Seq.{take-append_seam}
 use Rattle.krb_record.specs.declared.record.Record.{Record}
 use Rattle.krb_record.specs.declared.record.Record.TheVariants as records
 use Rattle.krb_record.specs.Record.{bytes_of, is_close}
 use Rattle.krb_record.proofs.RecordLemmas.{one_record}
-use Rattle.krb_peers.specs.Sealed.{Sealed, records_in, CloseIsLastOf, FitLimits, IsReadable}
+use Rattle.krb_peers.specs.Session.{IsReadable, CloseIsLastOf, FitLimits}
 
 -- ---- lists
 
@@ -38,13 +36,6 @@ no_rest front (x ∷ rest) whole is long =
     absurd (omega (arith, ap length is, long, length-append front (x ∷ rest)))
 
 -- ---- the records of a session
-
-pub sealed_record : (sealed : List Sealed) (k : ℕ) (it : Sealed) → slice_get sealed k ≡ Some it → slice_get (records_in sealed) k ≡ Some it.carried
-sealed_record sealed k it at =
-    slice_get-map (λ (s : Sealed). s.carried) sealed k ∙ ap (λ o. option_map (λ (s : Sealed). s.carried) o) at
-
-pub length-records : (sealed : List Sealed) → length (records_in sealed) ≡ length sealed
-length-records sealed = length-map sealed (λ (s : Sealed). s.carried)
 
 -- where a close is
 record HasClose (rs : List Record) : Type 0 where
@@ -89,5 +80,5 @@ none_of_front (x ∷ xs) ys is = absurd (let e = is in cc)
 
 -- ---- records within their limits
 
-pub all_readable : (sealed : List Sealed) → FitLimits sealed → (k : ℕ) (it : Sealed) → slice_get sealed k ≡ Some it → IsReadable it.carried
-all_readable sealed fits k it there other spelled = one_record (bytes_of it.carried) it.carried other (fits k it there, refl) spelled
+pub all_readable : (rs : List Record) → FitLimits rs → (k : ℕ) (r : Record) → slice_get rs k ≡ Some r → IsReadable r
+all_readable rs fits k r there other spelled = one_record (bytes_of r) r other (fits k r there, refl) spelled

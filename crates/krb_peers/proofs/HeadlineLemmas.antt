@@ -1,6 +1,6 @@
 -- What is claimed of a lane.
-use Rattle.std.proofs.Common.{◌≡◌, ℕ, ◌+◌, ◌<◌, ◌||◌, true, false, List, [], ◌∷◌, ◌++◌, length, map, take, get_or, slice_get, Some, Ok, Err, refl, sym, ap, ap₂, subst, ◌∙◌, arith, append-nil}
-use Rattle.std.specs.List.{list_any, flat_map}
+use Rattle.std.proofs.Common.{◌≡◌, ℕ, ◌+◌, ◌<◌, ◌||◌, true, false, List, [], ◌∷◌, ◌++◌, length, take, get_or, slice_get, Some, Ok, Err, refl, sym, ap, ap₂, subst, ◌∙◌, arith}
+use Rattle.std.specs.List.{list_any}
 use Rattle.std.proofs.lemmas.Option.{slice_get-get_or, slice_get_within}
 use Rattle.krb_base.specs.Prefix.{IsPrefix}
 use Rattle.krb_seal.specs.declared.refusal.Refusal.{Refusal}
@@ -12,33 +12,27 @@ use Rattle.krb_peers.specs.declared.delivery.Delivery.TheVariants.{Text, Batch, 
 use Rattle.krb_peers.specs.declared.log.Event.{Event}
 use Rattle.krb_peers.specs.declared.log.Event.TheVariants as events
 use Rattle.krb_peers.specs.Demand.{Demand}
-use Rattle.krb_record.specs.Record.{bytes_of, texts_of, is_close, record_for}
+use Rattle.krb_record.specs.Record.{bytes_of, is_close}
 use Rattle.krb_peers.specs.Log.{texts_in, has_closed}
-use Rattle.krb_peers.specs.Sender.{Source, texts_of_groups, records_for, AreFrames, moment_at}
+use Rattle.krb_peers.specs.Sender.{Source, texts_of_groups, records_for, AreFrames}
+use Rattle.krb_peers.specs.Moments.{moment_at}
 use Rattle.krb_peers.specs.Order.{demand_after}
 use Rattle.krb_peers.specs.ReceiverState.{ReceiverState}
 use Rattle.krb_peers.specs.Verdicts.{Verdict, records_of, events_from, events_by, accepted_by, delivered, IsVerdict, AreVerdicts}
 use Rattle.krb_peers.specs.Claims.{NothingAfterClose, RefusesExactly, RefusalsDeliverNothing}
 use Rattle.krb_peers.proofs.VerdictLemmas.{AreVerdicts-behind, unique_verdict}
-use Rattle.krb_peers.proofs.AcceptedPrefix.{none_left, texts_prefix}
+use Rattle.krb_peers.proofs.AcceptedPrefix.{texts_prefix}
 use Rattle.krb_peers.proofs.AnswerLemmas.{delivered_texts}
-use Rattle.krb_peers.proofs.LoggedLemmas.{texts_in-append, has_closed-append, has_closed-texts, closed_one, closed_events, or_left, or_right}
-use Rattle.krb_peers.proofs.SourceLemmas.{texts_of_records, none_close}
+use Rattle.krb_peers.proofs.LoggedLemmas.{texts_in-append, has_closed-append, has_closed-texts, closed_one, or_left, or_right}
+use Rattle.krb_peers.proofs.SourceLemmas.{texts_of_records}
 use Rattle.krb_peers.proofs.ListLemmas.{same_lists}
 
--- ---- so the texts are a prefix, and all where a close was accepted
+-- ---- so the texts are a prefix
 
 pub delivered_prefix : (vs : List Verdict) (groups : List (List (List ℕ))) → IsPrefix (records_of vs) (records_for groups) → IsPrefix (delivered vs) (texts_of_groups groups)
 delivered_prefix vs groups h =
     let w = texts_prefix (records_of vs) (records_for groups) h in
     (w.0, sym (texts_of_records groups) ∙ (w.1 ∙ ap (λ l. l ++ w.0) (sym (delivered_texts vs))))
-
-pub delivered_whole : (vs : List Verdict) (groups : List (List (List ℕ))) → IsPrefix (records_of vs) (records_for groups) → has_closed (events_from vs) ≡ true → delivered vs ≡ texts_of_groups groups
-delivered_whole vs groups h closed =
-    let any : list_any is_close (records_of vs) ≡ true = sym (closed_events vs) ∙ closed in
-    let none : h.0 ≡ [] = none_left (records_of vs) h.0 (map record_for groups) any (none_close groups) h.1 in
-    let same : records_for groups ≡ records_of vs = h.1 ∙ (ap (λ z. records_of vs ++ z) none ∙ append-nil (records_of vs)) in
-    delivered_texts vs ∙ (ap (λ z. flat_map texts_of z) (sym same) ∙ texts_of_records groups)
 
 -- ---- nothing after a close
 

@@ -10,8 +10,8 @@ pub mod AnswerLemmas
 pub mod FrameLemmas
 pub mod AttemptLemmas
 pub mod HappenLemmas
+pub mod MomentLemmas
 pub mod SourceLemmas
-pub mod RecordsLemmas
 pub mod HeadlineLemmas
 pub mod UndisturbedLemmas
 pub mod CarriedLemmas

@@ -1,11 +1,11 @@
--- What a sender seals is what is sealed of a session, and what is taken of its wire is an attempt.
-use Rattle.std.proofs.Common.{◌≡◌, ◌⊎◌, ℕ, zero, suc, ◌+◌, ◌≤◌, if◌then◌else◌, Bool, true, false, List, [], ◌∷◌, ◌++◌, length, map, take, drop, get_or, slice_get, Option, Some, None, Ok, refl, sym, ap, ap₂, subst, ◌∙◌, arith, append_assoc, inl, inr}
+-- The records of a sender are those of a session, and what is taken of its wire is an attempt.
+use Rattle.std.proofs.Common.{◌≡◌, ◌⊎◌, ℕ, zero, suc, ◌+◌, ◌≤◌, if◌then◌else◌, Bool, true, false, List, [], ◌∷◌, ◌++◌, length, take, drop, get_or, slice_get, Option, Some, None, Ok, refl, sym, ap, ap₂, subst, ◌∙◌, arith, append_assoc, inl, inr}
 use Rattle.std.specs.Prelude.{All}
-use Rattle.std.specs.List.{list_any, flat_map}
+use Rattle.std.specs.List.{flat_map}
 use Rattle.std.proofs.lemmas.Bool.{cases_lt, ltb-true}
 use Rattle.std.proofs.lemmas.List.{take_all, take-append-drop}
 use Rattle.std.proofs.lemmas.List.Elements.{All-head, All-tail}
-use Rattle.std.proofs.lemmas.Option.{slice_get-get_or}
+use Rattle.std.proofs.lemmas.Option.{slice_get-get_or, slice_get_within}
 use Rattle.krb_base.specs.Limits.{batch_size_limit}
 use Rattle.krb_base.specs.Prefix.{IsPrefix}
 use Rattle.krb_record.specs.Batch.{texts_size, text_bytes}
@@ -15,25 +15,25 @@ use Rattle.krb_record.specs.Record.{FitsLimits, SpellsRecord, bytes_of, texts_of
 use Rattle.krb_record.proofs.BatchLemmas.{length-texts, one_reading}
 use Rattle.krb_record.proofs.GroupLemmas.{small_groups}
 use Rattle.krb_record.proofs.RecordLemmas.{same_first}
-use Rattle.krb_seal.specs.Seals.{Seals}
+use Rattle.krb_seal.specs.Sealer.{SealerState}
 use Rattle.krb_peers.specs.declared.delivery.Delivery.{Delivery}
 use Rattle.krb_peers.specs.declared.plan.Emit.{Emit}
 use Rattle.krb_peers.specs.declared.plan.Emit.TheVariants.{Frame, Flip, Raw}
-use Rattle.krb_peers.specs.Attempt.{RecordsFit, Attempt, BeginsBehind}
+use Rattle.krb_peers.specs.Attempt.{HasKey, DemandsAfter, IsAttemptAfter}
 use Rattle.krb_peers.specs.Demand.{Demand}
 use Rattle.krb_peers.specs.Draws.{confounder_at}
 use Rattle.krb_peers.specs.Order.{first_demand}
 use Rattle.krb_peers.specs.Plan.{is_good, is_good_emission, emission, emissions, wire}
-use Rattle.krb_peers.specs.Premises.{IsOwn, is_altered_one, altered_at, AlteredAreHonest, IsPaired}
-use Rattle.krb_peers.specs.Carried.{AlteredAreHonestBehind}
+use Rattle.krb_peers.specs.Planned.{is_altered_one, altered_at, AlteredAreHonest, IsPaired, AlteredAreHonestBehind, attempt_of}
 use Rattle.krb_peers.specs.Ends.{Ends}
 use Rattle.krb_peers.specs.Run.{Run, IsRun}
-use Rattle.krb_peers.specs.Sealed.{Sealed, records_in, frames_in, CloseIsLastOf, AreSealed, FitLimits, WasSealed}
-use Rattle.krb_peers.specs.Sender.{Source, IsWithinLimits, text_groups, texts_of_groups, sealed_count, sealed_groups, records_for, IsFrame, AreFrames, moment_at}
+use Rattle.krb_peers.specs.Session.{CloseIsLastOf, AreRecords, FitLimits, Sealed, IsSealed, IsFrameOf}
+use Rattle.krb_peers.specs.Sender.{Source, IsWithinLimits, text_groups, texts_of_groups, sealed_count, sealed_groups, records_for, IsFrame, AreFrames}
+use Rattle.krb_peers.specs.Moments.{moment_at}
 use Rattle.krb_peers.specs.Sender as sender
 use Rattle.krb_peers.specs.Verdicts.{record_of, records_of}
 use Rattle.krb_peers.proofs.AnswerLemmas.{image}
-use Rattle.krb_peers.proofs.AttemptLemmas.{Stands, IsOneOf, number_behind, accepted_prefix}
+use Rattle.krb_peers.proofs.AttemptLemmas.{number_behind, accepted_prefix}
 use Rattle.krb_peers.proofs.FrameLemmas.{none_of_front}
 use Rattle.krb_peers.proofs.ListLemmas.{slice_get-take, all_pass, length-take, get_or-take}
 use Rattle.krb_peers.proofs.OrderLemmas.{demand_after-nil}
@@ -122,10 +122,6 @@ pub texts_of_records : (groups : List (List (List ℕ))) → flat_map texts_of (
 texts_of_records [] = refl
 texts_of_records (g ∷ groups) = ap₂ (λ xs ys. xs ++ ys) (texts_of_record g) (texts_of_records groups)
 
-pub none_close : (groups : List (List (List ℕ))) → list_any is_close (map record_for groups) ≡ false
-none_close [] = refl
-none_close (g ∷ groups) = rw not_close (none_close groups)
-
 pub fits_at : (n : ℕ) (groups : List (List (List ℕ))) (i : ℕ) (r : Record) → All (λ group. FitsLimits (record_for group)) groups → slice_get (records_for (take n groups)) i ≡ Some r → FitsLimits r
 fits_at zero groups zero r fit at = subst FitsLimits (let e : records.Close ≡ r = (let f = at in cc) in e) tt
 fits_at zero groups (suc i) r fit at = absurd (let f = at in cc)
@@ -135,47 +131,7 @@ fits_at (suc n) (g ∷ groups) zero r fit at =
     subst FitsLimits (let e : record_for g ≡ r = (let f = at in cc) in e) (All-head (λ group. FitsLimits (record_for group)) g groups fit)
 fits_at (suc n) (g ∷ groups) (suc i) r fit at = fits_at n groups i r (All-tail (λ group. FitsLimits (record_for group)) g groups fit) at
 
--- ---- what a sender sealed
-
--- records and frames from the k-th on
-abbrev pub sealed_from : Source → ℕ → List Record → List (List ℕ) → List Sealed
-sealed_from source k [] frames = []
-sealed_from source k (r ∷ rs) [] = []
-sealed_from source k (r ∷ rs) (frame ∷ frames) =
-    record { carried = r; at = moment_at source.ats k; frame = frame } ∷ sealed_from source (suc k) rs frames
-
-pub record IsFrom (source : Source) (k : ℕ) (rs : List Record) (frames : List (List ℕ)) (i : ℕ) (it : Sealed) : Type 0 where
-  pub carried : slice_get rs i ≡ Some it.carried
-  pub frame : slice_get frames i ≡ Some it.frame
-  pub at : it.at ≡ moment_at source.ats (k + i)
-
-pub from_there : (source : Source) (k : ℕ) (rs : List Record) (frames : List (List ℕ)) (i : ℕ) (it : Sealed) → slice_get (sealed_from source k rs frames) i ≡ Some it → IsFrom source k rs frames i it
-from_there source k [] frames i it there = absurd (let e = there in cc)
-from_there source k (r ∷ rs) [] i it there = absurd (let e = there in cc)
-from_there source k (r ∷ rs) (frame ∷ frames) zero it there =
-    let own : Sealed = record { carried = r; at = moment_at source.ats k; frame = frame } in
-    let same : own ≡ it = (let e : Some own ≡ Some it = there in cc) in
-    let none : k ≡ k + 0 = omega arith in
-    record {
-      carried = ap (λ (s : Sealed). Some s.carried) same;
-      frame = ap (λ (s : Sealed). Some s.frame) same;
-      at = ap (λ (s : Sealed). s.at) (sym same) ∙ ap (λ n. moment_at source.ats n) none;
-    }
-from_there source k (r ∷ rs) (frame ∷ frames) (suc i) it there =
-    let later = from_there source (suc k) rs frames i it there in
-    let next : suc k + i ≡ k + suc i = omega arith in
-    record { carried = later.carried; frame = later.frame; at = later.at ∙ ap (λ n. moment_at source.ats n) next }
-
-pub records_are : (source : Source) (k : ℕ) (rs : List Record) (frames : List (List ℕ)) → length frames ≡ length rs → records_in (sealed_from source k rs frames) ≡ rs
-records_are source k [] frames same = refl
-records_are source k (r ∷ rs) [] same = absurd (omega (arith, same))
-records_are source k (r ∷ rs) (frame ∷ frames) same = ap (λ l. r ∷ l) (records_are source (suc k) rs frames (omega (arith, same)))
-
-pub frames_from : (source : Source) (k : ℕ) (rs : List Record) (frames : List (List ℕ)) → length frames ≡ length rs → map (λ (it : Sealed). it.frame) (sealed_from source k rs frames) ≡ frames
-frames_from source k [] [] same = refl
-frames_from source k [] (frame ∷ frames) same = absurd (omega (arith, same))
-frames_from source k (r ∷ rs) [] same = absurd (omega (arith, same))
-frames_from source k (r ∷ rs) (frame ∷ frames) same = ap (λ l. frame ∷ l) (frames_from source (suc k) rs frames (omega (arith, same)))
+-- ---- its records are those of a session
 
 -- the close of a sender is last
 pub close_is_last : (groups : List (List (List ℕ))) (front back : List Record) → records_for groups ≡ front ++ records.Close ∷ back → back ≡ []
@@ -201,76 +157,46 @@ first_close rs count last front back is =
     none_of_front back (drop count rs) (last front (back ++ drop count rs) (
     sym (take-append-drop count rs) ∙ (ap (λ l. l ++ drop count rs) is ∙ append_assoc front (records.Close ∷ back) (drop count rs))))
 
-module _ (source : Source) (count : ℕ) (frames : List (List ℕ)) (are : AreFrames source (take count (sender.records source)) frames) where
-  abbrev pub sealed : List Sealed
-  sealed = sealed_from source 0 (take count (sender.records source)) frames
+pub some_records : (source : Source) (count : ℕ) → AreRecords (take count (sender.records source))
+some_records source count = record {
+  readable = λ k r at other spelled. read_record r other (bytes_of r) (small_record source count k r at) refl spelled;
+  close_last = first_close (sender.records source) count (close_is_last (sealed_groups source));
+}
 
-  pub its_records : records_in sealed ≡ take count (sender.records source)
-  its_records = records_are source 0 (take count (sender.records source)) frames are.one_each
-
-  pub its_frames : frames_in sealed ≡ frames
-  its_frames = frames_from source 0 (take count (sender.records source)) frames are.one_each
-
-  pub its_place : (k : ℕ) (it : Sealed) → slice_get sealed k ≡ Some it → IsFrom source 0 (take count (sender.records source)) frames k it
-  its_place k it there = from_there source 0 (take count (sender.records source)) frames k it there
-
-  pub its_moment : (k : ℕ) (it : Sealed) → slice_get sealed k ≡ Some it → moment_at source.ats k ≡ it.at
-  its_moment k it there =
-      let zero_more : 0 + k ≡ k = omega arith in
-      ap (λ n. moment_at source.ats n) (sym zero_more) ∙ sym (its_place k it there).at
-
-  pub its_last : CloseIsLastOf (take count (sender.records source))
-  its_last = first_close (sender.records source) count (close_is_last (sealed_groups source))
-
-  pub are_sealed : AreSealed source.sealer sealed
-  are_sealed = record {
-    frames = λ k it there.
-        let s = source.sealer in
-        let one : IsFrame source k it.carried it.frame = are.each k it.carried it.frame (its_place k it there).carried (its_place k it there).frame in
-        record {
-          confounder = confounder_at source.draws k;
-          seals = subst (λ at. Seals s.etype s.key s.session (s.next + k) (bytes_of it.carried) at (confounder_at source.draws k) it.frame) (its_moment k it there) one;
-        };
-    readable = λ k it there other spelled.
-        read_record it.carried other (bytes_of it.carried) (small_record source count k it.carried (its_place k it there).carried) refl spelled;
-    close_last = λ front back is. its_last front back (sym its_records ∙ is);
-  }
-
-  pub fit_limits : IsWithinLimits source → FitLimits sealed
-  fit_limits fits k it there =
-      let fitting = groups_fit source.batch source.texts (text_groups source) (groups_of_source source) fits.batch fits.texts in
-      fits_at (sealed_count source.sealer.next (length (text_groups source))) (text_groups source) k it.carried fitting (slice_get-take count k (sender.records source) it.carried (its_place k it there).carried)
-
-  pub was_sealed : (k : ℕ) (frame : List ℕ) → slice_get frames k ≡ Some frame → WasSealed sealed frame
-  was_sealed k frame at =
-      let w = image (λ (it : Sealed). it.frame) sealed k frame (ap (λ fs. slice_get fs k) its_frames ∙ at) in
-      record { k = k; it = w.source; there = w.at; is = sym w.is }
-
--- a frame that a sender seals, or is to seal, is one of a session with its records
-own_one : (source : Source) (frame : List ℕ) → IsOwn source frame → IsOneOf source.sealer (sender.records source) frame
-own_one source frame mine =
+pub are_records : (source : Source) → AreRecords (sender.records source)
+are_records source =
     let all = sender.records source in
-    let r = mine.carried in
-    record {
-      k = mine.k;
-      it = record { carried = r; at = moment_at source.ats mine.k; frame = frame };
-      there = mine.there;
-      is = refl;
-      seals = record { confounder = confounder_at source.draws mine.k; seals = mine.is };
-      readable = λ other spelled.
-          let there : slice_get (take (length all) all) mine.k ≡ Some r = ap (λ l. slice_get l mine.k) (take_all (length all) all (omega arith)) ∙ mine.there in
-          read_record r other (bytes_of r) (small_record source (length all) mine.k r there) refl spelled;
-    }
+    subst AreRecords (take_all (length all) all (omega arith)) (some_records source (length all))
+
+pub fit_limits : (source : Source) → IsWithinLimits source → FitLimits (sender.records source)
+fit_limits source fits k r at =
+    let fitting = groups_fit source.batch source.texts (text_groups source) (groups_of_source source) fits.batch fits.texts in
+    fits_at (sealed_count source.sealer.next (length (text_groups source))) (text_groups source) k r fitting at
+
+-- a frame of a sender is sealed of its record
+abbrev pub sealed_of : Source → ℕ → Record → List ℕ → Sealed
+sealed_of source k r frame = record { carried = r; at = moment_at source.ats k; frame = frame }
+
+pub its_frame : (source : Source) (all : List Record) (k : ℕ) (r : Record) (frame : List ℕ) → slice_get all k ≡ Some r → IsFrame source k r frame → IsSealed source.sealer all k (sealed_of source k r frame)
+its_frame source all k r frame there is = record { there = there; seals = record { confounder = confounder_at source.draws k; seals = is } }
+
+pub one_of : (source : Source) (all : List Record) (frames : List (List ℕ)) → AreFrames source all frames → (k : ℕ) (frame : List ℕ) → slice_get frames k ≡ Some frame
+    → IsSealed source.sealer all k (sealed_of source k (get_or all k records.Close) frame)
+one_of source all frames are k frame at =
+    let r = get_or all k records.Close in
+    let there : slice_get all k ≡ Some r = slice_get-get_or all k records.Close (omega (arith, slice_get_within frames k frame at, are.one_each)) in
+    its_frame source all k r frame there (are.each k r frame there at)
+
+-- among more records too
+pub among : (sealer : SealerState) (some all : List Record) (k : ℕ) (it : Sealed) → ((r : Record) → slice_get some k ≡ Some r → slice_get all k ≡ Some r) → IsSealed sealer some k it → IsSealed sealer all k it
+among sealer some all k it inside sealed = record { there = inside it.carried sealed.there; seals = sealed.seals }
 
 -- ---- what was taken of a wire
-
-abbrev pub attempt_of : Run → Attempt
-attempt_of run = record { receiver = run.ends.receiver; nows = run.ends.nows; took = run.took; verdicts = run.verdicts }
 
 first_is : (demand : Demand) (next : ℕ) → demand.expected ≡ next → demand.closed ≡ false → demand ≡ first_demand next
 first_is demand next expected closed = ap₂ (λ (x : ℕ) (y : Bool). let z : Demand = record { expected = x; closed = y } in z) expected closed
 
-pub paired_begins : (ends : Ends) (all : List Record) → IsPaired ends → BeginsBehind ends.source.sealer all 0 ends.receiver.demand
+pub paired_begins : (ends : Ends) (all : List Record) → IsPaired ends → DemandsAfter ends.source.sealer all 0 ends.receiver.demand
 paired_begins ends all paired = record {
   within = omega arith;
   is = first_is ends.receiver.demand ends.source.sealer.next paired.expected paired.closed ∙ sym (demand_after-nil (first_demand ends.source.sealer.next));
@@ -280,77 +206,76 @@ module _ (run : Run) (is : IsRun run) where
   abbrev source : Source
   source = run.ends.source
 
-  abbrev pub sealed_of : List Sealed
-  sealed_of = sealed source is.count is.frames is.sealed
+  abbrev all : List Record
+  all = sender.records source
 
   pub on_wire : (i : ℕ) (frame : List ℕ) → slice_get run.took i ≡ Some frame → slice_get (wire is.frames source.plan) i ≡ Some frame
   on_wire i frame at = slice_get-take is.n i (wire is.frames source.plan) frame (ap (λ fs. slice_get fs i) (sym is.taken) ∙ at)
 
   -- what is accepted of an altered frame is the record of its number, of these
   abbrev AlteredCarry : ℕ → List Record → Type 0
-  AlteredCarry first all =
+  AlteredCarry first rs =
       (place : ℕ) (frame : List ℕ) (d : Delivery) → altered_at source.plan place ≡ true → slice_get run.took place ≡ Some frame → slice_get run.verdicts place ≡ Some (Ok d)
-      → IsOneOf source.sealer all frame ⊎ (slice_get all (first + length (records_of (take place run.verdicts))) ≡ Some (record_of d))
+      → IsFrameOf source.sealer rs frame ⊎ (slice_get rs (first + length (records_of (take place run.verdicts))) ≡ Some (record_of d))
 
-  stands_in : (first : ℕ) (all : List Record) → ((k : ℕ) (r : Record) → slice_get (take is.count (sender.records source)) k ≡ Some r → slice_get all k ≡ Some r) → CloseIsLastOf all
-      → run.ends.receiver.opener.etype ≡ source.sealer.etype → run.ends.receiver.opener.key ≡ source.sealer.key → BeginsBehind source.sealer all first run.ends.receiver.demand → AlteredCarry first all
-      → Stands source.sealer all first (attempt_of run)
-  stands_in first all inside last etype key begins honest = record {
-    close_last = last;
-    etype = etype;
-    key = key;
-    judged = is.judged;
-    honest = λ place frame d at-f at-v.
-        elim (origin is.frames source.plan place frame (on_wire place frame at-f)) [
-          | own k at-k ↦
-              let was = was_sealed source is.count is.frames is.sealed k frame at-k in
-              let are = are_sealed source is.count is.frames is.sealed in
-              inl (record {
-                k = was.k;
-                it = was.it;
-                there = inside was.k was.it.carried (its_place source is.count is.frames is.sealed was.k was.it was.there).carried;
-                is = was.is;
-                seals = are.frames was.k was.it was.there;
-                readable = are.readable was.k was.it was.there;
-              })
-          | altered changed ↦
-              elim (honest place frame d changed at-f at-v) [
-                | inl mine ↦ inl mine
-                | inr right ↦ inr (λ k number.
-                    let rs = records_of (take place run.verdicts) in
-                    let its = number_behind source.sealer all first run.ends.receiver.demand begins rs in
-                    let same : first + length rs ≡ k = omega (arith, number, its) in
-                    ap (λ n. slice_get all n) (sym same) ∙ right)
-              ]
-        ];
+  attempt_in : (first : ℕ) (rs : List Record) → AreRecords rs → ((k : ℕ) (r : Record) → slice_get (take is.count all) k ≡ Some r → slice_get rs k ≡ Some r)
+      → HasKey source.sealer run.ends.receiver → DemandsAfter source.sealer rs first run.ends.receiver.demand → AlteredCarry first rs
+      → IsAttemptAfter source.sealer rs first (attempt_of run)
+  attempt_in first rs are inside has_key begins honest = record {
+    are = are;
+    tries = record {
+      has_key = has_key;
+      judged = is.judged;
+      no_forgery = λ place frame d at-f at-v.
+          elim (origin is.frames source.plan place frame (on_wire place frame at-f)) [
+            | own k at-k ↦
+                let it = sealed_of source k (get_or (take is.count all) k records.Close) frame in
+                inl (record { k = k; it = it; sealed = among source.sealer (take is.count all) rs k it (inside k) (one_of source (take is.count all) is.frames is.sealed k frame at-k); is = refl })
+            | altered changed ↦
+                elim (honest place frame d changed at-f at-v) [
+                  | inl mine ↦ inl mine
+                  | inr right ↦ inr (λ k number.
+                      let accepted = records_of (take place run.verdicts) in
+                      let its = number_behind source.sealer rs first run.ends.receiver.demand begins accepted in
+                      let same : first + length accepted ≡ k = omega (arith, number, its) in
+                      ap (λ n. slice_get rs n) (sym same) ∙ right)
+                ]
+          ];
+    };
     begins = begins;
   }
 
-  pub run_fits : IsWithinLimits source → RecordsFit (sender.records source)
-  run_fits fits k r at =
-      let fitting = groups_fit source.batch source.texts (text_groups source) (groups_of_source source) fits.batch fits.texts in
-      fits_at (sealed_count source.sealer.next (length (text_groups source))) (text_groups source) k r fitting at
-
   -- of all records that the sender is to seal
-  pub run_stands : (first : ℕ) → run.ends.receiver.opener.etype ≡ source.sealer.etype → run.ends.receiver.opener.key ≡ source.sealer.key → BeginsBehind source.sealer (sender.records source) first run.ends.receiver.demand
-      → AlteredAreHonestBehind first run → Stands source.sealer (sender.records source) first (attempt_of run)
-  run_stands first etype key begins honest =
-      stands_in first (sender.records source) (λ k r at. slice_get-take is.count k (sender.records source) r at) (close_is_last (sealed_groups source)) etype key begins
-      (λ place frame d changed at-f at-v. elim (honest place frame d changed at-f at-v) [ inl mine ↦ inl (own_one source frame mine) | inr right ↦ inr right ])
+  pub run_attempt : (first : ℕ) → HasKey source.sealer run.ends.receiver → DemandsAfter source.sealer all first run.ends.receiver.demand → AlteredAreHonestBehind first run
+      → IsAttemptAfter source.sealer all first (attempt_of run)
+  run_attempt first has_key begins honest =
+      attempt_in first all (are_records source) (λ k r at. slice_get-take is.count k all r at) has_key begins
+      (λ place frame d changed at-f at-v. elim (honest place frame d changed at-f at-v) [
+        | inl mine ↦ inl (record {
+          k = mine.k;
+          it = sealed_of source mine.k mine.carried frame;
+          sealed = its_frame source all mine.k mine.carried frame mine.there mine.is;
+          is = refl;
+        })
+        | inr right ↦ inr right
+      ])
 
-  pub paired_stands : IsPaired run.ends → AlteredAreHonest run → Stands source.sealer (sender.records source) 0 (attempt_of run)
-  paired_stands paired honest =
-      run_stands 0 paired.etype paired.key (paired_begins run.ends (sender.records source) paired) (λ place frame d changed at-f at.
+  pub paired_key : IsPaired run.ends → HasKey source.sealer run.ends.receiver
+  paired_key paired = record { etype = paired.etype; key = paired.key }
+
+  pub paired_attempt : IsPaired run.ends → AlteredAreHonest run → IsAttemptAfter source.sealer all 0 (attempt_of run)
+  paired_attempt paired honest =
+      run_attempt 0 (paired_key paired) (paired_begins run.ends all paired) (λ place frame d changed at-f at.
       let n : 0 + length (records_of (take place run.verdicts)) ≡ length (records_of (take place run.verdicts)) = omega arith in
       rw n (honest place frame d changed at-f at))
 
-  pub records_prefix : IsPaired run.ends → AlteredAreHonest run → IsPrefix (records_of run.verdicts) (sender.records source)
-  records_prefix paired honest = accepted_prefix source.sealer (sender.records source) 0 (attempt_of run) (paired_stands paired honest)
+  pub records_prefix : IsPaired run.ends → AlteredAreHonest run → IsPrefix (records_of run.verdicts) all
+  records_prefix paired honest = accepted_prefix source.sealer all 0 (attempt_of run) (paired_attempt paired honest)
 
   -- and without a plan, of those that were sealed until then
-  pub sealed_prefix : IsPaired run.ends → source.plan ≡ None → IsPrefix (records_of run.verdicts) (take is.count (sender.records source))
+  pub sealed_prefix : IsPaired run.ends → source.plan ≡ None → IsPrefix (records_of run.verdicts) (take is.count all)
   sealed_prefix paired none =
-      let some = take is.count (sender.records source) in
+      let some = take is.count all in
       accepted_prefix source.sealer some 0 (attempt_of run)
-      (stands_in 0 some (λ k r at. at) (its_last source is.count is.frames is.sealed) paired.etype paired.key (paired_begins run.ends some paired)
+      (attempt_in 0 some (some_records source is.count) (λ k r at. at) (paired_key paired) (paired_begins run.ends some paired)
       (λ place frame d changed at-f at. absurd (let e : false ≡ true = ap (λ p. altered_at p place) (sym none) ∙ changed in cc)))

@@ -1,6 +1,6 @@
 use Rattle.krb_peers.proofs.SourceLemmas.{records_prefix}
 use Rattle.krb_peers.proofs.CarriedLemmas.{goes_on_in_order, in_order_prefix, goes_on_whole}
-use Rattle.krb_peers.proofs.carried.going_on_laws.Goals as goal
+use Rattle.krb_peers.proofs.planned.going_on_laws.Goals as goal
 
 pub returns : goal.returns
 returns c = record {

@@ -1,6 +1,6 @@
 use Rattle.std.proofs.Common.{refl}
 use Rattle.krb_peers.proofs.WholeLemmas.{claims_of, relayed_of, one_whole}
-use Rattle.krb_peers.proofs.headline.relay_laws.Goals as goal
+use Rattle.krb_peers.proofs.relay.relay_laws.Goals as goal
 
 pub returns : goal.returns
 returns c = record {

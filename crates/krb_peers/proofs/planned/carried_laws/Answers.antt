@@ -1,6 +1,6 @@
 use Rattle.std.proofs.Common.{arith}
 use Rattle.krb_peers.proofs.CarriedLemmas.{carried_demands, carried_whole, undisturbed_carried, undisturbed_honest}
-use Rattle.krb_peers.proofs.carried.carried_laws.Goals as goal
+use Rattle.krb_peers.proofs.planned.carried_laws.Goals as goal
 
 pub returns : goal.returns
 returns c = record {

@@ -1,6 +1,6 @@
 use Rattle.std.proofs.Common.{◌+◌, ap}
 use Rattle.krb_peers.proofs.CarriedLemmas.{calm_none_refused, calm_records, as_many, calm_whole}
-use Rattle.krb_peers.proofs.headline.undisturbed_laws.Goals as goal
+use Rattle.krb_peers.proofs.planned.undisturbed_laws.Goals as goal
 
 pub returns : goal.returns
 returns c = record {
