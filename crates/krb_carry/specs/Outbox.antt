@@ -113,7 +113,7 @@ with_frames outbox sealing left =
       frames = outbox.frames ++ numbered sealing.from sealing.sealed;
     }
 
--- Nothing is put in after the close. A process takes what it sealed from the front of what waits.
+-- Nothing is put in after the close. A process takes what it sealed from the oldest of what waits.
 -- Compare-and-set: its transaction takes effect, which it may only if the stored number is that from
 -- which it sealed. Or nothing changes.
 abbrev pub Acts : Outbox → Act → Outbox → Type 0

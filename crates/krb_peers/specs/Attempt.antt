@@ -64,15 +64,15 @@ pub record IsAttemptAfter (sealer : SealerState) (records : List Record) (first 
   pub tries : IsAttempt sealer records attempt
   pub begins : DemandsAfter sealer records first (begins_at attempt)
 
--- if record k is demanded at a place, then what is sealed of it at this timestamp is taken there in
--- agreement: of mode and addresses, and within the skew
+-- where record k is demanded at a place, both ends agree on mode and addresses, and what is taken
+-- there is within the skew of the timestamp at which it was sealed
 abbrev pub AgreesWhereDemanded : SealerState → Attempt → ℕ → ℕ → ℕ → Type 0
 AgreesWhereDemanded sealer attempt k place at =
     (demand_at attempt place).expected ≡ sealer.next + k
     → Agree sealer.session attempt.receiver.opener.expect at (moment_at attempt.nows place)
 
 -- Of the records from `first` on and below `end`, each is taken as a frame that is sealed of it,
--- somewhere after the one before.
+-- somewhere after the one before, in agreement where it is demanded.
 pub record TakesInTurn (sealer : SealerState) (records : List Record) (first end : ℕ)
     (attempt : Attempt) : Type 0 where
   pub place : ℕ → ℕ
@@ -84,8 +84,8 @@ pub record TakesInTurn (sealer : SealerState) (records : List Record) (first end
   pub agree : (k : ℕ) → first ≤ k → k < end
       → AgreesWhereDemanded sealer attempt k (place k) (its k).at
 
--- Of each record a frame is sealed, and a new receiver can take them all, one after the other, in
--- agreement.
+-- Of each record a frame is sealed, and a new receiver that takes them all, one after the other,
+-- agrees on each.
 pub record CanTakeAll (sealer : SealerState) (records : List Record) (sealed : List Sealed)
     (receiver : ReceiverState) (nows : List ℕ) : Type 0 where
   pub are : AreRecords records
