@@ -14,7 +14,7 @@ use Rattle.krb_peers.specs.declared.log.Status.{Status}
 use Rattle.krb_peers.specs.Log.{entries_for, events_of as events_in, has_closed, new_log, status_of, ended_at}
 use Rattle.krb_peers.specs.LogState.{LogState}
 use Rattle.krb_peers.specs.ReceiverState.{ReceiverState}
-use Rattle.krb_peers.specs.Sender.{moment_at}
+use Rattle.krb_peers.specs.Moments.{moment_at}
 use Rattle.krb_peers.specs.Receiver.{verdict_by}
 use Rattle.krb_peers.specs.Logged.{noted, IsShut}
 use Rattle.krb_peers.specs.Verdicts.{Verdict, AreJudged, events_by, events_from}

@@ -3,7 +3,7 @@
 ghost use Rattle.std.specs.Prelude.{◌≡◌, ◌+◌, ◌<◌, ◌≤◌, ◌∷◌, ◌++◌, [], false, ℕ, List, length, map, IsSome, IfOk, IfErr, OnOk, Some};
 ghost use Rattle.krb_etype.specs.Etype.{number_of};
 ghost use Rattle.krb_seal.specs.Session.{HasShortAddresses};
-ghost use Rattle.krb_peers.specs.Premises.{IsPaired};
+ghost use Rattle.krb_peers.specs.Planned.{IsPaired};
 ghost use Rattle.krb_peers.specs.Ends.{lanes_of};
 ghost use Rattle.krb_job.specs.SenderKeys.{Sender};
 ghost use Rattle.krb_job.specs.SenderView.{sender_view};

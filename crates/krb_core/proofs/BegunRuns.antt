@@ -6,7 +6,7 @@ use Rattle.krb_peers.specs.declared.log.Entry.{Entry}
 use Rattle.krb_peers.specs.declared.sending.Sent.{Sent}
 use Rattle.krb_peers.specs.Sender.{records}
 use Rattle.krb_peers.specs.Verdicts.{groups_of}
-use Rattle.krb_peers.specs.Claims.{has_ended}
+use Rattle.krb_peers.specs.Log.{has_ended}
 use Rattle.krb_peers.specs.Ends.{Ends, sents_of}
 use Rattle.krb_peers.specs.Run.{Run, IsRun, AreRuns}
 use Rattle.krb_peers.specs.Rounds.{rounds}

@@ -10,11 +10,11 @@ use Rattle.krb_peers.specs.Log.{ended_at}
 use Rattle.krb_peers.specs.LogState.{LogState}
 use Rattle.krb_peers.specs.ReceiverState.{ReceiverState}
 use Rattle.krb_peers.specs.Receiver.{receiver_behind}
-use Rattle.krb_peers.specs.Sender.{moment_at}
+use Rattle.krb_peers.specs.Moments.{moment_at}
 use Rattle.krb_peers.specs.Ends.{Ends}
 use Rattle.krb_core.specs.Start.{AreBegun}
 use Rattle.krb_core.specs.Relayed.{HasTurned}
-use Rattle.krb_peers.specs.Claims.{has_ended}
+use Rattle.krb_peers.specs.Log.{has_ended}
 use Rattle.krb_core.specs.Track.{TrackState, after_send, after_take}
 use Rattle.krb_peers.specs.Receiver.{verdict_by}
 use Rattle.krb_peers.specs.Logged.{noted}

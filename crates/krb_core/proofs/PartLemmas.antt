@@ -11,7 +11,7 @@ use Rattle.krb_core.specs.declared.turn.Turn.TheVariants.{Send, Take}
 use Rattle.krb_peers.specs.Demand.{Demand}
 use Rattle.krb_peers.specs.LogState.{LogState}
 use Rattle.krb_peers.specs.Plan.{wire}
-use Rattle.krb_peers.specs.Sender.{moment_at}
+use Rattle.krb_peers.specs.Moments.{moment_at}
 use Rattle.krb_peers.specs.Order.{demand_after}
 use Rattle.krb_peers.specs.Verdicts.{AllBytes, events_by, groups_of, accepted_by, verdict, verdicts}
 use Rattle.krb_peers.specs.Ends.{Ends}

@@ -18,7 +18,7 @@ use Rattle.krb_peers.specs.Plan.{wire}
 use Rattle.krb_peers.specs.Sender.{sealed_texts, AreFrames}
 use Rattle.krb_peers.specs.Sender as sender
 use Rattle.krb_peers.specs.Run.{IsRun}
-use Rattle.krb_peers.specs.Undisturbed.{TakesAll}
+use Rattle.krb_peers.specs.Wire.{TakesAll}
 use Rattle.krb_core.specs.Track.{TrackState, verdict_now, log_behind}
 use Rattle.krb_peers.specs.Logged.{entries_by}
 use Rattle.krb_core.specs.TrackPlaces.{items_of}
@@ -27,7 +27,7 @@ use Rattle.krb_peers.specs.Ends.{Ends, sents_of}
 use Rattle.krb_core.specs.Start.{AreBegun}
 use Rattle.krb_core.specs.Stepped.{Relay, lane_of, event_of, track_behind, turned_at, turned, after}
 use Rattle.krb_core.specs.Relayed.{HasBegun, HasTurned, event_at, turned_events, Taking, taking_of, taking_at, takings, entries_in, run_of, IsLane, OfEachLane, HaveHeadline, GoesOn, KeepsHeadline}
-use Rattle.krb_peers.specs.Claims.{has_ended}
+use Rattle.krb_peers.specs.Log.{has_ended}
 use Rattle.krb_peers.proofs.ClaimLemmas.{headline_of}
 use Rattle.krb_core.proofs.TrackLemmas.{no_end}
 use Rattle.krb_core.proofs.RelayedLemmas.{frames-take, Stands, stand_all, stand_begun, begun_at}

@@ -15,7 +15,7 @@ use Rattle.krb_peers.specs.Log.{ended_at, new_log}
 use Rattle.krb_peers.specs.LogState.{LogState}
 use Rattle.krb_peers.specs.ReceiverState.{ReceiverState}
 use Rattle.krb_peers.specs.Receiver.{receiver_behind}
-use Rattle.krb_peers.specs.Sender.{moment_at}
+use Rattle.krb_peers.specs.Moments.{moment_at}
 use Rattle.krb_peers.specs.Order.{demand_after}
 use Rattle.krb_peers.specs.Verdicts.{Verdict, AllBytes, IsVerdict, records_of}
 use Rattle.krb_core.specs.Track.{TrackState, item_at, next_send, after_send, verdict_now, receiver_after, after_take, log_behind, log_after}
@@ -26,7 +26,7 @@ use Rattle.krb_peers.specs.Ends.{Ends}
 use Rattle.krb_peers.specs.Wire.{IsWire}
 use Rattle.krb_core.specs.Start.{fresh, IsBegun, AreBegun}
 use Rattle.krb_core.specs.Stepped.{Relay, lane_of, track_behind, log_behind_turn, turned_at, turned, after}
-use Rattle.krb_peers.specs.Claims.{has_ended}
+use Rattle.krb_peers.specs.Log.{has_ended}
 use Rattle.krb_core.specs.Relayed.{HasBegun, HasTurned, IsLogged}
 use Rattle.krb_peers.proofs.VerdictLemmas.{right_verdict}
 use Rattle.krb_core.proofs.TrackLemmas.{take-item, with_end}

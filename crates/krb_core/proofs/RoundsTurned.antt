@@ -15,7 +15,7 @@ use Rattle.krb_peers.specs.Log.{ended_at}
 use Rattle.krb_peers.specs.LogState.{LogState}
 use Rattle.krb_peers.specs.ReceiverState.{ReceiverState}
 use Rattle.krb_peers.specs.Receiver.{receiver_behind}
-use Rattle.krb_peers.specs.Sender.{moment_at}
+use Rattle.krb_peers.specs.Moments.{moment_at}
 use Rattle.krb_core.specs.Start.{fresh, AreBegun}
 use Rattle.krb_peers.specs.Ends.{Ends}
 use Rattle.krb_core.specs.Relayed.{HasTurned}

@@ -13,7 +13,7 @@ use Rattle.krb_peers.specs.ReceiverState.{ReceiverState}
 use Rattle.krb_peers.specs.Receiver.{receiver_behind}
 use Rattle.krb_peers.specs.Log.{ended_at}
 use Rattle.krb_peers.specs.Plan.{contents}
-use Rattle.krb_peers.specs.Sender.{moment_at}
+use Rattle.krb_peers.specs.Moments.{moment_at}
 use Rattle.krb_core.specs.Track.{TrackState, item_of, item_at, next_send, after_send, receiver_after, after_take, log_behind, log_after, LogsFront}
 use Rattle.krb_peers.specs.Receiver.{verdict_by}
 use Rattle.krb_peers.specs.Logged.{noted, LogsNext}

@@ -1,7 +1,7 @@
 -- What holds of a stepped relay after any turns.
 use Rattle.std.specs.Prelude.{◌≡◌, ℕ, List}
 use Rattle.krb_base.specs.Lane.{has_end}
-use Rattle.krb_peers.specs.Claims.{has_ended}
+use Rattle.krb_peers.specs.Log.{has_ended}
 use Rattle.krb_peers.specs.Ends.{Ends, sents_of}
 use Rattle.krb_core.specs.declared.turn.Turn.{Turn}
 use Rattle.krb_core.specs.Stepped.{Relay}

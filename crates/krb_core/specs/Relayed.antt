@@ -12,7 +12,7 @@ use Rattle.krb_core.specs.declared.turn.Turn.TheVariants.{Send, Take}
 use Rattle.krb_peers.specs.Log.{new_log}
 use Rattle.krb_peers.specs.LogState.{LogState}
 use Rattle.krb_peers.specs.Verdicts.{Verdict}
-use Rattle.krb_peers.specs.Claims.{Headline}
+use Rattle.krb_peers.specs.Planned.{Headline}
 use Rattle.krb_peers.specs.ReceiverState.{ReceiverState}
 use Rattle.krb_peers.specs.Run.{Run}
 use Rattle.krb_core.specs.Track.{TrackState, verdict_now}

@@ -6,7 +6,7 @@ use Rattle.krb_peers.specs.LogState.{LogState}
 use Rattle.krb_peers.specs.ReceiverState.{ReceiverState}
 use Rattle.krb_peers.specs.Logged.{noted, LogsNext}
 use Rattle.krb_peers.specs.Receiver.{verdict_by, receiver_behind}
-use Rattle.krb_peers.specs.Sender.{moment_at}
+use Rattle.krb_peers.specs.Moments.{moment_at}
 use Rattle.krb_peers.specs.Verdicts.{Verdict}
 
 -- what its sender emits, how far that has come, what takes it, and when

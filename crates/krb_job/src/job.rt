@@ -7,8 +7,7 @@ ghost use Rattle.krb_seal.specs.Session.{IsShortAddress};
 ghost use Rattle.krb_job.specs.Limits.{IsKeyOf, AreShortTexts};
 ghost use Rattle.krb_job.specs.SenderKeys.{seals, opens};
 
-use krb_base::Secret;
-use krb_base::Bytes;
+use krb_base::{Bytes, Secret};
 use krb_der::{HostAddress, Moment};
 use krb_peers::Emit;
 use krb_seal::Mode;

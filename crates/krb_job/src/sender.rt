@@ -15,13 +15,12 @@ ghost use Rattle.krb_job.specs.SenderView.{keys_of, protection_view, parties_vie
 use crate::job::{Command, SenderJob};
 use crate::parts::{Parties, Protection};
 use crate::place::{KeyError, Place, SENDER_KEYS};
-use krb_base::Secret;
 use crate::table::{
     address, batch, etype, flag, frames, has_only, mode, moments, moments_if, needed, number, plan,
     seed, texts,
 };
 use crate::values::read_secret;
-use krb_base::SKEW_LIMIT;
+use krb_base::{SKEW_LIMIT, Secret};
 use krb_seal::Etype;
 use std::alloc::Global;
 use toml::{Table, Value};

@@ -9,10 +9,9 @@ ghost use Rattle.krb_job.specs.Job.{are_senders, most_senders, has_top_keys};
 
 use crate::bad_input::{BadInput, JobError};
 use crate::job::Command;
-use krb_base::Secret;
 use crate::table::{get, has_only};
 use crate::values::read_number;
-use krb_base::{CAPACITY_LIMIT, LANE_LIMIT};
+use krb_base::{CAPACITY_LIMIT, LANE_LIMIT, Secret};
 use std::alloc::Global;
 use toml::value::Array;
 use toml::{Table, Value};

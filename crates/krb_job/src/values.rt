@@ -103,12 +103,7 @@ pub(crate) fn read_secret(
 }
 
 /// The same of its digits.
-fn decode_secret(
-    alloc: Global,
-    place: Place,
-    text: &[u8],
-    size: usize,
-) -> Result<Secret, KeyError>
+fn decode_secret(alloc: Global, place: Place, text: &[u8], size: usize) -> Result<Secret, KeyError>
     ensures { Gives (λ b. b) result (ok_or (hex_of size size text.now) place) }
 {
     let mut bytes = vec![in alloc; 0; text.len() / 2]?;

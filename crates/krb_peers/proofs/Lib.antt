@@ -6,6 +6,12 @@ pub mod LogLemmas
 pub mod DrawsLemmas
 pub mod VerdictLemmas
 pub mod LoggedLemmas
+pub mod AnswerLemmas
+pub mod FrameLemmas
+pub mod AttemptLemmas
+pub mod HappenLemmas
+pub mod MomentLemmas
+pub mod SourceLemmas
 pub mod HeadlineLemmas
 pub mod UndisturbedLemmas
 pub mod CarriedLemmas

@@ -14,7 +14,7 @@ use Rattle.krb_peers.specs.Log.{entries_for, events_of, has_closed, texts_in}
 use Rattle.krb_peers.specs.LogState.{LogState}
 use Rattle.krb_peers.specs.ReceiverState.{ReceiverState}
 use Rattle.krb_peers.specs.Receiver.{receiver_behind}
-use Rattle.krb_peers.specs.Sender.{moment_at}
+use Rattle.krb_peers.specs.Moments.{moment_at}
 use Rattle.krb_peers.specs.Order.{demand_after}
 use Rattle.krb_peers.specs.Verdicts.{Verdict, IsVerdict, accepted_by, events_by, records_of}
 use Rattle.krb_peers.specs.Verdicts as verdict

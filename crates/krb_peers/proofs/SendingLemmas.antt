@@ -18,7 +18,8 @@ use Rattle.krb_record.specs.declared.record.Record.{Record}
 use Rattle.krb_record.specs.declared.record.Record.TheVariants.{Close}
 use Rattle.krb_record.specs.Record.{bytes_of, FitsLimits, record_for}
 use Rattle.krb_peers.specs.Draws.{after_words, confounder_at}
-use Rattle.krb_peers.specs.Sender.{Source, IsWithinLimits, text_groups, texts_of_groups, sealed_count, sealed_groups, group_behind, texts_before, record_at, records_for, records, moment_at, IsFrame, AreFrames}
+use Rattle.krb_peers.specs.Sender.{Source, IsWithinLimits, text_groups, texts_of_groups, sealed_count, sealed_groups, group_behind, texts_before, record_at, records_for, records, IsFrame, AreFrames}
+use Rattle.krb_peers.specs.Moments.{moment_at}
 use Rattle.krb_peers.specs.Sending.{before, behind, HasSealed, StandsAfterSome}
 use Rattle.krb_peers.proofs.DrawsLemmas.{confounder_at-later, after_words-add}
 use Rattle.krb_peers.proofs.ListLemmas.{slice_get-front, slice_get-end, lt_or_same, slice_get-take, take-below, length-take, get_or-take}

@@ -21,7 +21,7 @@ use Rattle.krb_peers.specs.declared.delivery.Delivery.{Delivery}
 use Rattle.krb_peers.specs.declared.delivery.Delivery.TheVariants.{Text, Batch, Closed}
 use Rattle.krb_peers.specs.Demand.{Demand}
 use Rattle.krb_record.specs.Record.{SpellsRecord, is_close}
-use Rattle.krb_peers.specs.Sender.{moment_at}
+use Rattle.krb_peers.specs.Moments.{moment_at}
 use Rattle.krb_peers.specs.Order.{demand_after}
 use Rattle.krb_peers.specs.Verdicts.{Verdict, AllBytes, record_of, accepted_by, records_of, IsNoRecord, IsVerdict, AreVerdicts, delivery_in, judged, verdict_on, verdict, verdicts}
 use Rattle.krb_peers.proofs.OrderLemmas.{demand_after-nil, demand_after-append}

@@ -6,7 +6,7 @@ use Rattle.krb_peers.specs.LogState.{LogState}
 use Rattle.krb_peers.specs.Plan.{wire}
 use Rattle.krb_peers.specs.Sender.{AreFrames, records}
 use Rattle.krb_peers.specs.Verdicts.{Verdict, events_from, groups_of, verdicts}
-use Rattle.krb_peers.specs.Claims.{Headline}
+use Rattle.krb_peers.specs.Planned.{Headline}
 use Rattle.krb_peers.specs.Ends.{Ends}
 use Rattle.krb_peers.specs.Rounds.{joined, list_of}
 use Rattle.krb_peers.specs.Run.{Run, IsRun, AreRuns, OfRuns}

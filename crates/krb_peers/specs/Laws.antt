@@ -1,7 +1,7 @@
 -- What holds of senders, receivers and logs: what the laws state.
-use Rattle.std.specs.Prelude.{◌≡◌, ◌↔◌, ◌<◌, ℕ, suc, ◌+◌, List, [], ◌∷◌, ◌++◌, length, take}
-use Rattle.std.specs.Prelude.{All, IsOk, None}
-use Rattle.std.specs.List.{Contains, flat_map}
+use Rattle.std.specs.Prelude.{◌≡◌, ◌↔◌, ◌<◌, ℕ, suc, ◌+◌, ◌≤◌, List, [], ◌∷◌, ◌++◌, length, take}
+use Rattle.std.specs.Prelude.{All, IsOk, drop}
+use Rattle.std.specs.List.{Contains, flat_map, list_any}
 use Rattle.krb_base.specs.Prefix.{IsPrefix}
 use Rattle.krb_base.specs.Bytes.{AreBytes}
 use Rattle.krb_seal.specs.Opens.{OpenerState}
@@ -10,25 +10,27 @@ use Rattle.krb_record.specs.declared.record.Record.TheVariants.{Close}
 use Rattle.krb_peers.specs.declared.log.Event.{Event}
 use Rattle.krb_peers.specs.declared.log.Entry.{Entry}
 use Rattle.krb_peers.specs.declared.sending.Sent.{Sent}
-use Rattle.krb_record.specs.Record.{texts_of}
+use Rattle.krb_seal.specs.Sealer.{SealerState}
+use Rattle.krb_record.specs.Record.{texts_of, is_close}
 use Rattle.krb_peers.specs.Demand.{Demand}
 use Rattle.krb_peers.specs.Order.{Offer, Answer, answers_to, first_demand, demand_after}
 use Rattle.krb_peers.specs.Accepted.{Accepted, accepted_of, AreNumbered, EndsWithItsClose}
-use Rattle.krb_peers.specs.Sender.{Source, IsWithinLimits, AreFrames, moment_at, records}
+use Rattle.krb_peers.specs.Sender.{Source, AreFrames}
+use Rattle.krb_peers.specs.Moments.{moment_at}
 use Rattle.krb_peers.specs.ReceiverState.{ReceiverState}
 use Rattle.krb_peers.specs.Verdicts.{Verdict, AllBytes, AreVerdicts, AreJudged, IsVerdict, verdict}
 use Rattle.krb_peers.specs.Verdicts.{verdicts, records_of, events_from}
 use Rattle.krb_peers.specs.Log.{events_of, entries_for}
+use Rattle.krb_peers.specs.Session.{FitLimits, Sealed, frames_in}
+use Rattle.krb_peers.specs.Attempt.{Attempt, ends_at, demand_at, IsAttempt, IsAttemptAfter}
+use Rattle.krb_peers.specs.Attempt.{TakesInTurn, CanTakeAll}
 use Rattle.krb_peers.specs.LogState.{LogState}
 use Rattle.krb_peers.specs.Logged.{HasLogged, IsShut}
 use Rattle.krb_peers.specs.Ends.{Ends}
-use Rattle.krb_peers.specs.Run.{Run, IsRun, AreRuns, OfRuns}
-use Rattle.krb_peers.specs.Premises.{IsPaired, AlteredAreHonest}
-use Rattle.krb_peers.specs.Undisturbed.{Undisturbed, TakesAll}
-use Rattle.krb_peers.specs.Carried.{ComeInTurn, Carried, AcceptInOrder, GoesOnBehind}
-use Rattle.krb_peers.specs.Carried.{AlteredAreHonestBehind}
-use Rattle.krb_peers.specs.Claims.{DeliversPrefix, DeliversAll, DeliversWhole, NothingAfterClose}
-use Rattle.krb_peers.specs.Claims.{AllWhereClosed, RefusesExactly, RefusalsDeliverNothing, Headline}
+use Rattle.krb_peers.specs.Run.{Run, AreRuns, OfRuns}
+use Rattle.krb_peers.specs.Claims.{NothingAfterClose, RefusesExactly, RefusalsDeliverNothing}
+use Rattle.krb_peers.specs.Claims.{FramesHeadline}
+use Rattle.krb_peers.specs.Planned.{Headline}
 use Rattle.krb_peers.specs.Rounds.{AreRounds, joined, list_of, rounds, rounds_below, NoneLonger}
 use Rattle.krb_peers.specs.Whole.{rounds_of, EndsWhole, IsRelayed, IsWhole}
 
@@ -109,30 +111,13 @@ abbrev pub OneListOfFrames : Type 0
 OneListOfFrames = (source : Source) (records : List Record) (some others : List (List ℕ))
     → AreFrames source records some → AreFrames source records others → some ≡ others
 
--- ---- the claims of a lane, over the verdicts of any run
-
--- it holds of each run of a paired lane in which altered frames are honest
-abbrev pub OfEachRun : (Source → List Event → Type 0) → Type 0
-OfEachRun Claim =
-    (run : Run) → IsPaired run.ends → IsRun run → AlteredAreHonest run
-    → Claim run.ends.source (events_from run.verdicts)
+-- ---- the claims that rest on no premise
 
 -- it holds of the verdicts on any frames
 abbrev pub OfVerdicts : (ReceiverState → List ℕ → List (List ℕ) → List Verdict → Type 0) → Type 0
 OfVerdicts Claim =
     (start : ReceiverState) (nows : List ℕ) (took : List (List ℕ)) (answers : List Verdict)
     → AreJudged start nows took answers → Claim start nows took answers
-
--- without a plan, what is accepted is a prefix of the records that were sealed until then
-abbrev pub AcceptsSealedOnly : Type 0
-AcceptsSealedOnly = (run : Run) → IsPaired run.ends → (is : IsRun run) → run.ends.source.plan ≡ None
-    → IsPrefix (records_of run.verdicts) (take is.count (records run.ends.source))
-
-abbrev pub RunsDeliverPrefix : Type 0
-RunsDeliverPrefix = OfEachRun DeliversPrefix
-
-abbrev pub RunsDeliverAllWhereClosed : Type 0
-RunsDeliverAllWhereClosed = OfEachRun AllWhereClosed
 
 abbrev pub VerdictsAreQuietAfterClose : Type 0
 VerdictsAreQuietAfterClose =
@@ -146,95 +131,60 @@ VerdictsOfRefusalsDeliverNothing =
     (start : Demand) (answers : List Verdict)
     → RefusalsDeliverNothing start answers (events_from answers)
 
--- ---- a clean lane
+-- ---- a session whose frames anyone brings
 
--- it holds of each run of such a lane
-abbrev pub OfUndisturbed : (Run → Type 0) → Type 0
-OfUndisturbed Claim =
-    (run : Run) → Undisturbed run.ends → IsWithinLimits run.ends.source → IsRun run → Claim run
+-- it holds of each attempt at the records of a session
+abbrev pub OfAttempts : (SealerState → List Record → ℕ → Attempt → Type 0) → Type 0
+OfAttempts Claim =
+    (sealer : SealerState) (records : List Record) (first : ℕ) (attempt : Attempt)
+    → IsAttemptAfter sealer records first attempt → Claim sealer records first attempt
 
-abbrev pub NoneIsRefused : Type 0
-NoneIsRefused = OfUndisturbed (λ run. All IsOk run.verdicts)
+-- the headline holds of the events that any verdicts bring, as a log has them
+abbrev pub FramesHaveHeadline : Type 0
+FramesHaveHeadline =
+    (sealer : SealerState) (records : List Record) (first : ℕ) (attempt : Attempt)
+    (events : List Event)
+    → AreJudged attempt.receiver attempt.nows attempt.took attempt.verdicts
+    → events ≡ events_from attempt.verdicts
+    → FramesHeadline sealer records first attempt events
 
--- the first records are accepted, one for each frame that was taken
-abbrev pub AcceptsFirstRecords : Type 0
-AcceptsFirstRecords =
-    OfUndisturbed
-    (λ run. records_of run.verdicts ≡ take (length run.took) (records run.ends.source))
+-- together with the first records, what is accepted are the first records
+abbrev pub AttemptsAcceptInOrder : Type 0
+AttemptsAcceptInOrder = OfAttempts (λ sealer records first attempt.
+    let accepted = records_of attempt.verdicts in
+    (first + length accepted ≤ length records)
+    × (take first records ++ accepted ≡ take (first + length accepted) records))
 
--- and the number after them is demanded
-abbrev pub DemandsNumberBehind : Type 0
-DemandsNumberBehind = OfUndisturbed (λ run.
-    (demand_after run.ends.receiver.demand (records_of run.verdicts)).expected
-    ≡ run.ends.receiver.demand.expected + length run.took)
+-- after record k in its turn, a number after its own is demanded
+abbrev pub AttemptsDemandInTurn : Type 0
+AttemptsDemandInTurn = OfAttempts (λ sealer records first attempt.
+    (end : ℕ) (turn : TakesInTurn sealer records first end attempt) (k : ℕ) → FitLimits records
+    → first ≤ k → k < end
+    → sealer.next + k < (demand_at attempt (suc (turn.place k))).expected)
 
--- all texts are delivered if all frames were taken
-abbrev pub DeliversAllThatIsTaken : Type 0
-DeliversAllThatIsTaken =
-    OfUndisturbed (λ run. TakesAll run.ends.source run.took
-    → DeliversAll run.ends.source (events_from run.verdicts))
+-- all of the rest is accepted if each record of it comes in its turn
+abbrev pub AttemptsAcceptRest : Type 0
+AttemptsAcceptRest = OfAttempts (λ sealer records first attempt.
+    FitLimits records → TakesInTurn sealer records first (length records) attempt
+    → (records_of attempt.verdicts ≡ drop first records)
+    × ((ends_at attempt).closed ≡ list_any is_close records))
 
--- ---- a lane whose carrier brings each frame in its turn
+-- as many of the rest as frames are taken, if these come in turn and nothing else comes
+abbrev pub AttemptsRefuseNone : Type 0
+AttemptsRefuseNone = OfAttempts (λ sealer records first attempt.
+    FitLimits records
+    → TakesInTurn sealer records first (first + length attempt.took) attempt
+    → All IsOk attempt.verdicts
+    × (records_of attempt.verdicts ≡ take (length attempt.took) (drop first records)))
 
--- it holds of each run of such a lane in which altered frames are honest
-abbrev pub OfCarried : ((run : Run) → Carried run.ends → Type 0) → Type 0
-OfCarried Claim =
-    (run : Run) (carried : Carried run.ends) → AlteredAreHonest run → IsWithinLimits run.ends.source
-    → IsRun run → Claim run carried
-
--- after frame k in its turn, a number after that of record k is demanded
-abbrev pub DemandsNumbersInTurn : Type 0
-DemandsNumbersInTurn = OfCarried (λ run carried.
-    (k : ℕ) → k < length (records run.ends.source) → carried.in_turn.place k < length run.took
-    → let start = run.ends.receiver.demand in
-    start.expected + k <
-    (demand_after start
-    (records_of (take (suc (carried.in_turn.place k)) run.verdicts))).expected)
-
--- all texts are delivered and the close is accepted if all frames were taken
-abbrev pub DeliversAllThatIsCarried : Type 0
-DeliversAllThatIsCarried =
-    OfCarried (λ run carried. TakesAll run.ends.source run.took
-    → DeliversWhole run.ends.source (events_from run.verdicts))
-
--- a clean lane is one of these, and no frame of it is altered
-abbrev pub UndisturbedIsCarried : Type 0
-UndisturbedIsCarried = (ends : Ends) → Undisturbed ends → Carried ends
-
-abbrev pub UndisturbedIsHonest : Type 0
-UndisturbedIsHonest = (run : Run) → Undisturbed run.ends → AlteredAreHonest run
-
--- ---- a receiver that continues elsewhere
-
--- a receiver of a paired lane accepts in order
-abbrev pub PairedAcceptInOrder : Type 0
-PairedAcceptInOrder =
-    (run : Run) → IsPaired run.ends → IsRun run → AlteredAreHonest run
-    → AcceptInOrder run.ends.source run.verdicts
-
--- it holds of each run that continues after verdicts that accepted in order
-abbrev pub OfGoingOn : (Source → List Verdict → Run → Type 0) → Type 0
-OfGoingOn Claim =
-    (source : Source) (before : List Verdict) (run : Run) → AcceptInOrder source before
-    → GoesOnBehind source before run.ends
-    → AlteredAreHonestBehind (length (records_of before)) run → IsRun run → Claim source before run
-
--- together they accept in order, whatever is repeated
-abbrev pub GoingOnAcceptsInOrder : Type 0
-GoingOnAcceptsInOrder =
-    OfGoingOn (λ source before run. AcceptInOrder source (before ++ run.verdicts))
-
--- so what they deliver is a prefix of the texts that were sealed
-abbrev pub InOrderDeliversPrefix : Type 0
-InOrderDeliversPrefix =
-    (source : Source) (verdicts : List Verdict) → AcceptInOrder source verdicts
-    → DeliversPrefix source (events_from verdicts)
-
--- and all of them, if the frames that weren't accepted before come in their turn
-abbrev pub GoingOnDeliversAll : Type 0
-GoingOnDeliversAll = OfGoingOn (λ source before run.
-    ComeInTurn (length (records_of before)) run.ends → TakesAll run.ends.source run.took
-    → DeliversWhole source (events_from (before ++ run.verdicts)))
+-- the premises can be met at once: a new receiver that takes all that is sealed in agreement makes an
+-- attempt, and accepts all
+abbrev pub AttemptsHappen : Type 0
+AttemptsHappen =
+    (sealer : SealerState) (records : List Record) (sealed : List Sealed)
+    (receiver : ReceiverState) (nows : List ℕ) → CanTakeAll sealer records sealed receiver nows
+    → (attempt : Attempt) × (attempt.receiver ≡ receiver) × (attempt.took ≡ frames_in sealed)
+    × IsAttempt sealer records attempt × (records_of attempt.verdicts ≡ records)
 
 -- ---- what a log has of a lane
 

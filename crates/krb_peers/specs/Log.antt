@@ -63,6 +63,10 @@ appended_all log lane events = record log { entries = log.entries ++ entries_for
 abbrev pub ended_at : LogState → ℕ → LogState
 ended_at log lane = record log { ended = slice_set log.ended lane true }
 
+-- whether the log notes that the lane's End was taken
+abbrev pub has_ended : ℕ → LogState → Bool
+has_ended lane log = slice_index_or log.ended lane false
+
 -- closed if there is a close, else truncated if the lane has ended, else live
 abbrev pub status_of : LogState → ℕ → Status
 status_of log lane =

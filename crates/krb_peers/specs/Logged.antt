@@ -4,7 +4,7 @@ use Rattle.krb_peers.specs.declared.log.Entry.{Entry}
 use Rattle.krb_peers.specs.Log.{entries_for, events_of, is_closed}
 use Rattle.krb_peers.specs.LogState.{LogState}
 use Rattle.krb_peers.specs.ReceiverState.{ReceiverState}
-use Rattle.krb_peers.specs.Sender.{moment_at}
+use Rattle.krb_peers.specs.Moments.{moment_at}
 use Rattle.krb_peers.specs.Order.{demand_after}
 use Rattle.krb_peers.specs.Verdicts.{Verdict, AreJudged, records_of, events_by, events_from}
 use Rattle.krb_peers.specs.Receiver.{verdict_by}

@@ -1,6 +1,6 @@
 -- What a sender seals.
 use Rattle.std.specs.Prelude.{◌≡◌, ℕ, ◌+◌, ◌-◌, min, List, [], ◌∷◌, ◌++◌, length, map, take, drop}
-use Rattle.std.specs.Prelude.{slice_get, slice_index, slice_index_or, nat_lt, if◌then◌else◌, Option}
+use Rattle.std.specs.Prelude.{slice_get, slice_index_or, nat_lt, if◌then◌else◌, Option}
 use Rattle.std.specs.Prelude.{Some, All, ◌≤◌}
 use Rattle.std.specs.List.{flat_map}
 use Rattle.rand_chacha.specs.ChaCha.{ChaCha}
@@ -13,6 +13,7 @@ use Rattle.krb_record.specs.declared.record.Record.TheVariants.{Close}
 use Rattle.krb_peers.specs.declared.plan.Emit.{Emit}
 use Rattle.krb_record.specs.Record.{bytes_of, record_for}
 use Rattle.krb_peers.specs.Draws.{confounder_at}
+use Rattle.krb_peers.specs.Moments.{moment_at}
 
 -- a sealer, the texts for it, how many of them go together at most, the timestamps, a generator,
 -- and the plan of the wire, if there is one
@@ -28,10 +29,6 @@ pub record Source : Type 0 where
 pub record IsWithinLimits (source : Source) : Type 0 where
   pub texts : All (λ text. length text ≤ text_limit) source.texts
   pub batch : source.batch ≤ batch_limit
-
--- the timestamp of a place in a list of timestamps: the last one serves all later places
-abbrev pub moment_at : List ℕ → ℕ → ℕ
-moment_at moments place = slice_index moments (min place (length moments - 1))
 
 -- the groups of a sender's texts
 abbrev pub text_groups : Source → List (List (List ℕ))

@@ -23,7 +23,7 @@ use Rattle.krb_peers.specs.Order.{demand_after}
 use Rattle.krb_peers.specs.ReceiverState.{ReceiverState}
 use Rattle.krb_record.specs.Record.{SpellsRecord, first_byte_of}
 use Rattle.krb_peers.specs.Log.{texts_in}
-use Rattle.krb_peers.specs.Sender.{moment_at}
+use Rattle.krb_peers.specs.Moments.{moment_at}
 
 -- a verdict: a delivery, or the refusal of the first check that the frame fails
 abbrev pub Verdict : Type 0

@@ -6,10 +6,10 @@ use Rattle.krb_peers.specs.declared.sending.Sent.{Sent}
 use Rattle.krb_peers.specs.LogState.{LogState}
 use Rattle.krb_peers.specs.Verdicts.{groups_of}
 use Rattle.krb_peers.specs.Run.{Run, AreRuns, OfRuns}
-use Rattle.krb_peers.specs.Undisturbed.{TakesAll}
-use Rattle.krb_peers.specs.Claims.{Headline, has_ended}
+use Rattle.krb_peers.specs.Log.{has_ended}
+use Rattle.krb_peers.specs.Planned.{Headline}
 use Rattle.krb_peers.specs.Ends.{Ends, sents_of}
-use Rattle.krb_peers.specs.Wire.{IsWire}
+use Rattle.krb_peers.specs.Wire.{IsWire, TakesAll}
 use Rattle.krb_peers.specs.Rounds.{rounds}
 
 -- the outcomes of the frames that were taken: of the first of each lane, by lane number, then of

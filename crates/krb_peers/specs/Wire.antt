@@ -18,3 +18,10 @@ pub record IsBad (source : Source) : Type 0 where
   pub frames : List (List ℕ)
   pub sealed : AreFrames source (records source) frames
   pub not_planned : is_planned frames source.plan ≡ false
+
+-- all frames of the wire were taken, after all records were sealed
+pub record TakesAll (source : Source) (took : List (List ℕ)) : Type 0 where
+  pub frames : List (List ℕ)
+  pub sealed : AreFrames source (records source) frames
+  pub whole : took ≡ wire frames source.plan
+  pub fits : IsWithinLimits source

@@ -5,11 +5,15 @@
 //! plan ([`emit`]) may repeat, drop, reorder or change the frames on purpose. [`emit_sealed`] does
 //! both, and [`emit_sealed_within`] calls a [`Gate`] before and after each seal call. A [`Receiver`]
 //! demands the numbers one after another ([`Order`]), and accepts nothing after a close. A [`Log`]
-//! keeps the outcomes of the frames of each lane. [`headline_laws`] says what is delivered and
-//! refused, whatever the plan; [`carried_laws`] that all is delivered if each frame comes in its
-//! turn, whatever else comes, and [`going_on_laws`] what receivers that continue one after the
-//! other deliver together. [`relay_laws`] says it of the log of any relay, stepped or on threads,
-//! that has the verdicts of all lanes in rounds.
+//! keeps the outcomes of the frames of each lane.
+//!
+//! [`frames_laws`] says what is delivered and refused of a session, whatever frames come, in any
+//! order, whoever seals and brings them. A lane of this crate, with a [`Sending`] and its plan, is one
+//! instance ([`source_laws`]). There [`headline_laws`] says what is delivered and refused, whatever
+//! the plan; [`carried_laws`] that all is delivered if each frame comes in its turn, whatever else
+//! comes, and [`going_on_laws`] what receivers that continue one after the other deliver together.
+//! [`relay_laws`] says it of the log of any relay, stepped or on threads, that has the verdicts of all
+//! lanes in rounds.
 //!
 //! ```rust crates/example_relay/src/main.rt
 //! Ok(Sending {
@@ -23,26 +27,26 @@
 //! ```
 #![tactic(auto)]
 
-mod carried;
 mod confounder;
 mod delivery;
 mod emission;
+mod frames;
 mod gate;
-mod headline;
 mod laws;
 mod log;
 mod order;
 mod plan;
+mod planned;
 mod receiver;
 mod receivers;
+mod relay;
 mod sending;
 mod start;
 
-pub use carried::{carried_laws, going_on_laws};
 pub use delivery::Delivery;
 pub use emission::emit;
+pub use frames::{attempt_laws, frames_laws};
 pub use gate::{Gate, NoGate};
-pub use headline::{headline_laws, relay_laws, undisturbed_laws};
 pub use krb_base::{BATCH_LIMIT, LAST_NUMBER, TEXT_LIMIT, USER_DATA_LIMIT};
 pub use krb_record::{
     Record, RecordError, RecordKind, Texts, read_record, record_bytes, record_laws,
@@ -51,7 +55,9 @@ pub use laws::{accepted_laws, logged_laws, rounds_laws, verdict_laws};
 pub use log::{Entry, Event, Log, Status};
 pub use order::{Order, OrderRefusal};
 pub use plan::{Emit, EmitError};
+pub use planned::{carried_laws, going_on_laws, headline_laws, source_laws, undisturbed_laws};
 pub use receiver::{Receiver, Receiving};
 pub use receivers::{Receivers, wipe_receivers};
+pub use relay::relay_laws;
 pub use sending::{Ending, Sending, Sent};
 pub use start::{StartError, emit_sealed, emit_sealed_within};

@@ -3,7 +3,7 @@
 ghost use Rattle.std.specs.Prelude.{◌≡◌, ◌+◌, ◌<◌, ◌≤◌, length, replicate, IsTrue, IfOk, OnOk, OnErr};
 ghost use Rattle.krb_base.specs.Limits.{last_number};
 ghost use Rattle.krb_record.specs.Record.{is_close};
-ghost use Rattle.krb_peers.specs.Sender.{moment_at};
+ghost use Rattle.krb_peers.specs.Moments.{moment_at};
 ghost use Rattle.krb_peers.specs.Verdicts.{IsVerdict, record_of};
 ghost use Rattle.krb_peers.specs.Order.{first_demand};
 ghost use Rattle.krb_peers.specs.Receiver.{verdict_by, IsJudgement, TakesMemory, receiver_behind, advanced};

@@ -8,7 +8,7 @@ use Rattle.krb_base.proofs.PrefixLemmas.{prefix_same}
 use Rattle.krb_lane.specs.Side.{Side}
 use Rattle.krb_peers.specs.declared.receiver.Receiving.{Receiving}
 use Rattle.krb_peers.specs.Order.{demand_after}
-use Rattle.krb_peers.specs.Sender.{moment_at}
+use Rattle.krb_peers.specs.Moments.{moment_at}
 use Rattle.krb_peers.specs.Rounds.{NoneLonger}
 use Rattle.krb_peers.specs.Verdicts.{verdict, records_of, events_by}
 use Rattle.krb_peers.proofs.RoundsLemmas.{rounds-from_below}

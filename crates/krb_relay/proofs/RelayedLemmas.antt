@@ -14,7 +14,7 @@ use Rattle.krb_peers.specs.Rounds.{rounds}
 use Rattle.krb_peers.specs.Run.{Run, IsRun, AreRuns, OfRuns}
 use Rattle.krb_peers.specs.Sender.{Source}
 use Rattle.krb_peers.specs.Sending.{sent_of}
-use Rattle.krb_peers.specs.Undisturbed.{TakesAll}
+use Rattle.krb_peers.specs.Wire.{TakesAll}
 use Rattle.krb_peers.specs.Verdicts.{AreJudged, groups_of}
 use Rattle.krb_peers.specs.Whole.{rounds_of, EndsWhole, IsWholeRun, IsWhole}
 use Rattle.krb_peers.proofs.WholeLemmas.{events_of_run, relayed_of}

@@ -7,14 +7,15 @@ use Rattle.krb_peers.specs.declared.log.Event.{Event}
 use Rattle.krb_peers.specs.Log.{events_of, texts_in}
 use Rattle.krb_peers.specs.LogState.{LogState}
 use Rattle.krb_peers.specs.Plan.{wire}
-use Rattle.krb_peers.specs.Premises.{IsPaired, AlteredAreHonest}
+use Rattle.krb_peers.specs.Planned.{IsPaired, AlteredAreHonest}
 use Rattle.krb_record.specs.Record.{texts_of}
 use Rattle.krb_peers.specs.Run.{Run, IsRun}
 use Rattle.krb_peers.specs.Sender.{records}
 use Rattle.krb_record.specs.declared.record.Record.{Record}
 use Rattle.krb_peers.specs.Verdicts.{Verdict, AreJudged, events_from, records_of}
 use Rattle.krb_peers.proofs.AcceptedPrefix.{texts_prefix}
-use Rattle.krb_peers.proofs.HeadlineLemmas.{delivered_texts, records_prefix, sealed_prefix}
+use Rattle.krb_peers.proofs.AnswerLemmas.{delivered_texts}
+use Rattle.krb_peers.proofs.SourceLemmas.{records_prefix, sealed_prefix}
 use Rattle.krb_relay.specs.Sealed.{DeliversSealed, first_texts}
 use Rattle.krb_relay.specs.Sent.{IsFront}
 

@@ -7,7 +7,7 @@ use Rattle.std.proofs.lemmas.Bool.Decides.{eqb_tells}
 use Rattle.krb_lane.specs.Side.{Side}
 use Rattle.krb_peers.specs.declared.log.Event.{Event}
 use Rattle.krb_peers.specs.declared.receiver.Receiving.{Receiving}
-use Rattle.krb_peers.specs.Claims.{has_ended}
+use Rattle.krb_peers.specs.Log.{has_ended}
 use Rattle.krb_peers.specs.Log.{ended_at, entries_for}
 use Rattle.krb_peers.specs.LogState.{LogState}
 use Rattle.krb_peers.specs.Logged.{HasLogged, entries_by}
@@ -15,7 +15,7 @@ use Rattle.krb_peers.specs.Order.{demand_after}
 use Rattle.krb_peers.specs.Receiver.{verdict_by}
 use Rattle.krb_peers.specs.ReceiverState.{ReceiverState}
 use Rattle.krb_peers.specs.Rounds.{rounds, NoneLonger}
-use Rattle.krb_peers.specs.Sender.{moment_at}
+use Rattle.krb_peers.specs.Moments.{moment_at}
 use Rattle.krb_peers.specs.Verdicts.{Verdict, events_by, groups_of, records_of, verdict}
 use Rattle.krb_peers.proofs.RoundsLemmas.{rounds-push}
 use Rattle.krb_relay.specs.Heard.{heard, answers, groups_in, rounds_heard}

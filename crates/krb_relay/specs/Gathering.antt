@@ -6,7 +6,7 @@ use Rattle.krb_base.specs.Limits.{lane_limit}
 use Rattle.krb_base.specs.Prefix.{IsPrefix}
 use Rattle.krb_lane.specs.Side.{Side, LaneId}
 use Rattle.krb_peers.specs.declared.receiver.Receiving.{Receiving}
-use Rattle.krb_peers.specs.Claims.{has_ended}
+use Rattle.krb_peers.specs.Log.{has_ended}
 use Rattle.krb_peers.specs.LogState.{LogState}
 use Rattle.krb_relay.specs.declared.cause.Cause.{Cause}
 use Rattle.krb_relay.specs.declared.fault.OwnFault.{OwnFault}

@@ -6,7 +6,7 @@ use Rattle.krb_peers.specs.Ends.{Ends}
 use Rattle.krb_peers.specs.Log.{events_of, texts_in}
 use Rattle.krb_peers.specs.LogState.{LogState}
 use Rattle.krb_peers.specs.Plan.{wire}
-use Rattle.krb_peers.specs.Premises.{IsPaired, AlteredAreHonest}
+use Rattle.krb_peers.specs.Planned.{IsPaired, AlteredAreHonest}
 use Rattle.krb_record.specs.Record.{texts_of}
 use Rattle.krb_peers.specs.Run.{Run, AreRuns, OfRuns}
 use Rattle.krb_peers.specs.Sender.{Source, AreFrames, records}

@@ -6,12 +6,12 @@ use Rattle.krb_base.specs.Limits.{lane_limit}
 use Rattle.krb_base.specs.Prefix.{IsPrefix}
 use Rattle.krb_lane.specs.Side.{Side}
 use Rattle.krb_peers.specs.declared.receiver.Receiving.{Receiving}
-use Rattle.krb_peers.specs.Claims.{has_ended}
+use Rattle.krb_peers.specs.Log.{has_ended}
 use Rattle.krb_peers.specs.Log.{ended_at}
 use Rattle.krb_peers.specs.LogState.{LogState}
 use Rattle.krb_peers.specs.Logged.{HasLogged, LogsNext, noted}
 use Rattle.krb_peers.specs.Receiver.{verdict_by, receiver_behind}
-use Rattle.krb_peers.specs.Sender.{moment_at}
+use Rattle.krb_peers.specs.Moments.{moment_at}
 use Rattle.krb_peers.specs.Verdicts.{Verdict}
 use Rattle.krb_relay.specs.Heard.{Heard, heard, answers, AreAnswers, rounds_heard, all_heard}
 

@@ -15,7 +15,8 @@ from lib.reference.sources import (
     KIT, Clause, Definition, Function, Item, Module, Project, Ref, Scope)
 
 INDEX, HEADLINE = "README", "headline"
-ROOT = Ref("krb_relay", "", "relay")    # the function whose contract is the headline
+LAW = Ref("krb_peers", "", "frames_laws")       # its contract is the headline
+TAKER, TAKE = Ref("krb_peers", "", "Receiver"), "take"      # the call whose verdicts it is about
 OWN = "this project"                    # the source of a definition that cites no standard
 
 GUIDE = [
@@ -259,9 +260,17 @@ class Writer:
         self.headline = self.graph.reached(self.headline_roots())
         self.shown.update(self.headline)
 
+    def headline_calls(self) -> List[Tuple[str, str, Function]]:
+        """The law and the call: each with its crate and its name."""
+        law = self.project.crates[LAW.crate].functions[LAW.word]
+        taker = self.project.crates[TAKER.crate].items[TAKER.word]
+        own = [made for part in taker.implementations if not part.trait for made in part.functions]
+        take = next(made for made in own if made.name == TAKE)
+        return [(LAW.crate, LAW.word, law), (TAKER.crate, f"{TAKER.word}.{TAKE}", take)]
+
     def headline_roots(self) -> List[Ref]:
-        relay = self.project.crates[ROOT.crate].functions[ROOT.word]
-        return self.graph.of_function(ROOT.crate, relay)
+        return [ref for crate, _, made in self.headline_calls()
+                for ref in self.graph.of_function(crate, made)]
 
     # ---- links
 
@@ -494,28 +503,33 @@ class Writer:
     # ---- the headline
 
     def headline_page(self) -> Page:
-        relay = self.project.crates[ROOT.crate].functions[ROOT.word]
         definitions = [it for it in map(self.project.definition, self.headline) if it is not None]
         lines = sum(it.lines() for it in definitions)
         about = (f"These are {len(definitions)} definitions, of {lines} lines without comments."
-                 " The contract reaches them by its clauses, by what contracts see of the types in"
-                 " its signature, and by the contracts of the traits there.")
+                 " The contracts reach them by their clauses, by what contracts see of the types in"
+                 " the signatures, and by the contracts of the traits there.")
         blocks: List[Block] = [
             Heading(1, "What the headline rests on", ""),
-            Paragraph([Inline("The promise of a relay is the contract of "),
-                       *code("relay", Target("krb_relay", "relay")),
-                       Inline(". The prover has checked that its body keeps it. A reader has to"
-                              " check that the contract says what is wanted, so has to believe the"
-                              " definitions that it speaks of. "), Inline(about)]),
-            Heading(2, "The contract", "contract"),
-            Source(relay.signature, "rust",
-                   self.links(self.graph.of_text(ROOT.crate, relay.signature)), "Types:")]
-        for clause in relay.clauses:
-            block = self.clause(ROOT.crate, "", relay.scope, clause)
-            block.anchor = ""
-            blocks.append(block)
+            Paragraph([Inline("The promise is the contract of "),
+                       *code(LAW.word, Target(LAW.crate, LAW.word)),
+                       Inline(", a law about the verdicts of "),
+                       *code(f"{TAKER.word}::{TAKE}", Target(TAKER.crate, f"{TAKER.word}.{TAKE}")),
+                       Inline(" on whatever frames come. The prover has checked both. A reader has to"
+                              " check that they say what is wanted, so has to believe the"
+                              " definitions that they speak of. " + about)]),
+            Paragraph([Inline("Each lane of "), *code("relay", Target("krb_relay", "relay")),
+                       Inline(" is one instance: the definitions with which its contract says so"
+                              " are in the reference of its crates.")])]
+        for crate, name, made in self.headline_calls():
+            blocks += [Heading(2, f"The contract of {name.replace('.', '::')}", name.lower()),
+                       Source(made.signature, "rust",
+                              self.links(self.graph.of_text(crate, made.signature)), "Types:")]
+            for clause in made.clauses:
+                block = self.clause(crate, "", made.scope, clause)
+                block.anchor = ""
+                blocks.append(block)
         blocks += [Heading(2, "The definitions", "definitions"),
-                   Paragraph(plain("The modules that the contract reaches in fewer steps come"
+                   Paragraph(plain("The modules that the contracts reach in fewer steps come"
                                    " first. The source is the standard that the definition, or the"
                                    " head of its file, cites; the other definitions are this"
                                    " project's."))]
@@ -553,7 +567,7 @@ class Writer:
         refs = sorted({it for it in self.headline if it.is_type()},
                       key=lambda it: (it.crate, it.word))
         yield Heading(2, "The types", "types")
-        yield Paragraph(plain("These types of the crates stand in the contract or in those"
+        yield Paragraph(plain("These types of the crates stand in the contracts or in those"
                               " definitions."))
         crates: Dict[str, List[Inline]] = {}
         for ref in refs:

@@ -3,7 +3,7 @@
 ghost use Rattle.std.specs.Prelude.{◌≡◌, ◌<◌, ◌≤◌, [], ℕ, true, List, length, OnOk};
 ghost use Rattle.krb_base.specs.Prefix.{IsPrefix};
 ghost use Rattle.krb_core.specs.declared.turn.Turn.{Turn};
-ghost use Rattle.krb_peers.specs.Claims.{has_ended};
+ghost use Rattle.krb_peers.specs.Log.{has_ended};
 ghost use Rattle.krb_core.specs.Stepped.{after, is_done};
 ghost use Rattle.krb_core.specs.Relayed.{GoesOn, HasTurned, KeepsHeadline};
 ghost use Rattle.krb_peers.specs.Ends.{Ends};

@@ -1,5 +1,5 @@
 use Rattle.std.proofs.Common.{refl, ap, ◌∙◌}
-use Rattle.krb_peers.specs.Sender.{moment_at}
+use Rattle.krb_peers.specs.Moments.{moment_at}
 use Rattle.krb_commands.proofs.OpenedLemmas.{opened_none, opened_shut, opened_next}
 use Rattle.krb_commands.proofs.opening.take_all.Goals as goal
 

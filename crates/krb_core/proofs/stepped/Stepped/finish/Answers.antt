@@ -1,7 +1,7 @@
 -- Round by round.
 use Rattle.std.proofs.Common.{◌≡◌, ◌+◌, ◌<◌, ◌≤◌, ℕ, true, [], List, length, arith}
 use Rattle.krb_core.specs.declared.turn.Turn.{Turn}
-use Rattle.krb_peers.specs.Claims.{has_ended}
+use Rattle.krb_peers.specs.Log.{has_ended}
 use Rattle.krb_core.specs.Stepped.{after, is_done}
 use Rattle.krb_core.specs.Finish.{finishing, whole_log}
 use Rattle.krb_core.proofs.RelayedClaims.{goes_on, keeps_headline, sents_hold}

@@ -6,7 +6,8 @@ use Rattle.rand_chacha.specs.ChaCha.{ChaCha}
 use Rattle.krb_seal.specs.Sealer.{SealerState}
 use Rattle.krb_record.specs.declared.record.Record.{Record}
 use Rattle.krb_record.specs.Record.{bytes_of}
-use Rattle.krb_peers.specs.Sender.{Source, text_groups, record_at, texts_before, records, moment_at}
+use Rattle.krb_peers.specs.Sender.{Source, text_groups, record_at, texts_before, records}
+use Rattle.krb_peers.specs.Moments.{moment_at}
 use Rattle.krb_peers.specs.Sending.{source_of, before}
 use Rattle.krb_peers.proofs.SendingLemmas.{HasSealed-push, passed_within, passed_more, on_ok, group_is, fits_there, record_is, moment_read, both_ok, errors_are}
 use Rattle.krb_peers.proofs.sending.Sending.seal_record.Goals as goal

@@ -1,0 +1,7 @@
+pub mod StoreLemmas
+pub mod ShardLemmas
+pub mod ProgressLemmas
+pub mod ReadingLemmas
+pub mod OutboxLemmas
+pub mod TwiceLemmas
+pub mod DeliveryLemmas
