@@ -1,4 +1,5 @@
 """Runs of the program and the lines that they print: the rows of runs.toml."""
+import collections
 import os
 import re
 import tomllib
@@ -16,6 +17,23 @@ def rows():
 
 def sender(keys):
     return "[[sender]]\n" + "".join(f"{key} = {value}\n" for key, value in keys.items() if value)
+
+
+def flips(data):
+    """The digits of the bytes with each of their bits flipped."""
+    for at in range(8 * len(data)):
+        place, bit = divmod(at, 8)
+        yield (data[:place] + bytes([data[place] ^ 1 << bit]) + data[place + 1:]).hex()
+
+
+def prefixes(data):
+    """The digits of the bytes' proper prefixes."""
+    return [data[:size].hex() for size in range(len(data))]
+
+
+def inside(tag, content):
+    """An element of less than 128 bytes."""
+    return bytes([tag, len(content)]) + content
 
 
 class Runs:
@@ -113,6 +131,67 @@ class Runs:
                          "".join(f"{line}\n" for line in lines).encode(), b"")
         self.tests.right(len(frames) == len(texts) + 1, f"FAILED seal of {len(texts)} texts")
 
+    # ---- each bit and each prefix
+
+    def single(self, row, frames):
+        """The lines that `open` prints of these frames, under the changes of a row, and its
+        status."""
+        other = {**(self.table["wide"] if row.get("wide") else {}), **row.get("changes", {})}
+        job = self.job("open", [{"frames": f"{list(frames)}"}], other)
+        status, out, _ = self.tests.run(["open"], job.encode())
+        return [line.removeprefix("lane 0 ") for line in out.decode().splitlines()], status
+
+    def opened(self):
+        """Each frame alone has its outcome."""
+        for row in self.table["opened"]:
+            for frame in row["frames"]:
+                found = self.single(row, [self.filled(frame)])
+                self.tests.right(found == ([row["outcome"], "TRUNCATED"], 3),
+                                 f"FAILED open of {frame:.30}, {row.get('changes')}: {found}")
+
+    def flipped(self):
+        for row in self.table["flipped"]:
+            frame = bytes.fromhex(self.filled(row["frame"]))
+            last = ["text 6869", "TRUNCATED"]
+            lines, status = self.single(row, [*flips(frame), frame.hex()])
+            counts = collections.Counter(line.split()[1] for line in lines[:-2])
+            self.tests.right((counts, lines[-2:], status) == (row["codes"], last, 3),
+                             f"FAILED open of each flipped bit: {counts}, {lines[-2:]}")
+            cut = [*prefixes(frame), *self.table["lies"]["frames"], *self.cut_ciphers(frame)]
+            refused = ["refused 901 MALFORMED"] * (len(frame) + 5)
+            refused += ["refused 31 BAD_INTEGRITY"] * (len(cut) - len(refused))
+            found = self.single(row, [*cut, frame.hex()])
+            self.tests.right(found == (refused + last, 3), f"FAILED open of each prefix: {found}")
+
+    @staticmethod
+    def cut_ciphers(frame):
+        """A KRB-PRIV with each number of bytes of its cipher that is less than its own, and all
+        lengths around it right."""
+        if frame[0] != 0x75:
+            return
+        cipher = frame[27:]
+        for size in range(len(cipher)):
+            data = b"\xa0\x03\x02\x01\x11" + inside(0xa2, inside(4, cipher[:size]))
+            fields = frame[4:14] + inside(0xa3, inside(0x30, data))
+            yield inside(0x75, inside(0x30, fields)).hex()
+
+    def spelt(self):
+        for row in self.table["spelt"]:
+            message = bytes.fromhex(self.filled(row["message"]))
+            lines = self.shown_of(flips(message))
+            self.tests.right(len(lines) == 8 * len(message)
+                             and lines.count("refused 901 MALFORMED") == len(lines) - row["flips"],
+                             f"FAILED show of each flipped bit of {row['message']:.30}")
+            lines = self.shown_of(prefixes(message))
+            self.tests.right(lines == ["refused 901 MALFORMED"] * len(message),
+                             f"FAILED show of each prefix of {row['message']:.30}")
+
+    def shown_of(self, messages):
+        text = "".join(f"{it}\n" for it in messages)
+        return self.tests.run(["show"], text.encode())[1].decode().splitlines()
+
+    # ---- the limits
+
     def longest(self):
         """The longest text: the lengths of its frame take three octets after the first."""
         begin = b"74830f42ab30830f42a6a003020105a103020114a2830f427e30830f4279a0830f424604830f424144"
@@ -138,6 +217,22 @@ class Runs:
         self.tests.check("relay at the limits", self.tests.run(["relay"], job.encode()), 0,
                          text.encode(), b"")
 
+    def rounds(self):
+        """Eight lanes, of which lane i has i texts: in each round every lane that goes on has one
+        entry, by the lane's number."""
+        texts = [f"{ord('a') + place:02x}" for place in range(8)]
+        changes = [{"key": f"'{'0' * (31 if lane < 4 else 63)}{lane}'", "first": "7",
+                    "etype": "17" if lane < 4 else "18", "mode": MODES[lane % 2],
+                    "texts": f"{texts[:lane]}"} for lane in range(8)]
+        lines = [f"lane {lane} " + ("closed" if lane == place else f"text {texts[place]}")
+                 for place in range(8) for lane in range(place, 8)]
+        lines += [f"lane {lane} sent {lane} of {lane} DONE CLOSED" for lane in range(8)]
+        for places in (1, 3, 64):
+            job = f"capacity = {places}\n" + self.job("relay", changes, {})
+            self.tests.check(f"relay in rounds, {places} places",
+                             self.tests.run(["relay"], job.encode()), 0,
+                             "".join(f"{line}\n" for line in lines).encode(), b"")
+
     def vectors(self):
         text = "".join(f"{line}\n" for line in self.table["vectors"]["lines"]).encode()
         self.tests.check("vectors", self.tests.run(["vectors"]), 0, text, b"")
@@ -152,6 +247,7 @@ class Runs:
                 self.tests.right(f"\n  {key} = " in out, f"FAILED {command} --help has no {key}")
 
     def all(self):
-        for part in (self.jobs, self.bad_plans, self.shown, self.come_back, self.longest, self.most,
-                     self.vectors, self.help):
+        for part in (self.jobs, self.bad_plans, self.shown, self.come_back, self.opened,
+                     self.flipped, self.spelt, self.longest, self.most, self.rounds, self.vectors,
+                     self.help):
             part()
