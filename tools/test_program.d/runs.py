@@ -158,7 +158,8 @@ class Runs:
             self.tests.right((counts, lines[-2:], status) == (row["codes"], last, 3),
                              f"FAILED open of each flipped bit: {counts}, {lines[-2:]}")
             cut = [*prefixes(frame), *self.table["lies"]["frames"], *self.cut_ciphers(frame)]
-            refused = ["refused 901 MALFORMED"] * (len(frame) + 5)
+            lies = len(frame) + len(self.table["lies"]["frames"])
+            refused = ["refused 901 MALFORMED"] * lies
             refused += ["refused 31 BAD_INTEGRITY"] * (len(cut) - len(refused))
             found = self.single(row, [*cut, frame.hex()])
             self.tests.right(found == (refused + last, 3), f"FAILED open of each prefix: {found}")

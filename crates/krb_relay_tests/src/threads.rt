@@ -212,18 +212,28 @@ fn sender_seals_until_its_lane_is_full(rt: HostRuntime) -> Result<(), Fail> {
     Ok(())
 }
 
-/// The records of two texts and the close, from 7 on.
+/// The records of two texts and the close, from 7 on, all or until the second call is refused.
 #[test]
 fn sealing_all_stands_within_its_lane(rt: HostRuntime) -> Result<(), Fail> {
-    let gate = Watch::new(rt.alloc(), 0)?;
-    let mut lanes = Lanes::new(rt.alloc());
-    lanes.add(rt.alloc(), &gate, false, PLAIN, b"", 1)?;
-    lanes.add(rt.alloc(), &gate, false, PLAIN, b"ab", 1)?;
-    let mut sender = lanes.sendings.pop().ok_or("no sender")?;
-    assert_sender(&rt, &sender);
-    let wire = emit_sealed_within(rt.alloc(), &gate, 1, &mut sender)?;
-    assert_same(&rt, (wire.len(), sender.sealer.next()), (3, 10));
-    assert_same(&rt, gate.counts(0), [0, 0, 0, 0]);
-    assert_same(&rt, gate.counts(1), [3, 3, 3, 0]);
+    for (fails_at, frames, calls) in [(0, Some(3), 3), (2, None, 2)] {
+        let gate = Watch::new(rt.alloc(), 0)?;
+        let odd = Odd {
+            fails_at,
+            wiped: false,
+        };
+        let mut lanes = Lanes::new(rt.alloc());
+        lanes.add(rt.alloc(), &gate, false, PLAIN, b"", 1)?;
+        lanes.add(rt.alloc(), &gate, false, odd, b"ab", 1)?;
+        let mut sender = lanes.sendings.pop().ok_or("no sender")?;
+        assert_sender(&rt, &sender);
+        let wire = emit_sealed_within(rt.alloc(), &gate, 1, &mut sender);
+        let count = match wire {
+            Ok(wire) => Some(wire.len()),
+            Err(_) => None,
+        };
+        assert_same(&rt, count, frames);
+        assert_same(&rt, gate.counts(0), [0, 0, 0, 0]);
+        assert_same(&rt, gate.counts(1), [calls, calls, calls, 0]);
+    }
     Ok(())
 }
