@@ -5,8 +5,8 @@
 
 For each message in hexadecimal digits it prints how many of its proper prefixes and how many of
 its single bit flips spell a message of the grammar (RFC 4120 in DER, X.690), and how many don't.
-The tests of krb_der compare `decode` with these counts. The reader, tools/lib/oracle/reader.py,
-shares nothing with it. Needed: Python.
+tools/test_program compares `krbrelay show` and `open` with these counts. The reader,
+tools/lib/oracle/reader.py, shares nothing with them. Needed: Python.
 """
 
 import sys

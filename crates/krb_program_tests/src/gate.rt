@@ -1,9 +1,12 @@
-//! A gate that counts the seal calls of two lanes.
+//! That the program relays within the gate that it is given, with workers that seal at once, and
+//! with lanes of the job's capacity.
 
-use crate::asserts::{assert_same, assert_same_at};
+use crate::asserts::assert_same_at;
+use krb_program::obey;
 use krb_relay::Gate;
-use std::process::Abort;
+use std::io::BufWriter;
 use std::sync::atomic::{AtomicU64, Ordering};
+use std::test::Fail;
 
 /// How often the gate looks for a call that has to come.
 const TURNS: u64 = 1_000_000_000;
@@ -26,7 +29,7 @@ fn comes_to(word: &AtomicU64, least: u64, turns: u64) -> bool {
 /// The receiver takes the first frame of lane 0 and waits for lane 1. So lane 0 seals that frame,
 /// those that its lane holds, and one that waits for room.
 #[derive(Drop)]
-pub struct HeldGate {
+struct HeldGate {
     calls: u64,
     entered: [AtomicU64; 2],
     left: [AtomicU64; 2],
@@ -34,29 +37,22 @@ pub struct HeldGate {
 }
 
 impl HeldGate {
-    /// A gate that waits for so many calls of lane 0.
-    pub fn new(calls: u64) -> HeldGate {
-        HeldGate {
-            calls,
-            entered: [AtomicU64::new(0), AtomicU64::new(0)],
-            left: [AtomicU64::new(0), AtomicU64::new(0)],
-            seen: AtomicU64::new(0),
-        }
-    }
-
-    /// Asserts that lane 0 had begun so many calls as the gate waits for, and no more, while the
-    /// first call of lane 1 was held.
-    pub fn assert_held(&self, rt: &impl Abort) {
-        assert_same(rt, self.seen.load(Ordering::SeqCst), self.calls);
-    }
-
-    /// Asserts how many calls each lane has made, and that each of these has left the gate.
-    pub fn assert_passed(&self, rt: &impl Abort, expected: [u64; 2]) {
-        let calls = expected.iter().zip(&self.entered).zip(&self.left);
-        for ((expected, entered), left) in calls {
-            let counts = (entered.load(Ordering::SeqCst), left.load(Ordering::SeqCst));
-            assert_same_at(rt, counts, (*expected, *expected), expected);
-        }
+    /// How many calls lane 0 had begun while the first of lane 1 was held, how many each lane has
+    /// begun, and how many of these have left the gate.
+    fn counts(&self) -> (u64, [u64; 2], [u64; 2]) {
+        let [entered, other_entered] = &self.entered;
+        let [left, other_left] = &self.left;
+        (
+            self.seen.load(Ordering::SeqCst),
+            [
+                entered.load(Ordering::SeqCst),
+                other_entered.load(Ordering::SeqCst),
+            ],
+            [
+                left.load(Ordering::SeqCst),
+                other_left.load(Ordering::SeqCst),
+            ],
+        )
     }
 }
 
@@ -80,4 +76,71 @@ impl Gate for HeldGate {
     fn leave(&self, lane: u32) {
         word_of(&self.left, lane).fetch_add(1, Ordering::SeqCst);
     }
+}
+
+/// Two senders. The first says `a` to `j`, and the second nothing.
+const TEN_TEXTS: &str = "
+[[sender]]
+etype = 17
+key = '000102030405060708090a0b0c0d0e0f'
+mode = 'safe'
+first = 7
+from = '2:0a000001'
+to = '2:0a0000ff'
+skew = 300
+seed = '0000000000000000000000000000000000000000000000000000000000000000'
+at = [1700000000000005]
+now = [1700000000000005]
+texts = ['61', '62', '63', '64', '65', '66', '67', '68', '69', '6a']
+[[sender]]
+etype = 18
+key = '1111111111111111111111111111111111111111111111111111111111111111'
+mode = 'priv'
+first = 7
+from = '2:0a000002'
+to = '2:0a0000ff'
+skew = 300
+seed = '0000000000000000000000000000000000000000000000000000000000000000'
+at = [1700000000000005]
+now = [1700000000000005]
+texts = []
+";
+
+const DELIVERED: &str = "lane 0 text 61
+lane 1 closed
+lane 0 text 62
+lane 0 text 63
+lane 0 text 64
+lane 0 text 65
+lane 0 text 66
+lane 0 text 67
+lane 0 text 68
+lane 0 text 69
+lane 0 text 6a
+lane 0 closed
+lane 0 sent 10 of 10 DONE CLOSED
+lane 1 sent 0 of 0 DONE CLOSED
+";
+
+/// A lane holds as many frames as the job says: the receiver has one more, and one waits for room.
+#[test]
+fn lanes_have_the_capacity_of_the_job(rt: HostRuntime) -> Result<(), Fail> {
+    for (line, calls) in [("capacity = 3", 5), ("capacity = 9", 11)] {
+        let gate = HeldGate {
+            calls,
+            entered: [AtomicU64::new(0), AtomicU64::new(0)],
+            left: [AtomicU64::new(0), AtomicU64::new(0)],
+            seen: AtomicU64::new(0),
+        };
+        let job = format!(in rt.alloc(); "{line}{TEN_TEXTS}")?;
+        let mut reader = job.as_bytes();
+        let mut writer = BufWriter::new(rt.alloc(), Vec::new(rt.alloc()))?;
+        let words = ["krbrelay", "relay"];
+        let outcome = obey(&rt, rt.alloc(), &words, &mut reader, &mut writer, &gate)?;
+        assert_same_at(&rt, outcome, Ok(0), line);
+        let printed = writer.get_ref().as_slice() == DELIVERED.as_bytes();
+        assert_same_at(&rt, printed, true, line);
+        assert_same_at(&rt, gate.counts(), (calls, [11, 1], [11, 1]), line);
+    }
+    Ok(())
 }

@@ -1,5 +1,8 @@
-//! Tests of `krbrelay` from its job files up: of `krb_job` (module `job`), of `krb_commands`
-//! (`commands`) and of `krb_program` (`program`), by what these libraries show.
+//! Tests of `krbrelay` from its job files up, of what no clause says and what can't be seen from
+//! outside of the program: a reader or a writer that fails at each of its calls (module `faulty`),
+//! the seal calls of workers (`gate`), a sealer that refuses a call (`stopped`), and what callers
+//! of krb_job see (`job`). What can be driven from outside, as jobs and their lines, is in
+//! `tools/test_program.d`.
 //!
 //! The crate has tests alone and no public item, so that the libraries are proved once and not a
 //! second time under their tests.
@@ -8,16 +11,12 @@
 #[cfg(test)]
 mod asserts;
 #[cfg(test)]
-mod commands;
-#[cfg(test)]
 mod faulty;
-#[cfg(test)]
-mod frames;
 #[cfg(test)]
 mod gate;
 #[cfg(test)]
 mod job;
 #[cfg(test)]
-mod program;
+mod runs;
 #[cfg(test)]
-mod relayed;
+mod stopped;

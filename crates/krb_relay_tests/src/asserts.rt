@@ -6,10 +6,9 @@ ghost use Rattle.krb_base.specs.Limits.{text_limit};
 ghost use Rattle.krb_peers.specs.Sending.{source_of, IsSender};
 
 use krb_base::{BATCH_LIMIT, Bytes, LAST_NUMBER, TEXT_LIMIT};
-use krb_peers::{Receiving, Sending};
+use krb_peers::{Event, Log, Receiving, Sending};
 use krb_seal::Sealer;
-use std::alloc::Global;
-use std::fmt::{Debug, Display};
+use std::fmt::Debug;
 use std::process::Abort;
 
 /// Asserts that two values are the same, and prints both where they aren't.
@@ -17,14 +16,22 @@ pub(crate) fn assert_same<T: PartialEq + Debug + Drop>(rt: &impl Abort, left: T,
     assert_eq!(rt; left, right);
 }
 
-/// Asserts that a value is displayed in these words.
-pub(crate) fn assert_displayed<T: Display + Drop>(
-    rt: &(impl Abort + Alloc<A = Global>),
-    value: T,
-    words: &str,
-) {
-    let text = format!(in rt.alloc(); "{value}").expect(rt, "memory");
-    assert_same(rt, text.as_str(), words);
+/// Whether an event is the text of this word, a close, or the refusal of this name.
+fn is_event(event: &Event, word: &str) -> bool {
+    match event {
+        Event::Text(text) => text.as_slice() == word.as_bytes(),
+        Event::Closed => word == "closed",
+        Event::Refused(refusal) => refusal.name() == word,
+    }
+}
+
+/// Asserts that a log has these entries: the lane, and the text, `closed` or the refusal's name.
+pub(crate) fn assert_log(rt: &impl Abort, log: &Log, expected: &[(u32, &str)]) {
+    assert_same(rt, log.entries().len(), expected.len());
+    for (place, (entry, (lane, word))) in log.entries().iter().zip(expected).enumerate() {
+        let right = entry.lane == *lane && is_event(&entry.event, word);
+        assert!(rt; right, "entry {place}: lane {lane}, {word}");
+    }
 }
 
 fn are_short(texts: &[Bytes]) -> bool

@@ -1,4 +1,6 @@
-//! Tests of the lane, of both relays, and of the senders, receivers and logs that these are made of.
+//! Tests of the lane and of both relays, of what no clause says: calls that succeed, waits, gates,
+//! which allocation may fail, and one worked relay of each. What whole relays print is in
+//! `tools/test_program.d`.
 //!
 //! `stepped` tests the relay of `krb_core`, which one thread steps, and `threads` that of
 //! `krb_relay`, which has a worker for each sender. This crate has no public item.
@@ -9,14 +11,10 @@ mod asserts;
 #[cfg(test)]
 mod lane;
 #[cfg(test)]
-mod log_lines;
-#[cfg(test)]
-mod odd_sealer;
-#[cfg(test)]
-mod peers;
-#[cfg(test)]
-mod session;
+mod lanes;
 #[cfg(test)]
 mod stepped;
 #[cfg(test)]
 mod threads;
+#[cfg(test)]
+mod watch;

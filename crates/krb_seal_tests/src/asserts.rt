@@ -1,6 +1,5 @@
 //! What the tests of several modules assert.
 
-use std::alloc::Global;
 use std::fmt::{Debug, Display};
 use std::process::Abort;
 
@@ -17,14 +16,4 @@ pub fn assert_same_at<T: PartialEq + Debug + Drop, C: Display + Drop>(
     case: C,
 ) {
     assert_eq!(rt; left, right, "in case {case}");
-}
-
-/// Asserts that a value is displayed in these words.
-pub fn assert_displayed<T: Display + Drop>(
-    rt: &(impl Abort + Alloc<A = Global>),
-    value: T,
-    words: &str,
-) {
-    let text = format!(in rt.alloc(); "{value}").expect(rt, "memory");
-    assert_same(rt, text.as_str(), words);
 }

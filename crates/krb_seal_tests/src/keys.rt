@@ -77,10 +77,6 @@ fn folds_at_the_limits(rt: HostRuntime) {
     assert_hex(&rt, &long[..16], "44d3d65d4c24c0d17eb1d384abaf9dbf");
     assert_hex(&rt, &long[47..], "88540375609668b49bfbcfe6f7718f0c");
     assert_folds(&rt, &counting, 1, "e7");
-}
-
-#[test]
-fn folds_that_sum_up_to_zero(rt: HostRuntime) {
     assert_folds(&rt, &[0; 8], 16, "00000000000000000000000000000000");
     assert_folds(&rt, &[0xff; 8], 16, "ffffffffffffffffffffffffffffffff");
 }
@@ -127,13 +123,6 @@ static RFC_2202: [(&[u8], &[u8], &str); 7] = [
     ),
 ];
 
-#[test]
-fn codes_as_in_rfc_2202(rt: HostRuntime) {
-    for (key, data, digits) in &RFC_2202 {
-        assert_hex(&rt, &hmac_sha1(key, data), digits);
-    }
-}
-
 /// Asserts that the code has these digits, however the data are cut in two.
 fn assert_joins(rt: &(impl Abort + Alloc<A = Global>), key: &[u8], data: &[u8], digits: &str) {
     for cut in 0..data.len() + 1 {
@@ -170,8 +159,9 @@ fn assert_keeps(rt: &(impl Abort + Alloc<A = Global>), key: &[u8], data: &[u8], 
 }
 
 #[test]
-fn keeps_a_key(rt: HostRuntime) {
+fn codes_as_in_rfc_2202(rt: HostRuntime) {
     for (key, data, digits) in &RFC_2202 {
+        assert_hex(&rt, &hmac_sha1(key, data), digits);
         assert_keeps(&rt, key, data, digits);
     }
 }
@@ -203,10 +193,6 @@ fn derives_as_krb5_does(rt: HostRuntime) {
         let key = 0x42263c6e89f4fc28b8df68ee09799f15u128.to_be_bytes();
         assert_derives(&rt, CipherKey::from_128(key), tail, digits);
     }
-}
-
-#[test]
-fn derives_long_keys_as_krb5_does(rt: HostRuntime) {
     let mut key = [0; 32];
     key[..16].copy_from_slice(&0xfe697b52bc0d3ce14432ba036a92e65bu128.to_be_bytes());
     key[16..].copy_from_slice(&0xbb52280990a2fa27883998d72af30161u128.to_be_bytes());
@@ -225,14 +211,5 @@ fn derives_long_keys_as_krb5_does(rt: HostRuntime) {
         ),
     ] {
         assert_derives(&rt, CipherKey::from_256(key), tail, digits);
-    }
-}
-
-#[test]
-fn compares_codes(rt: HostRuntime) {
-    assert!(rt; mac_equal(b"", b""));
-    assert!(rt; mac_equal(b"code", b"code"));
-    for other in ["Code", "cOde", "codE", "cod", "codes", ""] {
-        assert!(rt; !mac_equal(b"code", other.as_bytes()), "{other}");
     }
 }

@@ -1,8 +1,8 @@
 //! The tests of [`krb_aes`], [`krb_base`], [`krb_record`], [`krb_keys`], [`krb_time`], [`krb_tlv`],
 //! [`krb_der`], [`krb_seal`] and [`krb_peers`], over what these have public: vectors of the
-//! standards, messages worked out by hand, frames of an independent sealer, and what the two ends of
-//! a lane make of them. They stand in a crate of their own, which has no public item, so that each
-//! library is proved once.
+//! standards, messages worked out by hand, and frames of an independent sealer. What a reader, an
+//! opener or a receiver refuses is in `tools/test_program.d`. They stand in a crate of their own,
+//! which has no public item, so that each library is proved once.
 #![tactic(auto)]
 
 #[cfg(test)]
@@ -18,7 +18,7 @@ mod codec;
 #[cfg(test)]
 mod keys;
 #[cfg(test)]
-mod peers;
+mod order;
 #[cfg(test)]
 mod record;
 #[cfg(test)]

@@ -1,26 +1,26 @@
-//! Frames of an independent sealer (`tools/frames.py`), and what an opener makes of them, of others
-//! worked out by hand, and of each cut and each flipped bit.
+//! Frames of an independent sealer (`tools/frames.py`): each sealer seals them, an opener opens them,
+//! and what they carry is authentic.
 
 mod authentic;
-mod flipped;
 mod frames;
-mod opening;
-mod refusals;
-mod sealers;
-mod session_keys;
-mod sweep;
 
 ghost use Rattle.std.specs.Prelude.{IfOk};
 ghost use Rattle.krb_seal.specs.Session.{HasShortAddresses, IsShortAddress};
 
+use crate::asserts::assert_same;
+use frames::{PRIV_17, PRIV_17_OTHER, PRIV_18, SAFE_17, SAFE_18};
 use krb_der::{Bytes, HostAddress, Moment};
-use krb_seal::{Expect, Mode, Opener, SealError, Sealer, Session};
+use krb_seal::{
+    Aes128Sealer, Aes256Sealer, Expect, Mode, Opener, SealError, Sealer, Session, SessionKey,
+    SessionSealer,
+};
 use std::alloc::{AllocError, Global};
+use std::test::Fail;
 
 /// 2023-11-14T22:13:20Z and 5 microseconds.
-pub const MICROS: u64 = 1_700_000_000_000_005;
+const MICROS: u64 = 1_700_000_000_000_005;
 
-pub const KEY_128: [u8; 16] = [
+const KEY_128: [u8; 16] = [
     0x00, 0x01, 0x02, 0x03, 0x04, 0x05, 0x06, 0x07, 0x08, 0x09, 0x0a, 0x0b, 0x0c, 0x0d, 0x0e, 0x0f,
 ];
 
@@ -37,7 +37,7 @@ fn address(alloc: Global, host: u8) -> Result<HostAddress, AllocError>
 }
 
 /// The session of 10.0.0.1 from a number on.
-pub fn session(alloc: Global, mode: Mode, first: u32) -> Result<Session, AllocError>
+fn session(alloc: Global, mode: Mode, first: u32) -> Result<Session, AllocError>
     ensures { IfOk result HasShortAddresses }
 {
     Ok(Session {
@@ -48,47 +48,76 @@ pub fn session(alloc: Global, mode: Mode, first: u32) -> Result<Session, AllocEr
     })
 }
 
-/// What 10.0.0.255 expects of 10.0.0.`sender`, within five minutes.
-fn expect_of(alloc: Global, mode: Mode, sender: u8) -> Result<Expect, AllocError> {
-    Ok(Expect {
+/// A session key of encryption type 18 where `wide`, else 17.
+fn key(wide: bool) -> SessionKey {
+    if wide {
+        SessionKey::new_256(&mut { KEY_256 })
+    } else {
+        SessionKey::new_128(&mut { KEY_128 })
+    }
+}
+
+/// A new opener of 10.0.0.1.
+fn opener(alloc: Global, wide: bool, mode: Mode) -> Result<Opener, AllocError> {
+    let expect = Expect {
         mode,
-        s_addr: address(alloc, sender)?,
+        s_addr: address(alloc, 1)?,
         r_addr: address(alloc, 255)?,
         require_r: false,
         expect_time: true,
         skew: 300,
-    })
-}
-
-/// An opener of encryption type 17 for 10.0.0.1.
-fn opener(alloc: Global, mode: Mode) -> Result<Opener, AllocError> {
-    Ok(Opener::new_128(&mut { KEY_128 }, expect_of(alloc, mode, 1)?))
-}
-
-/// The same of encryption type 18.
-fn wide_opener(alloc: Global, mode: Mode) -> Result<Opener, AllocError> {
-    Ok(Opener::new_256(&mut { KEY_256 }, expect_of(alloc, mode, 1)?))
-}
-
-/// What a sealer answers for data, at the moment of `MICROS` and under a confounder.
-pub fn sealed(
-    alloc: Global,
-    sealer: &mut impl Sealer,
-    data: &[u8],
-    confounder: [u8; 16],
-) -> Result<Vec<u8>, SealError> {
-    let at = Moment::from_micros(MICROS).ok_or(SealError::Memory)?;
-    sealer.seal(alloc, data, at, confounder)
-}
-
-/// The code of the refusal, or 0 for the user data 44 68 69, and 1 for any other.
-fn answer(alloc: Global, opener: &Opener, frame: &[u8], number: u64, micros: u64) -> u32 {
-    let Some(now) = Moment::from_micros(micros) else {
-        return 2;
     };
-    match opener.unseal(alloc, frame, number, now) {
-        Ok(user_data) if user_data.as_slice() == b"Dhi".as_slice() => 0,
-        Ok(_) => 1,
-        Err(refusal) => refusal.code(),
+    Ok(Opener::new(key(wide), expect))
+}
+
+/// What a sealer seals of the user data 44 68 69, under a confounder of these bytes.
+fn sealed(alloc: Global, sealer: &mut impl Sealer, byte: u8) -> Result<Vec<u8>, SealError> {
+    let at = Moment::from_micros(MICROS).ok_or(SealError::Memory)?;
+    sealer.seal(alloc, b"Dhi", at, [byte; 16])
+}
+
+/// What a new sealer from 7 on seals first: one of a session key, or one of its type.
+fn first_frame(
+    alloc: Global,
+    of_key: bool,
+    wide: bool,
+    mode: Mode,
+    byte: u8,
+) -> Result<Vec<u8>, SealError> {
+    let session = session(alloc, mode, 7)?;
+    if of_key {
+        return sealed(alloc, &mut SessionSealer::new(key(wide), session), byte);
     }
+    if wide {
+        let mut sealer = Aes256Sealer::new(&mut { KEY_256 }, session);
+        return sealed(alloc, &mut sealer, byte);
+    }
+    sealed(
+        alloc,
+        &mut Aes128Sealer::new(&mut { KEY_128 }, session),
+        byte,
+    )
+}
+
+/// The encryption type, the mode, the bytes of the confounder, and the frame.
+static FRAMES: [(bool, Mode, u8, &[u8]); 5] = [
+    (false, Mode::Safe, 0, &SAFE_17),
+    (true, Mode::Safe, 0, &SAFE_18),
+    (false, Mode::Priv, 0, &PRIV_17),
+    (false, Mode::Priv, 1, &PRIV_17_OTHER),
+    (true, Mode::Priv, 0, &PRIV_18),
+];
+
+#[test]
+fn frames_are_those_of_another_sealer(rt: HostRuntime) -> Result<(), Fail> {
+    let now = Moment::from_micros(MICROS).ok_or("a moment")?;
+    for (wide, mode, byte, expected) in &FRAMES {
+        for of_key in [false, true] {
+            let frame = first_frame(rt.alloc(), of_key, *wide, *mode, *byte)?;
+            assert_same(&rt, frame.as_slice(), *expected);
+        }
+        let data = opener(rt.alloc(), *wide, *mode)?.unseal(rt.alloc(), expected, 7, now)?;
+        assert_same(&rt, data.as_slice(), b"Dhi".as_slice());
+    }
+    Ok(())
 }

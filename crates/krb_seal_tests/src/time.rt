@@ -22,19 +22,11 @@ fn parts_make_a_moment(rt: HostRuntime) {
     ] {
         assert!(rt; are_parts(secs, usec, micros), "at {micros}");
     }
-}
-
-#[test]
-fn refuses_what_is_out_of_range(rt: HostRuntime) {
     assert!(rt; Moment::new(253_402_300_800, 0).is_none());
     assert!(rt; Moment::new(0, 1_000_000).is_none());
     assert!(rt; Moment::new(u64::MAX, u32::MAX).is_none());
     assert!(rt; Moment::from_micros(253_402_300_800_000_000).is_none());
     assert!(rt; Moment::from_micros(u64::MAX).is_none());
-}
-
-#[test]
-fn moments_are_in_order(rt: HostRuntime) {
     assert!(rt; Moment::new(7, 999_999) < Moment::new(8, 0));
 }
 
@@ -61,10 +53,6 @@ fn writes_and_reads_the_same_time(rt: HostRuntime) {
     ] {
         assert!(rt; is_time_of(secs, text), "at {secs}");
     }
-}
-
-#[test]
-fn refuses_what_is_no_time(rt: HostRuntime) {
     let refused: [&[u8]; 19] = [
         b"",
         b"20231114221320",

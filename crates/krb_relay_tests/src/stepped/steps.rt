@@ -3,66 +3,35 @@
 ghost use Rattle.std.specs.Prelude.{◌≡◌, ◌<◌, length, IfOk};
 ghost use Rattle.krb_core.specs.Stepped.{lane_of};
 
-use super::{receiver, sealer};
-use crate::asserts::{assert_receivers, assert_same, assert_senders};
-use crate::peers::{self, sending};
-use crate::session::MICROS;
-use krb_core::{Did, Event, Log, Receiving, Sending, StartError, Stepped, Turn};
-use krb_seal::{Mode, Sealer};
+use super::PLAIN;
+use crate::asserts::assert_same;
+use crate::lanes::Lanes;
+use crate::watch::Watch;
+use krb_core::{Did, Event, Log, Stepped, Turn};
 use std::alloc::{AllocError, Global};
 use std::process::Abort;
 use std::test::Fail;
 
-/// A relay of one to eight lanes.
-pub(super) fn begin<S: Sealer>(
-    rt: &impl Abort,
-    alloc: Global,
-    sendings: Vec<Sending<S>>,
-    receivings: Vec<Receiving>,
-    capacity: usize,
-) -> Result<Stepped, StartError>
-    ensures { IfOk result (λ stepped. length stepped.tracks ≡ length sendings.items) }
-{
-    assert!(rt; 1 <= sendings.len() && sendings.len() <= 8);
-    assert!(rt; sendings.len() == receivings.len());
-    assert_senders(rt, sendings.as_slice());
-    assert_receivers(rt, receivings.as_slice());
-    Stepped::new(alloc, sendings, receivings, capacity)
-}
-
-/// A receiver of 10.0.0.1 that demands the number 7, and takes all frames at one moment.
-pub(super) fn receiving(alloc: Global, mode: Mode) -> Result<Receiving, Fail> {
-    peers::receiving(alloc, receiver(alloc, mode, 7)?, &[MICROS])
-}
-
-/// So many of them, of KRB-SAFE messages.
-pub(super) fn receivings(alloc: Global, count: usize) -> Result<Vec<Receiving>, Fail> {
-    let mut receivings = Vec::new(alloc);
-    for _ in 0..count {
-        receivings.push(receiving(alloc, Mode::Safe)?)?;
-    }
-    Ok(receivings)
-}
-
-/// A relay of one sender that says `hi`, at capacity 1.
+/// A relay of one sender that says `h`, at capacity 1.
 pub(super) fn relay_of_one(rt: &impl Abort, alloc: Global) -> Result<Stepped, Fail>
     ensures { IfOk result (λ stepped. length stepped.tracks ≡ 1) }
 {
-    let sending = sending(alloc, sealer(alloc, Mode::Safe, 7)?, &[b"hi"], &[MICROS])?;
-    let sendings = vec![in alloc; sending]?;
-    let receivings = vec![in alloc; receiving(alloc, Mode::Safe)?]?;
-    Ok(begin(rt, alloc, sendings, receivings, 1)?)
+    let gate = Watch::new(alloc, 0)?;
+    let mut lanes = Lanes::new(alloc);
+    lanes.add(alloc, &gate, false, PLAIN, b"h", 1)?;
+    assert!(rt; lanes.sendings.len() == 1);
+    Ok(lanes.begin(rt, alloc, 1)?)
 }
 
 const SEND: Turn = Turn::Send(0);
 
 const TAKE: Turn = Turn::Take(0);
 
-/// Whether the log has the text `hi` and then the close.
+/// Whether the log has the text `h` and then the close.
 pub(super) fn is_whole(log: &Log) -> bool {
     match log.entries() {
         [first, second] => {
-            matches!(&first.event, Event::Text(text) if text.as_slice() == b"hi".as_slice())
+            matches!(&first.event, Event::Text(text) if text.as_slice() == b"h".as_slice())
                 && matches!(&second.event, Event::Closed)
         }
         _ => false,

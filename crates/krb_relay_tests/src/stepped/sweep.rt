@@ -7,16 +7,35 @@ ghost use Rattle.krb_core.specs.Stepped.{lane_of};
 
 use super::frames::{PRIV_BATCH, PRIV_CLOSE, PRIV_TEXT, SAFE_BATCH, SAFE_CLOSE, SAFE_TEXT};
 use super::steps::{is_whole, relay_of_one};
-use super::{is_answer, receiver};
 use crate::asserts::assert_same;
-use crate::session::{MICROS, moment};
+use crate::lanes::{moment, receiver};
 use krb_base::Bytes;
-use krb_core::{Did, Log, Receiver, Stepped, Texts, Turn};
+use krb_core::{Delivery, Did, Log, Receiver, Stepped, Texts, Turn};
 use krb_seal::{Mode, Refusal};
 use std::alloc::{AllocError, Global};
 use std::io::Print;
 use std::process::Abort;
 use std::test::Fail;
+
+/// Whether an answer is a text, the letters of a batch's texts, or one word.
+fn is_answer(answer: &Result<Delivery, Refusal>, expected: &str) -> bool {
+    match answer {
+        Ok(Delivery::Text(text)) => text.as_slice() == expected.as_bytes(),
+        Ok(Delivery::Batch(texts)) => are_letters(texts.as_slice(), expected),
+        Ok(Delivery::Closed) => expected == "closed",
+        Err(refusal) => refusal.name() == expected,
+    }
+}
+
+/// Whether the texts are these letters, one each.
+fn are_letters(texts: &[Bytes], letters: &str) -> bool {
+    for (text, letter) in texts.iter().zip(letters.as_bytes()) {
+        if text.as_slice() != [*letter].as_slice() {
+            return false;
+        }
+    }
+    texts.len() == letters.len()
+}
 
 /// Asserts that a receiver which demands `number` answers a frame so, or wants memory, stands as
 /// before and then answers so. Answers whether it wanted memory.
@@ -28,7 +47,7 @@ fn takes(
     number: u64,
     word: &str,
 ) -> Result<bool, Fail> {
-    let now = moment(MICROS)?;
+    let now = moment()?;
     let mut answer = receiver.take(alloc, frame, now);
     let refused = matches!(answer, Err(Refusal::Memory));
     if refused {
@@ -66,7 +85,7 @@ fn assert_takes_both(
     text: &[u8],
     close: &[u8],
 ) -> Result<(), Fail> {
-    let mut receiver = receiver(rt.alloc(), mode, 7)?;
+    let mut receiver = receiver(rt.alloc(), false, mode, 1)?;
     for (frame, number, word) in [
         (close, 7, "BADORDER"),
         (text, 7, "hi"),
@@ -101,7 +120,7 @@ fn batch_is_taken_or_memory_wanted(rt: HostRuntime) -> Result<(), Fail> {
         ("KRB-SAFE", Mode::Safe, SAFE_BATCH.as_slice()),
         ("KRB-PRIV", Mode::Priv, &PRIV_BATCH),
     ] {
-        let mut receiver = receiver(rt.alloc(), mode, 7)?;
+        let mut receiver = receiver(rt.alloc(), false, mode, 1)?;
         assert_takes(&rt, &mut receiver, name, frame, 7, "ab")?;
         assert_same(&rt, (receiver.expected(), receiver.closed()), (8, false));
     }

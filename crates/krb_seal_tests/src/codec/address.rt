@@ -1,40 +1,25 @@
 use super::{SAFE, decode_safe};
-use crate::asserts::assert_same;
-use krb_der::{DerError, HostAddress};
-use std::alloc::Global;
+use crate::asserts::assert_same_at;
+use krb_der::HostAddress;
+use std::test::Fail;
 
-/// The sender's address of `SAFE`.
-fn sender(alloc: Global) -> Result<HostAddress, DerError> {
-    Ok(decode_safe(alloc, &SAFE)?.body.s_addr)
-}
-
-/// Whether an address and its clone are this one.
-fn are_same(made: &HostAddress, sender: &HostAddress) -> Result<(bool, bool), DerError> {
-    let copy = made.clone()?;
-    Ok((made.same(sender), copy.same(sender)))
-}
-
-/// Whether an address made of these parts, and its clone, are the sender's of `SAFE`.
-fn are_senders(alloc: Global, kind: i32, bytes: &[u8]) -> Result<(bool, bool), DerError> {
-    let made = HostAddress::new(alloc, kind, bytes)?;
-    are_same(&made, &sender(alloc)?)
-}
+/// Addresses by type and bytes, and whether each is the sender's of `SAFE`.
+static ADDRESSES: [(i32, &[u8], bool); 3] = [
+    (2, &[10, 0, 0, 1], true),
+    (3, &[10, 0, 0, 1], false),
+    (2, &[10, 0, 0], false),
+];
 
 #[test]
-fn address_is_made_of_its_parts_and_cloned(rt: HostRuntime) {
-    assert_same(
-        &rt,
-        are_senders(rt.alloc(), 2, &[10, 0, 0, 1]),
-        Ok((true, true)),
-    );
-    assert_same(
-        &rt,
-        are_senders(rt.alloc(), 3, &[10, 0, 0, 1]),
-        Ok((false, false)),
-    );
-    assert_same(
-        &rt,
-        are_senders(rt.alloc(), 2, &[10, 0, 0]),
-        Ok((false, false)),
-    );
+fn address_is_made_of_its_parts_and_cloned(rt: HostRuntime) -> Result<(), Fail> {
+    let alloc = rt.alloc();
+    let message = decode_safe(alloc, &SAFE)?;
+    let sender = &message.body.s_addr;
+    for (kind, bytes, same) in ADDRESSES {
+        let made = HostAddress::new(alloc, kind, bytes)?;
+        let copy = made.clone()?;
+        let found = (made.same(sender), copy.same(sender));
+        assert_same_at(&rt, found, (same, same), kind);
+    }
+    Ok(())
 }

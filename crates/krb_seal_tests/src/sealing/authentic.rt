@@ -2,9 +2,9 @@ use super::frames::{
     PRIV_17, PRIV_18, PRIV_CUT_PART, PRIV_EMPTY, SAFE_17, SAFE_LONG_CHECKSUM, SAFE_NO_NUMBER,
     SAFE_NO_TIME, SAFE_NO_USEC, SAFE_TIMELESS, SAFE_TO_RECEIVER,
 };
-use super::{KEY_128, opener, sealed, session, wide_opener};
+use super::opener;
 use crate::asserts::{assert_same, assert_same_at};
-use krb_seal::{Aes128Sealer, Mode, Opener, Sealer, authentic_laws};
+use krb_seal::{Mode, Opener, authentic_laws};
 use std::alloc::Global;
 
 /// The time, the microseconds and the number of an authentic frame with the user data 44 68 69 from
@@ -29,7 +29,7 @@ fn carried(
 
 #[test]
 fn what_a_frame_leaves_out_is_absent(rt: HostRuntime) {
-    let safe = opener(rt.alloc(), Mode::Safe).expect(&rt, "memory");
+    let safe = opener(rt.alloc(), false, Mode::Safe).expect(&rt, "memory");
     let secs = Some(1_700_000_000);
     for (case, (frame, expected)) in [
         (SAFE_17.as_slice(), (secs, Some(5), Some(7), false)),
@@ -44,25 +44,7 @@ fn what_a_frame_leaves_out_is_absent(rt: HostRuntime) {
     {
         assert_same_at(&rt, carried(rt.alloc(), &safe, frame), Ok(expected), case);
     }
-}
-
-#[test]
-fn an_encrypted_body_is_authentic(rt: HostRuntime) {
-    let narrow = opener(rt.alloc(), Mode::Priv).expect(&rt, "memory");
-    let wide = wide_opener(rt.alloc(), Mode::Priv).expect(&rt, "memory");
-    let expected = Ok((Some(1_700_000_000), Some(5), Some(7), false));
-    assert_same(&rt, carried(rt.alloc(), &narrow, &PRIV_17), expected);
-    assert_same(&rt, carried(rt.alloc(), &wide, &PRIV_18), expected);
-    assert_same(&rt, carried(rt.alloc(), &wide, &PRIV_17), Err(14));
-    assert_same(&rt, carried(rt.alloc(), &narrow, &PRIV_CUT_PART), Err(901));
-    assert_same(&rt, carried(rt.alloc(), &narrow, &PRIV_EMPTY), Err(31));
-    assert_same(&rt, carried(rt.alloc(), &narrow, &SAFE_17), Err(40));
-    authentic_laws();
-}
-
-#[test]
-fn another_checksum_is_modified(rt: HostRuntime) {
-    let safe = opener(rt.alloc(), Mode::Safe).expect(&rt, "memory");
+    // Another checksum is modified.
     assert_same(
         &rt,
         carried(rt.alloc(), &safe, &SAFE_LONG_CHECKSUM),
@@ -72,11 +54,15 @@ fn another_checksum_is_modified(rt: HostRuntime) {
 }
 
 #[test]
-fn a_sealer_goes_on_in_the_other_mode(rt: HostRuntime) {
-    let session = session(rt.alloc(), Mode::Priv, 7).expect(&rt, "memory");
-    let mut sealer = Aes128Sealer::new(&mut { KEY_128 }, session);
-    sealer.set_mode(Mode::Safe);
-    let frame = sealed(rt.alloc(), &mut sealer, b"Dhi", [0; 16]).expect(&rt, "a frame");
-    assert_same(&rt, frame.as_slice(), SAFE_17.as_slice());
-    assert_same(&rt, sealer.next(), 8);
+fn an_encrypted_body_is_authentic(rt: HostRuntime) {
+    let narrow = opener(rt.alloc(), false, Mode::Priv).expect(&rt, "memory");
+    let wide = opener(rt.alloc(), true, Mode::Priv).expect(&rt, "memory");
+    let expected = Ok((Some(1_700_000_000), Some(5), Some(7), false));
+    assert_same(&rt, carried(rt.alloc(), &narrow, &PRIV_17), expected);
+    assert_same(&rt, carried(rt.alloc(), &wide, &PRIV_18), expected);
+    assert_same(&rt, carried(rt.alloc(), &wide, &PRIV_17), Err(14));
+    assert_same(&rt, carried(rt.alloc(), &narrow, &PRIV_CUT_PART), Err(901));
+    assert_same(&rt, carried(rt.alloc(), &narrow, &PRIV_EMPTY), Err(31));
+    assert_same(&rt, carried(rt.alloc(), &narrow, &SAFE_17), Err(40));
+    authentic_laws();
 }
