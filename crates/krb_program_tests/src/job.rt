@@ -1,7 +1,7 @@
 //! What a caller of krb_job sees that no output of the program shows.
 
 use crate::asserts::assert_same_at;
-use krb_job::{Command, JobError, Secret, read_job};
+use krb_job::{Command, JobError, read_job};
 use std::alloc::Global;
 use std::test::Fail;
 
@@ -50,18 +50,5 @@ fn batch_of_a_sender(rt: HostRuntime) -> Result<(), Fail> {
         let error = error_of(rt.alloc(), text.as_str(), command);
         assert_same_at(&rt, error, None, line);
     }
-    Ok(())
-}
-
-#[test]
-fn secret_grows_shows_no_byte_and_is_given_back(rt: HostRuntime) -> Result<(), Fail> {
-    let mut secret = Secret::new(Vec::from_slice(rt.alloc(), b"0")?);
-    for digit in b"123456789" {
-        secret.append(rt.alloc(), &[*digit])?;
-    }
-    assert!(rt; secret.as_slice() == b"0123456789".as_slice());
-    let shown = format!(in rt.alloc(); "{secret:?}")?;
-    assert!(rt; shown.as_str() == "Secret");
-    assert!(rt; secret.into_vec(rt.alloc()).as_slice() == b"0123456789".as_slice());
     Ok(())
 }

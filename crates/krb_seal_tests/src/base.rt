@@ -1,7 +1,7 @@
-//! Byte strings on the heap.
+//! Byte strings on the heap, and those that are overwritten when they end.
 
 use crate::asserts::assert_same;
-use krb_base::Bytes;
+use krb_base::{Bytes, Secret};
 use std::test::Fail;
 
 #[test]
@@ -9,5 +9,18 @@ fn bytes_give_back_what_they_were_made_of(rt: HostRuntime) -> Result<(), Fail> {
     let bytes = Bytes::new(vec![in rt.alloc(); 0x68, 0x69]?);
     assert_same(&rt, bytes.as_slice(), b"hi".as_slice());
     assert_same(&rt, bytes.into_vec().as_slice(), b"hi".as_slice());
+    Ok(())
+}
+
+#[test]
+fn secret_grows_shows_no_byte_and_is_given_back(rt: HostRuntime) -> Result<(), Fail> {
+    let mut secret = Secret::new(Vec::from_slice(rt.alloc(), b"0")?);
+    for digit in b"123456789" {
+        secret.append(rt.alloc(), &[*digit])?;
+    }
+    assert!(rt; secret.as_slice() == b"0123456789".as_slice());
+    let shown = format!(in rt.alloc(); "{secret:?}")?;
+    assert!(rt; shown.as_str() == "Secret");
+    assert!(rt; secret.into_vec(rt.alloc()).as_slice() == b"0123456789".as_slice());
     Ok(())
 }

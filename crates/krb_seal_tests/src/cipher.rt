@@ -1,6 +1,6 @@
 //! The cipher on vectors of FIPS 197, NIST SP 800-38A and RFC 3962.
 
-use krb_aes::{CipherKey, Schedule, cts_decrypt, cts_encrypt};
+use krb_aes::{CipherKey, InverseSchedule, Schedule, cts_decrypt, cts_encrypt};
 use std::process::Abort;
 
 // The text of RFC 3962, appendix B, whose vectors are beginnings of it.
@@ -14,25 +14,42 @@ fn wide_key(first: u128, second: u128) -> CipherKey {
     CipherKey::from_256(key)
 }
 
-// The schedule of a key, which ends here.
-fn schedule_of(mut key: CipherKey) -> Schedule {
-    let schedule = Schedule::new(&key);
-    key.wipe();
-    key.spend();
-    schedule
+/// The round keys of a key, for both directions.
+struct Schedules {
+    forward: Schedule,
+    backward: InverseSchedule,
 }
 
-fn end(mut schedule: Schedule) {
-    schedule.wipe();
-    schedule.spend();
+impl Schedules {
+    /// The schedules of a key, which ends here.
+    fn new(mut key: CipherKey) -> Schedules {
+        let schedules = Schedules {
+            forward: Schedule::new(&key),
+            backward: InverseSchedule::new(&key),
+        };
+        key.wipe();
+        key.spend();
+        schedules
+    }
+
+    fn end(self) {
+        let Schedules {
+            mut forward,
+            mut backward,
+        } = self;
+        forward.wipe();
+        forward.spend();
+        backward.wipe();
+        backward.spend();
+    }
 }
 
 /// Asserts that a block is enciphered so under the key, which ends here, and deciphered again.
 fn assert_blocks(rt: &impl Abort, key: CipherKey, text: u128, cipher: u128) {
-    let schedule = schedule_of(key);
-    let enciphered = schedule.encrypt_block(&text.to_be_bytes());
-    let deciphered = schedule.decrypt_block(&enciphered);
-    end(schedule);
+    let schedules = Schedules::new(key);
+    let enciphered = schedules.forward.encrypt_block(&text.to_be_bytes());
+    let deciphered = schedules.backward.decrypt_block(&enciphered);
+    schedules.end();
     assert!(rt; u128::from_be_bytes(enciphered) == cipher);
     assert!(rt; u128::from_be_bytes(deciphered) == text);
 }
@@ -120,16 +137,16 @@ static STOLEN: [&[u8]; 6] = [
 fn assert_steals(rt: &impl Abort, key: CipherKey, cipher: &[u8]) {
     let size = cipher.len();
     let mut text = SOUP;
-    let schedule = schedule_of(key);
+    let schedules = Schedules::new(key);
     let is_in_range = size >= 16 && size <= 64;
     if is_in_range {
-        cts_encrypt(&schedule, &mut text[..size]);
+        cts_encrypt(&schedules.forward, &mut text[..size]);
     }
     let is_cipher = is_in_range && &text[..size] == cipher;
     if is_in_range {
-        cts_decrypt(&schedule, &mut text[..size]);
+        cts_decrypt(&schedules.backward, &mut text[..size]);
     }
-    end(schedule);
+    schedules.end();
     assert!(rt; is_cipher, "at {size} bytes");
     assert!(rt; text == SOUP, "at {size} bytes");
 }

@@ -44,6 +44,12 @@ fn bytes_are_of_one_record_or_of_none(rt: HostRuntime) {
             None => Err(RecordError::BadRecord),
         };
         assert_same_at(&rt, kind_of(rt.alloc(), bytes), expected, case);
+        assert_same_at(
+            &rt,
+            RecordKind::of(bytes),
+            RecordKind::from_number(*number),
+            case,
+        );
     }
 }
 
