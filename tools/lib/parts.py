@@ -76,6 +76,8 @@ class Part:
 FIRST = Part("tools/wrong_bodies", 2, ("rt",))
 GATE = Part("rt ci", 174, ("rt",))
 BUILD = Part("tools/krbrelay --prove", 60, ("rt",))
+# It builds the C library, which the carrier takes then.
+ALONE = [Part("tools/c_library --core", 30, ("rt", COMPILER, CRYPTOGRAPHY))]
 PARTS = [
     Part("tools/quotes", 1),
     Part("tools/reference --check", 1),
@@ -99,7 +101,6 @@ MORE = [
     Part("tools/wrong_bodies --try", 170, ("rt",)),
     Part("tools/fuzz 20000 2", 60, (PROGRAM, CRYPTOGRAPHY)),
     Part("tools/interop", 20, (PROGRAM, COMPILER, MIT, HEIMDAL)),
-    Part("tools/c_library --core", 60, ("rt", COMPILER)),
     Part("tools/c_library", 60, ("rt", COMPILER, MIT, "clang", "valgrind")),
     Part("tools/python --all", 20, (COMPILER, CRYPTOGRAPHY)),
     Part("tools/kerberos", 75, ("rt", COMPILER, MIT, HEIMDAL, REALM)),
@@ -116,7 +117,7 @@ def of_tool(name, parts):
 
 def belongs(name):
     """Which form of tools/test runs a tool."""
-    for form, parts in (("test", [FIRST, *PARTS]), ("--all", MORE), ("--without-proofs", [BUILD])):
+    for form, parts in (("test", [FIRST, *ALONE, *PARTS]), ("--all", MORE), ("--without-proofs", [BUILD])):
         if of_tool(name, parts):
             return form
     return "-"
@@ -124,7 +125,7 @@ def belongs(name):
 
 def needs_of(name):
     """What a tool needs: as its first part here, or as it says itself."""
-    found = of_tool(name, [FIRST, *PARTS, *MORE])
+    found = of_tool(name, [FIRST, *PARTS, *MORE, *ALONE])
     return ", ".join(found[0].needs) or "Python" if found else scripts.needs(name)
 
 
