@@ -64,11 +64,9 @@ fn what_was_sent_comes_back_where_the_receiver_is_gone(rt: HostRuntime) -> Resul
     let (mut tx, rx) = lane(&rt, alloc, 2)?;
     tx.send(&rt, [0x60].to_vec(alloc)?)?;
     drop(rx);
-    // The longest raw frame of a job.
-    let expected = vec![in alloc; 0x61; 1_010_000]?;
-    match tx.send(&rt, expected.clone()?) {
+    match tx.send(&rt, [0x61].to_vec(alloc)?) {
         Ok(()) => return Err(Fail::from("sent")),
-        Err(back) => assert!(rt; back.as_slice() == expected.as_slice()),
+        Err(back) => assert_same(&rt, back.as_slice(), [0x61].as_slice()),
     }
     assert_same(&rt, tx.count(), 1);
     match tx.end(&rt) {
@@ -76,6 +74,22 @@ fn what_was_sent_comes_back_where_the_receiver_is_gone(rt: HostRuntime) -> Resul
         Err(tx) => {
             assert_same(&rt, tx.count(), 1);
             assert_same(&rt, tx.stop().count(), 1);
+            Ok(())
+        }
+    }
+}
+
+#[test]
+fn longest_raw_frame_comes_back_whole(rt: HostRuntime) -> Result<(), Fail> {
+    let alloc = rt.alloc();
+    let (mut tx, rx) = lane(&rt, alloc, 64)?;
+    drop(rx);
+    let expected = vec![in alloc; 0x61; 1_010_000]?;
+    match tx.send(&rt, vec![in alloc; 0x61; 1_010_000]?) {
+        Ok(()) => Err(Fail::from("sent")),
+        Err(back) => {
+            assert!(rt; back.as_slice() == expected.as_slice());
+            assert_same(&rt, tx.count(), 0);
             Ok(())
         }
     }

@@ -5,9 +5,10 @@ mod frames;
 mod steps;
 mod sweep;
 
-use crate::asserts::{assert_log, assert_same};
+use crate::asserts::{assert_log, assert_same, assert_sender};
 use crate::lanes::Lanes;
 use crate::watch::{Odd, Watch};
+use frames::{SAFE_BATCH, SAFE_CLOSE};
 use krb_core::{StartError, Status, Stepped};
 use std::alloc::Global;
 use std::process::Abort;
@@ -147,5 +148,21 @@ fn first_refusal_is_answered(rt: HostRuntime) -> Result<(), Fail> {
         let ([_, _, _, first], [_, _, _, second]) = (gate.counts(0), gate.counts(1));
         assert_same(&rt, (first, second), (1, 1));
     }
+    Ok(())
+}
+
+/// The frames of a batch and of the close are those of another sealer.
+#[test]
+fn all_records_are_sealed_as_by_another_sealer(rt: HostRuntime) -> Result<(), Fail> {
+    let gate = Watch::new(rt.alloc(), 0)?;
+    let mut lanes = Lanes::new(rt.alloc());
+    lanes.add(rt.alloc(), &gate, false, PLAIN, b"", 1)?;
+    lanes.add(rt.alloc(), &gate, false, PLAIN, b"ab", 2)?;
+    let mut sender = lanes.sendings.pop().ok_or("no sender")?;
+    assert_sender(&rt, &sender);
+    let frames = sender.seal_all(rt.alloc())?;
+    assert!(rt; frames.len() == 2);
+    assert_same(&rt, frames[0].as_slice(), SAFE_BATCH.as_slice());
+    assert_same(&rt, frames[1].as_slice(), SAFE_CLOSE.as_slice());
     Ok(())
 }
