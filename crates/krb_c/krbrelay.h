@@ -3,8 +3,8 @@
  *
  * A handle is a struct of the caller's, made of zeros: struct krbrelay_sealer s = { 0 };
  * It holds nothing, or one sealer, opener or receiver on the heap. End it by its krbrelay_*_free,
- * which overwrites the keys that it holds; freeing twice is harmless. Copies of keys that calls left
- * on the stack below the caller are overwritten by none.
+ * which overwrites the keys that it holds; freeing twice is harmless. No call overwrites the copies of
+ * keys that calls left on the stack below their caller.
  *
  * Each call that answers an enum answers KRBRELAY_OK, or why it did nothing: what it would have
  * written is as it was.
@@ -246,8 +246,8 @@ enum krbrelay_answer krbrelay_sealer_frame_size(struct krbrelay_sealer *handle, 
 enum krbrelay_answer krbrelay_sealer_set_mode(struct krbrelay_sealer *handle, uint32_t mode)
     KRBRELAY_NONNULL(1) KRBRELAY_CHECKED;
 
-/* Overwrites the keys where they lie: from then on each call that would seal answers KRBRELAY_WIPED,
- * where its record, room and moment are right. The others answer as before. */
+/* Overwrites the keys where they lie: from then on krbrelay_sealer_seal and _seal_record answer
+ * KRBRELAY_WIPED, after they looked at record, room and moment. The other calls answer as before. */
 void krbrelay_sealer_wipe(struct krbrelay_sealer *handle) KRBRELAY_NONNULL(1);
 
 /* Overwrites the keys and frees the sealer. The handle holds nothing then. */
