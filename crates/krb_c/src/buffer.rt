@@ -3,6 +3,7 @@
 ghost use Rattle.std.specs.Prelude.{◌≡◌, ◌≤◌, ◌<◌, ◌++◌, length, take, drop, IfErr, IfOk, OnErr};
 
 use crate::fault::Fault;
+use krb_base::Secret;
 
 /// Writes bytes to the start of a buffer that has room for them, and leaves what follows them.
 pub fn put_front(out: &mut [u8], bytes: &[u8])
@@ -26,4 +27,15 @@ pub fn put_within(out: &mut [u8], bytes: &[u8]) -> Result<usize, Fault>
     }
     put_front(out, bytes);
     Ok(bytes.len())
+}
+
+/// The same of user data.
+pub fn put_user_data(out: &mut [u8], user_data: &Secret) -> Result<usize, Fault>
+    ensures written { IfOk result (λ size. take size out.new ≡ user_data.now) }
+    ensures size { IfOk result (λ size. size ≤ length out.new) }
+    ensures behind { IfOk result (λ size. drop size out.new ≡ drop size out.old) }
+    ensures kept { OnErr result (out.new ≡ out.old) }
+    ensures room { IfErr result (λ f. (f ≡ Fault.Room) × (length out.old < length user_data.now)) }
+{
+    put_within(out, user_data.as_slice())
 }

@@ -166,10 +166,11 @@ pub fn open_body(
     ensures short { IfOk result (λ b. AreShort b.s_addr b.r_addr) }
 {
     let body = opener.authenticate(alloc, frame)?;
-    let checked = check_demand(demand, now, &body);
-    if let Err(refusal) = checked {
-        refuse(body);
-        return Err(refusal);
+    match check_demand(demand, now, &body) {
+        Ok(()) => Ok(body),
+        Err(refusal) => {
+            refuse(body);
+            Err(refusal)
+        }
     }
-    Ok(body)
 }

@@ -6,7 +6,7 @@ ghost use Rattle.krb_c.specs.Moment.{micros_of};
 ghost use Rattle.krb_c.specs.Reasons.{DemandFault, OpenFault};
 ghost use Rattle.krb_c.specs.Unseals.{UnsealsInto};
 
-use crate::buffer::put_within;
+use crate::buffer::put_user_data;
 use crate::carried::{KrbCarried, carried};
 use crate::demand::{KrbDemand, is_demand, open_body};
 use crate::fault::Fault;
@@ -50,7 +50,7 @@ pub fn unseal_into(
     ensures { UnsealsInto (Some opener.now) number at.now frame.now out.old out.new result }
 {
     let user_data = unsealed(alloc, opener, frame, number, at)?;
-    put_within(out, user_data.as_slice())
+    put_user_data(out, &user_data)
 }
 
 /// Opens a frame into its own bytes, unless the opener was wiped, and answers the size of the user
@@ -65,7 +65,7 @@ pub fn unseal_in_place(
     ensures { UnsealsInto (Some opener.now) number at.now frame.old frame.old frame.new result }
 {
     let user_data = unsealed(alloc, opener, frame, number, at)?;
-    put_within(frame, user_data.as_slice())
+    put_user_data(frame, &user_data)
 }
 
 /// Opens with demands of the caller's into a buffer, unless the opener was wiped, tells what else
@@ -99,7 +99,7 @@ pub fn open_into(
     let carried = carried(&body);
     let Body { user_data, .. } = body;
     let user_data = Secret::new(user_data.into_vec());
-    let size = put_within(out, user_data.as_slice())?;
+    let size = put_user_data(out, &user_data)?;
     *told = carried;
     Ok(size)
 }

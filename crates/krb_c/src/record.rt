@@ -10,6 +10,7 @@ ghost use Rattle.krb_c.specs.Record.{IsNoRecordOf, IsRecordOf};
 use crate::fault::Fault;
 use krb_base::{Secret, USER_DATA_LIMIT};
 use krb_peers::RecordKind;
+use krb_record::record_laws;
 use krb_seal::Refusal;
 use std::alloc::{AllocError, Global};
 
@@ -40,6 +41,7 @@ pub fn record_of(alloc: Global, number: u32, body: &[u8]) -> Result<Secret, Faul
     let Some(kind) = RecordKind::from_number(number) else {
         return Err(Fault::Record);
     };
+    record_laws();
     if body.len() >= USER_DATA_LIMIT {
         return Err(Fault::Record);
     }

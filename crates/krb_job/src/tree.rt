@@ -29,6 +29,7 @@ pub(crate) fn read_tree(alloc: Global, bytes: &[u8]) -> Result<Table, JobError>
 
 /// Drops a document, and first overwrites each text in it, at every depth: its keys may stand
 /// anywhere.
+#[cycle(wipe)]
 pub(crate) fn wipe_tree(table: Table) {
     for (name, value) in table {
         drop(Secret::new(name.into_bytes()));
@@ -36,6 +37,7 @@ pub(crate) fn wipe_tree(table: Table) {
     }
 }
 
+#[cycle(wipe)]
 fn wipe_value(value: Value) {
     match value {
         Value::String(text) => drop(Secret::new(text.into_bytes())),

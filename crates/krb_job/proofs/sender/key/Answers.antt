@@ -8,10 +8,10 @@ use Rattle.krb_job.proofs.sender.key.Goals as goal
 
 pub returns-then-is_used : goal.returns-then-is_used
 returns-then-is_used c =
-    let used : list_any (bytes_eq c.in_ok-bytes.bytes) (keys_of c.args.earlier.now) ≡ true = grind (arith, common_steps, used-keys c.in_ok-bytes.bytes c.args.earlier.now) in
+    let used : list_any (bytes_eq c.in_ok-key.key) (keys_of c.args.earlier.now) ≡ true = grind (arith, common_steps, used-keys c.in_ok-key.key c.args.earlier.now) in
     grind (arith, common_steps, used)
 
 pub returns-else-is_used : goal.returns-else-is_used
 returns-else-is_used c =
-    let unused : list_any (bytes_eq c.in_ok-bytes.bytes) (keys_of c.args.earlier.now) ≡ false = grind (arith, common_steps, used-keys c.in_ok-bytes.bytes c.args.earlier.now) in
+    let unused : list_any (bytes_eq c.in_ok-key.key) (keys_of c.args.earlier.now) ≡ false = grind (arith, common_steps, used-keys c.in_ok-key.key c.args.earlier.now) in
     grind (arith, common_steps, unused)
