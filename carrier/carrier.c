@@ -21,6 +21,21 @@ struct carrier *carrier_open(const char *where, unsigned replicas)
     return NULL;
 }
 
+int carrier_incarnation(struct carrier *carrier, unsigned shard, uint64_t *incarnation)
+{
+    return carrier->incarnation(carrier, shard, incarnation);
+}
+
+int carrier_make(struct carrier *carrier, unsigned shard, uint64_t *incarnation)
+{
+    return carrier->make(carrier, shard, incarnation);
+}
+
+int carrier_last(struct carrier *carrier, unsigned shard, const char *session, struct carried *last)
+{
+    return carrier->last(carrier, shard, session, last);
+}
+
 int carrier_publish(struct carrier *carrier, unsigned shard, const char *session, uint32_t tag,
                     uint64_t number, const uint8_t *frame, size_t len)
 {

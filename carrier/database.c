@@ -1,6 +1,9 @@
 #include "database.h"
 
+#include <fcntl.h>
 #include <stdio.h>
+#include <string.h>
+#include <unistd.h>
 
 #ifndef DATABASE_PATIENCE
 #define DATABASE_PATIENCE 10000 /* milliseconds to wait for other processes */
@@ -46,9 +49,19 @@ static int make_tables(sqlite3 *db, const char *tables)
     return -1;
 }
 
+/* Makes the file for its owner alone, unless it exists: SQLite gives its other files the same mode.
+ * What can't be made here, sqlite3_open reports. */
+static void make_file(const char *path)
+{
+    int file = open(path, O_RDWR | O_CREAT | O_CLOEXEC, 0600);
+    if (file >= 0)
+        close(file);
+}
+
 sqlite3 *open_database(const char *path, const char *tables)
 {
     sqlite3 *db = NULL;
+    make_file(path);
     if (sqlite3_open(path, &db) != SQLITE_OK) {
         fprintf(stderr, "%s: %s: is there such a folder, and may this user write there?\n", path,
                 db != NULL ? sqlite3_errmsg(db) : "out of memory");
@@ -60,6 +73,23 @@ sqlite3 *open_database(const char *path, const char *tables)
         return db;
     sqlite3_close(db);
     return NULL;
+}
+
+int add_column(sqlite3 *db, const char *table, const char *column)
+{
+    char sql[256];
+    sqlite3_stmt *select;
+    int len = (int)strcspn(column, " "), has = -1;
+    snprintf(sql, sizeof sql, "SELECT 1 FROM pragma_table_info('%s') WHERE name = '%.*s'", table,
+             len, column);
+    select = prepare(db, sql);
+    if (select != NULL)
+        has = step_row(select);
+    sqlite3_finalize(select);
+    if (has != 0)
+        return has > 0 ? 0 : -1;
+    snprintf(sql, sizeof sql, "ALTER TABLE %s ADD COLUMN %s", table, column);
+    return run(db, sql);
 }
 
 int run(sqlite3 *db, const char *sql)

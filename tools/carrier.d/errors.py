@@ -23,8 +23,14 @@ class Ends:
         self.sessions, self.outbox = f"{folder}/sessions", f"{folder}/outbox.db"
         self.carrier = f"sqlite:{folder}/carrier.db"
         self.store = store or f"sqlite:{folder}/store.db"
-        with open(self.sessions, "w", encoding="ascii") as file:
-            file.writelines(SESSIONS)
+        self.write(self.sessions, SESSIONS)
+
+    @staticmethod
+    def write(path, lines):
+        """Writes a file of sessions, which only its owner may read."""
+        with open(os.open(path, os.O_WRONLY | os.O_CREAT | os.O_TRUNC, 0o600), "w",
+                  encoding="ascii") as file:
+            file.writelines(lines)
 
     def command(self, name, *more, **other):
         """A program with its options, some of which may be others."""
@@ -68,8 +74,7 @@ def is_told(done, words, status=1):
 def test_arguments(count, ends):
     done = ends.run("receiver", sessions=f"{ends.folder}/none")
     count.told(is_told(done, "No such file"), "error: no file of sessions")
-    with open(f"{ends.folder}/bad", "w", encoding="ascii") as file:
-        file.write(SESSIONS[0] + "tom 0 18 priv 22 1 10.0.0.2 10.0.0.255\n")
+    ends.write(f"{ends.folder}/bad", SESSIONS[:1] + ["tom 0 18 priv 22 1 10.0.0.2 10.0.0.255\n"])
     done = ends.run("sender", sessions=f"{ends.folder}/bad")
     count.told(is_told(done, "line 2 isn't NAME SHARD ETYPE MODE KEY FIRST FROM TO"),
                "error: a bad line among the sessions")
