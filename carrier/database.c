@@ -1,9 +1,7 @@
 #include "database.h"
 
-#include <fcntl.h>
 #include <stdio.h>
 #include <string.h>
-#include <unistd.h>
 
 #ifndef DATABASE_PATIENCE
 #define DATABASE_PATIENCE 10000 /* milliseconds to wait for other processes */
@@ -49,19 +47,9 @@ static int make_tables(sqlite3 *db, const char *tables)
     return -1;
 }
 
-/* Makes the file for its owner alone, unless it exists: SQLite gives its other files the same mode.
- * What can't be made here, sqlite3_open reports. */
-static void make_file(const char *path)
-{
-    int file = open(path, O_RDWR | O_CREAT | O_CLOEXEC, 0600);
-    if (file >= 0)
-        close(file);
-}
-
 sqlite3 *open_database(const char *path, const char *tables)
 {
     sqlite3 *db = NULL;
-    make_file(path);
     if (sqlite3_open(path, &db) != SQLITE_OK) {
         fprintf(stderr, "%s: %s: is there such a folder, and may this user write there?\n", path,
                 db != NULL ? sqlite3_errmsg(db) : "out of memory");

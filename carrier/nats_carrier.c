@@ -8,7 +8,8 @@
 enum {
     RECONNECT = 200, /* milliseconds between tries */
     SILENT = 2000,   /* milliseconds after which a server that doesn't answer or read is left */
-    ANSWERED = 1000, /* milliseconds in which a question about a stream is answered */
+    SHORTEST = 500,  /* milliseconds to wait for what a stream answers: so long at first, */
+    LONGEST = 5000,  /* twice as long after each time in vain, and half after each answer */
     SERVERS = 16,    /* the most servers of a name */
     WHERE = 2048     /* the most bytes of their addresses */
 };
@@ -34,18 +35,36 @@ static const char *fault_of(const struct nats_carrier *c, const jsStreamConfig *
     return NULL;
 }
 
+/* The options of a question about a stream, which is waited for as long as seems right. */
+static natsStatus begin_to_ask(struct nats_carrier *c, jsOptions *options)
+{
+    natsStatus status = jsOptions_Init(options);
+    if (c->patience < SHORTEST)
+        c->patience = SHORTEST;
+    options->Wait = c->patience;
+    return status;
+}
+
+static void note_asked(struct nats_carrier *c, natsStatus status)
+{
+    if (status == NATS_TIMEOUT)
+        c->patience = 2 * c->patience < LONGEST ? 2 * c->patience : LONGEST;
+    else
+        c->patience /= 2;
+}
+
 natsStatus nats_ask_stream(struct nats_carrier *c, unsigned shard, jsStreamInfo **info)
 {
     char name[32];
     const char *fault;
     jsOptions options;
     jsErrCode code = 0;
-    natsStatus status = jsOptions_Init(&options);
+    natsStatus status = begin_to_ask(c, &options);
     *info = NULL;
-    options.Wait = ANSWERED;
     snprintf(name, sizeof name, "KRB_%u", shard);
     if (status == NATS_OK)
         status = js_GetStreamInfo(info, c->js, name, &options, &code);
+    note_asked(c, status);
     if (status != NATS_OK)
         return status;
     fault = fault_of(c, (*info)->Config);
@@ -74,14 +93,14 @@ static int last(struct carrier *base, unsigned shard, const char *session, struc
     char name[32], subject[64];
     jsOptions options;
     jsErrCode code = 0;
-    natsStatus status = jsOptions_Init(&options);
+    natsStatus status = begin_to_ask(c, &options);
     natsMsg_Destroy(c->last);
     c->last = NULL;
-    options.Wait = ANSWERED;
     snprintf(name, sizeof name, "KRB_%u", shard);
     snprintf(subject, sizeof subject, "krb.%u.%s", shard, session);
     if (status == NATS_OK)
         status = js_GetLastMsg(&c->last, c->js, name, subject, &options, &code);
+    note_asked(c, status);
     if (status == NATS_NOT_FOUND || code == JSStreamNotFoundErr)
         return 0;
     if (status != NATS_OK)

@@ -9,7 +9,10 @@
 
 #include <nats/nats.h>
 
-enum { NATS_HELD = 4096 };
+enum { NATS_HELD = 4096, NATS_UNPROVED = 8192 };
+
+/* A confirmation, and whether the end of its stream was asked for since it came. */
+struct nats_answer { struct confirmed it; unsigned shard; int is_asked; };
 
 struct nats_carrier {
     struct carrier base;
@@ -17,12 +20,15 @@ struct nats_carrier {
     natsConnection *connection;
     jsCtx *js;
     unsigned replicas;
-    /* Of each shard to which frames are published: its incarnation, and the last offset that it is
-     * known to have, for which it was asked in this round of confirmations; whether that is known,
-     * or has to be asked, not before this moment. */
-    struct { uint64_t incarnation, last, asked, moment; unsigned tries; int is_known; }
+    int patience;                       /* milliseconds to wait for what a stream answers */
+    /* Of each shard to which frames are published: its incarnation, whether it is known, until
+     * when, and if not, not before which moment it is asked for; the last offset that it is known
+     * to have, and when it was asked for that, or 0. */
+    struct { uint64_t incarnation, until, moment, last, asked; int is_known; }
         made[CARRIER_SHARDS];
-    uint64_t round, doubted;            /* when it was last doubted that all are there */
+    uint64_t doubted;                   /* when it was last doubted that all are there */
+    struct nats_answer unproved[NATS_UNPROVED]; /* confirmations beyond the known ends */
+    int unproved_count;
     natsInbox *inbox;                   /* confirmations */
     natsSubscription *answers;
     natsMsg *last;                      /* of carrier_last */

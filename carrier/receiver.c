@@ -12,7 +12,7 @@
 #include <signal.h>
 #include <stdio.h>
 #include <stdlib.h>
-#include <string.h>
+#include <sys/stat.h>
 
 enum { WAIT = 100, MOST_REPLICAS = 5, SECOND = 1000000000, SHORTEST = 200, LONGEST = 5000 };
 
@@ -194,6 +194,7 @@ int main(int count, char **words)
         fputs(usage, stderr);
         return 2;
     }
+    umask(077); /* databases have texts and frames: they are for their owner alone */
     signal(SIGTERM, end_soon);
     signal(SIGINT, end_soon);
     srand((unsigned)nanoseconds());

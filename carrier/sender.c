@@ -13,6 +13,7 @@
 #include <stdio.h>
 #include <stdlib.h>
 #include <string.h>
+#include <sys/stat.h>
 
 enum {
     IDLE = 20,          /* milliseconds to wait for confirmations, or texts */
@@ -406,6 +407,7 @@ int main(int count, char **words)
         fputs(usage, stderr);
         return 2;
     }
+    umask(077); /* databases have texts and frames: they are for their owner alone */
     signal(SIGTERM, end_soon);
     signal(SIGINT, end_soon);
     return work(&sender);
