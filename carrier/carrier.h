@@ -75,7 +75,7 @@ int carrier_publish(struct carrier *carrier, unsigned shard, const char *session
 int carrier_confirmed(struct carrier *carrier, struct confirmed *list, size_t room,
                       int milliseconds);
 
-/* The next fetch begins after this offset of the shard, of the list that carrier_incarnation told
+/* The next fetch begins after this offset of the shard, of the list that carrier_incarnation gave
  * last. */
 void carrier_seek(struct carrier *carrier, unsigned shard, uint64_t offset);
 

@@ -26,7 +26,7 @@ static int report(sqlite3 *db, const char *what)
 static int set_journal(sqlite3 *db)
 {
     static const char sql[] = "PRAGMA journal_mode = WAL; PRAGMA synchronous = FULL;"
-                              " PRAGMA wal_autocheckpoint = 4000";
+                              " PRAGMA wal_autocheckpoint = 4000; PRAGMA cache_size = -16000";
     int tries, answer = SQLITE_BUSY;
     for (tries = 0; tries < PATIENCE / RETRY && answer == SQLITE_BUSY; tries++) {
         answer = sqlite3_exec(db, sql, NULL, NULL, NULL);

@@ -9,7 +9,7 @@ enum {
     RECONNECT = 200, /* milliseconds between tries */
     SILENT = 2000,   /* milliseconds after which a server that doesn't answer or read is left */
     SHORTEST = 500,  /* milliseconds to wait for what a stream answers: so long at first, */
-    LONGEST = 5000,  /* twice as long after each time in vain, and half after each answer */
+    LONGEST = 3500,  /* twice as long after each time in vain, and half after each answer */
     SERVERS = 16,    /* the most servers of a name */
     WHERE = 2048     /* the most bytes of their addresses */
 };

@@ -10,7 +10,7 @@
 #include <stdio.h>
 #include <string.h>
 
-enum { PATIENCE = 40, RETRY = 100, HEARTBEAT = 500, PENDING = 256 << 20, ANSWERED = 2000 };
+enum { PATIENCE = 40, RETRY = 100, HEARTBEAT = 500, PENDING = 256 << 20 };
 
 static void let_go(struct nats_carrier *c)
 {
@@ -68,21 +68,20 @@ static int check_stream(struct nats_carrier *c)
     return answer;
 }
 
-static int begin_reading(struct nats_carrier *c)
+/* A consumer of the stream that delivers all after the place where the reader stands. */
+static natsStatus make_consumer(struct nats_carrier *c, const char *name)
 {
-    char name[32], subject[32];
+    char subject[32];
     jsSubOptions options;
     jsOptions wait;
     jsErrCode code = 0;
-    natsStatus status;
-    int answer = check_stream(c);
-    if (answer != 0)
-        return answer;
-    snprintf(name, sizeof name, "KRB_%u", c->shard);
+    natsStatus status = jsSubOptions_Init(&options);
+    if (status == NATS_OK)
+        status = jsOptions_Init(&wait);
+    if (status != NATS_OK)
+        return status;
     snprintf(subject, sizeof subject, "krb.%u.*", c->shard);
-    jsSubOptions_Init(&options);
-    jsOptions_Init(&wait);
-    wait.Wait = ANSWERED;
+    wait.Wait = 2 * c->patience;
     options.Stream = name;
     options.Config.DeliverPolicy = js_DeliverByStartSequence;
     options.Config.OptStartSeq = c->after + 1;
@@ -91,12 +90,25 @@ static int begin_reading(struct nats_carrier *c)
     options.Config.Heartbeat = (int64_t)HEARTBEAT * 1000000;
     options.Config.MemoryStorage = true;
     options.Config.Replicas = 1;
-    status = js_SubscribeSync(&c->reader, c->js, subject, &wait, &options, &code);
+    return js_SubscribeSync(&c->reader, c->js, subject, &wait, &options, &code);
+}
+
+static int begin_reading(struct nats_carrier *c)
+{
+    char name[32];
+    natsStatus status;
+    int answer = check_stream(c);
+    if (answer != 0)
+        return answer;
+    snprintf(name, sizeof name, "KRB_%u", c->shard);
+    status = make_consumer(c, name);
+    if (status == NATS_OK)
+        status = natsSubscription_SetPendingLimits(c->reader, -1, PENDING);
     if (status != NATS_OK) {
+        natsSubscription_Destroy(c->reader);
         c->reader = NULL;
         return nats_report(c, name, status);
     }
-    natsSubscription_SetPendingLimits(c->reader, -1, PENDING);
     __atomic_store_n(&c->is_silent, 0, __ATOMIC_SEQ_CST);
     c->delivered = 0;
     c->tries = 0;

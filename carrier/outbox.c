@@ -35,7 +35,7 @@ static const char *const sql[OUTBOX_STATEMENTS] = {
     [SELECT_TEXTS] = ("SELECT id, session, body FROM text WHERE id > ? AND id <= ? ORDER BY id"
                       " LIMIT ?"),
     [HAS_TEXT] = "SELECT 1 FROM text WHERE id > ? LIMIT 1",
-    [DROP_TEXT] = "DELETE FROM text WHERE id = ?",
+    [DROP_TEXTS] = "DELETE FROM text WHERE id >= ? AND id <= ?",
     [ADD_FRAME] = "INSERT INTO frame VALUES (?, ?, ?)",
     [SELECT_FRAMES] = ("SELECT number, frame FROM frame WHERE session = ? AND number >= ?"
                        " ORDER BY number LIMIT ?"),
@@ -175,10 +175,11 @@ void outbox_end_texts(struct outbox *o)
     sqlite3_reset(o->statements[SELECT_TEXTS]);
 }
 
-int outbox_drop_text(struct outbox *o, sqlite3_int64 id)
+int outbox_drop_texts(struct outbox *o, sqlite3_int64 first, sqlite3_int64 last)
 {
-    sqlite3_bind_int64(o->statements[DROP_TEXT], 1, id);
-    return step_once(o->statements[DROP_TEXT]);
+    sqlite3_bind_int64(o->statements[DROP_TEXTS], 1, first);
+    sqlite3_bind_int64(o->statements[DROP_TEXTS], 2, last);
+    return step_once(o->statements[DROP_TEXTS]);
 }
 
 int outbox_add_frame(struct outbox *o, const char *session, uint64_t number, const uint8_t *frame,

@@ -22,7 +22,7 @@
 #include <sqlite3.h>
 
 enum outbox_statement {
-    LOAD_SESSION, SELECT_TEXTS, HAS_TEXT, DROP_TEXT, ADD_FRAME, SELECT_FRAMES, DROP_FRAMES,
+    LOAD_SESSION, SELECT_TEXTS, HAS_TEXT, DROP_TEXTS, ADD_FRAME, SELECT_FRAMES, DROP_FRAMES,
     SET_NEXT, SET_CARRIED, SELECT_OWNER, ADD_SESSION, ADD_STOPPED, OUTBOX_STATEMENTS
 };
 
@@ -63,7 +63,7 @@ void outbox_select_texts(struct outbox *outbox, sqlite3_int64 after, sqlite3_int
                          size_t limit);
 int outbox_next_text(struct outbox *outbox, struct waiting_text *text);
 void outbox_end_texts(struct outbox *outbox);
-int outbox_drop_text(struct outbox *outbox, sqlite3_int64 id);
+int outbox_drop_texts(struct outbox *outbox, sqlite3_int64 first, sqlite3_int64 last);
 
 int outbox_add_frame(struct outbox *outbox, const char *session, uint64_t number,
                      const uint8_t *frame, size_t len);

@@ -1,7 +1,7 @@
 /* The state of a sender, in three parts: texts.c takes texts from the outbox, publish.c publishes
  * their frames, and sender.c stores what they did, and has the loop.
  *
- * Sessions share nothing but the outbox. One that can't go on is stopped alone, and told in the
+ * Sessions share nothing but the outbox. One that can't go on is stopped alone, and reported in the
  * outbox's table `stopped`. Each shard has a window of frames that are under way, so that one which
  * takes nothing doesn't keep the others waiting. */
 #ifndef SENDER_H
@@ -48,8 +48,8 @@ struct sender {
     struct list touched;        /* sealed from in this transaction */
     struct list active;         /* with frames that aren't carried, or progress that isn't stored */
     struct list wanted;         /* to be checked before the first text is sealed */
-    unsigned long stopped;      /* so many stops were told */
-    char unknown[CARRIER_NAME]; /* the last session without a line that was told */
+    unsigned long stopped;      /* so many stops were reported */
+    char unknown[CARRIER_NAME]; /* the last session without a line that was reported */
     uint8_t *bytes;             /* of a frame that is opened */
     unsigned long published, again;
     uint64_t storing, carrying; /* nanoseconds */

@@ -7,8 +7,8 @@
  *
  * A receiver that begins reads how far the shard was read FIRST, and the sessions AFTER it. Then
  * each session is at least as far on as the offset. In the other order another receiver may pass
- * frames by between the two reads, for a reason of its own, and this one would go on behind them,
- * and never know. */
+ * frames by between the two reads, for a reason of its own, and this one would go on after them,
+ * and never learn of it. */
 #ifndef STORE_H
 #define STORE_H
 

@@ -141,38 +141,44 @@ static enum seal_answer look_at(struct sender *s, const struct lane *only,
     return seal_text(&s->sealing, *it, text);
 }
 
-static int drop(struct sender *s, const sqlite3_int64 *ids, size_t count)
+/* Texts that were taken, with none between them that wasn't. */
+struct run { sqlite3_int64 first, last; };
+
+static int drop(struct sender *s, const struct run *runs, size_t count)
 {
     size_t i;
     for (i = 0; i < count; i++)
-        if (outbox_drop_text(&s->outbox, ids[i]) != 0)
+        if (outbox_drop_texts(&s->outbox, runs[i].first, runs[i].last) != 0)
             return -1;
     return 0;
 }
 
-/* One pass over the texts after one of them, up to another. Tells the last that it looked at, 0 if
+/* One pass over the texts after one of them, up to another. Gives the last that it looked at, 0 if
  * there was none, and whether there may be more. */
 static enum seal_answer pass(struct sender *s, const struct lane *only, sqlite3_int64 after,
                              sqlite3_int64 to, sqlite3_int64 *last, int *has_more,
                              struct sending **stopped)
 {
-    sqlite3_int64 taken[LOOKED];
+    struct run runs[LOOKED];
     struct waiting_text text = { 0, NULL, NULL, 0 };
     enum seal_answer answer = SEAL_OK;
     size_t count = 0, looked = 0;
-    int row = 0, is_taken;
+    int row = 0, is_taken = 0;
     *last = 0;
     outbox_select_texts(&s->outbox, after, to, LOOKED);
     while (answer == SEAL_OK && (row = outbox_next_text(&s->outbox, &text)) == 1) {
+        int was_taken = is_taken;
         answer = look_at(s, only, &text, stopped, &is_taken);
+        if (is_taken && !was_taken)
+            runs[count++].first = text.id;
+        if (is_taken)
+            runs[count - 1].last = text.id;
         *last = text.id;
         looked++;
-        if (is_taken)
-            taken[count++] = text.id;
     }
     outbox_end_texts(&s->outbox);
     *has_more = looked == LOOKED;
-    if (answer == SEAL_OK && (row < 0 || drop(s, taken, count) != 0))
+    if (answer == SEAL_OK && (row < 0 || drop(s, runs, count) != 0))
         return SEAL_FAULT;
     return answer;
 }
@@ -189,12 +195,10 @@ static enum seal_answer pass_lane(struct sender *s, struct lane *lane, struct se
     return answer;
 }
 
+/* None where few would be taken: each transaction is synced. */
 static size_t room_of(const struct lane *lane)
 {
-    size_t room = lane->backlog < WINDOW ? WINDOW - lane->backlog : 0;
-    if (room < TAKEN / 4)
-        return 0; /* few would be taken */
-    return room < TAKEN ? room : TAKEN;
+    return lane->backlog + TAKEN <= WINDOW ? TAKEN : 0;
 }
 
 static int are_all_deferred(const struct sender *s)
