@@ -58,6 +58,11 @@ int carrier_fetch(struct carrier *carrier, struct carried *list, size_t room, in
     return carrier->fetch(carrier, list, room, milliseconds);
 }
 
+int carrier_behind(struct carrier *carrier, uint64_t *frames)
+{
+    return carrier->behind(carrier, frames);
+}
+
 void carrier_close(struct carrier *carrier)
 {
     carrier->close(carrier);

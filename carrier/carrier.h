@@ -83,6 +83,9 @@ void carrier_seek(struct carrier *carrier, unsigned shard, uint64_t offset);
  * long. CARRIER_CHANGED: ask for the incarnation, and seek. */
 int carrier_fetch(struct carrier *carrier, struct carried *list, size_t room, int milliseconds);
 
+/* How many frames stand after the last that was fetched: about, and as far as that is known. */
+int carrier_behind(struct carrier *carrier, uint64_t *frames);
+
 void carrier_close(struct carrier *carrier);
 
 /* ---- For those who write a carrier: its first member is a struct carrier. */
@@ -96,6 +99,7 @@ struct carrier {
                    size_t);
     int (*confirmed)(struct carrier *, struct confirmed *, size_t, int);
     int (*fetch)(struct carrier *, struct carried *, size_t, int);
+    int (*behind)(struct carrier *, uint64_t *);
     void (*close)(struct carrier *);
 };
 

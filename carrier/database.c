@@ -1,4 +1,5 @@
 #include "database.h"
+#include "ending.h"
 
 #include <stdio.h>
 #include <string.h>
@@ -28,7 +29,7 @@ static int set_journal(sqlite3 *db)
     static const char sql[] = "PRAGMA journal_mode = WAL; PRAGMA synchronous = FULL;"
                               " PRAGMA wal_autocheckpoint = 4000; PRAGMA cache_size = -16000";
     int tries, answer = SQLITE_BUSY;
-    for (tries = 0; tries < PATIENCE / RETRY && answer == SQLITE_BUSY; tries++) {
+    for (tries = 0; tries < PATIENCE / RETRY && answer == SQLITE_BUSY && !is_ending(); tries++) {
         answer = sqlite3_exec(db, sql, NULL, NULL, NULL);
         if (answer == SQLITE_BUSY)
             sqlite3_sleep(RETRY);
@@ -47,6 +48,16 @@ static int make_tables(sqlite3 *db, const char *tables)
     return -1;
 }
 
+/* Waits for other processes, unless this one is to end. */
+static int wait_for_others(void *given, int tries)
+{
+    (void)given;
+    if (is_ending() || tries >= PATIENCE / RETRY)
+        return 0;
+    sqlite3_sleep(RETRY);
+    return 1;
+}
+
 sqlite3 *open_database(const char *path, const char *tables)
 {
     sqlite3 *db = NULL;
@@ -56,8 +67,8 @@ sqlite3 *open_database(const char *path, const char *tables)
         sqlite3_close(db);
         return NULL;
     }
-    sqlite3_busy_timeout(db, PATIENCE);
-    if (set_journal(db) == 0 && make_tables(db, tables) == 0)
+    if (sqlite3_busy_handler(db, wait_for_others, NULL) == SQLITE_OK && set_journal(db) == 0
+        && make_tables(db, tables) == 0)
         return db;
     sqlite3_close(db);
     return NULL;

@@ -154,6 +154,7 @@ static void note_fault(natsConnection *connection, natsSubscription *subscriptio
 
 static natsStatus connect_to(struct nats_carrier *c, const char *where)
 {
+    jsOptions given;
     natsStatus status = natsOptions_Create(&c->options);
     if (status == NATS_OK)
         status = set_servers(c->options, where);
@@ -170,7 +171,11 @@ static natsStatus connect_to(struct nats_carrier *c, const char *where)
     if (status == NATS_OK)
         status = natsConnection_Connect(&c->connection, c->options);
     if (status == NATS_OK)
-        status = natsConnection_JetStream(&c->js, c->connection, NULL);
+        status = jsOptions_Init(&given);
+    if (status == NATS_OK) {
+        given.Wait = 2 * SHORTEST; /* for what the library asks by itself, as at a reader's end */
+        status = natsConnection_JetStream(&c->js, c->connection, &given);
+    }
     return status;
 }
 
@@ -207,6 +212,7 @@ struct carrier *nats_carrier_open(const char *where, unsigned replicas)
     c->base.confirmed = nats_confirmed;
     c->base.seek = nats_seek;
     c->base.fetch = nats_fetch;
+    c->base.behind = nats_behind;
     c->base.close = close_it;
     c->replicas = replicas;
     status = connect_to(c, where);

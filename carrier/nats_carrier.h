@@ -36,6 +36,7 @@ struct nats_carrier {
      * how often it was tried to begin, and the frames of the last fetch. */
     unsigned shard;
     uint64_t incarnation, after, delivered;
+    uint64_t pending;                   /* frames after the last, when it was delivered */
     unsigned tries;
     natsSubscription *reader;
     natsMsg *held[NATS_HELD];
@@ -61,6 +62,7 @@ int nats_confirmed(struct carrier *base, struct confirmed *list, size_t room, in
 /* nats_reader.c */
 void nats_seek(struct carrier *base, unsigned shard, uint64_t offset);
 int nats_fetch(struct carrier *base, struct carried *list, size_t room, int milliseconds);
+int nats_behind(struct carrier *base, uint64_t *frames);
 void nats_stop_reading(struct nats_carrier *c);
 
 #endif

@@ -134,6 +134,7 @@ static int read_message(struct nats_carrier *c, natsMsg *message, struct carried
         return 0;
     is_next = meta->Sequence.Consumer == c->delivered + 1 && meta->Sequence.Stream > c->after;
     it->offset = meta->Sequence.Stream;
+    c->pending = meta->NumPending;
     jsMsgMetaData_Destroy(meta);
     if (!is_next)
         return 0;
@@ -192,4 +193,11 @@ int nats_fetch(struct carrier *base, struct carried *list, size_t room, int mill
     if (status != NATS_OK && status != NATS_TIMEOUT)
         leave(c, status);
     return count;
+}
+
+int nats_behind(struct carrier *base, uint64_t *frames)
+{
+    struct nats_carrier *c = (struct nats_carrier *)base;
+    *frames = c->pending;
+    return c->reader != NULL ? 0 : CARRIER_FAULT;
 }

@@ -48,6 +48,7 @@ static const char *const sql[OUTBOX_STATEMENTS] = {
                      " VALUES (?1, ?2, ?2, 0, ?3)"),
     [ADD_STOPPED] = ("INSERT INTO stopped VALUES (?1, ?2, CAST(strftime('%s') AS INTEGER))"
                      " ON CONFLICT (session) DO UPDATE SET reason = ?2"),
+    [COUNT_TEXTS] = "SELECT count(*) FROM (SELECT 1 FROM text LIMIT 100000)",
 };
 
 static sqlite3_int64 owner(struct outbox *o)
@@ -129,6 +130,14 @@ int outbox_has_text(struct outbox *o, sqlite3_int64 after)
     row = step_row(o->statements[HAS_TEXT]) == 1;
     sqlite3_reset(o->statements[HAS_TEXT]);
     return row;
+}
+
+unsigned long outbox_count_texts(struct outbox *o)
+{
+    sqlite3_stmt *select = o->statements[COUNT_TEXTS];
+    sqlite3_int64 count = step_row(select) == 1 ? sqlite3_column_int64(select, 0) : 0;
+    sqlite3_reset(select);
+    return (unsigned long)count;
 }
 
 int outbox_is_owned(struct outbox *o)

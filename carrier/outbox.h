@@ -23,7 +23,7 @@
 
 enum outbox_statement {
     LOAD_SESSION, SELECT_TEXTS, HAS_TEXT, DROP_TEXTS, ADD_FRAME, SELECT_FRAMES, DROP_FRAMES,
-    SET_NEXT, SET_CARRIED, SELECT_OWNER, ADD_SESSION, ADD_STOPPED, OUTBOX_STATEMENTS
+    SET_NEXT, SET_CARRIED, SELECT_OWNER, ADD_SESSION, ADD_STOPPED, COUNT_TEXTS, OUTBOX_STATEMENTS
 };
 
 struct outbox {
@@ -52,6 +52,9 @@ int outbox_load(struct outbox *outbox, const char *session, struct outbox_progre
 /* Whether a text waits after this one, and whether this process is the owner. */
 int outbox_has_text(struct outbox *outbox, sqlite3_int64 after);
 int outbox_is_owned(struct outbox *outbox);
+
+/* How many texts there are, of the first 100,000. */
+unsigned long outbox_count_texts(struct outbox *outbox);
 
 /* ---- Within a transaction. OUTBOX_AGAIN: another process's transaction took long. OUTBOX_TAKEN:
  * another process is the owner. */

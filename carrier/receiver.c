@@ -4,21 +4,26 @@
  * A thread for each shard does what shard.h says. If the store is away for a moment it is opened
  * again until it is there. It may be killed at any time: start it again. */
 #include "clock.h"
+#include "ending.h"
+#include "service.h"
 #include "shard.h"
 #include "words.h"
 
 #include <getopt.h>
 #include <pthread.h>
-#include <signal.h>
 #include <stdio.h>
 #include <stdlib.h>
 #include <sys/stat.h>
 
-enum { WAIT = 100, MOST_REPLICAS = 5, SECOND = 1000000000, SHORTEST = 200, LONGEST = 5000 };
+enum {
+    WAIT = 100, SECOND_OF_WAITS = 10, MOST_REPLICAS = 5, SECOND = 1000000000, SHORTEST = 200,
+    LONGEST = 5000
+};
 
 static const char usage[] =
     "receiver --sessions FILE --store WHERE --carrier WHERE --shards N[-N][,..]\n"
-    "         [--replicas N] [--batch N] [--skew SECONDS] [--until-closed]\n"
+    "         [--replicas N] [--batch N] [--skew SECONDS] [--metrics ADDRESS:PORT]\n"
+    "         [--until-closed]\n"
     "  --sessions FILE  a line for each session: NAME SHARD ETYPE MODE KEY FIRST FROM TO\n"
     "  --store WHERE    sqlite:FILE, in whose name '%' is the shard, or\n"
     "                   postgresql://USER@HOST/DATABASE\n"
@@ -28,26 +33,31 @@ static const char usage[] =
     "  --batch N        so many frames go into a transaction at most (1024)\n"
     "  --skew SECONDS   by so much a frame's time may be off (86400): more than the time for\n"
     "                   which the carrier keeps frames, or their session stands still\n"
+    "  --metrics ADDRESS:PORT  answers GET /metrics (Prometheus's text) and GET /healthz\n"
     "  --until-closed   ends once all sessions are closed\n"
     "  --help, --version\n"
     "It ends by SIGTERM. Status: 0; 1 after a fault at the start; 2 for a wrong option.\n";
 
 struct options {
     struct shard_options shard;
-    const char *sessions;
+    const char *sessions, *metrics;
     unsigned char is_served[CARRIER_SHARDS];
     unsigned shard_count;
     int until_closed;
 };
 
 static struct options options;
-static volatile sig_atomic_t ending;
-static int failed; /* a shard couldn't be started */
+static int failed;           /* a shard couldn't be started */
+static unsigned begun, done; /* so many shards were started, and have ended */
 
-static void end_soon(int signal)
+static void add_one(unsigned *count)
 {
-    (void)signal;
-    ending = 1;
+    __atomic_fetch_add(count, 1, __ATOMIC_SEQ_CST);
+}
+
+static unsigned read_count(const unsigned *count)
+{
+    return __atomic_load_n(count, __ATOMIC_SEQ_CST);
 }
 
 static double seconds_since(uint64_t began)
@@ -61,17 +71,17 @@ static void wait_for_store(const struct shard *shard, unsigned *pause)
     unsigned waited;
     fprintf(stderr, "shard %u: the store is away: it is opened again in %u ms, and the shard goes"
                     " on where it was\n", shard->number, *pause);
-    for (waited = 0; waited < *pause && !ending; waited += WAIT)
+    for (waited = 0; waited < *pause && !is_ending(); waited += WAIT)
         pause_milliseconds(WAIT);
     *pause = 2 * *pause < LONGEST ? 2 * *pause : LONGEST;
 }
 
 /* What waits for the first frame isn't counted in the seconds. */
-static void serve(struct shard *shard)
+static void serve(struct shard *shard, unsigned part)
 {
     uint64_t began = nanoseconds(), reported = began;
     unsigned pause = SHORTEST;
-    while (!ending && !(options.until_closed && shard->is_loaded && shard->open == 0)) {
+    while (!is_ending() && !(options.until_closed && shard->is_loaded && shard->open == 0)) {
         int count = shard_step(shard, WAIT);
         if (count < 0)
             wait_for_store(shard, &pause);
@@ -81,57 +91,88 @@ static void serve(struct shard *shard)
             began = nanoseconds();
         if (nanoseconds() - reported > SECOND) {
             shard_report(shard, seconds_since(began));
+            shard_show(shard, part);
             reported = nanoseconds();
         }
     }
     shard_report(shard, seconds_since(began));
 }
 
+/* A thread's shard, and its place among all. */
+struct thread { pthread_t thread; struct shard shard; unsigned part; };
+
 static void *work(void *given)
 {
-    struct shard *shard = given;
-    if (shard_start(shard) == 0) {
-        serve(shard);
-    } else {
+    struct thread *it = given;
+    if (shard_start(&it->shard) == 0) {
+        add_one(&begun);
+        shard_show(&it->shard, it->part);
+        serve(&it->shard, it->part);
+    } else if (!is_ending()) {
         __atomic_store_n(&failed, 1, __ATOMIC_SEQ_CST);
-        ending = 1;
+        end_now();
     }
-    shard_stop(shard);
+    shard_stop(&it->shard);
+    add_one(&done);
     return NULL;
 }
 
-static int start_thread(pthread_t *thread, struct shard *shard, unsigned number,
+static int start_thread(struct thread *it, unsigned part, unsigned number,
                         const struct session *sessions, size_t count)
 {
-    shard->options = &options.shard;
-    shard->sessions = sessions;
-    shard->count = count;
-    shard->number = number;
-    if (pthread_create(thread, NULL, work, shard) == 0)
+    it->part = part;
+    it->shard.options = &options.shard;
+    it->shard.sessions = sessions;
+    it->shard.count = count;
+    it->shard.number = number;
+    if (pthread_create(&it->thread, NULL, work, it) == 0)
         return 1;
     perror("a thread");
     __atomic_store_n(&failed, 1, __ATOMIC_SEQ_CST);
-    ending = 1;
+    end_now();
     return 0;
+}
+
+/* Tells the supervisor how it stands, until all threads have ended. */
+static void tell_all(unsigned started)
+{
+    int is_ready = 0, is_ended = 0;
+    unsigned rounds;
+    for (rounds = 0; read_count(&done) < started; rounds++) {
+        pause_milliseconds(WAIT / 2);
+        if (!is_ready && read_count(&begun) == options.shard_count) {
+            service_tell_ready();
+            is_ready = 1;
+        }
+        if (!is_ended && is_ending()) {
+            service_tell_end();
+            is_ended = 1;
+        }
+        if (rounds % (2 * SECOND_OF_WAITS) == 0)
+            service_tell_alive();
+    }
 }
 
 static void work_all(const struct session *sessions, size_t count)
 {
-    struct shard *shards = calloc(options.shard_count, sizeof *shards);
-    pthread_t *threads = calloc(options.shard_count, sizeof *threads);
+    struct thread *threads = calloc(options.shard_count, sizeof *threads);
     unsigned number, i, started = 0;
-    if (shards == NULL || threads == NULL) {
-        perror("shards");
+    if (threads == NULL || service_begin(shard_metrics, shard_metrics_count, &shard_stands_metric,
+                                         options.shard_count) != 0) {
+        perror("receiver");
+        failed = 1;
+    } else if (options.metrics != NULL && service_listen(options.metrics) != 0) {
         failed = 1;
     }
     for (number = 0; !failed && number < CARRIER_SHARDS; number++)
         if (options.is_served[number])
-            started += (unsigned)start_thread(&threads[started], &shards[started], number, sessions,
-                                              count);
+            started += (unsigned)start_thread(&threads[started], started, number, sessions, count);
+    tell_all(started);
     for (i = 0; i < started; i++)
-        pthread_join(threads[i], NULL);
+        if (pthread_join(threads[i].thread, NULL) != 0)
+            perror("a thread");
+    service_end();
     free(threads);
-    free(shards);
 }
 
 /* ---- Options */
@@ -140,7 +181,8 @@ static const struct option words_of_options[] = {
     { "sessions", required_argument, NULL, 's' }, { "store", required_argument, NULL, 'S' },
     { "carrier", required_argument, NULL, 'c' },  { "shards", required_argument, NULL, 'n' },
     { "replicas", required_argument, NULL, 'r' }, { "batch", required_argument, NULL, 'b' },
-    { "skew", required_argument, NULL, 'k' },     { "until-closed", no_argument, NULL, 'u' },
+    { "skew", required_argument, NULL, 'k' },     { "metrics", required_argument, NULL, 'm' },
+    { "until-closed", no_argument, NULL, 'u' },
     { "help", no_argument, NULL, 'h' },           { "version", no_argument, NULL, 'v' },
     { NULL, 0, NULL, 0 }
 };
@@ -167,6 +209,7 @@ static int read_option(struct options *o, int letter)
         break;
     case 'b': o->shard.batch = option_number("receiver", "batch", optarg, 1, MOST_FRAMES); break;
     case 'k': o->shard.skew = option_number("receiver", "skew", optarg, 0, UINT32_MAX); break;
+    case 'm': o->metrics = optarg; break;
     case 'u': o->until_closed = 1; break;
     case 'h': fputs(usage, stdout); exit(0);
     case 'v': print_version("receiver"); exit(0);
@@ -195,8 +238,7 @@ int main(int count, char **words)
         return 2;
     }
     umask(077); /* databases have texts and frames: they are for their owner alone */
-    signal(SIGTERM, end_soon);
-    signal(SIGINT, end_soon);
+    end_by_signals();
     srand((unsigned)nanoseconds());
     sessions = read_sessions(options.sessions, &session_count);
     if (sessions == NULL)

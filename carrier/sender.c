@@ -6,10 +6,11 @@
  * taken the outbox over. It may be killed at any time: start it again. */
 #include "sender.h"
 #include "clock.h"
+#include "ending.h"
+#include "service.h"
 #include "words.h"
 
 #include <getopt.h>
-#include <signal.h>
 #include <stdio.h>
 #include <stdlib.h>
 #include <string.h>
@@ -26,7 +27,7 @@ enum {
 
 static const char usage[] =
     "sender --sessions FILE --outbox FILE --carrier WHERE [--replicas N] [--batch N]\n"
-    "       [--retry MILLISECONDS] [--drain]\n"
+    "       [--retry MILLISECONDS] [--metrics ADDRESS:PORT] [--drain]\n"
     "  --sessions FILE  a line for each session: NAME SHARD ETYPE MODE KEY FIRST FROM TO\n"
     "  --outbox FILE    SQLite's, in whose table `text` an application puts texts\n"
     "  --carrier WHERE  sqlite:FILE, or nats://HOST:PORT[,..]\n"
@@ -34,19 +35,12 @@ static const char usage[] =
     "  --batch N        so many texts go into a frame at most (1)\n"
     "  --retry MILLISECONDS  what isn't carried by then is published again (2000): more than the\n"
     "                   time in which the carrier confirms\n"
+    "  --metrics ADDRESS:PORT  answers GET /metrics (Prometheus's text) and GET /healthz\n"
     "  --drain          ends once all is carried that can be\n"
     "  --help, --version\n"
     "It ends by SIGTERM. Status: 0; 1 after a fault; 2 for a wrong option; 3 if another sender\n"
     "has taken the outbox over; 4 after --drain if a session is stopped, as the outbox's table\n"
     "`stopped` says.\n";
-
-static volatile sig_atomic_t ending;
-
-static void end_soon(int signal)
-{
-    (void)signal;
-    ending = 1;
-}
 
 /* ---- Sessions */
 
@@ -212,12 +206,15 @@ static void report_silence(struct sender *s, size_t rose)
     s->rose = nanoseconds();
 }
 
-/* Looks each second whether the outbox is still this process's, also where nothing is stored. */
+/* Each second: shows how it stands, and looks whether the outbox is still this process's, also
+ * where nothing is stored. */
 static int is_owner(struct sender *s)
 {
     if (nanoseconds() - s->looked < SECOND)
         return 1;
     s->looked = nanoseconds();
+    sender_show(s);
+    service_tell_alive();
     return outbox_is_owned(&s->outbox);
 }
 
@@ -255,11 +252,13 @@ static enum outbox_answer serve(struct sender *s)
     enum outbox_answer answer = OUTBOX_FAULT;
     size_t rose = 0;
     s->rose = nanoseconds();
+    service_tell_ready();
     if (before.deferred != NULL) {
         answer = OUTBOX_OK;
-        while (!ending && !step(s, &before, &rose, &answer))
+        while (!is_ending() && !step(s, &before, &rose, &answer))
             continue;
     }
+    service_tell_end();
     free(before.deferred);
     return answer == OUTBOX_AGAIN ? OUTBOX_OK : answer;
 }
@@ -323,12 +322,15 @@ static int start(struct sender *s)
     for (i = 0; i < s->count; i++)
         if (sender_load(s, i) != 0)
             return -1;
-    return 0;
+    if (sender_begin_showing(s) != 0)
+        return -1;
+    return s->options.metrics != NULL ? service_listen(s->options.metrics) : 0;
 }
 
 static void stop(struct sender *s)
 {
     size_t i;
+    service_end();
     for (i = 0; s->sendings != NULL && i < s->count; i++)
         seal_free(&s->sendings[i]);
     outbox_close(&s->outbox);
@@ -358,8 +360,8 @@ static int work(struct sender *s)
         fprintf(stderr, "another sender has taken %s over: this one ends\n", s->options.outbox);
     stop(s);
     if (answer < 0)
-        return answer == OUTBOX_TAKEN ? 3 : 1;
-    return s->options.drain && !ending && s->stopped > 0 ? 4 : 0;
+        return answer == OUTBOX_TAKEN ? 3 : !is_ending();
+    return s->options.drain && !is_ending() && s->stopped > 0 ? 4 : 0;
 }
 
 /* ---- Options */
@@ -368,7 +370,8 @@ static const struct option words_of_options[] = {
     { "sessions", required_argument, NULL, 's' }, { "outbox", required_argument, NULL, 'o' },
     { "carrier", required_argument, NULL, 'c' },  { "replicas", required_argument, NULL, 'r' },
     { "batch", required_argument, NULL, 'b' },    { "retry", required_argument, NULL, 't' },
-    { "drain", no_argument, NULL, 'd' },          { "help", no_argument, NULL, 'h' },
+    { "metrics", required_argument, NULL, 'm' },  { "drain", no_argument, NULL, 'd' },
+            { "help", no_argument, NULL, 'h' },
     { "version", no_argument, NULL, 'v' },        { NULL, 0, NULL, 0 }
 };
 
@@ -381,6 +384,7 @@ static int read_option(struct options *o, int letter)
     case 'r': o->replicas = option_number("sender", "replicas", optarg, 1, MOST_REPLICAS); break;
     case 'b': o->batch = option_number("sender", "batch", optarg, 1, BATCH_TEXTS); break;
     case 't': o->retry = option_number("sender", "retry", optarg, 1, 86400000); break;
+    case 'm': o->metrics = optarg; break;
     case 'd': o->drain = 1; break;
     case 'h': fputs(usage, stdout); exit(0);
     case 'v': print_version("sender"); exit(0);
@@ -408,7 +412,6 @@ int main(int count, char **words)
         return 2;
     }
     umask(077); /* databases have texts and frames: they are for their owner alone */
-    signal(SIGTERM, end_soon);
-    signal(SIGINT, end_soon);
+    end_by_signals();
     return work(&sender);
 }

@@ -1,5 +1,5 @@
-/* The state of a sender, in three parts: texts.c takes texts from the outbox, publish.c publishes
- * their frames, and sender.c stores what they did, and has the loop.
+/* The state of a sender, in four parts: texts.c takes texts from the outbox, publish.c publishes
+ * their frames, sender.c stores what they did, and has the loop, and sender_report.c shows it.
  *
  * Sessions share nothing but the outbox. One that can't go on is stopped alone, and reported in the
  * outbox's table `stopped`. Each shard has a window of frames that are under way, so that one which
@@ -16,7 +16,7 @@ enum {
 };
 
 struct options {
-    const char *sessions, *outbox, *carrier;
+    const char *sessions, *outbox, *carrier, *metrics;
     unsigned replicas, batch, retry;
     int drain;
 };
@@ -95,5 +95,10 @@ size_t publish_count_carried(struct sender *s, int milliseconds);
 
 /* How many frames wait that may be carried. */
 size_t publish_backlog(const struct sender *s);
+
+/* ---- sender_report.c: the sender is the first part of service.h, its shards are the others. */
+
+int sender_begin_showing(struct sender *s);
+void sender_show(struct sender *s);
 
 #endif

@@ -380,17 +380,6 @@ int shard_start(struct shard *s)
                                                                                              : -1;
 }
 
-void shard_report(const struct shard *s, double seconds)
-{
-    const struct shard_counts *c = &s->counts;
-    printf("shard %u: %lu texts of %lu frames; repeats %lu, early %lu, refused %lu; %lu commits,"
-           " %lu fenced, %lu times back; %llu bytes in %.3f s: opening %.3f, carrier %.3f, store"
-           " %.3f\n", s->number, c->texts, c->accepted, c->repeats, c->early, c->refused,
-           c->commits, c->fenced, c->back, c->bytes, seconds, (double)c->opening / 1e9,
-           (double)c->fetching / 1e9, (double)c->storing / 1e9);
-    fflush(stdout);
-}
-
 void shard_stop(struct shard *s)
 {
     size_t i;

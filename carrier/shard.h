@@ -27,6 +27,7 @@
 
 #include "carrier.h"
 #include "notice.h"
+#include "service.h"
 #include "sessions.h"
 #include "store.h"
 
@@ -84,10 +85,15 @@ int shard_start(struct shard *shard);
  * fault of the store, which the next step opens again. */
 int shard_step(struct shard *shard, int milliseconds);
 
-/* Prints what was counted. */
-void shard_report(const struct shard *shard, double seconds);
-
 void shard_stop(struct shard *shard);
+
+/* ---- shard_report.c: prints what was counted; shows it as a part of service.h. */
+
+extern const struct metric shard_metrics[], shard_stands_metric;
+extern const unsigned shard_metrics_count;
+
+void shard_report(const struct shard *shard, double seconds);
+void shard_show(struct shard *shard, unsigned part);
 
 /* ---- shard_back.c: how a shard is read again. */
 

@@ -8,7 +8,7 @@
 #include <string.h>
 
 enum { PENDING = 4096, POLL = 5 };
-enum { INSERT, SELECT, SELECT_LAST, SELECT_END, STATEMENTS };
+enum { INSERT, SELECT, SELECT_LAST, SELECT_END, COUNT, STATEMENTS };
 
 struct sqlite_carrier {
     struct carrier base;
@@ -41,6 +41,8 @@ static const char *const sql[STATEMENTS] = {
                " ORDER BY offset LIMIT ?",
     [SELECT_LAST] = "SELECT offset, session, frame FROM (SELECT * FROM carried WHERE shard = ?"
                     " ORDER BY offset DESC LIMIT 65536) WHERE session = ? LIMIT 1",
+    [COUNT] = "SELECT count(*) FROM (SELECT 1 FROM carried WHERE shard = ? AND offset > ?"
+              " LIMIT 100000)",
     [SELECT_END] = "SELECT coalesce(max(offset), 0) FROM carried WHERE shard = ?",
 };
 
@@ -207,6 +209,20 @@ static int last(struct carrier *base, unsigned shard, const char *session, struc
     return row;
 }
 
+static int behind(struct carrier *base, uint64_t *frames)
+{
+    struct sqlite_carrier *c = (struct sqlite_carrier *)base;
+    sqlite3_stmt *count = c->statements[COUNT];
+    int row;
+    sqlite3_bind_int64(count, 1, c->shard);
+    sqlite3_bind_int64(count, 2, (sqlite3_int64)c->after);
+    row = step_row(count);
+    if (row == 1)
+        *frames = (uint64_t)sqlite3_column_int64(count, 0);
+    sqlite3_reset(count);
+    return row == 1 ? 0 : -1;
+}
+
 /* ---- */
 
 static void close_it(struct carrier *base)
@@ -248,6 +264,7 @@ struct carrier *sqlite_carrier_open(const char *path)
     c->base.confirmed = confirmed;
     c->base.seek = seek;
     c->base.fetch = fetch;
+    c->base.behind = behind;
     c->base.close = close_it;
     if (open_it(c, path) == 0)
         return &c->base;

@@ -108,13 +108,25 @@ class Postgres:
         how = {"cwd": "/", "stdin": subprocess.DEVNULL, "stdout": subprocess.DEVNULL, **self.user}
         subprocess.run([f"{self.bin}/initdb", "-D", self.data, "-U", "postgres", "-A", "trust",
                         "--no-sync"], check=True, **how)
+        self.how = how
+        self.start()
+        await_port(self.port)
+        self.where = f"postgresql://postgres@127.0.0.1:{self.port}/postgres"
+        self.await_query()
+
+    def start(self):
         self.server = subprocess.Popen(
             [f"{self.bin}/postgres", "-D", self.data, "-p", str(self.port),
              "-c", "listen_addresses=127.0.0.1", "-c", "unix_socket_directories=",
              "-c", "shared_buffers=256MB", "-c", "max_wal_size=2GB"],
-            stderr=subprocess.DEVNULL, **how)
+            stderr=subprocess.DEVNULL, **self.how)
+
+    def restart(self, seconds):
+        """Ends it at once, and starts it again after so many seconds."""
+        self.stop()
+        time.sleep(seconds)
+        self.start()
         await_port(self.port)
-        self.where = f"postgresql://postgres@127.0.0.1:{self.port}/postgres"
         self.await_query()
 
     def await_query(self):

@@ -153,6 +153,22 @@ def test_at_once(count, ends, what):
         print("\n".join(texts)[-2000:])
 
 
+def test_store_away(count, ends, postgres):
+    """The server of the store is started again below a receiver, which goes on."""
+    receiver = subprocess.Popen(ends.command("receiver", "--until-closed"), stdout=subprocess.PIPE,
+                                stderr=subprocess.STDOUT, text=True)
+    time.sleep(1)
+    postgres.restart(1)
+    ends.put_all()
+    ends.run("sender", "--drain")
+    text = receiver.communicate(timeout=LIMIT)[0]
+    found = {name: int(texts) for name, texts in postgres.ask(
+        "SELECT session, count(DISTINCT text) FROM effect GROUP BY session")}
+    count.told(receiver.returncode == 0 and found == dict.fromkeys(("ann", "tom"), len(TEXTS)),
+               f"error: the store is away; the receiver goes on: {found}", [text[-500:]])
+    count.told("the store is away" in text, "error: that is reported", [text[-500:]])
+
+
 def test_junk(count, ends):
     """Bytes that are no frame, and a frame under another session's name, before all else."""
     ends.put_all()

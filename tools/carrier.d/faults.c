@@ -88,6 +88,11 @@ static int fetch(struct carrier *base, struct carried *list, size_t room, int mi
     return carrier_fetch(((struct faulty *)base)->real, list, room, milliseconds);
 }
 
+static int behind(struct carrier *base, uint64_t *frames)
+{
+    return carrier_behind(((struct faulty *)base)->real, frames);
+}
+
 static void close_it(struct carrier *base)
 {
     carrier_close(((struct faulty *)base)->real);
@@ -105,7 +110,7 @@ struct carrier *__wrap_sqlite_carrier_open(const char *path)
     }
     c->base = (struct carrier){ .incarnation = incarnation, .make = make, .last = last,
                                 .seek = seek, .publish = publish, .confirmed = confirmed,
-                                .fetch = fetch, .close = close_it };
+                                .fetch = fetch, .behind = behind, .close = close_it };
     c->real = real;
     c->faults = atol(faults);
     srand((unsigned)(getpid() + time(NULL)));

@@ -9,11 +9,14 @@ import glob
 import os
 import shutil
 import signal
+import socket
 import sqlite3
 import subprocess
 import threading
 import time
 import typing
+import urllib.error
+import urllib.request
 
 import engines
 import errors
@@ -70,9 +73,11 @@ class Place(errors.Ends):
             return None, self.log(process)
         return process.returncode, self.log(process)
 
-    def start(self, name, *more, clock=0, pause=0, **other):
+    def start(self, name, *more, clock=0, pause=0, told=None, **other):
         path = f"{self.folder}/{name}.{len(self.running)}.log"
         given = dict(os.environ, CLOCK_OFFSET=str(clock), STORE_PAUSE=str(pause))
+        if told:
+            given["NOTIFY_SOCKET"] = told
         with open(path, "wb") as log:
             process = subprocess.Popen(self.command(name, *more, **other), stdout=log, stderr=log,
                                        env=given)
@@ -658,6 +663,99 @@ def permissions(place):
         place.require(status == 1 and "chmod 600" in told, f"mode {mode:o}: status {status}")
 
 
+# ---- what an operator sees
+
+def get(port, path):
+    """The status and the text of an answer over HTTP."""
+    try:
+        with urllib.request.urlopen(f"http://127.0.0.1:{port}{path}", timeout=5) as answer:
+            return answer.status, answer.read().decode()
+    except urllib.error.HTTPError as fault:
+        return fault.code, fault.read().decode()
+    except OSError as fault:
+        return None, str(fault)
+
+
+def numbers(port):
+    """The metrics that a program shows: each with its labels and its number."""
+    lines = get(port, "/metrics")[1].splitlines()
+    return dict(line.rsplit(" ", 1) for line in lines if " " in line and line[0] != "#")
+
+
+def metrics(place):
+    """The numbers are those that the files have; a session with a wrong key stands, by name."""
+    sender, receiver = engines.free_ports(2)
+    place.put(texts("ann", 0, 300) + texts("tom", 0, 7))
+    place.write(f"{place.folder}/wrong", [ANN, TOM.replace("22" * 32, "33" * 32)])
+    place.start("sender", metrics=f"127.0.0.1:{sender}")
+    place.start("receiver", metrics=f"127.0.0.1:{receiver}", sessions=f"{place.folder}/wrong")
+    place.await_delivered()
+    wanted = {(sender, 'krbrelay_sender_sealed_frames_total{}'): "307",
+              (sender, 'krbrelay_sender_waiting_frames{shard="0"}'): "0",
+              (receiver, 'krbrelay_receiver_texts_total{shard="0"}'): "300",
+              (receiver, 'krbrelay_receiver_refused_frames_total{shard="0"}'): "7",
+              (receiver, 'krbrelay_receiver_offset{shard="0"}'): "307",
+              (receiver, 'krbrelay_receiver_lag_frames{shard="0"}'): "0",
+              (receiver, 'krbrelay_receiver_session_stands{shard="0",session="tom"}'): "1"}
+    for (port, name), number in wanted.items():
+        fine = place.wait(lambda: numbers(port).get(name) == number, 4)
+        place.require(fine, f"{name} isn't {number}: {numbers(port).get(name)}")
+    for port in (sender, receiver):
+        place.require(get(port, "/healthz")[0] == 200, f"/healthz: {get(port, '/healthz')}")
+        place.require(get(port, "/other")[0] == 404, "/other is there")
+    status, told = place.run("receiver", metrics=f"127.0.0.1:{sender}", seconds=2)
+    place.require(status == 1 and "nothing listens" in told, f"a port that is taken: {status}")
+
+
+def supervisor(place):
+    """What systemd is told of a sender and a receiver: that they have begun, live and end."""
+    place.put(texts("ann", 0, 5))
+    for name in ("sender", "receiver"):
+        path = f"{place.folder}/{name}.socket"
+        with socket.socket(socket.AF_UNIX, socket.SOCK_DGRAM) as told:
+            told.bind(path)
+            told.settimeout(5)
+            process = place.start(name, told=path)
+            lines = [told.recv(100) for _ in range(2)]
+            process.send_signal(signal.SIGTERM)
+            while lines[-1] != b"STOPPING=1":
+                lines.append(told.recv(100))
+        place.require(sorted(set(lines)) == [b"READY=1", b"STOPPING=1", b"WATCHDOG=1"],
+                      f"{name}: {lines}")
+    place.start("receiver")
+    place.await_delivered()
+
+
+def require_end(place, process, what):
+    process.send_signal(signal.SIGTERM)
+    fine = place.wait(lambda: process.poll() is not None, 5)
+    place.require(fine and process.returncode == 0, f"{what}: {process.poll()}")
+
+
+def terminate(place):
+    """Wherever they wait: for work, for a store that is locked, for a node that is silent."""
+    place.put(texts("ann", 0, 5))
+    sender, receiver = place.start("sender"), place.start("receiver")
+    place.await_delivered()
+    require_end(place, receiver, "a receiver without work")
+    require_end(place, sender, "a sender without work")
+    place.put(texts("ann", 5, 6))
+    place.run("sender", "--drain")
+    for name, file in (("receiver", "store"), ("sender", "outbox")):
+        thread = errors.hold(f"{place.folder}/{file}.db", 8)
+        process = place.start(name)
+        time.sleep(1)
+        require_end(place, process, f"a {name} whose {file} is locked")
+        thread.join()
+    sender, receiver = place.start("sender"), place.start("receiver")
+    place.await_delivered({"ann": 6})
+    place.nats.running[0].send_signal(signal.SIGSTOP)
+    place.put(texts("ann", 6, 7))
+    time.sleep(1)
+    require_end(place, receiver, "a receiver whose node is silent")
+    require_end(place, sender, "a sender whose node is silent")
+
+
 # ---- the table
 
 @dataclasses.dataclass
@@ -725,6 +823,9 @@ CASES = (
     Case(numbers_of_words, "numbers of options that are none, or out of range", {}, 10),
     Case(bad_sessions, "files of sessions that are wrong", {}, 10),
     Case(permissions, "who may read the files", {"ann": 5}, 10),
+    Case(metrics, "the numbers that programs show", {"ann": 300}, 15),
+    Case(supervisor, "what a supervisor is told", {"ann": 5}, 15),
+    Case(terminate, "SIGTERM, wherever programs wait", {"ann": 5}, 60, nats=""),
 )
 
 
