@@ -269,9 +269,9 @@ static PGresult *query(struct postgresql_store *s, const char *sql, const char *
     return NULL;
 }
 
-static uint64_t number_at(const PGresult *result, int column)
+static uint64_t number_at(const PGresult *result, int row, int column)
 {
-    return strtoull(PQgetvalue(result, 0, column), NULL, 10);
+    return strtoull(PQgetvalue(result, row, column), NULL, 10);
 }
 
 static int reached(struct store *base, unsigned shard, struct reached *reached)
@@ -285,11 +285,21 @@ static int reached(struct store *base, unsigned shard, struct reached *reached)
         return -1;
     *reached = (struct reached){ 0, 0 };
     if (PQntuples(result) == 1) {
-        reached->incarnation = number_at(result, 0);
-        reached->offset = number_at(result, 1);
+        reached->incarnation = number_at(result, 0, 0);
+        reached->offset = number_at(result, 0, 1);
     }
     PQclear(result);
     return 0;
+}
+
+static void read_demand(const PGresult *result, int row, struct demand *demand)
+{
+    demand->next = number_at(result, row, 0);
+    demand->closed = (uint32_t)number_at(result, row, 1);
+    demand->missed = (uint32_t)number_at(result, row, 2);
+    demand->at = number_at(result, row, 3);
+    demand->shard = (int32_t)strtol(PQgetvalue(result, row, 4), NULL, 10);
+    demand->is_stored = 1;
 }
 
 static int session(struct store *base, const char *name, struct demand *demand)
@@ -299,16 +309,30 @@ static int session(struct store *base, const char *name, struct demand *demand)
                              name);
     if (result == NULL)
         return -1;
-    demand->is_stored = PQntuples(result) == 1;
-    if (demand->is_stored) {
-        demand->next = number_at(result, 0);
-        demand->closed = (uint32_t)number_at(result, 1);
-        demand->missed = (uint32_t)number_at(result, 2);
-        demand->at = number_at(result, 3);
-        demand->shard = (int32_t)strtol(PQgetvalue(result, 0, 4), NULL, 10);
-    }
+    demand->is_stored = 0;
+    if (PQntuples(result) == 1)
+        read_demand(result, 0, demand);
     PQclear(result);
     return 0;
+}
+
+static int sessions(struct store *base, unsigned shard, store_take *take, void *given)
+{
+    char text[24];
+    PGresult *result;
+    int row, answer = 0;
+    snprintf(text, sizeof text, "%u", shard);
+    result = query((struct postgresql_store *)base, "SELECT next, closed, missed, at, shard, name"
+                                                    " FROM session WHERE shard = $1", text);
+    if (result == NULL)
+        return -1;
+    for (row = 0; answer == 0 && row < PQntuples(result); row++) {
+        struct demand demand;
+        read_demand(result, row, &demand);
+        answer = take(given, PQgetvalue(result, row, 5), &demand) != 0 ? -1 : 0;
+    }
+    PQclear(result);
+    return answer;
 }
 
 /* ---- */
@@ -353,7 +377,7 @@ static const char tables[] =
     " ALTER TABLE shard ADD COLUMN incarnation bigint NOT NULL DEFAULT 0;"
     " ALTER TABLE session ADD COLUMN missed int NOT NULL DEFAULT 0,"
     " ADD COLUMN at bigint NOT NULL DEFAULT 0, ADD COLUMN shard int NOT NULL DEFAULT -1;"
-    " END IF; END $$;";
+    " END IF; END $$; CREATE INDEX IF NOT EXISTS session_of_shard ON session (shard);";
 
 /* A role that may not make tables may use those that are there. */
 static int make_tables(struct postgresql_store *s)
@@ -419,6 +443,7 @@ struct store *postgresql_store_open(const char *where)
         return NULL;
     s->base.reached = reached;
     s->base.session = session;
+    s->base.sessions = sessions;
     s->base.begin = begin;
     s->base.advance = advance;
     s->base.miss = miss;

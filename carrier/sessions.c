@@ -9,7 +9,7 @@
 
 struct list { struct session *at; size_t count, room; };
 
-enum { WORDS = 8, LINE = 256, OTHERS = 077 };
+enum { WORDS = 8, LINE = 256, OTHERS = 077, BUFFER = 1 << 16 };
 
 static int digit_of(char it)
 {
@@ -128,32 +128,58 @@ static int read_lines(FILE *file, const char *path, struct list *list)
     return is_fine && list->count > 0;
 }
 
+/* Only pointers are sorted: qsort keeps copies of what it moves, and sessions have keys. */
 static int by_name(const void *a, const void *b)
 {
-    return strcmp(((const struct session *)a)->name, ((const struct session *)b)->name);
+    const struct session *one = *(struct session *const *)a, *other = *(struct session *const *)b;
+    return strcmp(one->name, other->name);
 }
 
 static int by_key(const void *a, const void *b)
 {
-    const struct session *one = a, *other = b;
+    const struct session *one = *(struct session *const *)a, *other = *(struct session *const *)b;
     int order = memcmp(one->key, other->key, sizeof one->key);
-    return order != 0 ? order : (one->key_len > other->key_len) - (one->key_len < other->key_len);
+    return order != 0 ? order
+                      : (one->key_len > other->key_len) - (one->key_len < other->key_len);
 }
 
 /* Sorts them, and reports two that are the same by this order. */
-static int differ(struct list *list, const char *path, const char *what,
+static int differ(struct session **sorted, size_t count, const char *path, const char *what,
                   int (*order)(const void *, const void *))
 {
     size_t i;
-    qsort(list->at, list->count, sizeof *list->at, order);
-    for (i = 1; i < list->count; i++) {
-        size_t one = list->at[i - 1].line, other = list->at[i].line;
-        if (order(&list->at[i - 1], &list->at[i]) != 0)
+    qsort(sorted, count, sizeof *sorted, order);
+    for (i = 1; i < count; i++) {
+        size_t one = sorted[i - 1]->line, other = sorted[i]->line;
+        if (order(&sorted[i - 1], &sorted[i]) != 0)
             continue;
         fprintf(stderr, "%s: line %zu has the %s of line %zu: give each session its own\n", path,
                 one > other ? one : other, what, one > other ? other : one);
         return 0;
     }
+    return 1;
+}
+
+/* Sorts the list by name, unless two have a name or a key in common. */
+static int sort(struct list *list, const char *path)
+{
+    struct session **sorted = calloc(list->count, sizeof *sorted);
+    struct session *moved = calloc(list->count, sizeof *moved);
+    size_t i;
+    int is_fine = sorted != NULL && moved != NULL;
+    for (i = 0; is_fine && i < list->count; i++)
+        sorted[i] = &list->at[i];
+    is_fine = is_fine && differ(sorted, list->count, path, "key", by_key)
+              && differ(sorted, list->count, path, "name", by_name);
+    for (i = 0; is_fine && i < list->count; i++)
+        moved[i] = *sorted[i];
+    free(sorted);
+    if (!is_fine) {
+        free(moved);
+        return 0;
+    }
+    forget_sessions(list->at, list->count);
+    list->at = moved;
     return 1;
 }
 
@@ -172,6 +198,7 @@ static int is_private(FILE *file, const char *path)
 
 struct session *read_sessions(const char *path, size_t *count)
 {
+    char buffer[BUFFER]; /* the file's, so that it can be overwritten: keys pass through it */
     struct list list = { NULL, 0, 0 };
     FILE *file = fopen(path, "r");
     int is_fine;
@@ -179,10 +206,11 @@ struct session *read_sessions(const char *path, size_t *count)
         perror(path);
         return NULL;
     }
-    setbuf(file, NULL); /* keys don't stay in a buffer */
-    is_fine = is_private(file, path) && read_lines(file, path, &list)
-              && differ(&list, path, "key", by_key) && differ(&list, path, "name", by_name);
-    fclose(file);
+    is_fine = setvbuf(file, buffer, _IOFBF, sizeof buffer) == 0 && is_private(file, path)
+              && read_lines(file, path, &list) && sort(&list, path);
+    if (fclose(file) != 0)
+        is_fine = 0;
+    explicit_bzero(buffer, sizeof buffer);
     *count = list.count;
     if (is_fine)
         return list.at;

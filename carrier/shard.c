@@ -139,6 +139,25 @@ static void move_place(struct shard *s, size_t place, uint64_t offset)
     shard_note_changed(s, place);
 }
 
+/* The session's receiver, at what is stored, unless it is made. */
+static int make_receiver(struct shard *s, size_t place)
+{
+    const struct session *of = &s->sessions[place];
+    struct receiving *it = &s->receivings[place];
+    const struct krbrelay_expect expect = { .mode = of->mode, .sender = of->from,
+                                            .receiver = of->to, .require_time = 1,
+                                            .skew = s->options->skew };
+    enum krbrelay_answer answer;
+    if (it->is_made)
+        return 0;
+    answer = krbrelay_receiver_new(&it->receiver, of->etype, of->key, of->key_len, &expect,
+                                   it->stored.next, it->stored.closed);
+    it->is_made = answer == KRBRELAY_OK;
+    if (!it->is_made)
+        report_answer("no receiver", of->name, it->stored.next, answer);
+    return it->is_made ? 0 : -1;
+}
+
 /* Takes one frame, within a transaction. */
 static int take(struct shard *s, const struct carried *it)
 {
@@ -152,6 +171,8 @@ static int take(struct shard *s, const struct carried *it)
     if (place == s->count || s->sessions[place].shard != s->number)
         return take_unknown(s, place, it);
     receiver = &s->receivings[place].receiver;
+    if (make_receiver(s, place) != 0)
+        return -1;
     answer = krbrelay_receiver_state(receiver, &demanded, &closed);
     if (answer == KRBRELAY_OK)
         answer = krbrelay_receiver_take(receiver, it->frame, it->len, &now, &kind, s->bytes,
@@ -181,7 +202,8 @@ static int advance_all(struct shard *s)
         size_t place = s->changed[i];
         struct receiving *it = &s->receivings[place];
         struct demand *now = &it->now;
-        if (krbrelay_receiver_state(&it->receiver, &now->next, &now->closed) != KRBRELAY_OK)
+        if (it->is_made
+            && krbrelay_receiver_state(&it->receiver, &now->next, &now->closed) != KRBRELAY_OK)
             return -1;
         if (now->closed)
             now->missed = MISSED_NOTHING;
@@ -242,28 +264,39 @@ static void place_session(struct shard *s, size_t place)
         shard_stands(s, place);
 }
 
-/* Makes a session what is stored of it. */
+/* Notes one session of the shard as the store has it. */
+static int note_stored(void *given, const char *name, const struct demand *demand)
+{
+    struct shard *s = given;
+    size_t place = find_session(s->sessions, s->count, name);
+    if (place < s->count && s->sessions[place].shard == s->number)
+        s->receivings[place].stored = *demand;
+    return 0;
+}
+
+/* Makes a session what is stored of it. One that isn't stored as one of this shard may be as
+ * another's.
+ * */
 static int load_session(struct shard *s, size_t place)
 {
-    const struct session *of = &s->sessions[place];
     struct receiving *it = &s->receivings[place];
-    const struct krbrelay_expect expect = { .mode = of->mode, .sender = of->from,
-                                            .receiver = of->to, .require_time = 1,
-                                            .skew = s->options->skew };
-    enum krbrelay_answer answer;
-    it->stored = (struct demand){ .next = of->first, .shard = (int32_t)s->number };
-    it->is_changed = 0;
-    if (store_session(s->store, of->name, &it->stored) != 0)
+    if (!it->stored.is_stored && store_session(s->store, s->sessions[place].name, &it->stored) != 0)
         return -1;
-    answer = krbrelay_receiver_new(&it->receiver, of->etype, of->key, of->key_len, &expect,
-                                   it->stored.next, it->stored.closed);
-    if (answer != KRBRELAY_OK) {
-        report_answer("no receiver", of->name, it->stored.next, answer);
-        return -1;
-    }
     place_session(s, place);
     s->open += it->stored.closed == 0;
     return 0;
+}
+
+/* What is known of the sessions before the store is asked. */
+static void forget_stored(struct shard *s)
+{
+    size_t i;
+    s->open = s->changed_count = 0;
+    for (i = 0; i < s->count; i++) {
+        s->receivings[i].is_made = s->receivings[i].is_changed = 0;
+        s->receivings[i].stored = (struct demand){ .next = s->sessions[i].first,
+                                                   .shard = (int32_t)s->number };
+    }
 }
 
 /* Makes all what the store has: first how far the shard was read, and then the sessions (store.h
@@ -271,8 +304,10 @@ static int load_session(struct shard *s, size_t place)
 static int load_stored(struct shard *s)
 {
     size_t i;
-    s->open = s->changed_count = 0;
+    forget_stored(s);
     if (store_reached(s->store, s->number, &s->stored) != 0)
+        return -1;
+    if (store_sessions(s->store, s->number, note_stored, s) != 0)
         return -1;
     for (i = 0; i < s->count; i++)
         if (s->sessions[i].shard == s->number && load_session(s, i) != 0)

@@ -41,9 +41,10 @@ struct shard_options {
 
 /* One session of the shard. */
 struct receiving {
-    struct krbrelay_receiver receiver;
+    struct krbrelay_receiver receiver; /* made with the first frame after loading */
     struct krbrelay_opener opener; /* looks at what was refused; made when it is first needed */
     struct demand stored, now;     /* what the store has, and what it shall have */
+    int is_made;                   /* the receiver is what is stored, and what followed */
     int is_changed;
     int has_opened;                /* a frame opened: the key is right */
     int is_standing;               /* it is in the list of those that stand: */

@@ -8,7 +8,8 @@
 #include <string.h>
 
 enum {
-    SELECT_REACHED, SELECT_SESSION, MOVE_SHARD, ADD_SESSION, MOVE_SESSION, MISS_SESSION, STATEMENTS
+    SELECT_REACHED, SELECT_SESSION, SELECT_SESSIONS, MOVE_SHARD, ADD_SESSION, MOVE_SESSION,
+    MISS_SESSION, STATEMENTS
 };
 enum { EFFECTS = 16 }; /* the most statements of effects */
 
@@ -38,6 +39,7 @@ static const char *const columns[][2] = {
 static const char *const own_sql[STATEMENTS] = {
     [SELECT_REACHED] = "SELECT incarnation, offset FROM shard WHERE shard = ?",
     [SELECT_SESSION] = "SELECT next, closed, missed, at, shard FROM session WHERE name = ?",
+    [SELECT_SESSIONS] = "SELECT next, closed, missed, at, shard, name FROM session WHERE shard = ?",
     [MOVE_SHARD] = ("INSERT INTO shard (shard, incarnation, offset) SELECT ?1, ?4, ?5"
                     " WHERE ?2 = 0 AND ?3 = 0 OR ?1 IN (SELECT shard FROM shard)"
                     " ON CONFLICT (shard) DO UPDATE SET incarnation = ?4, offset = ?5"
@@ -63,6 +65,16 @@ static int reached(struct store *base, unsigned shard, struct reached *reached)
     return row < 0 ? -1 : 0;
 }
 
+static void read_demand(sqlite3_stmt *select, struct demand *demand)
+{
+    demand->next = (uint64_t)sqlite3_column_int64(select, 0);
+    demand->closed = (uint32_t)sqlite3_column_int(select, 1);
+    demand->missed = (uint32_t)sqlite3_column_int(select, 2);
+    demand->at = (uint64_t)sqlite3_column_int64(select, 3);
+    demand->shard = sqlite3_column_int(select, 4);
+    demand->is_stored = 1;
+}
+
 static int session(struct store *base, const char *name, struct demand *demand)
 {
     struct sqlite_store *s = (struct sqlite_store *)base;
@@ -70,16 +82,28 @@ static int session(struct store *base, const char *name, struct demand *demand)
     int row;
     sqlite3_bind_text(select, 1, name, -1, SQLITE_STATIC);
     row = step_row(select);
-    demand->is_stored = row == 1;
-    if (row == 1) {
-        demand->next = (uint64_t)sqlite3_column_int64(select, 0);
-        demand->closed = (uint32_t)sqlite3_column_int(select, 1);
-        demand->missed = (uint32_t)sqlite3_column_int(select, 2);
-        demand->at = (uint64_t)sqlite3_column_int64(select, 3);
-        demand->shard = sqlite3_column_int(select, 4);
-    }
+    demand->is_stored = 0;
+    if (row == 1)
+        read_demand(select, demand);
     sqlite3_reset(select);
     return row < 0 ? -1 : 0;
+}
+
+static int sessions(struct store *base, unsigned shard, store_take *take, void *given)
+{
+    struct sqlite_store *s = (struct sqlite_store *)base;
+    sqlite3_stmt *select = s->statements[SELECT_SESSIONS];
+    int row, answer = 0;
+    sqlite3_bind_int64(select, 1, shard);
+    while (answer == 0 && (row = step_row(select)) != 0) {
+        const char *name = row == 1 ? (const char *)sqlite3_column_text(select, 5) : NULL;
+        struct demand demand;
+        if (row == 1)
+            read_demand(select, &demand);
+        answer = name == NULL || take(given, name, &demand) != 0 ? -1 : 0;
+    }
+    sqlite3_reset(select);
+    return answer;
 }
 
 /* Runs a statement that moves one row, if it stood where it was said. */
@@ -224,7 +248,7 @@ static const char *path_of_shard(const char *path, unsigned shard, char *name, s
     return NULL;
 }
 
-/* The tables of effects, and columns that files of an older version don't have. */
+/* The tables of effects, and what files of an older version don't have. */
 static int complete(sqlite3 *db)
 {
     size_t i;
@@ -233,7 +257,9 @@ static int complete(sqlite3 *db)
     for (i = 0; i < sizeof columns / sizeof *columns; i++)
         if (add_column(db, columns[i][0], columns[i][1]) != 0)
             break;
-    if (i == sizeof columns / sizeof *columns && run(db, effect_tables_sqlite) == 0
+    if (i == sizeof columns / sizeof *columns
+        && run(db, "CREATE INDEX IF NOT EXISTS session_of_shard ON session (shard)") == 0
+        && run(db, effect_tables_sqlite) == 0
         && run(db, "COMMIT") == 0)
         return 0;
     run(db, "ROLLBACK");
@@ -258,6 +284,7 @@ struct store *sqlite_store_open(const char *path, unsigned shard)
         return NULL;
     s->base.reached = reached;
     s->base.session = session;
+    s->base.sessions = sessions;
     s->base.begin = begin;
     s->base.advance = advance;
     s->base.miss = miss;

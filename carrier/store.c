@@ -31,6 +31,11 @@ int store_session(struct store *store, const char *session, struct demand *deman
     return store->session(store, session, demand);
 }
 
+int store_sessions(struct store *store, unsigned shard, store_take *take, void *given)
+{
+    return store->sessions(store, shard, take, given);
+}
+
 int store_begin(struct store *store, unsigned shard, const struct reached *from,
                 const struct reached *to)
 {

@@ -49,6 +49,11 @@ int store_reached(struct store *store, unsigned shard, struct reached *reached);
 /* What is stored of the session. If nothing is, only is_stored is changed. */
 int store_session(struct store *store, const char *session, struct demand *demand);
 
+/* Passes each session to a function that is stored as one of the shard. What that doesn't answer 0
+ * ends it, with -1. */
+typedef int store_take(void *given, const char *session, const struct demand *demand);
+int store_sessions(struct store *store, unsigned shard, store_take *take, void *given);
+
 /* Begins a transaction that moves the shard. */
 int store_begin(struct store *store, unsigned shard, const struct reached *from,
                 const struct reached *to);
@@ -86,6 +91,7 @@ int store_run(struct store *store, const char *sql, const struct value *values, 
 struct store {
     int (*reached)(struct store *, unsigned, struct reached *);
     int (*session)(struct store *, const char *, struct demand *);
+    int (*sessions)(struct store *, unsigned, store_take *, void *);
     int (*begin)(struct store *, unsigned, const struct reached *, const struct reached *);
     int (*advance)(struct store *, const char *, const struct demand *, const struct demand *);
     int (*miss)(struct store *, const char *);

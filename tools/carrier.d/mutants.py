@@ -31,15 +31,13 @@ EDITS = {
     "numbers before the offset": ("shard.c", """\
     if (store_reached(s->store, s->number, &s->stored) != 0)
         return -1;
-    for (i = 0; i < s->count; i++)
-        if (s->sessions[i].shard == s->number && load_session(s, i) != 0)
-            return -1;
-    return 0;
+    if (store_sessions(s->store, s->number, note_stored, s) != 0)
+        return -1;
 """, """\
-    for (i = 0; i < s->count; i++)
-        if (s->sessions[i].shard == s->number && load_session(s, i) != 0)
-            return -1;
-    return store_reached(s->store, s->number, &s->stored);
+    if (store_sessions(s->store, s->number, note_stored, s) != 0)
+        return -1;
+    if (store_reached(s->store, s->number, &s->stored) != 0)
+        return -1;
 """),
     "deduplication on": ("nats_publisher.c", """\
     status = natsConnection_PublishRequest(c->connection, subject, reply, frame, (int)len);
