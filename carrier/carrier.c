@@ -17,7 +17,8 @@ struct carrier *carrier_open(const char *where, unsigned replicas)
 #endif
     }
     (void)replicas;
-    fprintf(stderr, "%s is no carrier: name nats://HOST:PORT or sqlite:FILE\n", where);
+    fprintf(stderr, "%.*s is no carrier: name nats://HOST:PORT or sqlite:FILE\n",
+            (int)strcspn(where, ":"), where); /* what follows may be a password */
     return NULL;
 }
 

@@ -17,7 +17,8 @@ struct store *store_open(const char *where, unsigned shard)
         return NULL;
 #endif
     }
-    fprintf(stderr, "%s is no store: name sqlite:FILE or postgresql://USER@HOST/DATABASE\n", where);
+    fprintf(stderr, "%.*s is no store: name sqlite:FILE or postgresql://USER@HOST/DATABASE\n",
+            (int)strcspn(where, ":"), where); /* what follows may be a password */
     return NULL;
 }
 
