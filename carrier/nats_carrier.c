@@ -1,4 +1,5 @@
 /* The connection to NATS, and what a stream is. */
+#include "clock.h"
 #include "nats_carrier.h"
 
 #include <stdio.h>
@@ -8,8 +9,8 @@
 enum {
     RECONNECT = 200, /* milliseconds between tries */
     SILENT = 2000,   /* milliseconds after which a server that doesn't answer or read is left */
-    SHORTEST = 500,  /* milliseconds to wait for what a stream answers: so long at first, */
-    LONGEST = 3500,  /* twice as long after each time in vain, and half after each answer */
+    SHORTEST = 500,  /* milliseconds to wait for what a stream answers */
+    LONGEST = 3500,
     SERVERS = 16,    /* the most servers of a name */
     WHERE = 2048     /* the most bytes of their addresses */
 };
@@ -35,22 +36,34 @@ static const char *fault_of(const struct nats_carrier *c, const jsStreamConfig *
     return NULL;
 }
 
-/* The options of a question about a stream, which is waited for as long as seems right. */
+/* The options of a question about a stream. */
 static natsStatus begin_to_ask(struct nats_carrier *c, jsOptions *options)
 {
     natsStatus status = jsOptions_Init(options);
     if (c->patience < SHORTEST)
         c->patience = SHORTEST;
     options->Wait = c->patience;
+    c->asked = nanoseconds();
     return status;
 }
 
+static int between(int64_t number, int low, int high)
+{
+    return number < low ? low : number > high ? high : (int)number;
+}
+
+/* The next question is waited for twice as long as this one took; after one in vain twice as long
+ * as this one, but, where answers were fast, not much longer: then it isn't the distance. */
 static void note_asked(struct nats_carrier *c, natsStatus status)
 {
-    if (status == NATS_TIMEOUT)
-        c->patience = 2 * c->patience < LONGEST ? 2 * c->patience : LONGEST;
-    else
-        c->patience /= 2;
+    int64_t took = (int64_t)(nanoseconds() - c->asked) / 1000000;
+    int limit = c->answered == 0 ? LONGEST : between(8 * c->answered, 2 * SHORTEST, LONGEST);
+    if (status == NATS_TIMEOUT) {
+        c->patience = between(2 * (int64_t)c->patience, SHORTEST, limit);
+        return;
+    }
+    c->answered = took + 1;
+    c->patience = between(2 * took, SHORTEST, LONGEST);
 }
 
 natsStatus nats_ask_stream(struct nats_carrier *c, unsigned shard, jsStreamInfo **info)

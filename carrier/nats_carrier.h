@@ -20,7 +20,11 @@ struct nats_carrier {
     natsConnection *connection;
     jsCtx *js;
     unsigned replicas;
-    int patience;                       /* milliseconds to wait for what a stream answers */
+    /* Questions about streams: milliseconds to wait for an answer, when the last was asked, and
+     * milliseconds that the last answer took, or 0. */
+    int patience;
+    uint64_t asked;
+    int64_t answered;
     /* Of each shard to which frames are published: its incarnation, whether it is known, until
      * when, and if not, not before which moment it is asked for; the last offset that it is known
      * to have, and when it was asked for that, or 0. */
