@@ -39,6 +39,8 @@ static int put_off(struct sender *s, struct sending *it, int answer, uint64_t nu
         return -1;
     it->is_blocked = 1;
     it->stopped_at = 1;
+    /* Its frames don't keep the window of its shard from the others. */
+    s->lanes[it->lane].backlog -= (size_t)(it->progress.next - it->progress.carried);
     snprintf(it->reason, sizeof it->reason, "the carrier doesn't take frame %llu: is it longer than"
              " its Maximum Payload?", (unsigned long long)number);
     return sender_stop(s, it->of->name, it->reason) == OUTBOX_OK ? 0 : -1;
@@ -125,7 +127,7 @@ size_t publish_count_carried(struct sender *s, int milliseconds)
         if (list[i].tag >= s->count
             || !progress_confirm(&it->progress, list[i].number, list[i].offset, nanoseconds()))
             continue;
-        s->lanes[it->lane].backlog--;
+        s->lanes[it->lane].backlog -= !it->is_blocked;
         rose++;
     }
     return count == COUNTED ? rose + publish_count_carried(s, 0) : rose;

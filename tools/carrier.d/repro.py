@@ -505,14 +505,16 @@ def stream_full(place):
 
 
 def max_payload(place):
-    """The broker takes 64 kB at most."""
-    place.put([("ann", b"a" * 100_000)] + texts("tom", 0, 500) + close("tom"))
+    """The broker takes 64 kB at most. Other sessions of the same shard and of another go on."""
+    place.put([("ann", b"a" * 100_000)] + texts("ann", 0, 3000)
+              + texts("abe", 0, 300) + texts("tom", 0, 500) + close("tom"))
     sender = place.start("sender")
     place.start("receiver")
     place.await_delivered()
     lines = place.log(sender).splitlines()
     place.require(len(lines) < 30, f"{len(lines)} lines of log")
     place.require(any("ann" in line and "Maximum Payload" in line for line in lines), lines[:2])
+    require_stopped(place, "ann", "Maximum Payload")
 
 
 def receiver_first(place):
@@ -811,8 +813,8 @@ CASES = (
          {"ann": 200, "tom": 10}, 10),
     Case(lose_outbox, "a sender begins elsewhere with a new outbox", {"ann": 200, "tom": 10}, 10),
     Case(stream_full, "the stream of one shard is full", {"tom": 500}, 10, (ANN, TOM_1), "0,1", ""),
-    Case(max_payload, "a frame is longer than the broker takes", {"tom": 500}, 10, (ANN, TOM_1),
-         "0,1", "max_payload: 65536"),
+    Case(max_payload, "a frame is longer than the broker takes", {"abe": 300, "tom": 500}, 10,
+         (ABE, ANN, TOM_1), "0,1", "max_payload: 65536"),
     Case(receiver_first, "a receiver is started first; a stream has fewer replicas than asked for",
          {"ann": 10}, 15, nats=""),
     Case(forged_confirmation, "somebody confirms frames at the offset 2^62", {"ann": 5}, 15,
