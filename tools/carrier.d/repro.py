@@ -724,6 +724,7 @@ def supervisor(place):
                 lines.append(told.recv(100))
         place.require(sorted(set(lines)) == [b"READY=1", b"STOPPING=1", b"WATCHDOG=1"],
                       f"{name}: {lines}")
+    place.run("sender", "--drain")      # the one before may have ended before it sent them
     place.start("receiver")
     place.await_delivered()
 
