@@ -37,13 +37,17 @@ class Place:
 
     def is_at(self, path):
         """Whether this is the function of a path, as `module::Type::name`. The prover's name for an
-        `impl` of a trait begins with the type's name and goes on with the trait's."""
+        `impl` of a trait begins with the type's name and goes on with the trait's, and the module of
+        a method is its type's, which may be another one than that of the `impl`. The functions that
+        call each other are proved together, in a folder `+name` of their module."""
         parts = path.split("::")
-        of_module = self.module.split("::") if self.module else []
-        middle = parts[len(of_module):-1]
-        return (parts[:len(of_module)] == of_module and parts[-1:] == [self.name]
-                and (not self.type and not middle
-                     or bool(self.type) and bool(middle) and middle[-1].startswith(self.type)))
+        if parts[-1].startswith("+"):
+            return "::".join(parts[:-1]) == self.module
+        if parts[-1] != self.name:
+            return False
+        if self.type:
+            return len(parts) > 1 and parts[-2].startswith(self.type)
+        return "::".join(parts[:-1]) == self.module
 
 
 def module_of(path):
