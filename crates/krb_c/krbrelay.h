@@ -3,7 +3,8 @@
  *
  * A handle is a struct of the caller's, made of zeros: struct krbrelay_sealer s = { 0 };
  * It holds nothing, or one sealer, opener or receiver on the heap. End it by its krbrelay_*_free,
- * which overwrites all keys; freeing twice is harmless.
+ * which overwrites the keys that it holds; freeing twice is harmless. No call overwrites the copies of
+ * keys that calls left on the stack below their caller.
  *
  * Each call that answers an enum answers KRBRELAY_OK, or why it did nothing: what it would have
  * written is as it was.
@@ -22,6 +23,11 @@
  *    process with threads.
  *  - The confounder is 16 bytes that nobody can foresee, new for each KRB-PRIV. A session key seals
  *    each sequence number once in each direction.
+ *  - A message that comes back to its maker is refused where both ends have different addresses and
+ *    demand them, or each direction has a key of its own. A receiver that begins at an older state
+ *    takes the same messages again.
+ *  - krbrelay_sealer_seal_record belongs to krbrelay_receiver_take: to a receiver, the user data "C"
+ *    of krbrelay_sealer_seal are a close.
  */
 #ifndef KRBRELAY_H
 #define KRBRELAY_H
@@ -240,7 +246,8 @@ enum krbrelay_answer krbrelay_sealer_frame_size(struct krbrelay_sealer *handle, 
 enum krbrelay_answer krbrelay_sealer_set_mode(struct krbrelay_sealer *handle, uint32_t mode)
     KRBRELAY_NONNULL(1) KRBRELAY_CHECKED;
 
-/* Overwrites the keys where they lie: from then on the sealer answers KRBRELAY_WIPED. */
+/* Overwrites the keys where they lie: from then on krbrelay_sealer_seal and _seal_record answer
+ * KRBRELAY_WIPED, after they looked at record, room and moment. The other calls answer as before. */
 void krbrelay_sealer_wipe(struct krbrelay_sealer *handle) KRBRELAY_NONNULL(1);
 
 /* Overwrites the keys and frees the sealer. The handle holds nothing then. */
@@ -283,7 +290,7 @@ enum krbrelay_answer krbrelay_opener_open(struct krbrelay_opener *handle, const 
                                           struct krbrelay_carried *carried)
     KRBRELAY_NONNULL(1, 4, 5, 8, 9) KRBRELAY_CHECKED;
 
-/* Overwrites the keys where they lie: from then on the opener answers KRBRELAY_WIPED. */
+/* Overwrites the keys where they lie: from then on each call that opens answers KRBRELAY_WIPED. */
 void krbrelay_opener_wipe(struct krbrelay_opener *handle) KRBRELAY_NONNULL(1);
 
 /* Overwrites the keys and frees the opener. The handle holds nothing then. */

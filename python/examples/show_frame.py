@@ -1,6 +1,5 @@
 #!/usr/bin/env python3
-"""Opens a captured message, and prints it as `krbrelay show` does, with the decrypted part in the
-place of the ciphertext:
+"""Opens a captured message, and prints it as `krbrelay show` does, but with its part decrypted:
 
     show_frame.py MESSAGE KEY      both in hexadecimal digits
 
@@ -37,3 +36,5 @@ if __name__ == "__main__":
         print(line_of(*map(bytes.fromhex, sys.argv[1:])))
     except Refusal as refusal:
         sys.exit(f"refused {refusal.code.value} {refusal.name}")
+    except ValueError as error:
+        sys.exit(f"show_frame.py: {error}")

@@ -19,6 +19,8 @@ from krbrelay.sealer import Sealer
 from krbrelay.values import (
     Address, Batch, Body, Closed, Demand, Header, How, Mode, Moment, Record, Text)
 
+__version__ = "1.0.0"
+
 __all__ = [
     "ADDRESS_LIMIT", "Address", "Batch", "Body", "Closed", "Code", "Demand", "Error", "Exhausted",
     "FRAME_LIMIT", "Freed", "Header", "How", "LibraryError", "Mode", "Moment", "Opener", "Receiver",

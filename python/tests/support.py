@@ -57,8 +57,8 @@ def opener_of(key, mode, sender=SENDER, receiver=RECEIVER, **demands):
                            **demands)
 
 
-def receiver_of(key, mode, expected=7, **demands):
-    return krbrelay.Receiver(etype_of(key), key, mode=mode, sender=SENDER, receiver=RECEIVER,
+def receiver_of(key, mode, expected=7, sender=SENDER, **demands):
+    return krbrelay.Receiver(etype_of(key), key, mode=mode, sender=sender, receiver=RECEIVER,
                              expected=expected, **demands)
 
 

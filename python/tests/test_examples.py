@@ -43,6 +43,14 @@ class ShowFrame(unittest.TestCase):
                          (1, "", "refused 31 BAD_INTEGRITY\n"))
         self.assertEqual(ran("show_frame.py", frame.hex())[0], 1)
 
+    def test_what_is_no_message_or_no_key(self):
+        """A line says what is wrong, and not where the program met it."""
+        frame, key = frame_of(*KINDS[1], b"Dhi").hex(), KEYS[0].hex()
+        for words in ((frame, "xy"), ("xy", key), (frame, key[:-1]), (frame, key[:-2]),
+                      (frame, "")):
+            status, written, told = ran("show_frame.py", *words)
+            self.assertEqual((status, written, told.count("\n")), (1, "", 1), told)
+
     def test_its_size(self):
         with open(os.path.join(EXAMPLES, "show_frame.py"), encoding="utf-8") as file:
             self.assertLessEqual(len(file.readlines()), 40)

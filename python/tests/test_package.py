@@ -1,9 +1,12 @@
 import ast
+import glob
+import importlib.metadata
 import os
 import py_compile
 import shutil
 import subprocess
 import sys
+import tarfile
 import tempfile
 import unittest
 
@@ -74,21 +77,102 @@ class Sources(unittest.TestCase):
         self.assertTrue(os.path.exists(os.path.join(PACKAGE, "py.typed")))
 
 
+class Documents(unittest.TestCase):
+    def test_each_field_of_a_value_is_documented(self):
+        text = text_of(os.path.join(TOP, "docs", "PYTHON.md"))
+        for name in krbrelay.__all__:
+            it = getattr(krbrelay, name)
+            fields = getattr(it, "_fields", None) or getattr(it, "__dataclass_fields__", ())
+            for field in fields:
+                row = [line for line in text.split("\n")
+                       if line.startswith("  | ") and f"`{name}`" in line]
+                self.assertEqual(len(row), 1, name)
+                self.assertIn(f"`{field}`", row[0], name)
+
+
 def has_pip():
     return subprocess.run([sys.executable, "-m", "pip", "--version"], capture_output=True,
                           stdin=subprocess.DEVNULL).returncode == 0
 
 
+def copy_to(folder):
+    """A copy of the project in a folder, with the licence above it."""
+    copied = os.path.join(folder, "python")
+    shutil.copytree(PYTHON, copied, ignore=shutil.ignore_patterns("__pycache__", "tests"))
+    shutil.copy(os.path.join(TOP, "LICENSE"), folder)
+    return copied
+
+
+def built(copied, kind):
+    """What the project's backend makes: its path."""
+    place = os.path.join(copied, "backend")
+    code = f"import wheel_backend as it; print(it.{kind}('.'))"
+    ran = subprocess.run([sys.executable, "-c", code], cwd=place, capture_output=True, text=True,
+                         check=True)
+    return os.path.join(place, ran.stdout.strip())
+
+
+class Building(unittest.TestCase):
+    def test_the_version_is_one(self):
+        self.assertIn(f'version = "{krbrelay.__version__}"\n',
+                      text_of(os.path.join(PYTHON, "pyproject.toml")))
+
+    def test_the_source_archive_describes_itself(self):
+        with tempfile.TemporaryDirectory() as folder:
+            with tarfile.open(built(copy_to(folder), "build_sdist")) as archive:
+                stem = f"krbrelay-{krbrelay.__version__}"
+                names = {name.partition("/")[2] for name in archive.getnames()}
+                described = archive.extractfile(f"{stem}/PKG-INFO").read().decode()
+        self.assertLessEqual({"LICENSE", "PKG-INFO", "README.md", "backend/wheel_backend.py",
+                              "krbrelay/__init__.py", "krbrelay/py.typed", "pyproject.toml"}, names)
+        self.assertIn(f"\nVersion: {krbrelay.__version__}\n", described)
+
+    def test_no_wheel_is_built_without_the_licence(self):
+        with tempfile.TemporaryDirectory() as folder:
+            copied = copy_to(folder)
+            os.remove(os.path.join(folder, "LICENSE"))
+            with self.assertRaises(subprocess.CalledProcessError):
+                built(copied, "build_wheel")
+            self.assertEqual(glob.glob(os.path.join(folder, "**", "*.whl"), recursive=True), [])
+
+
 @unittest.skipUnless(has_pip(), "there is no pip here")
 class Installing(unittest.TestCase):
+    def install(self, *words):
+        ran = subprocess.run([sys.executable, "-m", "pip", "install", "--no-index", "--quiet",
+                              "--disable-pip-version-check", *words],
+                             stdin=subprocess.DEVNULL, capture_output=True, text=True)
+        self.assertEqual(ran.returncode, 0, ran.stderr)
+
+    def test_what_is_installed_describes_itself(self):
+        with tempfile.TemporaryDirectory() as folder:
+            target = os.path.join(folder, "installed")
+            self.install("--target", target, built(copy_to(folder), "build_sdist"))
+            found, = importlib.metadata.distributions(path=[target])
+            described = found.metadata
+            self.assertEqual(found.version, krbrelay.__version__)
+            self.assertEqual(described["License"], "Apache-2.0 OR MIT")
+            self.assertEqual(described["Author"], "The authors of krbrelay")
+            self.assertIn("Typing :: Typed", described.get_all("Classifier"))
+            self.assertIn("# krbrelay\n", described.get_payload() or described["Description"])
+            self.assertIn("SPDX-License-Identifier", found.read_text("LICENSE"))
+
+    def test_an_editable_install_is_the_folder(self):
+        with tempfile.TemporaryDirectory() as folder:
+            copied, prefix = copy_to(folder), os.path.join(folder, "prefix")
+            self.install("--prefix", prefix, "--editable", copied)
+            place, = glob.glob(os.path.join(prefix, "**", "krbrelay.pth"), recursive=True)
+            code = (f"import site; site.addsitedir({os.path.dirname(place)!r})\n"
+                    "import krbrelay; print(krbrelay.__file__)")
+            ran = subprocess.run([sys.executable, "-I", "-c", code], cwd=folder,
+                                 capture_output=True, text=True)
+            init = os.path.join(os.path.realpath(copied), "krbrelay", "__init__.py")
+            self.assertEqual(ran.stdout, f"{init}\n", ran.stderr)
+
     def test_pip_installs_it(self):
         with tempfile.TemporaryDirectory() as folder:
-            copied, target = os.path.join(folder, "python"), os.path.join(folder, "installed")
-            shutil.copytree(PYTHON, copied, ignore=shutil.ignore_patterns("__pycache__", "tests"))
-            ran = subprocess.run([sys.executable, "-m", "pip", "install", "--no-index", "--quiet",
-                                  "--disable-pip-version-check", "--target", target, copied],
-                                 stdin=subprocess.DEVNULL, capture_output=True, text=True)
-            self.assertEqual(ran.returncode, 0, ran.stderr)
+            copied, target = copy_to(folder), os.path.join(folder, "installed")
+            self.install("--target", target, copied)
             installed = os.path.join(target, "krbrelay")
             names = {it for it in os.listdir(PACKAGE) if it != "__pycache__"}
             self.assertEqual(names, set(os.listdir(installed)) - {"__pycache__"})

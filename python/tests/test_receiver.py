@@ -2,11 +2,11 @@ import random
 import unittest
 
 from support import (
-    ALL, KEYS, KINDS, MICROS, OTHER, RECEIVER, frame_of, frames, opener, outcome, receiver_of,
-    sealer_of, session_of)
+    ALL, KEYS, KINDS, MICROS, OTHER, RECEIVER, frame_of, frames, opener, opener_of, outcome,
+    receiver_of, sealer_of, session_of)
 
 import krbrelay
-from krbrelay import Batch, Closed, Code, Mode, Receiver, State, Text
+from krbrelay import Batch, Closed, Code, Demand, Mode, Receiver, State, Text
 
 
 def lines_of(found):
@@ -86,6 +86,47 @@ class Taking(unittest.TestCase):
         for expected in (2**32 + 1, 2**64 - 1, 2**64, -1):
             with self.assertRaises(ValueError):
                 receiver_of(KEYS[0], Mode.SAFE, expected)
+
+    def test_a_message_that_comes_back_to_its_maker(self):
+        """It is refused where the ends have two addresses, or each direction a key. Where neither
+        is so, it is taken: so docs/C.md asks one of a caller."""
+        for key, mode in KINDS:
+            with sealer_of(key, mode, sender=RECEIVER) as sealer:
+                frame = sealer.seal_record(Text(b"hi"), MICROS)
+            with receiver_of(key, mode) as receiver:
+                self.assertEqual(outcome(receiver.take, frame, MICROS), Code.BADADDR)
+            with receiver_of(bytes(len(key)), mode, sender=RECEIVER) as receiver:
+                self.assertEqual(outcome(receiver.take, frame, MICROS),
+                                 Code.MODIFIED if mode is Mode.SAFE else Code.BAD_INTEGRITY)
+            with receiver_of(key, mode, sender=RECEIVER) as receiver:
+                self.assertEqual(receiver.take(frame, MICROS), Text(b"hi"))
+            with opener_of(key, mode) as opened:
+                self.assertEqual(opened.open(frame, Demand(number=7), MICROS).user_data, b"Dhi")
+
+    def test_an_older_state_takes_the_same_again(self):
+        for key, mode in KINDS:
+            frame = frame_of(key, mode, b"Dhi")
+            for _ in range(2):
+                with receiver_of(key, mode) as receiver:
+                    self.assertEqual(receiver.take(frame, MICROS), Text(b"hi"))
+                    self.assertEqual(outcome(receiver.take, frame, MICROS), Code.BADORDER)
+
+    def test_user_data_may_be_a_record(self):
+        """A receiver can't tell which call sealed a message."""
+        for key, mode in KINDS:
+            for data, record in ((b"C", Closed()), (b"Dx", Text(b"x"))):
+                with sealer_of(key, mode) as sealer, receiver_of(key, mode) as receiver:
+                    self.assertEqual(receiver.take(sealer.seal(data, MICROS), MICROS), record)
+
+    def test_after_what_is_no_record_nothing_is_taken(self):
+        for key, mode in KINDS:
+            with sealer_of(key, mode) as sealer, receiver_of(key, mode) as receiver:
+                self.assertEqual(outcome(receiver.take, sealer.seal(b"x", MICROS), MICROS),
+                                 Code.BAD_RECORD)
+                self.assertEqual(
+                    outcome(receiver.take, sealer.seal_record(Closed(), MICROS), MICROS),
+                    Code.BADORDER)
+                self.assertEqual(receiver.state, State(7, False))
 
     def test_addresses_are_demanded(self):
         for addresses in ((OTHER, None), (None, RECEIVER), (None, None)):

@@ -1,6 +1,7 @@
 /* Each allocation refused in turn: a call answers that it is out of memory and leaves its handle usable, and
  * the next call succeeds. And a KRB-PRIV message takes all its memory at once, so no block that held
- * a text in the clear is left behind. Built with -Wl,--wrap=malloc -Wl,--wrap=realloc. */
+ * a text in the clear is left behind, and a batch takes no memory for each of its texts. Built with
+ * -Wl,--wrap=malloc -Wl,--wrap=realloc. */
 #include "check.h"
 #include "krbrelay.h"
 #include "session.h"
@@ -161,12 +162,41 @@ static long asked_by_seal(int etype, const uint8_t *bytes, size_t size)
     return took;
 }
 
+/* How many allocations it takes to seal a batch of 1,000 texts of 60 bytes as a KRB-PRIV, and to take
+ * it: none is for a text. */
+static long asked_by_batch(int etype)
+{
+    static uint8_t batch[64 * 1000], bytes[64 * 1000];
+    static const uint8_t sixty[60] = { 1, 2, 3 };
+    struct krbrelay_session session = session_of(KRBRELAY_PRIV, 7);
+    struct krbrelay_expect expect = expect_of(KRBRELAY_PRIV);
+    struct krbrelay_sealer s = { 0 };
+    struct krbrelay_receiver r = { 0 };
+    size_t size = 0, n = 0, m = 0, len = key_size(etype);
+    uint32_t kind = 0;
+    long before;
+    while (size < sizeof batch)
+        CHECK(krbrelay_batch_add(batch, sizeof batch, &size, sixty, sizeof sixty) == KRBRELAY_OK);
+    CHECK(krbrelay_sealer_new(&s, etype, key, len, &session) == KRBRELAY_OK);
+    CHECK(krbrelay_receiver_new(&r, etype, key, len, &expect, 7, 0) == KRBRELAY_OK);
+    before = asked;
+    CHECK(krbrelay_sealer_seal_record(&s, KRBRELAY_BATCH, batch, size, &now, confounder, frame,
+                                      sizeof frame, &n) == KRBRELAY_OK);
+    CHECK(krbrelay_receiver_take(&r, frame, n, &now, &kind, bytes, sizeof bytes, &m) == KRBRELAY_OK);
+    CHECK(kind == KRBRELAY_BATCH && m == size && memcmp(batch, bytes, size) == 0);
+    before = asked - before;
+    krbrelay_sealer_free(&s);
+    krbrelay_receiver_free(&r);
+    return before;
+}
+
 int main(void)
 {
     static const uint8_t bytes[KRBRELAY_USER_DATA_LIMIT];
     for (int etype = 17; etype <= 18; etype++) {
         CHECK(asked_by_seal(etype, bytes, 1) == 1);
         CHECK(asked_by_seal(etype, bytes, sizeof bytes) == 1);
+        CHECK(asked_by_batch(etype) <= 6);
     }
     for (int etype = 17; etype <= 18; etype++)
         for (uint32_t mode = KRBRELAY_SAFE; mode <= KRBRELAY_PRIV; mode++) {

@@ -79,7 +79,11 @@ fn encrypt_time(rt: &impl Clock, schedule: &Schedule, text: &mut [u8; 16384]) ->
 }
 
 // The time that decryption takes, in microseconds.
-fn decrypt_time(rt: &impl Clock, schedule: &InverseSchedule, text: &mut [u8; 16384]) -> io::Result<u128> {
+fn decrypt_time(
+    rt: &impl Clock,
+    schedule: &InverseSchedule,
+    text: &mut [u8; 16384],
+) -> io::Result<u128> {
     let start = Instant::now(rt)?;
     decrypt_often(schedule, text);
     Ok(start.elapsed(rt)?.as_micros())
@@ -90,10 +94,18 @@ fn best_of(rt: &impl Clock, narrow: &Schedules, wide: &Schedules, rounds: u32) -
     let mut text = [7u8; 16384];
     let mut best = Best::none_yet();
     for _ in 0..rounds {
-        best.encrypt_128 = best.encrypt_128.min(encrypt_time(rt, &narrow.forward, &mut text)?);
-        best.decrypt_128 = best.decrypt_128.min(decrypt_time(rt, &narrow.backward, &mut text)?);
-        best.encrypt_256 = best.encrypt_256.min(encrypt_time(rt, &wide.forward, &mut text)?);
-        best.decrypt_256 = best.decrypt_256.min(decrypt_time(rt, &wide.backward, &mut text)?);
+        best.encrypt_128 = best
+            .encrypt_128
+            .min(encrypt_time(rt, &narrow.forward, &mut text)?);
+        best.decrypt_128 = best
+            .decrypt_128
+            .min(decrypt_time(rt, &narrow.backward, &mut text)?);
+        best.encrypt_256 = best
+            .encrypt_256
+            .min(encrypt_time(rt, &wide.forward, &mut text)?);
+        best.decrypt_256 = best
+            .decrypt_256
+            .min(decrypt_time(rt, &wide.backward, &mut text)?);
     }
     Ok(best)
 }

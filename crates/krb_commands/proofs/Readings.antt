@@ -22,9 +22,9 @@ spelt_or_not : (bytes : List ℕ) → IsBytes bytes → length bytes ≤ frame_l
 spelt_or_not bytes small short = decided (message_of bytes) refl
   where
     decided : (read : Option Message) → message_of bytes ≡ read → ((message : Message) × Spells message bytes) ⊎ SpellsNothing bytes
-    decided (Some message) e = inl (message, message_decodes bytes (Ok message) small short e)
+    decided (Some message) e = inl (message, message_decodes bytes (Ok message) (record { small = small }) short e)
     decided None e =
-        let d : Decodes Spells (Err errors.Malformed) bytes = message_decodes bytes (Err errors.Malformed) small short e in
+        let d : Decodes Spells (Err errors.Malformed) bytes = message_decodes bytes (Err errors.Malformed) (record { small = small }) short e in
         inr (record { short = d.0; nothing = d.1 })
 
 -- each line has a reading

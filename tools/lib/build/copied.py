@@ -11,9 +11,10 @@ from lib.build import building
 LIMIT = 60      # seconds for one command
 TO_END = 10     # seconds for all to end
 # What takes the place of the kit: the words that it was called with are noted in $NOTES, as what
-# its programs are called with. If $HANGS is set, `rt try` goes on for a minute beside a process in
-# a session of its own, as the kit's does. It ends that process when it is told to end, after a
-# second; if it is told again meanwhile, it ends at once.
+# its programs are called with. A crate whose sources are those of the copy is proved, and of another
+# one it prints $SAYS. If $HANGS is set, `rt try` goes on for a minute beside a process in a session
+# of its own, as the kit's does. It ends that process when it is told to end, after a second; if it
+# is told again meanwhile, it ends at once.
 KIT = r'''#!/bin/sh
 name=$(basename "$PWD")
 note() { echo "$*" >> "$NOTES"; }
@@ -44,6 +45,11 @@ lib | run)
     if [ "$name" = krb_c ]; then echo of rt > out/libkrb_c.a; fi
     rm -f ../*/locked
     note "end $name" ;;
+check)
+    note "check $name"
+    if diff -r src "$ORIGINAL/crates/$name/src" > /dev/null; then echo "logic=proved"; exit; fi
+    cat "$SAYS"; [ -z "$CHANGES" ] || echo >> "$CHANGES"
+    exit 1 ;;
 ci)
     note "begin ci"
     cat "$SAYS"; [ -z "$CHANGES" ] || echo >> "$CHANGES"
@@ -108,7 +114,7 @@ class Copy:
         os.mkdir(programs)
         write_script(os.path.join(programs, "rt"), KIT)
         write_script(os.path.join(programs, "rattle"), PROVER)
-        self.given = {**os.environ, "NOTES": self.notes,
+        self.given = {**os.environ, "NOTES": self.notes, "ORIGINAL": self.top,
                       "PATH": programs + ":" + os.environ["PATH"]}
 
     def begin(self, words, **given):

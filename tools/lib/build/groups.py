@@ -17,7 +17,7 @@ from lib.build import building, goals
 
 # What the prover says of a function that isn't proved; of an answer to one of its goals; of a goal
 # that has no answer; and of a lemma.
-OPEN = re.compile(r"^(?:so far: )?fn (\S+): no proof: [^;]*; `search` did not prove ([^;]*)", re.M)
+OPEN = re.compile(r"^(?:so far: )?fn (\S+): no proof: [^;\n]*; `search` did not prove ([^;\n]*)", re.M)
 ANSWER = re.compile(r"^(?:so far: )?(?:\./)?proofs/(\S+)/(?:Answers|Invariants|Proof)\.antt:\d+:\d+: "
                     r"error: `([\w+-]+)`: (.*)$", re.M)
 LEMMA = re.compile(r"^(?:so far: )?(?:\./)?proofs/\w+\.antt:\d+:\d+: error: `([\w+-]+)`: (.*)$", re.M)
