@@ -116,7 +116,7 @@ QUICK = [
     Part("tools/test_tables", 1),
     Part("tools/picture --quick", 1, (UNPROVED,)),
     Part("tools/redelivery --quick", 4, (UNPROVED, CRYPTOGRAPHY)),
-    Part("tools/fuzz --quick 100", 5, (UNPROVED, CRYPTOGRAPHY)),
+    Part("tools/fuzz --quick 300", 5, (UNPROVED, CRYPTOGRAPHY)),
     Part("tools/test_program --quick", 6, (UNPROVED,)),
 ]
 

@@ -41,10 +41,9 @@ class Runs:
 
     def __init__(self, tests):
         self.tests, self.table = tests, rows()
-        self.small = [self.jobs, self.bad_plans, self.shown, self.opened, self.rounds, self.vectors,
-                      self.help]
-        self.all = [*self.small, self.zeros, self.shown_zeros, self.come_back, self.flipped,
-                    self.spelt, self.longest, self.most]
+        self.small = [self.jobs, self.bad_plans, self.shown, self.opened, self.flipped, self.spelt,
+                      self.most, self.rounds, self.vectors, self.help]
+        self.all = [*self.small, self.zeros, self.shown_zeros, self.come_back, self.longest]
 
     def filled(self, text):
         """A text with each frame that it names."""
