@@ -42,8 +42,8 @@ def end_others(before):
 @contextlib.contextmanager
 def started(words, **how):
     """Starts a command, in a session of its own: so a terminal interrupts this process alone. At the
-    end of the block the command is told to end, once, and what it leaves behind is killed. Until
-    then this process ends by no signal."""
+    end of the block the command gets one signal to end, if it hasn't ended, and what it leaves
+    running is killed. Meanwhile no signal of these ends this process."""
     before = below(os.getpid())
     ctypes.CDLL(None).prctl(ADOPT, 1, 0, 0, 0)
     process = subprocess.Popen(words, start_new_session=True, **how)

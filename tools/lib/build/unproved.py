@@ -6,8 +6,8 @@ of a proved program, so nothing that asks for a proved program finds it (buildin
 
 `rt try` builds the program in a temporary folder, runs it there with the checks of a compiler, and
 removes the folder. While it works, this module gives the program a second name outside of it. If
-that can't be, each answer is one of `rt try`. `rt` ends with all that it started, however this
-process is told to end (family.py).
+that can't be, each answer is one of `rt try`. `rt` ends with all that it started, whatever signal
+ends this process (family.py).
 """
 import os
 import shutil
