@@ -17,8 +17,24 @@ struct carrier *carrier_open(const char *where, unsigned replicas)
 #endif
     }
     (void)replicas;
-    fprintf(stderr, "%s is no carrier: name nats://HOST:PORT or sqlite:FILE\n", where);
+    fprintf(stderr, "%.*s is no carrier: name nats://HOST:PORT or sqlite:FILE\n",
+            (int)strcspn(where, ":"), where); /* what follows may be a password */
     return NULL;
+}
+
+int carrier_incarnation(struct carrier *carrier, unsigned shard, uint64_t *incarnation)
+{
+    return carrier->incarnation(carrier, shard, incarnation);
+}
+
+int carrier_make(struct carrier *carrier, unsigned shard, uint64_t *incarnation)
+{
+    return carrier->make(carrier, shard, incarnation);
+}
+
+int carrier_last(struct carrier *carrier, unsigned shard, const char *session, struct carried *last)
+{
+    return carrier->last(carrier, shard, session, last);
 }
 
 int carrier_publish(struct carrier *carrier, unsigned shard, const char *session, uint32_t tag,
@@ -41,6 +57,11 @@ void carrier_seek(struct carrier *carrier, unsigned shard, uint64_t offset)
 int carrier_fetch(struct carrier *carrier, struct carried *list, size_t room, int milliseconds)
 {
     return carrier->fetch(carrier, list, room, milliseconds);
+}
+
+int carrier_behind(struct carrier *carrier, uint64_t *frames)
+{
+    return carrier->behind(carrier, frames);
 }
 
 void carrier_close(struct carrier *carrier)

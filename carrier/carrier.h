@@ -6,12 +6,16 @@
  * must not prevent it (see progress.h): JetStream's deduplication stays off.
  *
  * What is asked of a carrier is that what it confirmed stays where it stands, and that a fetch
- * leaves nothing out. If it breaks that, or somebody writes into it, sessions stand still: no
- * text takes effect twice, out of order, or changed, since a frame opens at its own number alone.
+ * leaves nothing out. If it breaks that, or somebody writes into it, sessions stand still: no text
+ * takes effect twice, out of order, or changed, since a frame opens at its own number alone.
  *
- * A carrier belongs to one thread. Its calls answer -1 after a fault that may pass, which they
- * report on standard error; the caller tries again.
- */
+ * A shard that is deleted and made again is another list, whose offsets begin anew. Each list has
+ * an incarnation, a number that no other one of its shard has, so that who stores an offset can
+ * store with it of which list it is.
+ *
+ * A carrier belongs to one thread. Its calls answer CARRIER_FAULT after a fault that may pass,
+ * which they report on standard error; the caller tries again.
+ * */
 #ifndef CARRIER_H
 #define CARRIER_H
 
@@ -21,7 +25,16 @@
 /* The room for the name of a session with its zero: letters, digits, '-' and '_'. */
 #define CARRIER_NAME 32
 
+/* Shards have the numbers below this one. */
+#define CARRIER_SHARDS 4096
+
 struct carrier;
+
+enum {
+    CARRIER_FAULT = -1,
+    CARRIER_CHANGED = -2, /* the shard is another list than it was */
+    CARRIER_REFUSED = -3  /* this frame isn't taken, however often it is tried */
+};
 
 /* A frame as it stands in a shard. */
 struct carried {
@@ -34,12 +47,26 @@ struct carried {
 /* A frame that was published with this tag and number was stored at this offset of its shard. */
 struct confirmed { uint32_t tag; uint64_t number, offset; };
 
-/* Opens "nats://HOST:PORT[,..]" or "sqlite:FILE". A shard that doesn't exist is made when it is
- * first used, by JetStream with so many replicas. NULL if the carrier can't be opened. */
+/* Opens "nats://HOST:PORT[,..]" or "sqlite:FILE". Shards of JetStream have so many replicas at
+ * least: one that has fewer, or that may drop frames, isn't used. NULL if the carrier can't be
+ * opened. */
 struct carrier *carrier_open(const char *where, unsigned replicas);
 
+/* The incarnation of a shard: 0 if there is none yet. */
+int carrier_incarnation(struct carrier *carrier, unsigned shard, uint64_t *incarnation);
+
+/* The same for one who publishes: the shard is made unless it exists. As long as the carrier has no
+ * reason to ask again, that costs nothing. */
+int carrier_make(struct carrier *carrier, unsigned shard, uint64_t *incarnation);
+
+/* The last frame that stands in the shard under this session's name, among the last of the shard:
+ * 1, or 0 if there is none. It is valid until the next call of this or a fetch. */
+int carrier_last(struct carrier *carrier, unsigned shard, const char *session,
+                 struct carried *last);
+
 /* Passes a frame to the carrier. It is stored when it is confirmed, with the caller's tag and
- * number. If it isn't confirmed within some seconds, it may be stored or not. */
+ * number. If it isn't confirmed within some seconds, it may be stored or not. A confirmation counts
+ * only up to the last offset that the shard has, whoever wrote it. */
 int carrier_publish(struct carrier *carrier, unsigned shard, const char *session, uint32_t tag,
                     uint64_t number, const uint8_t *frame, size_t len);
 
@@ -48,23 +75,31 @@ int carrier_publish(struct carrier *carrier, unsigned shard, const char *session
 int carrier_confirmed(struct carrier *carrier, struct confirmed *list, size_t room,
                       int milliseconds);
 
-/* The next fetch begins after this offset of the shard. */
+/* The next fetch begins after this offset of the shard, of the list that carrier_incarnation gave
+ * last. */
 void carrier_seek(struct carrier *carrier, unsigned shard, uint64_t offset);
 
 /* Takes the next frames, up to room of them, and answers how many. Waits for the first at most so
- * long. */
+ * long. CARRIER_CHANGED: ask for the incarnation, and seek. */
 int carrier_fetch(struct carrier *carrier, struct carried *list, size_t room, int milliseconds);
+
+/* How many frames stand after the last that was fetched: about, and as far as that is known. */
+int carrier_behind(struct carrier *carrier, uint64_t *frames);
 
 void carrier_close(struct carrier *carrier);
 
 /* ---- For those who write a carrier: its first member is a struct carrier. */
 
 struct carrier {
+    int (*incarnation)(struct carrier *, unsigned, uint64_t *);
+    int (*make)(struct carrier *, unsigned, uint64_t *);
+    int (*last)(struct carrier *, unsigned, const char *, struct carried *);
     void (*seek)(struct carrier *, unsigned, uint64_t);
     int (*publish)(struct carrier *, unsigned, const char *, uint32_t, uint64_t, const uint8_t *,
                    size_t);
     int (*confirmed)(struct carrier *, struct confirmed *, size_t, int);
     int (*fetch)(struct carrier *, struct carried *, size_t, int);
+    int (*behind)(struct carrier *, uint64_t *);
     void (*close)(struct carrier *);
 };
 

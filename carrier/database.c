@@ -1,6 +1,8 @@
 #include "database.h"
+#include "ending.h"
 
 #include <stdio.h>
+#include <string.h>
 
 #ifndef DATABASE_PATIENCE
 #define DATABASE_PATIENCE 10000 /* milliseconds to wait for other processes */
@@ -25,9 +27,9 @@ static int report(sqlite3 *db, const char *what)
 static int set_journal(sqlite3 *db)
 {
     static const char sql[] = "PRAGMA journal_mode = WAL; PRAGMA synchronous = FULL;"
-                              " PRAGMA wal_autocheckpoint = 4000";
+                              " PRAGMA wal_autocheckpoint = 4000; PRAGMA cache_size = -16000";
     int tries, answer = SQLITE_BUSY;
-    for (tries = 0; tries < PATIENCE / RETRY && answer == SQLITE_BUSY; tries++) {
+    for (tries = 0; tries < PATIENCE / RETRY && answer == SQLITE_BUSY && !is_ending(); tries++) {
         answer = sqlite3_exec(db, sql, NULL, NULL, NULL);
         if (answer == SQLITE_BUSY)
             sqlite3_sleep(RETRY);
@@ -46,6 +48,16 @@ static int make_tables(sqlite3 *db, const char *tables)
     return -1;
 }
 
+/* Waits for other processes, unless this one is to end. */
+static int wait_for_others(void *given, int tries)
+{
+    (void)given;
+    if (is_ending() || tries >= PATIENCE / RETRY)
+        return 0;
+    sqlite3_sleep(RETRY);
+    return 1;
+}
+
 sqlite3 *open_database(const char *path, const char *tables)
 {
     sqlite3 *db = NULL;
@@ -55,11 +67,28 @@ sqlite3 *open_database(const char *path, const char *tables)
         sqlite3_close(db);
         return NULL;
     }
-    sqlite3_busy_timeout(db, PATIENCE);
-    if (set_journal(db) == 0 && make_tables(db, tables) == 0)
+    if (sqlite3_busy_handler(db, wait_for_others, NULL) == SQLITE_OK && set_journal(db) == 0
+        && make_tables(db, tables) == 0)
         return db;
     sqlite3_close(db);
     return NULL;
+}
+
+int add_column(sqlite3 *db, const char *table, const char *column)
+{
+    char sql[256];
+    sqlite3_stmt *select;
+    int len = (int)strcspn(column, " "), has = -1;
+    snprintf(sql, sizeof sql, "SELECT 1 FROM pragma_table_info('%s') WHERE name = '%.*s'", table,
+             len, column);
+    select = prepare(db, sql);
+    if (select != NULL)
+        has = step_row(select);
+    sqlite3_finalize(select);
+    if (has != 0)
+        return has > 0 ? 0 : -1;
+    snprintf(sql, sizeof sql, "ALTER TABLE %s ADD COLUMN %s", table, column);
+    return run(db, sql);
 }
 
 int run(sqlite3 *db, const char *sql)

@@ -4,9 +4,15 @@
 
 #include <sqlite3.h>
 
-/* Opens the file, which is made if it doesn't exist, and runs the statements of its tables, each
- * of which may be run again. What is committed survives a loss of power. NULL after a fault. */
+/* Opens the file, which is made if it doesn't exist, and runs the statements of its tables, each of
+ * which may be run again. What is committed survives a loss of power. NULL after a fault. The
+ * process's umask decides who may read a file that is made: SQLite gives its other files the same
+ * mode. */
 sqlite3 *open_database(const char *path, const char *tables);
+
+/* Adds a column, "NAME TYPE NOT NULL DEFAULT VALUE", unless the table has one of that name: for
+ * files that were made before. In a transaction that writes. */
+int add_column(sqlite3 *db, const char *table, const char *column);
 
 /* Runs statements that give no rows; 0 if all were run. */
 int run(sqlite3 *db, const char *sql);

@@ -1,9 +1,5 @@
-/* Publishing over NATS JetStream.
- *
- * A frame is published with a reply subject of its own, INBOX.TAG.NUMBER, to which the stream
- * answers with the sequence number at which it stored the message. No Nats-Msg-Id is set: a
- * stream that drops what it has seen would drop what is sent again to come after its predecessor
- * (progress.h). */
+/* The connection to NATS, and what a stream is. */
+#include "clock.h"
 #include "nats_carrier.h"
 
 #include <stdio.h>
@@ -13,105 +9,120 @@
 enum {
     RECONNECT = 200, /* milliseconds between tries */
     SILENT = 2000,   /* milliseconds after which a server that doesn't answer or read is left */
-    SERVERS = 16     /* the most servers of a name */
+    SHORTEST = 500,  /* milliseconds to wait for what a stream answers */
+    LONGEST = 3500,
+    SERVERS = 16,    /* the most servers of a name */
+    WHERE = 2048     /* the most bytes of their addresses */
 };
 
-int nats_report(const char *what, natsStatus status)
+int nats_report(struct nats_carrier *c, const char *what, natsStatus status)
 {
-    fprintf(stderr, "nats: %s: %s: tried again\n", what, natsStatus_GetText(status));
-    return -1;
+    notice(&c->faults, "nats: %s: %s: tried again", what, natsStatus_GetText(status));
+    return CARRIER_FAULT;
 }
 
-static natsStatus add_stream(struct nats_carrier *c, unsigned shard, const char *name,
-                             jsErrCode *code)
+/* Why a stream can't be a shard, or NULL: each frame has to stay until it was read. */
+static const char *fault_of(const struct nats_carrier *c, const jsStreamConfig *config)
 {
-    char subject[32];
-    const char *subjects[1] = { subject };
-    jsStreamConfig config;
-    snprintf(subject, sizeof subject, "krb.%u.*", shard);
-    jsStreamConfig_Init(&config);
-    config.Name = name;
-    config.Subjects = subjects;
-    config.SubjectsLen = 1;
-    config.Storage = js_FileStorage;
-    config.Replicas = c->replicas;
-    return js_AddStream(NULL, c->js, &config, NULL, code);
+    if (config->Retention != js_LimitsPolicy)
+        return "its retention isn't by limits: frames would go before all have read them";
+    if (config->MaxMsgsPerSubject > 0)
+        return "it keeps some messages of each subject alone";
+    if (config->Storage != js_FileStorage)
+        return "it isn't stored in files";
+    if (config->Replicas < (int64_t)c->replicas)
+        return config->Replicas == 1 ? "it has 1 replica, and --replicas asks for more"
+                                     : "it has fewer replicas than --replicas asks for";
+    return NULL;
 }
 
-int nats_make_stream(struct nats_carrier *c, unsigned shard)
+/* The options of a question about a stream. */
+static natsStatus begin_to_ask(struct nats_carrier *c, jsOptions *options)
+{
+    natsStatus status = jsOptions_Init(options);
+    if (c->patience < SHORTEST)
+        c->patience = SHORTEST;
+    options->Wait = c->patience;
+    c->asked = nanoseconds();
+    return status;
+}
+
+static int between(int64_t number, int low, int high)
+{
+    return number < low ? low : number > high ? high : (int)number;
+}
+
+/* The next question is waited for twice as long as this one took; after one in vain twice as long
+ * as this one, but, where answers were fast, not much longer: then it isn't the distance. */
+static void note_asked(struct nats_carrier *c, natsStatus status)
+{
+    int64_t took = (int64_t)(nanoseconds() - c->asked) / 1000000;
+    int limit = c->answered == 0 ? LONGEST : between(8 * c->answered, 2 * SHORTEST, LONGEST);
+    if (status == NATS_TIMEOUT) {
+        c->patience = between(2 * (int64_t)c->patience, SHORTEST, limit);
+        return;
+    }
+    c->answered = took + 1;
+    c->patience = between(2 * took, SHORTEST, LONGEST);
+}
+
+natsStatus nats_ask_stream(struct nats_carrier *c, unsigned shard, jsStreamInfo **info)
 {
     char name[32];
+    const char *fault;
+    jsOptions options;
     jsErrCode code = 0;
-    jsStreamInfo *info = NULL;
-    natsStatus status;
-    if (shard >= NATS_SHARDS) {
-        fprintf(stderr, "shard %u: there are %d shards at most\n", shard, NATS_SHARDS);
-        return -1;
-    }
-    if (c->is_made[shard])
-        return 0;
+    natsStatus status = begin_to_ask(c, &options);
+    *info = NULL;
     snprintf(name, sizeof name, "KRB_%u", shard);
-    status = js_GetStreamInfo(&info, c->js, name, NULL, &code);
-    jsStreamInfo_Destroy(info);
-    if (status == NATS_NOT_FOUND) /* two that add the same stream at once both get it */
-        status = add_stream(c, shard, name, &code);
+    if (status == NATS_OK)
+        status = js_GetStreamInfo(info, c->js, name, &options, &code);
+    note_asked(c, status);
     if (status != NATS_OK)
-        return nats_report(name, status);
-    c->is_made[shard] = 1;
-    return 0;
+        return status;
+    fault = fault_of(c, (*info)->Config);
+    if (fault == NULL)
+        return NATS_OK;
+    notice(&c->refusals, "nats: %s: %s: change the stream, or give other options", name, fault);
+    return NATS_ERR;
 }
 
-static int publish(struct carrier *base, unsigned shard, const char *session, uint32_t tag,
-                   uint64_t number, const uint8_t *frame, size_t len)
+static int incarnation(struct carrier *base, unsigned shard, uint64_t *incarnation)
 {
     struct nats_carrier *c = (struct nats_carrier *)base;
-    char subject[64], reply[96];
-    natsStatus status;
-    if (nats_make_stream(c, shard) != 0)
-        return -1;
+    jsStreamInfo *info = NULL;
+    natsStatus status = nats_ask_stream(c, shard, &info);
+    *incarnation = status == NATS_OK ? (uint64_t)info->Created : 0;
+    c->incarnation = *incarnation;
+    jsStreamInfo_Destroy(info);
+    if (status == NATS_OK || status == NATS_NOT_FOUND)
+        return 0;
+    return status == NATS_ERR ? CARRIER_FAULT : nats_report(c, "a stream", status);
+}
+
+static int last(struct carrier *base, unsigned shard, const char *session, struct carried *last)
+{
+    struct nats_carrier *c = (struct nats_carrier *)base;
+    char name[32], subject[64];
+    jsOptions options;
+    jsErrCode code = 0;
+    natsStatus status = begin_to_ask(c, &options);
+    natsMsg_Destroy(c->last);
+    c->last = NULL;
+    snprintf(name, sizeof name, "KRB_%u", shard);
     snprintf(subject, sizeof subject, "krb.%u.%s", shard, session);
-    snprintf(reply, sizeof reply, "%s.%lu.%llu", (const char *)c->inbox, (unsigned long)tag,
-             (unsigned long long)number);
-    status = natsConnection_PublishRequest(c->connection, subject, reply, frame, (int)len);
-    return status == NATS_OK ? 0 : nats_report("publish", status);
-}
-
-/* Reads the answer to one frame: {"stream":"KRB_0","seq":7}, or an error, which isn't counted.
- * What anyone writes to the inbox can at most make a session stand still. */
-static int read_answer(natsMsg *message, size_t inbox_len, struct confirmed *it)
-{
-    char text[256];
-    const char *place = natsMsg_GetSubject(message) + inbox_len;
-    int len = natsMsg_GetDataLength(message);
-    unsigned long tag;
-    unsigned long long number, offset;
-    if (len <= 0 || (size_t)len >= sizeof text || sscanf(place, ".%lu.%llu", &tag, &number) != 2)
+    if (status == NATS_OK)
+        status = js_GetLastMsg(&c->last, c->js, name, subject, &options, &code);
+    note_asked(c, status);
+    if (status == NATS_NOT_FOUND || code == JSStreamNotFoundErr)
         return 0;
-    memcpy(text, natsMsg_GetData(message), (size_t)len);
-    text[len] = 0;
-    place = strstr(text, "\"seq\":");
-    if (strstr(text, "\"error\"") != NULL || place == NULL
-        || sscanf(place + 6, "%llu", &offset) != 1)
-        return 0;
-    it->tag = (uint32_t)tag;
-    it->number = number;
-    it->offset = offset;
+    if (status != NATS_OK)
+        return nats_report(c, "the last frame of a session", status);
+    last->offset = natsMsg_GetSequence(c->last);
+    snprintf(last->session, sizeof last->session, "%s", session);
+    last->frame = (const uint8_t *)natsMsg_GetData(c->last);
+    last->len = (size_t)natsMsg_GetDataLength(c->last);
     return 1;
-}
-
-static int confirmed(struct carrier *base, struct confirmed *list, size_t room, int milliseconds)
-{
-    struct nats_carrier *c = (struct nats_carrier *)base;
-    size_t inbox_len = strlen((const char *)c->inbox);
-    natsMsg *message = NULL;
-    int count = 0;
-    while ((size_t)count < room
-           && natsSubscription_NextMsg(&message, c->answers, milliseconds) == NATS_OK) {
-        count += read_answer(message, inbox_len, &list[count]);
-        natsMsg_Destroy(message);
-        milliseconds = 0;
-    }
-    return count;
 }
 
 /* ---- */
@@ -120,6 +131,7 @@ static void close_it(struct carrier *base)
 {
     struct nats_carrier *c = (struct nats_carrier *)base;
     nats_stop_reading(c);
+    natsMsg_Destroy(c->last);
     natsSubscription_Destroy(c->answers);
     natsInbox_Destroy(c->inbox);
     jsCtx_Destroy(c->js);
@@ -131,19 +143,31 @@ static void close_it(struct carrier *base)
 /* The addresses one after the other, "nats://A,nats://B", as the library wants them. */
 static natsStatus set_servers(natsOptions *options, const char *where)
 {
-    char text[512], *servers[SERVERS], *rest = NULL, *place;
+    char text[WHERE], *servers[SERVERS], *rest = NULL, *place;
     int count = 0;
-    snprintf(text, sizeof text, "%s", where);
-    place = strtok_r(text, ",", &rest);
-    while (place != NULL && count < SERVERS) {
+    if ((size_t)snprintf(text, sizeof text, "%s", where) >= sizeof text)
+        return NATS_INVALID_ARG;
+    for (place = strtok_r(text, ",", &rest); place != NULL; place = strtok_r(NULL, ",", &rest)) {
+        if (count == SERVERS)
+            return NATS_INVALID_ARG;
         servers[count++] = place;
-        place = strtok_r(NULL, ",", &rest);
     }
     return natsOptions_SetServers(options, (const char **)servers, count);
 }
 
+/* Called on a thread of the library, which alone learns that a consumer has fallen silent. */
+static void note_fault(natsConnection *connection, natsSubscription *subscription,
+                       natsStatus status, void *given)
+{
+    (void)connection;
+    (void)subscription;
+    if (status == NATS_MISSED_HEARTBEAT)
+        __atomic_store_n(&((struct nats_carrier *)given)->is_silent, 1, __ATOMIC_SEQ_CST);
+}
+
 static natsStatus connect_to(struct nats_carrier *c, const char *where)
 {
+    jsOptions given;
     natsStatus status = natsOptions_Create(&c->options);
     if (status == NATS_OK)
         status = set_servers(c->options, where);
@@ -156,23 +180,36 @@ static natsStatus connect_to(struct nats_carrier *c, const char *where)
     if (status == NATS_OK)
         status = natsOptions_SetWriteDeadline(c->options, SILENT);
     if (status == NATS_OK)
+        status = natsOptions_SetErrorHandler(c->options, note_fault, c);
+    if (status == NATS_OK)
         status = natsConnection_Connect(&c->connection, c->options);
     if (status == NATS_OK)
-        status = natsConnection_JetStream(&c->js, c->connection, NULL);
+        status = jsOptions_Init(&given);
+    if (status == NATS_OK) {
+        given.Wait = 2 * SHORTEST; /* for what the library asks by itself, as at a reader's end */
+        status = natsConnection_JetStream(&c->js, c->connection, &given);
+    }
     return status;
 }
 
-static natsStatus await_answers(struct nats_carrier *c)
+/* How many servers a name has: it may have passwords, which aren't printed. */
+static int count_of(const char *where)
 {
-    char subject[96];
-    natsStatus status = natsInbox_Create(&c->inbox);
-    if (status != NATS_OK)
-        return status;
-    snprintf(subject, sizeof subject, "%s.*.*", (const char *)c->inbox);
-    status = natsConnection_SubscribeSync(&c->answers, c->connection, subject);
-    if (status == NATS_OK)
-        status = natsSubscription_SetPendingLimits(c->answers, -1, -1);
-    return status;
+    int count = 1;
+    for (; *where != 0; where++)
+        count += *where == ',';
+    return count;
+}
+
+static void report_unopened(const char *where, natsStatus status)
+{
+    int has_password = strchr(where, '@') != NULL;
+    if (has_password)
+        fprintf(stderr, "none of %d servers of --carrier answers", count_of(where));
+    else
+        fprintf(stderr, "no server answers at %s", where);
+    fprintf(stderr, " (%s): start nats-server with JetStream there (carrier/cluster starts three),"
+                    " or name another --carrier\n", natsStatus_GetText(status));
 }
 
 struct carrier *nats_carrier_open(const char *where, unsigned replicas)
@@ -181,20 +218,22 @@ struct carrier *nats_carrier_open(const char *where, unsigned replicas)
     natsStatus status;
     if (c == NULL)
         return NULL;
-    c->base.publish = publish;
-    c->base.confirmed = confirmed;
+    c->base.incarnation = incarnation;
+    c->base.make = nats_make;
+    c->base.last = last;
+    c->base.publish = nats_publish;
+    c->base.confirmed = nats_confirmed;
     c->base.seek = nats_seek;
     c->base.fetch = nats_fetch;
+    c->base.behind = nats_behind;
     c->base.close = close_it;
     c->replicas = replicas;
     status = connect_to(c, where);
     if (status == NATS_OK)
-        status = await_answers(c);
+        status = nats_await_answers(c);
     if (status == NATS_OK)
         return &c->base;
-    fprintf(stderr, "no server answers at %s (%s): start nats-server with JetStream there"
-                    " (carrier/cluster starts three), or name another --carrier\n", where,
-            natsStatus_GetText(status));
+    report_unopened(where, status);
     close_it(&c->base);
     return NULL;
 }

@@ -1,13 +1,18 @@
 /* The parts of the carrier over NATS JetStream. Shard N is the stream KRB_N with the subjects
- * krb.N.SESSION, and an offset is a sequence number of the stream. */
+ * krb.N.SESSION, an offset is a sequence number of the stream, and its incarnation is the time at
+ * which it was made. */
 #ifndef NATS_CARRIER_H
 #define NATS_CARRIER_H
 
 #include "carrier.h"
+#include "notice.h"
 
 #include <nats/nats.h>
 
-enum { NATS_SHARDS = 4096, NATS_HELD = 4096 };
+enum { NATS_HELD = 4096, NATS_UNPROVED = 8192 };
+
+/* A confirmation, and whether the end of its stream was asked for since it came. */
+struct nats_answer { struct confirmed it; unsigned shard; int is_asked; };
 
 struct nats_carrier {
     struct carrier base;
@@ -15,28 +20,53 @@ struct nats_carrier {
     natsConnection *connection;
     jsCtx *js;
     unsigned replicas;
-    unsigned char is_made[NATS_SHARDS]; /* 1: this shard's stream exists */
+    /* Questions about streams: milliseconds to wait for an answer, when the last was asked, and
+     * milliseconds that the last answer took, or 0. */
+    int patience;
+    uint64_t asked;
+    int64_t answered;
+    /* Of each shard to which frames are published: its incarnation, whether it is known, until
+     * when, and if not, not before which moment it is asked for; the last offset that it is known
+     * to have, and when it was asked for that, or 0. */
+    struct { uint64_t incarnation, until, moment, last, asked; int is_known; }
+        made[CARRIER_SHARDS];
+    uint64_t doubted;                   /* when it was last doubted that all are there */
+    struct nats_answer unproved[NATS_UNPROVED]; /* confirmations beyond the known ends */
+    int unproved_count;
     natsInbox *inbox;                   /* confirmations */
     natsSubscription *answers;
-    /* The reader: where it stands, how many frames its consumer has delivered, how often it was
-     * tried to begin, and the frames of the last fetch. */
+    natsMsg *last;                      /* of carrier_last */
+    /* The reader: which list it is, where it stands, how many frames its consumer has delivered,
+     * how often it was tried to begin, and the frames of the last fetch. */
     unsigned shard;
-    uint64_t after, delivered;
+    uint64_t incarnation, after, delivered;
+    uint64_t pending;                   /* frames after the last, when it was delivered */
     unsigned tries;
     natsSubscription *reader;
     natsMsg *held[NATS_HELD];
     int held_count;
+    int is_silent;                      /* 1: the consumer's heartbeats are missed */
+    struct notice faults, refusals, gaps;
 };
 
-/* Reports a fault of a call; -1. */
-int nats_report(const char *what, natsStatus status);
+/* Reports a fault of a call; CARRIER_FAULT. */
+int nats_report(struct nats_carrier *c, const char *what, natsStatus status);
 
-/* Makes the stream of a shard unless it exists. 0, or -1 after a fault. */
-int nats_make_stream(struct nats_carrier *c, unsigned shard);
+/* Asks for a shard's stream, and destroys nothing: the caller does. NATS_NOT_FOUND if there is
+ * none, and NATS_ERR, with a report, if it isn't one that a shard may be. */
+natsStatus nats_ask_stream(struct nats_carrier *c, unsigned shard, jsStreamInfo **info);
+
+/* nats_publisher.c: makes streams, publishes frames, and reads confirmations. */
+natsStatus nats_await_answers(struct nats_carrier *c);
+int nats_make(struct carrier *base, unsigned shard, uint64_t *incarnation);
+int nats_publish(struct carrier *base, unsigned shard, const char *session, uint32_t tag,
+                 uint64_t number, const uint8_t *frame, size_t len);
+int nats_confirmed(struct carrier *base, struct confirmed *list, size_t room, int milliseconds);
 
 /* nats_reader.c */
 void nats_seek(struct carrier *base, unsigned shard, uint64_t offset);
 int nats_fetch(struct carrier *base, struct carried *list, size_t room, int milliseconds);
+int nats_behind(struct carrier *base, uint64_t *frames);
 void nats_stop_reading(struct nats_carrier *c);
 
 #endif

@@ -1,8 +1,10 @@
 /* Reading over NATS JetStream.
  *
  * A reader is an ephemeral consumer that acknowledges nothing and begins after an offset. It
- * counts what it delivers: if one is missing, or it falls silent, another consumer is made that
- * begins after the last frame that was fetched. */
+ * counts what it delivers: if one is missing, or its heartbeats are, since its node is away,
+ * another consumer is made that begins after the last frame that was fetched. A stream that
+ * doesn't exist yet has no frames: readers make none, since senders know how many replicas it has
+ * to have. */
 #include "nats_carrier.h"
 
 #include <stdio.h>
@@ -36,36 +38,50 @@ void nats_seek(struct carrier *base, unsigned shard, uint64_t offset)
 /* A stream that ends before the offset has lost what it had confirmed. What it has now is read
  * from the beginning then: repeats are refused. It is asked again some times before that, since a
  * server that has just started may not have caught up. */
-static int check_end(struct nats_carrier *c, const char *name)
+static int check_end(struct nats_carrier *c, uint64_t last)
 {
-    jsStreamInfo *info = NULL;
-    natsStatus status = js_GetStreamInfo(&info, c->js, name, NULL, NULL);
-    uint64_t last = status == NATS_OK ? info->State.LastSeq : 0;
-    jsStreamInfo_Destroy(info);
-    if (status != NATS_OK)
-        return nats_report(name, status);
     if (last >= c->after)
         return 0;
     if (++c->tries < PATIENCE)
-        return -1;
-    fprintf(stderr, "nats: %s ends at %llu, and was read up to %llu: it lost frames, and is read"
-                    " again from the beginning\n", name, (unsigned long long)last,
+        return CARRIER_FAULT;
+    fprintf(stderr, "nats: KRB_%u ends at %llu, and was read up to %llu: it lost frames, and is"
+                    " read again from the beginning\n", c->shard, (unsigned long long)last,
             (unsigned long long)c->after);
     c->after = 0;
     return 0;
 }
 
-static int begin_reading(struct nats_carrier *c)
+/* Whether the stream is there, is the one of which offsets are, and doesn't end before. */
+static int check_stream(struct nats_carrier *c)
 {
-    char name[32], subject[32];
+    jsStreamInfo *info = NULL;
+    natsStatus status = nats_ask_stream(c, c->shard, &info);
+    int answer = CARRIER_FAULT;
+    if (status == NATS_OK)
+        answer = c->incarnation != 0 && (uint64_t)info->Created != c->incarnation
+                     ? CARRIER_CHANGED : check_end(c, info->State.LastSeq);
+    else if (status == NATS_NOT_FOUND && c->incarnation != 0)
+        answer = CARRIER_CHANGED;
+    else if (status != NATS_NOT_FOUND && status != NATS_ERR)
+        nats_report(c, "a stream", status);
+    jsStreamInfo_Destroy(info);
+    return answer;
+}
+
+/* A consumer of the stream that delivers all after the place where the reader stands. */
+static natsStatus make_consumer(struct nats_carrier *c, const char *name)
+{
+    char subject[32];
     jsSubOptions options;
+    jsOptions wait;
     jsErrCode code = 0;
-    natsStatus status;
-    snprintf(name, sizeof name, "KRB_%u", c->shard);
+    natsStatus status = jsSubOptions_Init(&options);
+    if (status == NATS_OK)
+        status = jsOptions_Init(&wait);
+    if (status != NATS_OK)
+        return status;
     snprintf(subject, sizeof subject, "krb.%u.*", c->shard);
-    if (nats_make_stream(c, c->shard) != 0 || check_end(c, name) != 0)
-        return -1;
-    jsSubOptions_Init(&options);
+    wait.Wait = 2 * c->patience;
     options.Stream = name;
     options.Config.DeliverPolicy = js_DeliverByStartSequence;
     options.Config.OptStartSeq = c->after + 1;
@@ -74,15 +90,38 @@ static int begin_reading(struct nats_carrier *c)
     options.Config.Heartbeat = (int64_t)HEARTBEAT * 1000000;
     options.Config.MemoryStorage = true;
     options.Config.Replicas = 1;
-    status = js_SubscribeSync(&c->reader, c->js, subject, NULL, &options, &code);
+    return js_SubscribeSync(&c->reader, c->js, subject, &wait, &options, &code);
+}
+
+static int begin_reading(struct nats_carrier *c)
+{
+    char name[32];
+    natsStatus status;
+    int answer = check_stream(c);
+    if (answer != 0)
+        return answer;
+    snprintf(name, sizeof name, "KRB_%u", c->shard);
+    status = make_consumer(c, name);
+    if (status == NATS_OK)
+        status = natsSubscription_SetPendingLimits(c->reader, -1, PENDING);
     if (status != NATS_OK) {
+        natsSubscription_Destroy(c->reader);
         c->reader = NULL;
-        return nats_report(name, status);
+        return nats_report(c, name, status);
     }
-    natsSubscription_SetPendingLimits(c->reader, -1, PENDING);
+    __atomic_store_n(&c->is_silent, 0, __ATOMIC_SEQ_CST);
     c->delivered = 0;
     c->tries = 0;
     return 0;
+}
+
+/* Retention, an operator, or a broker that lost them: sessions of theirs stand then. */
+static void report_gap(struct nats_carrier *c, uint64_t offset)
+{
+    if (offset > c->after + 1)
+        notice(&c->gaps, "nats: KRB_%u: %llu frames before offset %llu are gone: were they"
+                         " deleted, or too old?", c->shard,
+               (unsigned long long)(offset - c->after - 1), (unsigned long long)offset);
 }
 
 /* Reads what the consumer says of a message; 0 if it isn't the next one. */
@@ -95,6 +134,7 @@ static int read_message(struct nats_carrier *c, natsMsg *message, struct carried
         return 0;
     is_next = meta->Sequence.Consumer == c->delivered + 1 && meta->Sequence.Stream > c->after;
     it->offset = meta->Sequence.Stream;
+    c->pending = meta->NumPending;
     jsMsgMetaData_Destroy(meta);
     if (!is_next)
         return 0;
@@ -104,6 +144,7 @@ static int read_message(struct nats_carrier *c, natsMsg *message, struct carried
     if (it->frame == NULL)
         it->frame = (const uint8_t *)""; /* no bytes, and no null pointer either */
     c->delivered++;
+    report_gap(c, it->offset);
     c->after = it->offset;
     return 1;
 }
@@ -123,26 +164,40 @@ static natsStatus fetch_one(struct nats_carrier *c, struct carried *it, int mill
     return NATS_OK;
 }
 
+/* Ends the consumer. What was fetched stays held. */
+static void leave(struct nats_carrier *c, natsStatus status)
+{
+    natsSubscription *reader = c->reader;
+    c->reader = NULL;
+    natsSubscription_Unsubscribe(reader);
+    natsSubscription_Destroy(reader);
+    nats_report(c, "a reader begins again after what it had", status);
+}
+
 int nats_fetch(struct carrier *base, struct carried *list, size_t room, int milliseconds)
 {
     struct nats_carrier *c = (struct nats_carrier *)base;
     natsStatus status = NATS_OK;
-    int count = 0;
+    int count = 0, answer;
     let_go(c);
-    if (c->reader == NULL && begin_reading(c) != 0) {
+    if (c->reader == NULL && (answer = begin_reading(c)) != 0) {
         nats_Sleep(RETRY);
-        return -1;
+        return answer;
     }
     while ((size_t)count < room && count < NATS_HELD && status == NATS_OK) {
         status = fetch_one(c, &list[count], count == 0 ? milliseconds : 0);
         count += status == NATS_OK;
     }
-    if (status != NATS_OK && status != NATS_TIMEOUT) {
-        natsSubscription *reader = c->reader;
-        c->reader = NULL; /* what was fetched stays held */
-        natsSubscription_Unsubscribe(reader);
-        natsSubscription_Destroy(reader);
-        nats_report("a reader begins again after what it had", status);
-    }
+    if (__atomic_exchange_n(&c->is_silent, 0, __ATOMIC_SEQ_CST) && status == NATS_TIMEOUT)
+        status = NATS_MISSED_HEARTBEAT;
+    if (status != NATS_OK && status != NATS_TIMEOUT)
+        leave(c, status);
     return count;
+}
+
+int nats_behind(struct carrier *base, uint64_t *frames)
+{
+    struct nats_carrier *c = (struct nats_carrier *)base;
+    *frames = c->pending;
+    return c->reader != NULL ? 0 : CARRIER_FAULT;
 }

@@ -15,28 +15,40 @@ static const char tables[] =
     " BEGIN SELECT RAISE(ABORT, 'this session was closed: it takes no text'); END;"
     "CREATE TRIGGER IF NOT EXISTS the_close AFTER INSERT ON text WHEN NEW.body IS NULL"
     " BEGIN INSERT INTO closed VALUES (NEW.session); END;"
+    "CREATE TRIGGER IF NOT EXISTS too_long BEFORE INSERT ON text"
+    " WHEN length(CAST(NEW.body AS BLOB)) > 1000000"
+    " BEGIN SELECT RAISE(ABORT, 'a text has 1,000,000 bytes at most'); END;"
+    "CREATE TABLE IF NOT EXISTS stopped (session TEXT PRIMARY KEY, reason TEXT NOT NULL,"
+    " since INTEGER NOT NULL) WITHOUT ROWID;"
     "CREATE TABLE IF NOT EXISTS frame (session TEXT NOT NULL, number INTEGER NOT NULL,"
     " frame BLOB NOT NULL, PRIMARY KEY (session, number));"
     "CREATE TABLE IF NOT EXISTS owner (one INTEGER PRIMARY KEY CHECK (one = 1),"
     " turn INTEGER NOT NULL);"
     "INSERT OR IGNORE INTO owner VALUES (1, 0)";
 
-/* A text of a session that isn't known yet waits. */
-#define KNOWN " WHERE session IN (SELECT name FROM session)"
+/* Columns that files of an older version don't have. */
+static const char *const columns[] = { "shard INTEGER NOT NULL DEFAULT -1",
+                                       "incarnation INTEGER NOT NULL DEFAULT 0" };
 
 static const char *const sql[OUTBOX_STATEMENTS] = {
-    [LOAD_SESSION] = "SELECT next, carried, at FROM session WHERE name = ?",
-    [SELECT_TEXTS] = "SELECT id, session, body FROM text" KNOWN " ORDER BY id LIMIT ?",
-    [HAS_TEXT] = "SELECT 1 FROM text" KNOWN " LIMIT 1",
-    [DROP_TEXTS] = "DELETE FROM text" KNOWN " AND id <= ?",
+    [LOAD_SESSION] = "SELECT next, carried, at, incarnation, shard FROM session WHERE name = ?",
+    [SELECT_TEXTS] = ("SELECT id, session, body FROM text WHERE id > ? AND id <= ? ORDER BY id"
+                      " LIMIT ?"),
+    [HAS_TEXT] = "SELECT 1 FROM text WHERE id > ? LIMIT 1",
+    [DROP_TEXTS] = "DELETE FROM text WHERE id >= ? AND id <= ?",
     [ADD_FRAME] = "INSERT INTO frame VALUES (?, ?, ?)",
     [SELECT_FRAMES] = ("SELECT number, frame FROM frame WHERE session = ? AND number >= ?"
                        " ORDER BY number LIMIT ?"),
     [DROP_FRAMES] = "DELETE FROM frame WHERE session = ? AND number < ?",
     [SET_NEXT] = "UPDATE session SET next = ?1 WHERE name = ?2 AND next = ?3",
-    [SET_CARRIED] = "UPDATE session SET carried = ?1, at = ?2 WHERE name = ?3 AND carried < ?1",
+    [SET_CARRIED] = ("UPDATE session SET carried = ?1, at = ?2, incarnation = ?3, shard = ?4"
+                     " WHERE name = ?5 AND carried <= ?1"),
     [SELECT_OWNER] = "SELECT turn FROM owner",
-    [ADD_SESSION] = "INSERT OR IGNORE INTO session VALUES (?1, ?2, ?2, 0)",
+    [ADD_SESSION] = ("INSERT OR IGNORE INTO session (name, next, carried, at, shard)"
+                     " VALUES (?1, ?2, ?2, 0, ?3)"),
+    [ADD_STOPPED] = ("INSERT INTO stopped VALUES (?1, ?2, CAST(strftime('%s') AS INTEGER))"
+                     " ON CONFLICT (session) DO UPDATE SET reason = ?2"),
+    [COUNT_TEXTS] = "SELECT count(*) FROM (SELECT 1 FROM text LIMIT 100000)",
 };
 
 static sqlite3_int64 owner(struct outbox *o)
@@ -54,19 +66,33 @@ static int add_sessions(struct outbox *o, const struct session *sessions, size_t
     for (i = 0; i < count; i++) {
         sqlite3_bind_text(add, 1, sessions[i].name, -1, SQLITE_STATIC);
         sqlite3_bind_int64(add, 2, sessions[i].first);
+        sqlite3_bind_int64(add, 3, sessions[i].shard);
         if (step_once(add) != 0)
             return -1;
     }
     return 0;
 }
 
+static int complete(struct outbox *o)
+{
+    if (begin_writing(o->db) != 0)
+        return -1;
+    if (add_column(o->db, "session", columns[0]) == 0
+        && add_column(o->db, "session", columns[1]) == 0 && run(o->db, "COMMIT") == 0)
+        return 0;
+    outbox_rollback(o);
+    return -1;
+}
+
 int outbox_open(struct outbox *o, const char *path, const struct session *sessions, size_t count)
 {
     memset(o, 0, sizeof *o);
     o->db = open_database(path, tables);
-    if (o->db == NULL || prepare_all(o->db, o->statements, sql, OUTBOX_STATEMENTS) != 0)
+    if (o->db == NULL || complete(o) != 0
+        || prepare_all(o->db, o->statements, sql, OUTBOX_STATEMENTS) != 0)
         return -1;
-    if (begin_writing(o->db) != 0 || run(o->db, "UPDATE owner SET turn = turn + 1") != 0)
+    if (begin_writing(o->db) != 0 || run(o->db, "UPDATE owner SET turn = turn + 1") != 0
+        || run(o->db, "DELETE FROM stopped") != 0)
         return -1;
     o->turn = owner(o);
     return o->turn > 0 && add_sessions(o, sessions, count) == 0 ? run(o->db, "COMMIT") : -1;
@@ -80,7 +106,7 @@ void outbox_close(struct outbox *o)
     sqlite3_close(o->db);
 }
 
-int outbox_load(struct outbox *o, const char *session, struct progress *it)
+int outbox_load(struct outbox *o, const char *session, struct outbox_progress *it)
 {
     sqlite3_stmt *select = o->statements[LOAD_SESSION];
     int row;
@@ -88,18 +114,30 @@ int outbox_load(struct outbox *o, const char *session, struct progress *it)
     row = step_row(select);
     if (row == 1) {
         it->next = (uint64_t)sqlite3_column_int64(select, 0);
-        it->carried = it->sent = (uint64_t)sqlite3_column_int64(select, 1);
+        it->carried = (uint64_t)sqlite3_column_int64(select, 1);
         it->at = (uint64_t)sqlite3_column_int64(select, 2);
+        it->incarnation = (uint64_t)sqlite3_column_int64(select, 3);
+        it->shard = sqlite3_column_int(select, 4);
     }
     sqlite3_reset(select);
     return row == 1 ? 0 : -1;
 }
 
-int outbox_has_text(struct outbox *o)
+int outbox_has_text(struct outbox *o, sqlite3_int64 after)
 {
-    int row = step_row(o->statements[HAS_TEXT]) == 1;
+    int row;
+    sqlite3_bind_int64(o->statements[HAS_TEXT], 1, after);
+    row = step_row(o->statements[HAS_TEXT]) == 1;
     sqlite3_reset(o->statements[HAS_TEXT]);
     return row;
+}
+
+unsigned long outbox_count_texts(struct outbox *o)
+{
+    sqlite3_stmt *select = o->statements[COUNT_TEXTS];
+    sqlite3_int64 count = step_row(select) == 1 ? sqlite3_column_int64(select, 0) : 0;
+    sqlite3_reset(select);
+    return (unsigned long)count;
 }
 
 int outbox_is_owned(struct outbox *o)
@@ -119,9 +157,11 @@ enum outbox_answer outbox_begin(struct outbox *o)
     return OUTBOX_TAKEN;
 }
 
-void outbox_select_texts(struct outbox *o, size_t limit)
+void outbox_select_texts(struct outbox *o, sqlite3_int64 after, sqlite3_int64 to, size_t limit)
 {
-    sqlite3_bind_int64(o->statements[SELECT_TEXTS], 1, (sqlite3_int64)limit);
+    sqlite3_bind_int64(o->statements[SELECT_TEXTS], 1, after);
+    sqlite3_bind_int64(o->statements[SELECT_TEXTS], 2, to);
+    sqlite3_bind_int64(o->statements[SELECT_TEXTS], 3, (sqlite3_int64)limit);
 }
 
 int outbox_next_text(struct outbox *o, struct waiting_text *text)
@@ -144,9 +184,10 @@ void outbox_end_texts(struct outbox *o)
     sqlite3_reset(o->statements[SELECT_TEXTS]);
 }
 
-int outbox_drop_texts(struct outbox *o, sqlite3_int64 last)
+int outbox_drop_texts(struct outbox *o, sqlite3_int64 first, sqlite3_int64 last)
 {
-    sqlite3_bind_int64(o->statements[DROP_TEXTS], 1, last);
+    sqlite3_bind_int64(o->statements[DROP_TEXTS], 1, first);
+    sqlite3_bind_int64(o->statements[DROP_TEXTS], 2, last);
     return step_once(o->statements[DROP_TEXTS]);
 }
 
@@ -169,15 +210,25 @@ int outbox_set_next(struct outbox *o, const char *session, uint64_t from, uint64
     return step_once(set) == 0 && sqlite3_changes(o->db) == 1 ? 0 : -1;
 }
 
-int outbox_set_carried(struct outbox *o, const char *session, const struct progress *it)
+int outbox_set_carried(struct outbox *o, const char *session, const struct outbox_progress *it)
 {
     sqlite3_stmt *set = o->statements[SET_CARRIED], *drop = o->statements[DROP_FRAMES];
     sqlite3_bind_int64(set, 1, (sqlite3_int64)it->carried);
     sqlite3_bind_int64(set, 2, (sqlite3_int64)it->at);
-    sqlite3_bind_text(set, 3, session, -1, SQLITE_STATIC);
+    sqlite3_bind_int64(set, 3, (sqlite3_int64)it->incarnation);
+    sqlite3_bind_int64(set, 4, it->shard);
+    sqlite3_bind_text(set, 5, session, -1, SQLITE_STATIC);
     sqlite3_bind_text(drop, 1, session, -1, SQLITE_STATIC);
     sqlite3_bind_int64(drop, 2, (sqlite3_int64)it->carried);
     return step_once(set) == 0 && step_once(drop) == 0 ? 0 : -1;
+}
+
+int outbox_add_stopped(struct outbox *o, const char *session, const char *reason)
+{
+    sqlite3_stmt *add = o->statements[ADD_STOPPED];
+    sqlite3_bind_text(add, 1, session, -1, SQLITE_TRANSIENT);
+    sqlite3_bind_text(add, 2, reason, -1, SQLITE_TRANSIENT);
+    return step_once(add);
 }
 
 int outbox_commit(struct outbox *o)

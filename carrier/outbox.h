@@ -3,7 +3,9 @@
  *
  * An application puts texts into the table `text`, in transactions of its own:
  *     INSERT INTO text (session, body) VALUES ('tom-7', 'hello')
- * A body that is NULL is the close; a text after it is refused at its insertion.
+ * A body that is NULL is the close. A text after it, and one of more than 1,000,000 bytes, is
+ * refused at its insertion. The table `stopped` has each session that waits for somebody to do
+ * something, and the reason; a sender that starts empties it and tries again.
  *
  * One transaction takes texts, stores their frames and the sessions' next numbers, and deletes the
  * texts. (session, number) is the key of the frames, which are never replaced, and a frame leaves
@@ -21,7 +23,7 @@
 
 enum outbox_statement {
     LOAD_SESSION, SELECT_TEXTS, HAS_TEXT, DROP_TEXTS, ADD_FRAME, SELECT_FRAMES, DROP_FRAMES,
-    SET_NEXT, SET_CARRIED, SELECT_OWNER, ADD_SESSION, OUTBOX_STATEMENTS
+    SET_NEXT, SET_CARRIED, SELECT_OWNER, ADD_SESSION, ADD_STOPPED, COUNT_TEXTS, OUTBOX_STATEMENTS
 };
 
 struct outbox {
@@ -35,28 +37,36 @@ enum outbox_answer { OUTBOX_OK = 0, OUTBOX_AGAIN = 1, OUTBOX_FAULT = -1, OUTBOX_
 /* What waits: body is NULL for the close. Valid until the next call. */
 struct waiting_text { sqlite3_int64 id; const char *session; const uint8_t *body; size_t len; };
 
+/* How far a session is: next, carried and at as in progress.h; `at` is an offset of the list of
+ * this shard with this incarnation (carrier.h); a shard of -1, an incarnation of 0: it isn't
+ * known. */
+struct outbox_progress { uint64_t next, carried, at, incarnation; int32_t shard; };
+
 /* Opens it, makes its tables, and becomes its owner. 0, or -1 after a fault. */
 int outbox_open(struct outbox *outbox, const char *path, const struct session *sessions,
                 size_t count);
 void outbox_close(struct outbox *outbox);
 
-/* How far a session is; all that isn't carried counts as not published. */
-int outbox_load(struct outbox *outbox, const char *session, struct progress *it);
+int outbox_load(struct outbox *outbox, const char *session, struct outbox_progress *it);
 
-/* Whether a text of a known session waits, and whether this process is the owner. */
-int outbox_has_text(struct outbox *outbox);
+/* Whether a text waits after this one, and whether this process is the owner. */
+int outbox_has_text(struct outbox *outbox, sqlite3_int64 after);
 int outbox_is_owned(struct outbox *outbox);
+
+/* How many texts there are, of the first 100,000. */
+unsigned long outbox_count_texts(struct outbox *outbox);
 
 /* ---- Within a transaction. OUTBOX_AGAIN: another process's transaction took long. OUTBOX_TAKEN:
  * another process is the owner. */
 enum outbox_answer outbox_begin(struct outbox *outbox);
 
-/* Begins with the oldest texts of known sessions; each call of outbox_next_text gives one: 1, 0
- * after the last, -1 after a fault. */
-void outbox_select_texts(struct outbox *outbox, size_t limit);
+/* Begins with the texts after one of them, up to another, so many at most; each call of
+ * outbox_next_text gives one: 1, 0 after the last, -1 after a fault. */
+void outbox_select_texts(struct outbox *outbox, sqlite3_int64 after, sqlite3_int64 to,
+                         size_t limit);
 int outbox_next_text(struct outbox *outbox, struct waiting_text *text);
 void outbox_end_texts(struct outbox *outbox);
-int outbox_drop_texts(struct outbox *outbox, sqlite3_int64 last);
+int outbox_drop_texts(struct outbox *outbox, sqlite3_int64 first, sqlite3_int64 last);
 
 int outbox_add_frame(struct outbox *outbox, const char *session, uint64_t number,
                      const uint8_t *frame, size_t len);
@@ -64,8 +74,12 @@ int outbox_add_frame(struct outbox *outbox, const char *session, uint64_t number
 /* Moves a session's next number, by compare-and-set. */
 int outbox_set_next(struct outbox *outbox, const char *session, uint64_t from, uint64_t to);
 
-/* Stores how far a session is carried, and deletes the frames below. */
-int outbox_set_carried(struct outbox *outbox, const char *session, const struct progress *it);
+/* Stores how far a session is carried, and deletes the frames below. `next` stays. */
+int outbox_set_carried(struct outbox *outbox, const char *session,
+                       const struct outbox_progress *it);
+
+/* Says that a session is stopped, and why. */
+int outbox_add_stopped(struct outbox *outbox, const char *session, const char *reason);
 
 int outbox_commit(struct outbox *outbox);
 void outbox_rollback(struct outbox *outbox);

@@ -1,6 +1,11 @@
 /* A store in PostgreSQL: for receivers on several machines. What a transaction asks for is sent
  * without waiting for answers, and they are read before it is committed: two waits a transaction.
- * */
+ *
+ * Each wait ends. A receiver whose machine is gone can't keep the locks of its transaction for
+ * longer than the server's idle_in_transaction_session_timeout, another waits for a lock no longer
+ * than lock_timeout, and one whose server is gone learns it from TCP. What the server or --store
+ * sets of these holds; else what `timeouts` and `connect_to` say. After a fault the store is
+ * opened again. */
 #include "effect.h"
 #include "store.h"
 
@@ -9,16 +14,19 @@
 #include <stdlib.h>
 #include <string.h>
 
-enum { EFFECTS = 16 };                                 /* the most statements of effects */
-enum expected { ANY_ROWS, ONE_ROW, NO_STATEMENT };     /* what an answer has to say */
+enum {
+    EFFECTS = 16,     /* the most statements of effects */
+    SYNCED = 32 << 10 /* bytes, less than libpq keeps before it sends them */
+};
+enum expected { ANY_ROWS, ONE_ROW, COMMITTED, SYNC }; /* what an answer has to say */
 
 struct postgresql_store {
     struct store base;
     PGconn *db;
-    const char *effects[EFFECTS]; /* the statements of effects that were prepared, */
-    unsigned turn;                /* for the turn'th time: after a fault they are prepared again */
+    const char *effects[EFFECTS]; /* the statements of effects that were prepared */
     unsigned char *expected;      /* of each answer that wasn't read, an enum expected */
     size_t asked, room;
+    size_t unsynced;              /* bytes that were asked since the last sync */
     int is_open;                  /* a transaction is open */
 };
 
@@ -43,13 +51,27 @@ static int expect(struct postgresql_store *s, enum expected expected)
     return 0;
 }
 
+/* Asks for a sync: the server answers what it was asked so far, and waits no longer for the rest
+ * than its idle_in_transaction_session_timeout. Without one it waits for ever. */
+static int sync(struct postgresql_store *s)
+{
+    s->unsynced = 0;
+    if (expect(s, SYNC) != 0)
+        return -1;
+    return PQpipelineSync(s->db) ? 0 : report(s, "sync");
+}
+
 static int ask(struct postgresql_store *s, const char *name, int count, const char *const *values,
                const int *lengths, const int *formats, enum expected expected)
 {
+    int i;
     if (expect(s, expected) != 0)
         return -1;
-    return PQsendQueryPrepared(s->db, name, count, values, lengths, formats, 0) ? 0
-                                                                             : report(s, name);
+    if (!PQsendQueryPrepared(s->db, name, count, values, lengths, formats, 0))
+        return report(s, name);
+    for (i = 0; i < count; i++)
+        s->unsynced += lengths != NULL ? (size_t)lengths[i] + 64 : 64;
+    return s->unsynced > SYNCED ? sync(s) : 0;
 }
 
 /* The first answer that isn't as it has to be decides: 0, 1 if no row was moved, -1 after a
@@ -61,77 +83,113 @@ static int judge(struct postgresql_store *s, const PGresult *result, enum expect
         return -1;
     if (status != PGRES_COMMAND_OK && status != PGRES_TUPLES_OK)
         return report(s, "statement");
+    if (expected == COMMITTED && strcmp(PQcmdStatus((PGresult *)result), "COMMIT") != 0)
+        return -1;
     return expected == ONE_ROW && strcmp(PQcmdTuples((PGresult *)result), "1") != 0;
 }
 
-/* Reads one answer and the NULL after it. */
+/* Reads one answer, and the NULL after it, which a sync doesn't have. */
 static int read_answer(struct postgresql_store *s, enum expected expected)
 {
     PGresult *result = PQgetResult(s->db);
-    int answer = judge(s, result, expected);
+    int is_sync = PQresultStatus(result) == PGRES_PIPELINE_SYNC;
+    int answer = is_sync || expected == SYNC ? 0 : judge(s, result, expected);
     PQclear(result);
-    result = PQgetResult(s->db);
+    if (is_sync != (expected == SYNC))
+        return report(s, "answers out of step");
+    result = is_sync ? NULL : PQgetResult(s->db);
     if (result == NULL)
         return answer;
     PQclear(result);
     return report(s, "answers out of step");
 }
 
-/* Reads all answers: 0, 1 if a statement that has to move one row moved none, -1 after a fault. */
+/* Reads all answers: 0, 1 if a statement that has to move one row moved none, -1 after a fault.
+ * What follows the first fault isn't judged. */
 static int read_answers(struct postgresql_store *s)
 {
-    size_t i, asked = s->asked;
-    PGresult *end;
-    int answer = 0, is_end;
+    size_t i, asked;
+    int answer = sync(s);
+    asked = s->asked;
     s->asked = 0;
-    if (!PQpipelineSync(s->db))
-        return report(s, "sync");
-    for (i = 0; i < asked; i++) {
+    for (i = 0; i < asked && answer >= 0; i++) {
         int one = read_answer(s, s->expected[i]);
-        if (answer == 0 || (one < 0 && answer > 0))
+        if (answer == 0 || one < 0)
             answer = one;
     }
-    if (answer < 0) {
-        memset(s->effects, 0, sizeof s->effects);
-        s->turn++;
-    }
-    end = PQgetResult(s->db);
-    is_end = PQresultStatus(end) == PGRES_PIPELINE_SYNC;
-    PQclear(end);
-    return is_end ? answer : report(s, "sync");
+    return answer;
 }
 
-static int begin(struct store *base, unsigned shard, uint64_t from, uint64_t to)
+/* Values of a statement as text. */
+struct values { unsigned count; char texts[10][24]; const char *at[11]; };
+
+static void add_number(struct values *v, unsigned long long number)
+{
+    char *text = v->texts[v->count - 1];
+    snprintf(text, sizeof v->texts[0], "%llu", number);
+    v->at[v->count++] = text;
+}
+
+static void add_demand(struct values *v, const struct demand *it)
+{
+    add_number(v, it->next);
+    add_number(v, it->closed);
+    add_number(v, it->missed);
+    add_number(v, it->at);
+    snprintf(v->texts[v->count - 1], sizeof v->texts[0], "%d", it->shard);
+    v->at[v->count] = v->texts[v->count - 1];
+    v->count++;
+}
+
+static int ask_values(struct postgresql_store *s, const char *name, const struct values *v,
+                      enum expected expected)
+{
+    return ask(s, name, (int)v->count, v->at, NULL, NULL, expected);
+}
+
+static int begin(struct store *base, unsigned shard, const struct reached *from,
+                 const struct reached *to)
 {
     struct postgresql_store *s = (struct postgresql_store *)base;
-    char texts[3][24];
-    const char *values[3] = { texts[0], texts[1], texts[2] };
-    snprintf(texts[0], sizeof texts[0], "%u", shard);
-    snprintf(texts[1], sizeof texts[1], "%llu", (unsigned long long)from);
-    snprintf(texts[2], sizeof texts[2], "%llu", (unsigned long long)to);
+    char text[24];
+    struct values v = { .count = 1, .at = { text } };
+    snprintf(text, sizeof text, "%u", shard);
+    add_number(&v, from->incarnation);
+    add_number(&v, from->offset);
+    add_number(&v, to->incarnation);
+    add_number(&v, to->offset);
     s->is_open = 1;
     if (ask(s, "begin", 0, NULL, NULL, NULL, ANY_ROWS) != 0)
         return -1;
-    return ask(s, "move_offset", 3, values, NULL, NULL, ONE_ROW);
+    return ask_values(s, "move_shard", &v, ONE_ROW);
 }
 
-static int advance(struct store *base, const char *session, uint64_t from, const struct demand *to)
+static int advance(struct store *base, const char *session, const struct demand *from,
+                   const struct demand *to)
 {
-    char texts[2][24];
-    const char *values[4] = { session, texts[0], texts[1], to->closed ? "1" : "0" };
-    snprintf(texts[0], sizeof texts[0], "%llu", (unsigned long long)from);
-    snprintf(texts[1], sizeof texts[1], "%llu", (unsigned long long)to->next);
-    return ask((struct postgresql_store *)base, "move_session", 4, values, NULL, NULL, ONE_ROW);
+    struct postgresql_store *s = (struct postgresql_store *)base;
+    struct values v = { .count = 1, .at = { session } };
+    add_demand(&v, to);
+    if (!from->is_stored)
+        return ask_values(s, "add_session", &v, ONE_ROW);
+    add_demand(&v, from);
+    return ask_values(s, "move_session", &v, ONE_ROW);
 }
 
+static int miss(struct store *base, const char *session)
+{
+    const struct values v = { .count = 1, .at = { session } };
+    return ask_values((struct postgresql_store *)base, "miss_session", &v, ANY_ROWS);
+}
+
+/* After a fault the connection isn't used any more: what is left of the answers doesn't matter. */
 static void rollback(struct store *base)
 {
     struct postgresql_store *s = (struct postgresql_store *)base;
     if (!s->is_open)
         return;
     s->is_open = 0;
-    read_answers(s);
-    if (ask(s, "rollback", 0, NULL, NULL, NULL, ANY_ROWS) == 0)
+    if (read_answers(s) >= 0 && ask(s, "rollback", 0, NULL, NULL, NULL, ANY_ROWS) == 0)
         read_answers(s);
 }
 
@@ -140,13 +198,12 @@ static int commit(struct store *base)
     struct postgresql_store *s = (struct postgresql_store *)base;
     int answer = read_answers(s);
     if (answer == 0)
-        answer = ask(s, "commit", 0, NULL, NULL, NULL, ANY_ROWS);
+        answer = ask(s, "commit", 0, NULL, NULL, NULL, COMMITTED);
     if (answer == 0)
         answer = read_answers(s);
-    if (answer == 0)
-        s->is_open = 0;
-    else
+    if (answer > 0)
         rollback(base);
+    s->is_open = 0;
     return answer;
 }
 
@@ -163,10 +220,10 @@ static const char *prepared(struct postgresql_store *s, const char *sql, char na
         fprintf(stderr, "effects have more than %d statements\n", EFFECTS);
         return NULL;
     }
-    snprintf(name, 32, "effect%u_%u", i, s->turn);
+    snprintf(name, 32, "effect%u", i);
     if (s->effects[i] == sql)
         return name;
-    if (expect(s, NO_STATEMENT) != 0 || !PQsendPrepare(s->db, name, sql, 0, NULL))
+    if (expect(s, ANY_ROWS) != 0 || !PQsendPrepare(s->db, name, sql, 0, NULL))
         return NULL;
     s->effects[i] = sql;
     return name;
@@ -212,32 +269,70 @@ static PGresult *query(struct postgresql_store *s, const char *sql, const char *
     return NULL;
 }
 
-static int offset(struct store *base, unsigned shard, uint64_t *offset)
+static uint64_t number_at(const PGresult *result, int row, int column)
+{
+    return strtoull(PQgetvalue(result, row, column), NULL, 10);
+}
+
+static int reached(struct store *base, unsigned shard, struct reached *reached)
 {
     char text[24];
     PGresult *result;
     snprintf(text, sizeof text, "%u", shard);
-    result = query((struct postgresql_store *)base, "SELECT at FROM shard WHERE shard = $1", text);
+    result = query((struct postgresql_store *)base,
+                   "SELECT incarnation, at FROM shard WHERE shard = $1", text);
     if (result == NULL)
         return -1;
-    *offset = PQntuples(result) == 1 ? strtoull(PQgetvalue(result, 0, 0), NULL, 10) : 0;
+    *reached = (struct reached){ 0, 0 };
+    if (PQntuples(result) == 1) {
+        reached->incarnation = number_at(result, 0, 0);
+        reached->offset = number_at(result, 0, 1);
+    }
     PQclear(result);
     return 0;
+}
+
+static void read_demand(const PGresult *result, int row, struct demand *demand)
+{
+    demand->next = number_at(result, row, 0);
+    demand->closed = (uint32_t)number_at(result, row, 1);
+    demand->missed = (uint32_t)number_at(result, row, 2);
+    demand->at = number_at(result, row, 3);
+    demand->shard = (int32_t)strtol(PQgetvalue(result, row, 4), NULL, 10);
+    demand->is_stored = 1;
 }
 
 static int session(struct store *base, const char *name, struct demand *demand)
 {
     PGresult *result = query((struct postgresql_store *)base,
-                             "SELECT next, closed FROM session WHERE name = $1", name);
+                             "SELECT next, closed, missed, at, shard FROM session WHERE name = $1",
+                             name);
     if (result == NULL)
         return -1;
-    demand->closed = 0;
-    if (PQntuples(result) == 1) {
-        demand->next = strtoull(PQgetvalue(result, 0, 0), NULL, 10);
-        demand->closed = (uint32_t)atoi(PQgetvalue(result, 0, 1));
-    }
+    demand->is_stored = 0;
+    if (PQntuples(result) == 1)
+        read_demand(result, 0, demand);
     PQclear(result);
     return 0;
+}
+
+static int sessions(struct store *base, unsigned shard, store_take *take, void *given)
+{
+    char text[24];
+    PGresult *result;
+    int row, answer = 0;
+    snprintf(text, sizeof text, "%u", shard);
+    result = query((struct postgresql_store *)base, "SELECT next, closed, missed, at, shard, name"
+                                                    " FROM session WHERE shard = $1", text);
+    if (result == NULL)
+        return -1;
+    for (row = 0; answer == 0 && row < PQntuples(result); row++) {
+        struct demand demand;
+        read_demand(result, row, &demand);
+        answer = take(given, PQgetvalue(result, row, 5), &demand) != 0 ? -1 : 0;
+    }
+    PQclear(result);
+    return answer;
 }
 
 /* ---- */
@@ -260,17 +355,46 @@ static int is_done(struct postgresql_store *s, PGresult *result, const char *sql
     return 0;
 }
 
-/* In one transaction under a lock, so that two processes may make the tables at once: IF NOT
- * EXISTS alone fails then. */
+/* What was set before holds. */
+static const char timeouts[] =
+    "SELECT set_config(name, value, false) FROM (VALUES ('lock_timeout', '3s'),"
+    " ('idle_in_transaction_session_timeout', '10s'), ('statement_timeout', '30s'),"
+    " ('tcp_keepalives_idle', '5'), ('tcp_keepalives_interval', '2'),"
+    " ('tcp_keepalives_count', '3'), ('tcp_user_timeout', '10s'))"
+    " AS given (name, value) JOIN pg_settings USING (name) WHERE source = 'default'";
+
+/* In one transaction under a lock, so that two processes may make the tables at once: IF NOT EXISTS
+ * alone fails then. */
+static const char tables[] =
+    "SET client_min_messages = warning; BEGIN; SELECT pg_advisory_xact_lock(20);"
+    "CREATE TABLE IF NOT EXISTS shard (shard bigint PRIMARY KEY, at bigint NOT NULL,"
+    " incarnation bigint NOT NULL DEFAULT 0);"
+    "CREATE TABLE IF NOT EXISTS session (name text PRIMARY KEY, next bigint NOT NULL,"
+    " closed int NOT NULL, missed int NOT NULL DEFAULT 0, at bigint NOT NULL DEFAULT 0,"
+    " shard int NOT NULL DEFAULT -1);"
+    "DO $$ BEGIN IF NOT EXISTS (SELECT FROM pg_attribute WHERE attrelid = 'session'::regclass"
+    " AND attname = 'missed') THEN"
+    " ALTER TABLE shard ADD COLUMN incarnation bigint NOT NULL DEFAULT 0;"
+    " ALTER TABLE session ADD COLUMN missed int NOT NULL DEFAULT 0,"
+    " ADD COLUMN at bigint NOT NULL DEFAULT 0, ADD COLUMN shard int NOT NULL DEFAULT -1;"
+    " END IF; END $$; CREATE INDEX IF NOT EXISTS session_of_shard ON session (shard);";
+
+/* A role that may not make tables may use those that are there. */
 static int make_tables(struct postgresql_store *s)
 {
-    char sql[2048];
-    snprintf(sql, sizeof sql,
-             "SET client_min_messages = warning; SELECT pg_advisory_xact_lock(20);"
-             "CREATE TABLE IF NOT EXISTS shard (shard bigint PRIMARY KEY, at bigint NOT NULL);"
-             "CREATE TABLE IF NOT EXISTS session (name text PRIMARY KEY, next bigint NOT NULL,"
-             " closed int NOT NULL);%s", effect_tables_postgresql);
-    return is_done(s, PQexec(s->db, sql), "the tables");
+    const char *const steps[] = { tables, effect_tables_postgresql, "COMMIT" };
+    unsigned i;
+    for (i = 0; i < sizeof steps / sizeof *steps; i++) {
+        PGresult *result = PQexec(s->db, steps[i]);
+        const char *state = PQresultErrorField(result, PG_DIAG_SQLSTATE);
+        if (state != NULL && strcmp(state, "42501") == 0) {
+            PQclear(result);
+            return is_done(s, PQexec(s->db, "ROLLBACK"), "ROLLBACK");
+        }
+        if (!is_done(s, result, "the tables"))
+            return 0;
+    }
+    return 1;
 }
 
 static int prepare_all(struct postgresql_store *s)
@@ -279,13 +403,21 @@ static int prepare_all(struct postgresql_store *s)
         { "begin", "BEGIN" },
         { "commit", "COMMIT" },
         { "rollback", "ROLLBACK" },
-        { "move_offset",
-          "INSERT INTO shard SELECT $1::bigint, $3::bigint WHERE $2::bigint = 0 OR EXISTS"
+        { "move_shard",
+          "INSERT INTO shard (shard, incarnation, at) SELECT $1::bigint, $4::bigint, $5::bigint"
+          " WHERE ($2::bigint = 0 AND $3::bigint = 0) OR EXISTS"
           " (SELECT 1 FROM shard WHERE shard = $1) ON CONFLICT (shard)"
-          " DO UPDATE SET at = $3 WHERE shard.at = $2" },
+          " DO UPDATE SET incarnation = $4, at = $5"
+          " WHERE shard.incarnation = $2 AND shard.at = $3" },
+        { "add_session",
+          "INSERT INTO session (name, next, closed, missed, at, shard)"
+          " VALUES ($1, $2::bigint, $3::int, $4::int, $5::bigint, $6::int)"
+          " ON CONFLICT DO NOTHING" },
         { "move_session",
-          "INSERT INTO session VALUES ($1, $3::bigint, $4::int) ON CONFLICT (name)"
-          " DO UPDATE SET next = $3, closed = $4 WHERE session.next = $2::bigint" },
+          "UPDATE session SET next = $2::bigint, closed = $3::int, missed = $4::int,"
+          " at = $5::bigint, shard = $6::int WHERE name = $1 AND next = $7::bigint"
+          " AND closed = $8::int AND missed = $9::int AND at = $10::bigint AND shard = $11::int" },
+        { "miss_session", "UPDATE session SET missed = 2 WHERE name = $1 AND closed = 0" },
     };
     unsigned i;
     for (i = 0; i < sizeof sql / sizeof *sql; i++)
@@ -294,23 +426,36 @@ static int prepare_all(struct postgresql_store *s)
     return 1;
 }
 
+/* What --store says holds: it comes last. */
+static PGconn *connect_to(const char *where)
+{
+    static const char *const names[] = { "connect_timeout", "tcp_user_timeout", "keepalives_idle",
+                                         "keepalives_interval", "keepalives_count",
+                                         "application_name", "dbname", NULL };
+    const char *values[] = { "5", "5000", "2", "1", "3", "krbrelay", where, NULL };
+    return PQconnectdbParams(names, values, 1);
+}
+
 struct store *postgresql_store_open(const char *where)
 {
     struct postgresql_store *s = calloc(1, sizeof *s);
     if (s == NULL)
         return NULL;
-    s->base.offset = offset;
+    s->base.reached = reached;
     s->base.session = session;
+    s->base.sessions = sessions;
     s->base.begin = begin;
     s->base.advance = advance;
+    s->base.miss = miss;
     s->base.commit = commit;
     s->base.rollback = rollback;
     s->base.close = close_it;
     s->base.run = run_effect;
-    s->db = PQconnectdb(where);
+    s->db = connect_to(where);
     if (PQstatus(s->db) != CONNECTION_OK)
         report(s, "no connection: is the server started, and does --store name it?");
-    else if (make_tables(s) && prepare_all(s) && PQenterPipelineMode(s->db))
+    else if (is_done(s, PQexec(s->db, timeouts), "timeouts") && make_tables(s) && prepare_all(s)
+             && PQenterPipelineMode(s->db))
         return &s->base;
     close_it(&s->base);
     return NULL;

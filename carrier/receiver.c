@@ -1,38 +1,63 @@
 /* Receives the sessions of some shards: each text takes effect once and in order, whenever this
- * process is killed, and however many others serve the same shards.
+ * process is killed, and however many others serve the same shards. `usage` says how it is called.
  *
- *     receiver --sessions FILE --store WHERE --carrier WHERE --shards N[,N..]
- *              [--replicas N] [--batch N] [--skew SECONDS] [--until-closed]
- *
- * A thread for each shard does what shard.h says. The skew has to be above the time that the
- * carrier keeps frames, 86,400 by default: a frame that is older is refused, and its session
- * stands still. It ends by SIGTERM, or with --until-closed once all sessions are closed. It may
- * be killed at any time: start it again. */
+ * A thread for each shard does what shard.h says. If the store is away for a moment it is opened
+ * again until it is there. It may be killed at any time: start it again. */
 #include "clock.h"
+#include "ending.h"
+#include "service.h"
 #include "shard.h"
+#include "words.h"
 
+#include <getopt.h>
 #include <pthread.h>
-#include <signal.h>
 #include <stdio.h>
 #include <stdlib.h>
-#include <string.h>
+#include <sys/stat.h>
 
-enum { WAIT = 100, SHARDS = 256, SECOND = 1000000000 };
+enum {
+    WAIT = 100, SECOND_OF_WAITS = 10, MOST_REPLICAS = 5, SECOND = 1000000000, SHORTEST = 200,
+    LONGEST = 5000
+};
+
+static const char usage[] =
+    "receiver --sessions FILE --store WHERE --carrier WHERE --shards N[-N][,..]\n"
+    "         [--replicas N] [--batch N] [--skew SECONDS] [--metrics ADDRESS:PORT]\n"
+    "         [--until-closed]\n"
+    "  --sessions FILE  a line for each session: NAME SHARD ETYPE MODE KEY FIRST FROM TO\n"
+    "  --store WHERE    sqlite:FILE, in whose name '%' is the shard, or\n"
+    "                   postgresql://USER@HOST/DATABASE\n"
+    "  --carrier WHERE  sqlite:FILE, or nats://HOST:PORT[,..]\n"
+    "  --shards LIST    the shards to be served, such as 0-3,7\n"
+    "  --replicas N     a stream with fewer isn't read (1)\n"
+    "  --batch N        so many frames go into a transaction at most (1024)\n"
+    "  --skew SECONDS   by so much a frame's time may be off (86400): more than the time for\n"
+    "                   which the carrier keeps frames, or their session stands still\n"
+    "  --metrics ADDRESS:PORT  answers GET /metrics (Prometheus's text) and GET /healthz\n"
+    "  --until-closed   ends once all sessions are closed\n"
+    "  --help, --version\n"
+    "It ends by SIGTERM. Status: 0; 1 after a fault at the start; 2 for a wrong option.\n";
 
 struct options {
     struct shard_options shard;
-    const char *sessions;
-    unsigned shards[SHARDS], shard_count;
+    const char *sessions, *metrics;
+    unsigned char is_served[CARRIER_SHARDS];
+    unsigned shard_count;
     int until_closed;
 };
 
 static struct options options;
-static volatile sig_atomic_t ending;
+static int failed;           /* a shard couldn't be started */
+static unsigned begun, done; /* so many shards were started, and have ended */
 
-static void end_soon(int signal)
+static void add_one(unsigned *count)
 {
-    (void)signal;
-    ending = 1;
+    __atomic_fetch_add(count, 1, __ATOMIC_SEQ_CST);
+}
+
+static unsigned read_count(const unsigned *count)
+{
+    return __atomic_load_n(count, __ATOMIC_SEQ_CST);
 }
 
 static double seconds_since(uint64_t began)
@@ -40,107 +65,167 @@ static double seconds_since(uint64_t began)
     return (double)(nanoseconds() - began) / 1e9;
 }
 
+/* The store is away: waits for longer each time. */
+static void wait_for_store(const struct shard *shard, unsigned *pause)
+{
+    unsigned waited;
+    fprintf(stderr, "shard %u: the store is away: it is opened again in %u ms, and the shard goes"
+                    " on where it was\n", shard->number, *pause);
+    for (waited = 0; waited < *pause && !is_ending(); waited += WAIT)
+        pause_milliseconds(WAIT);
+    *pause = 2 * *pause < LONGEST ? 2 * *pause : LONGEST;
+}
+
 /* What waits for the first frame isn't counted in the seconds. */
-static int serve(struct shard *shard)
+static void serve(struct shard *shard, unsigned part)
 {
     uint64_t began = nanoseconds(), reported = began;
-    int count = 0;
-    while (count >= 0 && !ending && !(options.until_closed && shard->open == 0)) {
-        count = shard_step(shard, WAIT);
+    unsigned pause = SHORTEST;
+    while (!is_ending() && !(options.until_closed && shard->is_loaded && shard->open == 0)) {
+        int count = shard_step(shard, WAIT);
+        if (count < 0)
+            wait_for_store(shard, &pause);
+        else if (shard->is_loaded)
+            pause = SHORTEST;
         if (shard->counts.accepted == 0 && count == 0)
             began = nanoseconds();
         if (nanoseconds() - reported > SECOND) {
             shard_report(shard, seconds_since(began));
+            shard_show(shard, part);
             reported = nanoseconds();
         }
     }
     shard_report(shard, seconds_since(began));
-    return count < 0 ? -1 : 0;
 }
+
+/* A thread's shard, and its place among all. */
+struct thread { pthread_t thread; struct shard shard; unsigned part; };
 
 static void *work(void *given)
 {
-    struct shard *shard = given;
-    int is_fine = shard_start(shard) == 0 && serve(shard) == 0;
-    shard_stop(shard);
-    if (!is_fine) {
-        fprintf(stderr, "shard %u isn't served any more: start the receiver again; it continues at"
-                        " what is stored\n", shard->number);
-        exit(1);
+    struct thread *it = given;
+    if (shard_start(&it->shard) == 0) {
+        add_one(&begun);
+        shard_show(&it->shard, it->part);
+        serve(&it->shard, it->part);
+    } else if (!is_ending()) {
+        __atomic_store_n(&failed, 1, __ATOMIC_SEQ_CST);
+        end_now();
     }
+    shard_stop(&it->shard);
+    add_one(&done);
     return NULL;
 }
 
-static pthread_t start_thread(struct shard *shard, unsigned number,
-                              const struct session *sessions, size_t count)
+static int start_thread(struct thread *it, unsigned part, unsigned number,
+                        const struct session *sessions, size_t count)
 {
-    pthread_t thread;
-    shard->options = &options.shard;
-    shard->sessions = sessions;
-    shard->count = count;
-    shard->number = number;
-    if (pthread_create(&thread, NULL, work, shard) == 0)
-        return thread;
+    it->part = part;
+    it->shard.options = &options.shard;
+    it->shard.sessions = sessions;
+    it->shard.count = count;
+    it->shard.number = number;
+    if (pthread_create(&it->thread, NULL, work, it) == 0)
+        return 1;
     perror("a thread");
-    exit(1);
+    __atomic_store_n(&failed, 1, __ATOMIC_SEQ_CST);
+    end_now();
+    return 0;
+}
+
+/* Tells the supervisor how it stands, until all threads have ended. */
+static void tell_all(unsigned started)
+{
+    int is_ready = 0, is_ended = 0;
+    unsigned rounds;
+    for (rounds = 0; read_count(&done) < started; rounds++) {
+        pause_milliseconds(WAIT / 2);
+        if (!is_ready && read_count(&begun) == options.shard_count) {
+            service_tell_ready();
+            is_ready = 1;
+        }
+        if (!is_ended && is_ending()) {
+            service_tell_end();
+            is_ended = 1;
+        }
+        if (rounds % (2 * SECOND_OF_WAITS) == 0)
+            service_tell_alive();
+    }
 }
 
 static void work_all(const struct session *sessions, size_t count)
 {
-    static struct shard shards[SHARDS];
-    pthread_t threads[SHARDS];
-    unsigned i;
-    for (i = 0; i < options.shard_count; i++)
-        threads[i] = start_thread(&shards[i], options.shards[i], sessions, count);
-    for (i = 0; i < options.shard_count; i++)
-        pthread_join(threads[i], NULL);
+    struct thread *threads = calloc(options.shard_count, sizeof *threads);
+    unsigned number, i, started = 0;
+    if (threads == NULL || service_begin(shard_metrics, shard_metrics_count, &shard_stands_metric,
+                                         options.shard_count) != 0) {
+        perror("receiver");
+        failed = 1;
+    } else if (options.metrics != NULL && service_listen(options.metrics) != 0) {
+        failed = 1;
+    }
+    for (number = 0; !failed && number < CARRIER_SHARDS; number++)
+        if (options.is_served[number])
+            started += (unsigned)start_thread(&threads[started], started, number, sessions, count);
+    tell_all(started);
+    for (i = 0; i < started; i++)
+        if (pthread_join(threads[i].thread, NULL) != 0)
+            perror("a thread");
+    service_end();
+    free(threads);
 }
 
 /* ---- Options */
 
-static void read_shards(struct options *o, char *text)
+static const struct option words_of_options[] = {
+    { "sessions", required_argument, NULL, 's' }, { "store", required_argument, NULL, 'S' },
+    { "carrier", required_argument, NULL, 'c' },  { "shards", required_argument, NULL, 'n' },
+    { "replicas", required_argument, NULL, 'r' }, { "batch", required_argument, NULL, 'b' },
+    { "skew", required_argument, NULL, 'k' },     { "metrics", required_argument, NULL, 'm' },
+    { "until-closed", no_argument, NULL, 'u' },
+    { "help", no_argument, NULL, 'h' },           { "version", no_argument, NULL, 'v' },
+    { NULL, 0, NULL, 0 }
+};
+
+static void read_shards(struct options *o, const char *text)
 {
-    char *rest = NULL, *word = strtok_r(text, ",", &rest);
-    while (word != NULL && o->shard_count < SHARDS) {
-        o->shards[o->shard_count++] = (unsigned)atoi(word);
-        word = strtok_r(NULL, ",", &rest);
-    }
+    o->shard_count = read_ranges(text, CARRIER_SHARDS, o->is_served);
+    if (o->shard_count > 0)
+        return;
+    fprintf(stderr, "receiver: --shards '%s': name shards below %d, such as 0-3,7\n", text,
+            CARRIER_SHARDS);
+    exit(2);
 }
 
-static int read_option(struct options *o, const char *name, char *value)
+static int read_option(struct options *o, int letter)
 {
-    if (strcmp(name, "--sessions") == 0)
-        o->sessions = value;
-    else if (strcmp(name, "--store") == 0)
-        o->shard.store = value;
-    else if (strcmp(name, "--carrier") == 0)
-        o->shard.carrier = value;
-    else if (strcmp(name, "--shards") == 0)
-        read_shards(o, value);
-    else if (strcmp(name, "--replicas") == 0)
-        o->shard.replicas = (unsigned)atoi(value);
-    else if (strcmp(name, "--batch") == 0)
-        o->shard.batch = (unsigned)atoi(value);
-    else if (strcmp(name, "--skew") == 0)
-        o->shard.skew = (uint32_t)strtoul(value, NULL, 10);
-    else
-        return 0;
+    switch (letter) {
+    case 's': o->sessions = optarg; break;
+    case 'S': o->shard.store = optarg; break;
+    case 'c': o->shard.carrier = optarg; break;
+    case 'n': read_shards(o, optarg); break;
+    case 'r':
+        o->shard.replicas = option_number("receiver", "replicas", optarg, 1, MOST_REPLICAS);
+        break;
+    case 'b': o->shard.batch = option_number("receiver", "batch", optarg, 1, MOST_FRAMES); break;
+    case 'k': o->shard.skew = option_number("receiver", "skew", optarg, 0, UINT32_MAX); break;
+    case 'm': o->metrics = optarg; break;
+    case 'u': o->until_closed = 1; break;
+    case 'h': fputs(usage, stdout); exit(0);
+    case 'v': print_version("receiver"); exit(0);
+    default: return 0;
+    }
     return 1;
 }
 
 static int read_options(struct options *o, int count, char **words)
 {
-    int i;
-    for (i = 1; i < count; i++) {
-        if (strcmp(words[i], "--until-closed") == 0)
-            o->until_closed = 1;
-        else if (i + 1 == count || !read_option(o, words[i], words[i + 1]))
+    int letter;
+    while ((letter = getopt_long(count, words, "", words_of_options, NULL)) != -1)
+        if (!read_option(o, letter))
             return 0;
-        else
-            i++;
-    }
-    return o->sessions && o->shard.store && o->shard.carrier && o->shard_count > 0
-           && o->shard.replicas > 0 && o->shard.batch > 0 && o->shard.batch <= MOST_FRAMES;
+    return optind == count && o->sessions && o->shard.store && o->shard.carrier
+           && o->shard_count > 0;
 }
 
 int main(int count, char **words)
@@ -149,17 +234,16 @@ int main(int count, char **words)
     size_t session_count;
     options.shard = (struct shard_options){ .replicas = 1, .batch = 1024, .skew = 86400 };
     if (!read_options(&options, count, words)) {
-        fprintf(stderr, "receiver --sessions FILE --store WHERE --carrier WHERE --shards N[,N..]"
-                        " [--replicas N] [--batch N] [--skew SECONDS] [--until-closed]\n");
+        fputs(usage, stderr);
         return 2;
     }
-    signal(SIGTERM, end_soon);
-    signal(SIGINT, end_soon);
+    umask(077); /* databases have texts and frames: they are for their owner alone */
+    end_by_signals();
     srand((unsigned)nanoseconds());
     sessions = read_sessions(options.sessions, &session_count);
     if (sessions == NULL)
         return 1;
     work_all(sessions, session_count);
     forget_sessions(sessions, session_count);
-    return 0;
+    return failed;
 }

@@ -22,37 +22,65 @@ static int draw(uint8_t confounder[16])
     return 0;
 }
 
+static enum seal_answer stop(struct sending *it, sqlite3_int64 at, const char *reason)
+{
+    it->stopped_at = at;
+    snprintf(it->reason, sizeof it->reason, "%s", reason);
+    return SEAL_STOP;
+}
+
+/* What fails for another reason than that memory is out fails again. */
+static enum seal_answer judge(struct sending *it, enum krbrelay_answer answer)
+{
+    char text[KRBRELAY_TEXT_SIZE];
+    if (answer == KRBRELAY_OK)
+        return SEAL_OK;
+    report_answer("not sealed", it->of->name, it->sealed, answer);
+    answer_text(answer, text);
+    return answer == KRBRELAY_MEMORY ? SEAL_FAULT : stop(it, it->begin, text);
+}
+
 /* The last number is kept for the close, as krb_peers keeps it. */
 static int has_number(const struct sending *it, uint32_t kind)
 {
-    if (it->sealed < UINT32_MAX || (it->sealed == UINT32_MAX && kind == KRBRELAY_CLOSE))
-        return 1;
-    fprintf(stderr, "session %s has no number left: it needs a new key\n", it->of->name);
-    return 0;
+    return it->sealed < UINT32_MAX || (it->sealed == UINT32_MAX && kind == KRBRELAY_CLOSE);
+}
+
+static enum krbrelay_answer make_sealer(struct sending *it)
+{
+    const struct session *of = it->of;
+    struct krbrelay_session session = { .mode = of->mode, .first = (uint32_t)it->sealed,
+                                        .sender = of->from };
+    if (it->sealer.at != NULL)
+        return KRBRELAY_OK;
+    return krbrelay_sealer_new(&it->sealer, of->etype, of->key, of->key_len, &session);
 }
 
 /* Seals a record, and stores its frame. */
-static int seal(struct sealing *s, struct sending *it, uint32_t kind, const uint8_t *bytes,
-                size_t len)
+static enum seal_answer seal(struct sealing *s, struct sending *it, uint32_t kind,
+                             const uint8_t *bytes, size_t len)
 {
     uint8_t confounder[16];
     uint64_t number = it->sealed, began = nanoseconds();
     struct krbrelay_moment now = read_clock();
     enum krbrelay_answer answer;
     size_t size = 0;
-    if (!has_number(it, kind) || draw(confounder) != 0)
-        return -1;
-    answer = krbrelay_sealer_seal_record(&it->sealer, kind, bytes, len, &now, confounder, s->frame,
-                                         KRBRELAY_FRAME_LIMIT, &size);
+    if (!has_number(it, kind))
+        return stop(it, it->begin, "it has no number left: it needs a new key");
+    if (draw(confounder) != 0)
+        return SEAL_FAULT;
+    answer = make_sealer(it);
+    if (answer == KRBRELAY_OK)
+        answer = krbrelay_sealer_seal_record(&it->sealer, kind, bytes, len, &now, confounder,
+                                             s->frame, KRBRELAY_FRAME_LIMIT, &size);
     if (answer == KRBRELAY_OK)
         answer = krbrelay_sealer_next(&it->sealer, &it->sealed);
     s->nanoseconds += nanoseconds() - began;
-    if (answer != KRBRELAY_OK) {
-        report_answer("not sealed", it->of->name, number, answer);
-        return -1;
-    }
+    if (answer != KRBRELAY_OK)
+        return judge(it, answer);
     s->frames++;
-    return outbox_add_frame(s->outbox, it->of->name, number, s->frame, size);
+    return outbox_add_frame(s->outbox, it->of->name, number, s->frame, size) == 0 ? SEAL_OK
+                                                                                 : SEAL_FAULT;
 }
 
 /* Room for another text of so many bytes. */
@@ -70,61 +98,66 @@ static int grow(struct sending *it, size_t len)
     return 0;
 }
 
-int seal_rest(struct sealing *s, struct sending *it)
+enum seal_answer seal_rest(struct sealing *s, struct sending *it)
 {
     size_t at = 0, len = 0;
     const uint8_t *text = NULL;
-    int answer;
+    enum seal_answer answer = SEAL_FAULT;
     if (it->texts == 0)
-        return 0;
+        return SEAL_OK;
     if (it->texts > 1)
         answer = seal(s, it, KRBRELAY_BATCH, it->batch, it->size);
     else if (krbrelay_batch_next(it->batch, it->size, &at, &text, &len) == KRBRELAY_OK)
         answer = seal(s, it, KRBRELAY_TEXT, text, len);
-    else
-        answer = -1;
     it->texts = 0;
     it->size = 0;
     return answer;
 }
 
-int seal_text(struct sealing *s, struct sending *it, const struct waiting_text *text)
+static enum seal_answer seal_close(struct sealing *s, struct sending *it, sqlite3_int64 id)
 {
-    if (text->body == NULL)
-        return seal_rest(s, it) == 0 ? seal(s, it, KRBRELAY_CLOSE, NULL, 0) : -1;
-    if (it->texts > 0 && it->size + text->len > BATCH_BYTES && seal_rest(s, it) != 0)
-        return -1;
-    if (grow(it, text->len) != 0 ||
-        krbrelay_batch_add(it->batch, it->room, &it->size, text->body, text->len) != KRBRELAY_OK)
-        return -1;
-    it->texts++;
-    return it->texts >= s->batch ? seal_rest(s, it) : 0;
+    enum seal_answer answer = seal_rest(s, it);
+    it->begin = id;
+    return answer == SEAL_OK ? seal(s, it, KRBRELAY_CLOSE, NULL, 0) : answer;
 }
 
-int seal_load(struct sealing *s, struct sending *it)
+enum seal_answer seal_text(struct sealing *s, struct sending *it, const struct waiting_text *text)
 {
-    struct krbrelay_session session = { .mode = it->of->mode, .sender = it->of->from };
-    enum krbrelay_answer answer;
-    if (outbox_load(s->outbox, it->of->name, &it->progress) != 0)
-        return -1;
-    it->kept = it->progress.carried;
+    char reason[64];
+    enum seal_answer answer = SEAL_OK;
+    if (text->body == NULL)
+        return seal_close(s, it, text->id);
+    if (text->len > TEXT_BYTES) {
+        snprintf(reason, sizeof reason, "a text has %zu bytes: the most are %d", text->len,
+                 TEXT_BYTES);
+        return stop(it, text->id, reason);
+    }
+    if (it->texts > 0 && it->size + text->len > BATCH_BYTES)
+        answer = seal_rest(s, it);
+    if (answer != SEAL_OK)
+        return answer;
+    if (grow(it, text->len) != 0 ||
+        krbrelay_batch_add(it->batch, it->room, &it->size, text->body, text->len) != KRBRELAY_OK)
+        return SEAL_FAULT;
+    if (it->texts++ == 0)
+        it->begin = text->id;
+    return it->texts >= s->batch ? seal_rest(s, it) : SEAL_OK;
+}
+
+/* A sealer doesn't go back: another one is made at the number that is stored. */
+void seal_reset(struct sending *it)
+{
+    if (it->sealed != it->progress.next)
+        krbrelay_sealer_free(&it->sealer);
     it->sealed = it->progress.next;
     it->texts = 0;
     it->size = 0;
-    krbrelay_sealer_free(&it->sealer);
-    if (it->progress.next > UINT32_MAX)
-        return 0; /* the close was sealed with the last number */
-    session.first = (uint32_t)it->progress.next;
-    answer = krbrelay_sealer_new(&it->sealer, it->of->etype, it->of->key, it->of->key_len,
-                                 &session);
-    if (answer == KRBRELAY_OK)
-        return 0;
-    report_answer("no sealer", it->of->name, it->progress.next, answer);
-    return -1;
 }
 
 void seal_free(struct sending *it)
 {
     krbrelay_sealer_free(&it->sealer);
+    if (it->batch != NULL)
+        explicit_bzero(it->batch, it->room);
     free(it->batch);
 }

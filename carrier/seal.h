@@ -1,23 +1,35 @@
-/* Seals the texts of one session into records, whose frames the outbox stores. All of this is
- * done within a transaction of the outbox: what answers -1 wants it to be given up, and the
- * session to be loaded again. The records and the numbers are libkrbrelay's. */
+/* Seals the texts of one session into records, whose frames the outbox stores. All of this is done
+ * within a transaction of the outbox: what doesn't answer SEAL_OK wants it to be given up, and the
+ * session to be reset. The records and the numbers are libkrbrelay's.
+ *
+ * SEAL_FAULT may pass. SEAL_STOP won't: the texts from `stopped_at` on can't be sealed, `reason`
+ * says why, and those before them still can. */
 #ifndef SEAL_H
 #define SEAL_H
 
 #include "outbox.h"
 
-enum { BATCH_TEXTS = 1000, BATCH_BYTES = 60000 };
+enum { BATCH_TEXTS = 1000, BATCH_BYTES = 60000, TEXT_BYTES = 1000000 };
+enum seal_answer { SEAL_OK = 0, SEAL_STOP = 1, SEAL_FAULT = -1 };
 
 /* One session of a sender. */
 struct sending {
     const struct session *of;
-    struct krbrelay_sealer sealer;
+    size_t lane;                /* its shard's place */
+    struct krbrelay_sealer sealer; /* made with the first text */
+    struct outbox_progress kept;   /* what the outbox has */
     struct progress progress;
-    uint64_t kept;          /* what the outbox has of `carried` */
-    uint64_t sealed;        /* the sealer's next number, which is progress.next once stored */
-    uint8_t *batch;         /* the texts that wait for being sealed together */
+    uint64_t sealed;            /* the sealer's next number, which is progress.next once stored */
+    uint8_t *batch;             /* the texts that wait for being sealed together, */
     size_t size, room;
     unsigned texts;
+    sqlite3_int64 begin;        /* of which this is the first */
+    sqlite3_int64 stopped_at;   /* texts from this one on aren't taken; 0: all are */
+    char reason[192];
+    int is_checked, is_wanted;  /* texts.c: the carrier has no frame of a later number; is asked */
+    int is_touched, is_active;  /* it is in the lists of sender.h */
+    int is_blocked;             /* publish.c: the carrier won't have its next frame */
+    uint64_t moment;            /* publish.c: nothing is published before it */
 };
 
 struct sealing {
@@ -28,14 +40,14 @@ struct sealing {
     uint64_t nanoseconds;   /* in so much time */
 };
 
-/* Makes the session what the outbox has, with a sealer that continues there. */
-int seal_load(struct sealing *s, struct sending *it);
-
 /* Takes one text, or the close if its body is NULL. */
-int seal_text(struct sealing *s, struct sending *it, const struct waiting_text *text);
+enum seal_answer seal_text(struct sealing *s, struct sending *it, const struct waiting_text *text);
 
 /* Seals the texts that wait. */
-int seal_rest(struct sealing *s, struct sending *it);
+enum seal_answer seal_rest(struct sealing *s, struct sending *it);
+
+/* Makes the session what it was before the transaction. */
+void seal_reset(struct sending *it);
 
 void seal_free(struct sending *it);
 

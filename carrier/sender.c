@@ -1,279 +1,350 @@
-/* Sends the texts of many sessions, each once, whenever this process is killed.
- *
- *     sender --sessions FILE --outbox FILE --carrier WHERE [--replicas N] [--batch N]
- *            [--retry MILLISECONDS] [--drain]
+/* Sends the texts of many sessions, each once, whenever this process is killed. `usage` says how it
+ * is called.
  *
  * It takes texts from the outbox, seals them into frames, which the outbox stores, and publishes
- * these until they are carried (outbox.h, progress.h): again after the time of --retry, by
- * default 2,000, which is to be above that in which the carrier confirms. It ends by SIGTERM;
- * with --drain once all is carried; or with status 3 if another sender has taken the outbox over.
- * It may be killed at any time: start it again. */
-#include "carrier.h"
+ * these until they are carried (outbox.h, progress.h). It ends with status 3 if another sender has
+ * taken the outbox over. It may be killed at any time: start it again. */
+#include "sender.h"
 #include "clock.h"
-#include "seal.h"
+#include "ending.h"
+#include "service.h"
+#include "words.h"
 
-#include <signal.h>
+#include <getopt.h>
 #include <stdio.h>
 #include <stdlib.h>
 #include <string.h>
+#include <sys/stat.h>
 
 enum {
-    WINDOW = 2048,  /* frames that are sealed and not yet carried */
-    TAKEN = 512,    /* texts of one transaction */
-    IDLE = 20,      /* milliseconds to wait for confirmations, or texts */
-    PAUSE = 100     /* milliseconds after a fault */
+    IDLE = 20,          /* milliseconds to wait for confirmations, or texts */
+    PAUSE = 100,        /* milliseconds after a fault */
+    MOST_REPLICAS = 5
 };
 
 #define SECOND UINT64_C(1000000000) /* in nanoseconds */
 #define SILENCE (10 * SECOND)
 
-struct options {
-    const char *sessions, *outbox, *carrier;
-    unsigned replicas, batch, retry;
-    int drain;
-};
+static const char usage[] =
+    "sender --sessions FILE --outbox FILE --carrier WHERE [--replicas N] [--batch N]\n"
+    "       [--retry MILLISECONDS] [--metrics ADDRESS:PORT] [--drain]\n"
+    "  --sessions FILE  a line for each session: NAME SHARD ETYPE MODE KEY FIRST FROM TO\n"
+    "  --outbox FILE    SQLite's, in whose table `text` an application puts texts\n"
+    "  --carrier WHERE  sqlite:FILE, or nats://HOST:PORT[,..]\n"
+    "  --replicas N     so many replicas has a stream that is made; one with fewer isn't used (1)\n"
+    "  --batch N        so many texts go into a frame at most (1)\n"
+    "  --retry MILLISECONDS  what isn't carried by then is published again (2000): more than the\n"
+    "                   time in which the carrier confirms\n"
+    "  --metrics ADDRESS:PORT  answers GET /metrics (Prometheus's text) and GET /healthz\n"
+    "  --drain          ends once all is carried that can be\n"
+    "  --help, --version\n"
+    "It ends by SIGTERM. Status: 0; 1 after a fault; 2 for a wrong option; 3 if another sender\n"
+    "has taken the outbox over; 4 after --drain if a session is stopped, as the outbox's table\n"
+    "`stopped` says.\n";
 
-struct sender {
-    struct options options;
-    struct outbox outbox;
-    struct carrier *carrier;
-    struct session *sessions;
-    struct sending *sendings;
-    size_t count;
-    struct sealing sealing;
-    unsigned long published, again;
-    uint64_t storing, carrying; /* nanoseconds */
-    uint64_t rose;              /* when a frame was carried last, or there was none to be carried */
-};
+/* ---- Sessions */
 
-static volatile sig_atomic_t ending;
-
-static void end_soon(int signal)
+int sender_tell_stopped(struct sender *s, const char *session, const char *reason)
 {
-    (void)signal;
-    ending = 1;
+    fprintf(stderr, "session %s is stopped: %s\n", session, reason);
+    s->stopped++;
+    return outbox_add_stopped(&s->outbox, session, reason);
+}
+
+enum outbox_answer sender_stop(struct sender *s, const char *session, const char *reason)
+{
+    enum outbox_answer begun = outbox_begin(&s->outbox);
+    if (begun != OUTBOX_OK)
+        return begun;
+    if (sender_tell_stopped(s, session, reason) == 0 && outbox_commit(&s->outbox) == 0)
+        return OUTBOX_OK;
+    outbox_rollback(&s->outbox);
+    return OUTBOX_AGAIN;
+}
+
+void sender_activate(struct sender *s, size_t place)
+{
+    if (!s->sendings[place].is_active)
+        s->active.places[s->active.count++] = place;
+    s->sendings[place].is_active = 1;
+}
+
+int sender_load(struct sender *s, size_t place)
+{
+    struct sending *it = &s->sendings[place];
+    struct lane *lane = &s->lanes[it->lane];
+    if (outbox_load(&s->outbox, it->of->name, &it->kept) != 0)
+        return -1;
+    lane->backlog -= (size_t)(it->progress.next - it->progress.carried);
+    it->progress = (struct progress){ .next = it->kept.next, .carried = it->kept.carried,
+                                      .at = it->kept.at, .sent = it->kept.carried };
+    lane->backlog += (size_t)(it->progress.next - it->progress.carried);
+    seal_reset(it);
+    if (it->progress.carried < it->progress.next)
+        sender_activate(s, place);
+    return 0;
 }
 
 /* ---- What is stored, in one transaction */
 
-static int load_all(struct sender *s)
+/* Stores what was sealed. */
+static enum seal_answer keep_sealed(struct sender *s, struct sending **stopped)
 {
     size_t i;
-    for (i = 0; i < s->count; i++)
-        if (seal_load(&s->sealing, &s->sendings[i]) != 0)
-            return -1;
-    return 0;
+    for (i = 0; i < s->touched.count; i++) {
+        struct sending *it = &s->sendings[s->touched.places[i]];
+        enum seal_answer answer = seal_rest(&s->sealing, it);
+        *stopped = it;
+        if (answer != SEAL_OK)
+            return answer;
+        if (it->sealed > it->progress.next
+            && outbox_set_next(&s->outbox, it->of->name, it->progress.next, it->sealed) != 0)
+            return SEAL_FAULT;
+    }
+    return SEAL_OK;
 }
 
-/* Seals one text. */
-static int take_text(struct sender *s, const struct waiting_text *text)
-{
-    size_t place = find_session(s->sessions, s->count, text->session);
-    if (place < s->count)
-        return seal_text(&s->sealing, &s->sendings[place], text);
-    fprintf(stderr, "session %s has a text and no line in %s: give it one\n", text->session,
-            s->options.sessions);
-    return -1;
-}
-
-/* Seals texts, up to limit of them, and deletes them. */
-static int take_texts(struct sender *s, size_t limit)
-{
-    struct waiting_text text = { 0, NULL, NULL, 0 };
-    int answer = 0, row = 0;
-    outbox_select_texts(&s->outbox, limit);
-    while (answer == 0 && (row = outbox_next_text(&s->outbox, &text)) == 1)
-        answer = take_text(s, &text);
-    outbox_end_texts(&s->outbox);
-    if (answer != 0 || row < 0)
-        return -1;
-    return text.id > 0 ? outbox_drop_texts(&s->outbox, text.id) : 0;
-}
-
-/* Stores what has changed of a session. */
-static int keep(struct sender *s, struct sending *it)
-{
-    const char *name = it->of->name;
-    if (seal_rest(&s->sealing, it) != 0)
-        return -1;
-    if (it->sealed > it->progress.next
-        && outbox_set_next(&s->outbox, name, it->progress.next, it->sealed) != 0)
-        return -1;
-    if (it->progress.carried > it->kept)
-        return outbox_set_carried(&s->outbox, name, &it->progress);
-    return 0;
-}
-
-static int keep_all(struct sender *s)
+/* Stores how far the frames are carried. */
+static enum seal_answer keep_carried(struct sender *s)
 {
     size_t i;
-    for (i = 0; i < s->count; i++)
-        if (keep(s, &s->sendings[i]) != 0)
-            return -1;
-    return outbox_commit(&s->outbox);
+    for (i = 0; i < s->active.count; i++) {
+        struct sending *it = &s->sendings[s->active.places[i]];
+        struct outbox_progress now = it->kept;
+        now.carried = it->progress.carried;
+        now.at = it->progress.at;
+        if (it->kept.carried != it->progress.carried
+            && outbox_set_carried(&s->outbox, it->of->name, &now) != 0)
+            return SEAL_FAULT;
+    }
+    return SEAL_OK;
 }
 
-static enum outbox_answer store(struct sender *s, size_t limit)
+/* All of it is stored. */
+static void note_kept(struct sender *s)
+{
+    size_t i;
+    for (i = 0; i < s->active.count; i++) {
+        struct sending *it = &s->sendings[s->active.places[i]];
+        it->kept.carried = it->progress.carried;
+        it->kept.at = it->progress.at;
+    }
+    for (i = 0; i < s->touched.count; i++) {
+        struct sending *it = &s->sendings[s->touched.places[i]];
+        s->lanes[it->lane].backlog += (size_t)(it->sealed - it->progress.next);
+        it->kept.next = it->progress.next = it->sealed;
+        it->is_touched = 0;
+        sender_activate(s, s->touched.places[i]);
+    }
+    s->touched.count = 0;
+}
+
+static void note_looked(const struct sender *s, struct looked *before)
+{
+    size_t i;
+    before->seen = s->seen;
+    for (i = 0; i < s->lane_count; i++)
+        before->deferred[i] = s->lanes[i].deferred;
+}
+
+/* The frames of this transaction are gone with it; none of them has left. How far the others are
+ * carried stays known. */
+static void give_up(struct sender *s, const struct looked *before)
+{
+    size_t i;
+    outbox_rollback(&s->outbox);
+    s->seen = before->seen;
+    s->unknown[0] = 0;
+    for (i = 0; i < s->lane_count; i++)
+        s->lanes[i].deferred = before->deferred[i];
+    for (i = 0; i < s->touched.count; i++) {
+        seal_reset(&s->sendings[s->touched.places[i]]);
+        s->sendings[s->touched.places[i]].is_touched = 0;
+    }
+    s->touched.count = 0;
+}
+
+/* A session whose text can't be sealed is stopped, and the rest is tried again without it. */
+static enum outbox_answer store(struct sender *s, int with_texts, struct looked *before)
 {
     enum outbox_answer begun = outbox_begin(&s->outbox);
-    size_t i;
+    enum seal_answer answer = SEAL_OK;
+    struct sending *stopped = NULL;
     if (begun != OUTBOX_OK)
         return begun;
-    if ((limit > 0 && take_texts(s, limit) != 0) || keep_all(s) != 0) {
-        /* The frames of this transaction are gone with it; none of them has left. */
-        outbox_rollback(&s->outbox);
-        pause_milliseconds(PAUSE);
-        return load_all(s) == 0 ? OUTBOX_AGAIN : OUTBOX_FAULT;
+    note_looked(s, before);
+    if (with_texts)
+        answer = texts_take(s, &stopped);
+    if (answer == SEAL_OK)
+        answer = keep_sealed(s, &stopped);
+    if (answer == SEAL_OK)
+        answer = keep_carried(s);
+    if (answer == SEAL_OK && outbox_commit(&s->outbox) == 0) {
+        note_kept(s);
+        return OUTBOX_OK;
     }
-    for (i = 0; i < s->count; i++) {
-        s->sendings[i].progress.next = s->sendings[i].sealed;
-        s->sendings[i].kept = s->sendings[i].progress.carried;
-    }
-    return OUTBOX_OK;
+    give_up(s, before);
+    if (answer == SEAL_STOP)
+        return sender_stop(s, stopped->of->name, stopped->reason);
+    pause_milliseconds(PAUSE);
+    return OUTBOX_AGAIN;
 }
 
-/* ---- Publishing */
-
-/* Publishes the frames of a session that weren't. */
-static int publish(struct sender *s, struct sending *it, uint32_t tag)
-{
-    struct progress *progress = &it->progress;
-    const uint8_t *frame;
-    uint64_t number;
-    size_t len;
-    int answer = 0, is_there = 1;
-    if (progress->sent == progress->carried)
-        progress->moved = nanoseconds();
-    outbox_select_frames(&s->outbox, it->of->name, progress->sent, WINDOW);
-    while (answer == 0 && outbox_next_frame(&s->outbox, &number, &frame, &len) == 1) {
-        is_there = number == progress->sent;
-        if (!is_there)
-            break; /* another process has deleted frames: they are carried */
-        answer = carrier_publish(s->carrier, it->of->shard, it->of->name, tag, number, frame, len);
-        progress->sent += answer == 0;
-        s->published += answer == 0;
-    }
-    outbox_end_frames(&s->outbox);
-    return is_there ? answer : seal_load(&s->sealing, it);
-}
-
-static void publish_all(struct sender *s)
-{
-    uint64_t patience = s->options.retry * UINT64_C(1000000);
-    size_t i;
-    for (i = 0; i < s->count; i++) {
-        struct sending *it = &s->sendings[i];
-        s->again += progress_rewind(&it->progress, nanoseconds(), patience);
-        if (it->progress.sent < it->progress.next && publish(s, it, (uint32_t)i) != 0)
-            return;
-    }
-}
-
-/* Counts the frames that are carried now, and answers how many. */
-static size_t count_carried(struct sender *s, int milliseconds)
-{
-    struct confirmed list[TAKEN];
-    size_t rose = 0;
-    int i, count = carrier_confirmed(s->carrier, list, TAKEN, milliseconds);
-    for (i = 0; i < count; i++)
-        if (list[i].tag < s->count)
-            rose += (size_t)progress_confirm(&s->sendings[list[i].tag].progress, list[i].number,
-                                             list[i].offset, nanoseconds());
-    return count == TAKEN ? rose + count_carried(s, 0) : rose;
-}
-
-/* ---- */
-
-/* How many frames are sealed and not carried. */
-static size_t backlog_of(const struct sender *s)
-{
-    size_t i, frames = 0;
-    for (i = 0; i < s->count; i++)
-        frames += (size_t)(s->sendings[i].progress.next - s->sendings[i].progress.carried);
-    return frames;
-}
-
-/* How many texts may be taken now: none where few would be. */
-static size_t limit_of(size_t backlog)
-{
-    size_t limit = backlog < WINDOW ? WINDOW - backlog : 0;
-    if (limit > TAKEN)
-        return TAKEN;
-    return limit >= TAKEN / 4 ? limit : 0;
-}
+/* ---- The loop */
 
 /* Reports, each ten seconds, that nothing is carried though frames wait. */
 static void report_silence(struct sender *s, size_t rose)
 {
-    size_t backlog = backlog_of(s);
+    size_t backlog = publish_backlog(s);
     if (rose > 0 || backlog == 0)
         s->rose = nanoseconds();
     if (nanoseconds() - s->rose < SILENCE)
         return;
-    fprintf(stderr, "none of %zu frames was confirmed for %llu s: are most nodes of %s up? They are"
-                    " published again until they are\n", backlog,
-            (unsigned long long)(SILENCE / SECOND), s->options.carrier);
+    fprintf(stderr, "none of %zu frames was confirmed for %llu s: are most nodes of the carrier up?"
+                    " They are published again until they are\n", backlog,
+            (unsigned long long)(SILENCE / SECOND));
     s->rose = nanoseconds();
+}
+
+/* Each second: shows how it stands, and looks whether the outbox is still this process's, also
+ * where nothing is stored. */
+static int is_owner(struct sender *s)
+{
+    if (nanoseconds() - s->looked < SECOND)
+        return 1;
+    s->looked = nanoseconds();
+    sender_show(s);
+    service_tell_alive();
+    return outbox_is_owned(&s->outbox);
+}
+
+/* One round; *rose is how many frames were carried in the last. 1 if all is done that can be. */
+static int step(struct sender *s, struct looked *before, size_t *rose, enum outbox_answer *answer)
+{
+    uint64_t began = nanoseconds(), sealing = s->sealing.nanoseconds;
+    size_t backlog = publish_backlog(s);
+    int texts;
+    *answer = is_owner(s) ? texts_check_wanted(s) : OUTBOX_TAKEN;
+    if (*answer < 0)
+        return 1;
+    texts = texts_wait(s);
+    if (texts || *rose > 0)
+        *answer = store(s, texts, before);
+    if (*answer < 0)
+        return 1;
+    if (s->options.drain && !texts && backlog == 0 && *rose == 0 && s->wanted.count == 0)
+        return 1;
+    s->storing += nanoseconds() - began - (s->sealing.nanoseconds - sealing);
+    began = nanoseconds();
+    publish_all(s);
+    backlog = publish_backlog(s);
+    *rose = publish_count_carried(s, backlog > 0 && !(texts && backlog < WINDOW / 2) ? IDLE : 0);
+    report_silence(s, *rose);
+    if (!texts && *rose == 0)
+        pause_milliseconds(1);
+    s->carrying += nanoseconds() - began;
+    return 0;
 }
 
 static enum outbox_answer serve(struct sender *s)
 {
+    struct looked before = { 0, calloc(s->lane_count, sizeof *before.deferred) };
+    enum outbox_answer answer = OUTBOX_FAULT;
     size_t rose = 0;
     s->rose = nanoseconds();
-    while (!ending) {
-        size_t backlog = backlog_of(s);
-        int texts = outbox_has_text(&s->outbox);
-        size_t limit = texts ? limit_of(backlog) : 0;
-        uint64_t began = nanoseconds(), sealing = s->sealing.nanoseconds;
-        enum outbox_answer answer = limit > 0 || rose > 0 ? store(s, limit) : OUTBOX_OK;
-        if (answer < 0)
-            return answer;
-        if (s->options.drain && !texts && backlog == 0 && rose == 0)
-            return OUTBOX_OK;
-        s->storing += nanoseconds() - began - (s->sealing.nanoseconds - sealing);
-        began = nanoseconds();
-        publish_all(s);
-        rose = count_carried(s, backlog_of(s) > 0 && !(texts && backlog < WINDOW / 2) ? IDLE : 0);
-        report_silence(s, rose);
-        if (!texts && rose == 0)
-            pause_milliseconds(1);
-        s->carrying += nanoseconds() - began;
+    service_tell_ready();
+    if (before.deferred != NULL) {
+        answer = OUTBOX_OK;
+        while (!is_ending() && !step(s, &before, &rose, &answer))
+            continue;
     }
-    return OUTBOX_OK;
+    service_tell_end();
+    free(before.deferred);
+    return answer == OUTBOX_AGAIN ? OUTBOX_OK : answer;
+}
+
+/* ---- */
+
+static int make_list(struct list *list, size_t count)
+{
+    list->count = 0;
+    list->places = calloc(count, sizeof *list->places);
+    return list->places != NULL;
+}
+
+/* Gives each shard of a session a lane. */
+static int make_lanes(struct sender *s)
+{
+    static size_t lane_of[CARRIER_SHARDS]; /* and 1; 0: none yet */
+    size_t i;
+    s->lanes = calloc(s->count < CARRIER_SHARDS ? s->count : CARRIER_SHARDS, sizeof *s->lanes);
+    if (s->lanes == NULL)
+        return 0;
+    for (i = 0; i < s->count; i++) {
+        size_t *lane = &lane_of[s->sessions[i].shard];
+        if (*lane == 0) {
+            s->lanes[s->lane_count++].shard = s->sessions[i].shard;
+            *lane = s->lane_count;
+        }
+        s->sendings[i].of = &s->sessions[i];
+        s->sendings[i].lane = *lane - 1;
+    }
+    return 1;
+}
+
+static int make_memory(struct sender *s)
+{
+    s->sendings = calloc(s->count, sizeof *s->sendings);
+    s->sealing.outbox = &s->outbox;
+    s->sealing.batch = s->options.batch;
+    s->sealing.frame = malloc(KRBRELAY_FRAME_LIMIT);
+    s->bytes = malloc(KRBRELAY_FRAME_LIMIT);
+    if (s->sendings == NULL || s->sealing.frame == NULL || s->bytes == NULL || !make_lanes(s)
+        || !make_list(&s->touched, s->count) || !make_list(&s->active, s->count)
+        || !make_list(&s->wanted, s->count)) {
+        perror("sender");
+        return -1;
+    }
+    return 0;
 }
 
 static int start(struct sender *s)
 {
     size_t i;
     s->sessions = read_sessions(s->options.sessions, &s->count);
-    if (s->sessions == NULL)
+    if (s->sessions == NULL || make_memory(s) != 0)
         return -1;
-    s->sendings = calloc(s->count, sizeof *s->sendings);
-    s->sealing.outbox = &s->outbox;
-    s->sealing.batch = s->options.batch;
-    s->sealing.frame = malloc(KRBRELAY_FRAME_LIMIT);
-    if (s->sendings == NULL || s->sealing.frame == NULL)
-        return -1;
-    for (i = 0; i < s->count; i++)
-        s->sendings[i].of = &s->sessions[i];
     s->carrier = carrier_open(s->options.carrier, s->options.replicas);
     if (s->carrier == NULL) /* the outbox stays with whoever has it */
         return -1;
     if (outbox_open(&s->outbox, s->options.outbox, s->sessions, s->count) != 0)
         return -1;
-    return load_all(s);
+    for (i = 0; i < s->count; i++)
+        if (sender_load(s, i) != 0)
+            return -1;
+    if (sender_begin_showing(s) != 0)
+        return -1;
+    return s->options.metrics != NULL ? service_listen(s->options.metrics) : 0;
 }
 
 static void stop(struct sender *s)
 {
     size_t i;
+    service_end();
     for (i = 0; s->sendings != NULL && i < s->count; i++)
         seal_free(&s->sendings[i]);
     outbox_close(&s->outbox);
     if (s->carrier != NULL)
         carrier_close(s->carrier);
     forget_sessions(s->sessions, s->count);
+    if (s->bytes != NULL)
+        explicit_bzero(s->bytes, KRBRELAY_FRAME_LIMIT);
+    free(s->bytes);
     free(s->sendings);
+    free(s->lanes);
+    free(s->touched.places);
+    free(s->active.places);
+    free(s->wanted.places);
     free(s->sealing.frame);
 }
 
@@ -288,43 +359,47 @@ static int work(struct sender *s)
     if (answer == OUTBOX_TAKEN)
         fprintf(stderr, "another sender has taken %s over: this one ends\n", s->options.outbox);
     stop(s);
-    return answer == OUTBOX_TAKEN ? 3 : answer < 0;
+    if (answer < 0)
+        return answer == OUTBOX_TAKEN ? 3 : !is_ending();
+    return s->options.drain && !is_ending() && s->stopped > 0 ? 4 : 0;
 }
 
 /* ---- Options */
 
-static int read_option(struct options *o, const char *name, const char *value)
+static const struct option words_of_options[] = {
+    { "sessions", required_argument, NULL, 's' }, { "outbox", required_argument, NULL, 'o' },
+    { "carrier", required_argument, NULL, 'c' },  { "replicas", required_argument, NULL, 'r' },
+    { "batch", required_argument, NULL, 'b' },    { "retry", required_argument, NULL, 't' },
+    { "metrics", required_argument, NULL, 'm' },  { "drain", no_argument, NULL, 'd' },
+            { "help", no_argument, NULL, 'h' },
+    { "version", no_argument, NULL, 'v' },        { NULL, 0, NULL, 0 }
+};
+
+static int read_option(struct options *o, int letter)
 {
-    if (strcmp(name, "--sessions") == 0)
-        o->sessions = value;
-    else if (strcmp(name, "--outbox") == 0)
-        o->outbox = value;
-    else if (strcmp(name, "--carrier") == 0)
-        o->carrier = value;
-    else if (strcmp(name, "--replicas") == 0)
-        o->replicas = (unsigned)atoi(value);
-    else if (strcmp(name, "--batch") == 0)
-        o->batch = (unsigned)atoi(value);
-    else if (strcmp(name, "--retry") == 0)
-        o->retry = (unsigned)atoi(value);
-    else
-        return 0;
+    switch (letter) {
+    case 's': o->sessions = optarg; break;
+    case 'o': o->outbox = optarg; break;
+    case 'c': o->carrier = optarg; break;
+    case 'r': o->replicas = option_number("sender", "replicas", optarg, 1, MOST_REPLICAS); break;
+    case 'b': o->batch = option_number("sender", "batch", optarg, 1, BATCH_TEXTS); break;
+    case 't': o->retry = option_number("sender", "retry", optarg, 1, 86400000); break;
+    case 'm': o->metrics = optarg; break;
+    case 'd': o->drain = 1; break;
+    case 'h': fputs(usage, stdout); exit(0);
+    case 'v': print_version("sender"); exit(0);
+    default: return 0;
+    }
     return 1;
 }
 
 static int read_options(struct options *o, int count, char **words)
 {
-    int i;
-    for (i = 1; i < count; i++) {
-        if (strcmp(words[i], "--drain") == 0)
-            o->drain = 1;
-        else if (i + 1 == count || !read_option(o, words[i], words[i + 1]))
+    int letter;
+    while ((letter = getopt_long(count, words, "", words_of_options, NULL)) != -1)
+        if (!read_option(o, letter))
             return 0;
-        else
-            i++;
-    }
-    return o->sessions && o->outbox && o->carrier && o->replicas > 0 && o->batch > 0
-           && o->batch <= BATCH_TEXTS && o->retry > 0;
+    return optind == count && o->sessions && o->outbox && o->carrier;
 }
 
 int main(int count, char **words)
@@ -333,11 +408,10 @@ int main(int count, char **words)
     sender.options.replicas = sender.options.batch = 1;
     sender.options.retry = 2000;
     if (!read_options(&sender.options, count, words)) {
-        fprintf(stderr, "sender --sessions FILE --outbox FILE --carrier WHERE [--replicas N]"
-                        " [--batch N] [--retry MILLISECONDS] [--drain]\n");
+        fputs(usage, stderr);
         return 2;
     }
-    signal(SIGTERM, end_soon);
-    signal(SIGINT, end_soon);
+    umask(077); /* databases have texts and frames: they are for their owner alone */
+    end_by_signals();
     return work(&sender);
 }

@@ -1,11 +1,22 @@
 #include "sessions.h"
+#include "words.h"
 
 #include <arpa/inet.h>
 #include <stdio.h>
 #include <stdlib.h>
 #include <string.h>
+#include <sys/stat.h>
 
 struct list { struct session *at; size_t count, room; };
+
+enum { WORDS = 8, LINE = 256, OTHERS = 077, BUFFER = 1 << 16 };
+
+static int digit_of(char it)
+{
+    static const char digits[] = "0123456789abcdef";
+    const char *place = it != 0 ? strchr(digits, it | (it >= 'A' && it <= 'F' ? 0x20 : 0)) : NULL;
+    return place != NULL ? (int)(place - digits) : -1;
+}
 
 static int read_key(const char *digits, struct session *it)
 {
@@ -13,9 +24,12 @@ static int read_key(const char *digits, struct session *it)
     it->key_len = it->etype == 17 ? 16 : 32;
     if (strlen(digits) != 2 * it->key_len)
         return 0;
-    for (i = 0; i < it->key_len; i++)
-        if (sscanf(digits + 2 * i, "%2hhx", &it->key[i]) != 1)
+    for (i = 0; i < it->key_len; i++) {
+        int high = digit_of(digits[2 * i]), low = digit_of(digits[2 * i + 1]);
+        if (high < 0 || low < 0)
             return 0;
+        it->key[i] = (uint8_t)(high << 4 | low);
+    }
     return 1;
 }
 
@@ -33,22 +47,49 @@ static int read_mode(const char *word, uint32_t *mode)
     return *mode == KRBRELAY_SAFE || strcmp(word, "priv") == 0;
 }
 
-static int read_session(const char *line, struct session *it)
+static int read_name(const char *word, char name[CARRIER_NAME])
 {
-    char mode[8], key[65], from[16], to[16];
-    unsigned long first;
-    int is_read;
-    memset(it, 0, sizeof *it);
-    is_read = sscanf(line, "%31[A-Za-z0-9_-] %u %d %7s %64s %lu %15s %15s", it->name, &it->shard,
-                     &it->etype, mode, key, &first, from, to) == 8;
-    if (is_read) {
-        it->first = (uint32_t)first;
-        is_read = first <= UINT32_MAX && (it->etype == 17 || it->etype == 18)
-                  && read_mode(mode, &it->mode) && read_key(key, it)
-                  && read_address(from, &it->from) && read_address(to, &it->to);
+    static const char letters[] = "abcdefghijklmnopqrstuvwxyzABCDEFGHIJKLMNOPQRSTUVWXYZ"
+                                  "0123456789-_";
+    size_t len = strlen(word);
+    if (len == 0 || len >= CARRIER_NAME || strspn(word, letters) != len)
+        return 0;
+    memcpy(name, word, len + 1);
+    return 1;
+}
+
+/* The words of a line, which has to end by a newline or the file's end. */
+static int split(char *line, char *words[WORDS])
+{
+    size_t len = strlen(line);
+    char *rest = NULL, *word;
+    int count = 0;
+    if (len == LINE - 1 && line[len - 1] != '\n')
+        return 0;
+    for (word = strtok_r(line, " \t\r\n", &rest); word != NULL; count++) {
+        if (count == WORDS)
+            return 0;
+        words[count] = word;
+        word = strtok_r(NULL, " \t\r\n", &rest);
     }
-    explicit_bzero(key, sizeof key);
-    return is_read;
+    return count == WORDS;
+}
+
+static int read_session(char *line, struct session *it)
+{
+    char *words[WORDS];
+    uint64_t shard, etype, first;
+    memset(it, 0, sizeof *it);
+    if (!split(line, words) || !read_number(words[1], 0, CARRIER_SHARDS - 1, &shard)
+        || !read_number(words[2], 17, 18, &etype)
+        || !read_number(words[5], 0, UINT32_MAX, &first))
+        return 0;
+    it->shard = (unsigned)shard;
+    it->etype = (int32_t)etype;
+    it->first = (uint32_t)first;
+    return read_name(words[0], it->name) && read_mode(words[3], &it->mode)
+           && read_key(words[4], it) && read_address(words[6], &it->from)
+           && read_address(words[7], &it->to);
 }
 
 /* Room for one more; the old block is overwritten, since it has keys. */
@@ -71,10 +112,12 @@ static int grow(struct list *list)
 
 static int read_lines(FILE *file, const char *path, struct list *list)
 {
-    char line[256];
+    char line[LINE];
     int is_fine = 1;
     while (is_fine && fgets(line, sizeof line, file) != NULL) {
         is_fine = grow(list) && read_session(line, &list->at[list->count++]);
+        if (is_fine)
+            list->at[list->count - 1].line = list->count;
         if (!is_fine)
             fprintf(stderr, "%s: line %zu isn't NAME SHARD ETYPE MODE KEY FIRST FROM TO\n", path,
                     list->count);
@@ -85,13 +128,77 @@ static int read_lines(FILE *file, const char *path, struct list *list)
     return is_fine && list->count > 0;
 }
 
+/* Only pointers are sorted: qsort keeps copies of what it moves, and sessions have keys. */
 static int by_name(const void *a, const void *b)
 {
-    return strcmp(((const struct session *)a)->name, ((const struct session *)b)->name);
+    const struct session *one = *(struct session *const *)a, *other = *(struct session *const *)b;
+    return strcmp(one->name, other->name);
+}
+
+static int by_key(const void *a, const void *b)
+{
+    const struct session *one = *(struct session *const *)a, *other = *(struct session *const *)b;
+    int order = memcmp(one->key, other->key, sizeof one->key);
+    return order != 0 ? order
+                      : (one->key_len > other->key_len) - (one->key_len < other->key_len);
+}
+
+/* Sorts them, and reports two that are the same by this order. */
+static int differ(struct session **sorted, size_t count, const char *path, const char *what,
+                  int (*order)(const void *, const void *))
+{
+    size_t i;
+    qsort(sorted, count, sizeof *sorted, order);
+    for (i = 1; i < count; i++) {
+        size_t one = sorted[i - 1]->line, other = sorted[i]->line;
+        if (order(&sorted[i - 1], &sorted[i]) != 0)
+            continue;
+        fprintf(stderr, "%s: line %zu has the %s of line %zu: give each session its own\n", path,
+                one > other ? one : other, what, one > other ? other : one);
+        return 0;
+    }
+    return 1;
+}
+
+/* Sorts the list by name, unless two have a name or a key in common. */
+static int sort(struct list *list, const char *path)
+{
+    struct session **sorted = calloc(list->count, sizeof *sorted);
+    struct session *moved = calloc(list->count, sizeof *moved);
+    size_t i;
+    int is_fine = sorted != NULL && moved != NULL;
+    for (i = 0; is_fine && i < list->count; i++)
+        sorted[i] = &list->at[i];
+    is_fine = is_fine && differ(sorted, list->count, path, "key", by_key)
+              && differ(sorted, list->count, path, "name", by_name);
+    for (i = 0; is_fine && i < list->count; i++)
+        moved[i] = *sorted[i];
+    free(sorted);
+    if (!is_fine) {
+        free(moved);
+        return 0;
+    }
+    forget_sessions(list->at, list->count);
+    list->at = moved;
+    return 1;
+}
+
+static int is_private(FILE *file, const char *path)
+{
+    struct stat is;
+    if (fstat(fileno(file), &is) != 0) {
+        perror(path);
+        return 0;
+    }
+    if ((is.st_mode & OTHERS) == 0)
+        return 1;
+    fprintf(stderr, "%s has keys, and others may use it: chmod 600 %s\n", path, path);
+    return 0;
 }
 
 struct session *read_sessions(const char *path, size_t *count)
 {
+    char buffer[BUFFER]; /* the file's, so that it can be overwritten: keys pass through it */
     struct list list = { NULL, 0, 0 };
     FILE *file = fopen(path, "r");
     int is_fine;
@@ -99,16 +206,16 @@ struct session *read_sessions(const char *path, size_t *count)
         perror(path);
         return NULL;
     }
-    setbuf(file, NULL); /* keys don't stay in a buffer */
-    is_fine = read_lines(file, path, &list);
-    fclose(file);
+    is_fine = setvbuf(file, buffer, _IOFBF, sizeof buffer) == 0 && is_private(file, path)
+              && read_lines(file, path, &list) && sort(&list, path);
+    if (fclose(file) != 0)
+        is_fine = 0;
+    explicit_bzero(buffer, sizeof buffer);
     *count = list.count;
-    if (!is_fine) {
-        forget_sessions(list.at, list.count);
-        return NULL;
-    }
-    qsort(list.at, list.count, sizeof *list.at, by_name);
-    return list.at;
+    if (is_fine)
+        return list.at;
+    forget_sessions(list.at, list.count);
+    return NULL;
 }
 
 size_t find_session(const struct session *sessions, size_t count, const char *name)
@@ -134,12 +241,17 @@ void forget_sessions(struct session *sessions, size_t count)
     free(sessions);
 }
 
+void answer_text(enum krbrelay_answer answer, char text[KRBRELAY_TEXT_SIZE])
+{
+    size_t size;
+    if (krbrelay_answer_text(answer, text, KRBRELAY_TEXT_SIZE, &size) != KRBRELAY_OK)
+        text[0] = 0;
+}
+
 void report_answer(const char *what, const char *name, uint64_t number, enum krbrelay_answer answer)
 {
-    char text[KRBRELAY_TEXT_SIZE] = "?";
-    size_t size;
-    if (krbrelay_answer_text(answer, text, sizeof text, &size) != KRBRELAY_OK)
-        text[0] = 0;
+    char text[KRBRELAY_TEXT_SIZE];
+    answer_text(answer, text);
     fprintf(stderr, "session %s, number %llu: %s: %d: %s\n", name, (unsigned long long)number, what,
             (int)answer, text);
 }

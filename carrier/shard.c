@@ -6,11 +6,10 @@
 #include <stdlib.h>
 #include <string.h>
 
-enum { REPORTED = 1000 }; /* of so many refusals one is reported */
-
 /* ---- A frame that is refused */
 
-/* Opens the frame at any number, and tells the number; -1 if it doesn't open. */
+/* Opens the frame at any number, time and addresses, and tells the number; -1 if it doesn't open.
+ */
 static int look(struct shard *s, size_t place, const struct carried *it, uint64_t *number)
 {
     const struct session *of = &s->sessions[place];
@@ -26,49 +25,84 @@ static int look(struct shard *s, size_t place, const struct carried *it, uint64_
     if (krbrelay_opener_open(opener, it->frame, it->len, &any, &now, s->bytes, KRBRELAY_FRAME_LIMIT,
                              &size, &carried) != KRBRELAY_OK)
         return -1;
+    s->receivings[place].has_opened = 1;
     *number = carried.number;
     return carried.has_number ? 0 : -1;
 }
 
-static void report_early(struct shard *s, const struct carried *it, uint64_t number,
-                         uint64_t demanded)
+/* The session keeps its place: what it misses stands after it. */
+static void miss(struct shard *s, size_t place, enum missed missed)
 {
-    if (s->counts.early++ % REPORTED == 0)
-        fprintf(stderr, "session %s: frame %llu at offset %llu of shard %u comes early, %llu is"
-                        " demanded: passed by, it has to come again\n", it->session,
-                (unsigned long long)number, (unsigned long long)it->offset, s->number,
-                (unsigned long long)demanded);
+    struct demand *now = &s->receivings[place].now;
+    if (now->missed < missed)
+        now->missed = missed;
+    shard_stands(s, place);
+    shard_note_changed(s, place);
 }
 
-static void report_refused(struct shard *s, const struct carried *it, uint64_t demanded,
-                           enum krbrelay_answer answer)
+static void take_early(struct shard *s, size_t place, const struct carried *it, uint64_t number,
+                       uint64_t demanded)
 {
+    s->counts.early++;
+    notice(&s->notices.early, "session %s: frame %llu at offset %llu of shard %u comes early,"
+                              " %llu is demanded: it has to come again", it->session,
+           (unsigned long long)number, (unsigned long long)it->offset, s->number,
+           (unsigned long long)demanded);
+    miss(s, place, MISSED_EARLY);
+}
+
+/* A frame that doesn't open under a key that opened others is nobody's. */
+static void take_refused(struct shard *s, size_t place, const struct carried *it,
+                         enum krbrelay_answer answer, int is_nobodys)
+{
+    char text[KRBRELAY_TEXT_SIZE];
+    s->counts.refused++;
+    answer_text(answer, text);
+    notice(&s->notices.refused, "session %s: a frame at offset %llu of shard %u is refused and"
+                                " passed by: %d: %s", it->session, (unsigned long long)it->offset,
+           s->number, (int)answer, text);
     if (answer == KRBRELAY_SKEW)
-        fprintf(stderr, "session %s stands still until a frame comes in time: are the clocks right,"
-                        " and is --skew above the time that the carrier keeps frames?\n",
-                it->session);
-    if (s->counts.refused++ % REPORTED == 0)
-        report_answer("a frame is refused and passed by", it->session, demanded, answer);
+        notice(&s->notices.skew, "session %s stands still until a frame comes in time: are the"
+                                 " clocks right, and is --skew above the time that the carrier"
+                                 " keeps frames?", it->session);
+    if (!is_nobodys)
+        miss(s, place, MISSED_REFUSED);
 }
 
-/* Counts why a frame was refused. Out of memory and the like is no refusal: -1. */
-static int count_refusal(struct shard *s, size_t place, const struct carried *it,
-                         uint64_t demanded, enum krbrelay_answer answer)
+/* Decides what a refused frame is. Out of memory and the like is no refusal: -1. */
+static int take_refusal(struct shard *s, size_t place, const struct carried *it, uint64_t demanded,
+                        enum krbrelay_answer answer)
 {
-    uint64_t number;
+    uint64_t number = 0;
+    int is_open;
     if (answer >= KRBRELAY_MEMORY || answer < KRBRELAY_ETYPE_NOSUPP) {
         report_answer("not opened", it->session, demanded, answer);
         return -1;
     }
-    if (answer == KRBRELAY_AFTER_CLOSE)
+    is_open = answer != KRBRELAY_AFTER_CLOSE && look(s, place, it, &number) == 0;
+    if (answer == KRBRELAY_AFTER_CLOSE || (is_open && number < demanded))
         s->counts.repeats++;
-    else if (answer != KRBRELAY_BADORDER || look(s, place, it, &number) != 0)
-        report_refused(s, it, demanded, answer);
-    else if (number < demanded)
-        s->counts.repeats++;
+    else if (is_open && answer == KRBRELAY_BADORDER)
+        take_early(s, place, it, number, demanded);
     else
-        report_early(s, it, number, demanded);
+        take_refused(s, place, it, answer, !is_open && s->receivings[place].has_opened);
     return 0;
+}
+
+/* A frame under a name that is no session's of this shard here. */
+static int take_unknown(struct shard *s, size_t place, const struct carried *it)
+{
+    s->counts.refused++;
+    if (place < s->count) {
+        notice(&s->notices.unknown, "session %s: a frame at offset %llu of shard %u is passed by:"
+                                    " it belongs to shard %u", it->session,
+               (unsigned long long)it->offset, s->number, s->sessions[place].shard);
+        return 0;
+    }
+    notice(&s->notices.unknown, "session %.31s has no line here: its frame at offset %llu of shard"
+                                " %u is read again once it has one", it->session,
+           (unsigned long long)it->offset, s->number);
+    return store_miss(s->store, it->session);
 }
 
 /* ---- A frame that is accepted */
@@ -92,11 +126,36 @@ static int take_effects(struct shard *s, const char *name, uint64_t number, uint
     return answer;
 }
 
-static void note_changed(struct shard *s, size_t place)
+/* All frames of the session up to this one are settled, unless one was refused before. */
+static void move_place(struct shard *s, size_t place, uint64_t offset)
 {
-    if (!s->receivings[place].is_changed)
-        s->changed[s->changed_count++] = place;
-    s->receivings[place].is_changed = 1;
+    struct receiving *it = &s->receivings[place];
+    it->has_opened = 1;
+    it->tries = 0;
+    if (it->now.missed != MISSED_REFUSED) {
+        it->now.missed = MISSED_NOTHING;
+        it->now.at = offset;
+    }
+    shard_note_changed(s, place);
+}
+
+/* The session's receiver, at what is stored, unless it is made. */
+static int make_receiver(struct shard *s, size_t place)
+{
+    const struct session *of = &s->sessions[place];
+    struct receiving *it = &s->receivings[place];
+    const struct krbrelay_expect expect = { .mode = of->mode, .sender = of->from,
+                                            .receiver = of->to, .require_time = 1,
+                                            .skew = s->options->skew };
+    enum krbrelay_answer answer;
+    if (it->is_made)
+        return 0;
+    answer = krbrelay_receiver_new(&it->receiver, of->etype, of->key, of->key_len, &expect,
+                                   it->stored.next, it->stored.closed);
+    it->is_made = answer == KRBRELAY_OK;
+    if (!it->is_made)
+        report_answer("no receiver", of->name, it->stored.next, answer);
+    return it->is_made ? 0 : -1;
 }
 
 /* Takes one frame, within a transaction. */
@@ -105,46 +164,53 @@ static int take(struct shard *s, const struct carried *it)
     size_t place = find_session(s->sessions, s->count, it->session), size = 0;
     struct krbrelay_moment now = read_clock();
     struct krbrelay_receiver *receiver;
-    struct demand before = { 0, 0 };
+    uint64_t began = nanoseconds(), demanded = 0;
     enum krbrelay_answer answer;
-    uint64_t began = nanoseconds();
-    uint32_t kind = 0;
+    uint32_t kind = 0, closed = 0;
     int done;
-    if (place == s->count || s->sessions[place].shard != s->number) {
-        s->counts.refused++;
-        return 0;
-    }
+    if (place == s->count || s->sessions[place].shard != s->number)
+        return take_unknown(s, place, it);
     receiver = &s->receivings[place].receiver;
-    answer = krbrelay_receiver_state(receiver, &before.next, &before.closed);
+    if (make_receiver(s, place) != 0)
+        return -1;
+    answer = krbrelay_receiver_state(receiver, &demanded, &closed);
     if (answer == KRBRELAY_OK)
         answer = krbrelay_receiver_take(receiver, it->frame, it->len, &now, &kind, s->bytes,
                                         KRBRELAY_FRAME_LIMIT, &size);
+    if (answer != KRBRELAY_OK) {
+        done = take_refusal(s, place, it, demanded, answer);
+        s->counts.opening += nanoseconds() - began;
+        return done;
+    }
     s->counts.opening += nanoseconds() - began;
-    if (answer != KRBRELAY_OK)
-        return count_refusal(s, place, it, before.next, answer);
-    note_changed(s, place);
+    move_place(s, place, it->offset);
     s->counts.accepted++;
     s->open -= kind == KRBRELAY_CLOSE;
     began = nanoseconds();
-    done = take_effects(s, it->session, before.next, kind, size);
+    done = take_effects(s, it->session, demanded, kind, size);
     s->counts.storing += nanoseconds() - began;
     return done;
 }
 
 /* ---- The frames of one transaction */
 
-/* Moves the number of each session that this transaction changed. */
+/* Moves each session that this transaction changed. */
 static int advance_all(struct shard *s)
 {
     size_t i;
     for (i = 0; i < s->changed_count; i++) {
         size_t place = s->changed[i];
         struct receiving *it = &s->receivings[place];
-        struct demand now;
-        if (krbrelay_receiver_state(&it->receiver, &now.next, &now.closed) != KRBRELAY_OK
-            || store_advance(s->store, s->sessions[place].name, it->stored.next, &now) != 0)
+        struct demand *now = &it->now;
+        if (it->is_made
+            && krbrelay_receiver_state(&it->receiver, &now->next, &now->closed) != KRBRELAY_OK)
             return -1;
-        it->stored = now;
+        if (now->closed)
+            now->missed = MISSED_NOTHING;
+        if (store_advance(s->store, s->sessions[place].name, &it->stored, now) != 0)
+            return -1;
+        now->is_stored = 1;
+        it->stored = *now;
         it->is_changed = 0;
     }
     s->changed_count = 0;
@@ -154,8 +220,9 @@ static int advance_all(struct shard *s)
 /* Answers as store_commit. */
 static int take_all(struct shard *s, int count)
 {
-    uint64_t to = s->frames[count - 1].offset, began = nanoseconds();
-    int i, answer = store_begin(s->store, s->number, s->offset, to);
+    const struct reached to = { s->now.incarnation, s->frames[count - 1].offset };
+    uint64_t began = nanoseconds();
+    int i, answer = store_begin(s->store, s->number, &s->stored, &to);
     s->counts.storing += nanoseconds() - began;
     for (i = 0; i < count && answer == 0; i++)
         answer = take(s, &s->frames[i]);
@@ -169,53 +236,152 @@ static int take_all(struct shard *s, int count)
     s->counts.storing += nanoseconds() - began;
     s->counts.commits += answer == 0;
     if (answer == 0)
-        s->offset = to;
+        s->stored = s->now = to;
     return answer;
 }
 
-/* Makes a session what is stored of it. */
-static int load_session(struct shard *s, size_t place)
+/* ---- Loading */
+
+/* What this receiver makes of a session's row. A session that the store doesn't know, or that was
+ * in another shard, has no place here yet: all of the shard may have to be read for it. */
+static void place_session(struct shard *s, size_t place)
 {
-    const struct session *of = &s->sessions[place];
     struct receiving *it = &s->receivings[place];
-    const struct krbrelay_expect expect = { .mode = of->mode, .sender = of->from,
-                                            .receiver = of->to, .require_time = 1,
-                                            .skew = s->options->skew };
-    enum krbrelay_answer answer;
-    it->stored.next = of->first;
-    it->is_changed = 0;
-    if (store_session(s->store, of->name, &it->stored) != 0)
-        return -1;
-    answer = krbrelay_receiver_new(&it->receiver, of->etype, of->key, of->key_len, &expect,
-                                   it->stored.next, it->stored.closed);
-    if (answer == KRBRELAY_OK)
-        return 0;
-    report_answer("no receiver", of->name, it->stored.next, answer);
-    return -1;
+    struct demand *now = &it->now;
+    uint64_t before = now->next;
+    *now = it->stored;
+    if (now->shard < 0)
+        now->shard = (int32_t)s->number;
+    if (!now->is_stored || now->shard != (int32_t)s->number) {
+        now->at = 0;
+        now->shard = (int32_t)s->number;
+        now->missed = s->stored.offset > 0 && !now->closed ? MISSED_REFUSED : MISSED_NOTHING;
+        shard_note_changed(s, place);
+    }
+    if (now->next != before)
+        it->tries = 0;
+    if (now->missed != MISSED_NOTHING)
+        shard_stands(s, place);
 }
 
-/* Makes all what the store has, and begins there. */
-static int load(struct shard *s)
+/* Notes one session of the shard as the store has it. */
+static int note_stored(void *given, const char *name, const struct demand *demand)
+{
+    struct shard *s = given;
+    size_t place = find_session(s->sessions, s->count, name);
+    if (place < s->count && s->sessions[place].shard == s->number)
+        s->receivings[place].stored = *demand;
+    return 0;
+}
+
+/* Makes a session what is stored of it. One that isn't stored as one of this shard may be as
+ * another's.
+ * */
+static int load_session(struct shard *s, size_t place)
+{
+    struct receiving *it = &s->receivings[place];
+    if (!it->stored.is_stored && store_session(s->store, s->sessions[place].name, &it->stored) != 0)
+        return -1;
+    place_session(s, place);
+    s->open += it->stored.closed == 0;
+    return 0;
+}
+
+/* What is known of the sessions before the store is asked. */
+static void forget_stored(struct shard *s)
 {
     size_t i;
     s->open = s->changed_count = 0;
-    if (store_offset(s->store, s->number, &s->offset) != 0)
-        return -1;
     for (i = 0; i < s->count; i++) {
-        if (s->sessions[i].shard != s->number)
-            continue;
-        if (load_session(s, i) != 0)
-            return -1;
-        s->open += s->receivings[i].stored.closed == 0;
+        s->receivings[i].is_made = s->receivings[i].is_changed = 0;
+        s->receivings[i].stored = (struct demand){ .next = s->sessions[i].first,
+                                                   .shard = (int32_t)s->number };
     }
-    carrier_seek(s->carrier, s->number, s->offset);
+}
+
+/* Makes all what the store has: first how far the shard was read, and then the sessions (store.h
+ * says why in this order). */
+static int load_stored(struct shard *s)
+{
+    size_t i;
+    forget_stored(s);
+    if (store_reached(s->store, s->number, &s->stored) != 0)
+        return -1;
+    if (store_sessions(s->store, s->number, note_stored, s) != 0)
+        return -1;
+    for (i = 0; i < s->count; i++)
+        if (s->sessions[i].shard == s->number && load_session(s, i) != 0)
+            return -1;
     return 0;
+}
+
+/* The shard is another list than the one that was read: all places are at its beginning. */
+static void begin_anew(struct shard *s)
+{
+    size_t i;
+    fprintf(stderr, "shard %u was made anew: it is read from its beginning\n", s->number);
+    s->now.offset = 0;
+    for (i = 0; i < s->count; i++) {
+        struct demand *now = &s->receivings[i].now;
+        if (s->sessions[i].shard != s->number || now->closed)
+            continue;
+        now->at = 0;
+        now->missed = MISSED_NOTHING;
+        shard_note_changed(s, i);
+    }
+}
+
+/* Makes all what store and carrier have: 0, 1 if the carrier doesn't answer or has no such shard
+ * yet, -1 after a fault of the store. */
+static int load(struct shard *s)
+{
+    uint64_t incarnation = 0;
+    if (s->store == NULL && (s->store = store_open(s->options->store, s->number)) == NULL)
+        return -1;
+    if (load_stored(s) != 0)
+        return -1;
+    if (carrier_incarnation(s->carrier, s->number, &incarnation) != 0 || incarnation == 0)
+        return 1;
+    s->now = (struct reached){ incarnation, s->stored.offset };
+    if (s->stored.incarnation != 0 && s->stored.incarnation != incarnation)
+        begin_anew(s);
+    carrier_seek(s->carrier, s->number, s->now.offset);
+    shard_go_back(s, !s->has_begun);
+    s->has_begun = s->is_loaded = 1;
+    return 0;
+}
+
+static void close_store(struct shard *s)
+{
+    if (s->store != NULL)
+        store_close(s->store);
+    s->store = NULL;
+    s->is_loaded = 0;
+}
+
+/* Loads what isn't loaded: 1 if that was done, 0 if the carrier isn't ready, -1 after a fault of
+ * the store. */
+static int be_loaded(struct shard *s, int milliseconds)
+{
+    int answer = s->is_loaded ? 0 : load(s);
+    if (answer == 1)
+        pause_milliseconds((unsigned)milliseconds);
+    else if (answer < 0)
+        close_store(s);
+    return answer == 0 ? 1 : answer > 0 ? 0 : -1;
 }
 
 int shard_step(struct shard *s, int milliseconds)
 {
-    uint64_t began = nanoseconds();
-    int answer, count = carrier_fetch(s->carrier, s->frames, s->options->batch, milliseconds);
+    uint64_t began;
+    int count, answer = be_loaded(s, milliseconds);
+    if (answer != 1)
+        return answer;
+    shard_go_back(s, 0);
+    began = nanoseconds();
+    count = carrier_fetch(s->carrier, s->frames, s->options->batch, milliseconds);
+    if (count == CARRIER_CHANGED)
+        s->is_loaded = 0;
     if (count <= 0)
         return 0;
     s->counts.fetching += nanoseconds() - began;
@@ -223,9 +389,12 @@ int shard_step(struct shard *s, int milliseconds)
     if (answer == 0)
         return count;
     /* Another receiver was faster, or a fault: continue at what is stored, after a drawn while. */
+    s->is_loaded = 0;
     s->counts.fenced += answer == 1;
+    if (answer < 0)
+        close_store(s);
     pause_milliseconds(50 + (unsigned)rand() % 200);
-    return load(s) == 0 ? count : -1;
+    return answer < 0 ? -1 : count;
 }
 
 /* ---- */
@@ -238,21 +407,12 @@ int shard_start(struct shard *s)
     s->carrier = carrier_open(s->options->carrier, s->options->replicas);
     s->receivings = calloc(s->count, sizeof *s->receivings);
     s->frames = calloc(s->options->batch, sizeof *s->frames);
-    s->changed = calloc(s->options->batch, sizeof *s->changed);
+    s->changed = calloc(s->count, sizeof *s->changed);
+    s->standing = calloc(s->count, sizeof *s->standing);
     s->bytes = malloc(KRBRELAY_FRAME_LIMIT);
-    if (!s->carrier || !s->receivings || !s->frames || !s->changed || !s->bytes)
-        return -1;
-    return load(s);
-}
-
-void shard_report(const struct shard *s, double seconds)
-{
-    const struct shard_counts *c = &s->counts;
-    printf("shard %u: %lu texts of %lu frames; repeats %lu, early %lu, refused %lu; %lu commits,"
-           " %lu fenced; %llu bytes in %.3f s: opening %.3f, carrier %.3f, store %.3f\n", s->number,
-           c->texts, c->accepted, c->repeats, c->early, c->refused, c->commits, c->fenced, c->bytes,
-           seconds, (double)c->opening / 1e9, (double)c->fetching / 1e9, (double)c->storing / 1e9);
-    fflush(stdout);
+    s->open = 1; /* until it is loaded */
+    return s->carrier && s->receivings && s->frames && s->changed && s->standing && s->bytes ? 0
+                                                                                             : -1;
 }
 
 void shard_stop(struct shard *s)
@@ -262,8 +422,7 @@ void shard_stop(struct shard *s)
         krbrelay_receiver_free(&s->receivings[i].receiver);
         krbrelay_opener_free(&s->receivings[i].opener);
     }
-    if (s->store != NULL)
-        store_close(s->store);
+    close_store(s);
     if (s->carrier != NULL)
         carrier_close(s->carrier);
     if (s->bytes != NULL)
@@ -272,4 +431,5 @@ void shard_stop(struct shard *s)
     free(s->receivings);
     free(s->frames);
     free(s->changed);
+    free(s->standing);
 }

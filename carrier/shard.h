@@ -1,15 +1,33 @@
 /* What a receiver does for one shard: it takes what the carrier has after the stored offset, some
  * frames at a time, and passes each to the receiver of its session, which libkrbrelay keeps. One
- * transaction has the effects of their texts, the numbers that the sessions demand next, and the
- * new offset. The offset is the acknowledgement: whoever continues begins after it. Nothing is
- * acknowledged singly.
+ * transaction has the effects of their texts, what the sessions demand next, and the new offset.
+ * The offset is the acknowledgement: whoever continues begins after it. Nothing is acknowledged
+ * singly.
  *
- * All that is refused is passed by: a repeat has taken its effect, and a frame that came early
- * comes again after those before it (progress.h). */
+ * What is refused is passed by, but not forgotten:
+ *  - A repeat has taken its effect, and what doesn't open under a key that has opened other frames
+ *    is
+ *    nobody's: that is final.
+ *  - A frame that came early comes again after those before it (progress.h). If the session still
+ *    stands after some seconds, the carrier's offsets aren't what they were, and the shard is read
+ *    again from the session's last accepted frame on.
+ *  - A frame that is refused for a reason that may be this receiver's own (its clock, the skew,
+ *    the
+ *    key, addresses, no line for the session) isn't settled. The session keeps the place before it,
+ *    and the shard is read again from there.
+ * What was read again and refused again waits for longer each time, and reaches further back. A
+ * receiver that begins, perhaps with other options, goes back at once to the least place of a
+ * session that stands. All that takes effect meanwhile are texts whose turn it is: repeats are
+ * refused.
+ *
+ * Each transaction compares the shard, and each session of which a frame was accepted or wasn't
+ * settled. */
 #ifndef SHARD_H
 #define SHARD_H
 
 #include "carrier.h"
+#include "notice.h"
+#include "service.h"
 #include "sessions.h"
 #include "store.h"
 
@@ -23,44 +41,71 @@ struct shard_options {
 
 /* One session of the shard. */
 struct receiving {
-    struct krbrelay_receiver receiver;
+    struct krbrelay_receiver receiver; /* made with the first frame after loading */
     struct krbrelay_opener opener; /* looks at what was refused; made when it is first needed */
-    struct demand stored;          /* what the store has */
+    struct demand stored, now;     /* what the store has, and what it shall have */
+    int is_made;                   /* the receiver is what is stored, and what followed */
     int is_changed;
+    int has_opened;                /* a frame opened: the key is right */
+    int is_standing;               /* it is in the list of those that stand: */
+    uint64_t since;                /* since this moment, */
+    unsigned tries;                /* and so often the shard was read again for it */
 };
 
 struct shard_counts {
-    unsigned long texts, accepted, repeats, early, refused, fenced, commits;
+    unsigned long texts, accepted, repeats, early, refused, fenced, commits, back;
     unsigned long long bytes;
     uint64_t opening, fetching, storing; /* nanoseconds */
 };
+
+struct shard_notices { struct notice early, skew, refused, unknown, back; };
 
 struct shard {
     const struct shard_options *options;
     const struct session *sessions;
     size_t count;
     unsigned number;
-    struct store *store;
+    struct store *store;           /* NULL: it has to be opened (again) */
     struct carrier *carrier;
     struct receiving *receivings;  /* one for each session, also of other shards */
     struct carried *frames;
-    size_t *changed, changed_count; /* the sessions whose numbers this transaction moves */
-    uint64_t offset;
+    size_t *changed, changed_count;   /* the sessions that this transaction moves */
+    size_t *standing, standing_count; /* the sessions that stand, or did a moment ago */
+    struct reached stored, now;    /* how far the store says that it was read, and where it is */
+    int is_loaded, has_begun;
     size_t open;                   /* so many sessions aren't closed */
     uint8_t *bytes;                /* of one record */
     struct shard_counts counts;
+    struct shard_notices notices;
 };
 
-/* Opens store and carrier, and begins at what is stored. 0, or -1 after a fault. */
+/* Opens store and carrier. 0, or -1 after a fault. */
 int shard_start(struct shard *shard);
 
 /* Fetches frames, and takes them in one transaction. Answers how many there were, or -1 after a
- * fault that doesn't pass. */
+ * fault of the store, which the next step opens again. */
 int shard_step(struct shard *shard, int milliseconds);
 
-/* Prints what was counted. */
-void shard_report(const struct shard *shard, double seconds);
-
 void shard_stop(struct shard *shard);
+
+/* ---- shard_report.c: prints what was counted; shows it as a part of service.h. */
+
+extern const struct metric shard_metrics[], shard_stands_metric;
+extern const unsigned shard_metrics_count;
+
+void shard_report(const struct shard *shard, double seconds);
+void shard_show(struct shard *shard, unsigned part);
+
+/* ---- shard_back.c: how a shard is read again. */
+
+/* This session stands at its place. */
+void shard_stands(struct shard *shard, size_t place);
+
+/* Goes back if a session has stood for long enough, or, where all_at_once is 1, to the least
+ * place. */
+void shard_go_back(struct shard *shard, int all_at_once);
+
+/* The session's row is to be compared and moved. */
+void shard_note_changed(struct shard *shard, size_t place);
 
 #endif

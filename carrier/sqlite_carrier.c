@@ -1,4 +1,5 @@
-/* A carrier of one SQLite file, which needs no server: for one machine, and to begin with. */
+/* A carrier of one SQLite file, which needs no server: for one machine, and to begin with. All its
+ * shards have one incarnation, which is drawn when the file is made. */
 #include "carrier.h"
 #include "database.h"
 
@@ -7,12 +8,13 @@
 #include <string.h>
 
 enum { PENDING = 4096, POLL = 5 };
-enum { INSERT, SELECT, STATEMENTS };
+enum { INSERT, SELECT, SELECT_LAST, SELECT_END, COUNT, STATEMENTS };
 
 struct sqlite_carrier {
     struct carrier base;
     sqlite3 *db;
     sqlite3_stmt *statements[STATEMENTS];
+    uint64_t incarnation;
     /* What was published since the last confirmations, in one transaction. */
     struct confirmed pending[PENDING];
     size_t stored, confirmed; /* so many of them are pending, so many of these are confirmed */
@@ -20,6 +22,7 @@ struct sqlite_carrier {
     /* Where the reader stands, and the frames of its last fetch. */
     unsigned shard;
     uint64_t after;
+    int is_checked; /* that the shard doesn't end before */
     uint8_t *frames;
     size_t room;
 };
@@ -27,13 +30,29 @@ struct sqlite_carrier {
 static const char tables[] =
     "CREATE TABLE IF NOT EXISTS carried (offset INTEGER PRIMARY KEY AUTOINCREMENT,"
     " shard INTEGER NOT NULL, session TEXT NOT NULL, frame BLOB NOT NULL);"
-    "CREATE INDEX IF NOT EXISTS of_shard ON carried (shard, offset)";
+    "CREATE INDEX IF NOT EXISTS of_shard ON carried (shard, offset);"
+    "CREATE TABLE IF NOT EXISTS incarnation (one INTEGER PRIMARY KEY CHECK (one = 1),"
+    " number INTEGER NOT NULL);"
+    "INSERT OR IGNORE INTO incarnation VALUES (1, 1 + (random() & 9007199254740991))";
 
 static const char *const sql[STATEMENTS] = {
     [INSERT] = "INSERT INTO carried (shard, session, frame) VALUES (?, ?, ?)",
     [SELECT] = "SELECT offset, session, frame FROM carried WHERE shard = ? AND offset > ?"
                " ORDER BY offset LIMIT ?",
+    [SELECT_LAST] = "SELECT offset, session, frame FROM (SELECT * FROM carried WHERE shard = ?"
+                    " ORDER BY offset DESC LIMIT 65536) WHERE session = ? LIMIT 1",
+    [COUNT] = "SELECT count(*) FROM (SELECT 1 FROM carried WHERE shard = ? AND offset > ?"
+              " LIMIT 100000)",
+    [SELECT_END] = "SELECT coalesce(max(offset), 0) FROM carried WHERE shard = ?",
 };
+
+static int incarnation(struct carrier *base, unsigned shard, uint64_t *incarnation)
+{
+    struct sqlite_carrier *c = (struct sqlite_carrier *)base;
+    (void)shard;
+    *incarnation = c->incarnation;
+    return 0;
+}
 
 /* ---- Publishing */
 
@@ -95,13 +114,34 @@ static void seek(struct carrier *base, unsigned shard, uint64_t offset)
     struct sqlite_carrier *c = (struct sqlite_carrier *)base;
     c->shard = shard;
     c->after = offset;
+    c->is_checked = 0;
+}
+
+/* A shard that ends before the offset has lost what it had confirmed, as a file that was restored
+ * from a copy. What it has now is read from the beginning then: repeats are refused. */
+static int check_end(struct sqlite_carrier *c)
+{
+    sqlite3_stmt *select = c->statements[SELECT_END];
+    uint64_t end;
+    sqlite3_bind_int64(select, 1, c->shard);
+    if (step_row(select) != 1)
+        return -1;
+    end = (uint64_t)sqlite3_column_int64(select, 0);
+    sqlite3_reset(select);
+    if (end < c->after) {
+        fprintf(stderr, "shard %u ends at %llu, and was read up to %llu: it lost frames, and is"
+                        " read again from the beginning\n", c->shard, (unsigned long long)end,
+                (unsigned long long)c->after);
+        c->after = 0;
+    }
+    c->is_checked = 1;
+    return 0;
 }
 
 /* Copies the frame of a row after the first `used` bytes; -1 where there is no room. A fetch's
  * first frame has room unless memory is out. */
-static int copy_row(struct sqlite_carrier *c, struct carried *it, size_t used)
+static int copy_row(struct sqlite_carrier *c, sqlite3_stmt *select, struct carried *it, size_t used)
 {
-    sqlite3_stmt *select = c->statements[SELECT];
     const void *frame = sqlite3_column_blob(select, 2);
     const unsigned char *session = sqlite3_column_text(select, 1);
     it->len = (size_t)sqlite3_column_bytes(select, 2);
@@ -130,7 +170,7 @@ static int fetch_now(struct sqlite_carrier *c, struct carried *list, size_t limi
     sqlite3_bind_int64(select, 2, (sqlite3_int64)c->after);
     sqlite3_bind_int64(select, 3, (sqlite3_int64)limit);
     while ((size_t)count < limit && (row = step_row(select)) == 1) {
-        if (copy_row(c, &list[count], used) != 0)
+        if (copy_row(c, select, &list[count], used) != 0)
             break; /* the rest comes with the next fetch */
         used += list[count++].len;
     }
@@ -143,13 +183,44 @@ static int fetch_now(struct sqlite_carrier *c, struct carried *list, size_t limi
 static int fetch(struct carrier *base, struct carried *list, size_t room, int milliseconds)
 {
     struct sqlite_carrier *c = (struct sqlite_carrier *)base;
-    int count = fetch_now(c, list, room);
+    int count;
+    if (!c->is_checked && check_end(c) != 0)
+        return -1;
+    count = fetch_now(c, list, room);
     while (count == 0 && milliseconds > 0) {
         sqlite3_sleep(POLL);
         milliseconds -= POLL;
         count = fetch_now(c, list, room);
     }
     return count;
+}
+
+static int last(struct carrier *base, unsigned shard, const char *session, struct carried *last)
+{
+    struct sqlite_carrier *c = (struct sqlite_carrier *)base;
+    sqlite3_stmt *select = c->statements[SELECT_LAST];
+    int row;
+    sqlite3_bind_int64(select, 1, shard);
+    sqlite3_bind_text(select, 2, session, -1, SQLITE_STATIC);
+    row = step_row(select);
+    if (row == 1 && copy_row(c, select, last, 0) != 0)
+        row = -1;
+    sqlite3_reset(select);
+    return row;
+}
+
+static int behind(struct carrier *base, uint64_t *frames)
+{
+    struct sqlite_carrier *c = (struct sqlite_carrier *)base;
+    sqlite3_stmt *count = c->statements[COUNT];
+    int row;
+    sqlite3_bind_int64(count, 1, c->shard);
+    sqlite3_bind_int64(count, 2, (sqlite3_int64)c->after);
+    row = step_row(count);
+    if (row == 1)
+        *frames = (uint64_t)sqlite3_column_int64(count, 0);
+    sqlite3_reset(count);
+    return row == 1 ? 0 : -1;
 }
 
 /* ---- */
@@ -165,21 +236,37 @@ static void close_it(struct carrier *base)
     free(c);
 }
 
+static int open_it(struct sqlite_carrier *c, const char *path)
+{
+    sqlite3_stmt *select;
+    c->room = 1 << 20;
+    c->frames = malloc(c->room);
+    c->db = open_database(path, tables);
+    if (c->frames == NULL || c->db == NULL
+        || prepare_all(c->db, c->statements, sql, STATEMENTS) != 0)
+        return -1;
+    select = prepare(c->db, "SELECT number FROM incarnation");
+    if (select != NULL && step_row(select) == 1)
+        c->incarnation = (uint64_t)sqlite3_column_int64(select, 0);
+    sqlite3_finalize(select);
+    return c->incarnation > 0 ? 0 : -1;
+}
+
 struct carrier *sqlite_carrier_open(const char *path)
 {
     struct sqlite_carrier *c = calloc(1, sizeof *c);
     if (c == NULL)
         return NULL;
+    c->base.incarnation = incarnation;
+    c->base.make = incarnation;
+    c->base.last = last;
     c->base.publish = publish;
     c->base.confirmed = confirmed;
     c->base.seek = seek;
     c->base.fetch = fetch;
+    c->base.behind = behind;
     c->base.close = close_it;
-    c->room = 1 << 20;
-    c->frames = malloc(c->room);
-    c->db = open_database(path, tables);
-    if (c->frames != NULL && c->db != NULL
-        && prepare_all(c->db, c->statements, sql, STATEMENTS) == 0)
+    if (open_it(c, path) == 0)
         return &c->base;
     close_it(&c->base);
     return NULL;

@@ -7,7 +7,10 @@
 #include <stdlib.h>
 #include <string.h>
 
-enum { SELECT_OFFSET, SELECT_SESSION, MOVE_OFFSET, MOVE_SESSION, STATEMENTS };
+enum {
+    SELECT_REACHED, SELECT_SESSION, SELECT_SESSIONS, MOVE_SHARD, ADD_SESSION, MOVE_SESSION,
+    MISS_SESSION, STATEMENTS
+};
 enum { EFFECTS = 16 }; /* the most statements of effects */
 
 struct sqlite_store {
@@ -16,7 +19,7 @@ struct sqlite_store {
     sqlite3_stmt *statements[STATEMENTS];
     const char *effects[EFFECTS]; /* the statements of effects, and what they are prepared as */
     sqlite3_stmt *prepared[EFFECTS];
-    int is_fenced;                /* a number or an offset of this transaction stood elsewhere */
+    int is_fenced;                /* something that this transaction moves stood elsewhere */
 };
 
 static const char tables[] =
@@ -24,28 +27,52 @@ static const char tables[] =
     "CREATE TABLE IF NOT EXISTS session (name TEXT PRIMARY KEY, next INTEGER NOT NULL,"
     " closed INTEGER NOT NULL) WITHOUT ROWID;";
 
-/* A row is inserted if there is none, and moved if it stands where it is said; else none changes.
- * */
-static const char *const own_sql[STATEMENTS] = {
-    [SELECT_OFFSET] = "SELECT offset FROM shard WHERE shard = ?",
-    [SELECT_SESSION] = "SELECT next, closed FROM session WHERE name = ?",
-    [MOVE_OFFSET] = ("INSERT INTO shard SELECT ?1, ?3"
-                     " WHERE ?2 = 0 OR ?1 IN (SELECT shard FROM shard)"
-                     " ON CONFLICT (shard) DO UPDATE SET offset = ?3 WHERE offset = ?2"),
-    [MOVE_SESSION] = ("INSERT INTO session VALUES (?1, ?3, ?4) ON CONFLICT (name)"
-                      " DO UPDATE SET next = ?3, closed = ?4 WHERE next = ?2"),
+static const char *const columns[][2] = {
+    { "shard", "incarnation INTEGER NOT NULL DEFAULT 0" },
+    { "session", "missed INTEGER NOT NULL DEFAULT 0" },
+    { "session", "at INTEGER NOT NULL DEFAULT 0" },
+    { "session", "shard INTEGER NOT NULL DEFAULT -1" },
 };
 
-static int offset(struct store *base, unsigned shard, uint64_t *offset)
+/* Each changes one row if it stands where it is said, and else none. A row that isn't there stands
+ * at zeros, or nowhere. */
+static const char *const own_sql[STATEMENTS] = {
+    [SELECT_REACHED] = "SELECT incarnation, offset FROM shard WHERE shard = ?",
+    [SELECT_SESSION] = "SELECT next, closed, missed, at, shard FROM session WHERE name = ?",
+    [SELECT_SESSIONS] = "SELECT next, closed, missed, at, shard, name FROM session WHERE shard = ?",
+    [MOVE_SHARD] = ("INSERT INTO shard (shard, incarnation, offset) SELECT ?1, ?4, ?5"
+                    " WHERE ?2 = 0 AND ?3 = 0 OR ?1 IN (SELECT shard FROM shard)"
+                    " ON CONFLICT (shard) DO UPDATE SET incarnation = ?4, offset = ?5"
+                    " WHERE incarnation = ?2 AND offset = ?3"),
+    [ADD_SESSION] = ("INSERT INTO session (name, next, closed, missed, at, shard)"
+                     " VALUES (?1, ?2, ?3, ?4, ?5, ?6) ON CONFLICT DO NOTHING"),
+    [MOVE_SESSION] = ("UPDATE session SET next = ?2, closed = ?3, missed = ?4, at = ?5, shard = ?6"
+                      " WHERE name = ?1 AND next = ?7 AND closed = ?8 AND missed = ?9 AND at = ?10"
+                      " AND shard = ?11"),
+    [MISS_SESSION] = "UPDATE session SET missed = 2 WHERE name = ? AND closed = 0",
+};
+
+static int reached(struct store *base, unsigned shard, struct reached *reached)
 {
     struct sqlite_store *s = (struct sqlite_store *)base;
-    sqlite3_stmt *select = s->statements[SELECT_OFFSET];
+    sqlite3_stmt *select = s->statements[SELECT_REACHED];
     int row;
     sqlite3_bind_int64(select, 1, shard);
     row = step_row(select);
-    *offset = row == 1 ? (uint64_t)sqlite3_column_int64(select, 0) : 0;
+    reached->incarnation = row == 1 ? (uint64_t)sqlite3_column_int64(select, 0) : 0;
+    reached->offset = row == 1 ? (uint64_t)sqlite3_column_int64(select, 1) : 0;
     sqlite3_reset(select);
     return row < 0 ? -1 : 0;
+}
+
+static void read_demand(sqlite3_stmt *select, struct demand *demand)
+{
+    demand->next = (uint64_t)sqlite3_column_int64(select, 0);
+    demand->closed = (uint32_t)sqlite3_column_int(select, 1);
+    demand->missed = (uint32_t)sqlite3_column_int(select, 2);
+    demand->at = (uint64_t)sqlite3_column_int64(select, 3);
+    demand->shard = sqlite3_column_int(select, 4);
+    demand->is_stored = 1;
 }
 
 static int session(struct store *base, const char *name, struct demand *demand)
@@ -55,13 +82,28 @@ static int session(struct store *base, const char *name, struct demand *demand)
     int row;
     sqlite3_bind_text(select, 1, name, -1, SQLITE_STATIC);
     row = step_row(select);
-    demand->closed = 0;
-    if (row == 1) {
-        demand->next = (uint64_t)sqlite3_column_int64(select, 0);
-        demand->closed = (uint32_t)sqlite3_column_int(select, 1);
-    }
+    demand->is_stored = 0;
+    if (row == 1)
+        read_demand(select, demand);
     sqlite3_reset(select);
     return row < 0 ? -1 : 0;
+}
+
+static int sessions(struct store *base, unsigned shard, store_take *take, void *given)
+{
+    struct sqlite_store *s = (struct sqlite_store *)base;
+    sqlite3_stmt *select = s->statements[SELECT_SESSIONS];
+    int row, answer = 0;
+    sqlite3_bind_int64(select, 1, shard);
+    while (answer == 0 && (row = step_row(select)) != 0) {
+        const char *name = row == 1 ? (const char *)sqlite3_column_text(select, 5) : NULL;
+        struct demand demand;
+        if (row == 1)
+            read_demand(select, &demand);
+        answer = name == NULL || take(given, name, &demand) != 0 ? -1 : 0;
+    }
+    sqlite3_reset(select);
+    return answer;
 }
 
 /* Runs a statement that moves one row, if it stood where it was said. */
@@ -73,28 +115,49 @@ static int move(struct sqlite_store *s, sqlite3_stmt *statement)
     return 0;
 }
 
-static int begin(struct store *base, unsigned shard, uint64_t from, uint64_t to)
+static int begin(struct store *base, unsigned shard, const struct reached *from,
+                 const struct reached *to)
 {
     struct sqlite_store *s = (struct sqlite_store *)base;
-    sqlite3_stmt *statement = s->statements[MOVE_OFFSET];
+    sqlite3_stmt *statement = s->statements[MOVE_SHARD];
     s->is_fenced = 0;
     if (begin_writing(s->db) != 0)
         return -1;
     sqlite3_bind_int64(statement, 1, shard);
-    sqlite3_bind_int64(statement, 2, (sqlite3_int64)from);
-    sqlite3_bind_int64(statement, 3, (sqlite3_int64)to);
+    sqlite3_bind_int64(statement, 2, (sqlite3_int64)from->incarnation);
+    sqlite3_bind_int64(statement, 3, (sqlite3_int64)from->offset);
+    sqlite3_bind_int64(statement, 4, (sqlite3_int64)to->incarnation);
+    sqlite3_bind_int64(statement, 5, (sqlite3_int64)to->offset);
     return move(s, statement);
 }
 
-static int advance(struct store *base, const char *session, uint64_t from, const struct demand *to)
+/* Binds five places of a statement, from this one on. */
+static void bind_demand(sqlite3_stmt *statement, int place, const struct demand *it)
+{
+    sqlite3_bind_int64(statement, place, (sqlite3_int64)it->next);
+    sqlite3_bind_int64(statement, place + 1, it->closed);
+    sqlite3_bind_int64(statement, place + 2, it->missed);
+    sqlite3_bind_int64(statement, place + 3, (sqlite3_int64)it->at);
+    sqlite3_bind_int64(statement, place + 4, it->shard);
+}
+
+static int advance(struct store *base, const char *session, const struct demand *from,
+                   const struct demand *to)
 {
     struct sqlite_store *s = (struct sqlite_store *)base;
-    sqlite3_stmt *statement = s->statements[MOVE_SESSION];
+    sqlite3_stmt *statement = s->statements[from->is_stored ? MOVE_SESSION : ADD_SESSION];
     sqlite3_bind_text(statement, 1, session, -1, SQLITE_STATIC);
-    sqlite3_bind_int64(statement, 2, (sqlite3_int64)from);
-    sqlite3_bind_int64(statement, 3, (sqlite3_int64)to->next);
-    sqlite3_bind_int64(statement, 4, to->closed);
+    bind_demand(statement, 2, to);
+    if (from->is_stored)
+        bind_demand(statement, 7, from);
     return move(s, statement);
+}
+
+static int miss(struct store *base, const char *session)
+{
+    struct sqlite_store *s = (struct sqlite_store *)base;
+    sqlite3_bind_text(s->statements[MISS_SESSION], 1, session, -1, SQLITE_STATIC);
+    return step_once(s->statements[MISS_SESSION]);
 }
 
 static void rollback(struct store *base)
@@ -172,17 +235,46 @@ static void close_it(struct store *base)
     free(s);
 }
 
-static sqlite3 *open_of_shard(const char *path, unsigned shard)
+/* The path with the shard's number in the place of its '%'. NULL if it is too long. */
+static const char *path_of_shard(const char *path, unsigned shard, char *name, size_t room)
 {
     const char *mark = strchr(path, '%');
-    char name[512], all_tables[1024];
-    int before = mark != NULL ? (int)(mark - path) : 0;
-    if (mark != NULL)
-        snprintf(name, sizeof name, "%.*s%u%s", before, path, shard, mark + 1);
-    else
-        snprintf(name, sizeof name, "%s", path);
-    snprintf(all_tables, sizeof all_tables, "%s%s", tables, effect_tables_sqlite);
-    return open_database(name, all_tables);
+    int before = (int)(mark != NULL ? mark - path : 0);
+    int len = mark == NULL ? snprintf(name, room, "%s", path)
+                           : snprintf(name, room, "%.*s%u%s", before, path, shard, mark + 1);
+    if (len >= 0 && (size_t)len < room)
+        return name;
+    fprintf(stderr, "%s: this name is too long\n", path);
+    return NULL;
+}
+
+/* The tables of effects, and what files of an older version don't have. */
+static int complete(sqlite3 *db)
+{
+    size_t i;
+    if (begin_writing(db) != 0)
+        return -1;
+    for (i = 0; i < sizeof columns / sizeof *columns; i++)
+        if (add_column(db, columns[i][0], columns[i][1]) != 0)
+            break;
+    if (i == sizeof columns / sizeof *columns
+        && run(db, "CREATE INDEX IF NOT EXISTS session_of_shard ON session (shard)") == 0
+        && run(db, effect_tables_sqlite) == 0
+        && run(db, "COMMIT") == 0)
+        return 0;
+    run(db, "ROLLBACK");
+    return -1;
+}
+
+static int open_it(struct sqlite_store *s, const char *path, unsigned shard)
+{
+    char name[512];
+    if (path_of_shard(path, shard, name, sizeof name) == NULL)
+        return -1;
+    s->db = open_database(name, tables);
+    if (s->db == NULL || complete(s->db) != 0)
+        return -1;
+    return prepare_all(s->db, s->statements, own_sql, STATEMENTS);
 }
 
 struct store *sqlite_store_open(const char *path, unsigned shard)
@@ -190,16 +282,17 @@ struct store *sqlite_store_open(const char *path, unsigned shard)
     struct sqlite_store *s = calloc(1, sizeof *s);
     if (s == NULL)
         return NULL;
-    s->base.offset = offset;
+    s->base.reached = reached;
     s->base.session = session;
+    s->base.sessions = sessions;
     s->base.begin = begin;
     s->base.advance = advance;
+    s->base.miss = miss;
     s->base.commit = commit;
     s->base.rollback = rollback;
     s->base.close = close_it;
     s->base.run = run_effect;
-    s->db = open_of_shard(path, shard);
-    if (s->db != NULL && prepare_all(s->db, s->statements, own_sql, STATEMENTS) == 0)
+    if (open_it(s, path, shard) == 0)
         return &s->base;
     close_it(&s->base);
     return NULL;

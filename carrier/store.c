@@ -17,13 +17,14 @@ struct store *store_open(const char *where, unsigned shard)
         return NULL;
 #endif
     }
-    fprintf(stderr, "%s is no store: name sqlite:FILE or postgresql://USER@HOST/DATABASE\n", where);
+    fprintf(stderr, "%.*s is no store: name sqlite:FILE or postgresql://USER@HOST/DATABASE\n",
+            (int)strcspn(where, ":"), where); /* what follows may be a password */
     return NULL;
 }
 
-int store_offset(struct store *store, unsigned shard, uint64_t *offset)
+int store_reached(struct store *store, unsigned shard, struct reached *reached)
 {
-    return store->offset(store, shard, offset);
+    return store->reached(store, shard, reached);
 }
 
 int store_session(struct store *store, const char *session, struct demand *demand)
@@ -31,14 +32,26 @@ int store_session(struct store *store, const char *session, struct demand *deman
     return store->session(store, session, demand);
 }
 
-int store_begin(struct store *store, unsigned shard, uint64_t from, uint64_t to)
+int store_sessions(struct store *store, unsigned shard, store_take *take, void *given)
+{
+    return store->sessions(store, shard, take, given);
+}
+
+int store_begin(struct store *store, unsigned shard, const struct reached *from,
+                const struct reached *to)
 {
     return store->begin(store, shard, from, to);
 }
 
-int store_advance(struct store *store, const char *session, uint64_t from, const struct demand *to)
+int store_advance(struct store *store, const char *session, const struct demand *from,
+                  const struct demand *to)
 {
     return store->advance(store, session, from, to);
+}
+
+int store_miss(struct store *store, const char *session)
+{
+    return store->miss(store, session);
 }
 
 int store_commit(struct store *store)

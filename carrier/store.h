@@ -1,9 +1,14 @@
-/* What a receiver stores: the effects of the texts, the number that each session demands next, and
- * the offset of its shard, in one transaction.
+/* What a receiver stores: the effects of the texts, what each session demands next, and how far
+ * its shard was read, in one transaction.
  *
- * Whoever moves a number or an offset says where it stood (compare-and-set). If something else is
+ * Whoever moves a session or a shard says where it stood (compare-and-set). If something else is
  * stored, another receiver has been at work, and nothing of the transaction takes effect: so it
- * doesn't matter how many receivers believe that a shard is theirs. */
+ * doesn't matter how many receivers believe that a shard is theirs.
+ *
+ * A receiver that begins reads how far the shard was read FIRST, and the sessions AFTER it. Then
+ * each session is at least as far on as the offset. In the other order another receiver may pass
+ * frames by between the two reads, for a reason of its own, and this one would go on after them,
+ * and never learn of it. */
 #ifndef STORE_H
 #define STORE_H
 
@@ -12,29 +17,57 @@
 
 struct store;
 
-/* What a session demands next, and whether its close was accepted. */
-struct demand { uint64_t next; uint32_t closed; };
+/* How far a shard was read: up to this offset of the carrier's list with this number (carrier.h).
+ * All zeros: nothing was read. */
+struct reached { uint64_t incarnation, offset; };
+
+/* Whether something that names a session stands after its place and may have to be read again. */
+enum missed {
+    MISSED_NOTHING = 0,
+    MISSED_EARLY = 1,   /* a frame came early: the one before it is missing */
+    MISSED_REFUSED = 2  /* a frame was refused for a reason that may be this receiver's own */
+};
+
+/* A session: what it demands next, whether its close was accepted, and its place. All frames of it
+ * up to the offset `at` of this shard took effect, or never will. */
+struct demand {
+    uint64_t next;
+    uint32_t closed;
+    uint32_t missed;    /* an enum missed */
+    uint64_t at;
+    int32_t shard;      /* -1: it was stored before places were */
+    uint32_t is_stored; /* 0: the store doesn't know the session */
+};
 
 /* Opens "sqlite:FILE", in whose name '%' stands for the shard's number, or "postgresql://..".
  * NULL if it can't be opened. */
 struct store *store_open(const char *where, unsigned shard);
 
-/* The shard's offset, 0 at first. Answers 0, or -1 after a fault, as those below. */
-int store_offset(struct store *store, unsigned shard, uint64_t *offset);
+/* How far the shard was read. Answers 0, or -1 after a fault, as those below. */
+int store_reached(struct store *store, unsigned shard, struct reached *reached);
 
-/* What the session demands; at first the number that `demand` has, and no close. */
+/* What is stored of the session. If nothing is, only is_stored is changed. */
 int store_session(struct store *store, const char *session, struct demand *demand);
 
-/* Begins a transaction that moves the shard's offset. */
-int store_begin(struct store *store, unsigned shard, uint64_t from, uint64_t to);
+/* Passes each session to a function that is stored as one of the shard. What that doesn't answer 0
+ * ends it, with -1. */
+typedef int store_take(void *given, const char *session, const struct demand *demand);
+int store_sessions(struct store *store, unsigned shard, store_take *take, void *given);
 
-/* Moves a session from one number to what it demands now. */
-int store_advance(struct store *store, const char *session, uint64_t from,
+/* Begins a transaction that moves the shard. */
+int store_begin(struct store *store, unsigned shard, const struct reached *from,
+                const struct reached *to);
+
+/* Moves a session from what is stored, or from nothing, to this. */
+int store_advance(struct store *store, const char *session, const struct demand *from,
                   const struct demand *to);
+
+/* Marks a session that this receiver doesn't know as MISSED_REFUSED, if the store knows it. */
+int store_miss(struct store *store, const char *session);
 
 /* Ends it: 0 if all of it took effect, 1 if something stood elsewhere, and -1 after a fault.
  * After 1 nothing took effect; after -1 it isn't known whether it did: all is to be read again.
- * */
+ */
 int store_commit(struct store *store);
 
 /* Gives it up. */
@@ -56,10 +89,12 @@ int store_run(struct store *store, const char *sql, const struct value *values, 
 /* ---- For those who write a store: its first member is a struct store. */
 
 struct store {
-    int (*offset)(struct store *, unsigned, uint64_t *);
+    int (*reached)(struct store *, unsigned, struct reached *);
     int (*session)(struct store *, const char *, struct demand *);
-    int (*begin)(struct store *, unsigned, uint64_t, uint64_t);
-    int (*advance)(struct store *, const char *, uint64_t, const struct demand *);
+    int (*sessions)(struct store *, unsigned, store_take *, void *);
+    int (*begin)(struct store *, unsigned, const struct reached *, const struct reached *);
+    int (*advance)(struct store *, const char *, const struct demand *, const struct demand *);
+    int (*miss)(struct store *, const char *);
     int (*commit)(struct store *);
     void (*rollback)(struct store *);
     void (*close)(struct store *);

@@ -228,7 +228,17 @@ static void take_in_each_way(int etype)
     krbrelay_receiver_free(&r);
 }
 
-/* A block that is freed with its key in it is reported. */
+/* Each byte is written, though the block is freed then. */
+static void leave_user_data(void)
+{
+    volatile uint8_t *block = malloc(SIZE);
+    CHECK(block != NULL);
+    for (int i = 0; block != NULL && i < SIZE; i++)
+        block[i] = user_data[i];
+    free((void *)block);
+}
+
+/* A block that is freed with its key in it is reported, and so is one with user data. */
 static void leave_key(void)
 {
     uint8_t *block = malloc(200);
@@ -240,11 +250,7 @@ static void leave_key(void)
     watch_block(0, block);
     free(block);
     CHECK(watch[0].freed == 1 && watch[0].runs == 1);
-    block = malloc(SIZE);
-    CHECK(block != NULL);
-    if (block != NULL)
-        memcpy(block, user_data, SIZE);
-    free(block);
+    leave_user_data();
 }
 
 static void end_in_each_way(void)

@@ -16,6 +16,7 @@ import sys
 import time
 
 import engines
+import errors
 
 SHARDS, SESSIONS, TEXTS, BYTES, FRAME = 4, 64, 120_000, 1000, 1110
 LIMIT = 300
@@ -27,8 +28,8 @@ def write_sessions(folder):
     lines = [(it % SHARDS, f"s{it:04} {it % SHARDS} 18 priv {dice.randbytes(32).hex()} 1"
                            " 10.0.0.1 10.0.0.2\n") for it in range(SESSIONS)]
     for name, wanted in [("", range(SHARDS)), *((shard, [shard]) for shard in range(SHARDS))]:
-        with open(f"{folder}/sessions{name}", "w", encoding="ascii") as file:
-            file.writelines(line for shard, line in lines if shard in wanted)
+        errors.Ends.write(f"{folder}/sessions{name}",
+                          [line for shard, line in lines if shard in wanted])
 
 
 def sender(programs, folder, carrier, replicas, shard):

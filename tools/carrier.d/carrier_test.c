@@ -87,6 +87,34 @@ static void read_from(struct carrier *reader, unsigned i, uint64_t offset)
     check(carrier_fetch(reader, list, 64, 100) == 0, "and no more");
 }
 
+/* The last frame of each session, and of one that has none. */
+static void check_last(struct carrier *c)
+{
+    static const char *const names[] = { "tom-7", "ann_1" };
+    struct carried last;
+    unsigned shard, i, name;
+    for (shard = SHARD; shard < SHARD + 2; shard++)
+        for (name = 0; name < 2; name++) {
+            i = FRAMES - 2 + shard - SHARD;
+            while (strcmp(session_of(i), names[name]) != 0)
+                i -= 2;
+            check(carrier_last(c, shard, names[name], &last) == 1, "a last frame");
+            check_fetched(&last, shard, i);
+        }
+    check(carrier_last(c, SHARD, "nobody", &last) == 0, "no last frame");
+    check(carrier_last(c, SHARD + 2, "tom-7", &last) == 0, "of a shard that isn't there");
+}
+
+/* Whoever asks is told the same incarnation, and nothing stands after the end. */
+static void check_shards(struct carrier *c, struct carrier *reader)
+{
+    uint64_t made = 0, asked = 0, behind = 1;
+    check(carrier_make(c, SHARD, &made) == 0 && made > 0, "it is made");
+    check(carrier_incarnation(reader, SHARD, &asked) == 0 && asked == made, "its incarnation");
+    read_from(reader, 2, offsets[0]);
+    check(carrier_behind(reader, &behind) == 0 && behind == 0, "nothing stands after the end");
+}
+
 int main(int count, char **words)
 {
     struct carrier *c, *reader;
@@ -103,6 +131,8 @@ int main(int count, char **words)
     read_from(reader, 1, 0);
     for (i = 101; i + 2 < FRAMES; i += 101)
         read_from(reader, i + 2, offsets[i]);
+    check_last(c);
+    check_shards(c, reader);
     carrier_close(c);
     carrier_close(reader);
     puts("passed");

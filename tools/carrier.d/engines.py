@@ -22,10 +22,22 @@ def free_ports(count):
     return ports
 
 
+def listen():
+    """A socket that listens at a port of the loopback."""
+    server = socket.socket()
+    server.bind(("127.0.0.1", 0))
+    server.listen()
+    return server
+
+
+def connect(port):
+    return socket.create_connection(("127.0.0.1", port), PATIENCE)
+
+
 def is_open(port):
     """Whether something listens at a port of the loopback."""
     try:
-        socket.create_connection(("127.0.0.1", port), 1).close()
+        connect(port).close()
         return True
     except OSError:
         return False
@@ -42,8 +54,9 @@ def await_port(port):
 class Nats:
     """JetStream; its nodes may be killed and started again."""
 
-    def __init__(self, folder, nodes):
-        self.folder, self.nodes, self.running = folder, nodes, {}
+    def __init__(self, folder, nodes, config=""):
+        """With further lines of the nodes' configuration."""
+        self.folder, self.nodes, self.config, self.running = folder, nodes, config, {}
         ports = free_ports(2 * nodes)
         self.ports, self.routes = ports[:nodes], ports[nodes:]
         self.where = ",".join(f"nats://127.0.0.1:{port}" for port in self.ports)
@@ -63,7 +76,7 @@ class Nats:
             text += (f'cluster {{ name: test, listen: "127.0.0.1:{self.routes[node]}",'
                      f' routes: [{routes}] }}\n')
         with open(path + ".conf", "w", encoding="utf-8") as file:
-            file.write(text)
+            file.write(text + self.config)
 
     def start(self, node):
         path = f"{self.folder}/nats{node}"
@@ -95,13 +108,25 @@ class Postgres:
         how = {"cwd": "/", "stdin": subprocess.DEVNULL, "stdout": subprocess.DEVNULL, **self.user}
         subprocess.run([f"{self.bin}/initdb", "-D", self.data, "-U", "postgres", "-A", "trust",
                         "--no-sync"], check=True, **how)
+        self.how = how
+        self.start()
+        await_port(self.port)
+        self.where = f"postgresql://postgres@127.0.0.1:{self.port}/postgres"
+        self.await_query()
+
+    def start(self):
         self.server = subprocess.Popen(
             [f"{self.bin}/postgres", "-D", self.data, "-p", str(self.port),
              "-c", "listen_addresses=127.0.0.1", "-c", "unix_socket_directories=",
              "-c", "shared_buffers=256MB", "-c", "max_wal_size=2GB"],
-            stderr=subprocess.DEVNULL, **how)
+            stderr=subprocess.DEVNULL, **self.how)
+
+    def restart(self, seconds):
+        """Ends it at once, and starts it again after so many seconds."""
+        self.stop()
+        time.sleep(seconds)
+        self.start()
         await_port(self.port)
-        self.where = f"postgresql://postgres@127.0.0.1:{self.port}/postgres"
         self.await_query()
 
     def await_query(self):

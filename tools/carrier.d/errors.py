@@ -23,8 +23,14 @@ class Ends:
         self.sessions, self.outbox = f"{folder}/sessions", f"{folder}/outbox.db"
         self.carrier = f"sqlite:{folder}/carrier.db"
         self.store = store or f"sqlite:{folder}/store.db"
-        with open(self.sessions, "w", encoding="ascii") as file:
-            file.writelines(SESSIONS)
+        self.write(self.sessions, SESSIONS)
+
+    @staticmethod
+    def write(path, lines):
+        """Writes a file of sessions, which only its owner may read."""
+        with open(os.open(path, os.O_WRONLY | os.O_CREAT | os.O_TRUNC, 0o600), "w",
+                  encoding="ascii") as file:
+            file.writelines(lines)
 
     def command(self, name, *more, **other):
         """A program with its options, some of which may be others."""
@@ -68,8 +74,7 @@ def is_told(done, words, status=1):
 def test_arguments(count, ends):
     done = ends.run("receiver", sessions=f"{ends.folder}/none")
     count.told(is_told(done, "No such file"), "error: no file of sessions")
-    with open(f"{ends.folder}/bad", "w", encoding="ascii") as file:
-        file.write(SESSIONS[0] + "tom 0 18 priv 22 1 10.0.0.2 10.0.0.255\n")
+    ends.write(f"{ends.folder}/bad", SESSIONS[:1] + ["tom 0 18 priv 22 1 10.0.0.2 10.0.0.255\n"])
     done = ends.run("sender", sessions=f"{ends.folder}/bad")
     count.told(is_told(done, "line 2 isn't NAME SHARD ETYPE MODE KEY FIRST FROM TO"),
                "error: a bad line among the sessions")
@@ -146,6 +151,22 @@ def test_at_once(count, ends, what):
     count.told(fine, f"error: {AT_ONCE} receivers make the tables of {what} at once")
     if not fine:
         print("\n".join(texts)[-2000:])
+
+
+def test_store_away(count, ends, postgres):
+    """The server of the store is started again below a receiver, which goes on."""
+    receiver = subprocess.Popen(ends.command("receiver", "--until-closed"), stdout=subprocess.PIPE,
+                                stderr=subprocess.STDOUT, text=True)
+    time.sleep(1)
+    postgres.restart(1)
+    ends.put_all()
+    ends.run("sender", "--drain")
+    text = receiver.communicate(timeout=LIMIT)[0]
+    found = {name: int(texts) for name, texts in postgres.ask(
+        "SELECT session, count(DISTINCT text) FROM effect GROUP BY session")}
+    count.told(receiver.returncode == 0 and found == dict.fromkeys(("ann", "tom"), len(TEXTS)),
+               f"error: the store is away; the receiver goes on: {found}", [text[-500:]])
+    count.told("the store is away" in text, "error: that is reported", [text[-500:]])
 
 
 def test_junk(count, ends):

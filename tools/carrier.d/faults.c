@@ -3,8 +3,9 @@
  * sqlite_carrier_open (--wrap).
  *
  * CARRIER_FAULTS is one number: so many of 1,000 frames are lost, as many stored twice, and so
- * many confirmations lost. */
+ * many confirmations lost. CLOCK_OFFSET are seconds by which the clock is ahead. */
 #include "carrier.h"
+#include "clock.h"
 
 #include <stdio.h>
 #include <stdlib.h>
@@ -20,6 +21,17 @@ struct faulty {
 
 struct carrier *__real_sqlite_carrier_open(const char *path);
 struct carrier *__wrap_sqlite_carrier_open(const char *path);
+
+struct krbrelay_moment __real_read_clock(void);
+struct krbrelay_moment __wrap_read_clock(void);
+
+struct krbrelay_moment __wrap_read_clock(void)
+{
+    struct krbrelay_moment now = __real_read_clock();
+    const char *ahead = getenv("CLOCK_OFFSET");
+    now.seconds += ahead != NULL ? (uint64_t)atoll(ahead) : 0;
+    return now;
+}
 
 static int happens(const struct faulty *c)
 {
@@ -51,6 +63,21 @@ static int confirmed(struct carrier *base, struct confirmed *list, size_t room, 
     return count < 0 ? count : kept;
 }
 
+static int incarnation(struct carrier *base, unsigned shard, uint64_t *incarnation)
+{
+    return carrier_incarnation(((struct faulty *)base)->real, shard, incarnation);
+}
+
+static int make(struct carrier *base, unsigned shard, uint64_t *incarnation)
+{
+    return carrier_make(((struct faulty *)base)->real, shard, incarnation);
+}
+
+static int last(struct carrier *base, unsigned shard, const char *session, struct carried *last)
+{
+    return carrier_last(((struct faulty *)base)->real, shard, session, last);
+}
+
 static void seek(struct carrier *base, unsigned shard, uint64_t offset)
 {
     carrier_seek(((struct faulty *)base)->real, shard, offset);
@@ -59,6 +86,11 @@ static void seek(struct carrier *base, unsigned shard, uint64_t offset)
 static int fetch(struct carrier *base, struct carried *list, size_t room, int milliseconds)
 {
     return carrier_fetch(((struct faulty *)base)->real, list, room, milliseconds);
+}
+
+static int behind(struct carrier *base, uint64_t *frames)
+{
+    return carrier_behind(((struct faulty *)base)->real, frames);
 }
 
 static void close_it(struct carrier *base)
@@ -76,7 +108,9 @@ struct carrier *__wrap_sqlite_carrier_open(const char *path)
         free(c);
         return real;
     }
-    c->base = (struct carrier){ seek, publish, confirmed, fetch, close_it };
+    c->base = (struct carrier){ .incarnation = incarnation, .make = make, .last = last,
+                                .seek = seek, .publish = publish, .confirmed = confirmed,
+                                .fetch = fetch, .behind = behind, .close = close_it };
     c->real = real;
     c->faults = atol(faults);
     srand((unsigned)(getpid() + time(NULL)));

@@ -1,10 +1,14 @@
-"""Mutants of carrier/, each with a planted bug that chaos has to find: its name, the file, the text
-that stands there once, and what takes its place."""
+"""Mutants of carrier/, each with a planted bug that chaos, or one case of repro.py, has to find:
+its name, the file, the text that stands there once, and what takes its place."""
 import os
 import shutil
 
-# What chaos has to say of each: that it fails for another reason isn't enough.
+# The case of repro.py that has to find it; the others are for chaos.
+CASES = {"numbers before the offset": "two_reads"}
+
+# What has to be said of each: that it fails for another reason isn't enough.
 FOUND = {
+    "numbers before the offset": "delivered {'ann': 5} of {'ann': 10}",
     "confirmations counted singly": "not all is closed, though all counts as carried",
     "no compare-and-set": "doubled",
     "deduplication on": "not all is carried",
@@ -24,7 +28,18 @@ EDITS = {
 """, """\
     s->is_fenced = 0;
 """),
-    "deduplication on": ("nats_carrier.c", """\
+    "numbers before the offset": ("shard.c", """\
+    if (store_reached(s->store, s->number, &s->stored) != 0)
+        return -1;
+    if (store_sessions(s->store, s->number, note_stored, s) != 0)
+        return -1;
+""", """\
+    if (store_sessions(s->store, s->number, note_stored, s) != 0)
+        return -1;
+    if (store_reached(s->store, s->number, &s->stored) != 0)
+        return -1;
+"""),
+    "deduplication on": ("nats_publisher.c", """\
     status = natsConnection_PublishRequest(c->connection, subject, reply, frame, (int)len);
 """, """\
     natsMsg *message = NULL;

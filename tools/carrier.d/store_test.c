@@ -4,9 +4,11 @@
 #include "effect.h"
 
 #include <pthread.h>
+#include <string.h>
+#include <time.h>
 #include <unistd.h>
 
-enum { SHARD = 900, FIRST = 7, PAUSE = 200000 };
+enum { SHARD = 900, LIST = 77, FIRST = 7, PAUSE = 200000, LOST = 20 };
 
 static const char name[] = "tom-7";
 static struct store *late;
@@ -18,12 +20,27 @@ static int effect(struct store *s, uint64_t number, const char *text, size_t len
     return take_effect(s, &it);
 }
 
-/* One whole transaction with one text. */
-static int step(struct store *s, uint64_t offset, uint64_t to, uint64_t number)
+static const struct reached nothing = { 0, 0 };
+
+static struct reached at(uint64_t offset)
 {
-    const struct demand next = { number + 1, 0 };
-    if (store_begin(s, SHARD, offset, to) != 0 || effect(s, number, "hello", 5) != 0
-        || store_advance(s, name, number, &next) != 0)
+    return (struct reached){ LIST, offset };
+}
+
+/* A session that demands this number, with its place. */
+static struct demand demands(uint64_t number, uint64_t place)
+{
+    return (struct demand){ number, 0, MISSED_NOTHING, place, SHARD, number != FIRST };
+}
+
+/* One whole transaction with one text. */
+static int step(struct store *s, struct reached from, uint64_t to, uint64_t number)
+{
+    const struct demand before = demands(number, from.offset);
+    const struct demand after = demands(number + 1, to);
+    const struct reached end = at(to);
+    if (store_begin(s, SHARD, &from, &end) != 0 || effect(s, number, "hello", 5) != 0
+        || store_advance(s, name, &before, &after) != 0)
         return -1;
     return store_commit(s);
 }
@@ -31,37 +48,79 @@ static int step(struct store *s, uint64_t offset, uint64_t to, uint64_t number)
 static void stands(struct store *s, uint64_t offset, uint64_t number, uint32_t closed,
                    const char *what)
 {
-    struct demand demand = { FIRST, 0 };
-    uint64_t at;
-    check(store_offset(s, SHARD, &at) == 0 && store_session(s, name, &demand) == 0, "read");
-    check(at == offset && demand.next == number && demand.closed == closed, what);
+    struct demand demand = { .next = FIRST };
+    struct reached reached;
+    check(store_reached(s, SHARD, &reached) == 0 && store_session(s, name, &demand) == 0, "read");
+    check(reached.offset == offset && reached.incarnation == (offset > 0 ? LIST : 0), what);
+    check(demand.next == number && demand.closed == closed, what);
+    check(demand.is_stored == (number != FIRST), "whether it is stored");
+    check(!demand.is_stored || (demand.at == offset && demand.shard == SHARD), "its place");
 }
 
 /* The same step as another store has under way, begun while it is. */
 static void *step_late(void *given)
 {
     (void)given;
-    late_answer = step(late, 12, 15, 9);
+    late_answer = step(late, at(12), 15, 9);
     return NULL;
 }
 
 static void test_fences(struct store *one, struct store *other)
 {
     stands(one, 0, FIRST, 0, "at first");
-    check(step(one, 0, 5, 7) == 0, "a step");
+    check(step(one, at(3), 5, 7) == 1, "a step of a shard that isn't there is fenced");
+    check(step(one, nothing, 5, 8) == 1, "a step of a session that isn't there is fenced");
+    stands(one, 0, FIRST, 0, "nothing of them is stored");
+    check(step(one, nothing, 5, 7) == 0, "a step");
     stands(other, 5, 8, 0, "it is stored");
-    check(step(other, 0, 5, 7) == 1, "the same step again is fenced");
-    check(step(other, 0, 6, 8) == 1, "a step from another offset is fenced");
-    check(step(other, 5, 6, 7) == 1, "a step from another number is fenced");
-    check(step(other, 5, 6, 9) == 1, "also from one that isn't reached");
+    check(step(other, nothing, 5, 7) == 1, "the same step again is fenced");
+    check(step(other, at(0), 6, 8) == 1, "a step from another offset is fenced");
+    check(step(other, (struct reached){ LIST + 1, 5 }, 6, 8) == 1, "and from another list");
+    check(step(other, at(5), 6, 7) == 1, "and of a session that is there as if it weren't");
+    check(step(other, at(5), 6, 9) == 1, "and from a number that isn't reached");
     stands(one, 5, 8, 0, "nothing of them is stored");
-    check(step(other, 5, 12, 8) == 0, "another goes on");
+    check(step(other, at(5), 12, 8) == 0, "another goes on");
     stands(one, 12, 9, 0, "it is stored");
+}
+
+/* All that is stored of a session is compared. */
+static void test_compared(struct store *one)
+{
+    const struct reached from = at(12), to = at(13);
+    int i;
+    for (i = 0; i < 4; i++) {
+        struct demand before = demands(9, 12), after = demands(10, 13);
+        before.closed = i == 0;
+        before.missed = i == 1 ? MISSED_EARLY : MISSED_NOTHING;
+        before.at += i == 2;
+        before.shard += i == 3;
+        check(store_begin(one, SHARD, &from, &to) == 0, "begin");
+        check(store_advance(one, name, &before, &after) == 0, "advance");
+        check(store_commit(one) == 1, "a session that is otherwise is fenced");
+    }
+    stands(one, 12, 9, 0, "nothing of them is stored");
+}
+
+/* A session that a receiver doesn't know is marked, and one that the store doesn't know isn't. */
+static void test_miss(struct store *one, struct store *other)
+{
+    const struct reached from = at(12);
+    const struct demand before = { 9, 0, MISSED_REFUSED, 12, SHARD, 1 }, after = demands(9, 12);
+    struct demand demand = { .next = FIRST };
+    check(store_begin(one, SHARD, &from, &from) == 0, "begin");
+    check(store_miss(one, name) == 0 && store_miss(one, "nobody") == 0, "miss");
+    check(store_commit(one) == 0, "commit");
+    check(store_session(other, name, &demand) == 0, "read");
+    check(demand.missed == MISSED_REFUSED && demand.next == 9, "it is marked");
+    check(store_session(other, "nobody", &demand) == 0 && !demand.is_stored, "no row is made");
+    check(store_begin(one, SHARD, &from, &from) == 0, "begin");
+    check(store_advance(one, name, &before, &after) == 0 && store_commit(one) == 0, "unmarked");
 }
 
 static void test_rollback(struct store *one, struct store *other)
 {
-    check(store_begin(one, SHARD, 12, 20) == 0 && effect(one, 9, "lost", 4) == 0, "begin");
+    const struct reached from = at(12), to = at(20);
+    check(store_begin(one, SHARD, &from, &to) == 0 && effect(one, 9, "lost", 4) == 0, "begin");
     store_rollback(one);
     stands(other, 12, 9, 0, "what is given up isn't stored");
 }
@@ -69,13 +128,14 @@ static void test_rollback(struct store *one, struct store *other)
 /* Two steps from one place at once. */
 static uint64_t test_two(struct store *one, struct store *other)
 {
-    const struct demand next = { 10, 0 };
+    const struct demand before = demands(9, 12), after = demands(10, 14);
+    const struct reached from = at(12), to = at(14);
     pthread_t thread;
     int answer;
     late = other;
-    check(store_begin(one, SHARD, 12, 14) == 0, "begin");
+    check(store_begin(one, SHARD, &from, &to) == 0, "begin");
     check(effect(one, 9, "", 0) == 0, "effect of no bytes");
-    check(store_advance(one, name, 9, &next) == 0, "advance");
+    check(store_advance(one, name, &before, &after) == 0, "advance");
     check(pthread_create(&thread, NULL, step_late, NULL) == 0, "thread");
     usleep(PAUSE);
     answer = store_commit(one);
@@ -85,24 +145,59 @@ static uint64_t test_two(struct store *one, struct store *other)
     return answer == 0 ? 14 : 15;
 }
 
+/* A receiver whose machine is gone in a transaction: it answers nothing any more, and its
+ * connection stays. Another one goes on after some seconds. */
+static void test_lost(const char *where)
+{
+    static char large[1 << 20]; /* more than is kept before it is sent */
+    const struct reached to = at(5);
+    struct store *lost = store_open(where, SHARD + 1), *other = store_open(where, SHARD + 1);
+    time_t began = time(NULL);
+    int answer = -1, tries;
+    check(lost != NULL && other != NULL, "open");
+    check(store_begin(lost, SHARD + 1, &nothing, &to) == 0, "begin");
+    check(effect(lost, 1, large, sizeof large) == 0, "effect");
+    usleep(5 * PAUSE);
+    for (tries = 0; answer != 0 && time(NULL) - began < LOST; tries++) {
+        answer = store_begin(other, SHARD + 1, &nothing, &to);
+        if (answer == 0)
+            answer = store_commit(other);
+        if (answer == 0)
+            break;
+        store_close(other); /* as shard.c does */
+        other = store_open(where, SHARD + 1);
+        check(other != NULL, "open again");
+    }
+    check(tries > 0, "the one that is lost has locks");
+    check(answer == 0, "they are let go");
+    store_close(other);
+    store_close(lost);
+}
+
 int main(int count, char **words)
 {
-    const struct demand end = { 11, 1 };
+    const struct demand end = { 11, 1, MISSED_NOTHING, 16, SHARD, 1 };
+    struct reached from, to = at(16);
+    struct demand before;
     struct store *one, *other;
-    uint64_t offset;
     check(count == 2, "usage: store_test WHERE");
     one = store_open(words[1], SHARD);
     other = store_open(words[1], SHARD);
     check(one != NULL && other != NULL, "open");
     test_fences(one, other);
+    test_compared(one);
+    test_miss(one, other);
     test_rollback(one, other);
-    offset = test_two(one, other);
-    check(store_begin(one, SHARD, offset, 16) == 0, "begin");
-    check(store_advance(one, name, 10, &end) == 0, "the close");
+    from = at(test_two(one, other));
+    before = demands(10, from.offset);
+    check(store_begin(one, SHARD, &from, &to) == 0, "begin");
+    check(store_advance(one, name, &before, &end) == 0, "the close");
     check(store_commit(one) == 0, "commit");
     stands(other, 16, 11, 1, "closed");
     store_close(one);
     store_close(other);
+    if (strncmp(words[1], "postgresql", 10) == 0) /* over SQLite a process alone may be lost */
+        test_lost(words[1]);
     puts("passed");
     return 0;
 }

@@ -18,7 +18,8 @@ MIT = "Debian's libkrb5-dev"
 HEIMDAL = "Debian's heimdal-multidev"
 MAKE = "make"
 SQLITE = "Debian's libsqlite3-dev"
-SERVERS = "Debian's nats-server, libnats-dev, postgresql and libpq-dev"
+SERVERS = ("Debian's nats-server, libnats-dev, postgresql, libpq-dev, libmicrohttpd-dev and"
+           " libsystemd-dev")
 REALM = "Debian's krb5-kdc, krb5-admin-server, krb5-kpropd and krb5-user"
 
 
@@ -48,7 +49,7 @@ IS_THERE = {
     MAKE: lambda: has("make"),
     SQLITE: lambda: os.path.exists("/usr/include/sqlite3.h"),
     SERVERS: lambda: has("nats-server") and os.path.exists("/usr/lib/postgresql")
-    and runs("pkg-config", "--exists", "libnats", "libpq"),
+    and runs("pkg-config", "--exists", "libnats", "libpq", "libmicrohttpd", "libsystemd"),
     "rt": lambda: has("rt"),
     "clang": lambda: has("clang"),
     "valgrind": lambda: has("valgrind"),

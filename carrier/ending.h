@@ -1,0 +1,13 @@
+/* How a program ends: SIGTERM and SIGINT ask for it, and whatever waits looks whether it has to. */
+#ifndef ENDING_H
+#define ENDING_H
+
+/* From now on these signals only ask for the end. */
+void end_by_signals(void);
+
+int is_ending(void);
+
+/* Asks for the end, as a signal does. */
+void end_now(void);
+
+#endif

@@ -1,0 +1,57 @@
+/* What was counted of a sender, for who looks at the metrics. */
+#include "clock.h"
+#include "sender.h"
+#include "service.h"
+
+#include <math.h>
+#include <stdio.h>
+
+#define NAME "krbrelay_sender_"
+#define SILENCE 10.0 /* seconds */
+
+/* In the order of the values in sender_show; the last is the shards'. */
+static const struct metric metrics[] = {
+    { NAME "sealed_frames_total", "counter", "Frames that were sealed", NULL },
+    { NAME "published_frames_total", "counter", "Frames that were published", NULL },
+    { NAME "republished_frames_total", "counter", "Frames among them that were once more", NULL },
+    { NAME "sealing_seconds_total", "counter", "Time for sealing", NULL },
+    { NAME "outbox_seconds_total", "counter", "Time for the outbox", NULL },
+    { NAME "carrier_seconds_total", "counter", "Time for the carrier", NULL },
+    { NAME "waiting_texts", "gauge", "Texts in the outbox, of the first 100,000", NULL },
+    { NAME "stopped_sessions", "gauge", "Sessions that were stopped", NULL },
+    { NAME "silent_seconds", "gauge", "Since a frame was carried, if any waits", NULL },
+    { NAME "waiting_frames", "gauge", "Frames of a shard that aren't carried", NULL },
+};
+
+enum { METRICS = sizeof metrics / sizeof *metrics };
+
+int sender_begin_showing(struct sender *s)
+{
+    return service_begin(metrics, METRICS, NULL, 1 + (unsigned)s->lane_count);
+}
+
+static void show_lane(const struct lane *lane, unsigned part)
+{
+    double values[METRICS];
+    char labels[32];
+    unsigned i;
+    for (i = 0; i + 1 < METRICS; i++)
+        values[i] = NAN;
+    values[METRICS - 1] = (double)lane->backlog;
+    snprintf(labels, sizeof labels, "shard=\"%u\"", lane->shard);
+    service_alive(part, 1, labels, values);
+}
+
+void sender_show(struct sender *s)
+{
+    double silent = (double)(nanoseconds() - s->rose) / 1e9;
+    const double values[METRICS] = {
+        (double)s->sealing.frames, (double)s->published, (double)s->again,
+        (double)s->sealing.nanoseconds / 1e9, (double)s->storing / 1e9, (double)s->carrying / 1e9,
+        (double)outbox_count_texts(&s->outbox), (double)s->stopped, silent, NAN,
+    };
+    unsigned i;
+    service_alive(0, silent < SILENCE, "", values);
+    for (i = 0; i < s->lane_count; i++)
+        show_lane(&s->lanes[i], 1 + i);
+}

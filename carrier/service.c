@@ -1,0 +1,276 @@
+#include "service.h"
+#include "carrier.h"
+#include "clock.h"
+
+#include <math.h>
+#include <pthread.h>
+#include <stdio.h>
+#include <stdlib.h>
+#include <string.h>
+
+#ifdef WITH_METRICS
+#include <microhttpd.h>
+#include <netdb.h>
+#endif
+#ifdef WITH_SYSTEMD
+#include <systemd/sd-daemon.h>
+#endif
+
+#define HEARD UINT64_C(10000000000) /* nanoseconds */
+
+struct part {
+    uint64_t alive, working; /* when it last said so, or 0 */
+    char labels[64];
+    double values[SERVICE_METRICS];
+    char names[SERVICE_NAMES][CARRIER_NAME];
+    size_t name_count;
+};
+
+static struct {
+    pthread_mutex_t lock;
+    const struct metric *metrics, *sessions;
+    unsigned count, part_count;
+    struct part *parts;
+    void *server;
+} service = { .lock = PTHREAD_MUTEX_INITIALIZER };
+
+int service_begin(const struct metric *metrics, unsigned count, const struct metric *sessions,
+                  unsigned parts)
+{
+    service.metrics = metrics;
+    service.count = count < SERVICE_METRICS ? count : SERVICE_METRICS;
+    service.sessions = sessions;
+    service.part_count = parts;
+    service.parts = calloc(parts, sizeof *service.parts);
+    return service.parts != NULL ? 0 : -1;
+}
+
+void service_alive(unsigned part, int does_work, const char *labels, const double *values)
+{
+    struct part *it = &service.parts[part];
+    pthread_mutex_lock(&service.lock);
+    it->alive = nanoseconds();
+    if (does_work)
+        it->working = it->alive;
+    snprintf(it->labels, sizeof it->labels, "%s", labels);
+    memcpy(it->values, values, service.count * sizeof *values);
+    pthread_mutex_unlock(&service.lock);
+}
+
+void service_name(unsigned part, const char *const *names, size_t count)
+{
+    struct part *it = &service.parts[part];
+    size_t i;
+    pthread_mutex_lock(&service.lock);
+    it->name_count = count < SERVICE_NAMES ? count : SERVICE_NAMES;
+    for (i = 0; i < it->name_count; i++)
+        snprintf(it->names[i], sizeof it->names[i], "%s", names[i]);
+    pthread_mutex_unlock(&service.lock);
+}
+
+static int is_recent(uint64_t moment)
+{
+    return moment != 0 && nanoseconds() - moment < HEARD;
+}
+
+/* Whether all parts are alive, and whether all work. */
+static void ask_all(int *are_alive, int *do_work)
+{
+    unsigned i;
+    *are_alive = *do_work = 1;
+    pthread_mutex_lock(&service.lock);
+    for (i = 0; i < service.part_count; i++) {
+        *are_alive &= is_recent(service.parts[i].alive);
+        *do_work &= is_recent(service.parts[i].working);
+    }
+    pthread_mutex_unlock(&service.lock);
+}
+
+/* ---- To the supervisor */
+
+static void tell(const char *state)
+{
+#ifdef WITH_SYSTEMD
+    if (sd_notify(0, state) < 0)
+        fprintf(stderr, "systemd isn't reached: %s\n", state);
+#else
+    (void)state;
+#endif
+}
+
+void service_tell_ready(void)
+{
+    tell("READY=1");
+}
+
+void service_tell_alive(void)
+{
+    int are_alive, do_work;
+    ask_all(&are_alive, &do_work);
+    if (are_alive)
+        tell("WATCHDOG=1");
+}
+
+void service_tell_end(void)
+{
+    tell("STOPPING=1");
+}
+
+/* ---- To the operator */
+
+#ifdef WITH_METRICS
+static void print_head(FILE *page, const struct metric *it)
+{
+    fprintf(page, "# HELP %s %s\n# TYPE %s %s\n", it->name, it->help, it->name, it->type);
+}
+
+static void print_metric(FILE *page, unsigned metric)
+{
+    const struct metric *it = &service.metrics[metric];
+    unsigned i;
+    if (metric == 0 || strcmp(it->name, service.metrics[metric - 1].name) != 0)
+        print_head(page, it);
+    for (i = 0; i < service.part_count; i++) {
+        const struct part *part = &service.parts[i];
+        const char *comma = *part->labels != 0 && it->label != NULL ? "," : "";
+        if (part->alive != 0 && !isnan(part->values[metric]))
+            fprintf(page, "%s{%s%s%s} %.17g\n", it->name, part->labels, comma,
+                    it->label != NULL ? it->label : "", part->values[metric]);
+    }
+}
+
+static void print_sessions(FILE *page)
+{
+    unsigned i;
+    size_t name;
+    print_head(page, service.sessions);
+    for (i = 0; i < service.part_count; i++)
+        for (name = 0; name < service.parts[i].name_count; name++)
+            fprintf(page, "%s{%s,session=\"%s\"} 1\n", service.sessions->name,
+                    service.parts[i].labels, service.parts[i].names[name]);
+}
+
+/* All numbers; the caller frees the text. */
+static char *print_all(size_t *size)
+{
+    char *text = NULL;
+    FILE *page = open_memstream(&text, size);
+    unsigned i;
+    if (page == NULL)
+        return NULL;
+    pthread_mutex_lock(&service.lock);
+    for (i = 0; i < service.count; i++)
+        print_metric(page, i);
+    if (service.sessions != NULL)
+        print_sessions(page);
+    pthread_mutex_unlock(&service.lock);
+    if (fclose(page) == 0)
+        return text;
+    free(text);
+    return NULL;
+}
+
+static enum MHD_Result give(struct MHD_Connection *connection, unsigned status, char *text,
+                            size_t size)
+{
+    struct MHD_Response *response =
+        MHD_create_response_from_buffer(size, text, MHD_RESPMEM_MUST_COPY);
+    enum MHD_Result answer = MHD_NO;
+    if (response == NULL)
+        return MHD_NO;
+    if (MHD_add_response_header(response, "Content-Type", "text/plain; version=0.0.4") == MHD_YES)
+        answer = MHD_queue_response(connection, status, response);
+    MHD_destroy_response(response);
+    return answer;
+}
+
+static enum MHD_Result give_health(struct MHD_Connection *connection)
+{
+    static char fine[] = "all parts work\n", idle[] = "a part doesn't work\n";
+    int are_alive, do_work;
+    ask_all(&are_alive, &do_work);
+    return do_work ? give(connection, MHD_HTTP_OK, fine, sizeof fine - 1)
+                   : give(connection, MHD_HTTP_SERVICE_UNAVAILABLE, idle, sizeof idle - 1);
+}
+
+static enum MHD_Result answer(void *given, struct MHD_Connection *connection, const char *path,
+                              const char *method, const char *version, const char *data,
+                              size_t *size, void **state)
+{
+    static char other[] = "/metrics, /healthz\n";
+    char *text;
+    size_t len = 0;
+    enum MHD_Result done;
+    (void)given;
+    (void)version;
+    (void)data;
+    (void)size;
+    (void)state;
+    if (strcmp(method, "GET") != 0)
+        return give(connection, MHD_HTTP_METHOD_NOT_ALLOWED, other, sizeof other - 1);
+    if (strcmp(path, "/healthz") == 0)
+        return give_health(connection);
+    if (strcmp(path, "/metrics") != 0)
+        return give(connection, MHD_HTTP_NOT_FOUND, other, sizeof other - 1);
+    text = print_all(&len);
+    if (text == NULL)
+        return MHD_NO;
+    done = give(connection, MHD_HTTP_OK, text, len);
+    free(text);
+    return done;
+}
+
+/* The address and the port of ADDRESS:PORT, or NULL. */
+static struct addrinfo *address_of(const char *where)
+{
+    const struct addrinfo hints = { .ai_flags = AI_NUMERICHOST | AI_NUMERICSERV | AI_PASSIVE,
+                                    .ai_socktype = SOCK_STREAM };
+    char address[64];
+    const char *port = strrchr(where, ':');
+    struct addrinfo *found = NULL;
+    int is_long = *where == '[' && port != NULL && port > where + 1 && port[-1] == ']';
+    if (port == NULL || (size_t)(port - where) >= sizeof address)
+        return NULL;
+    snprintf(address, sizeof address, "%.*s", (int)(port - where) - 2 * is_long, where + is_long);
+    return getaddrinfo(address, port + 1, &hints, &found) == 0 ? found : NULL;
+}
+
+int service_listen(const char *where)
+{
+    struct addrinfo *found = address_of(where);
+    unsigned flags = MHD_USE_INTERNAL_POLLING_THREAD;
+    if (found != NULL) {
+        if (found->ai_family == AF_INET6)
+            flags |= MHD_USE_IPv6;
+        service.server = MHD_start_daemon(flags, 0, NULL, NULL, answer, NULL, MHD_OPTION_SOCK_ADDR,
+                                          found->ai_addr, MHD_OPTION_CONNECTION_LIMIT, 16u,
+                                          MHD_OPTION_CONNECTION_TIMEOUT, 5u, MHD_OPTION_END);
+        freeaddrinfo(found);
+    }
+    if (service.server != NULL)
+        return 0;
+    fprintf(stderr, "--metrics %s: name ADDRESS:PORT at which nothing listens, such as"
+                    " 127.0.0.1:9464\n", where);
+    return -1;
+}
+
+void service_end(void)
+{
+    if (service.server != NULL)
+        MHD_stop_daemon(service.server);
+    free(service.parts);
+}
+#else
+int service_listen(const char *where)
+{
+    (void)where;
+    fprintf(stderr, "this program was built without --metrics: install libmicrohttpd-dev, and run"
+                    " make\n");
+    return -1;
+}
+
+void service_end(void)
+{
+    free(service.parts);
+}
+#endif

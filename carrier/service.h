@@ -1,0 +1,41 @@
+/* What a supervisor and an operator see of a program.
+ *
+ * Parts of the program say that they are alive, and whether they do their work. While each was
+ * alive within ten seconds, systemd's watchdog is kept quiet, if the program was built with
+ * libsystemd and started by systemd. While each did its work within ten seconds, GET /healthz
+ * answers 200, else 503. GET /metrics gives numbers as Prometheus reads them: of each part, in its
+ * order, those that aren't NAN. Nothing of a text or a key is among them. */
+#ifndef SERVICE_H
+#define SERVICE_H
+
+#include <stddef.h>
+
+/* A kind of number: the same name may stand several times, one after the other, with other labels.
+ */
+struct metric { const char *name, *type, *help, *label; };
+
+enum { SERVICE_METRICS = 40, SERVICE_NAMES = 32 };
+
+/* So many parts, none of them alive yet. `sessions`, if it isn't NULL, is the kind of number that
+ * is 1 for each session that a part names. 0, or -1 if there is no memory. */
+int service_begin(const struct metric *metrics, unsigned count, const struct metric *sessions,
+                  unsigned parts);
+
+/* Listens at ADDRESS:PORT. 0, or -1 with a report. */
+int service_listen(const char *where);
+
+/* Part `part`, which belongs to the caller, is alive, does its work or not, and has these labels
+ * and numbers. */
+void service_alive(unsigned part, int does_work, const char *labels, const double *values);
+
+/* It names these sessions, of which the first SERVICE_NAMES are kept. */
+void service_name(unsigned part, const char *const *names, size_t count);
+
+/* To the supervisor: all has begun; so it is still (each second); it ends. */
+void service_tell_ready(void);
+void service_tell_alive(void);
+void service_tell_end(void);
+
+void service_end(void);
+
+#endif

@@ -1,0 +1,86 @@
+#include "clock.h"
+#include "shard.h"
+
+#include <stdio.h>
+
+enum { LONGEST = 7, REACH = 1024 };
+
+#define PATIENCE UINT64_C(5000000000) /* nanoseconds, doubled with each try: at last ten minutes */
+
+void shard_note_changed(struct shard *s, size_t place)
+{
+    if (!s->receivings[place].is_changed)
+        s->changed[s->changed_count++] = place;
+    s->receivings[place].is_changed = 1;
+}
+
+void shard_stands(struct shard *s, size_t place)
+{
+    struct receiving *it = &s->receivings[place];
+    if (it->is_standing)
+        return;
+    it->is_standing = 1;
+    it->since = nanoseconds();
+    s->standing[s->standing_count++] = place;
+}
+
+static int is_due(const struct receiving *it)
+{
+    unsigned tries = it->tries < LONGEST ? it->tries : LONGEST;
+    return nanoseconds() - it->since > PATIENCE << tries;
+}
+
+/* Where the shard is read again for a session: at its place, and the next times before it, since
+ * offsets may have moved. */
+static uint64_t start_of(const struct receiving *it)
+{
+    unsigned tries = it->tries < LONGEST ? it->tries : LONGEST;
+    uint64_t before = tries == 0 ? 0 : (uint64_t)REACH << 3 * (tries - 1);
+    return it->now.at > before ? it->now.at - before : 0;
+}
+
+/* Drops from the list what doesn't stand any more, and tells the least start of those that are due;
+ * UINT64_MAX if none is. */
+static uint64_t least_start(struct shard *s, int all_at_once)
+{
+    uint64_t least = UINT64_MAX;
+    size_t i, kept = 0;
+    for (i = 0; i < s->standing_count; i++) {
+        size_t place = s->standing[i];
+        struct receiving *it = &s->receivings[place];
+        it->is_standing = it->now.missed != MISSED_NOTHING;
+        if (!it->is_standing)
+            continue;
+        s->standing[kept++] = place;
+        if ((all_at_once || is_due(it)) && start_of(it) < least)
+            least = start_of(it);
+    }
+    s->standing_count = kept;
+    return least;
+}
+
+void shard_go_back(struct shard *s, int all_at_once)
+{
+    uint64_t start = least_start(s, all_at_once);
+    size_t i, count = 0;
+    if (start == UINT64_MAX)
+        return;
+    for (i = 0; i < s->standing_count; i++) {
+        struct receiving *it = &s->receivings[s->standing[i]];
+        if (it->now.at < start)
+            continue; /* its turn comes later */
+        it->now.missed = MISSED_NOTHING;
+        it->tries += !all_at_once;
+        shard_note_changed(s, s->standing[i]);
+        count++;
+    }
+    if (start < s->now.offset) {
+        notice(&s->notices.back, "shard %u is read again from offset %llu on, of %llu, since %zu"
+                                 " sessions stand still, such as %s", s->number,
+               (unsigned long long)start, (unsigned long long)s->now.offset, count,
+               s->sessions[s->standing[0]].name);
+        s->counts.back++;
+        s->now.offset = start;
+    }
+    carrier_seek(s->carrier, s->number, s->now.offset);
+}

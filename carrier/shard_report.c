@@ -1,0 +1,72 @@
+/* What was counted of a shard, for its log and for who looks at the metrics. */
+#include "service.h"
+#include "shard.h"
+
+#include <math.h>
+#include <stdio.h>
+
+#define NAME "krbrelay_receiver_"
+
+/* In the order of the values in shard_show. */
+const struct metric shard_metrics[] = {
+    { NAME "texts_total", "counter", "Texts that took effect", NULL },
+    { NAME "text_bytes_total", "counter", "Bytes of them", NULL },
+    { NAME "accepted_frames_total", "counter", "Frames that were accepted", NULL },
+    { NAME "repeated_frames_total", "counter", "Frames that had been accepted before", NULL },
+    { NAME "early_frames_total", "counter", "Frames that came before one that is missing", NULL },
+    { NAME "refused_frames_total", "counter", "Other frames that were refused", NULL },
+    { NAME "transactions_total", "counter", "Transactions that were committed", NULL },
+    { NAME "fenced_transactions_total", "counter", "Transactions that another receiver preceded",
+      NULL },
+    { NAME "read_again_total", "counter", "Times that the shard was read again", NULL },
+    { NAME "opening_seconds_total", "counter", "Time for opening frames", NULL },
+    { NAME "carrier_seconds_total", "counter", "Time for fetching frames", NULL },
+    { NAME "store_seconds_total", "counter", "Time for effects and transactions", NULL },
+    { NAME "offset", "gauge", "How far the shard was read", NULL },
+    { NAME "lag_frames", "gauge", "Frames that the carrier has after it", NULL },
+    { NAME "open_sessions", "gauge", "Sessions that aren't closed", NULL },
+    { NAME "standing_sessions", "gauge", "Sessions that miss a frame, or had one refused", NULL },
+};
+const unsigned shard_metrics_count = sizeof shard_metrics / sizeof *shard_metrics;
+const struct metric shard_stands_metric = {
+    NAME "session_stands", "gauge", "Sessions that stand still, some of them by name", NULL
+};
+
+void shard_report(const struct shard *s, double seconds)
+{
+    const struct shard_counts *c = &s->counts;
+    printf("shard %u: %lu texts of %lu frames; repeats %lu, early %lu, refused %lu; %lu commits,"
+           " %lu fenced, %lu times back; %llu bytes in %.3f s: opening %.3f, carrier %.3f, store"
+           " %.3f\n", s->number, c->texts, c->accepted, c->repeats, c->early, c->refused,
+           c->commits, c->fenced, c->back, c->bytes, seconds, (double)c->opening / 1e9,
+           (double)c->fetching / 1e9, (double)c->storing / 1e9);
+    fflush(stdout);
+}
+
+static void name_standing(struct shard *s, unsigned part)
+{
+    const char *names[SERVICE_NAMES];
+    size_t i, count = 0;
+    for (i = 0; i < s->standing_count && count < SERVICE_NAMES; i++)
+        if (s->receivings[s->standing[i]].now.missed != MISSED_NOTHING)
+            names[count++] = s->sessions[s->standing[i]].name;
+    service_name(part, names, count);
+}
+
+void shard_show(struct shard *s, unsigned part)
+{
+    const struct shard_counts *c = &s->counts;
+    char labels[32];
+    uint64_t behind = 0;
+    int is_known = s->is_loaded && carrier_behind(s->carrier, &behind) == 0;
+    const double values[] = {
+        (double)c->texts, (double)c->bytes, (double)c->accepted, (double)c->repeats,
+        (double)c->early, (double)c->refused, (double)c->commits, (double)c->fenced,
+        (double)c->back, (double)c->opening / 1e9, (double)c->fetching / 1e9,
+        (double)c->storing / 1e9, (double)s->now.offset, is_known ? (double)behind : NAN,
+        (double)s->open, (double)s->standing_count,
+    };
+    snprintf(labels, sizeof labels, "shard=\"%u\"", s->number);
+    service_alive(part, s->is_loaded, labels, values);
+    name_standing(s, part);
+}

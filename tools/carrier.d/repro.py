@@ -1,0 +1,847 @@
+"""Faults of the senders and receivers of carrier/ that a review found, each a case of some seconds
+over SQLite or one node of JetStream. CASES is the table: what is done, what has to be delivered,
+within how many seconds. What more has to hold, such as a line of the log, is asked at the end of
+each case.
+"""
+import collections
+import dataclasses
+import glob
+import os
+import shutil
+import signal
+import socket
+import sqlite3
+import subprocess
+import threading
+import time
+import typing
+import urllib.error
+import urllib.request
+
+import engines
+import errors
+import jetstream
+
+DAYS = 86400            # seconds
+TOO_LONG = 1_000_001    # bytes of a text
+FORGED = 2**62          # an offset that no stream has
+LAST = 2**32 - 1        # the last number of a session
+ANN, TOM = (line.replace("safe", "priv") for line in errors.SESSIONS)
+ABE = ANN.replace("ann", "abe").replace("11" * 16, "44" * 16)
+TOM_1 = TOM.replace("tom 0", "tom 1")
+
+
+def texts(name, low, high, size=0):
+    """Rows of an outbox."""
+    return [(name, f"{name} {it}".ljust(size).encode()) for it in range(low, high)]
+
+
+def close(*names):
+    return [(name, None) for name in names]
+
+
+class Place(errors.Ends):
+    """The files of one case, its processes, and what it found wrong."""
+
+    def __init__(self, programs, folder, case):
+        super().__init__(programs, folder)
+        self.case, self.faults, self.running, self.nats = case, [], [], None
+        self.began = time.monotonic()
+        self.shards = case.shards
+        self.write(self.sessions, case.lines)
+
+    # ---- programs
+
+    def start_nats(self, config=""):
+        os.mkdir(f"{self.folder}/nats")
+        self.nats = engines.Nats(f"{self.folder}/nats", 1, config)
+        self.carrier = self.nats.where
+
+    def command(self, name, *more, **other):
+        words = {"shards": self.shards} if name == "receiver" else {}
+        return super().command(name, *more, **words | other)
+
+    def run(self, name, *more, seconds=errors.LIMIT, clock=0, **other):
+        """Runs a program, at most so many seconds: its status, None where it hasn't ended, and what
+        it prints."""
+        process = self.start(name, *more, clock=clock, **other)
+        try:
+            process.wait(seconds)
+        except subprocess.TimeoutExpired:
+            process.send_signal(signal.SIGTERM)
+            process.wait(errors.LIMIT)
+            return None, self.log(process)
+        return process.returncode, self.log(process)
+
+    def start(self, name, *more, clock=0, pause=0, told=None, **other):
+        path = f"{self.folder}/{name}.{len(self.running)}.log"
+        given = dict(os.environ, CLOCK_OFFSET=str(clock), STORE_PAUSE=str(pause))
+        if told:
+            given["NOTIFY_SOCKET"] = told
+        with open(path, "wb") as log:
+            process = subprocess.Popen(self.command(name, *more, **other), stdout=log, stderr=log,
+                                       env=given)
+        process.path = path
+        self.running.append(process)
+        return process
+
+    @staticmethod
+    def log(process):
+        with open(process.path, encoding="utf-8", errors="replace") as file:
+            return file.read()
+
+    def end(self, process):
+        if process.poll() is None:
+            process.send_signal(signal.SIGTERM)
+            process.wait(errors.LIMIT)
+
+    def stop(self):
+        for process in self.running:
+            process.kill()
+            process.wait()
+        if self.nats:
+            self.nats.stop()
+
+    # ---- outbox, carrier and store
+
+    def put(self, rows, outbox=None):
+        """Puts texts into an outbox, which is made first."""
+        path = outbox or self.outbox
+        if not os.path.exists(path):
+            self.run("sender", "--drain", outbox=path)
+        with sqlite3.connect(path, timeout=errors.LIMIT) as file:
+            file.executemany("INSERT INTO text (session, body) VALUES (?, ?)", rows)
+        file.close()
+
+    def ask(self, name, sql):
+        """The rows of a question to one of the case's files; none where it has no such table."""
+        if not os.path.exists(f"{self.folder}/{name}.db"):
+            return []
+        file = sqlite3.connect(f"{self.folder}/{name}.db", timeout=errors.LIMIT)
+        try:
+            return file.execute(sql).fetchall()
+        except sqlite3.OperationalError as fault:
+            if "no such" not in str(fault):
+                raise
+            return []
+        finally:
+            file.close()
+
+    def count(self, name, table):
+        return (self.ask(name, f"SELECT count(*) FROM {table}") or [(0,)])[0][0]
+
+    def delivered(self):
+        found = collections.defaultdict(list)
+        for name, text in self.ask("store", "SELECT session, text FROM effect ORDER BY id"):
+            found[name].append(bytes(text).decode().strip())
+        return found
+
+    # ---- what has to hold
+
+    def require(self, fine, what):
+        if not fine:
+            self.faults.append(what)
+
+    def is_delivered(self, wanted):
+        found = self.delivered()
+        return all(found[name] == [f"{name} {it}" for it in range(count)]
+                   for name, count in wanted.items())
+
+    def wait(self, is_so, seconds):
+        until = time.monotonic() + seconds
+        while not is_so():
+            if time.monotonic() > until:
+                return False
+            time.sleep(0.05)
+        return True
+
+    def await_delivered(self, wanted=None):
+        """Waits until all is delivered that has to be, until the case's time has passed."""
+        wanted = wanted or self.case.wanted
+        left = self.case.seconds - (time.monotonic() - self.began)
+        if not self.wait(lambda: self.is_delivered(wanted), left):
+            found = {name: len(had) for name, had in self.delivered().items()}
+            self.faults.append(f"delivered {found} of {wanted}")
+
+
+# ---- texts and sessions that can't be sealed
+
+def send_and_receive(place):
+    """A sender and a receiver that run until all is delivered."""
+    sender = place.start("sender")
+    place.start("receiver")
+    place.await_delivered()
+    place.require(place.count("carrier", "carried") < 2 * sum(place.case.wanted.values()) + 100,
+                  f"the carrier has {place.count('carrier', 'carried')} frames")
+    place.require(sender.poll() is None, "the sender has ended")
+    return sender
+
+
+def put_unchecked(place, rows):
+    """Puts rows as into an outbox that didn't check them."""
+    place.put([])
+    with sqlite3.connect(place.outbox) as file:
+        file.execute("DROP TRIGGER IF EXISTS too_long")
+    file.close()
+    place.put(rows)
+
+
+def require_stopped(place, name, word):
+    """The outbox says that this session is stopped, and why."""
+    reasons = place.ask("outbox", "SELECT session, reason FROM stopped")
+    place.require(any(it == name and word in reason for it, reason in reasons),
+                  f"stopped: {reasons}")
+
+
+def told_at_insertion(place):
+    place.put([])
+    try:
+        place.put([("ann", b"x" * TOO_LONG)])
+        place.faults.append("it was taken")
+    except sqlite3.DatabaseError as fault:
+        place.require("1,000,000 bytes" in str(fault), str(fault))
+
+
+def poison_oversize(place):
+    put_unchecked(place, texts("ann", 0, 300) + [("ann", b"x" * TOO_LONG)] + texts("tom", 0, 300)
+                  + close("tom"))
+    send_and_receive(place)
+    require_stopped(place, "ann", "1000001 bytes")
+
+
+def poison_in_load(place):
+    put_unchecked(place, texts("ann", 0, 1500, 1000) + [("ann", b"x" * TOO_LONG)]
+                  + texts("tom", 0, 300) + close("tom"))
+    send_and_receive(place)
+
+
+def poison_numbers(place):
+    place.put(texts("ann", 0, 20) + texts("tom", 0, 300) + close("tom"))
+    send_and_receive(place)
+    require_stopped(place, "ann", "no number left")
+
+
+def poison_no_line(place):
+    place.put([])
+    place.write(place.sessions, [TOM])
+    place.put(texts("ann", 0, 1) + texts("tom", 0, 300) + close("tom"))
+    send_and_receive(place)
+    require_stopped(place, "ann", "no line")
+
+
+def unknown_text(place):
+    """Processor time of a sender that has nothing else to do."""
+    place.put([("typo", b"x" * 100)] * 100_000 + texts("ann", 0, 3))
+    sender = send_and_receive(place)
+    time.sleep(1)
+    before = processor_time(sender.pid)
+    time.sleep(2)
+    part = (processor_time(sender.pid) - before) / 2
+    place.require(part < 0.2, f"the sender takes {part:.0%} of a core")
+    require_stopped(place, "typo", "no line")
+
+
+def processor_time(pid):
+    with open(f"/proc/{pid}/stat", encoding="ascii") as file:
+        fields = file.read().rsplit(")", 1)[1].split()
+    return (int(fields[11]) + int(fields[12])) / os.sysconf("SC_CLK_TCK")
+
+
+# ---- what a receiver refuses for a reason of its own
+
+def drain_and_receive(place, before, after=(), other=None, clock=0):
+    """All is sent. A receiver takes what it can as `before` says, then another to the end."""
+    place.run("sender", "--drain")
+    place.run("receiver", *before, seconds=1.5, clock=clock, **other or {})
+    place.start("receiver", *after)
+    place.await_delivered()
+
+
+def clock_receiver(place):
+    place.put(texts("ann", 0, 100) + close("ann"))
+    drain_and_receive(place, (), clock=2 * DAYS)
+
+
+def clock_beside(place):
+    """Two receivers, of which the first that reads has a wrong clock until it is ended."""
+    wrong = place.start("receiver", clock=2 * DAYS)
+    time.sleep(0.5)
+    place.put(texts("ann", 0, 50))
+    place.run("sender", "--drain")
+    place.wait(lambda: place.ask("store", "SELECT offset FROM shard") == [(50,)], 5)
+    place.start("receiver")
+    place.put(texts("ann", 50, 100))
+    place.run("sender", "--drain")
+    time.sleep(1)
+    place.end(wrong)
+    place.await_delivered()
+
+
+def clock_sender(place):
+    place.put(texts("ann", 0, 100))
+    place.run("sender", "--drain", clock=-2 * DAYS)
+    place.put(texts("ann", 100, 200))
+    drain_and_receive(place, (), ("--skew", str(3 * DAYS)))
+
+
+def skew_word(place):
+    status, told = place.run("receiver", "--skew", "24h", seconds=2)
+    place.require(status == 2 and "--skew" in told, f"--skew 24h: status {status}")
+    place.put(texts("ann", 0, 100))
+    drain_and_receive(place, ())
+
+
+def session_later(place):
+    place.put(texts("ann", 0, 100) + texts("tom", 0, 100) + close("ann", "tom"))
+    place.write(f"{place.folder}/before", [ANN])
+    drain_and_receive(place, (), other={"sessions": f"{place.folder}/before"})
+
+
+def session_away(place):
+    """The session is known, its line is away for a while, and comes back."""
+    place.put(texts("tom", 0, 10))
+    place.run("sender", "--drain")
+    place.run("receiver", seconds=1)
+    place.put(texts("tom", 10, 100))
+    place.write(f"{place.folder}/before", [ANN])
+    drain_and_receive(place, (), other={"sessions": f"{place.folder}/before"})
+
+
+def key_later(place):
+    place.put(texts("ann", 0, 100) + close("ann"))
+    place.write(f"{place.folder}/before", [ANN.replace("11" * 16, "33" * 16)])
+    drain_and_receive(place, (), other={"sessions": f"{place.folder}/before"})
+
+
+def stale_repeats(place):
+    """Frames older than the skew come again, which took effect in time."""
+    place.put(texts("ann", 0, 1000))
+    place.run("sender", "--drain", clock=-3600)
+    place.run("receiver", "--skew", "600", seconds=1.5, clock=-3600)
+    with sqlite3.connect(f"{place.folder}/carrier.db") as file:
+        file.execute("INSERT INTO carried (shard, session, frame) SELECT shard, session, frame"
+                     " FROM carried ORDER BY offset")
+    file.close()
+    _, told = place.run("receiver", "--skew", "600", seconds=2)
+    place.await_delivered()
+    lines = sum("stands still" in line for line in told.splitlines())
+    place.require(lines == 0, f"{lines} lines say that the session stands still")
+    place.require("repeats 1000" in told, "they aren't counted as repeats")
+
+
+def two_reads(place):
+    """A receiver pauses between its two reads, while one with a wrong key passes all by."""
+    place.put(texts("ann", 0, 5))
+    place.run("sender", "--drain")
+    place.run("receiver", seconds=1)
+    place.put(texts("ann", 5, 10))
+    place.run("sender", "--drain")
+    place.write(f"{place.folder}/before", [ANN.replace("11" * 16, "33" * 16)])
+    place.start("receiver", pause=2500)
+    time.sleep(0.5)
+    place.run("receiver", seconds=1, sessions=f"{place.folder}/before")
+    place.await_delivered()
+
+
+# ---- offsets that aren't what they were
+
+def unstable_offsets(place):
+    """A reader was given frames at offsets at which others stand later."""
+    place.put(texts("ann", 0, 10))
+    place.run("sender", "--drain")
+    rows = place.ask("carrier", "SELECT offset, shard, session, frame FROM carried ORDER BY offset")
+    kept = [(at, *rows[of][1:]) for at, of in ((1, 0), (2, 1), (3, 2), (6, 7), (7, 8))]
+    rewrite(place, kept)
+    place.start("receiver")
+    place.wait(lambda: place.ask("store", "SELECT offset FROM shard") == [(7,)], 5)
+    rewrite(place, rows)
+    place.await_delivered()
+
+
+def rewrite(place, rows):
+    with sqlite3.connect(f"{place.folder}/carrier.db", timeout=errors.LIMIT) as file:
+        file.execute("DELETE FROM carried")
+        file.executemany("INSERT INTO carried (offset, shard, session, frame) VALUES (?, ?, ?, ?)",
+                         rows)
+    file.close()
+
+
+def carrier_replaced(place):
+    place.put(texts("ann", 0, 5000))
+    place.run("sender", "--drain")
+    place.run("receiver", seconds=2)
+    for path in glob.glob(f"{place.folder}/carrier.db*"):
+        os.unlink(path)
+    place.put(texts("ann", 5000, 5010))
+    status, _ = place.run("sender", "--drain", "--retry", "500", seconds=5)
+    place.require(status == 0, f"sender --drain: status {status}")
+    place.start("receiver")
+    place.await_delivered()
+
+
+def nats_stream_replaced(place):
+    place.put(texts("ann", 0, 5000))
+    place.run("sender", "--drain")
+    receiver = place.start("receiver")
+    place.wait(lambda: place.is_delivered({"ann": 5000}), 8)
+    place.end(receiver)
+    jetstream.request(place.nats.ports[0], "STREAM.DELETE.KRB_0")
+    place.put(texts("ann", 5000, 5010))
+    status, _ = place.run("sender", "--drain", "--retry", "500", seconds=5)
+    place.require(status == 0, f"sender --drain: status {status}")
+    place.start("receiver")
+    place.await_delivered()
+
+
+def stream_regrown(place):
+    """The new stream has grown past the stored offset before the receiver looks."""
+    place.put(texts("ann", 0, 100))
+    place.run("sender", "--drain")
+    receiver = place.start("receiver")
+    place.wait(lambda: place.is_delivered({"ann": 100}), 5)
+    place.end(receiver)
+    jetstream.request(place.nats.ports[0], "STREAM.DELETE.KRB_0")
+    for rows in (texts("abe", 0, 50), texts("ann", 100, 400)):
+        place.put(rows)
+        place.run("sender", "--drain", "--retry", "500", seconds=5)
+    place.start("receiver")
+    place.await_delivered()
+
+
+def stream_deleted(place):
+    """The stream is deleted below a sender and a receiver that run."""
+    place.put(texts("ann", 0, 10))
+    place.start("sender")
+    place.start("receiver")
+    place.wait(lambda: place.is_delivered({"ann": 10}), 5)
+    jetstream.request(place.nats.ports[0], "STREAM.DELETE.KRB_0")
+    place.put(texts("ann", 10, 40))
+    place.await_delivered()
+
+
+def consumer_gone(place):
+    """The consumer of a receiver is gone, as with a node that stays away."""
+    place.put(texts("ann", 0, 10))
+    place.start("sender")
+    place.start("receiver")
+    place.wait(lambda: place.is_delivered({"ann": 10}), 5)
+    for name in jetstream.request(place.nats.ports[0], "CONSUMER.NAMES.KRB_0")["consumers"]:
+        jetstream.request(place.nats.ports[0], f"CONSUMER.DELETE.KRB_0.{name}")
+    place.put(texts("ann", 10, 40))
+    place.await_delivered()
+
+
+def session_moved(place):
+    """A session gets another shard, in which offsets are lower."""
+    place.put(texts("ann", 0, 100) + texts("tom", 0, 5))
+    place.run("sender", "--drain")
+    receiver = place.start("receiver")
+    place.wait(lambda: place.is_delivered({"ann": 100, "tom": 5}), 5)
+    place.end(receiver)
+    place.write(place.sessions, [ANN.replace("ann 0", "ann 1"), TOM_1])
+    place.put(texts("ann", 100, 110))
+    status, _ = place.run("sender", "--drain", "--retry", "500", seconds=3)
+    place.require(status == 0, f"sender --drain: status {status}")
+    place.start("receiver")
+    place.await_delivered()
+
+
+def gap(place):
+    """Frames that weren't read are deleted: it is told, and told as what it is."""
+    place.put(texts("ann", 0, 300))
+    place.run("sender", "--drain")
+    jetstream.request(place.nats.ports[0], "STREAM.PURGE.KRB_0", seq=151)
+    _, told = place.run("receiver", seconds=2)
+    place.require("150 frames before offset 151 are gone" in told, told[:200])
+    place.await_delivered()
+
+
+# ---- numbers
+
+def restore_outbox(place):
+    place.put(texts("ann", 0, 100))
+    place.run("sender", "--drain")
+    with sqlite3.connect(place.outbox) as file:
+        file.execute("PRAGMA wal_checkpoint(TRUNCATE)")
+    file.close()
+    shutil.copy(place.outbox, f"{place.folder}/backup.db")
+    place.put(texts("ann", 100, 200))
+    place.run("sender", "--drain")
+    for path in glob.glob(f"{place.outbox}*"):
+        os.unlink(path)
+    shutil.copy(f"{place.folder}/backup.db", place.outbox)
+    use_old_outbox(place, "outbox")
+
+
+def lose_outbox(place):
+    place.put(texts("ann", 0, 200))
+    place.run("sender", "--drain")
+    use_old_outbox(place, "new")
+
+
+def use_old_outbox(place, name):
+    """Its texts wait, and what left before is delivered; another session goes on."""
+    outbox = f"{place.folder}/{name}.db"
+    place.put(texts("ann", 300, 320) + texts("tom", 0, 10), outbox)
+    status, told = place.run("sender", "--drain", outbox=outbox, seconds=5)
+    place.require(status == 4, f"sender --drain: status {status}")
+    place.require("older than what has left" in told, told[-200:])
+    place.start("receiver")
+    place.await_delivered()
+    waiting = place.ask(name, "SELECT count(*) FROM text")
+    place.require(waiting == [(20,)], f"{waiting} texts wait")
+
+
+# ---- one of many fails
+
+def stream_full(place):
+    """One shard's stream is full."""
+    jetstream.make_stream(place.nats.ports[0], 0, max_bytes=20000, discard="new")
+    place.put(texts("ann", 0, 3000, 1000) + texts("tom", 0, 500) + close("tom"))
+    sender = place.start("sender")
+    place.start("receiver")
+    place.await_delivered()
+    place.require("maximum bytes exceeded" in place.log(sender), place.log(sender)[:200])
+
+
+def max_payload(place):
+    """The broker takes 64 kB at most. Other sessions of the same shard and of another go on."""
+    place.put([("ann", b"a" * 100_000)] + texts("ann", 0, 3000)
+              + texts("abe", 0, 300) + texts("tom", 0, 500) + close("tom"))
+    sender = place.start("sender")
+    place.start("receiver")
+    place.await_delivered()
+    lines = place.log(sender).splitlines()
+    place.require(len(lines) < 30, f"{len(lines)} lines of log")
+    place.require(any("ann" in line and "Maximum Payload" in line for line in lines), lines[:2])
+    require_stopped(place, "ann", "Maximum Payload")
+
+
+def receiver_first(place):
+    """The receiver doesn't decide how many replicas there are, and a stream with fewer is told."""
+    place.run("receiver", seconds=2)
+    names = jetstream.request(place.nats.ports[0], "STREAM.NAMES")["streams"]
+    place.require(not names, f"the receiver has made {names}")
+    jetstream.make_stream(place.nats.ports[0], 0)
+    place.put([])
+    place.put(texts("ann", 0, 10))
+    status, told = place.run("sender", "--drain", "--replicas", "3", seconds=3)
+    place.require(status is None and "1 replica" in told, f"status {status}: {told[:200]}")
+    place.run("sender", "--drain")
+    place.start("receiver")
+    place.await_delivered()
+
+
+def forged_confirmation(place):
+    """While nothing can be stored, somebody confirms what is under way at a great offset."""
+    port = place.nats.ports[0]
+    jetstream.make_stream(port, 0, max_bytes=1, discard="new")
+    spy = jetstream.Connection(port)
+    spy.subscribe("krb.0.*")
+    place.put(texts("ann", 0, 5))
+    place.start("sender", "--retry", "300")
+    inbox = spy.next()[0][3].rsplit(".", 1)[0]
+    for number in range(1, 6):
+        spy.publish(f"{inbox}.{number}", b'{"stream":"KRB_0","seq":%d}' % FORGED)
+    spy.close()
+    time.sleep(1)
+    jetstream.request(port, "STREAM.UPDATE.KRB_0", name="KRB_0", subjects=["krb.0.*"],
+                      storage="file", retention="limits", num_replicas=1, max_bytes=-1,
+                      discard="new")
+    place.start("receiver")
+    place.await_delivered()
+    place.require(place.wait(lambda: not place.count("outbox", "frame"), 3),
+                  f"{place.count('outbox', 'frame')} frames stay in the outbox")
+
+
+class Forward:
+    """Passes a port's bytes on, and may hold them all."""
+
+    def __init__(self, port):
+        self.to, self.held, self.ends = port, False, []
+        self.server = engines.listen()
+        self.port = self.server.getsockname()[1]
+        threading.Thread(target=self.accept, daemon=True).start()
+
+    def accept(self):
+        while True:
+            one = self.server.accept()[0]
+            other = engines.connect(self.to)
+            self.ends += [one, other]
+            for pair in ((one, other), (other, one)):
+                threading.Thread(target=self.pass_on, args=pair, daemon=True).start()
+
+    def pass_on(self, source, target):
+        try:
+            while data := source.recv(65536):
+                while self.held:
+                    time.sleep(0.02)
+                target.sendall(data)
+        except OSError:
+            pass
+        finally:
+            target.close()
+
+
+def zombie_sender(place):
+    """A sender that is cut off isn't the owner any more."""
+    place.put(texts("ann", 0, 5))
+    place.run("sender", "--drain")
+    forward = Forward(place.nats.ports[0])
+    first = place.start("sender", carrier=f"nats://127.0.0.1:{forward.port}")
+    time.sleep(1)
+    forward.held = True
+    place.put(texts("ann", 5, 55))
+    time.sleep(0.5)
+    status, _ = place.run("sender", "--drain")
+    place.require(status == 0, f"second sender: status {status}")
+    place.start("receiver")
+    place.await_delivered()
+    ended = place.wait(lambda: first.poll() is not None, 5)
+    place.require(ended and first.returncode == 3, f"the first sender: {first.poll()}")
+
+
+# ---- words of the command line and the file of sessions
+
+def shards_word(place):
+    for words in ("all", "-1", "3-0", "0-", "4096-5000", ""):
+        status, told = place.run("receiver", shards=words, seconds=2)
+        place.require(status == 2 and "--shards" in told, f"--shards '{words}': status {status}")
+    place.put(texts("ann", 0, 5) + texts("tom", 0, 5))
+    place.run("sender", "--drain")
+    place.start("receiver", shards="0-1,3")
+    place.await_delivered()
+
+
+def numbers_of_words(place):
+    """Numbers of options, each of which is refused, with its name."""
+    for program, option, value in (
+            ("receiver", "skew", "abc"), ("receiver", "skew", "4294967296"),
+            ("receiver", "batch", "0"), ("receiver", "batch", "5000"),
+            ("receiver", "replicas", "-1"), ("sender", "replicas", "6"),
+            ("sender", "batch", "1001"), ("sender", "retry", "2s"), ("sender", "retry", ""),
+            ("sender", "replicas", " 1")):
+        status, told = place.run(program, f"--{option}", value, seconds=2)
+        place.require(status == 2 and f"--{option}" in told,
+                      f"{program} --{option} '{value}': status {status}")
+    for program in ("sender", "receiver"):
+        for word, part in (("--help", "--sessions"), ("--version", "krbrelay")):
+            status, told = place.run(program, word, seconds=2)
+            place.require(status == 0 and part in told, f"{program} {word}: status {status}")
+
+
+def bad_sessions(place):
+    """Files of sessions that are refused, with the line and the reason."""
+    files = {
+        "the same name": ([ANN, ANN.replace("11" * 16, "33" * 16)], "line 2"),
+        "the same key": ([ANN, ABE.replace("44" * 16, "11" * 16)], "line 2"),
+        "a shard of -1": ([ANN.replace("ann 0", "ann -1")], "line 1"),
+        "a shard of 5000": ([ANN.replace("ann 0", "ann 5000")], "line 1"),
+        "a key with a sign": ([ANN.replace("11" * 16, "+1" * 16)], "line 1"),
+        "a first number of -1": ([ANN.replace(" 1 10", " -1 10")], "line 1"),
+        "a first number of 2^32": ([ANN.replace(" 1 10", f" {LAST + 1} 10")], "line 1"),
+        "a word more": ([ANN.replace("\n", " more\n")], "line 1"),
+        "a long line": ([ANN.replace("\n", " " * 300 + "\n")], "line 1"),
+    }
+    for what, (lines, word) in files.items():
+        place.write(place.sessions, lines)
+        for program in ("sender", "receiver"):
+            status, told = place.run(program, seconds=2)
+            place.require(status == 1 and word in told, f"{what}, {program}: status {status}")
+
+
+def permissions(place):
+    """Keys and texts are for their owner alone."""
+    place.put(texts("ann", 0, 5))
+    place.run("sender", "--drain")
+    place.start("receiver")
+    place.await_delivered()
+    for path in glob.glob(f"{place.folder}/*.db*"):
+        place.require(os.stat(path).st_mode & 0o777 == 0o600, f"{os.path.basename(path)} has mode"
+                      f" {os.stat(path).st_mode & 0o777:o}")
+    for mode in (0o640, 0o604):
+        os.chmod(place.sessions, mode)
+        status, told = place.run("sender", "--drain", seconds=2)
+        place.require(status == 1 and "chmod 600" in told, f"mode {mode:o}: status {status}")
+
+
+# ---- what an operator sees
+
+def get(port, path):
+    """The status and the text of an answer over HTTP."""
+    try:
+        with urllib.request.urlopen(f"http://127.0.0.1:{port}{path}", timeout=5) as answer:
+            return answer.status, answer.read().decode()
+    except urllib.error.HTTPError as fault:
+        return fault.code, fault.read().decode()
+    except OSError as fault:
+        return None, str(fault)
+
+
+def numbers(port):
+    """The metrics that a program shows: each with its labels and its number."""
+    lines = get(port, "/metrics")[1].splitlines()
+    return dict(line.rsplit(" ", 1) for line in lines if " " in line and line[0] != "#")
+
+
+def metrics(place):
+    """The numbers are those that the files have; a session with a wrong key stands, by name."""
+    sender, receiver = engines.free_ports(2)
+    place.put(texts("ann", 0, 300) + texts("tom", 0, 7))
+    place.write(f"{place.folder}/wrong", [ANN, TOM.replace("22" * 32, "33" * 32)])
+    place.start("sender", metrics=f"127.0.0.1:{sender}")
+    place.start("receiver", metrics=f"127.0.0.1:{receiver}", sessions=f"{place.folder}/wrong")
+    place.await_delivered()
+    wanted = {(sender, 'krbrelay_sender_sealed_frames_total{}'): "307",
+              (sender, 'krbrelay_sender_waiting_frames{shard="0"}'): "0",
+              (receiver, 'krbrelay_receiver_texts_total{shard="0"}'): "300",
+              (receiver, 'krbrelay_receiver_refused_frames_total{shard="0"}'): "7",
+              (receiver, 'krbrelay_receiver_offset{shard="0"}'): "307",
+              (receiver, 'krbrelay_receiver_lag_frames{shard="0"}'): "0",
+              (receiver, 'krbrelay_receiver_session_stands{shard="0",session="tom"}'): "1"}
+    for (port, name), number in wanted.items():
+        fine = place.wait(lambda: numbers(port).get(name) == number, 4)
+        place.require(fine, f"{name} isn't {number}: {numbers(port).get(name)}")
+    for port in (sender, receiver):
+        place.require(get(port, "/healthz")[0] == 200, f"/healthz: {get(port, '/healthz')}")
+        place.require(get(port, "/other")[0] == 404, "/other is there")
+    status, told = place.run("receiver", metrics=f"127.0.0.1:{sender}", seconds=2)
+    place.require(status == 1 and "nothing listens" in told, f"a port that is taken: {status}")
+
+
+def supervisor(place):
+    """What systemd is told of a sender and a receiver: that they have begun, live and end."""
+    place.put(texts("ann", 0, 5))
+    for name in ("sender", "receiver"):
+        path = f"{place.folder}/{name}.socket"
+        with socket.socket(socket.AF_UNIX, socket.SOCK_DGRAM) as told:
+            told.bind(path)
+            told.settimeout(5)
+            process = place.start(name, told=path)
+            lines = [told.recv(100) for _ in range(2)]
+            process.send_signal(signal.SIGTERM)
+            while lines[-1] != b"STOPPING=1":
+                lines.append(told.recv(100))
+        place.require(sorted(set(lines)) == [b"READY=1", b"STOPPING=1", b"WATCHDOG=1"],
+                      f"{name}: {lines}")
+    place.run("sender", "--drain")      # the one before may have ended before it sent them
+    place.start("receiver")
+    place.await_delivered()
+
+
+def require_end(place, process, what):
+    process.send_signal(signal.SIGTERM)
+    fine = place.wait(lambda: process.poll() is not None, 5)
+    place.require(fine and process.returncode == 0, f"{what}: {process.poll()}")
+
+
+def terminate(place):
+    """Wherever they wait: for work, for a store that is locked, for a node that is silent."""
+    place.put(texts("ann", 0, 5))
+    sender, receiver = place.start("sender"), place.start("receiver")
+    place.await_delivered()
+    require_end(place, receiver, "a receiver without work")
+    require_end(place, sender, "a sender without work")
+    place.put(texts("ann", 5, 6))
+    place.run("sender", "--drain")
+    for name, file in (("receiver", "store"), ("sender", "outbox")):
+        thread = errors.hold(f"{place.folder}/{file}.db", 8)
+        process = place.start(name)
+        time.sleep(1)
+        require_end(place, process, f"a {name} whose {file} is locked")
+        thread.join()
+    sender, receiver = place.start("sender"), place.start("receiver")
+    place.await_delivered({"ann": 6})
+    place.nats.running[0].send_signal(signal.SIGSTOP)
+    place.put(texts("ann", 6, 7))
+    time.sleep(1)
+    require_end(place, receiver, "a receiver whose node is silent")
+    require_end(place, sender, "a sender whose node is silent")
+
+
+# ---- the table
+
+@dataclasses.dataclass
+class Case:
+    """What is done; how many texts of each session have to be delivered, in order and each once;
+    within how many seconds."""
+    run: typing.Callable
+    done: str
+    wanted: dict
+    seconds: float
+    lines: tuple = (ANN, TOM)
+    shards: str = "0"
+    nats: str = None        # further lines of the node's configuration
+
+
+CASES = (
+    Case(told_at_insertion, "a text of 1,000,001 bytes is put into the outbox", {}, 5),
+    Case(poison_oversize, "one is there, between texts of two sessions", {"ann": 300, "tom": 300},
+         10),
+    Case(poison_in_load, "one comes after 1,500 texts of its session",
+         {"ann": 1500, "tom": 300}, 10),
+    Case(poison_numbers, "a session's numbers end", {"ann": 5, "tom": 300}, 10,
+         (ANN.replace(" 1 10", f" {LAST - 5} 10"), TOM)),
+    Case(poison_no_line, "the line of a session with texts is taken out", {"tom": 300}, 10),
+    Case(unknown_text, "100,000 texts of a session without a line wait", {"ann": 3}, 10),
+    Case(clock_receiver, "a receiver's clock is two days ahead at first", {"ann": 100}, 10),
+    Case(clock_beside, "one of two receivers has a clock that is two days ahead, for two seconds",
+         {"ann": 100}, 20),
+    Case(clock_sender, "a sender's clock is two days off at first; then --skew is three days",
+         {"ann": 200}, 10),
+    Case(skew_word, "--skew 24h", {"ann": 100}, 10),
+    Case(session_later, "a receiver doesn't have a session's line at first",
+         {"ann": 100, "tom": 100}, 10),
+    Case(session_away, "a receiver doesn't have a session's line for a while", {"tom": 100}, 10),
+    Case(key_later, "a receiver has a wrong key at first", {"ann": 100}, 10),
+    Case(stale_repeats, "frames that took effect come again, older than the skew", {"ann": 1000},
+         10),
+    Case(two_reads, "a receiver pauses between its two reads", {"ann": 10}, 12),
+    Case(unstable_offsets, "other frames stand at the offsets than a reader was given",
+         {"ann": 10}, 20),
+    Case(carrier_replaced, "the carrier's file is replaced by an empty one", {"ann": 5010}, 15),
+    Case(nats_stream_replaced, "the stream is deleted after all was delivered", {"ann": 5010}, 20,
+         nats=""),
+    Case(stream_regrown, "the stream is deleted, and grows past the stored offset",
+         {"abe": 50, "ann": 400}, 20, (ABE, ANN, TOM), nats=""),
+    Case(stream_deleted, "the stream is deleted below a sender and a receiver", {"ann": 40}, 25,
+         nats=""),
+    Case(consumer_gone, "the consumer of a receiver is gone", {"ann": 40}, 12, nats=""),
+    Case(session_moved, "a session gets another shard", {"ann": 110, "tom": 5}, 15,
+         (ANN, TOM_1), "0,1", nats=""),
+    Case(gap, "150 frames are deleted before they are read", {}, 10, nats=""),
+    Case(restore_outbox, "the outbox is restored from a backup that is 100 texts old",
+         {"ann": 200, "tom": 10}, 10),
+    Case(lose_outbox, "a sender begins elsewhere with a new outbox", {"ann": 200, "tom": 10}, 10),
+    Case(stream_full, "the stream of one shard is full", {"tom": 500}, 10, (ANN, TOM_1), "0,1", ""),
+    Case(max_payload, "a frame is longer than the broker takes", {"abe": 300, "tom": 500}, 10,
+         (ABE, ANN, TOM_1), "0,1", "max_payload: 65536"),
+    Case(receiver_first, "a receiver is started first; a stream has fewer replicas than asked for",
+         {"ann": 10}, 15, nats=""),
+    Case(forged_confirmation, "somebody confirms frames at the offset 2^62", {"ann": 5}, 15,
+         nats=""),
+    Case(zombie_sender, "a sender is cut off while another one takes over", {"ann": 55}, 15,
+         nats=""),
+    Case(shards_word, "--shards all, and 0-1,3", {"ann": 5, "tom": 5}, 15, (ANN, TOM_1)),
+    Case(numbers_of_words, "numbers of options that are none, or out of range", {}, 10),
+    Case(bad_sessions, "files of sessions that are wrong", {}, 10),
+    Case(permissions, "who may read the files", {"ann": 5}, 10),
+    Case(metrics, "the numbers that programs show", {"ann": 300}, 15),
+    Case(supervisor, "what a supervisor is told", {"ann": 5}, 15),
+    Case(terminate, "SIGTERM, wherever programs wait", {"ann": 5}, 60, nats=""),
+)
+
+
+def run(programs, folder, case):
+    """One case: whether it went right, its line, and what went wrong."""
+    place = Place(programs, folder, case)
+    try:
+        if case.nats is not None:
+            place.start_nats(case.nats)
+            place.began = time.monotonic()
+        case.run(place)
+    finally:
+        place.stop()
+    took = time.monotonic() - place.began
+    return (not place.faults, f"repro {case.run.__name__}: {case.done}: {took:.1f} s",
+            place.faults[:10])
