@@ -6,11 +6,12 @@ import shutil
 import subprocess
 
 from lib import scripts
-from lib.build import building, c_tools
+from lib.build import building, c_tools, unproved
 
 TO_ANSWER = 60         # seconds for a tool to say whether it is there
 
 PROGRAM = "a program that is built from these sources"
+UNPROVED = "one that is built from them without its proofs"
 COMPILER = "a C compiler"
 CRYPTOGRAPHY = "Python's package cryptography"
 MIT = "Debian's libkrb5-dev"
@@ -38,6 +39,7 @@ def runs(*words):
 
 IS_THERE = {
     PROGRAM: lambda: building.is_built("krbrelay", building.KRBRELAY),
+    UNPROVED: lambda: has("rt") and unproved.is_kept(),
     COMPILER: lambda: has(c_tools.c_compiler()[0]),
     CRYPTOGRAPHY: lambda: runs("python3", "-c", "from lib.oracle import opener"),
     MIT: lambda: runs("pkg-config", "--exists", "mit-krb5"),
@@ -107,6 +109,16 @@ MORE = [
     Part("tools/kerberos", 75, ("rt", COMPILER, MIT, HEIMDAL, REALM)),
     Part("tools/carrier --all", 60, (PROGRAM, "rt", COMPILER, "clang", MAKE, SQLITE, SERVERS)),
     Part("tools/secret_places", 60, ("rt", COMPILER, "valgrind")),
+]
+# Those of --quick: the first builds the program that the others run, without its proofs.
+BUILD_UNPROVED = Part("tools/krbrelay --unproved", 10, ("rt",))
+QUICK = [
+    Part("tools/quotes", 1),
+    Part("tools/test_tables", 1),
+    Part("tools/picture --quick", 1, (UNPROVED,)),
+    Part("tools/redelivery --quick", 4, (UNPROVED, CRYPTOGRAPHY)),
+    Part("tools/fuzz --quick 300", 5, (UNPROVED, CRYPTOGRAPHY)),
+    Part("tools/test_program --quick", 6, (UNPROVED,)),
 ]
 
 

@@ -3,14 +3,21 @@ import subprocess
 
 from lib.build import building
 
+USED = [building.KRBRELAY]      # the program that is run where none is named
 
-def run(command, text, program=building.KRBRELAY, limit=60, **how):
+
+def use(program):
+    """Has this program run where none is named."""
+    USED[0] = program
+
+
+def run(command, text, program=None, limit=60, **how):
     """The finished run of a command over a text, by default within a minute."""
-    return subprocess.run([program, command], input=text, stdout=subprocess.PIPE, text=True,
-                          check=False, timeout=limit, **how)
+    return subprocess.run([program or USED[0], command], input=text, stdout=subprocess.PIPE,
+                          text=True, check=False, timeout=limit, **how)
 
 
-def lines(command, text, program=building.KRBRELAY, limit=60):
+def lines(command, text, program=None, limit=60):
     return run(command, text, program, limit).stdout.splitlines()
 
 

@@ -25,6 +25,8 @@ class Lines:
 
     def __init__(self, tests):
         self.tests, self.table = tests, rows()
+        self.small = [self.lines, self.wide_keys, self.tops, self.order, self.senders]
+        self.all = [*self.small, self.limits]
 
     def faulty(self, command, job, fault, name):
         """The command finds the job bad, by this fault, and prints nothing."""
@@ -119,8 +121,4 @@ class Lines:
     def keyed(self, command, numbers):
         """A sender for each of these numbers, which is its key."""
         return "".join(sender(self.table, command, "key", f'key = "{it:032}"') for it in numbers)
-
-    def all(self):
-        for part in (self.lines, self.limits, self.wide_keys, self.tops, self.order, self.senders):
-            part()
 

@@ -41,6 +41,9 @@ class Runs:
 
     def __init__(self, tests):
         self.tests, self.table = tests, rows()
+        self.small = [self.jobs, self.bad_plans, self.shown, self.opened, self.flipped, self.spelt,
+                      self.most, self.rounds, self.vectors, self.help]
+        self.all = [*self.small, self.zeros, self.shown_zeros, self.come_back, self.longest]
 
     def filled(self, text):
         """A text with each frame that it names."""
@@ -82,6 +85,8 @@ class Runs:
                 self.whole(command, row)
         for row in self.table["refused"]:
             self.refused(row["frame"], row.get("changes", {}), row["refusal"])
+
+    def zeros(self):
         for row in self.table["zeros"]:
             self.refused("00" * row["size"], {}, row["refusal"])
 
@@ -106,6 +111,8 @@ class Runs:
             self.tests.check(f"show of {row['name']}",
                              self.tests.run(["show"], self.filled(row["input"]).encode()),
                              row.get("status", 0), text, b"")
+
+    def shown_zeros(self):
         for row in self.table["shown_zeros"]:
             self.tests.check(f"show of {row['digits']} zeros",
                              self.tests.run(["show"], b"0" * row["digits"]), 2,
@@ -246,9 +253,3 @@ class Runs:
                 self.tests.right(part in out, f"FAILED {command} --help has no {part}")
             for key in self.table["help"]["keys"] if command == "relay" else ():
                 self.tests.right(f"\n  {key} = " in out, f"FAILED {command} --help has no {key}")
-
-    def all(self):
-        for part in (self.jobs, self.bad_plans, self.shown, self.come_back, self.opened,
-                     self.flipped, self.spelt, self.longest, self.most, self.rounds, self.vectors,
-                     self.help):
-            part()

@@ -4,13 +4,17 @@ import os
 import shutil
 import signal
 import subprocess
+import time
 
 from lib.build import building
 
 LIMIT = 60      # seconds for one command
+TO_END = 10     # seconds for all to end
 # What takes the place of the kit: the words that it was called with are noted in $NOTES, as what
 # its programs are called with. A crate whose sources are those of the copy is proved, and of another
-# one it prints $SAYS.
+# one it prints $SAYS. If $HANGS is set, `rt try` goes on for a minute beside a process in a session
+# of its own, as the kit's does. At a signal it ends that process, after a second, and then itself; at
+# a second signal meanwhile it ends at once.
 KIT = r'''#!/bin/sh
 name=$(basename "$PWD")
 note() { echo "$*" >> "$NOTES"; }
@@ -23,6 +27,12 @@ case $1 in
 version) echo kit-of-the-test ;;
 try)
     note try; shift 2
+    if [ -n "$HANGS" ]; then
+        setsid sleep 60 & started=$!
+        trap 'trap "exit 130" INT TERM HUP; sleep 1; kill $started; exit 130' INT TERM HUP
+        note "started $started"
+        wait
+    fi
     if [ "$KEEPS" = no ]; then [ "$1" = --version ] || { echo tried; exit 3; }; exit 0; fi
     folder=$(mktemp -d); program "$folder/program" unproved; sleep 0.5; rm -r "$folder" ;;
 lib | run)
@@ -63,6 +73,36 @@ def write_script(path, text):
     os.chmod(path, 0o755)
 
 
+def lives(process):
+    """Whether there is a process of this number that hasn't ended."""
+    try:
+        with open(f"/proc/{process}/stat", encoding="utf-8") as file:
+            return file.read().rpartition(")")[2].split()[0] not in "ZX"
+    except OSError:
+        return False
+
+
+def started(notes):
+    """The processes that are noted as started."""
+    return [it.removeprefix("started ") for it in notes if it.startswith("started ")]
+
+
+def are_left(notes):
+    """Whether a process lives that is noted as started, also after some seconds."""
+    end = time.monotonic() + TO_END
+    while time.monotonic() < end:
+        if not any(map(lives, started(notes))):
+            return False
+        time.sleep(0.1)
+    return True
+
+
+def stand_alone():
+    """Makes a process the first of a group, and has interrupts end it."""
+    os.setpgid(0, 0)
+    signal.signal(signal.SIGINT, signal.SIG_DFL)
+
+
 class Copy:
     """The repository's sources and tools in a folder, and what takes the place of the kit."""
 
@@ -78,14 +118,13 @@ class Copy:
                       "PATH": programs + ":" + os.environ["PATH"]}
 
     def begin(self, words, **given):
-        """Begins a tool, with nothing noted. An interrupt ends it, also where the test ignores
-        interrupts, as what a shell starts in the background does."""
+        """Begins a tool, with nothing noted, as the first of a process group. An interrupt ends it,
+        also where the test ignores interrupts, as what a shell starts in the background does."""
         open(self.notes, "w", encoding="utf-8").close()
         tool, *rest = words.split()
         return subprocess.Popen([self.path("tools", tool), *rest], stdin=subprocess.DEVNULL,
                                 stdout=subprocess.PIPE, stderr=subprocess.PIPE, text=True,
-                                env={**self.given, **given},
-                                preexec_fn=lambda: signal.signal(signal.SIGINT, signal.SIG_DFL))
+                                env={**self.given, **given}, preexec_fn=stand_alone)
 
     def run(self, words, **given):
         """Runs a tool. Returns its status, output and standard error, and what was noted."""

@@ -6,7 +6,8 @@ of a proved program, so nothing that asks for a proved program finds it (buildin
 
 `rt try` builds the program in a temporary folder, runs it there with the checks of a compiler, and
 removes the folder. While it works, this module gives the program a second name outside of it. If
-that can't be, each answer is one of `rt try`.
+that can't be, each answer is one of `rt try`. `rt` ends with all that it started, whatever signal
+ends this process (family.py).
 """
 import os
 import shutil
@@ -15,7 +16,7 @@ import sys
 import tempfile
 import time
 
-from lib.build import building
+from lib.build import building, family
 
 FOLDER = os.path.join(building.TOP, "out", "unproved")
 PROGRAM = os.path.join(FOLDER, "krbrelay")
@@ -23,6 +24,8 @@ STAMP = PROGRAM + ".unproved_from"
 LOG = os.path.join(FOLDER, "krbrelay.log")
 TRY = ["rt", "try"]
 NOT_KEPT = "the kit's program wasn't kept"
+QUICK = "--quick"       # the first word of a tool that is to take this program
+SLOWER = 500            # times the time of the proved program, as a job of 5 MB was measured
 
 
 def say(text):
@@ -49,6 +52,11 @@ def is_known():
             return file.read() == stamp()
     except FileNotFoundError:
         return False
+
+
+def is_kept():
+    """Whether the program is there, built from these sources by this kit."""
+    return os.path.exists(PROGRAM) and is_known()
 
 
 def note():
@@ -93,16 +101,12 @@ def build():
         " which takes a minute or two")
     with tempfile.TemporaryDirectory(dir=FOLDER) as room, open(LOG, "wb") as log:
         links = {}
-        ran = subprocess.Popen([*TRY, "--", "--version"], stdin=subprocess.DEVNULL, stdout=log,
-                               stderr=subprocess.STDOUT, cwd=building.folder_of("krbrelay"),
-                               env={**os.environ, "TMPDIR": room})
-        try:
+        with family.started([*TRY, "--", "--version"], stdin=subprocess.DEVNULL, stdout=log,
+                            stderr=subprocess.STDOUT, cwd=building.folder_of("krbrelay"),
+                            env={**os.environ, "TMPDIR": room}) as ran:
             while ran.poll() is None:
                 link_programs(room, links)
                 time.sleep(0.01)
-        finally:
-            ran.terminate()
-            ran.wait()
         if ran.returncode:
             return ran.returncode
         keep(next(filter(is_whole, links.values()), None))
@@ -128,17 +132,37 @@ def fail():
 
 # ---- running
 
-def run(words):
-    """Runs the program with these words. Returns its exit status, after a last line on standard
-    error which says that it isn't proved."""
+def ensure():
+    """Builds the program unless it is built. Returns the exit status."""
     if shutil.which("rt") is None:
         say("krbrelay can't be built: there is no command rt, which is the kit's")
         return 1
-    if not is_known() and build():
-        return fail()
-    folder = None if os.path.exists(PROGRAM) else building.folder_of("krbrelay")
-    command = [PROGRAM] if folder is None else [*TRY, "--"]
-    status = subprocess.run([*command, *words], cwd=folder, check=False).returncode
-    say("This answer is one of a program that was built without its proofs: tools/test, or"
-        " tools/krbrelay --prove, proves it.")
+    return fail() if not is_known() and build() else 0
+
+
+def run(words):
+    """Runs the program with these words. Returns its exit status, after a last line on standard
+    error which says that it isn't proved, that it is slow, and what makes the fast one."""
+    if ensure():
+        return 1
+    if os.path.exists(PROGRAM):
+        status = subprocess.run([PROGRAM, *words], check=False).returncode
+    else:
+        with family.started([*TRY, "--", *words], cwd=building.folder_of("krbrelay")) as ran:
+            status = ran.wait()
+    say("This answer is one of a program that was built without its proofs, and is some"
+        f" {SLOWER} times slower than the proved one: tools/krbrelay --prove makes that one.")
     return status if status >= 0 else 128 - status
+
+
+# ---- for the tools
+
+def chosen(words):
+    """The program that a tool takes, and its other words: after `--quick` the one that is built
+    without its proofs, which is said in a line, else the proved one. It is built first if needed."""
+    if words[:1] != [QUICK]:
+        return building.krbrelay(), words
+    if ensure() or not os.path.exists(PROGRAM):
+        sys.exit("there is no program krbrelay that was built without its proofs")
+    print("over a program that was built without its proofs", flush=True)
+    return PROGRAM, words[1:]
