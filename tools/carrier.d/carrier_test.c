@@ -105,7 +105,7 @@ static void check_last(struct carrier *c)
     check(carrier_last(c, SHARD + 2, "tom-7", &last) == 0, "of a shard that isn't there");
 }
 
-/* Whoever asks is told the same incarnation, and nothing stands after the end. */
+/* Each reader of a shard gets the same incarnation, and nothing stands after the end. */
 static void check_shards(struct carrier *c, struct carrier *reader)
 {
     uint64_t made = 0, asked = 0, behind = 1;
