@@ -79,8 +79,11 @@ class Part:
 FIRST = Part("tools/wrong_bodies", 2, ("rt",))
 GATE = Part("rt ci", 174, ("rt",))
 BUILD = Part("tools/krbrelay --prove", 60, ("rt",))
-# It builds the C library, which the carrier takes then.
-ALONE = [Part("tools/c_library --core", 30, ("rt", COMPILER, CRYPTOGRAPHY))]
+# The first builds the C library, which Python's tests and the carrier take then.
+ALONE = [
+    Part("tools/c_library --core", 30, ("rt", COMPILER, CRYPTOGRAPHY)),
+    Part("tools/python", 20, (COMPILER, CRYPTOGRAPHY)),
+]
 PARTS = [
     Part("tools/quotes", 1),
     Part("tools/reference --check", 1),
@@ -99,6 +102,7 @@ PARTS = [
     Part("tools/carrier", 30, (PROGRAM, "rt", COMPILER, MAKE, SQLITE)),
     Part("tools/fuzz 2000", 5, (PROGRAM, CRYPTOGRAPHY)),
     Part("tools/test_bench", 30, ("rt",)),
+    Part("tools/secret_places", 60, ("rt", COMPILER, "valgrind")),
 ]
 MORE = [
     Part("tools/wrong_bodies --try", 170, ("rt",)),
@@ -108,7 +112,6 @@ MORE = [
     Part("tools/python --all", 20, (COMPILER, CRYPTOGRAPHY)),
     Part("tools/kerberos", 75, ("rt", COMPILER, MIT, HEIMDAL, REALM)),
     Part("tools/carrier --all", 60, (PROGRAM, "rt", COMPILER, "clang", MAKE, SQLITE, SERVERS)),
-    Part("tools/secret_places", 60, ("rt", COMPILER, "valgrind")),
 ]
 # Those of --quick: the first builds the program that the others run, without its proofs.
 BUILD_UNPROVED = Part("tools/krbrelay --unproved", 10, ("rt",))
