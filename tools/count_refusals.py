@@ -11,6 +11,7 @@ tools/lib/oracle/reader.py, shares nothing with them. Needed: Python.
 
 import sys
 
+from lib import usage
 from lib.oracle.reader import Malformed, message, part
 
 
@@ -46,4 +47,5 @@ def main():
 
 
 if __name__ == "__main__":
+    usage.answer(__doc__)
     main()

@@ -9,6 +9,7 @@ Needed: Python's package cryptography.
 """
 import sys
 
+from lib import usage
 from lib.oracle import fixtures, frames
 
 
@@ -23,4 +24,5 @@ def main(words):
         sys.exit(__doc__)
 
 
+usage.answer(__doc__)
 main(sys.argv[1:])

@@ -12,6 +12,7 @@ Needed: rt.
 import signal
 import sys
 
+from lib import usage
 from lib.build import proving
 
 
@@ -29,4 +30,5 @@ def main(words):
         return 130
 
 
+usage.answer(__doc__)
 sys.exit(main(sys.argv[1:]))

@@ -10,6 +10,7 @@ The computation is tools/lib/oracle/aes_tables.py.
 import re
 import sys
 
+from lib import usage
 from lib.build import building
 from lib.oracle.aes_tables import G, T, tables, test
 
@@ -78,4 +79,5 @@ def main(words):
         sys.exit(1)
 
 
+usage.answer(__doc__)
 main(sys.argv[1:])
