@@ -371,8 +371,8 @@ static const struct option words_of_options[] = {
     { "carrier", required_argument, NULL, 'c' },  { "replicas", required_argument, NULL, 'r' },
     { "batch", required_argument, NULL, 'b' },    { "retry", required_argument, NULL, 't' },
     { "metrics", required_argument, NULL, 'm' },  { "drain", no_argument, NULL, 'd' },
-            { "help", no_argument, NULL, 'h' },
-    { "version", no_argument, NULL, 'v' },        { NULL, 0, NULL, 0 }
+    { "help", no_argument, NULL, 'h' },           { "version", no_argument, NULL, 'v' },
+    { NULL, 0, NULL, 0 }
 };
 
 static int read_option(struct options *o, int letter)

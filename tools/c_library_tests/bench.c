@@ -5,9 +5,8 @@
  * Told is the best batch of 32 by the thread's processor time, which is the least disturbed one on
  * a busy machine. Our confounder comes from MIT's generator, as MIT's does. */
 #include "krbrelay.h"
-#include "session.h"
+#include "mit_end.h"
 
-#include <krb5.h>
 #include <stdio.h>
 #include <stdlib.h>
 #include <string.h>
@@ -15,7 +14,6 @@
 
 enum { BATCH = 32, LONGEST = 60000 };
 
-static krb5_context ctx;
 static uint8_t text[LONGEST], frames[BATCH][KRBRELAY_FRAME_LIMIT], got[KRBRELAY_FRAME_LIMIT];
 static size_t sizes[BATCH];
 static krb5_data mit_frames[BATCH], mit_texts[BATCH];
@@ -31,14 +29,6 @@ struct ends {
 
 /* The seconds of a batch, the best so far. */
 struct best { double made, read, in_place, mit_made, mit_read, handles; };
-
-static void must(long answer, const char *what)
-{
-    if (answer != 0) {
-        fprintf(stderr, "%s: %ld\n", what, answer);
-        exit(1);
-    }
-}
 
 static double clock_at(clockid_t clock)
 {
@@ -135,8 +125,6 @@ static void free_mit(struct ends *e)
     }
 }
 
-static uint8_t key[32];
-
 static void make_handles(struct ends *e)
 {
     struct krbrelay_session session = session_of(e->mode, 0);
@@ -145,21 +133,6 @@ static void make_handles(struct ends *e)
         must(krbrelay_sealer_new(&once, e->etype, key, key_size(e->etype), &session), "new");
         krbrelay_sealer_free(&once);
     }
-}
-
-static krb5_auth_context mit_end(int etype, uint8_t from, uint8_t to)
-{
-    uint8_t a[4] = { 10, 0, 0, from }, b[4] = { 10, 0, 0, to };
-    krb5_address local = { KV5M_ADDRESS, ADDRTYPE_INET, 4, a };
-    krb5_address remote = { KV5M_ADDRESS, ADDRTYPE_INET, 4, b };
-    krb5_keyblock block = { KV5M_KEYBLOCK, etype, (unsigned)key_size(etype), key };
-    krb5_auth_context c = NULL;
-    must(krb5_auth_con_init(ctx, &c), "auth_con_init");
-    must(krb5_auth_con_setuseruserkey(ctx, c, &block), "setuseruserkey");
-    must(krb5_auth_con_setaddrs(ctx, c, &local, &remote), "setaddrs");
-    must(krb5_auth_con_setflags(ctx, c, KRB5_AUTH_CONTEXT_DO_SEQUENCE | KRB5_AUTH_CONTEXT_DO_TIME),
-         "setflags");
-    return c;
 }
 
 static struct ends ends_of(uint32_t mode, int etype, size_t len)

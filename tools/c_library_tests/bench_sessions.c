@@ -6,9 +6,8 @@
  * batch of 1,000 texts, sealed and taken by ends that are kept, beside user data of the same size.
  * Told is the best batch by the thread's processor time. */
 #include "krbrelay.h"
-#include "session.h"
+#include "mit_end.h"
 
-#include <krb5.h>
 #include <stdio.h>
 #include <stdlib.h>
 #include <string.h>
@@ -16,20 +15,11 @@
 
 enum { SESSIONS = 16, MOST = 10, SIZE = 64, BATCH_BYTES = 64 * 1000, ROOM = KRBRELAY_FRAME_LIMIT };
 
-static krb5_context ctx;
-static uint8_t key[32], text[SIZE], got[ROOM], frames[MOST][1024], batch[BATCH_BYTES], frame[ROOM];
+static uint8_t text[SIZE], got[ROOM], frames[MOST][1024], batch[BATCH_BYTES], frame[ROOM];
 static size_t sizes[MOST];
 static krb5_data mit_frames[MOST];
 
 struct row { uint32_t mode; int etype; unsigned count; };
-
-static void must(long answer, const char *what)
-{
-    if (answer != 0) {
-        fprintf(stderr, "%s: %ld\n", what, answer);
-        exit(1);
-    }
-}
 
 static double clock_at(clockid_t clock)
 {
@@ -98,21 +88,6 @@ static void opened_sessions(const struct row *r)
 }
 
 /* ---- sessions of MIT's */
-
-static krb5_auth_context mit_end(int etype, uint8_t from, uint8_t to)
-{
-    uint8_t a[4] = { 10, 0, 0, from }, b[4] = { 10, 0, 0, to };
-    krb5_address local = { KV5M_ADDRESS, ADDRTYPE_INET, 4, a };
-    krb5_address remote = { KV5M_ADDRESS, ADDRTYPE_INET, 4, b };
-    krb5_keyblock block = { KV5M_KEYBLOCK, etype, (unsigned)key_size(etype), key };
-    krb5_auth_context c = NULL;
-    must(krb5_auth_con_init(ctx, &c), "auth_con_init");
-    must(krb5_auth_con_setuseruserkey(ctx, c, &block), "setuseruserkey");
-    must(krb5_auth_con_setaddrs(ctx, c, &local, &remote), "setaddrs");
-    must(krb5_auth_con_setflags(ctx, c, KRB5_AUTH_CONTEXT_DO_SEQUENCE | KRB5_AUTH_CONTEXT_DO_TIME),
-         "setflags");
-    return c;
-}
 
 static void mit_sealed_sessions(const struct row *r)
 {
