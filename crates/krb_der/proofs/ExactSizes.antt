@@ -53,7 +53,7 @@ pub length-safe_fields : (m : SafeMsg) → length (concat (safe_fields m)) ≡ s
 length-safe_fields m =
     grind (arith, length-append, size-tagged, length-body m.body, length-typed m.cksum_type m.checksum)
 
-length-safe : (m : SafeMsg) → length (safe m) ≡ element_size (element_size (safe_fields_size m m.cksum_type (length m.checksum) (length m.body.user_data)))
+pub length-safe : (m : SafeMsg) → length (safe m) ≡ element_size (element_size (safe_fields_size m m.cksum_type (length m.checksum) (length m.body.user_data)))
 length-safe m =
     size-tagged (application 20) (sequence (safe_fields m)) ∙ ap element_size (size-tagged sequence_tag (concat (safe_fields m)) ∙ ap element_size (length-safe_fields m))
 

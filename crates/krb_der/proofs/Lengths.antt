@@ -56,7 +56,7 @@ short_body b h = (
   optional_short frame_limit b.r_addr (omega (arith, body_holds b 5)),
 )
 
-short_safe : (m : SafeMsg) → length (safe m) ≤ frame_limit → IsShortBody m.body × IsShort m.checksum
+pub short_safe : (m : SafeMsg) → length (safe m) ≤ frame_limit → IsShortBody m.body × IsShort m.checksum
 short_safe m h = (
   short_body m.body (omega (arith, safe_holds m 2, length-tagged 0xA2 (body m.body))),
   omega (arith, safe_holds m 3, length-tagged 0xA3 (checksum m.cksum_type m.checksum), typed_holds m.cksum_type m.checksum),

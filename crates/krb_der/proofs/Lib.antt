@@ -7,3 +7,4 @@ pub mod ExactSizes
 pub mod Drafts
 pub mod Sizes
 pub mod Earlier
+pub mod SafeDrafts

@@ -1,17 +1,18 @@
 -- Sizes of spellings, and spellings that are written piece by piece.
-use Rattle.std.proofs.Common.{◌≡◌, ℕ, ℤ, List, [], ◌++◌, length, Option, Some, None, refl, sym, ap, ◌∙◌, arith, append_assoc, length-append}
+use Rattle.std.proofs.Common.{◌≡◌, ℕ, ◌+◌, ℤ, pos, List, [], ◌∷◌, ◌++◌, length, Option, Some, None, refl, sym, ap, ◌∙◌, arith, append_assoc, length-append}
 use Rattle.std.specs.List.{concat}
 use Rattle.std.proofs.lemmas.List.{append-nil}
 use Rattle.krb_tlv.specs.Element.{header, tagged, sequence, optional}
 use Rattle.krb_tlv.specs.Tag.{context, application, sequence_tag}
-use Rattle.krb_tlv.specs.Integer.{integer, natural}
+use Rattle.krb_tlv.specs.Length.{length_octets}
+use Rattle.krb_tlv.specs.Integer.{int_octets, integer, natural}
 use Rattle.krb_der.specs.declared.safe.SafeMsg.{SafeMsg}
 use Rattle.krb_der.specs.declared.private.PrivMsg.{PrivMsg}
-use Rattle.krb_der.specs.Body.{body}
-use Rattle.krb_der.specs.Safe.{safe_input}
+use Rattle.krb_der.specs.Typed.{typed_octets}
+use Rattle.krb_der.specs.Safe.{safe, safe_fields, before_checksum, checksum_field, without_checksum, safe_input}
 use Rattle.krb_der.specs.Private.{encrypted_fields, encrypted_data, private_fields, private}
 use Rattle.krb_tlv.specs.Writing.{element_size}
-use Rattle.krb_der.specs.Writing.{safe_before_data, safe_behind_data, encrypted_fields_size, encrypted_before_cipher, private_fields_size, private_size, private_before_cipher}
+use Rattle.krb_der.specs.Writing.{safe_headers, encrypted_fields_size, encrypted_before_cipher, private_fields_size, private_size, private_before_cipher}
 use Rattle.krb_tlv.proofs.Writers.{begun, length-octets}
 use Rattle.krb_tlv.proofs.Readers.{size-tagged}
 
@@ -24,11 +25,35 @@ message_written tag n k fields s0 s1 s2 s3 none size around first second third =
     let outer : k ≡ length (sequence fields) = around ∙ ap element_size size ∙ sym (size-tagged 0x30 (concat fields)) in
     begun tag k (sequence fields) s0 s1 s3 outer first (begun 0x30 n (concat fields) s1 s2 s3 size second third) ∙ ap (λ s. s ++ tagged tag (sequence fields)) none
 
--- what is under a checksum, with the data between what stands around it
-pub covered_is : (m : SafeMsg) (before behind : List ℕ) → before ≡ safe_before_data m → behind ≡ safe_behind_data m
-    → before ++ (m.body.user_data ++ behind) ≡ safe_input m
-unfolding tagged body
-covered_is m before behind a b = grind (arith, append_assoc, append-nil)
+-- ---- KRB-SAFE, up to its checksum
+
+fields_joined : (m : SafeMsg) → concat (safe_fields m) ≡ before_checksum m ++ checksum_field m.cksum_type m.checksum
+fields_joined m = grind (arith, append_assoc, append-nil)
+
+pub safe_is : (m : SafeMsg) (n : ℕ) → n ≡ length (concat (safe_fields m)) → safe_headers n ++ (before_checksum m ++ checksum_field m.cksum_type m.checksum) ≡ safe m
+safe_is m n is =
+    ap (λ s. safe_headers n ++ s) (sym (fields_joined m))
+    ∙ message_written 0x74 n (element_size n) (safe_fields m) [] (header 0x74 (element_size n)) (safe_headers n) (safe_headers n ++ concat (safe_fields m)) refl is refl refl refl refl
+
+-- checksum type 0 and an empty checksum
+pub no_checksum_is : checksum_field (pos 0) [] ≡ 0xA3 ∷ 11 ∷ 0x30 ∷ 9 ∷ 0xA0 ∷ 3 ∷ 0x02 ∷ 1 ∷ 0 ∷ 0xA1 ∷ 2 ∷ 0x04 ∷ 0 ∷ []
+unfolding tagged header length_octets typed_octets int_octets
+no_checksum_is = refl
+
+length-input : (m : SafeMsg) → length (concat (safe_fields (without_checksum m))) ≡ length (before_checksum m) + 13
+length-input m =
+    ap length (fields_joined (without_checksum m))
+    ∙ length-append (before_checksum m) (checksum_field (pos 0) [])
+    ∙ ap (λ (s : List ℕ). length (before_checksum m) + length s) no_checksum_is
+
+-- what is under the checksum, with these fields between what stands around them
+pub covered_is : (m : SafeMsg) (n : ℕ) (message sequence last : List ℕ) → length (before_checksum m) ≡ n
+    → message ≡ header 0x74 (element_size (n + 13)) → sequence ≡ header 0x30 (n + 13) → last ≡ checksum_field (pos 0) []
+    → message ++ (sequence ++ (before_checksum m ++ last)) ≡ safe_input m
+covered_is m n message sequence last size a b c =
+    let fields : List ℕ = before_checksum m ++ checksum_field (pos 0) [] in
+    rw (a, b, c) (sym (append_assoc (header 0x74 (element_size (n + 13))) (header 0x30 (n + 13)) fields)
+    ∙ safe_is (without_checksum m) (n + 13) (ap (λ k. k + 13) (sym size) ∙ sym (length-input m)))
 
 -- ---- KRB-PRIV, up to its cipher
 

@@ -1,19 +1,21 @@
 -- What bytes spell (the messages of RFC 4120 sections 5.6 and 5.7), and what reading and writing
 -- return.
-use Rattle.std.specs.Prelude.{◌≡◌, ℕ, ◌<◌, ◌≤◌, List, ◌++◌, length, take, drop, Result, Ok, Err}
+use Rattle.std.specs.Prelude.{◌≡◌, ℕ, ◌<◌, ◌≤◌, ℤ, List, ◌++◌, length, take, drop, Result, Ok, Err}
 use Rattle.std.specs.Global.{Vec}
 use Rattle.krb_base.specs.Limits.{frame_limit}
 use Rattle.krb_tlv.specs.declared.error.DerError.{DerError}
 use Rattle.krb_tlv.specs.declared.error.DerError.TheVariants as errors
 use Rattle.krb_der.specs.declared.body.Body.{Body}
 use Rattle.krb_der.specs.declared.safe.SafeMsg.{SafeMsg}
-use Rattle.krb_der.specs.declared.safe.Covered.{Covered}
+use Rattle.krb_der.specs.declared.safe.Covering.{Covering}
+use Rattle.krb_der.specs.declared.safe.SafeDraft.{SafeDraft}
 use Rattle.krb_der.specs.declared.private.Draft.{Draft}
 use Rattle.krb_der.specs.declared.private.PrivMsg.{PrivMsg}
 use Rattle.krb_der.specs.declared.message.Message.{Message}
 use Rattle.krb_der.specs.declared.message.Message.TheVariants.{Safe, Priv}
 use Rattle.krb_der.specs.Body.{part, IsBody}
-use Rattle.krb_der.specs.Safe.{safe, safe_input, IsSafe}
+use Rattle.krb_der.specs.Safe.{safe, safe_input, with_checksum, before_checksum, checksum_field}
+use Rattle.krb_der.specs.Safe.{IsSafe}
 use Rattle.krb_der.specs.Private.{private, IsPrivate}
 
 -- the spelling of a message
@@ -90,15 +92,36 @@ Drafts m before b n (Err errors.TooLong) = IsOverLimit m n
 Drafts m before b n (Err errors.Malformed) = ⊥
 Drafts m before b n (Err errors.Memory) = IsWithinLimit m n
 
--- What writing the bytes under a checksum returns, around the data: with the data between them they
--- are those bytes, within the limit.
-abbrev pub Covers : SafeMsg → Result Covered DerError → Type 0
-Covers m (Ok around) =
-    (around.before.items ++ (m.body.user_data ++ around.behind.items) ≡ safe_input m)
-    × (length (safe_input m) ≤ frame_limit)
-Covers m (Err errors.TooLong) = frame_limit < length (safe_input m)
-Covers m (Err errors.Malformed) = ⊥
-Covers m (Err errors.Memory) = length (safe_input m) ≤ frame_limit
+-- Around the fields before the checksum of any message, if these have n octets, it makes the bytes
+-- under the checksum.
+abbrev pub Covers : ℕ → Covering → Type 0
+Covers n around =
+    (m : SafeMsg) → length (before_checksum m) ≡ n
+    → around.message ++ (around.sequence ++ (before_checksum m ++ around.last)) ≡ safe_input m
+
+-- A message that is to have a checksum of this type and n octets: with any such checksum as its last
+-- field, the bytes spell it, and from `start` on they are the fields before it.
+pub record IsSafeDraft (m : SafeMsg) (kind : ℤ) (n : ℕ) (draft : SafeDraft) : Type 0 where
+  pub within : draft.start ≤ length draft.bytes.items
+  pub fields : drop draft.start draft.bytes.items ≡ before_checksum m
+  pub spelt : (sum : List ℕ) → length sum ≡ n
+      → Spells (Safe (with_checksum m kind sum)) (draft.bytes.items ++ checksum_field kind sum)
+
+-- the message with any checksum of n octets is within the limit, or over it
+abbrev pub IsSafeWithinLimit : SafeMsg → ℤ → ℕ → Type 0
+IsSafeWithinLimit m kind n =
+    (sum : List ℕ) → length sum ≡ n → length (safe (with_checksum m kind sum)) ≤ frame_limit
+
+abbrev pub IsSafeOverLimit : SafeMsg → ℤ → ℕ → Type 0
+IsSafeOverLimit m kind n =
+    (sum : List ℕ) → length sum ≡ n → frame_limit < length (safe (with_checksum m kind sum))
+
+-- What writing such a draft returns.
+abbrev pub DraftsSafe : SafeMsg → ℤ → ℕ → Result SafeDraft DerError → Type 0
+DraftsSafe m kind n (Ok draft) = IsSafeDraft m kind n draft
+DraftsSafe m kind n (Err errors.TooLong) = IsSafeOverLimit m kind n
+DraftsSafe m kind n (Err errors.Malformed) = ⊥
+DraftsSafe m kind n (Err errors.Memory) = IsSafeWithinLimit m kind n
 
 -- One spelling for each value.
 abbrev pub OneSpelling : {V : Type 0} → (V → List ℕ → Type 0) → Type 0

@@ -1,7 +1,7 @@
 -- What the code follows, and no definitions of the standard: the value that bytes spell, read from
 -- left to right, if they spell one. The law `reading_laws` ties `message_of` and `part_of` to the
 -- grammar; the contracts of `decode` and `decode_part` are in the words of Message.antt.
-use Rattle.std.specs.Prelude.{◌≡◌, ℕ, ◌+◌, ◌^◌, ◌<◌, ◌≤◌, ◌↔◌, ℤ, List, ◌++◌, length, get_or}
+use Rattle.std.specs.Prelude.{◌≡◌, ℕ, ◌+◌, ◌^◌, ◌≤◌, ◌↔◌, ℤ, List, ◌++◌, length}
 use Rattle.std.specs.Prelude.{Option, Some, if◌then◌else◌}
 use Rattle.krb_base.specs.Bytes.{AreBytes}
 use Rattle.krb_base.specs.Limits.{frame_limit}

@@ -1,5 +1,5 @@
 -- KRB-SAFE (RFC 4120 section 5.6.1).
-use Rattle.std.specs.Prelude.{ℕ, ℤ, pos, List, [], ◌∷◌}
+use Rattle.std.specs.Prelude.{ℕ, ℤ, pos, List, [], ◌∷◌, ◌++◌}
 use Rattle.krb_der.specs.declared.safe.SafeMsg.{SafeMsg}
 use Rattle.krb_tlv.specs.Tag.{context, application}
 use Rattle.krb_tlv.specs.Element.{tagged, sequence}
@@ -39,6 +39,16 @@ with_checksum m kind bytes = record m { cksum_type = kind; checksum = bytes }
 -- (RFC 4120 section 5.6.1)
 abbrev pub without_checksum : SafeMsg → SafeMsg
 without_checksum m = with_checksum m (pos 0) []
+
+-- the fields before the checksum, one after another
+abbrev pub before_checksum : SafeMsg → List ℕ
+before_checksum m =
+    tagged (context 0) (integer m.pvno)
+    ++ (tagged (context 1) (integer m.msg_type) ++ tagged (context 2) (body m.body))
+
+-- the last field
+abbrev pub checksum_field : ℤ → List ℕ → List ℕ
+checksum_field kind bytes = tagged (context 3) (checksum kind bytes)
 
 -- the bytes under the checksum (RFC 4120 section 5.6.1)
 abbrev pub safe_input : SafeMsg → List ℕ

@@ -1,19 +1,18 @@
 -- What the code follows, and no definitions of the standard: sizes, and the pieces that a spelling
 -- is written in. Private functions alone cite this file; the contracts of the encoders are in the
 -- words of Message.antt.
-use Rattle.std.specs.Prelude.{ℕ, ◌+◌, ℤ, pos, List, [], ◌∷◌, ◌++◌, length, Option, IfSome}
+use Rattle.std.specs.Prelude.{ℕ, ◌+◌, ℤ, List, [], ◌∷◌, ◌++◌, length, Option, IfSome}
 use Rattle.std.specs.List.{concat}
 use Rattle.krb_der.specs.declared.body.Body.{Body}
 use Rattle.krb_der.specs.declared.safe.SafeMsg.{SafeMsg}
 use Rattle.krb_der.specs.declared.private.PrivMsg.{PrivMsg}
 use Rattle.krb_tlv.specs.Tag.{context, application, octet_string_tag, sequence_tag}
 use Rattle.krb_tlv.specs.Writing.{element_size, IsShort}
-use Rattle.krb_tlv.specs.Element.{header, tagged, sequence, optional, octets}
+use Rattle.krb_tlv.specs.Element.{header, tagged, optional, octets}
 use Rattle.krb_tlv.specs.Integer.{integer, natural}
 use Rattle.krb_der.specs.KerberosTime.{time}
 use Rattle.krb_der.specs.Address.{host_address}
-use Rattle.krb_der.specs.Body.{body, body_fields}
-use Rattle.krb_der.specs.Safe.{checksum, safe_fields, without_checksum}
+use Rattle.krb_der.specs.Body.{body_fields}
 
 -- ---- sizes
 
@@ -41,13 +40,15 @@ body_fields_size b n =
 abbrev pub body_size : Body → ℕ → ℕ
 body_size b n = element_size (body_fields_size b n)
 
--- how many octets KRB-SAFE takes with n octets as its user data and k as its checksum
-abbrev pub safe_fields_size : SafeMsg → ℤ → ℕ → ℕ → ℕ
-safe_fields_size m kind k n =
+-- how many octets the fields of KRB-SAFE take with n octets as its user data and k as its checksum
+abbrev pub before_checksum_size : SafeMsg → ℕ → ℕ
+before_checksum_size m n =
     element_size (length (integer m.pvno))
     + element_size (length (integer m.msg_type))
     + element_size (body_size m.body n)
-    + element_size (typed_size kind k)
+
+abbrev pub safe_fields_size : SafeMsg → ℤ → ℕ → ℕ → ℕ
+safe_fields_size m kind k n = before_checksum_size m n + element_size (typed_size kind k)
 
 -- ---- a body, around its data
 
@@ -66,19 +67,10 @@ fields_behind_data b =
     ∷ optional (context 5) host_address b.r_addr
     ∷ []
 
--- ---- what is under the checksum of KRB-SAFE, around its data
+-- ---- KRB-SAFE, up to its fields, if these have n octets
 
-abbrev pub safe_before_data : SafeMsg → List ℕ
-safe_before_data m =
-    let fields = safe_fields (without_checksum m) in
-    header (application 20) (length (sequence fields))
-    ++ (header sequence_tag (length (concat fields))
-    ++ (tagged (context 0) (integer m.pvno)
-    ++ (tagged (context 1) (integer m.msg_type)
-    ++ (header (context 2) (length (body m.body)) ++ before_data m.body))))
-
-abbrev pub safe_behind_data : SafeMsg → List ℕ
-safe_behind_data m = concat (fields_behind_data m.body) ++ tagged (context 3) (checksum (pos 0) [])
+abbrev pub safe_headers : ℕ → List ℕ
+safe_headers n = header (application 20) (element_size n) ++ header sequence_tag n
 
 -- ---- KRB-PRIV with a cipher of n octets, up to the cipher
 

@@ -10,7 +10,7 @@ use std::alloc::{AllocError, Global};
 
 /// A network address (RFC 4120 section 5.2.5).
 ///
-/// It has any number of bytes; those of a session (`krb_seal::Session`) have at most 32.
+/// It has any number of bytes; those of a session (`krb_seal::Session`) have at most 40.
 #[derive(Debug, Drop)]
 pub struct HostAddress {
     /// The type of the address, 2 for IPv4 (RFC 4120 section 7.5.3).

@@ -36,4 +36,6 @@ pub use laws::{earlier_spellings, reading_laws, size_laws, unique_spelling};
 pub use message::{Message, decode};
 pub use part::{decode_part, decode_part_from, encode_part};
 pub use private::{Draft, PrivMsg, draft_priv, encode_priv, priv_size};
-pub use safe::{Covered, SafeMsg, SafeRef, encode_safe, safe_input, safe_input_around};
+pub use safe::{
+    Covering, SafeDraft, SafeMsg, SafeRef, covering_of, draft_safe, encode_safe, safe_input,
+};

@@ -1,31 +1,31 @@
-ghost use Rattle.std.specs.Prelude.{◌≡◌, ◌<◌, ◌≤◌, ◌+◌, ◌*◌, ◌++◌, [], length, Err, IfOk, IfSome, OnOk, OnErr};
-ghost use Rattle.std.specs.List.{concat};
+ghost use Rattle.std.specs.Prelude.{◌≡◌, ◌<◌, ◌≤◌, ◌+◌, ◌*◌, ◌++◌, [], length, drop, IfOk, IfSome, OnOk};
 ghost use Rattle.krb_base.specs.Limits.{frame_limit};
 ghost use Rattle.krb_der.specs.declared.message.Message.TheVariants.{Safe};
 ghost use Rattle.krb_tlv.specs.Integer.{IsInt32};
 ghost use Rattle.krb_time.specs.Time.{IsSecond};
 ghost use Rattle.krb_der.specs.Body.{InRange, IsBody};
-ghost use Rattle.krb_der.specs.Safe.{safe, safe_fields, safe_input, with_checksum, without_checksum};
-ghost use Rattle.krb_der.specs.Message.{Covers, Encodes, Spells, message};
+ghost use Rattle.krb_der.specs.Safe.{before_checksum, checksum_field, safe_input, with_checksum, without_checksum};
+ghost use Rattle.krb_der.specs.Message.{Covers, DraftsSafe, Encodes, Spells, message};
 ghost use Rattle.krb_tlv.specs.Reading.{Gives};
 ghost use Rattle.krb_der.specs.Reading.{safe_of};
 ghost use Rattle.krb_der.specs.Size.{HasAddressesWithinLimit, HasSafeSize};
 ghost use Rattle.krb_tlv.specs.Writing.{IsShort};
-ghost use Rattle.krb_der.specs.Writing.{IsShortBody, safe_before_data, safe_behind_data, safe_fields_size};
+ghost use Rattle.krb_der.specs.Writing.{IsShortBody, before_checksum_size, safe_fields_size, safe_headers};
 
 use crate::body::{Body, BodyRef, is_short, read_body};
 use crate::tag;
-use crate::typed::{read_typed_field, typed_size_of, write_typed_field};
+use crate::typed::{read_typed_field, typed_size, typed_size_of, write_typed_field};
 use krb_base::{Bytes, FRAME_LIMIT};
 use krb_tlv::{
-    DerError, Reader, Writer, int32_field_size, known_int32, read_int32_field, size_around,
+    DerError, Header, Reader, Writer, int32_field_size, known_int32, read_int32_field, size_around,
     write_int32_field,
 };
 use std::alloc::{AllocError, Global};
 use std::marker::Model;
 
-/// Room for the tags, lengths and numbers before the data of a KRB-SAFE.
-const HEADERS_SIZE: usize = 64;
+/// The last field of a KRB-SAFE in the bytes under its checksum: checksum type 0 and an empty
+/// checksum (RFC 4120 section 5.6.1).
+const NO_CHECKSUM: [u8; 13] = [0xA3, 11, 0x30, 9, 0xA0, 3, 0x02, 1, 0, 0xA1, 2, 0x04, 0];
 
 /// A message KRB-SAFE (RFC 4120 section 5.6.1).
 #[derive(Debug, Drop)]
@@ -61,14 +61,68 @@ pub fn read_safe(alloc: Global, bytes: &[u8]) -> Result<SafeMsg, DerError>
     })
 }
 
-/// The bytes under the checksum of a KRB-SAFE, without the data in their middle, so the data
-/// needn't be copied to be hashed.
-#[derive(Debug, Drop)]
-pub struct Covered {
-    /// What comes before the data.
-    pub before: Vec<u8>,
-    /// What comes after it.
-    pub behind: Vec<u8>,
+/// What stands around the fields before the checksum of a KRB-SAFE in the bytes under its checksum
+/// (RFC 4120 section 5.6.1), so these fields needn't be copied to be hashed.
+#[derive(Drop)]
+pub struct Covering {
+    /// The tag and the length of the message.
+    pub message: Header,
+    /// The tag and the length of its sequence.
+    pub sequence: Header,
+    /// The field after them: checksum type 0 and an empty checksum.
+    pub last: [u8; 13],
+}
+
+/// What stands around fields of so many bytes.
+pub fn covering_of(fields: usize) -> Covering
+    requires { fields ≤ frame_limit }
+    ensures { Covers fields result }
+{
+    let content = fields + NO_CHECKSUM.len();
+    Covering {
+        message: Header::new(tag::KRB_SAFE, size_around(content)),
+        sequence: Header::new(tag::SEQUENCE, content),
+        last: NO_CHECKSUM,
+    }
+}
+
+/// A KRB-SAFE that has no checksum yet: its bytes before the last field.
+#[derive(Drop)]
+pub struct SafeDraft {
+    /// The message so far.
+    pub bytes: Vec<u8>,
+    /// Where its fields begin.
+    pub start: usize,
+}
+
+impl SafeDraft {
+    /// The fields before the checksum.
+    pub fn fields(&self) -> &[u8]
+        requires { self.now.start ≤ length self.now.bytes.items }
+        ensures { result.now ≡ drop self.now.start self.now.bytes.items }
+    {
+        &self.bytes[self.start..]
+    }
+
+    /// The message with a checksum of this type as its last field.
+    pub fn with_checksum(self, kind: i32, checksum: &[u8]) -> Result<Vec<u8>, AllocError>
+        requires { length checksum.now ≤ frame_limit }
+        ensures { IfOk result (λ v. v.items ≡ self.bytes.items ++ checksum_field kind checksum.now) }
+    {
+        self.finished(&kind, checksum)
+    }
+
+    /// The message with this last field.
+    fn finished(self, kind: &i32, checksum: &[u8]) -> Result<Vec<u8>, AllocError>
+        requires { length checksum.now ≤ frame_limit }
+        ensures { IfOk result (λ v. v.items
+            ≡ self.bytes.items ++ checksum_field kind.now checksum.now) }
+    {
+        let SafeDraft { bytes, .. } = self;
+        let mut out = Writer::after(bytes);
+        write_typed_field(&mut out, tag::FIELD_3, kind, checksum)?;
+        Ok(out.into_vec())
+    }
 }
 
 /// A [`SafeMsg`] whose data, addresses and checksum are borrowed.
@@ -108,6 +162,19 @@ impl SafeMsg {
             checksum: self.checksum.as_slice(),
         }
     }
+
+    /// The fields before the checksum, in the bytes that spell the message.
+    pub fn before_checksum_in<'a>(&self, bytes: &'a [u8]) -> &'a [u8]
+        requires { Spells (Safe self.now) bytes.now }
+        ensures fields { result.now ≡ before_checksum self.now }
+        ensures limit { length result.now ≤ frame_limit }
+    {
+        let last = size_around(typed_size(&self.cksum_type, self.checksum.as_slice()));
+        let end = bytes.len() - last;
+        let len = self.body.user_data.as_slice().len();
+        let start = end - self.borrowed().before_checksum_size(len);
+        &bytes[start..end]
+    }
 }
 
 impl<'a> SafeRef<'a> {
@@ -129,16 +196,22 @@ impl<'a> SafeRef<'a> {
             checksum: &[],
         }
     }
-
-    /// The data.
-    pub fn user_data(&self) -> &'a [u8]
-        ensures { result.now ≡ self.now.body.user_data }
-    {
-        self.body.user_data()
-    }
 }
 
 impl<'a> SafeRef<'a> {
+    /// How many bytes the fields before the checksum have with so many bytes of data.
+    fn before_checksum_size(&self, len: usize) -> usize
+        requires data_limit { len ≤ frame_limit }
+        requires addresses { HasAddressesWithinLimit self.now.body }
+        requires time { IfSome self.now.body.time IsSecond }
+        ensures value { result ≡ before_checksum_size self.now len }
+        ensures bound { result ≤ 3 * frame_limit + 250 }
+    {
+        int32_field_size(&self.pvno)
+            + int32_field_size(&self.msg_type)
+            + size_around(self.body.size_with(len))
+    }
+
     fn fields_size_with(&self, kind: &i32, checksum: usize, len: usize) -> usize
         requires checksum_limit { checksum ≤ frame_limit }
         requires data_limit { len ≤ frame_limit }
@@ -147,10 +220,7 @@ impl<'a> SafeRef<'a> {
         ensures value { result ≡ safe_fields_size self.now kind.now checksum len }
         ensures bound { result ≤ 4 * frame_limit + 300 }
     {
-        int32_field_size(&self.pvno)
-            + int32_field_size(&self.msg_type)
-            + size_around(self.body.size_with(len))
-            + size_around(typed_size_of(kind, checksum))
+        self.before_checksum_size(len) + size_around(typed_size_of(kind, checksum))
     }
 
     /// How many bytes its spelling has with a checksum and data of so many bytes in place of its own:
@@ -165,78 +235,55 @@ impl<'a> SafeRef<'a> {
         size_around(size_around(self.fields_size_with(&self.cksum_type, checksum, len)))
     }
 
-    fn fields_size(&self, kind: &i32, checksum: &[u8]) -> usize
+    /// Adds the fields before the checksum.
+    fn write_before_checksum(&self, out: &mut Writer) -> Result<(), AllocError>
         requires short { IsShortBody self.now.body }
-        requires short_checksum { IsShort checksum.now }
         requires time { IfSome self.now.body.time IsSecond }
-        ensures value { result
-            ≡ length (concat (safe_fields (with_checksum self.now kind.now checksum.now))) }
-        ensures bound { result ≤ 4 * frame_limit + 300 }
-    {
-        self.fields_size_with(kind, checksum.len(), self.body.user_data().len())
-    }
-
-    /// How many bytes its spelling with this checksum has.
-    fn size(&self, kind: &i32, checksum: &[u8]) -> usize
-        requires short { IsShortBody self.now.body }
-        requires short_checksum { IsShort checksum.now }
-        requires time { IfSome self.now.body.time IsSecond }
-        ensures { result ≡ length (safe (with_checksum self.now kind.now checksum.now)) }
-    {
-        size_around(size_around(self.fields_size(kind, checksum)))
-    }
-
-    /// Adds its fields with this checksum.
-    fn write_fields(&self, kind: &i32, checksum: &[u8], out: &mut Writer) -> Result<(), AllocError>
-        requires short { IsShortBody self.now.body }
-        requires short_checksum { IsShort checksum.now }
-        requires time { IfSome self.now.body.time IsSecond }
-        ensures { OnOk result (out.new
-            ≡ out.old ++ concat (safe_fields (with_checksum self.now kind.now checksum.now))) }
+        ensures { OnOk result (out.new ≡ out.old ++ before_checksum self.now) }
     {
         write_int32_field(out, tag::FIELD_0, &self.pvno)?;
         write_int32_field(out, tag::FIELD_1, &self.msg_type)?;
         out.begin(tag::FIELD_2, self.body.size())?;
-        self.body.write(out)?;
-        write_typed_field(out, tag::FIELD_3, kind, checksum)
+        self.body.write(out)
     }
 
-    /// Its spelling with this checksum, in a `Vec` with room for so many bytes.
-    fn spelling(
-        &self,
-        alloc: Global,
-        kind: &i32,
-        checksum: &[u8],
-        size: usize,
-    ) -> Result<Vec<u8>, AllocError>
+    /// Its draft for a sequence of `fields` bytes, in a `Vec` with room for the whole message.
+    fn draft_of(&self, alloc: Global, fields: usize) -> Result<SafeDraft, AllocError>
+        requires limit { fields ≤ 4 * frame_limit + 300 }
         requires short { IsShortBody self.now.body }
-        requires short_checksum { IsShort checksum.now }
         requires time { IfSome self.now.body.time IsSecond }
-        ensures { IfOk result (λ v. v.items ≡ safe (with_checksum self.now kind.now checksum.now)) }
+        ensures start { IfOk result (λ draft. draft.start ≡ length (safe_headers fields)) }
+        ensures bytes { IfOk result (λ draft. draft.bytes.items
+            ≡ safe_headers fields ++ before_checksum self.now) }
     {
-        let fields = self.fields_size(kind, checksum);
-        let mut out = Writer::with_capacity(alloc, size)?;
-        out.begin(tag::KRB_SAFE, size_around(fields))?;
+        let content = size_around(fields);
+        let mut out = Writer::with_capacity(alloc, size_around(content))?;
+        out.begin(tag::KRB_SAFE, content)?;
         out.begin(tag::SEQUENCE, fields)?;
-        self.write_fields(kind, checksum, &mut out)?;
-        Ok(out.into_vec())
+        let start = out.len();
+        self.write_before_checksum(&mut out)?;
+        Ok(SafeDraft {
+            bytes: out.into_vec(),
+            start,
+        })
     }
 
-    /// Its spelling with this type of checksum and this checksum in place of its own: one value
-    /// gives both what is under a checksum and the message that has it.
-    ///
-    /// [`DerError::TooLong`] is returned if and only if it has over 1,005,000 bytes, before any
-    /// allocation.
-    pub fn encode_with_checksum(
-        &self,
-        alloc: Global,
-        kind: i32,
-        checksum: &[u8],
-    ) -> Result<Vec<u8>, DerError>
-        requires { InRange self.now.body }
-        ensures { Encodes Spells message (Safe (with_checksum self.now kind checksum.now)) result }
+    /// Its draft for a checksum of this type and so many bytes.
+    fn draft(&self, alloc: Global, kind: &i32, checksum: usize) -> Result<SafeDraft, DerError>
+        requires range { InRange self.now.body }
+        requires limit { checksum ≤ frame_limit }
+        ensures { DraftsSafe self.now kind.now checksum result }
     {
-        self.encode_with(alloc, &kind, checksum)
+        self.known();
+        known_int32(kind);
+        if !self.body.is_short() {
+            return Err(DerError::TooLong);
+        }
+        let fields = self.fields_size_with(kind, checksum, self.body.user_data().len());
+        if size_around(size_around(fields)) > FRAME_LIMIT {
+            return Err(DerError::TooLong);
+        }
+        Ok(self.draft_of(alloc, fields)?)
     }
 
     /// Its spelling with this checksum in place of its own.
@@ -245,75 +292,11 @@ impl<'a> SafeRef<'a> {
         ensures { Encodes Spells message
             (Safe (with_checksum self.now kind.now checksum.now)) result }
     {
-        self.known();
-        known_int32(kind);
-        if !self.body.is_short() {
-            return Err(DerError::TooLong);
-        }
         if !is_short(checksum) {
             return Err(DerError::TooLong);
         }
-        let size = self.size(kind, checksum);
-        if size > FRAME_LIMIT {
-            return Err(DerError::TooLong);
-        }
-        Ok(self.spelling(alloc, kind, checksum, size)?)
-    }
-
-    /// How many bytes its spelling with no checksum has, if they are within the limit.
-    fn limited_input_size(&self) -> Result<usize, DerError>
-        requires { InRange self.now.body }
-        ensures limit { OnOk result (length (safe_input self.now) ≤ frame_limit) }
-        ensures short { OnOk result (IsShortBody self.now.body) }
-        ensures too_long { OnErr result (frame_limit < length (safe_input self.now)) }
-        ensures err { OnErr result (result ≡ Err DerError.TooLong) }
-    {
-        if !self.body.is_short() {
-            return Err(DerError::TooLong);
-        }
-        let size = self.size(&0, &[]);
-        if size > FRAME_LIMIT {
-            return Err(DerError::TooLong);
-        }
-        Ok(size)
-    }
-
-    /// Adds what comes before the data in its spelling with no checksum.
-    fn write_before_data(&self, out: &mut Writer) -> Result<(), AllocError>
-        requires short { IsShortBody self.now.body }
-        requires time { IfSome self.now.body.time IsSecond }
-        ensures { OnOk result (out.new ≡ out.old ++ safe_before_data self.now) }
-    {
-        let fields = self.fields_size(&0, &[]);
-        out.begin(tag::KRB_SAFE, size_around(fields))?;
-        out.begin(tag::SEQUENCE, fields)?;
-        write_int32_field(out, tag::FIELD_0, &self.pvno)?;
-        write_int32_field(out, tag::FIELD_1, &self.msg_type)?;
-        out.begin(tag::FIELD_2, self.body.size())?;
-        self.body.write_before_data(out)
-    }
-
-    /// What comes before the data in its spelling with no checksum.
-    fn before_data(&self, alloc: Global) -> Result<Vec<u8>, AllocError>
-        requires short { IsShortBody self.now.body }
-        requires time { IfSome self.now.body.time IsSecond }
-        ensures { IfOk result (λ v. v.items ≡ safe_before_data self.now) }
-    {
-        let mut out = Writer::with_capacity(alloc, HEADERS_SIZE)?;
-        self.write_before_data(&mut out)?;
-        Ok(out.into_vec())
-    }
-
-    /// What comes after the data, in a `Vec` with room for so many bytes.
-    fn behind_data(&self, alloc: Global, room: usize) -> Result<Vec<u8>, AllocError>
-        requires short { IsShortBody self.now.body }
-        requires time { IfSome self.now.body.time IsSecond }
-        ensures { IfOk result (λ v. v.items ≡ safe_behind_data self.now) }
-    {
-        let mut out = Writer::with_capacity(alloc, room)?;
-        self.body.write_behind_data(&mut out)?;
-        write_typed_field(&mut out, tag::FIELD_3, &0, &[])?;
-        Ok(out.into_vec())
+        let draft = self.draft(alloc, kind, checksum.len())?;
+        Ok(draft.finished(kind, checksum)?)
     }
 
     /// What the types of its numbers say.
@@ -354,20 +337,14 @@ pub fn safe_input(alloc: Global, m: &SafeMsg) -> Result<Vec<u8>, DerError>
     m.borrowed().encode_with(alloc, &0, &[])
 }
 
-/// The bytes under the checksum of the message, around its data: with the data between them they
-/// are what [`safe_input`] gives.
+/// The message up to its checksum, with room for one of so many bytes.
 ///
-/// [`DerError::TooLong`] is returned if and only if they are over 1,005,000 bytes, before any
-/// allocation.
-pub fn safe_input_around(alloc: Global, m: &SafeRef<'_>) -> Result<Covered, DerError>
-    requires { InRange m.now.body }
-    ensures { Covers m.now result }
+/// [`DerError::TooLong`] is returned if and only if the message would have over 1,005,000 bytes,
+/// before any allocation.
+pub fn draft_safe(alloc: Global, m: &SafeRef<'_>, checksum: usize) -> Result<SafeDraft, DerError>
+    requires range { InRange m.now.body }
+    requires limit { checksum ≤ frame_limit }
+    ensures { DraftsSafe m.now m.now.cksum_type checksum result }
 {
-    m.known();
-    let size = m.limited_input_size()?;
-    let room = size.saturating_sub(m.user_data().len());
-    Ok(Covered {
-        before: m.before_data(alloc)?,
-        behind: m.behind_data(alloc, room)?,
-    })
+    m.draft(alloc, &m.cksum_type, checksum)
 }

@@ -94,22 +94,30 @@ one_batch texts others bytes a b =
     let tails : flat_map text_bytes others ≡ flat_map text_bytes texts = ap (λ l. drop 1 l) (sym b.1 ∙ a.1) in
     one_reading (flat_map text_bytes others) others texts (omega (arith, small, length-texts others)) refl tails
 
--- so many texts and no others: where they are too few or too many, there is no batch
-pub no_batch : (bytes rest : List ℕ) (texts others : List (List ℕ)) → bytes ≡ 0x42 ∷ rest → length rest ≤ batch_size_limit → rest ≡ flat_map text_bytes texts → SpellsBatch others bytes → IsBatch texts
-no_batch bytes rest texts others e short is spells =
-    let tails : rest ≡ flat_map text_bytes others = ap (λ l. drop 1 l) (sym e ∙ spells.1) in
-    subst IsBatch (one_reading rest texts others short is tails) spells.0
+-- these bytes are no other texts than these: where they are too few or too many, there is no batch
+pub no_batch : (body : List ℕ) (texts others : List (List ℕ)) → length body ≤ batch_size_limit → body ≡ flat_map text_bytes texts → IsBatch others → body ≡ flat_map text_bytes others → IsBatch texts
+no_batch body texts others short is batch e = subst IsBatch (one_reading body texts others short is e) batch
 
-pub no_tag : (bytes : List ℕ) (others : List (List ℕ)) → ((rest : List ℕ) → length rest ≤ batch_size_limit → bytes ≡ 0x42 ∷ rest → ⊥) → SpellsBatch others bytes → ⊥
-no_tag bytes others none spells =
-    let small = spells.0.small in
-    none (flat_map text_bytes others) (omega (arith, small, length-texts others)) spells.1
+-- a batch isn't larger than one may be
+pub small_batch : (body : List ℕ) (texts : List (List ℕ)) → IsBatch texts → body ≡ flat_map text_bytes texts → length body ≤ batch_size_limit
+small_batch body texts batch e =
+    let small = batch.small in
+    let n : length body ≡ length (flat_map text_bytes texts) = ap length e in
+    omega (arith, n, length-texts texts, small)
 
-pub is_batch : (bytes rest : List ℕ) (texts : List (List ℕ)) → bytes ≡ 0x42 ∷ rest → length rest ≤ batch_size_limit → rest ≡ flat_map text_bytes texts → 2 ≤ length texts → length texts ≤ batch_limit → SpellsBatch texts bytes
-is_batch bytes rest texts e short is several few = (
-  record { several = several; few = few; small = let n : length rest ≡ length (flat_map text_bytes texts) = ap length is in omega (arith, n, short, length-texts texts) },
-  e ∙ ap (λ l. 0x42 ∷ l) is,
-)
+pub is_batch : (body : List ℕ) (texts : List (List ℕ)) → length body ≤ batch_size_limit → body ≡ flat_map text_bytes texts → 2 ≤ length texts → length texts ≤ batch_limit → IsBatch texts
+is_batch body texts short is several few = record {
+  several = several;
+  few = few;
+  small = let n : length body ≡ length (flat_map text_bytes texts) = ap length is in omega (arith, n, short, length-texts texts);
+}
+
+-- the bytes after the first of a spelling
+pub spells_after : (body : List ℕ) (texts : List (List ℕ)) → body ≡ flat_map text_bytes texts → IsBatch texts → SpellsBatch texts (0x42 ∷ body)
+spells_after body texts is batch = (batch, ap (λ l. 0x42 ∷ l) is)
+
+pub after_first : (body : List ℕ) (texts : List (List ℕ)) → SpellsBatch texts (0x42 ∷ body) → body ≡ flat_map text_bytes texts
+after_first body texts spells = ap (λ l. drop 1 l) spells.1
 
 -- so many texts have as many bytes and more
 pub counted : (bytes : List ℕ) (texts : List (List ℕ)) (rest : List ℕ) → bytes ≡ flat_map text_bytes texts ++ rest → length texts ≤ length bytes

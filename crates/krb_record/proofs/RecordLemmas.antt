@@ -1,6 +1,7 @@
 -- Answers about the bytes of records.
-use Rattle.std.proofs.Common.{◌≡◌, ◌≤◌, ◌↔◌, List, [], ◌∷◌, ℕ, length, Result, Ok, Err, IsErrAnd, IfOk, refl, sym, ap, subst, ◌∙◌, arith}
-use Rattle.std.specs.Prelude.{MatchResult}
+use Rattle.std.proofs.Common.{◌≡◌, ◌≤◌, ◌↔◌, Bool, List, [], ◌∷◌, ℕ, length, drop, Result, Ok, Err, IsErrAnd, IfOk, refl, sym, ap, subst, ◌∙◌, arith}
+use Rattle.std.proofs.lemmas.Bool.{le-leb, leb-true}
+use Rattle.std.specs.Prelude.{IsTrue, MatchResult, nat_le}
 use Rattle.krb_record.specs.Batch.{SpellsBatch}
 use Rattle.krb_record.proofs.BatchLemmas.{one_batch, short_batch}
 use Rattle.krb_record.specs.declared.record.Record.{Record}
@@ -8,7 +9,9 @@ use Rattle.krb_record.specs.declared.record.RecordError.{RecordError}
 use Rattle.krb_record.specs.declared.record.RecordError.TheVariants.{BadRecord, Memory}
 use Rattle.krb_record.specs.declared.record.Record.TheVariants.{Text, Batch, Close}
 use Rattle.krb_base.specs.Limits.{text_limit, user_data_limit}
-use Rattle.krb_record.specs.Record.{SpellsRecord}
+use Rattle.krb_record.specs.declared.record.RecordKind.{RecordKind}
+use Rattle.krb_record.specs.declared.record.RecordKind.TheVariants as kinds
+use Rattle.krb_record.specs.Record.{SpellsRecord, first_byte_of, kind_of}
 
 -- an answer is BadRecord exactly where the bytes are those of no record
 abbrev pub IsBadExactly : Result Record RecordError → List ℕ → Type 0
@@ -88,3 +91,31 @@ other_by tag rest no_text no_close = record {
       let tail : rest ≡ [] = cc in
       no_close same tail);
 }
+
+-- ---- the bytes after the first
+
+-- a record of a kind has these bytes after its first
+abbrev pub Has : RecordKind → List ℕ → Type 0
+Has kind body = (r : Record) × (kind ≡ kind_of r) × SpellsRecord r (first_byte_of kind ∷ body)
+
+text_only : (body : List ℕ) (r : Record) → kinds.Text ≡ kind_of r → SpellsRecord r (0x44 ∷ body) → length body ≤ text_limit
+text_only body (Text text) e s = let tail : body ≡ text = ap (λ l. drop 1 l) s.1 in omega (arith, ap length tail, s.0)
+text_only body (Batch texts) e s = absurd cc
+text_only body Close e s = absurd cc
+
+pub text_has : (kind : RecordKind) (body : List ℕ) → kind ≡ kinds.Text → IsTrue (nat_le (length body) text_limit) ↔ Has kind body
+text_has kind body e = rw e (
+  λ t. (Text body, refl, (leb-true (length body) text_limit t, refl)),
+  λ h. le-leb (length body) text_limit (text_only body h.0 h.1 h.2),
+)
+
+batch_only_of : (body : List ℕ) (r : Record) → kinds.Batch ≡ kind_of r → SpellsRecord r (0x42 ∷ body) → (texts : List (List ℕ)) × SpellsBatch texts (0x42 ∷ body)
+batch_only_of body (Text text) e s = absurd cc
+batch_only_of body (Batch texts) e s = (texts, s)
+batch_only_of body Close e s = absurd cc
+
+pub batch_has : (kind : RecordKind) (body : List ℕ) (is : Bool) → kind ≡ kinds.Batch → (IsTrue is ↔ ((texts : List (List ℕ)) × SpellsBatch texts (0x42 ∷ body))) → IsTrue is ↔ Has kind body
+batch_has kind body is e h = rw e (
+  λ t. (let f = h.0 t in (Batch f.0, refl, f.1)),
+  λ g. h.1 (batch_only_of body g.0 g.1 g.2),
+)

@@ -137,15 +137,40 @@ fn take_texts(alloc: Global, count: usize, bytes: &[u8]) -> Result<Vec<Bytes>, A
     Ok(texts)
 }
 
-/// What follows the first byte, if that is a batch's and no more follows than a batch may have.
+/// How many texts a batch has that has these bytes after its first, if there is one.
+fn texts_in_batch(body: &[u8]) -> Option<usize>
+    ensures some { IfSome result (λ _. (texts : List (List ℕ)) × IsBatch texts
+        × (body.now ≡ flat_map text_bytes texts)) }
+    ensures short { IfSome result (λ _. length body.now ≤ batch_size_limit) }
+    ensures none { IfNone result ((texts : List (List ℕ)) → IsBatch texts
+        → ¬ (body.now ≡ flat_map text_bytes texts)) }
+{
+    if body.len() > BATCH_SIZE_LIMIT {
+        return None;
+    }
+    let count = count_texts(body)?;
+    if (2..=BATCH_LIMIT).contains(&count) {
+        Some(count)
+    } else {
+        None
+    }
+}
+
+/// Whether a batch has these bytes after its first. Nothing is allocated, and the time is linear in
+/// the bytes.
+pub(crate) fn is_batch_body(body: &[u8]) -> bool
+    ensures { IsTrue result ↔ ((texts : List (List ℕ)) × SpellsBatch texts (0x42 ∷ body.now)) }
+{
+    texts_in_batch(body).is_some()
+}
+
+/// What follows the first byte, if that is a batch's.
 fn behind_tag(bytes: &[u8]) -> Option<&[u8]>
     ensures some { IfSome result (λ rest. bytes.now ≡ 0x42 ∷ rest.now) }
-    ensures short { IfSome result (λ rest. length rest.now ≤ batch_size_limit) }
-    ensures none { IfNone result ((rest : List ℕ) → length rest ≤ batch_size_limit
-        → ¬ (bytes.now ≡ 0x42 ∷ rest)) }
+    ensures none { IfNone result ((rest : List ℕ) → ¬ (bytes.now ≡ 0x42 ∷ rest)) }
 {
     match bytes.split_first() {
-        Some((tag, rest)) if *tag == BATCH_BYTE && rest.len() <= BATCH_SIZE_LIMIT => Some(rest),
+        Some((tag, rest)) if *tag == BATCH_BYTE => Some(rest),
         _ => None,
     }
 }
@@ -158,12 +183,8 @@ fn batch_in(bytes: &[u8]) -> Option<(usize, &[u8])>
     ensures none { IfNone result ((texts : List (List ℕ)) → ¬ SpellsBatch texts bytes.now) }
 {
     let rest = behind_tag(bytes)?;
-    let count = count_texts(rest)?;
-    if (2..=BATCH_LIMIT).contains(&count) {
-        Some((count, rest))
-    } else {
-        None
-    }
+    let count = texts_in_batch(rest)?;
+    Some((count, rest))
 }
 
 /// Whether the bytes are those of a batch. Nothing is allocated, and the time is linear in the bytes.

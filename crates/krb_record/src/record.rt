@@ -1,12 +1,12 @@
 //! Records, and their bytes.
 
-ghost use Rattle.std.specs.Prelude.{◌≡◌, ◌≢◌, ◌↔◌, ◌≤◌, ℕ, List, length, IfNone, IfOk, IfSome, IsTrue, MatchResult, Some};
+ghost use Rattle.std.specs.Prelude.{◌≡◌, ◌≢◌, ◌↔◌, ◌≤◌, ◌∷◌, ℕ, List, length, IfNone, IfOk, IfSome, IsTrue, MatchResult, Some};
 ghost use Rattle.krb_base.specs.Limits.{text_limit, user_data_limit};
 ghost use Rattle.krb_record.specs.Batch.{SpellsBatch};
 ghost use Rattle.krb_record.specs.Record.{FitsLimits, SpellsRecord, bytes_of, code_of, record_for, words_of};
 ghost use Rattle.krb_record.specs.Record.{kind_of, kind_of_number, number_of, first_byte_of};
 
-use crate::batch::{BATCH_BYTE, BatchError, batch_bytes, is_batch, read_batch};
+use crate::batch::{BATCH_BYTE, BatchError, batch_bytes, is_batch, is_batch_body, read_batch};
 use crate::texts::Texts;
 use krb_base::{Bytes, TEXT_LIMIT, cut_out};
 use std::alloc::{AllocError, Global};
@@ -72,6 +72,18 @@ impl RecordKind {
             Some(RecordKind::Batch)
         } else {
             None
+        }
+    }
+
+    /// Whether a record of this kind has these bytes after its first. Nothing is allocated.
+    pub fn has(self, body: &[u8]) -> bool
+        ensures { IsTrue result ↔ ((r : Record) × (self ≡ kind_of r)
+            × SpellsRecord r (first_byte_of self ∷ body.now)) }
+    {
+        match self {
+            RecordKind::Text => body.len() <= TEXT_LIMIT,
+            RecordKind::Batch => is_batch_body(body),
+            RecordKind::Close => body.is_empty(),
         }
     }
 

@@ -1,5 +1,5 @@
-//! The stepped relay: two lanes in rounds, turn by turn and at its limits, and what becomes of
-//! frames where an allocation fails.
+//! The stepped relay: two lanes in rounds, turn by turn and at its limits, and where frames
+//! are when an allocation fails.
 
 mod frames;
 mod steps;

@@ -35,12 +35,11 @@ unmet_later ((false, x) ∷ rest) others e = absurd cc
 pub refused : {A B : Type 0} (checks others : Checks) (made : Result B Refusal) (r : Refusal) (result : Result A Refusal)
     → first_unmet checks ≡ refusal_of made → made ≡ Err r → IsErrAnd result (λ e. e ≡ r) → Checked (checks ++ others) result
 refused checks others made r (Ok x) e is p = absurd p
-refused checks others made r (Err x) e is p = inr (unmet_first checks others x (e ∙ ap refusal_of is ∙ ap Some (sym p)))
+refused checks others made r (Err x) e is p = unmet_first checks others x (e ∙ ap refusal_of is ∙ ap Some (sym p))
 
 -- the checks before these were passed
 pub checked_later : {A : Type 0} (checks more : Checks) (result : Result A Refusal) → first_unmet checks ≡ None → Checked more result → Checked (checks ++ more) result
-checked_later checks more result met (inl h) = inl h
-checked_later checks more result met (inr h) = inr (unmet_later checks more met ∙ h)
+checked_later checks more result met h = unmet_later checks more met ∙ h
 
 -- ---- a check of a code
 
@@ -58,17 +57,17 @@ unmet_code a b r e = rw e refl
 met_code : (a b : List ℕ) (r : Refusal) → bytes_eq a b ≡ true → first_unmet ((bytes_eq a b, r) ∷ []) ≡ None
 met_code a b r e = rw e refl
 
-pub code_refused : {A : Type 0} (a b code : List ℕ) (equal : Bool) (r : Refusal)
-    → (IsTrue equal ↔ (a ≡ code)) → equal ≡ false → code ≡ b → Checked {A = A} ((bytes_eq a b, r) ∷ []) (Err r)
+pub code_refused : (a b code : List ℕ) (equal : Bool) (r : Refusal)
+    → (IsTrue equal ↔ (a ≡ code)) → equal ≡ false → code ≡ b → first_unmet ((bytes_eq a b, r) ∷ []) ≡ Some r
 code_refused a b code equal r h fails is =
     let differs : bytes_eq a b ≡ false = sym (ap (bytes_eq a) is) ∙ eq_is equal a code h ∙ fails in
-    inr (unmet_code a b r differs)
+    unmet_code a b r differs
 
-pub code_passed : {A : Type 0} (a b code : List ℕ) (equal : Bool) (r : Refusal) (x : A)
-    → (IsTrue equal ↔ (a ≡ code)) → equal ≡ true → code ≡ b → Checked ((bytes_eq a b, r) ∷ []) (Ok x)
-code_passed a b code equal r x h holds is =
+pub code_passed : (a b code : List ℕ) (equal : Bool) (r : Refusal)
+    → (IsTrue equal ↔ (a ≡ code)) → equal ≡ true → code ≡ b → first_unmet ((bytes_eq a b, r) ∷ []) ≡ None
+code_passed a b code equal r h holds is =
     let same : bytes_eq a b ≡ true = sym (ap (bytes_eq a) is) ∙ eq_is equal a code h ∙ holds in
-    inr (met_code a b r same)
+    met_code a b r same
 
 -- ---- the outcome
 
@@ -89,26 +88,29 @@ memory_of r e = cc
 -- they are.
 not_passed_as : {A X B : Type 0} (see : Result X Refusal → Result B Refusal) → ((r : Refusal) → see (Err r) ≡ Err r)
     → (checks : Checks) (Then : Result B Refusal → Type 0) (made : Result A Refusal) (r : Refusal) (result : Result X Refusal)
-    → Checked checks made → made ≡ Err r → IsErrAnd result (λ e. e ≡ r) → (result ≡ Err Memory) ⊎ Passes checks Then (see result)
+    → Checked checks made → made ≡ Err r → IsErrAnd result (λ e. e ≡ r) → Passes checks Then (see result)
 not_passed_as see same checks Then made r (Ok v) h is p = absurd p
-not_passed_as {A} {X} see same checks Then made r (Err x) (inl h) is p = inl (memory_of {A = A} {B = X} x (ap Err p ∙ sym is ∙ h))
-not_passed_as see same checks Then made r (Err x) (inr h) is p =
-    inr (subst (λ z. Passes checks Then z) (sym (same x)) (outcome_refused checks Then x (h ∙ ap refusal_of is ∙ ap Some (sym p))))
+not_passed_as see same checks Then made r (Err x) h is p =
+    subst (λ z. Passes checks Then z) (sym (same x)) (outcome_refused checks Then x (h ∙ ap refusal_of is ∙ ap Some (sym p)))
 
 pub not_passed : {A : Type 0} (checks : Checks) (Then : Outcome → Type 0) (made : Result A Refusal) (r : Refusal) (result : Result (Vec ℕ) Refusal)
-    → Checked checks made → made ≡ Err r → IsErrAnd result (λ e. e ≡ r) → OrMemory (Passes checks Then) result
+    → Checked checks made → made ≡ Err r → IsErrAnd result (λ e. e ≡ r) → Passes checks Then (seen result)
 not_passed = not_passed_as seen (λ r. refl)
 
 pub body_not_passed : {A : Type 0} (checks : Checks) (Then : Authenticity → Type 0) (made : Result A Refusal) (r : Refusal) (result : Authenticity)
-    → Checked checks made → made ≡ Err r → IsErrAnd result (λ e. e ≡ r) → AuthenticOrMemory (Passes checks Then) result
+    → Checked checks made → made ≡ Err r → IsErrAnd result (λ e. e ≡ r) → Passes checks Then result
 body_not_passed = not_passed_as (λ z. z) (λ r. refl)
 
 -- they were passed
 pub all_passed : {M A B : Type 0} (checks : Checks) (Then : Result B Refusal → Type 0) (made : Result A Refusal) (x : A) (outcome : Result B Refusal)
     → Checked checks made → made ≡ Ok x → M ⊎ Then outcome → M ⊎ Passes checks Then outcome
-all_passed checks Then made x outcome (inl h) is p = absurd (let e : Ok x ≡ Err Memory = sym is ∙ h in cc)
-all_passed checks Then made x outcome (inr h) is (inl p) = inl p
-all_passed checks Then made x outcome (inr h) is (inr p) = inr (outcome_given checks Then outcome (h ∙ ap refusal_of is) p)
+all_passed checks Then made x outcome h is (inl p) = inl p
+all_passed checks Then made x outcome h is (inr p) = inr (outcome_given checks Then outcome (h ∙ ap refusal_of is) p)
+
+-- nothing that the function does after them may run out of memory
+pub all_passed_for : {A B : Type 0} (checks : Checks) (Then : Result B Refusal → Type 0) (made : Result A Refusal) (x : A) (outcome : Result B Refusal)
+    → Checked checks made → made ≡ Ok x → Then outcome → Passes checks Then outcome
+all_passed_for checks Then made x outcome h is p = outcome_given checks Then outcome (h ∙ ap refusal_of is) p
 
 pub gave : (user : List ℕ) (v : Vec ℕ) → v.items ≡ user → OrMemory (λ y. y ≡ Ok user) (Ok v)
 gave user v e = inr (ap Ok e)

@@ -1,5 +1,5 @@
 -- From the spellings that the code wrote to the frame.
-use Rattle.std.proofs.Common.{◌≡◌, ℕ, ◌+◌, ◌*◌, ◌≤◌, List, ◌++◌, length, take, drop, replicate, Option, Some, None, Result, Ok, Err, refl, sym, ap, subst, ◌∙◌, arith, length-append}
+use Rattle.std.proofs.Common.{◌≡◌, ℕ, ◌+◌, ◌*◌, ◌≤◌, ℤ, List, ◌++◌, length, take, drop, replicate, Option, Some, None, Result, Ok, Err, refl, sym, ap, subst, ◌∙◌, arith, length-append, length-drop}
 use Rattle.std.proofs.lemmas.List.{length-replicate}
 use Rattle.krb_aes.specs.Keys.{expanded_key}
 use Rattle.krb_aes.specs.Stealing.{cts}
@@ -18,27 +18,19 @@ use Rattle.krb_der.specs.declared.safe.SafeMsg.{SafeMsg}
 use Rattle.krb_der.specs.declared.private.PrivMsg.{PrivMsg}
 use Rattle.krb_der.specs.declared.message.Message.TheVariants as messages
 use Rattle.krb_der.specs.Body.{part}
-use Rattle.krb_der.specs.Message.{message, Encodes, Drafts, IsDraft, Spells}
+use Rattle.krb_der.specs.Message.{Drafts, DraftsSafe, IsDraft, IsSafeDraft, Spells}
 use Rattle.krb_der.specs.Size.{optional_size, carried, private_overhead}
-use Rattle.krb_der.specs.Safe.{safe, safe_input, without_checksum}
-use Rattle.krb_der.proofs.Sizes.{small_part, small_safe, small_private, shorter_input}
+use Rattle.krb_der.specs.Safe.{checksum_field, with_checksum}
+use Rattle.krb_der.proofs.Sizes.{small_part, small_safe, small_private}
 use Rattle.krb_der.specs.declared.private.Draft.{Draft}
+use Rattle.krb_der.specs.declared.safe.SafeDraft.{SafeDraft}
 use Rattle.krb_seal.specs.declared.session.Mode.TheVariants.{Priv}
 use Rattle.krb_etype.specs.declared.etype.Etype.{Etype}
 use Rattle.krb_etype.specs.Etype.{number_of}
 use Rattle.krb_etype.specs.Keys.{encryption_key, integrity_key, tag_of, encrypted}
-use Rattle.krb_seal.specs.Seals.{safe_checksum, SealsBody, unenciphered, priv_of}
+use Rattle.krb_seal.specs.Seals.{SealsBody, unenciphered, priv_of}
 use Rattle.krb_seal.specs.Session.{IsShortAddress, session_address_limit}
 use Rattle.krb_seal.specs.Body.{IsSmall}
-use Rattle.krb_seal.specs.Checksum.{Sums}
-
--- a writing within the limit fails for want of memory alone
-memory_alone : {V : Type 0} (Spelt : V → List ℕ → Type 0) (spelling : V → List ℕ) (v : V) (r : Result (Vec ℕ) DerError)
-    → Encodes Spelt spelling v r → length (spelling v) ≤ frame_limit → (e : DerError) → r ≡ Err e → e ≡ errors.Memory
-memory_alone Spelt spelling v (Ok bytes) h le e is = absurd cc
-memory_alone Spelt spelling v (Err errors.TooLong) h le e is = absurd (omega arith)
-memory_alone Spelt spelling v (Err errors.Malformed) h le e is = absurd h
-memory_alone Spelt spelling v (Err errors.Memory) h le e is = cc
 
 pub optional-small : (r : Option HostAddress) → ForSome r IsShortAddress → optional_size r ≤ session_address_limit
 optional-small None h = omega arith
@@ -47,9 +39,14 @@ optional-small (Some a) h = h a refl
 carried-small : (b : Body) → IsSmall b → carried b ≤ user_data_limit + 2 * session_address_limit
 carried-small b h = omega (arith, h.user, h.sender, optional-small b.r_addr h.receiver)
 
-pub memory_safe : (m : SafeMsg) (r : Result (Vec ℕ) DerError) → Encodes Spells message (messages.Safe m) r → IsSmall m.body → length m.checksum ≤ 12
-    → (e : DerError) → r ≡ Err e → e ≡ errors.Memory
-memory_safe m r h small sum = memory_alone Spells message (messages.Safe m) r h (omega (arith, small_safe m, carried-small m.body small))
+-- a draft within the limit fails for want of memory alone
+pub memory_safe : (m : SafeMsg) (kind : ℤ) (r : Result SafeDraft DerError) → DraftsSafe m kind 12 r → IsSmall m.body → (e : DerError) → r ≡ Err e → e ≡ errors.Memory
+memory_safe m kind (Ok draft) h small e is = absurd cc
+memory_safe m kind (Err errors.TooLong) h small e is =
+    let any : List ℕ = replicate 12 0 in
+    absurd (omega (arith, h any refl, small_safe (with_checksum m kind any), carried-small m.body small))
+memory_safe m kind (Err errors.Malformed) h small e is = absurd h
+memory_safe m kind (Err errors.Memory) h small e is = cc
 
 pub memory_draft : (m : PrivMsg) (conf : List ℕ) (b : Body) (n : ℕ) (r : Result Draft DerError) → Drafts m conf b n r → n + private_overhead ≤ frame_limit
     → (e : DerError) → r ≡ Err e → e ≡ errors.Memory
@@ -99,21 +96,10 @@ pub seals_draft : {E : Type 0} (etype : Etype) (key conf : List ℕ) (b : Body) 
 seals_draft etype key conf b draft (Ok frame) size d is plain = sealed_draft etype key conf b draft frame.items size d is plain
 seals_draft etype key conf b draft (Err e) size d is plain = tt
 
--- computing a checksum over bytes within the limit fails for want of memory alone
-memory_sum : (key : List ℕ) (m : SafeMsg) (r : Result (List ℕ) DerError) → Sums key m r → length (safe_input m) ≤ frame_limit → (e : DerError) → r ≡ Err e → e ≡ errors.Memory
-memory_sum key m (Ok sum) h le e is = absurd cc
-memory_sum key m (Err errors.TooLong) h le e is = absurd (omega arith)
-memory_sum key m (Err errors.Malformed) h le e is = absurd h
-memory_sum key m (Err errors.Memory) h le e is = cc
+-- ---- KRB-SAFE from a draft
 
--- of a message that is sealed, and of one that was read
-pub memory_sealed : (key : List ℕ) (m : SafeMsg) (r : Result (List ℕ) DerError) → Sums key m r → IsSmall m.body → (e : DerError) → r ≡ Err e → e ≡ errors.Memory
-memory_sealed key m r h small = memory_sum key m r h (omega (arith, small_safe (without_checksum m), carried-small m.body small))
-
-pub memory_read : (key : List ℕ) (m : SafeMsg) (r : Result (List ℕ) DerError) → Sums key m r → length (safe m) ≤ frame_limit → (e : DerError) → r ≡ Err e → e ≡ errors.Memory
-memory_read key m r h short = memory_sum key m r h (omega (arith, shorter_input m))
-
--- a checksum that was computed
-pub sum_is : (key : List ℕ) (m : SafeMsg) (r : Result (List ℕ) DerError) (sum : List ℕ) → Sums key m r → r ≡ Ok sum → sum ≡ safe_checksum key m
-sum_is key m (Ok x) sum h e = let same : x ≡ sum = cc in sym same ∙ h
-sum_is key m (Err x) sum h e = absurd cc
+-- what is hashed of it is short
+pub short_fields : (m : SafeMsg) (kind : ℤ) (draft : SafeDraft) → IsSafeDraft m kind 12 draft → length (drop draft.start draft.bytes.items) ≤ frame_limit
+short_fields m kind draft d =
+    let any : List ℕ = replicate 12 0 in
+    omega (arith, (d.spelt any refl).short, length-append draft.bytes.items (checksum_field kind any), length-drop draft.start draft.bytes.items)

@@ -1,6 +1,6 @@
 -- What opening a frame gives: the user data, or the refusal of the first check that it fails
 -- (RFC 4120 sections 3.4.2 and 3.5.2; RFC 3961 section 5.3).
-use Rattle.std.specs.Prelude.{◌≡◌, ℕ, ◌+◌, ◌-◌, ◌*◌, ◌≤◌, ℤ, pos, List, [], ◌∷◌, ◌++◌, length, drop}
+use Rattle.std.specs.Prelude.{◌≡◌, ℕ, ◌+◌, ◌-◌, ◌*◌, ℤ, pos, List, [], ◌∷◌, ◌++◌, length, drop}
 use Rattle.std.specs.Prelude.{Option, Some, None, Result, Ok, Err, Bool, true, false, not, ◌&&◌}
 use Rattle.std.specs.Prelude.{◌⊎◌, nat_le, nat_eq}
 use Rattle.std.specs.Ordering.{int_eq}

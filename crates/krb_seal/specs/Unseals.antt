@@ -25,6 +25,6 @@ abbrev pub refusal_of : {A : Type 0} → Result A Refusal → Option Refusal
 refusal_of (Ok x) = None
 refusal_of (Err r) = Some r
 
--- A function made these checks, or ran out of memory.
+-- A function made these checks: it refuses by the first that isn't met, if there is one.
 abbrev pub Checked : {A : Type 0} → Checks → Result A Refusal → Type 0
-Checked checks result = (result ≡ Err Memory) ⊎ (first_unmet checks ≡ refusal_of result)
+Checked checks result = first_unmet checks ≡ refusal_of result

@@ -110,8 +110,16 @@ impl AesSealer<Any> {
 }
 
 impl<E> AesSealer<E> {
-    /// Seals in this mode from now on. The keys of the mode are derived, unless they are there. Key, number and addresses stay: both kinds of messages of one
-    /// sender share its sequence numbers (RFC 4120 section 3.4.1).
+    /// Whether its keys were overwritten.
+    pub fn is_wiped(&self) -> bool
+        ensures { result ≡ self.now.wiped }
+    {
+        self.keys.is_wiped()
+    }
+
+    /// Seals in this mode from now on. The keys of the mode are derived, unless they are there. Key,
+    /// number and addresses stay: both kinds of messages of one sender share its sequence numbers
+    /// (RFC 4120 section 3.4.1).
     pub fn set_mode(&mut self, mode: Mode)
         ensures { self.new ≡ in_mode self.old mode }
     {

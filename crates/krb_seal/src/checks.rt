@@ -4,7 +4,7 @@ ghost use Rattle.std.specs.Prelude.{◌≡◌, ◌↔◌, IsTrue};
 ghost use Rattle.krb_der.specs.Body.{InRange};
 ghost use Rattle.krb_etype.specs.Etype.{etype_of, is_checksum_of, number_of};
 ghost use Rattle.krb_seal.specs.Opens.{addresses_fit, body_checks, is_current, is_number, is_safe, priv_header, receiver_fits, safe_header};
-ghost use Rattle.krb_seal.specs.Unseals.{first_unmet, refusal_of};
+ghost use Rattle.krb_seal.specs.Unseals.{Checked};
 
 use crate::refusal::Refusal;
 use crate::session::{Expect, Mode};
@@ -69,7 +69,7 @@ fn is_checksum_of(etype: Etype, number: i32) -> bool
 
 /// The version, the kind of message and the checksum's type of KRB-SAFE.
 pub fn check_safe_header(etype: Etype, expect: &Expect, m: &SafeMsg) -> Result<(), Refusal>
-    ensures { first_unmet (safe_header (number_of etype) expect.now m.now) ≡ refusal_of result }
+    ensures { Checked (safe_header (number_of etype) expect.now m.now) result }
 {
     if m.pvno != 5 {
         return Err(Refusal::BadVersion);
@@ -85,7 +85,7 @@ pub fn check_safe_header(etype: Etype, expect: &Expect, m: &SafeMsg) -> Result<(
 
 /// The version, the kind of message, the encryption type and the size of a cipher of KRB-PRIV.
 pub fn check_priv_header(etype: Etype, expect: &Expect, m: &PrivMsg) -> Result<(), Refusal>
-    ensures { first_unmet (priv_header (number_of etype) expect.now m.now) ≡ refusal_of result }
+    ensures { Checked (priv_header (number_of etype) expect.now m.now) result }
 {
     if m.pvno != 5 {
         return Err(Refusal::BadVersion);
@@ -112,7 +112,7 @@ pub fn has_checksum(m: &SafeMsg, checksum: &[u8; CODE_SIZE]) -> bool
 /// The addresses, the time and the number of a body of either kind.
 pub fn check_body(expect: &Expect, number: u64, now: u64, body: &Body) -> Result<(), Refusal>
     requires { InRange body.now }
-    ensures { first_unmet (body_checks expect.now number now body.now) ≡ refusal_of result }
+    ensures { Checked (body_checks expect.now number now body.now) result }
 {
     if !addresses_fit(expect, body) {
         return Err(Refusal::BadAddr);

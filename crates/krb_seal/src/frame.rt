@@ -19,7 +19,7 @@ use crate::checksum::checksum_of;
 use crate::limit::within_limit;
 use crate::session::Mode;
 use krb_base::known_bytes;
-use krb_der::{BodyRef, Bytes, Draft, PrivMsg, SafeRef, draft_priv, priv_size};
+use krb_der::{BodyRef, Bytes, Draft, PrivMsg, SafeRef, draft_priv, draft_safe, priv_size};
 use krb_etype::{CODE_SIZE, CONFOUNDER_SIZE, Etype, Keys};
 use std::alloc::{AllocError, Global};
 
@@ -30,24 +30,26 @@ fn unsigned<'a>(etype: Etype, body: BodyRef<'a>) -> SafeRef<'a>
     SafeRef::unsigned(5, 20, body, etype.checksum_number())
 }
 
-/// The KRB-SAFE of a draft.
+/// The KRB-SAFE that carries a body. Its fields are written once, and hashed where they stand in the
+/// frame.
 fn safe_frame(
     alloc: Global,
     keys: &Keys,
     etype: Etype,
-    draft: &SafeRef<'_>,
+    message: &SafeRef<'_>,
     confounder: [u8; 16],
 ) -> Result<Vec<u8>, AllocError>
     requires live { keys.now.wiped ≡ false }
     requires purpose { keys.now.purpose ≡ Checksum }
-    requires draft { draft.now ≡ unsigned etype draft.now.body }
-    requires range { InRange draft.now.body }
-    requires small { IsSmall draft.now.body }
+    requires message { message.now ≡ unsigned etype message.now.body }
+    requires range { InRange message.now.body }
+    requires small { IsSmall message.now.body }
     ensures { IfOk result (λ frame. SealsBody Safe (number_of etype) keys.now.key confounder
-        draft.now.body frame.items) }
+        message.now.body frame.items) }
 {
-    let checksum = within_limit(checksum_of(alloc, keys, draft))?;
-    within_limit(draft.encode_with_checksum(alloc, etype.checksum_number(), &checksum))
+    let draft = within_limit(draft_safe(alloc, message, CODE_SIZE))?;
+    let checksum = checksum_of(keys, draft.fields());
+    draft.with_checksum(etype.checksum_number(), &checksum)
 }
 
 /// Enciphers a text in place, and gives the code that follows it.

@@ -4,8 +4,7 @@ ghost use Rattle.std.specs.Prelude.{◌≡◌, ◌≤◌, drop, length, Err, IfO
 ghost use Rattle.krb_base.specs.Limits.{frame_limit};
 ghost use Rattle.krb_der.specs.declared.message.Message.TheVariants as messages;
 ghost use Rattle.krb_der.specs.Body.{InRange};
-ghost use Rattle.krb_der.specs.Safe.{safe};
-ghost use Rattle.krb_der.specs.Message.{SpellsPart};
+ghost use Rattle.krb_der.specs.Message.{Spells, SpellsPart};
 ghost use Rattle.krb_seal.specs.declared.session.Mode.TheVariants.{Safe};
 ghost use Rattle.krb_etype.specs.Etype.{number_of};
 ghost use Rattle.krb_etype.specs.HeldKeys.{fresh_keys};
@@ -13,11 +12,10 @@ ghost use Rattle.krb_etype.specs.declared.private_keys.End.TheVariants as ends;
 ghost use Rattle.krb_seal.specs.Mode.{purpose_of};
 ghost use Rattle.krb_seal.specs.Opens.{Opens, OpensMessage, Read, checksum_checks, opener_of, safe_checks};
 ghost use Rattle.krb_seal.specs.Authentic.{Authenticates, AuthenticMessage, AuthenticOrMemory, GivesBody, authentic_checks};
-ghost use Rattle.krb_seal.specs.Unseals.{Checked, OrMemory};
+ghost use Rattle.krb_seal.specs.Unseals.{Checked, OrMemory, seen};
 
 use crate::checks::{check_body, check_priv_header, check_safe_header, has_checksum};
 use crate::checksum::checksum_of;
-use crate::limit::within_limit;
 use crate::refusal::Refusal;
 use crate::session::Expect;
 use krb_base::Secret;
@@ -74,7 +72,7 @@ impl<'a> Opening<'a> {
     {
         let now = now.micros();
         match decode(alloc, frame) {
-            Ok(Message::Safe(m)) => self.open_safe(alloc, m, number, now),
+            Ok(Message::Safe(m)) => self.open_safe(frame, m, number, now),
             Ok(Message::Priv(m)) => self.open_priv(alloc, m, number, now),
             Err(DerError::TooLong) => Err(Refusal::FieldTooLong),
             Err(DerError::Malformed) => Err(Refusal::Malformed),
@@ -90,7 +88,7 @@ impl<'a> Opening<'a> {
         ensures memory { result ≡ Err Refusal.Memory → length frame.now ≤ frame_limit }
     {
         match decode(alloc, frame) {
-            Ok(Message::Safe(m)) => self.authentic_safe(alloc, m),
+            Ok(Message::Safe(m)) => self.authentic_safe(frame, m),
             Ok(Message::Priv(m)) => self.authentic_priv(alloc, m),
             Err(DerError::TooLong) => Err(Refusal::FieldTooLong),
             Err(DerError::Malformed) => Err(Refusal::Malformed),
@@ -100,14 +98,13 @@ impl<'a> Opening<'a> {
 }
 
 impl<'a> Opening<'a> {
-    /// The checksum of a KRB-SAFE.
-    fn check_checksum(&self, alloc: Global, m: &SafeMsg) -> Result<(), Refusal>
+    /// The checksum of a KRB-SAFE, over the bytes that it was read of.
+    fn check_checksum(&self, frame: &[u8], m: &SafeMsg) -> Result<(), Refusal>
         requires mode { self.now.expect.mode ≡ Safe }
-        requires range { InRange m.now.body }
-        requires short { length (safe m.now) ≤ frame_limit }
+        requires spelt { Spells (messages.Safe m.now) frame.now }
         ensures { Checked (checksum_checks self.now.key m.now) result }
     {
-        let checksum = within_limit(checksum_of(alloc, self.keys, &m.borrowed()))?;
+        let checksum = checksum_of(self.keys, m.before_checksum_in(frame));
         if !has_checksum(m, &checksum) {
             return Err(Refusal::Modified);
         }
@@ -115,52 +112,42 @@ impl<'a> Opening<'a> {
     }
 
     /// All checks of a KRB-SAFE.
-    fn check_safe(&self, alloc: Global, m: &SafeMsg, number: u64, now: u64) -> Result<(), Refusal>
-        requires range { InRange m.now.body }
-        requires short { length (safe m.now) ≤ frame_limit }
+    fn check_safe(&self, frame: &[u8], m: &SafeMsg, number: u64, now: u64) -> Result<(), Refusal>
+        requires spelt { Spells (messages.Safe m.now) frame.now }
         ensures { Checked (safe_checks self.now number now m.now) result }
     {
         check_safe_header(self.etype, self.expect, m)?;
         check_body(self.expect, number, now, &m.body)?;
-        self.check_checksum(alloc, m)
+        self.check_checksum(frame, m)
     }
 
     /// The checks of a KRB-SAFE but for those of its body.
-    fn check_authentic(&self, alloc: Global, m: &SafeMsg) -> Result<(), Refusal>
-        requires range { InRange m.now.body }
-        requires short { length (safe m.now) ≤ frame_limit }
+    fn check_authentic(&self, frame: &[u8], m: &SafeMsg) -> Result<(), Refusal>
+        requires spelt { Spells (messages.Safe m.now) frame.now }
         ensures { Checked (authentic_checks self.now m.now) result }
     {
         check_safe_header(self.etype, self.expect, m)?;
-        self.check_checksum(alloc, m)
+        self.check_checksum(frame, m)
     }
 
     /// What a KRB-SAFE gives.
-    fn open_safe(
-        &self,
-        alloc: Global,
-        m: SafeMsg,
-        number: u64,
-        now: u64,
-    ) -> Result<Vec<u8>, Refusal>
-        requires range { InRange m.body }
-        requires short { length (safe m) ≤ frame_limit }
-        ensures { OrMemory (OpensMessage self.now number now (messages.Safe m)) result }
+    fn open_safe(&self, frame: &[u8], m: SafeMsg, number: u64, now: u64) -> Result<Vec<u8>, Refusal>
+        requires spelt { Spells (messages.Safe m) frame.now }
+        ensures { OpensMessage self.now number now (messages.Safe m) (seen result) }
     {
-        self.check_safe(alloc, &m, number, now)?;
+        self.check_safe(frame, &m, number, now)?;
         let SafeMsg { body, .. } = m;
         let Body { user_data, .. } = body;
         Ok(user_data.into_vec())
     }
 
     /// The body of a KRB-SAFE that is authentic.
-    fn authentic_safe(&self, alloc: Global, m: SafeMsg) -> Result<Body, Refusal>
-        requires range { InRange m.body }
-        requires short { length (safe m) ≤ frame_limit }
-        ensures answer { AuthenticOrMemory (AuthenticMessage self.now (messages.Safe m)) result }
+    fn authentic_safe(&self, frame: &[u8], m: SafeMsg) -> Result<Body, Refusal>
+        requires spelt { Spells (messages.Safe m) frame.now }
+        ensures answer { AuthenticMessage self.now (messages.Safe m) result }
         ensures range { IfOk result InRange }
     {
-        self.check_authentic(alloc, &m)?;
+        self.check_authentic(frame, &m)?;
         let SafeMsg { body, .. } = m;
         Ok(body)
     }

@@ -1,11 +1,10 @@
 //! The lengths of elements (X.690 sections 8.1.3 and 10.1).
 
-ghost use Rattle.std.specs.Prelude.{◌≡◌, ◌+◌, ◌<◌, ◌≤◌, ◌^◌, ◌++◌, length, OnOk};
+ghost use Rattle.std.specs.Prelude.{◌≡◌, ◌≤◌, length};
 ghost use Rattle.krb_tlv.specs.Length.{length_octets};
 ghost use Rattle.krb_tlv.specs.Reading.{Gives, be_value, wide_length_at, length_at};
 
 use crate::error::DerError;
-use std::alloc::AllocError;
 
 /// The number that at most five octets are, the most significant first.
 pub fn be_number(octets: &[u8]) -> u64
@@ -71,27 +70,4 @@ pub fn length_size(n: usize) -> usize
     } else {
         4
     }
-}
-
-/// Adds the length in its shortest form.
-#[tactic(auto, unfolding(crate::specs::Length::length_octets))]
-pub fn put_length(out: &mut Vec<u8>, n: usize) -> Result<(), AllocError>
-    requires { n < 2 ^ 24 }
-    ensures { OnOk result (out.new.items ≡ out.old.items ++ length_octets n) }
-{
-    if n < 128 {
-        out.push(n as u8)?;
-    } else if n < 256 {
-        out.extend_from_slice(&[0x81, n as u8])?;
-    } else if n < 65536 {
-        out.extend_from_slice(&[0x82, (n / 256) as u8, (n % 256) as u8])?;
-    } else {
-        out.extend_from_slice(&[
-            0x83,
-            (n / 65536) as u8,
-            (n / 256 % 256) as u8,
-            (n % 256) as u8,
-        ])?;
-    }
-    Ok(())
 }

@@ -7,6 +7,7 @@
 #![tactic(auto)]
 
 mod error;
+mod header;
 mod integer;
 mod length;
 mod reader;
@@ -14,6 +15,7 @@ mod tag;
 mod writer;
 
 pub use error::DerError;
+pub use header::Header;
 pub use integer::{
     UINT32_LIMIT, int32_field_size, known_int32, known_uint32, natural_field_size,
     read_int32_field, read_optional_natural, write_int32_field, write_natural_field,

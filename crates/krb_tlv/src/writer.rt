@@ -2,7 +2,8 @@ ghost use Rattle.std.specs.Prelude.{◌≡◌, ◌+◌, ◌<◌, ◌≤◌, ◌^
 ghost use Rattle.krb_tlv.specs.Element.{header, octets, tagged};
 ghost use Rattle.krb_tlv.specs.Writing.{IsShort, element_size};
 
-use crate::length::{length_size, put_length};
+use crate::header::Header;
+use crate::length::length_size;
 use crate::tag;
 use std::alloc::{AllocError, Global};
 use std::marker::Model;
@@ -30,6 +31,13 @@ impl Writer {
         Ok(Writer { bytes })
     }
 
+    /// A writer that goes on after these bytes.
+    pub fn after(bytes: Vec<u8>) -> Writer
+        ensures { result ≡ bytes.items }
+    {
+        Writer { bytes }
+    }
+
     /// How many bytes are written.
     pub fn len(&self) -> usize
         ensures { result ≡ length self.now }
@@ -45,13 +53,11 @@ impl Writer {
     }
 
     /// Adds what comes before a content of so many bytes: its tag and its length.
-    #[tactic(auto, unfolding(crate::specs::Element::header))]
     pub fn begin(&mut self, tag: u8, content: usize) -> Result<(), AllocError>
         requires { content < 2 ^ 24 }
         ensures { OnOk result (self.new ≡ self.old ++ header tag content) }
     {
-        self.bytes.push(tag)?;
-        put_length(&mut self.bytes, content)
+        self.put(Header::new(tag, content).as_slice())
     }
 
     /// Adds an element with this content.

@@ -1,8 +1,7 @@
-use Rattle.std.proofs.Common.{◌≡◌, List, ℕ, drop, subst, ap, arith, length, length-drop, ◌∙◌}
+use Rattle.std.proofs.Common.{◌≡◌, drop, subst, ap, arith, length, length-drop, ◌∙◌}
 use Rattle.krb_base.specs.Bytes.{AreBytes}
 use Rattle.krb_der.proofs.Grammar.{part_decodes, part_decided}
 use Rattle.krb_tlv.proofs.Numbers.{AreBytes-drop}
-use Rattle.krb_der.specs.Reading.{part_of}
 use Rattle.krb_der.proofs.part.decode_part_from.Goals as goal
 
 pub returns : goal.returns

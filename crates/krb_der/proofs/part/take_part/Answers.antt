@@ -1,4 +1,4 @@
-use Rattle.std.proofs.Common.{◌++◌, ◌-◌, ◌∙◌, List, ℕ, Some, sym, ap, subst, drop, take, length}
+use Rattle.std.proofs.Common.{◌++◌, ◌∙◌, List, ℕ, Some, sym, ap, subst, drop, length}
 use Rattle.std.proofs.lemmas.List.{take_rest}
 use Rattle.krb_der.specs.Reading.{EndsWith, part_of, body_with}
 use Rattle.krb_der.proofs.Places.{data-place, ends-dropped}

@@ -1,6 +1,6 @@
-use Rattle.std.proofs.Common.{Ok, inr, refl}
+use Rattle.std.proofs.Common.{Ok, refl}
 use Rattle.krb_seal.specs.Authentic.{GivesBody, authentic_checks}
-use Rattle.krb_seal.proofs.Checking.{body_not_passed, all_passed}
+use Rattle.krb_seal.proofs.Checking.{body_not_passed, all_passed_for}
 use Rattle.krb_seal.proofs.opening.Opening.authentic_safe.Goals as goal
 
 pub returns-in_err-check_authentic-clause-answer : goal.returns-in_err-check_authentic-clause-answer
@@ -9,4 +9,4 @@ returns-in_err-check_authentic-clause-answer c =
 
 pub returns-clause-answer : goal.returns-clause-answer
 returns-clause-answer c =
-    all_passed (authentic_checks c.args.self.now c.args.m) (GivesBody c.args.m.body) c.check_authentic.result _ (Ok c.args.m.body) c.check_authentic.ensures c.in_ok-check_authentic.was (inr refl)
+    all_passed_for (authentic_checks c.args.self.now c.args.m) (GivesBody c.args.m.body) c.check_authentic.result _ (Ok c.args.m.body) c.check_authentic.ensures c.in_ok-check_authentic.was refl

@@ -1,5 +1,5 @@
 use Rattle.krb_der.specs.declared.message.Message.TheVariants as messages
-use Rattle.std.proofs.Common.{subst}
+use Rattle.std.proofs.Common.{inr, subst}
 use Rattle.krb_der.specs.declared.message.Message.{Message}
 use Rattle.krb_der.specs.Message.{Spells}
 use Rattle.krb_seal.specs.Authentic.{AuthenticMessage}
@@ -8,4 +8,4 @@ use Rattle.krb_seal.proofs.opening.Opening.authenticate.Goals as goal
 
 pub returns-in-Ok-Safe-clause-answer : goal.returns-in-Ok-Safe-clause-answer
 returns-in-Ok-Safe-clause-answer c =
-    frame_passed (AuthenticMessage c.args.self.now) c.args.frame.now (messages.Safe c.in-Ok-Safe.m) c.authentic_safe.result (subst (λ (z : Message). Spells z c.args.frame.now) c.in-Ok-Safe.field-0-is c.in-Ok-Safe.ensures.answer) c.authentic_safe.ensures.answer
+    frame_passed (AuthenticMessage c.args.self.now) c.args.frame.now (messages.Safe c.in-Ok-Safe.m) c.authentic_safe.result (subst (λ (z : Message). Spells z c.args.frame.now) c.in-Ok-Safe.field-0-is c.in-Ok-Safe.ensures.answer) (inr c.authentic_safe.ensures.answer)

@@ -1,5 +1,5 @@
 use Rattle.krb_der.specs.declared.message.Message.TheVariants as messages
-use Rattle.std.proofs.Common.{subst}
+use Rattle.std.proofs.Common.{inr, subst}
 use Rattle.krb_der.specs.declared.message.Message.{Message}
 use Rattle.krb_der.specs.Message.{Spells}
 use Rattle.krb_seal.proofs.Checking.{frame_opened}
@@ -7,7 +7,7 @@ use Rattle.krb_seal.proofs.opening.Opening.unseal.Goals as goal
 
 pub returns-in-Ok-Safe-clause-answer : goal.returns-in-Ok-Safe-clause-answer
 returns-in-Ok-Safe-clause-answer c =
-    frame_opened c.args.self.now c.args.number c.args.now c.micros-now.result c.args.frame.now (messages.Safe c.in-Ok-Safe.m) c.open_safe.result c.micros-now.ensures.value (subst (λ (z : Message). Spells z c.args.frame.now) c.in-Ok-Safe.field-0-is c.in-Ok-Safe.ensures.answer) c.open_safe.ensures
+    frame_opened c.args.self.now c.args.number c.args.now c.micros-now.result c.args.frame.now (messages.Safe c.in-Ok-Safe.m) c.open_safe.result c.micros-now.ensures.value (subst (λ (z : Message). Spells z c.args.frame.now) c.in-Ok-Safe.field-0-is c.in-Ok-Safe.ensures.answer) (inr c.open_safe.ensures)
 
 pub returns-in-Ok-Priv-clause-answer : goal.returns-in-Ok-Priv-clause-answer
 returns-in-Ok-Priv-clause-answer c =

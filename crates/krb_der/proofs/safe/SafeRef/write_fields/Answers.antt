@@ -1,8 +1,0 @@
-use Rattle.std.proofs.Common.{arith, append_assoc}
-use Rattle.std.proofs.lemmas.List.{append-nil}
-use Rattle.krb_tlv.specs.Element.{tagged}
-use Rattle.krb_der.proofs.safe.SafeRef.write_fields.Goals as goal
-
-pub returns : goal.returns
-unfolding tagged
-returns c = grind (arith, append_assoc, append-nil)
