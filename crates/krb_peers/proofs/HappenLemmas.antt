@@ -10,7 +10,7 @@ use Rattle.krb_peers.specs.Demand.{Demand}
 use Rattle.krb_peers.specs.ReceiverState.{ReceiverState}
 use Rattle.krb_peers.specs.Session.{Sealed, frames_in}
 use Rattle.krb_peers.specs.Moments.{moment_at}
-use Rattle.krb_peers.specs.Verdicts.{records_of, AreVerdicts, IsVerdict}
+use Rattle.krb_peers.specs.Verdicts.{records_of, AreJudged, IsVerdict}
 use Rattle.krb_peers.proofs.AnswerLemmas.{image, answer_of, records_of-answers}
 use Rattle.krb_peers.proofs.AttemptLemmas.{accepted_here}
 use Rattle.krb_peers.proofs.OrderLemmas.{demand_after-nil}
@@ -31,7 +31,7 @@ module _ (sealer : SealerState) (all : List Record) (sealed : List Sealed) (rece
       let first : receiver.demand.expected ≡ sealer.next = ap (λ (d : Demand). d.expected) can.demand in
       omega (arith, first, ap length (before_is place), length-take-le place all (omega (arith, lt, (can.each).one_each)))
 
-  judged : AreVerdicts receiver.opener nows receiver.demand 0 taking_all.took taking_all.verdicts
+  judged : AreJudged receiver nows taking_all.took taking_all.verdicts
   judged = record {
     one_each = length-map all answer_of ∙ (sym (can.each).one_each ∙ sym (length-map sealed (λ (it : Sealed). it.frame)));
     each = λ i frame v at-f at-v.

@@ -1,36 +1,74 @@
 -- What a receiver answers.
-use Rattle.std.proofs.Common.{◌≡◌, ℕ, false, List, Result, Ok, Err, inl, inr}
+use Rattle.std.proofs.Common.{◌≡◌, ℕ, false, List, Result, Ok, Err, refl, sym, ap, subst, ◌∙◌, inl, inr}
+use Rattle.std.specs.Prelude.{◌⊎◌, ◌≤◌, IfErr, IfOk, OnOk}
+use Rattle.krb_base.specs.Limits.{last_number}
 use Rattle.std.specs.Global.{Vec}
 use Rattle.krb_seal.specs.declared.refusal.Refusal.{Refusal}
-use Rattle.krb_seal.specs.Opens.{OpenerState, Opens}
+use Rattle.krb_seal.specs.declared.refusal.Refusal.TheVariants.{BadRecord, Memory}
+use Rattle.krb_seal.specs.Opens.{Outcome, Opens}
 use Rattle.krb_seal.specs.Unseals.{OrMemory}
 use Rattle.krb_record.specs.declared.record.Record.{Record}
+use Rattle.krb_record.specs.declared.record.Record.TheVariants as records
 use Rattle.krb_peers.specs.declared.delivery.Delivery.{Delivery}
-use Rattle.krb_record.specs.Record.{SpellsRecord}
+use Rattle.krb_peers.specs.declared.delivery.Delivery.TheVariants.{Text, Batch, Closed}
+use Rattle.krb_peers.specs.declared.receiver.Opened.{Opened}
+use Rattle.krb_record.specs.Record.{SpellsRecord, kind_of}
 use Rattle.krb_peers.specs.ReceiverState.{ReceiverState}
-use Rattle.krb_peers.specs.Verdicts.{record_of}
-use Rattle.krb_peers.specs.Receiver.{IsJudgement}
+use Rattle.krb_peers.specs.Verdicts.{Fails, IsNoRecord, record_of}
+use Rattle.krb_peers.specs.Receiver.{IsJudgement, OpensRecord}
+use Rattle.krb_peers.proofs.NumberLemmas.{opens_in_range}
 
--- the user data that an answer gives was opened
-pub opened_is : (o : OpenerState) (number now : ℕ) (frame : List ℕ) (result : Result (Vec ℕ) Refusal) (user : Vec ℕ)
-    → OrMemory (Opens o number now frame) result → result ≡ Ok user → Opens o number now frame (Ok user.items)
-opened_is o number now frame (Ok v) user (inl h) is = absurd (let e = h in cc)
-opened_is o number now frame (Ok v) user (inr h) is = let e : v ≡ user = cc in rw (← e) h
-opened_is o number now frame (Err r) user h is = absurd (let e = is in cc)
+-- the user data that an answer gives were opened
+pub opened_is : (Gives : Outcome → Type 0) (result : Result (Vec ℕ) Refusal) → OrMemory Gives result → IfOk result (λ user. Gives (Ok user.items))
+opened_is Gives (Ok v) (inl h) = absurd (let e = h in cc)
+opened_is Gives (Ok v) (inr h) = h
+opened_is Gives (Err r) h = tt
 
--- the opener's refusal is the verdict
-pub refused_is : (receiver : ReceiverState) (number now : ℕ) (frame : List ℕ) (result : Result (Vec ℕ) Refusal) (refusal : Refusal)
-    → receiver.demand.closed ≡ false → number ≡ receiver.demand.expected
-    → OrMemory (Opens receiver.opener number now frame) result → result ≡ Err refusal → IsJudgement receiver now frame (Err refusal)
-refused_is receiver number now frame (Ok v) refusal live same h is = absurd (let e = is in cc)
-refused_is receiver number now frame (Err r) refusal live same (inl h) is = inl (let e = is in cc)
-refused_is receiver number now frame (Err r) refusal live same (inr h) is =
-    let e : r ≡ refusal = cc in
-    inr (inr (live, inl (rw (← same, ← e) h)))
+-- a refusal of the opener's, where no close was accepted
+pub refused_is : (receiver : ReceiverState) (now : ℕ) (frame : List ℕ) (result : Result (Vec ℕ) Refusal) → receiver.demand.closed ≡ false
+    → OrMemory (Opens receiver.opener receiver.demand.expected now frame) result
+    → IfErr result (λ r. (r ≡ Memory) ⊎ Fails receiver.opener receiver.demand now frame r)
+refused_is receiver now frame (Ok v) live h = tt
+refused_is receiver now frame (Err r) live (inl h) = inl (let e = h in cc)
+refused_is receiver now frame (Err r) live (inr h) = inr (inr (live, inl h))
+
+-- no frame opens at a number over the last
+pub given_in_range : (receiver : ReceiverState) (now : ℕ) (frame : List ℕ) (result : Result (Vec ℕ) Refusal)
+    → OrMemory (Opens receiver.opener receiver.demand.expected now frame) result → OnOk result (receiver.demand.expected ≤ last_number)
+given_in_range receiver now frame (Ok v) (inl h) = absurd (let e = h in cc)
+given_in_range receiver now frame (Ok v) (inr h) = opens_in_range receiver.opener receiver.demand.expected now frame v.items h
+given_in_range receiver now frame (Err r) h = tt
+
+-- such a refusal is the verdict
+pub judged_refusal : (receiver : ReceiverState) (now : ℕ) (frame : List ℕ) (r : Refusal) → (r ≡ Memory) ⊎ Fails receiver.opener receiver.demand now frame r → IsJudgement receiver now frame (Err r)
+judged_refusal receiver now frame r (inl e) = inl (ap Err e)
+judged_refusal receiver now frame r (inr h) = inr h
+
+-- user data that are no record
+pub no_record_is : (receiver : ReceiverState) (now : ℕ) (frame user : List ℕ) → receiver.demand.closed ≡ false → Opens receiver.opener receiver.demand.expected now frame (Ok user) → IsNoRecord user
+    → IsJudgement receiver now frame (Err BadRecord)
+no_record_is receiver now frame user live opened none = inr (inr (live, inr (user, opened, none, refl)))
 
 -- a record that was opened is the verdict
-pub carried_is : (receiver : ReceiverState) (number now : ℕ) (frame : List ℕ) (user : List ℕ) (r : Record) (d : Delivery)
-    → receiver.demand.closed ≡ false → number ≡ receiver.demand.expected
-    → Opens receiver.opener number now frame (Ok user) → SpellsRecord r user → r ≡ record_of d → IsJudgement receiver now frame (Ok d)
-carried_is receiver number now frame user r d live same opened spelled is =
-    inr (live, (user, rw (← same) opened, rw (← is) spelled))
+pub carried_is : (receiver : ReceiverState) (now : ℕ) (frame user : List ℕ) (r : Record) (d : Delivery) → receiver.demand.closed ≡ false
+    → Opens receiver.opener receiver.demand.expected now frame (Ok user) → SpellsRecord r user → r ≡ record_of d → IsJudgement receiver now frame (Ok d)
+carried_is receiver now frame user r d live opened spelled is = inr (live, (user, opened, rw (← is) spelled))
+
+-- the delivery that a record is
+abbrev pub delivery_of : Record → Delivery
+delivery_of (records.Text text) = Text text
+delivery_of (records.Batch texts) = Batch texts
+delivery_of records.Close = Closed
+
+delivery_is : (r : Record) → record_of (delivery_of r) ≡ r
+delivery_is (records.Text text) = refl
+delivery_is (records.Batch texts) = refl
+delivery_is records.Close = refl
+
+-- a record that is left where it was opened
+pub opens_record : (receiver : ReceiverState) (now : ℕ) (frame : List ℕ) (opened : Opened) (r : Record) → receiver.demand.closed ≡ false
+    → Opens receiver.opener receiver.demand.expected now frame (Ok opened.bytes) → SpellsRecord r opened.bytes → opened.kind ≡ kind_of r → OpensRecord receiver now frame opened
+opens_record receiver now frame opened r live opens spelled kind =
+    let is : r ≡ record_of (delivery_of r) = sym (delivery_is r) in
+    let same : SpellsRecord (record_of (delivery_of r)) opened.bytes = subst (λ (z : Record). SpellsRecord z opened.bytes) is spelled in
+    (delivery_of r, (live, (opened.bytes, opens, same)), same, kind ∙ ap kind_of is)

@@ -1,17 +1,27 @@
 -- What a receiver returns.
-use Rattle.std.specs.Prelude.{◌≡◌, ◌⊎◌, ◌≤◌, ℕ, Bool, false, List, length, Err}
+use Rattle.std.specs.Prelude.{◌≡◌, ◌⊎◌, ◌≤◌, ℕ, Bool, false, List, length, Ok, Err}
 use Rattle.krb_seal.specs.declared.refusal.Refusal.TheVariants.{Memory}
 use Rattle.krb_base.specs.Bytes.{AreZero}
 use Rattle.krb_base.specs.Limits.{frame_limit}
+use Rattle.krb_record.specs.Record.{SpellsRecord, kind_of}
+use Rattle.krb_peers.specs.declared.delivery.Delivery.{Delivery}
+use Rattle.krb_peers.specs.declared.receiver.Opened.{Opened}
 use Rattle.krb_peers.specs.declared.receiver.Receiving.{Receiving}
 use Rattle.krb_peers.specs.Order.{demand_after, next_demand}
 use Rattle.krb_peers.specs.ReceiverState.{ReceiverState}
-use Rattle.krb_peers.specs.Verdicts.{Verdict, IsVerdict, accepted_by, verdict}
+use Rattle.krb_peers.specs.Verdicts.{Verdict, IsVerdict, accepted_by, record_of, verdict}
 
 -- the verdict on a frame that is taken at a timestamp, or out of memory
 abbrev pub IsJudgement : ReceiverState → ℕ → List ℕ → Verdict → Type 0
 IsJudgement receiver now frame answer =
     (answer ≡ Err Memory) ⊎ IsVerdict receiver.opener receiver.demand now frame answer
+
+-- the verdict on a frame is a delivery, and its record has this kind and these bytes
+abbrev pub OpensRecord : ReceiverState → ℕ → List ℕ → Opened → Type 0
+OpensRecord receiver now frame opened =
+    (delivery : Delivery) × IsVerdict receiver.opener receiver.demand now frame (Ok delivery)
+    × SpellsRecord (record_of delivery) opened.bytes
+    × (opened.kind ≡ kind_of (record_of delivery))
 
 -- nothing is allocated for a frame after a close, nor for one over the limit
 abbrev pub TakesMemory : ReceiverState → List ℕ → Type 0

@@ -56,7 +56,7 @@ pub use log::{Entry, Event, Log, Status};
 pub use order::{Order, OrderRefusal};
 pub use plan::{Emit, EmitError};
 pub use planned::{carried_laws, going_on_laws, headline_laws, source_laws, undisturbed_laws};
-pub use receiver::{Receiver, Receiving};
+pub use receiver::{Opened, Receiver, Receiving};
 pub use receivers::{Receivers, wipe_receivers};
 pub use relay::relay_laws;
 pub use sending::{Ending, Sending, Sent};

@@ -80,6 +80,15 @@ impl Order {
         }
     }
 
+    /// An order that goes on: it demands `expected`, at most one over [`LAST_NUMBER`], or nothing
+    /// after a close.
+    pub(crate) fn resume(expected: u64, closed: bool) -> Order
+        requires { expected ≤ last_number + 1 }
+        ensures { result ≡ record { expected = expected; closed = closed } }
+    {
+        Order { expected, closed }
+    }
+
     /// The number that is demanded next: at most one over [`LAST_NUMBER`], which no message has.
     pub fn expected(&self) -> u64
         ensures number { result ≡ self.now.expected }

@@ -1,19 +1,22 @@
 //! The receiver of a lane.
 
-ghost use Rattle.std.specs.Prelude.{◌≡◌, ◌+◌, ◌<◌, ◌≤◌, length, replicate, IsTrue, IfOk, OnOk, OnErr};
+ghost use Rattle.std.specs.Prelude.{◌≡◌, ◌⊎◌, ◌+◌, ◌<◌, ◌≤◌, length, replicate, IsFalse, IsTrue, IfErr, IfOk, Ok, Err, OnOk, OnErr};
 ghost use Rattle.krb_base.specs.Limits.{last_number};
-ghost use Rattle.krb_record.specs.Record.{is_close};
+ghost use Rattle.krb_record.specs.Record.{is_close, kind_of};
+ghost use Rattle.krb_seal.specs.Opens.{Opens};
+ghost use Rattle.krb_peers.specs.declared.delivery.Delivery.{Delivery as DeliveryValue};
 ghost use Rattle.krb_peers.specs.Moments.{moment_at};
-ghost use Rattle.krb_peers.specs.Verdicts.{IsVerdict, record_of};
+ghost use Rattle.krb_peers.specs.Verdicts.{Fails, IsVerdict, record_of};
 ghost use Rattle.krb_peers.specs.Order.{first_demand};
-ghost use Rattle.krb_peers.specs.Receiver.{verdict_by, IsJudgement, TakesMemory, receiver_behind, advanced};
+ghost use Rattle.krb_peers.specs.Receiver.{verdict_by, IsJudgement, OpensRecord, TakesMemory, receiver_behind, advanced};
 ghost use Rattle.krb_peers.specs.Logged.{noted, IsShut, LogsNext};
 
 use crate::delivery::Delivery;
 use crate::log::Log;
 use crate::order::Order;
+use krb_base::Secret;
 use krb_der::Moment;
-use krb_record::{RecordError, into_record};
+use krb_record::{RecordError, RecordKind, into_record};
 use krb_seal::{Opener, Refusal};
 use std::alloc::{AllocError, Global};
 use std::marker::Model;
@@ -25,6 +28,15 @@ use std::marker::Model;
 pub struct Receiver {
     opener: Opener,
     order: Order,
+}
+
+/// A record in the block in which its frame was opened. The block is overwritten before it is freed.
+#[derive(Drop)]
+pub struct Opened {
+    /// Its kind.
+    pub kind: RecordKind,
+    /// Its bytes, of which the first tells the kind.
+    pub bytes: Secret,
 }
 
 /// A receiver and the timestamps at which it takes frames: entry i for the i-th, refused ones
@@ -68,6 +80,20 @@ impl Receiver {
         }
     }
 
+    /// A receiver that goes on from what another one told: it demands the number `demanded`, at most
+    /// one over the last, or nothing if a close was accepted.
+    pub fn resume(opener: Opener, demanded: u64, closed: bool) -> Receiver
+        requires { demanded ≤ last_number + 1 }
+        ensures opener { result.opener ≡ opener }
+        ensures expected { result.demand.expected ≡ demanded }
+        ensures closed { result.demand.closed ≡ closed }
+    {
+        Receiver {
+            opener,
+            order: Order::resume(demanded, closed),
+        }
+    }
+
     /// The number that is demanded next: at most one over the last, which no message has.
     pub fn expected(&self) -> u64
         ensures number { result ≡ self.now.demand.expected }
@@ -101,6 +127,32 @@ impl Receiver {
         let delivery = self.judge(alloc, frame, now)?;
         self.advance(delivery.is_close());
         Ok(delivery)
+    }
+
+    /// Opens a frame as [`take`](Receiver::take) does, and leaves its record in the block in which it
+    /// was opened: nothing is copied. Nothing changes either: [`accept`](Receiver::accept) moves on.
+    ///
+    /// `Memory` is returned if an allocation failed, and never for a frame after a close or over the
+    /// limit.
+    pub fn open(&self, alloc: Global, frame: &[u8], now: Moment) -> Result<Opened, Refusal>
+        ensures opened { IfOk result (OpensRecord self.now now frame.now) }
+        ensures refused { IfErr result (λ refusal. IsJudgement self.now now frame.now (Err refusal)) }
+        ensures memory { result ≡ Err Refusal.Memory → TakesMemory self.now frame.now }
+        ensures in_range { OnOk result (self.now.demand.expected ≤ last_number) }
+    {
+        let bytes = Secret::new(self.unsealed(alloc, frame, now)?);
+        let kind = RecordKind::of(bytes.as_slice()).ok_or(Refusal::BadRecord)?;
+        Ok(Opened { kind, bytes })
+    }
+
+    /// Moves on after an opened record of this kind, as after its delivery.
+    pub fn accept(&mut self, kind: RecordKind)
+        requires number { self.old.demand.expected ≤ last_number }
+        requires open { IsFalse self.old.demand.closed }
+        ensures { (delivery : DeliveryValue) → kind ≡ kind_of (record_of delivery)
+            → self.new ≡ receiver_behind self.old (Ok delivery) }
+    {
+        self.advance(matches!(kind, RecordKind::Close));
     }
 
     /// Takes a frame as [`take`](Receiver::take) does, and enters the outcome in the log as an
@@ -180,16 +232,28 @@ impl Receiver {
         ensures memory { result ≡ Err Refusal.Memory → TakesMemory self.now frame.now }
         ensures in_range { OnOk result (self.now.demand.expected ≤ last_number) }
     {
-        if self.order.closed() {
-            return Err(Refusal::AfterClose);
-        }
-        let number = self.order.expected();
-        let user_data = self.opener.unseal(alloc, frame, number, now)?;
+        let user_data = self.unsealed(alloc, frame, now)?;
         match into_record(alloc, user_data) {
             Ok(record) => Ok(Delivery::from(record)),
             Err(RecordError::BadRecord) => Err(Refusal::BadRecord),
             Err(RecordError::Memory) => Err(Refusal::Memory),
         }
+    }
+
+    /// The user data of a frame that carries the demanded number, unless a close was accepted.
+    fn unsealed(&self, alloc: Global, frame: &[u8], now: Moment) -> Result<Vec<u8>, Refusal>
+        ensures open { OnOk result (IsFalse self.now.demand.closed) }
+        ensures opened { IfOk result (λ user. Opens self.now.opener self.now.demand.expected now
+            frame.now (Ok user.items)) }
+        ensures refused { IfErr result (λ refusal. (refusal ≡ Refusal.Memory)
+            ⊎ Fails self.now.opener self.now.demand now frame.now refusal) }
+        ensures memory { result ≡ Err Refusal.Memory → TakesMemory self.now frame.now }
+        ensures in_range { OnOk result (self.now.demand.expected ≤ last_number) }
+    {
+        if self.order.closed() {
+            return Err(Refusal::AfterClose);
+        }
+        self.opener.unseal(alloc, frame, self.order.expected(), now)
     }
 
     /// Moves on after what [`judge`](Receiver::judge) delivered: the next number is demanded, and a
