@@ -120,6 +120,7 @@ CALLS: Dict[str, Tuple[Any, List[Any]]] = {
     "krbrelay_message_header": (c_uint32, [*_BYTES, POINTER(HeaderStruct)]),
     "krbrelay_answer_name": (c_uint32, [c_uint32, *_ROOM, _SIZE]),
     "krbrelay_answer_text": (c_uint32, [c_uint32, *_ROOM, _SIZE]),
+    "krbrelay_class_of": (c_uint32, [c_uint32]),
 }
 
 

@@ -380,6 +380,9 @@ static const struct named known_answers[] = {
     { KRBRELAY_ADDRESS, "ADDRESS", "an address has over 40 bytes" },
     { KRBRELAY_ARGUMENT, "ARGUMENT", "an argument is out of its range" },
     { KRBRELAY_RECORD, "RECORD", "the texts are no record" },
+    { KRBRELAY_CLOCK, "CLOCK", "the clock can't be read, or isn't in the years 1970 to 9999" },
+    { KRBRELAY_RANDOM, "RANDOM", "the system has no random bytes" },
+    { KRBRELAY_PROCESSOR, "PROCESSOR", "the processor lacks instructions of the library" },
 };
 
 typedef enum krbrelay_answer written_call(uint32_t, char *, size_t, size_t *);
