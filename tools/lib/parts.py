@@ -81,7 +81,7 @@ GATE = Part("rt ci", 174, ("rt",))
 BUILD = Part("tools/krbrelay --prove", 60, ("rt",))
 # The first builds the C library, which Python's tests and the carrier take then.
 ALONE = [
-    Part("tools/c_library --core", 30, ("rt", COMPILER, CRYPTOGRAPHY)),
+    Part("tools/c_library --core", 30, ("rt", COMPILER, CRYPTOGRAPHY, SQLITE)),
     Part("tools/python", 20, (COMPILER, CRYPTOGRAPHY)),
 ]
 PARTS = [
