@@ -17,9 +17,10 @@
  *    no byte unwritten, and their reserved fields are zeros.
  *  - What a call writes (a handle, a buffer, a size) overlaps nothing else that the call is given.
  *    All that a call is given stays unchanged, but for what the call writes, until it returns.
- *  - A handle that holds something is never copied, nor written but by these functions. It belongs
- *    to one call at a time. It may pass from thread to thread, where a lock, a thread's start or
- *    join, or a sequentially consistent atomic orders the calls.
+ *  - A handle that holds something is written by these functions alone. It may be moved, by memcpy or
+ *    an assignment, as in an array that grows: then the new place is used, and the old one isn't. It
+ *    belongs to one call at a time. It may pass from thread to thread, where a lock, a thread's start
+ *    or join, or a sequentially consistent atomic orders the calls.
  *  - malloc, realloc and free come from one allocator, and align a block to each power of two up to
  *    16 that divides its size. No call is made in a signal handler, or in the forked child of a
  *    process with threads.
