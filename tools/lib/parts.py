@@ -21,7 +21,7 @@ SQLITE = "Debian's libsqlite3-dev"
 SERVERS = ("Debian's nats-server, libnats-dev, postgresql, libpq-dev, libmicrohttpd-dev and"
            " libsystemd-dev")
 REALM = "Debian's krb5-kdc, krb5-admin-server, krb5-kpropd and krb5-user"
-CROSS = "Debian's gcc-aarch64-linux-gnu, libc6-dev-arm64-cross and qemu-user-static"
+CROSS = "Debian's gdb, gcc-aarch64-linux-gnu, libc6-dev-arm64-cross and qemu-user-static"
 PACKAGING = "Debian's debhelper, dpkg-dev, lintian and isa-support"
 
 
@@ -48,7 +48,7 @@ IS_THERE = {
     HEIMDAL: lambda: runs("pkg-config", "--exists", "heimdal-krb5"),
     REALM: lambda: all(shutil.which(it, path="/usr/sbin:/usr/bin:/sbin:/bin") for it in
                        ("krb5kdc", "kadmind", "kpropd", "kprop", "kpasswd", "kadmin.local")),
-    CROSS: lambda: has("aarch64-linux-gnu-gcc") and has("qemu-aarch64-static")
+    CROSS: lambda: has("gdb") and has("aarch64-linux-gnu-gcc") and has("qemu-aarch64-static")
     and os.path.exists("/usr/aarch64-linux-gnu/lib/libc.so.6"),
     PACKAGING: lambda: has("dh") and has("dpkg-buildpackage") and has("lintian"),
     MAKE: lambda: has("make"),

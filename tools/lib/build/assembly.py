@@ -1,53 +1,25 @@
 """The proved code of the C library as assembly, as the kit's own compiler prints it.
 
-The kit's prover gives its C compiler a module of LLVM's. Here it gets a folder of tools in which the
-compiler keeps that module, and then does what it always does; the kit stays as it is. From the module
-the kit's compiler writes assembly in place of an object, with the very words that it was given. On
-x86-64 unwind tables are asked for, which leave the code as it is; on aarch64 they would change it, and
-most functions keep a chain of frames anyway.
+From the module that the kit's prover gives that compiler (kit_compiler.py) it writes assembly in
+place of an object, with the very words that it was given. On x86-64 unwind tables are asked for,
+which leave the code as it is; on aarch64 they would change it, and most functions keep a chain of
+frames anyway.
 """
 import os
 import re
+import shutil
 import subprocess
 import tempfile
 
-from lib.build import building, static_library
+from lib.build import building, kit_compiler, static_library
 
 CRATE = "krb_c"
-ARCHITECTURES = ("x86_64", "aarch64")
-KEEPS = """\
-#!/bin/sh
-# The last call is the one that writes an object.
-for word in "$@"; do
-    case $word in *.bc|*.ll) cp "$word" {folder}/module && chmod 600 {folder}/module ;; esac
-done
-printf '%s\\n' "$@" > {folder}/words
-exec {clang} "$@"
-"""
+OWN = "x86_64"                     # what the kit builds for
+ARCHITECTURES = (OWN, "aarch64")
 
 
 class NotWritten(OSError):
     """The kit's prover or its compiler failed."""
-
-
-def toolchain():
-    """The kit's folder of a compiler and what it needs."""
-    return os.path.join(os.path.dirname(os.path.dirname(building.prover())), "toolchain")
-
-
-def keeping(folder):
-    """A folder of tools as the kit's, whose compiler keeps what it is given in `folder`."""
-    place = os.path.join(folder, "toolchain")
-    os.makedirs(os.path.join(place, "bin"))
-    os.symlink(os.path.join(toolchain(), "lib"), os.path.join(place, "lib"))
-    for name in os.listdir(os.path.join(toolchain(), "bin")):
-        if name != "clang":
-            os.symlink(os.path.join(toolchain(), "bin", name), os.path.join(place, "bin", name))
-    clang = os.path.join(place, "bin", "clang")
-    with open(clang, "w", encoding="utf-8") as file:
-        file.write(KEEPS.format(folder=folder, clang=os.path.join(toolchain(), "bin", "clang")))
-    os.chmod(clang, 0o755)
-    return place
 
 
 def run(words, **how):
@@ -60,16 +32,28 @@ def run(words, **how):
 def prove_and_keep(architecture, folder):
     """Has the prover build the library for an architecture, over the libraries that are built. What
     it gave the compiler is in `folder` then."""
-    words = static_library.words_for(CRATE, static_library.MOST_JOBS)
-    words[words.index("--toolchain") + 1] = keeping(folder)
-    words[words.index("-o") + 1] = os.path.join(folder, f"lib{CRATE}.a")
+    words = static_library.words_for(CRATE, static_library.MOST_JOBS, kit_compiler.keeping(folder),
+                                     os.path.join(folder, f"lib{CRATE}.a"))
     run([*words, "--target", f"{architecture}-unknown-linux-gnu", "--incremental",
          os.path.join("out", "incremental")], cwd=building.folder_of(CRATE))
 
 
+def fetch(architecture, folder):
+    """Has module and words in `folder`: those that were kept when the library was proved, or what the
+    prover gives once more."""
+    if architecture == OWN and kit_compiler.is_kept(CRATE):
+        for name in (kit_compiler.MODULE, kit_compiler.WORDS):
+            shutil.copy(os.path.join(kit_compiler.place_of(CRATE), name), folder)
+        return
+    built_from = building.digest_of(CRATE)
+    prove_and_keep(architecture, folder)
+    if architecture == OWN:
+        kit_compiler.keep(CRATE, folder, built_from)
+
+
 def compiler_words(folder):
     """The words that the compiler was given, but for its input, its output, and `-c`."""
-    with open(os.path.join(folder, "words"), encoding="utf-8") as file:
+    with open(os.path.join(folder, kit_compiler.WORDS), encoding="utf-8") as file:
         words = file.read().splitlines()
     at = words.index("-o")
     return [it for it in words[:at] + words[at + 2:]
@@ -78,8 +62,8 @@ def compiler_words(folder):
 
 def module_text(folder, architecture):
     """The module as text."""
-    module, text = os.path.join(folder, "module"), os.path.join(folder, "module.ll")
-    run([os.path.join(toolchain(), "bin", "clang"), f"--target={architecture}-unknown-linux-gnu",
+    module, text = os.path.join(folder, kit_compiler.MODULE), os.path.join(folder, "module.ll")
+    run([kit_compiler.clang(), f"--target={architecture}-unknown-linux-gnu",
          "-S", "-emit-llvm", "-Xclang", "-disable-llvm-passes", "-x", "ir", module, "-o", text])
     return text
 
@@ -115,16 +99,16 @@ def plain_lines(text, mark):
 def written(architecture):
     """The assembly of the proved code for an architecture."""
     with tempfile.TemporaryDirectory() as folder:
-        prove_and_keep(architecture, folder)
+        fetch(architecture, folder)
         module = module_text(folder, architecture)
-        if architecture == "x86_64":
+        if architecture == OWN:
             ask_for_tables(module)
         path = os.path.join(folder, "proved.s")
-        run([os.path.join(toolchain(), "bin", "clang"), *compiler_words(folder), "-S", module, "-o",
+        run([kit_compiler.clang(), *compiler_words(folder), "-S", module, "-o",
              path])
         with open(path, encoding="utf-8") as file:
             text = file.read()
-    mark = "#" if architecture == "x86_64" else "//"
+    mark = "#" if architecture == OWN else "//"
     head = [f"{mark} The proved code of libkrbrelay for {architecture} Linux, as the Rattle kit's compiler",
             f"{mark} prints what it compiles of the crate {CRATE} and those below it.", ""]
     return "\n".join([*head, *plain_lines(text, mark), ""])
