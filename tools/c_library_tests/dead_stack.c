@@ -15,7 +15,7 @@
 #include <ucontext.h>
 
 enum { STACK = 1 << 18, PIECE = 16, MOST_STRINGS = 160, SIZE = 200, ROOM = 4096 };
-enum end { SEALER, OPENER, RECEIVER, ENDS };
+enum end { SEALER, OPENER, RECEIVER, OTHERS, ENDS };
 
 /* The frame of krbrelay_clear_stack itself: its return address and what it has to keep. */
 enum { OWN_FRAME = 64 };
@@ -110,10 +110,38 @@ static void use_receiver(void)
     krbrelay_receiver_free(&r);
 }
 
+/* The calls that the others don't make. */
+static void use_others(void)
+{
+    struct krbrelay_session session = session_of(use.mode, 7);
+    struct krbrelay_expect expect = expect_of(use.mode);
+    struct krbrelay_sealer s = KRBRELAY_INIT;
+    struct krbrelay_opener o = KRBRELAY_INIT;
+    struct krbrelay_header header;
+    static uint8_t other[ROOM];
+    char name[KRBRELAY_TEXT_SIZE];
+    size_t size = 0, n = 0;
+    CHECK(krbrelay_sealer_new(&s, use.etype, key, key_size(use.etype), &session) == KRBRELAY_OK);
+    CHECK(krbrelay_sealer_set_mode(&s, 41 - use.mode) == KRBRELAY_OK);
+    CHECK(krbrelay_sealer_seal_now(&s, data, SIZE, other, ROOM, &size) == KRBRELAY_OK);
+    CHECK(krbrelay_sealer_set_mode(&s, use.mode) == KRBRELAY_OK);
+    CHECK(krbrelay_sealer_frame_size(&s, SIZE, &now, &n) == KRBRELAY_OK);
+    CHECK(krbrelay_sealer_seal_record_now(&s, KRBRELAY_TEXT, data, SIZE, other, ROOM, &size)
+          == KRBRELAY_OK);
+    CHECK(krbrelay_opener_new(&o, use.etype, key, key_size(use.etype), &expect) == KRBRELAY_OK);
+    CHECK(krbrelay_message_header(frame, frame_size, &header) == KRBRELAY_OK);
+    CHECK(krbrelay_answer_text(KRBRELAY_SKEW, name, sizeof name, &n) == KRBRELAY_OK);
+    CHECK(krbrelay_opener_unseal_in_place(&o, frame, frame_size, 7, &now, &size) == KRBRELAY_OK);
+    krbrelay_sealer_wipe(&s);
+    krbrelay_opener_wipe(&o);
+    krbrelay_sealer_free(&s);
+    krbrelay_opener_free(&o);
+}
+
 /* The user of the library: what it calls lies below its frame. */
 static void user(void)
 {
-    static void (*const uses[ENDS])(void) = { use_sealer, use_opener, use_receiver };
+    static void (*const uses[ENDS])(void) = { use_sealer, use_opener, use_receiver, use_others };
     uses[use.end]();
     if (use.clears)
         krbrelay_clear_stack();
@@ -163,20 +191,6 @@ static size_t depth(void)
     return (size_t)(below - at);
 }
 
-/* What each end leaves, and what is left of it. Returns how deep its calls went. */
-static size_t end_of_session(enum end end, uint32_t mode, int etype)
-{
-    size_t deep;
-    run(end, mode, etype, 0);
-    deep = depth();
-    CHECK(deep < KRBRELAY_STACK_SIZE);
-    CHECK(found(0) > 0);
-    run(end, mode, etype, 1);
-    CHECK(found(1) == 0);
-    CHECK(is_zeros(stack, below - OWN_FRAME));
-    return deep;
-}
-
 /* One record at number 7, for openers and receivers. */
 static void seal_record(uint32_t mode, int etype)
 {
@@ -186,6 +200,22 @@ static void seal_record(uint32_t mode, int etype)
     CHECK(krbrelay_sealer_seal_record(&s, KRBRELAY_TEXT, data + 1, SIZE - 1, &now, confounder,
                                       frame, ROOM, &frame_size) == KRBRELAY_OK);
     krbrelay_sealer_free(&s);
+}
+
+/* What each end leaves, and what is left of it. Returns how deep its calls went. */
+static size_t end_of_session(enum end end, uint32_t mode, int etype)
+{
+    size_t deep;
+    seal_record(mode, etype);
+    run(end, mode, etype, 0);
+    deep = depth();
+    CHECK(deep < KRBRELAY_STACK_SIZE);
+    CHECK(found(0) > 0);
+    seal_record(mode, etype);
+    run(end, mode, etype, 1);
+    CHECK(found(1) == 0);
+    CHECK(is_zeros(stack, below - OWN_FRAME));
+    return deep;
 }
 
 int main(int argc, char **argv)
@@ -203,9 +233,7 @@ int main(int argc, char **argv)
     for (uint32_t mode = KRBRELAY_SAFE; mode <= KRBRELAY_PRIV; mode++)
         for (int etype = 17; etype <= 18; etype++)
             for (enum end end = 0; end < ENDS; end++) {
-                size_t deep;
-                seal_record(mode, etype);
-                deep = end_of_session(end, mode, etype);
+                size_t deep = end_of_session(end, mode, etype);
                 deepest = deep > deepest ? deep : deepest;
             }
     printf("dead stack: the calls go %zu bytes deep\n", deepest);

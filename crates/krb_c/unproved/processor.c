@@ -5,6 +5,7 @@
 int krbrelay_is_supported(void)
 {
 #if defined(__x86_64__)
+    __builtin_cpu_init();               /* for a caller that runs before the program's main */
     return __builtin_cpu_supports("ssse3") && __builtin_cpu_supports("sse4.1") &&
            __builtin_cpu_supports("sse4.2") && __builtin_cpu_supports("popcnt");
 #else
