@@ -1,6 +1,6 @@
 /* The calls of examples/kerberos beside MIT's, in microseconds, on one thread and in turns in one
- * process: times [SECONDS for each row, 0.5 where none are named]. What is told is the best batch by
- * the thread's processor time. */
+ * process: times [SECONDS for each row, 0.5 where none are named]. It prints the best batch by the
+ * thread's processor time. */
 #define _GNU_SOURCE
 #include "both.h"
 

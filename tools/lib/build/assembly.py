@@ -39,8 +39,8 @@ def prove_and_keep(architecture, folder):
 
 
 def fetch(architecture, folder):
-    """Has module and words in `folder`: those that were kept when the library was proved, or what the
-    prover gives once more."""
+    """Has module and words in `folder`: those that were kept when the library was proved, or what
+    the prover gives once more."""
     if architecture == OWN and kit_compiler.is_kept(CRATE):
         for name in (kit_compiler.MODULE, kit_compiler.WORDS):
             shutil.copy(os.path.join(kit_compiler.place_of(CRATE), name), folder)
@@ -72,21 +72,22 @@ def ask_for_tables(path):
     """Has each function of a module get an unwind table."""
     with open(path, encoding="utf-8") as file:
         text = file.read()
-    text = re.sub(r"(?m)^(attributes #\d+ = .*)\bnounwind\b(.*\"target-cpu\")", r"\1nounwind uwtable\2",
-                  text)
+    text = re.sub(r"(?m)^(attributes #\d+ = .*)\bnounwind\b(.*\"target-cpu\")",
+                  r"\1nounwind uwtable\2", text)
     with open(path, "w", encoding="utf-8") as file:
         file.write(text)
 
 
 def plain_name(found):
     """A name of letters, digits, _ and . alone, which older assemblers read too."""
-    name = found[1]
-    return re.sub(r"[^\w.$]+", "_", name.replace("::", ".")).rstrip("_") if "::" in name else found[0]
+    if "::" not in found[1]:
+        return found[0]
+    return re.sub(r"[^\w.$]+", "_", found[1].replace("::", ".")).rstrip("_")
 
 
 def plain_lines(text, mark):
-    """The lines of assembly, without those that assemblers don't know, and with plain names. Comments
-    keep the functions' paths."""
+    """The lines of assembly, without those that assemblers don't know, and with plain names.
+    Comments keep the functions' paths."""
     for line in text.splitlines():
         if re.match(r"\s*\.addrsig", line):
             continue
@@ -109,6 +110,6 @@ def written(architecture):
         with open(path, encoding="utf-8") as file:
             text = file.read()
     mark = "#" if architecture == OWN else "//"
-    head = [f"{mark} The proved code of libkrbrelay for {architecture} Linux, as the Rattle kit's compiler",
-            f"{mark} prints what it compiles of the crate {CRATE} and those below it.", ""]
+    head = [f"{mark} The proved code of libkrbrelay for {architecture} Linux, as the Rattle kit's",
+            f"{mark} compiler prints what it compiles of the crate {CRATE} and those below it.", ""]
     return "\n".join([*head, *plain_lines(text, mark), ""])

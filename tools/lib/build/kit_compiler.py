@@ -1,8 +1,8 @@
 """The kit's C compiler, and what its prover gives it.
 
 The prover gives its compiler a module of LLVM's, and has it write an object. It takes a folder of
-tools: in one of links to the kit's, a compiler stands that keeps the module and the words that it was
-given, and then does what the kit's does. The kit stays as it is.
+tools: in one of links to the kit's, a compiler stands that keeps the module and the words that it
+was given, and then does what the kit's does. The kit stays as it is.
 """
 import os
 import shutil
