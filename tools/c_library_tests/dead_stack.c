@@ -210,7 +210,7 @@ static size_t end_of_session(enum end end, uint32_t mode, int etype)
     run(end, mode, etype, 0);
     deep = depth();
     CHECK(deep < KRBRELAY_STACK_SIZE);
-    CHECK(found(0) > 0);
+    CHECK(end == OTHERS || found(0) > 0);   /* OTHERS ends with calls that overwrite it */
     seal_record(mode, etype);
     run(end, mode, etype, 1);
     CHECK(found(1) == 0);
