@@ -154,11 +154,12 @@ static void show(sqlite3 *received)
 
 int main(int argc, char **argv)
 {
+    sqlite3 *sent = argc == 4 ? open_rows(argv[2]) : NULL, *received = NULL;
     if (argc == 4 && strcmp(argv[1], "send") == 0)
-        send_all(open_rows(argv[2]), (uint32_t)atoi(argv[3]));
+        send_all(sent, (uint32_t)atoi(argv[3]));
     else if (argc == 4 && strcmp(argv[1], "receive") == 0)
-        receive_all(open_rows(argv[2]), open_rows(argv[3]));
+        receive_all(sent, received = open_rows(argv[3]));
     else if (argc == 3 && strcmp(argv[1], "show") == 0)
-        show(open_rows(argv[2]));
-    return argc < 3;
+        show(received = open_rows(argv[2]));
+    return sqlite3_close(sent) != 0 || sqlite3_close(received) != 0 || argc < 3;
 }
