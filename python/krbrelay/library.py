@@ -165,8 +165,8 @@ def load(path: str) -> ctypes.CDLL:
         ) from fault
     for name, (result, parameters) in CALLS.items():
         if not hasattr(library, name):
-            raise LibraryError(f"{path} has no call {name}: it isn't libkrbrelay {MAJOR}, or is older"
-                               " than this package")
+            raise LibraryError(f"{path} has no call {name}: it isn't libkrbrelay {MAJOR}, or is"
+                               " older than this package")
         call = getattr(library, name)
         call.restype, call.argtypes = result, parameters
     found = version_of(library)
