@@ -75,7 +75,7 @@ static int take_refusal(struct shard *s, size_t place, const struct carried *it,
 {
     uint64_t number = 0;
     int is_open;
-    if (answer >= KRBRELAY_MEMORY || answer < KRBRELAY_ETYPE_NOSUPP) {
+    if (!krbrelay_is_refusal(answer)) {
         report_answer("not opened", it->session, demanded, answer);
         return -1;
     }

@@ -1,10 +1,12 @@
 /* Sealing and opening of KRB-SAFE and KRB-PRIV messages (RFC 4120) under encryption types 17 and 18
  * (RFC 3962). docs/C.md has a whole program, and each call has a page in section 3 of the manual.
  *
- * A handle is a struct of the caller's, made of zeros: struct krbrelay_sealer s = { 0 };
+ * A handle is a struct of the caller's, made of zeros: struct krbrelay_sealer s = KRBRELAY_INIT;
  * It holds nothing, or one sealer, opener or receiver on the heap. End it by its krbrelay_*_free,
- * which overwrites the keys that it holds; freeing twice is harmless. No call overwrites the copies of
- * keys that calls left on the stack below their caller.
+ * which overwrites the keys that it holds; freeing twice is harmless. Calls leave copies of keys on
+ * the stack below their caller: krbrelay_clear_stack overwrites these.
+ *
+ * Proofs reach each function but those under "What proofs don't reach", at the end.
  *
  * Each call that answers an enum answers KRBRELAY_OK, or why it did nothing: what it would have
  * written is as it was.
@@ -15,9 +17,10 @@
  *    no byte unwritten, and their reserved fields are zeros.
  *  - What a call writes (a handle, a buffer, a size) overlaps nothing else that the call is given.
  *    All that a call is given stays unchanged, but for what the call writes, until it returns.
- *  - A handle that holds something is never copied, nor written but by these functions. It belongs
- *    to one call at a time. It may pass from thread to thread, where a lock, a thread's start or
- *    join, or a sequentially consistent atomic orders the calls.
+ *  - A handle that holds something is written by these functions alone. It may be moved, by memcpy or
+ *    an assignment, as in an array that grows: then the new place is used, and the old one isn't. It
+ *    belongs to one call at a time. It may pass from thread to thread, where a lock, a thread's start
+ *    or join, or a sequentially consistent atomic orders the calls.
  *  - malloc, realloc and free come from one allocator, and align a block to each power of two up to
  *    16 that divides its size. No call is made in a signal handler, or in the forked child of a
  *    process with threads.
@@ -65,6 +68,17 @@ extern "C" {
 /* The room for the name or the text of any answer, with its zero. */
 #define KRBRELAY_TEXT_SIZE 64
 
+/* No call takes more bytes of stack than this, which krbrelay_clear_stack overwrites. */
+#define KRBRELAY_STACK_SIZE 16384
+
+/* Makes any struct of this header zeros, as an empty handle is: struct krbrelay_opener o =
+ * KRBRELAY_INIT; */
+#ifdef __cplusplus
+#define KRBRELAY_INIT { }
+#else
+#define KRBRELAY_INIT { 0 }
+#endif
+
 /* The modes, and the kinds of messages (RFC 4120 section 5.10). */
 enum krbrelay_mode {
     KRBRELAY_SAFE = 20,
@@ -104,7 +118,21 @@ enum krbrelay_answer {
     KRBRELAY_MOMENT = 910,       /* no moment of the years 1970 to 9999 */
     KRBRELAY_ADDRESS = 911,      /* an address has over KRBRELAY_ADDRESS_LIMIT bytes */
     KRBRELAY_ARGUMENT = 912,     /* another argument is out of its range */
-    KRBRELAY_RECORD = 913        /* no record of this kind has these bytes */
+    KRBRELAY_RECORD = 913,       /* no record of this kind has these bytes */
+    KRBRELAY_CLOCK = 914,        /* the clock can't be read, or isn't in the years 1970 to 9999 */
+    KRBRELAY_RANDOM = 915,       /* the system has no random bytes */
+    KRBRELAY_PROCESSOR = 916     /* the processor lacks instructions of the library */
+};
+
+/* What a caller does about an answer. */
+enum krbrelay_class {
+    KRBRELAY_CLASS_OK = 0,       /* KRBRELAY_OK */
+    KRBRELAY_CLASS_REFUSAL = 1,  /* drops the message: it isn't authentic, or isn't what is demanded */
+    KRBRELAY_CLASS_CALLER = 2,   /* is mistaken in an argument: the same call fails again */
+    KRBRELAY_CLASS_STATE = 3,    /* needs another handle: WIPED, EXHAUSTED, EMPTY */
+    KRBRELAY_CLASS_MEMORY = 4,   /* may try again: MEMORY */
+    KRBRELAY_CLASS_SYSTEM = 5,   /* looks at the machine: CLOCK, RANDOM, PROCESSOR */
+    KRBRELAY_CLASS_UNKNOWN = 6   /* stops: no answer of this library */
 };
 
 /* What is demanded of an address, the time or the number of a message. */
@@ -122,6 +150,14 @@ enum krbrelay_record {
     KRBRELAY_CLOSE = 3
 };
 
+/* The kinds of addresses that sockets have (RFC 4120 section 7.5.3). */
+enum krbrelay_address_kind {
+    KRBRELAY_IPV4 = 2,           /* 4 bytes */
+    KRBRELAY_IPV6 = 24           /* 16 bytes */
+};
+
+struct sockaddr;    /* of <sys/socket.h> */
+
 struct krbrelay_sealer { void *at; size_t count; };
 struct krbrelay_opener { void *at; size_t count; };
 struct krbrelay_receiver { void *at; size_t count; };
@@ -130,7 +166,8 @@ struct krbrelay_receiver { void *at; size_t count; };
  * that second, below a million. */
 struct krbrelay_moment { uint64_t seconds; uint32_t microseconds; uint32_t reserved; };
 
-/* The first len bytes, 40 at most, in network order; kind 2 is IPv4 (RFC 4120 section 7.5.3). */
+/* The first len bytes, 40 at most, in network order; the kind is one of RFC 4120 section 7.5.3, as
+ * those of enum krbrelay_address_kind. */
 struct krbrelay_address { int32_t kind; uint32_t len; uint8_t bytes[40]; };
 
 /* What a sealer writes into each message. */
@@ -199,7 +236,8 @@ struct krbrelay_header {
 
 /* Makes a sealer: encryption type 17 takes a key of 16 bytes, 18 one of 32. The caller's bytes of
  * the key stay. What the handle held ends. After any answer but KRBRELAY_OK it holds nothing:
- * KRBRELAY_ETYPE, KRBRELAY_KEY_SIZE, KRBRELAY_MODE, KRBRELAY_ADDRESS, KRBRELAY_MEMORY. */
+ * KRBRELAY_PROCESSOR, KRBRELAY_ETYPE, KRBRELAY_KEY_SIZE, KRBRELAY_MODE, KRBRELAY_ADDRESS,
+ * KRBRELAY_MEMORY. */
 enum krbrelay_answer krbrelay_sealer_new(struct krbrelay_sealer *handle, int32_t etype,
                                          const uint8_t *key, size_t key_len,
                                          const struct krbrelay_session *session)
@@ -367,8 +405,8 @@ static inline enum krbrelay_answer krbrelay_batch_next(const uint8_t *batch, siz
 /* ---- Messages, answers and the version */
 
 /* Tells what a message says of itself in clear, so that a key can be chosen. Any answer but
- * KRBRELAY_OK leaves the header as it was: KRBRELAY_FIELD_TOOLONG, KRBRELAY_MALFORMED,
- * KRBRELAY_MEMORY. */
+ * KRBRELAY_OK leaves the header as it was: KRBRELAY_PROCESSOR, KRBRELAY_FIELD_TOOLONG,
+ * KRBRELAY_MALFORMED, KRBRELAY_MEMORY. */
 enum krbrelay_answer krbrelay_message_header(const uint8_t *frame, size_t len,
                                              struct krbrelay_header *header)
     KRBRELAY_NONNULL(3) KRBRELAY_CHECKED;
@@ -385,6 +423,69 @@ enum krbrelay_answer krbrelay_answer_text(uint32_t answer, char *text, size_t ro
 
 /* The version of the library, spelt as KRBRELAY_VERSION. */
 uint32_t krbrelay_version(void);
+
+/* ---- What proofs don't reach: C beside the proved code, which is tested alone. The inline functions
+ * of this header belong here too. So does what some calls do before their proved function is called:
+ * the three krbrelay_*_new and krbrelay_message_header ask whether the processor is supported, and
+ * krbrelay_answer_name and _text name the answers that only this part gives. */
+
+/* 1 where the processor has the instructions that the library was compiled for (x86-64-v2, and any
+ * aarch64), else 0: then the four calls above answer KRBRELAY_PROCESSOR. */
+int krbrelay_is_supported(void);
+
+/* Reads the system's clock. KRBRELAY_CLOCK, which leaves the moment as it was. */
+enum krbrelay_answer krbrelay_now(struct krbrelay_moment *now) KRBRELAY_NONNULL(1) KRBRELAY_CHECKED;
+
+/* krbrelay_sealer_seal at the present moment, with a confounder that getrandom draws for it. There
+ * is no other source: KRBRELAY_CLOCK, KRBRELAY_RANDOM, and after these what krbrelay_sealer_seal
+ * answers. Any answer but KRBRELAY_OK leaves sealer, buffer and size as they were. */
+enum krbrelay_answer krbrelay_sealer_seal_now(struct krbrelay_sealer *handle,
+                                              const uint8_t *user_data, size_t len,
+                                              uint8_t *frame, size_t room, size_t *size)
+    KRBRELAY_NONNULL(1, 6) KRBRELAY_CHECKED;
+
+/* The same of krbrelay_sealer_seal_record. */
+enum krbrelay_answer krbrelay_sealer_seal_record_now(struct krbrelay_sealer *handle, uint32_t kind,
+                                                     const uint8_t *bytes, size_t len,
+                                                     uint8_t *frame, size_t room, size_t *size)
+    KRBRELAY_NONNULL(1, 7) KRBRELAY_CHECKED;
+
+/* The address of a socket, without its port, in len bytes that getsockname or getpeername wrote.
+ * One of IPv4 that is mapped into IPv6 is the one of IPv4. KRBRELAY_ARGUMENT, which leaves the
+ * address as it was: it is neither of IPv4 nor of IPv6, or has fewer bytes than these. */
+enum krbrelay_answer krbrelay_address_from(struct krbrelay_address *to, const struct sockaddr *from,
+                                           size_t len)
+    KRBRELAY_NONNULL(1, 2) KRBRELAY_CHECKED;
+
+/* What krbrelay_answer_text writes, as a constant; "no answer of this library" of other numbers. */
+const char *krbrelay_strerror(uint32_t answer);
+
+/* What a caller does about an answer, KRBRELAY_CLASS_UNKNOWN of other numbers. */
+enum krbrelay_class krbrelay_class_of(uint32_t answer);
+
+/* Whether an answer refuses a message: the class is KRBRELAY_CLASS_REFUSAL. */
+int krbrelay_is_refusal(uint32_t answer);
+
+/* Overwrites the KRBRELAY_STACK_SIZE bytes of stack below the caller's frame: what calls that have
+ * returned left there, copies of keys too. Call it where the last call was made, in the same
+ * function, after krbrelay_*_new and before a thread ends. Registers stay as they are. */
+void krbrelay_clear_stack(void);
+
+/* Whether a handle holds nothing. */
+static inline int krbrelay_sealer_is_empty(const struct krbrelay_sealer *handle)
+{
+    return handle->count == 0;
+}
+
+static inline int krbrelay_opener_is_empty(const struct krbrelay_opener *handle)
+{
+    return handle->count == 0;
+}
+
+static inline int krbrelay_receiver_is_empty(const struct krbrelay_receiver *handle)
+{
+    return handle->count == 0;
+}
 
 #ifdef __cplusplus
 }

@@ -2,42 +2,27 @@
 #include <krbrelay.h>
 
 #include <stdio.h>
-#include <sys/random.h>
-#include <time.h>
 
 /* The key of the session, of encryption type 17, comes from the exchange before it. */
 static const uint8_t key[16] = "chicken teriyaki";
-static const struct krbrelay_address alice = { .kind = 2, .len = 4, .bytes = { 10, 0, 0, 1 } };
-static const struct krbrelay_address bob = { .kind = 2, .len = 4, .bytes = { 10, 0, 0, 255 } };
+static const struct krbrelay_address alice = { KRBRELAY_IPV4, 4, { 10, 0, 0, 1 } };
+static const struct krbrelay_address bob = { KRBRELAY_IPV4, 4, { 10, 0, 0, 255 } };
 
 static int failed(const char *what, enum krbrelay_answer answer)
 {
-    char text[KRBRELAY_TEXT_SIZE] = "";
-    size_t size;
-    if (krbrelay_answer_text(answer, text, sizeof text, &size) == KRBRELAY_OK)
-        fprintf(stderr, "%s: %d: %s\n", what, (int)answer, text);
+    fprintf(stderr, "%s: %d: %s\n", what, (int)answer, krbrelay_strerror(answer));
     return 1;
-}
-
-static struct krbrelay_moment read_clock(void)
-{
-    struct timespec now;
-    clock_gettime(CLOCK_REALTIME, &now);
-    return (struct krbrelay_moment){ (uint64_t)now.tv_sec, (uint32_t)(now.tv_nsec / 1000), 0 };
 }
 
 /* Seals the text as message 7, and answers the size of the frame, 0 where it failed. */
 static size_t send_text(const char *text, size_t len, uint8_t *frame, size_t room)
 {
     struct krbrelay_session session = { .mode = KRBRELAY_PRIV, .first = 7, .sender = alice };
-    struct krbrelay_sealer sealer = { 0 };
-    struct krbrelay_moment now = read_clock();
-    uint8_t confounder[16];
+    struct krbrelay_sealer sealer = KRBRELAY_INIT;
     size_t size = 0;
     enum krbrelay_answer answer = krbrelay_sealer_new(&sealer, 17, key, sizeof key, &session);
-    if (answer == KRBRELAY_OK && getrandom(confounder, sizeof confounder, 0) == sizeof confounder)
-        answer = krbrelay_sealer_seal(&sealer, (const uint8_t *)text, len, &now, confounder, frame,
-                                      room, &size);
+    if (answer == KRBRELAY_OK)
+        answer = krbrelay_sealer_seal_now(&sealer, (const uint8_t *)text, len, frame, room, &size);
     krbrelay_sealer_free(&sealer);
     if (answer != KRBRELAY_OK)
         failed("seal", answer);
@@ -49,11 +34,13 @@ static int receive_text(const uint8_t *frame, size_t len, uint64_t number)
 {
     struct krbrelay_expect expect = { .mode = KRBRELAY_PRIV, .sender = alice, .receiver = bob,
                                       .require_time = 1, .skew = 300 };
-    struct krbrelay_opener opener = { 0 };
-    struct krbrelay_moment now = read_clock();
+    struct krbrelay_opener opener = KRBRELAY_INIT;
+    struct krbrelay_moment now;
     uint8_t text[KRBRELAY_FRAME_SIZE(5)];
     size_t size = 0;
     enum krbrelay_answer answer = krbrelay_opener_new(&opener, 17, key, sizeof key, &expect);
+    if (answer == KRBRELAY_OK)
+        answer = krbrelay_now(&now);
     if (answer == KRBRELAY_OK)
         answer = krbrelay_opener_unseal(&opener, frame, len, number, &now, text, sizeof text, &size);
     krbrelay_opener_free(&opener);

@@ -1,4 +1,5 @@
 #include "cipher_state.h"
+#include "kept.h"
 #include "message.h"
 
 #include <errno.h>
@@ -33,8 +34,8 @@ static krb5_error_code draw(krb5_context ctx, enum call call, uint8_t confounder
 static enum krbrelay_answer seal(struct message *m, const struct end *end,
                                  const struct krbrelay_moment *at, const uint8_t confounder[16])
 {
-    struct krbrelay_session session = { 0 };
-    struct krbrelay_sealer sealer = { 0 };
+    struct krbrelay_session session = KRBRELAY_INIT;
+    struct kept *kept;
     enum krbrelay_answer answer;
     size_t room = krbrelay_frame_size(m->in->length), size = 0;
     session.mode = mode_of(m->call);
@@ -43,14 +44,14 @@ static enum krbrelay_answer seal(struct message *m, const struct end *end,
     session.has_receiver = end->has_remote != 0;
     session.receiver = end->remote;
     m->out->data = malloc(room);
-    if (m->out->data == NULL)
+    kept = m->out->data != NULL ? kept_take(m->ac) : NULL;
+    if (kept == NULL)
         return KRBRELAY_MEMORY;
-    answer = krbrelay_sealer_new(&sealer, end->key->enctype, end->key->contents, end->key->length,
-                                 &session);
+    answer = kept_sealer(kept, end->key, &session);
     if (answer == KRBRELAY_OK)
-        answer = krbrelay_sealer_seal(&sealer, (const uint8_t *)m->in->data, m->in->length, at,
-                                      confounder, (uint8_t *)m->out->data, room, &size);
-    krbrelay_sealer_free(&sealer);
+        answer = krbrelay_sealer_seal(&kept->sealer, (const uint8_t *)m->in->data, m->in->length,
+                                      at, confounder, (uint8_t *)m->out->data, room, &size);
+    kept_put(kept);
     m->out->length = (unsigned)size;
     return answer;
 }

@@ -1,9 +1,10 @@
 /* A library to be preloaded, which takes the place of krb5_mk_safe, krb5_rd_safe, krb5_mk_priv and
  * krb5_rd_priv of MIT's libkrb5 by krbrelay. README.md says how to build and use it.
  *
- * All state stays in MIT's auth context, so a sealer or opener is made for each message. A program
- * that is written for krbrelay keeps one for a session. */
+ * Numbers, keys and addresses stay in MIT's auth context. What is made of its keys is kept beside it
+ * (kept.h), and ends with it: so krb5_auth_con_free is taken too. */
 #define _GNU_SOURCE
+#include "kept.h"
 #include "message.h"
 
 #include <dlfcn.h>
@@ -13,18 +14,27 @@
 typedef krb5_error_code mit_call(krb5_context, krb5_auth_context, const krb5_data *, krb5_data *,
                                  krb5_replay_data *);
 
-static mit_call *mit_calls[CALLS];
+typedef krb5_error_code mit_free(krb5_context, krb5_auth_context);
 
-/* Before the program starts: MIT's calls, which come after this library's. */
+static mit_call *mit_calls[CALLS];
+static mit_free *mit_auth_con_free;
+
+/* MIT's function of a name, which comes after this library's. */
+static void find(const char *name, void *function, size_t size)
+{
+    void *found = dlsym(RTLD_NEXT, name);
+    if (found == NULL || size != sizeof found)
+        abort();
+    memcpy(function, &found, sizeof found);
+}
+
+/* Before the program starts. */
 __attribute__((constructor)) static void find_mit_calls(void)
 {
     int i;
-    for (i = 0; i < CALLS; i++) {
-        void *found = dlsym(RTLD_NEXT, call_names[i]);
-        if (found == NULL)
-            abort();
-        memcpy(&mit_calls[i], &found, sizeof found);
-    }
+    for (i = 0; i < CALLS; i++)
+        find(call_names[i], &mit_calls[i], sizeof mit_calls[i]);
+    find("krb5_auth_con_free", &mit_auth_con_free, sizeof mit_auth_con_free);
 }
 
 static krb5_error_code pass_on(struct message *m, const char *reason)
@@ -84,6 +94,12 @@ krb5_error_code krb5_rd_priv(krb5_context ctx, krb5_auth_context ac, const krb5_
                              krb5_data *out, krb5_replay_data *replay)
 {
     return serve(RD_PRIV, ctx, ac, in, out, replay);
+}
+
+krb5_error_code krb5_auth_con_free(krb5_context ctx, krb5_auth_context ac)
+{
+    kept_end(ac);
+    return mit_auth_con_free(ctx, ac);
 }
 
 #pragma GCC visibility pop

@@ -1,4 +1,5 @@
 #include "cipher_state.h"
+#include "kept.h"
 #include "message.h"
 
 #include <errno.h>
@@ -41,19 +42,19 @@ static enum krbrelay_answer open_frame(struct message *m, const struct end *end,
                                        uint8_t *room, struct opened *opened)
 {
     const struct krbrelay_moment unused = { 0 };    /* no time is demanded of krbrelay */
-    struct krbrelay_opener opener = { 0 };
-    struct krbrelay_expect expect = { 0 };
+    struct kept *kept = kept_take(m->ac);
+    struct krbrelay_opener *opener;
     struct krbrelay_demand demand;
     enum krbrelay_answer answer;
-    expect.mode = mode_of(m->call);
+    if (kept == NULL)
+        return KRBRELAY_MEMORY;
     demand_of(&demand, end, numbered);
-    answer = krbrelay_opener_new(&opener, end->key->enctype, end->key->contents, end->key->length,
-                                 &expect);
+    answer = kept_opener(kept, end->key, mode_of(m->call), &opener);
     if (answer == KRBRELAY_OK)
-        answer = krbrelay_opener_open(&opener, (const uint8_t *)m->in->data, m->in->length, &demand,
+        answer = krbrelay_opener_open(opener, (const uint8_t *)m->in->data, m->in->length, &demand,
                                       &unused, room, m->in->length, &opened->size,
                                       &opened->carried);
-    krbrelay_opener_free(&opener);
+    kept_put(kept);
     return answer;
 }
 

@@ -73,10 +73,15 @@ class Freed(Error):
     """The handle was freed, by its `free` or at the end of its `with`."""
 
 
-_OWN = {1: Wiped, 3: Exhausted, 907: Freed}
-_MEMORY = 904
-# TOO_LONG, ETYPE, KEY_SIZE, MODE, MOMENT, ADDRESS, ARGUMENT, RECORD
-_ARGUMENTS = frozenset((2, 905, 908, 909, 910, 911, 912, 913))
+class _Class(enum.IntEnum):
+    """enum krbrelay_class: what a caller does about an answer. Of the others an Error is raised."""
+
+    REFUSAL, CALLER, STATE, MEMORY = 1, 2, 3, 4
+
+
+_REFUSALS = frozenset(Code)
+_OF_STATE = {1: Wiped, 3: Exhausted, 907: Freed}
+_ROOM = 906     # Buffers are made by this package, so the user isn't mistaken.
 
 
 def answer_name(answer: int) -> str:
@@ -100,17 +105,16 @@ def _text(call: Callable[..., int], answer: int) -> str:
 
 def exception_of(answer: int) -> Exception:
     """The exception for an answer other than 0."""
-    if answer == _MEMORY:
-        return MemoryError("out of memory")
-    text = answer_text(answer)
-    if answer in _OWN:
-        return _OWN[answer](text)
-    if answer in _ARGUMENTS:
+    text, found = answer_text(answer), library().krbrelay_class_of(answer)
+    if found == _Class.MEMORY:
+        return MemoryError(text)
+    if found == _Class.CALLER and answer != _ROOM:
         return ValueError(text)
-    try:
+    if found == _Class.STATE:
+        return _OF_STATE.get(answer, Error)(text)
+    if found == _Class.REFUSAL and answer in _REFUSALS:
         return Refusal(Code(answer), text)
-    except ValueError:
-        return Error(text)
+    return Error(text)
 
 
 def check(answer: int) -> None:

@@ -120,6 +120,7 @@ CALLS: Dict[str, Tuple[Any, List[Any]]] = {
     "krbrelay_message_header": (c_uint32, [*_BYTES, POINTER(HeaderStruct)]),
     "krbrelay_answer_name": (c_uint32, [c_uint32, *_ROOM, _SIZE]),
     "krbrelay_answer_text": (c_uint32, [c_uint32, *_ROOM, _SIZE]),
+    "krbrelay_class_of": (c_uint32, [c_uint32]),
 }
 
 
@@ -164,7 +165,8 @@ def load(path: str) -> ctypes.CDLL:
         ) from fault
     for name, (result, parameters) in CALLS.items():
         if not hasattr(library, name):
-            raise LibraryError(f"{path} has no call {name}: it isn't libkrbrelay {MAJOR}")
+            raise LibraryError(f"{path} has no call {name}: it isn't libkrbrelay {MAJOR}, or is"
+                               " older than this package")
         call = getattr(library, name)
         call.restype, call.argtypes = result, parameters
     found = version_of(library)

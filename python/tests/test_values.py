@@ -47,11 +47,11 @@ class Answers(unittest.TestCase):
         self.assertEqual(krbrelay.answer_text(42), "the sequence number isn't the expected one")
         self.assertEqual(krbrelay.answer_name(0), "OK")
         self.assertEqual(krbrelay.answer_name(904), "MEMORY")
-        for answer in [0, 1, 2, 3, *range(904, 914), *Code]:
+        for answer in [0, 1, 2, 3, *range(904, 917), *Code]:
             self.assertGreater(len(krbrelay.answer_text(answer)), 3)
 
     def test_no_answers(self):
-        for answer in (-1, 4, 914, 2**32, 2**32 + 42):
+        for answer in (-1, 4, 917, 2**32, 2**32 + 42):
             for call in (krbrelay.answer_name, krbrelay.answer_text):
                 with self.assertRaises(ValueError):
                     call(answer)
@@ -62,7 +62,9 @@ class Answers(unittest.TestCase):
                              (904, MemoryError), (905, ValueError), (906, krbrelay.Error),
                              (907, krbrelay.Freed), (908, ValueError), (909, ValueError),
                              (910, ValueError), (911, ValueError), (912, ValueError),
-                             (913, ValueError), *((code, krbrelay.Refusal) for code in Code)):
+                             (913, ValueError), (914, krbrelay.Error), (915, krbrelay.Error),
+                             (916, krbrelay.Error),
+                             *((code, krbrelay.Refusal) for code in Code)):
             self.assertIs(type(exception_of(answer)), kind)
 
     def test_version(self):

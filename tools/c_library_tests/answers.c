@@ -5,6 +5,7 @@
 #include "krbrelay.h"
 #include "session.h"
 
+#include <stdlib.h>
 #include <string.h>
 
 _Static_assert(sizeof(struct krbrelay_address) == 48, "an address has no padding");
@@ -380,6 +381,9 @@ static const struct named known_answers[] = {
     { KRBRELAY_ADDRESS, "ADDRESS", "an address has over 40 bytes" },
     { KRBRELAY_ARGUMENT, "ARGUMENT", "an argument is out of its range" },
     { KRBRELAY_RECORD, "RECORD", "the texts are no record" },
+    { KRBRELAY_CLOCK, "CLOCK", "the clock can't be read, or isn't in the years 1970 to 9999" },
+    { KRBRELAY_RANDOM, "RANDOM", "the system has no random bytes" },
+    { KRBRELAY_PROCESSOR, "PROCESSOR", "the processor lacks instructions of the library" },
 };
 
 typedef enum krbrelay_answer written_call(uint32_t, char *, size_t, size_t *);
@@ -415,6 +419,56 @@ static void names(void)
     CHECK(krbrelay_version() == KRBRELAY_VERSION);
 }
 
+/* Handles whose array moves in memory, with the old place overwritten. */
+struct handles { struct krbrelay_sealer s; struct krbrelay_opener o; struct krbrelay_receiver r; };
+
+static struct handles *moved(struct handles *from)
+{
+    struct handles *to = malloc(sizeof *to);
+    CHECK(to != NULL);
+    memcpy(to, from, sizeof *to);
+    memset(from, 0xee, sizeof *from);
+    free(from);
+    return to;
+}
+
+/* Between any two calls a handle may be moved: it goes on with its number. */
+static void handles_that_move(void)
+{
+    struct handles *h = calloc(1, sizeof *h);
+    struct krbrelay_expect expect = expect_of(KRBRELAY_PRIV);
+    struct krbrelay_moment at = moment(SECS, USEC);
+    size_t size = 0, n = 0;
+    uint64_t next = 0;
+    uint32_t kind = 0, closed = 9;
+    CHECK(h != NULL);
+    h = moved(h);
+    CHECK(new_sealer(&h->s, 18, KRBRELAY_PRIV, 7) == KRBRELAY_OK);
+    CHECK(new_opener(&h->o, 18, KRBRELAY_PRIV) == KRBRELAY_OK);
+    CHECK(krbrelay_receiver_new(&h->r, 18, keys[1], 32, &expect, 7, 0) == KRBRELAY_OK);
+    for (uint64_t number = 7; number < 20; number++) {
+        h = moved(h);
+        CHECK(seal(&h->s, "Dhi", 3, sizeof frame, &size) == KRBRELAY_OK);
+        h = moved(h);
+        CHECK(unseal(&h->o, frame, size, number) == KRBRELAY_OK);
+        CHECK(krbrelay_receiver_take(&h->r, frame, size, &at, &kind, text, sizeof text, &n)
+              == KRBRELAY_OK);
+        CHECK(kind == KRBRELAY_TEXT && n == 2 && memcmp(text, "hi", 2) == 0);
+    }
+    h = moved(h);
+    CHECK(krbrelay_sealer_next(&h->s, &next) == KRBRELAY_OK && next == 20);
+    CHECK(krbrelay_receiver_state(&h->r, &next, &closed) == KRBRELAY_OK && next == 20 && closed == 0);
+    krbrelay_opener_wipe(&h->o);
+    h = moved(h);
+    CHECK(unseal(&h->o, frame, size, 19) == KRBRELAY_WIPED);
+    krbrelay_sealer_free(&h->s);
+    krbrelay_opener_free(&h->o);
+    krbrelay_receiver_free(&h->r);
+    h = moved(h);
+    CHECK(krbrelay_sealer_is_empty(&h->s) && krbrelay_opener_is_empty(&h->o));
+    free(h);
+}
+
 int main(void)
 {
     make_keys();
@@ -429,5 +483,6 @@ int main(void)
     refusals_of_priv();
     headers();
     names();
+    handles_that_move();
     return check_status("answers");
 }

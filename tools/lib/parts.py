@@ -21,6 +21,8 @@ SQLITE = "Debian's libsqlite3-dev"
 SERVERS = ("Debian's nats-server, libnats-dev, postgresql, libpq-dev, libmicrohttpd-dev and"
            " libsystemd-dev")
 REALM = "Debian's krb5-kdc, krb5-admin-server, krb5-kpropd and krb5-user"
+CROSS = "Debian's gdb, gcc-aarch64-linux-gnu, libc6-dev-arm64-cross and qemu-user-static"
+PACKAGING = "Debian's debhelper, dpkg-dev, lintian and isa-support"
 
 
 def has(command):
@@ -46,6 +48,9 @@ IS_THERE = {
     HEIMDAL: lambda: runs("pkg-config", "--exists", "heimdal-krb5"),
     REALM: lambda: all(shutil.which(it, path="/usr/sbin:/usr/bin:/sbin:/bin") for it in
                        ("krb5kdc", "kadmind", "kpropd", "kprop", "kpasswd", "kadmin.local")),
+    CROSS: lambda: has("gdb") and has("aarch64-linux-gnu-gcc") and has("qemu-aarch64-static")
+    and os.path.exists("/usr/aarch64-linux-gnu/lib/libc.so.6"),
+    PACKAGING: lambda: has("dh") and has("dpkg-buildpackage") and has("lintian"),
     MAKE: lambda: has("make"),
     SQLITE: lambda: os.path.exists("/usr/include/sqlite3.h"),
     SERVERS: lambda: has("nats-server") and os.path.exists("/usr/lib/postgresql")
@@ -81,7 +86,7 @@ GATE = Part("rt ci", 174, ("rt",))
 BUILD = Part("tools/krbrelay --prove", 60, ("rt",))
 # The first builds the C library, which Python's tests and the carrier take then.
 ALONE = [
-    Part("tools/c_library --core", 30, ("rt", COMPILER, CRYPTOGRAPHY)),
+    Part("tools/c_library --core", 30, ("rt", COMPILER, CRYPTOGRAPHY, MAKE, SQLITE)),
     Part("tools/python", 20, (COMPILER, CRYPTOGRAPHY)),
 ]
 PARTS = [
@@ -108,7 +113,9 @@ MORE = [
     Part("tools/wrong_bodies --try", 170, ("rt",)),
     Part("tools/fuzz 20000 2", 60, (PROGRAM, CRYPTOGRAPHY)),
     Part("tools/interop", 20, (PROGRAM, COMPILER, MIT, HEIMDAL)),
-    Part("tools/c_library", 60, ("rt", COMPILER, MIT, "clang", "valgrind")),
+    Part("tools/c_library", 60, ("rt", COMPILER, MIT, "clang", "valgrind", MAKE)),
+    Part("tools/dist --check", 60, ("rt", COMPILER, "clang", MAKE, CROSS)),
+    Part("tools/dist --debian", 30, ("rt", COMPILER, MAKE, PACKAGING)),
     Part("tools/python --all", 20, (COMPILER, CRYPTOGRAPHY)),
     Part("tools/kerberos", 75, ("rt", COMPILER, MIT, HEIMDAL, REALM)),
     Part("tools/carrier --all", 60, (PROGRAM, "rt", COMPILER, "clang", MAKE, SQLITE, SERVERS)),

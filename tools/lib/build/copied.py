@@ -57,14 +57,18 @@ ci)
     exit "${CI_STATUS:-0}" ;;
 esac
 '''
-# Likewise for the prover: it formats every text, and what it builds is the last of its words.
+# Likewise for the prover: it formats every text, and what it builds is the last of its words, after it
+# has given a module to the compiler among its tools.
 PROVER = r'''#!/bin/sh
 [ "$1" = build ] || exit 0
 echo "build $*" >> "$NOTES"
 [ "$FAILS" != krb_c ] || { echo goal left; exit 1; }
 for made; do :; done
-echo of the prover > "$made"
+while [ "$1" != --toolchain ]; do shift; done
+echo a module > "$made.bc"
+"$2/bin/clang" -c "$made.bc" -o "$made.o" && echo of the prover > "$made"
 '''
+COMPILER = "#!/bin/sh\nexit 0\n"
 
 
 def write_script(path, text):
@@ -111,7 +115,11 @@ class Copy:
         ignored = shutil.ignore_patterns("out", "__pycache__", ".git", "must-fail*")
         shutil.copytree(building.TOP, self.top, ignore=ignored)
         programs = os.path.join(folder, "bin")
+        tools = os.path.join(folder, "toolchain")
         os.mkdir(programs)
+        os.makedirs(os.path.join(tools, "bin"))
+        os.mkdir(os.path.join(tools, "lib"))
+        write_script(os.path.join(tools, "bin", "clang"), COMPILER)
         write_script(os.path.join(programs, "rt"), KIT)
         write_script(os.path.join(programs, "rattle"), PROVER)
         self.given = {**os.environ, "NOTES": self.notes, "ORIGINAL": self.top,

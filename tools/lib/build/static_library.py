@@ -7,8 +7,9 @@ it. `rt lib` takes no library of `rt ci`: it proves all of them again.
 """
 import os
 import subprocess
+import tempfile
 
-from lib.build import building
+from lib.build import building, kit_compiler
 
 MOST_JOBS = 4
 
@@ -19,32 +20,35 @@ def can_build(crate):
                for it in building.in_order(crate)[:-1])
 
 
-def words_for(crate, jobs):
-    """The words for the prover, as `rt ci` has them, with those of a compiler. The crate names
-    std and its own libraries, and no C to be linked."""
+def words_for(crate, jobs, toolchain, output):
+    """The words for the prover, as `rt ci` has them, with those of a compiler: the folder of its
+    tools, and what it is to write. The crate names std and its own libraries, and no C to be
+    linked."""
     prover = building.prover()
     place = os.path.dirname(os.path.dirname(prover))    # the kit's folder
     words = [prover, "build", "--crate-name", crate, "src/lib.rt",
              "--crate-type", "staticlib", "--links", f"{crate}=", "--jobs", str(jobs),
              "--antt-project", f"{place}/rattle/logic/antt-project.json",
-             "--logic-built", f"{place}/logic_built", "--toolchain", f"{place}/toolchain",
+             "--logic-built", f"{place}/logic_built", "--toolchain", toolchain,
              "--extern", f"std={place}/rlibs/std.rlib", "-L", f"dependency={place}/rlibs"]
     for it in building.below()[crate]:
         words += ["--extern", f"{it}={building.library_of(it)}"]
     for it in building.in_order(crate)[:-1]:
         words += ["-L", f"dependency={os.path.dirname(building.library_of(it))}"]
-    return [*words, "-o", building.top_of(crate)]
+    return [*words, "-o", output]
 
 
 def build(crate, cores, log):
     """Proves and builds the static library, with what is said in a file. Returns whether it is
-    proved; then it is noted."""
-    built_from = building.digest_of(crate)
-    os.makedirs(os.path.dirname(building.top_of(crate)), exist_ok=True)
-    with open(log, "w", encoding="utf-8") as file:
-        done = subprocess.run(words_for(crate, min(cores, MOST_JOBS)), check=False, stdout=file,
-                              cwd=building.folder_of(crate), stdin=subprocess.DEVNULL,
-                              stderr=subprocess.STDOUT)
+    proved; then it is noted, and what the compiler was given is kept."""
+    built_from, output = building.digest_of(crate), building.top_of(crate)
+    os.makedirs(os.path.dirname(output), exist_ok=True)
+    with tempfile.TemporaryDirectory() as folder, open(log, "w", encoding="utf-8") as file:
+        words = words_for(crate, min(cores, MOST_JOBS), kit_compiler.keeping(folder), output)
+        done = subprocess.run(words, check=False, stdout=file, cwd=building.folder_of(crate),
+                              stdin=subprocess.DEVNULL, stderr=subprocess.STDOUT)
+        if done.returncode == 0:
+            kit_compiler.keep(crate, folder, built_from)
     if done.returncode == 0:
-        building.note(building.top_of(crate), built_from)
+        building.note(output, built_from)
     return done.returncode == 0

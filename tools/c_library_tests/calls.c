@@ -1,0 +1,402 @@
+/* The calls of the library that proofs don't reach: clock, randomness, addresses, answers, and what
+ * is asked of a handle and the processor. Built with -Wl,--wrap=clock_gettime -Wl,--wrap=getrandom:
+ * a case sets what these answer. */
+#define _GNU_SOURCE
+#include "check.h"
+#include "frames.h"
+#include "krbrelay.h"
+#include "session.h"
+
+#include <arpa/inet.h>
+#include <errno.h>
+#include <netinet/in.h>
+#include <string.h>
+#include <sys/random.h>
+#include <sys/socket.h>
+#include <sys/un.h>
+#include <time.h>
+
+static uint8_t frame[KRBRELAY_FRAME_SIZE(100)], text[KRBRELAY_FRAME_SIZE(100)];
+static uint8_t keys[2][32];
+
+/* ---- the system's calls */
+
+static int is_real;                 /* the system's own answer */
+static int clock_fails;
+static struct timespec clock_shows;
+static int draws[8];                /* what getrandom answers: bytes, or an error below 0; the rest: all */
+static size_t drawn;
+static uint8_t next_byte;           /* what it writes: 0, or rising bytes */
+static int bytes_rise;
+
+int __real_clock_gettime(clockid_t clock, struct timespec *now);
+int __wrap_clock_gettime(clockid_t clock, struct timespec *now);
+ssize_t __real_getrandom(void *bytes, size_t len, unsigned flags);
+ssize_t __wrap_getrandom(void *bytes, size_t len, unsigned flags);
+
+int __wrap_clock_gettime(clockid_t clock, struct timespec *now)
+{
+    if (is_real)
+        return __real_clock_gettime(clock, now);
+    CHECK(clock == CLOCK_REALTIME);
+    *now = clock_shows;
+    return clock_fails ? -1 : 0;
+}
+
+ssize_t __wrap_getrandom(void *bytes, size_t len, unsigned flags)
+{
+    int answer = drawn < sizeof draws / sizeof draws[0] ? draws[drawn] : 0;
+    size_t count = answer > 0 ? (size_t)answer : len;
+    if (is_real)
+        return __real_getrandom(bytes, len, flags);
+    CHECK(flags == 0 && count <= len);
+    drawn++;
+    if (answer < 0) {
+        errno = -answer;
+        return answer == -ERANGE ? 0 : -1;      /* ERANGE stands for no bytes at all */
+    }
+    for (size_t i = 0; i < count; i++)
+        ((uint8_t *)bytes)[i] = bytes_rise ? next_byte++ : 0;
+    return (ssize_t)count;
+}
+
+/* The moment of frames.h, and a confounder of zeros drawn at once. */
+static void set_system(void)
+{
+    memset(draws, 0, sizeof draws);
+    is_real = clock_fails = bytes_rise = next_byte = 0;
+    drawn = 0;
+    clock_shows.tv_sec = SECS;
+    clock_shows.tv_nsec = USEC * 1000 + 999;
+}
+
+/* ---- the clock */
+
+static void clock_of_the_system(void)
+{
+    struct krbrelay_moment now = { 0, 0, 9 };
+    struct timespec before, after;
+    is_real = 1;
+    CHECK(clock_gettime(CLOCK_REALTIME, &before) == 0);
+    CHECK(krbrelay_now(&now) == KRBRELAY_OK);
+    CHECK(clock_gettime(CLOCK_REALTIME, &after) == 0);
+    CHECK(now.seconds >= (uint64_t)before.tv_sec && now.seconds <= (uint64_t)after.tv_sec);
+    CHECK(now.microseconds < 1000000 && now.reserved == 0);
+}
+
+static enum krbrelay_answer now_at(time_t seconds, long nanoseconds, struct krbrelay_moment *now)
+{
+    set_system();
+    clock_shows.tv_sec = seconds;
+    clock_shows.tv_nsec = nanoseconds;
+    return krbrelay_now(now);
+}
+
+static void clocks(void)
+{
+    struct krbrelay_moment now = { 1, 2, 3 };
+    CHECK(now_at(-1, 0, &now) == KRBRELAY_CLOCK);
+    CHECK(now_at(253402300800, 0, &now) == KRBRELAY_CLOCK);     /* the year 10000 */
+    set_system();
+    clock_fails = 1;
+    CHECK(krbrelay_now(&now) == KRBRELAY_CLOCK);
+    CHECK(now.seconds == 1 && now.microseconds == 2 && now.reserved == 3);
+    CHECK(now_at(0, 0, &now) == KRBRELAY_OK && now.seconds == 0 && now.microseconds == 0);
+    CHECK(now_at(253402300799, 999999999, &now) == KRBRELAY_OK);
+    CHECK(now.seconds == 253402300799 && now.microseconds == 999999 && now.reserved == 0);
+    CHECK(now_at(SECS, 999, &now) == KRBRELAY_OK && now.seconds == SECS && now.microseconds == 0);
+    clock_of_the_system();
+}
+
+/* ---- sealing */
+
+static struct krbrelay_sealer sealer_at_7(int etype, uint32_t mode)
+{
+    struct krbrelay_session session = session_of(mode, 7);
+    struct krbrelay_sealer s = KRBRELAY_INIT;
+    CHECK(krbrelay_sealer_new(&s, etype, keys[etype - 17], key_size(etype), &session) == KRBRELAY_OK);
+    return s;
+}
+
+static enum krbrelay_answer seal_now(struct krbrelay_sealer *s, size_t room, size_t *size)
+{
+    return krbrelay_sealer_seal_now(s, (const uint8_t *)"Dhi", 3, frame, room, size);
+}
+
+/* What is sealed is the frame of another sealer, at the clock's moment and with what was drawn. */
+static void frames_of_another_sealer(void)
+{
+    static const struct { int etype; uint32_t mode; const uint8_t *frame; size_t len; } known[] = {
+        { 17, KRBRELAY_SAFE, safe_17, sizeof safe_17 }, { 18, KRBRELAY_SAFE, safe_18, sizeof safe_18 },
+        { 17, KRBRELAY_PRIV, priv_17, sizeof priv_17 }, { 18, KRBRELAY_PRIV, priv_18, sizeof priv_18 },
+    };
+    for (size_t i = 0; i < sizeof known / sizeof known[0]; i++) {
+        struct krbrelay_sealer s = sealer_at_7(known[i].etype, known[i].mode);
+        size_t size = 0;
+        uint64_t next = 0;
+        set_system();
+        CHECK(seal_now(&s, sizeof frame, &size) == KRBRELAY_OK);
+        CHECK(size == known[i].len && memcmp(frame, known[i].frame, size) == 0);
+        CHECK(krbrelay_sealer_next(&s, &next) == KRBRELAY_OK && next == 8);
+        krbrelay_sealer_free(&s);
+    }
+}
+
+/* Interrupted and short draws are gone on with: the confounder is the bytes in their order. */
+static void draws_that_go_on(void)
+{
+    static const int answers[][8] = { { 16 }, { -EINTR, 16 }, { 1, 15 }, { 5, -EINTR, -EINTR, 11 },
+                                      { 1, 1, 1, 1, 1, 1, 1, 9 } };
+    uint8_t confounder[16], expected[sizeof frame];
+    struct krbrelay_moment at = moment(SECS, USEC);
+    for (uint8_t i = 0; i < 16; i++)
+        confounder[i] = i;
+    for (size_t i = 0; i < sizeof answers / sizeof answers[0]; i++) {
+        struct krbrelay_sealer s = sealer_at_7(18, KRBRELAY_PRIV), other = sealer_at_7(18, KRBRELAY_PRIV);
+        size_t size = 0, len = 0;
+        set_system();
+        bytes_rise = 1;
+        memcpy(draws, answers[i], sizeof draws);
+        CHECK(krbrelay_sealer_seal(&other, (const uint8_t *)"Dhi", 3, &at, confounder, expected,
+                                   sizeof expected, &len) == KRBRELAY_OK);
+        CHECK(seal_now(&s, sizeof frame, &size) == KRBRELAY_OK);
+        CHECK(next_byte == 16 && size == len && memcmp(frame, expected, len) == 0);
+        krbrelay_sealer_free(&s);
+        krbrelay_sealer_free(&other);
+    }
+}
+
+/* Nothing is sealed, by either call. */
+static void is_not_sealed(enum krbrelay_answer expected)
+{
+    struct krbrelay_sealer s = sealer_at_7(17, KRBRELAY_PRIV);
+    size_t size = 99;
+    uint64_t next = 0;
+    frame[0] = 0xee;
+    CHECK(seal_now(&s, sizeof frame, &size) == expected);
+    drawn = 0;
+    CHECK(krbrelay_sealer_seal_record_now(&s, KRBRELAY_TEXT, (const uint8_t *)"hi", 2, frame,
+                                          sizeof frame, &size) == expected);
+    CHECK(size == 99 && frame[0] == 0xee);
+    CHECK(krbrelay_sealer_next(&s, &next) == KRBRELAY_OK && next == 7);
+    krbrelay_sealer_free(&s);
+}
+
+static void faults_of_the_system(void)
+{
+    static const int faults[][8] = { { -ENOSYS }, { -EAGAIN }, { -ERANGE }, { 8, -EFAULT },
+                                     { -EINTR, -ENOSYS } };
+    for (size_t i = 0; i < sizeof faults / sizeof faults[0]; i++) {
+        set_system();
+        memcpy(draws, faults[i], sizeof draws);
+        is_not_sealed(KRBRELAY_RANDOM);
+    }
+    set_system();
+    clock_fails = 1;
+    draws[0] = -ENOSYS;
+    is_not_sealed(KRBRELAY_CLOCK);
+    CHECK(drawn == 0);
+}
+
+/* What krbrelay_sealer_seal and _seal_record answer comes after the system's. */
+static void answers_of_sealing(void)
+{
+    struct krbrelay_sealer s = sealer_at_7(17, KRBRELAY_PRIV), none = KRBRELAY_INIT;
+    size_t size = 99;
+    set_system();
+    CHECK(seal_now(&none, sizeof frame, &size) == KRBRELAY_EMPTY);
+    CHECK(seal_now(&s, 3, &size) == KRBRELAY_ROOM);
+    CHECK(krbrelay_sealer_seal_record_now(&s, 4, NULL, 0, frame, sizeof frame, &size)
+          == KRBRELAY_RECORD);
+    CHECK(krbrelay_sealer_seal_record_now(&none, KRBRELAY_CLOSE, NULL, 0, frame, sizeof frame, &size)
+          == KRBRELAY_EMPTY);
+    krbrelay_sealer_wipe(&s);
+    CHECK(seal_now(&s, sizeof frame, &size) == KRBRELAY_WIPED && size == 99);
+    krbrelay_sealer_free(&s);
+}
+
+/* A receiver takes what is sealed as a record, by the system's own clock and randomness. */
+static void records(void)
+{
+    struct krbrelay_expect expect = expect_of(KRBRELAY_PRIV);
+    struct krbrelay_sealer s = sealer_at_7(18, KRBRELAY_PRIV);
+    struct krbrelay_receiver r = KRBRELAY_INIT;
+    struct krbrelay_moment now = KRBRELAY_INIT;
+    size_t len = 0, size = 0;
+    uint32_t kind = 0;
+    is_real = 1;
+    CHECK(krbrelay_receiver_new(&r, 18, keys[1], 32, &expect, 7, 0) == KRBRELAY_OK);
+    CHECK(krbrelay_sealer_seal_record_now(&s, KRBRELAY_TEXT, (const uint8_t *)"hi", 2, frame,
+                                          sizeof frame, &len) == KRBRELAY_OK);
+    CHECK(krbrelay_now(&now) == KRBRELAY_OK);
+    CHECK(krbrelay_receiver_take(&r, frame, len, &now, &kind, text, sizeof text, &size)
+          == KRBRELAY_OK);
+    CHECK(kind == KRBRELAY_TEXT && size == 2 && memcmp(text, "hi", 2) == 0);
+    krbrelay_sealer_free(&s);
+    krbrelay_receiver_free(&r);
+}
+
+/* Two confounders of the system differ, so two messages of one number do. */
+static void confounders_differ(void)
+{
+    uint8_t frames[2][sizeof frame];
+    size_t size[2] = { 0, 0 };
+    set_system();
+    for (int i = 0; i < 2; i++) {
+        struct krbrelay_sealer s = sealer_at_7(17, KRBRELAY_PRIV);
+        is_real = 1;
+        CHECK(seal_now(&s, sizeof frame, &size[i]) == KRBRELAY_OK);
+        memcpy(frames[i], frame, size[i]);
+        krbrelay_sealer_free(&s);
+    }
+    /* The first 16 bytes of the cipher are those of the confounder: no time is in them. */
+    CHECK(memcmp(frames[0] + 27, frames[1] + 27, 16) != 0);
+}
+
+/* ---- addresses */
+
+static int is_address(const struct krbrelay_address *a, int32_t kind, const uint8_t *bytes, uint32_t len)
+{
+    static const uint8_t zeros[40];
+    return a->kind == kind && a->len == len && memcmp(a->bytes, bytes, len) == 0 &&
+           memcmp(a->bytes + len, zeros, 40 - len) == 0;
+}
+
+static struct sockaddr_in6 ipv6_of(const char *told)
+{
+    struct sockaddr_in6 from = { .sin6_family = AF_INET6, .sin6_port = htons(88) };
+    CHECK(inet_pton(AF_INET6, told, &from.sin6_addr) == 1);
+    return from;
+}
+
+static enum krbrelay_answer from_ipv6(struct krbrelay_address *to, const char *told)
+{
+    struct sockaddr_in6 from = ipv6_of(told);
+    memset(to, 0xee, sizeof *to);
+    return krbrelay_address_from(to, (const struct sockaddr *)&from, sizeof from);
+}
+
+/* RFC 4120 section 7.5.3: IPv4 is of type 2, IPv6 of type 24, and an address of IPv4 that is mapped
+ * into IPv6 is one of type 2. */
+static void addresses(void)
+{
+    static const uint8_t host[4] = { 192, 0, 2, 7 };
+    static const uint8_t long_host[16] = { 0x20, 0x01, 0x0d, 0xb8, 0, 0, 0, 0, 0, 0, 0, 0, 0, 0, 0, 9 };
+    struct sockaddr_in from = { .sin_family = AF_INET, .sin_port = htons(88) };
+    struct krbrelay_address a;
+    memset(&a, 0xee, sizeof a);
+    CHECK(inet_pton(AF_INET, "192.0.2.7", &from.sin_addr) == 1);
+    CHECK(krbrelay_address_from(&a, (const struct sockaddr *)&from, sizeof from) == KRBRELAY_OK);
+    CHECK(is_address(&a, KRBRELAY_IPV4, host, 4) && a.kind == 2);
+    CHECK(from_ipv6(&a, "2001:db8::9") == KRBRELAY_OK);
+    CHECK(is_address(&a, KRBRELAY_IPV6, long_host, 16) && a.kind == 24);
+    CHECK(from_ipv6(&a, "::ffff:192.0.2.7") == KRBRELAY_OK && is_address(&a, 2, host, 4));
+}
+
+static void no_addresses(void)
+{
+    struct sockaddr_un local = { .sun_family = AF_UNIX };
+    struct sockaddr_in from = { .sin_family = AF_INET };
+    struct sockaddr_in6 longer = ipv6_of("::1");
+    struct krbrelay_address a, before;
+    memset(&a, 0xee, sizeof a);
+    memset(&before, 0xee, sizeof before);
+    CHECK(krbrelay_address_from(&a, (struct sockaddr *)&local, sizeof local) == KRBRELAY_ARGUMENT);
+    CHECK(krbrelay_address_from(&a, (struct sockaddr *)&from, sizeof from - 1) == KRBRELAY_ARGUMENT);
+    CHECK(krbrelay_address_from(&a, (struct sockaddr *)&longer, sizeof longer - 1)
+          == KRBRELAY_ARGUMENT);
+    for (size_t len = 0; len < 2; len++)
+        CHECK(krbrelay_address_from(&a, (struct sockaddr *)&from, len) == KRBRELAY_ARGUMENT);
+    CHECK(memcmp(&a, &before, sizeof a) == 0);
+}
+
+/* ---- answers */
+
+struct sorted { uint32_t answer; enum krbrelay_class class; };
+
+/* Each answer of the header, by its number. */
+static const struct sorted sorted[] = {
+    { 0, KRBRELAY_CLASS_OK }, { 1, KRBRELAY_CLASS_STATE }, { 2, KRBRELAY_CLASS_CALLER },
+    { 3, KRBRELAY_CLASS_STATE }, { 14, KRBRELAY_CLASS_REFUSAL }, { 31, KRBRELAY_CLASS_REFUSAL },
+    { 37, KRBRELAY_CLASS_REFUSAL }, { 38, KRBRELAY_CLASS_REFUSAL }, { 39, KRBRELAY_CLASS_REFUSAL },
+    { 40, KRBRELAY_CLASS_REFUSAL }, { 41, KRBRELAY_CLASS_REFUSAL }, { 42, KRBRELAY_CLASS_REFUSAL },
+    { 50, KRBRELAY_CLASS_REFUSAL }, { 61, KRBRELAY_CLASS_REFUSAL }, { 901, KRBRELAY_CLASS_REFUSAL },
+    { 902, KRBRELAY_CLASS_REFUSAL }, { 903, KRBRELAY_CLASS_REFUSAL }, { 904, KRBRELAY_CLASS_MEMORY },
+    { 905, KRBRELAY_CLASS_CALLER }, { 906, KRBRELAY_CLASS_CALLER }, { 907, KRBRELAY_CLASS_STATE },
+    { 908, KRBRELAY_CLASS_CALLER }, { 909, KRBRELAY_CLASS_CALLER }, { 910, KRBRELAY_CLASS_CALLER },
+    { 911, KRBRELAY_CLASS_CALLER }, { 912, KRBRELAY_CLASS_CALLER }, { 913, KRBRELAY_CLASS_CALLER },
+    { 914, KRBRELAY_CLASS_SYSTEM }, { 915, KRBRELAY_CLASS_SYSTEM }, { 916, KRBRELAY_CLASS_SYSTEM },
+};
+
+static enum krbrelay_class class_of(uint32_t answer)
+{
+    for (size_t i = 0; i < sizeof sorted / sizeof sorted[0]; i++)
+        if (sorted[i].answer == answer)
+            return sorted[i].class;
+    return KRBRELAY_CLASS_UNKNOWN;
+}
+
+/* What krbrelay_answer_text says of the number, whose texts answers.c has. */
+static const char *text_of(uint32_t answer, char said[KRBRELAY_TEXT_SIZE])
+{
+    size_t size = 0;
+    if (krbrelay_answer_text(answer, said, KRBRELAY_TEXT_SIZE, &size) == KRBRELAY_OK)
+        return said;
+    return "no answer of this library";
+}
+
+static void answers(void)
+{
+    char said[KRBRELAY_TEXT_SIZE];
+    for (uint32_t answer = 0; answer < 2000; answer++) {
+        CHECK(krbrelay_class_of(answer) == class_of(answer));
+        CHECK(krbrelay_is_refusal(answer) == (class_of(answer) == KRBRELAY_CLASS_REFUSAL));
+        CHECK(strcmp(krbrelay_strerror(answer), text_of(answer, said)) == 0);
+    }
+    CHECK(krbrelay_class_of(INT32_MAX) == KRBRELAY_CLASS_UNKNOWN);
+    CHECK(krbrelay_class_of(UINT32_MAX) == KRBRELAY_CLASS_UNKNOWN && !krbrelay_is_refusal(UINT32_MAX));
+}
+
+/* ---- handles and the processor */
+
+static void empty_handles(void)
+{
+    struct krbrelay_expect expect = expect_of(KRBRELAY_SAFE);
+    struct krbrelay_sealer s = KRBRELAY_INIT;
+    struct krbrelay_opener o = KRBRELAY_INIT;
+    struct krbrelay_receiver r = KRBRELAY_INIT;
+    CHECK(krbrelay_sealer_is_empty(&s) && krbrelay_opener_is_empty(&o));
+    CHECK(krbrelay_receiver_is_empty(&r));
+    s = sealer_at_7(17, KRBRELAY_SAFE);
+    CHECK(krbrelay_opener_new(&o, 17, keys[0], 16, &expect) == KRBRELAY_OK);
+    CHECK(krbrelay_receiver_new(&r, 17, keys[0], 16, &expect, 7, 0) == KRBRELAY_OK);
+    CHECK(!krbrelay_sealer_is_empty(&s) && !krbrelay_opener_is_empty(&o));
+    CHECK(!krbrelay_receiver_is_empty(&r));
+    krbrelay_sealer_wipe(&s);
+    CHECK(!krbrelay_sealer_is_empty(&s));
+    CHECK(krbrelay_opener_new(&o, 16, keys[0], 16, &expect) == KRBRELAY_ETYPE);
+    krbrelay_sealer_free(&s);
+    krbrelay_receiver_free(&r);
+    CHECK(krbrelay_sealer_is_empty(&s) && krbrelay_opener_is_empty(&o));
+    CHECK(krbrelay_receiver_is_empty(&r));
+}
+
+int main(void)
+{
+    for (int i = 0; i < 16; i++)
+        keys[0][i] = (uint8_t)i;
+    memset(keys[1], 0x11, 32);
+    CHECK(krbrelay_is_supported() == 1);
+    clocks();
+    frames_of_another_sealer();
+    draws_that_go_on();
+    faults_of_the_system();
+    answers_of_sealing();
+    records();
+    confounders_differ();
+    addresses();
+    no_addresses();
+    answers();
+    empty_handles();
+    return check_status("calls");
+}

@@ -1,0 +1,119 @@
+/* What the library does on this processor: `processor supported` or `processor unsupported`. Run
+ * under an emulator of an old processor too: no call ends the program there. */
+#include "check.h"
+#include "frames.h"
+#include "krbrelay.h"
+#include "session.h"
+
+#include <string.h>
+
+static uint8_t key[16], frame[KRBRELAY_FRAME_SIZE(3)], text[sizeof frame];
+
+/* Where the processor is supported, messages are made and opened. */
+static void messages(void)
+{
+    struct krbrelay_session session = session_of(KRBRELAY_PRIV, 7);
+    struct krbrelay_expect expect = expect_of(KRBRELAY_PRIV);
+    struct krbrelay_moment at = moment(SECS, USEC);
+    struct krbrelay_sealer s = KRBRELAY_INIT;
+    struct krbrelay_opener o = KRBRELAY_INIT;
+    uint8_t confounder[16] = { 0 };
+    size_t size = 0;
+    CHECK(krbrelay_sealer_new(&s, 17, key, sizeof key, &session) == KRBRELAY_OK);
+    CHECK(krbrelay_opener_new(&o, 17, key, sizeof key, &expect) == KRBRELAY_OK);
+    CHECK(krbrelay_sealer_seal(&s, (const uint8_t *)"Dhi", 3, &at, confounder, frame, sizeof frame,
+                               &size) == KRBRELAY_OK);
+    CHECK(size == sizeof priv_17 && memcmp(frame, priv_17, size) == 0);
+    CHECK(krbrelay_opener_unseal(&o, frame, size, 7, &at, text, sizeof text, &size) == KRBRELAY_OK);
+    CHECK(size == 3 && memcmp(text, "Dhi", 3) == 0);
+    krbrelay_sealer_free(&s);
+    krbrelay_opener_free(&o);
+}
+
+/* What makes a handle, or reads a message, answers this. */
+static void makers(enum krbrelay_answer answer)
+{
+    struct krbrelay_session session = session_of(KRBRELAY_PRIV, 7);
+    struct krbrelay_expect expect = expect_of(KRBRELAY_PRIV);
+    struct krbrelay_sealer s = KRBRELAY_INIT;
+    struct krbrelay_opener o = KRBRELAY_INIT;
+    struct krbrelay_receiver r = KRBRELAY_INIT;
+    struct krbrelay_header header = KRBRELAY_INIT;
+    int is_made = answer == KRBRELAY_OK;
+    CHECK(krbrelay_sealer_new(&s, 17, key, sizeof key, &session) == answer);
+    CHECK(krbrelay_opener_new(&o, 17, key, sizeof key, &expect) == answer);
+    CHECK(krbrelay_receiver_new(&r, 17, key, sizeof key, &expect, 7, 0) == answer);
+    CHECK(krbrelay_message_header(priv_17, sizeof priv_17, &header) == answer);
+    CHECK(krbrelay_sealer_is_empty(&s) == !is_made && krbrelay_opener_is_empty(&o) == !is_made);
+    CHECK(krbrelay_receiver_is_empty(&r) == !is_made && header.kind == (is_made ? KRBRELAY_PRIV : 0));
+    krbrelay_sealer_free(&s);
+    krbrelay_opener_free(&o);
+    krbrelay_receiver_free(&r);
+}
+
+/* The calls over a handle that holds nothing. */
+static void empty_handles(void)
+{
+    static const struct krbrelay_demand any;
+    struct krbrelay_sealer s = KRBRELAY_INIT;
+    struct krbrelay_opener o = KRBRELAY_INIT;
+    struct krbrelay_receiver r = KRBRELAY_INIT;
+    struct krbrelay_moment at = moment(SECS, USEC);
+    struct krbrelay_carried carried;
+    uint8_t in_place[sizeof priv_17];
+    size_t size = 99;
+    uint64_t number = 99;
+    uint32_t kind = 99;
+    memcpy(in_place, priv_17, sizeof in_place);
+    CHECK(krbrelay_sealer_seal_now(&s, key, 3, frame, sizeof frame, &size) == KRBRELAY_EMPTY);
+    CHECK(krbrelay_sealer_seal_record_now(&s, KRBRELAY_TEXT, key, 2, frame, sizeof frame, &size)
+          == KRBRELAY_EMPTY);
+    CHECK(krbrelay_sealer_next(&s, &number) == KRBRELAY_EMPTY);
+    CHECK(krbrelay_sealer_frame_size(&s, 3, &at, &size) == KRBRELAY_EMPTY);
+    CHECK(krbrelay_sealer_set_mode(&s, KRBRELAY_SAFE) == KRBRELAY_EMPTY);
+    CHECK(krbrelay_opener_unseal(&o, priv_17, sizeof priv_17, 7, &at, text, sizeof text, &size)
+          == KRBRELAY_EMPTY);
+    CHECK(krbrelay_opener_unseal_in_place(&o, in_place, sizeof in_place, 7, &at, &size)
+          == KRBRELAY_EMPTY);
+    CHECK(krbrelay_opener_open(&o, priv_17, sizeof priv_17, &any, &at, text, sizeof text, &size,
+                               &carried) == KRBRELAY_EMPTY);
+    CHECK(krbrelay_receiver_take(&r, priv_17, sizeof priv_17, &at, &kind, text, sizeof text, &size)
+          == KRBRELAY_EMPTY);
+    CHECK(krbrelay_receiver_state(&r, &number, &kind) == KRBRELAY_EMPTY);
+    CHECK(size == 99 && number == 99 && kind == 99);
+    krbrelay_sealer_wipe(&s);
+    krbrelay_opener_wipe(&o);
+}
+
+/* The calls that take no handle. */
+static void others(void)
+{
+    char name[KRBRELAY_TEXT_SIZE];
+    struct krbrelay_moment now = KRBRELAY_INIT;
+    size_t size = 0;
+    for (uint32_t answer = 0; answer < 1000; answer++) {
+        enum krbrelay_answer found = krbrelay_answer_name(answer, name, sizeof name, &size);
+        CHECK(found == KRBRELAY_OK || found == KRBRELAY_ARGUMENT);
+        CHECK(krbrelay_answer_text(answer, name, sizeof name, &size) == found);
+        CHECK(krbrelay_strerror(answer) != NULL);
+    }
+    CHECK(krbrelay_answer_name(KRBRELAY_BADORDER, name, sizeof name, &size) == KRBRELAY_OK);
+    CHECK(strcmp(name, "BADORDER") == 0);
+    CHECK(krbrelay_frame_size(3) == KRBRELAY_FRAME_SIZE(3) && krbrelay_version() == KRBRELAY_VERSION);
+    CHECK(krbrelay_now(&now) == KRBRELAY_OK && now.seconds > SECS);
+    krbrelay_clear_stack();
+}
+
+int main(int argc, char **argv)
+{
+    int is_supported = argc > 1 && strcmp(argv[1], "supported") == 0;
+    for (int i = 0; i < 16; i++)
+        key[i] = (uint8_t)i;
+    CHECK(krbrelay_is_supported() == is_supported);
+    makers(is_supported ? KRBRELAY_OK : KRBRELAY_PROCESSOR);
+    if (is_supported)
+        messages();
+    empty_handles();
+    others();
+    return check_status(is_supported ? "processor, supported" : "processor, unsupported");
+}

@@ -1,0 +1,115 @@
+"""The proved code of the C library as assembly, as the kit's own compiler prints it.
+
+From the module that the kit's prover gives that compiler (kit_compiler.py) it writes assembly in
+place of an object, with the very words that it was given. On x86-64 unwind tables are asked for,
+which leave the code as it is; on aarch64 they would change it, and most functions keep a chain of
+frames anyway.
+"""
+import os
+import re
+import shutil
+import subprocess
+import tempfile
+
+from lib.build import building, kit_compiler, static_library
+
+CRATE = "krb_c"
+OWN = "x86_64"                     # what the kit builds for
+ARCHITECTURES = (OWN, "aarch64")
+
+
+class NotWritten(OSError):
+    """The kit's prover or its compiler failed."""
+
+
+def run(words, **how):
+    done = subprocess.run(words, check=False, stdin=subprocess.DEVNULL, stdout=subprocess.PIPE,
+                          stderr=subprocess.STDOUT, text=True, **how)
+    if done.returncode:
+        raise NotWritten(f"{words[0]} failed: {done.stdout[-2000:]}")
+
+
+def prove_and_keep(architecture, folder):
+    """Has the prover build the library for an architecture, over the libraries that are built. What
+    it gave the compiler is in `folder` then."""
+    words = static_library.words_for(CRATE, static_library.MOST_JOBS, kit_compiler.keeping(folder),
+                                     os.path.join(folder, f"lib{CRATE}.a"))
+    run([*words, "--target", f"{architecture}-unknown-linux-gnu", "--incremental",
+         os.path.join("out", "incremental")], cwd=building.folder_of(CRATE))
+
+
+def fetch(architecture, folder):
+    """Has module and words in `folder`: those that were kept when the library was proved, or what
+    the prover gives once more."""
+    if architecture == OWN and kit_compiler.is_kept(CRATE):
+        for name in (kit_compiler.MODULE, kit_compiler.WORDS):
+            shutil.copy(os.path.join(kit_compiler.place_of(CRATE), name), folder)
+        return
+    built_from = building.digest_of(CRATE)
+    prove_and_keep(architecture, folder)
+    if architecture == OWN:
+        kit_compiler.keep(CRATE, folder, built_from)
+
+
+def compiler_words(folder):
+    """The words that the compiler was given, but for its input, its output, and `-c`."""
+    with open(os.path.join(folder, kit_compiler.WORDS), encoding="utf-8") as file:
+        words = file.read().splitlines()
+    at = words.index("-o")
+    return [it for it in words[:at] + words[at + 2:]
+            if it != "-c" and not it.endswith((".bc", ".ll"))]
+
+
+def module_text(folder, architecture):
+    """The module as text."""
+    module, text = os.path.join(folder, kit_compiler.MODULE), os.path.join(folder, "module.ll")
+    run([kit_compiler.clang(), f"--target={architecture}-unknown-linux-gnu",
+         "-S", "-emit-llvm", "-Xclang", "-disable-llvm-passes", "-x", "ir", module, "-o", text])
+    return text
+
+
+def ask_for_tables(path):
+    """Has each function of a module get an unwind table."""
+    with open(path, encoding="utf-8") as file:
+        text = file.read()
+    text = re.sub(r"(?m)^(attributes #\d+ = .*)\bnounwind\b(.*\"target-cpu\")",
+                  r"\1nounwind uwtable\2", text)
+    with open(path, "w", encoding="utf-8") as file:
+        file.write(text)
+
+
+def plain_name(found):
+    """A name of letters, digits, _ and . alone, which older assemblers read too."""
+    if "::" not in found[1]:
+        return found[0]
+    return re.sub(r"[^\w.$]+", "_", found[1].replace("::", ".")).rstrip("_")
+
+
+def plain_lines(text, mark):
+    """The lines of assembly, without those that assemblers don't know, and with plain names.
+    Comments keep the functions' paths."""
+    for line in text.splitlines():
+        if re.match(r"\s*\.addrsig", line):
+            continue
+        if not re.match(r"\s*\.(ascii|asciz|string|ident|file)\b", line):
+            code, comment = re.match(rf'((?:"[^"]*"|(?!{mark})[^"])*)(.*)', line).groups()
+            line = re.sub(r'"([^"]*)"', plain_name, code) + comment
+        yield line
+
+
+def written(architecture):
+    """The assembly of the proved code for an architecture."""
+    with tempfile.TemporaryDirectory() as folder:
+        fetch(architecture, folder)
+        module = module_text(folder, architecture)
+        if architecture == OWN:
+            ask_for_tables(module)
+        path = os.path.join(folder, "proved.s")
+        run([kit_compiler.clang(), *compiler_words(folder), "-S", module, "-o",
+             path])
+        with open(path, encoding="utf-8") as file:
+            text = file.read()
+    mark = "#" if architecture == OWN else "//"
+    head = [f"{mark} The proved code of libkrbrelay for {architecture} Linux, as the Rattle kit's",
+            f"{mark} compiler prints what it compiles of the crate {CRATE} and those below it.", ""]
+    return "\n".join([*head, *plain_lines(text, mark), ""])

@@ -1,0 +1,73 @@
+"""The kit's C compiler, and what its prover gives it.
+
+The prover gives its compiler a module of LLVM's, and has it write an object. It takes a folder of
+tools: in one of links to the kit's, a compiler stands that keeps the module and the words that it
+was given, and then does what the kit's does. The kit stays as it is.
+"""
+import os
+import shutil
+
+from lib.build import building
+
+KEEPS = """\
+#!/bin/sh
+# The last call is the one that writes an object.
+for word in "$@"; do
+    case $word in *.bc|*.ll) cp "$word" {folder}/module && chmod 600 {folder}/module ;; esac
+done
+printf '%s\\n' "$@" > {folder}/words
+exec {clang} "$@"
+"""
+MODULE, WORDS = "module", "words"
+
+
+def toolchain():
+    """The kit's folder of tools."""
+    return os.path.join(os.path.dirname(os.path.dirname(building.prover())), "toolchain")
+
+
+def clang():
+    return os.path.join(toolchain(), "bin", "clang")
+
+
+def keeping(folder):
+    """A folder of tools as the kit's, whose compiler keeps module and words in `folder`."""
+    place = os.path.join(folder, "toolchain")
+    os.makedirs(os.path.join(place, "bin"))
+    os.symlink(os.path.join(toolchain(), "lib"), os.path.join(place, "lib"))
+    for name in os.listdir(os.path.join(toolchain(), "bin")):
+        if name != "clang":
+            os.symlink(os.path.join(toolchain(), "bin", name), os.path.join(place, "bin", name))
+    keeper = os.path.join(place, "bin", "clang")
+    with open(keeper, "w", encoding="utf-8") as file:
+        file.write(KEEPS.format(folder=folder, clang=clang()))
+    os.chmod(keeper, 0o755)
+    return place
+
+
+# ---- what was kept of a crate
+
+def place_of(crate):
+    return os.path.join(building.folder_of(crate), "out", "kept")
+
+
+def stamp_of(crate):
+    return os.path.join(place_of(crate), "built_from")
+
+
+def keep(crate, folder, built_from):
+    """Moves what was kept in a folder to its place, with the digest of what it was built from."""
+    shutil.rmtree(place_of(crate), ignore_errors=True)
+    os.makedirs(place_of(crate))
+    for name in (MODULE, WORDS):
+        shutil.copy(os.path.join(folder, name), place_of(crate))
+    with open(stamp_of(crate), "w", encoding="utf-8") as file:
+        file.write(built_from)
+
+
+def is_kept(crate):
+    """Whether what is kept was given for the present sources."""
+    if not os.path.exists(stamp_of(crate)):
+        return False
+    with open(stamp_of(crate), encoding="utf-8") as file:
+        return file.read() == building.digest_of(crate)
