@@ -1,24 +1,29 @@
 /* Which carrier it is. */
 #include "carrier.h"
+#include "log.h"
 
 #include <stdio.h>
 #include <string.h>
 
 struct carrier *carrier_open(const char *where, unsigned replicas)
 {
+    char kind[16];
     if (strncmp(where, "sqlite:", 7) == 0)
         return sqlite_carrier_open(where + 7);
     if (strncmp(where, "nats://", 7) == 0) {
 #ifdef WITH_NATS
         return nats_carrier_open(where, replicas);
 #else
-        fprintf(stderr, "this program was built without NATS: install libnats-dev, and run make\n");
+        log_fact(LEVEL_ERROR, "carrier_missing", field_text("text",
+                 "this program was built without NATS: install libnats-dev, and run make"));
         return NULL;
 #endif
     }
     (void)replicas;
-    fprintf(stderr, "%.*s is no carrier: name nats://HOST:PORT or sqlite:FILE\n",
-            (int)strcspn(where, ":"), where); /* what follows may be a password */
+    /* What follows the first ':' may be a password. */
+    snprintf(kind, sizeof kind, "%.*s", (int)strcspn(where, ":"), where);
+    log_fact(LEVEL_ERROR, "carrier_unknown", field_text("carrier", kind),
+             field_text("text", "this is no carrier: name nats://HOST:PORT or sqlite:FILE"));
     return NULL;
 }
 

@@ -1,5 +1,6 @@
 /* The connection to NATS, and what a stream is. */
 #include "clock.h"
+#include "log.h"
 #include "nats_carrier.h"
 
 #include <stdio.h>
@@ -15,9 +16,10 @@ enum {
     WHERE = 2048     /* the most bytes of their addresses */
 };
 
-int nats_report(struct nats_carrier *c, const char *what, natsStatus status)
+int nats_report(const char *what, natsStatus status)
 {
-    notice(&c->faults, "nats: %s: %s: tried again", what, natsStatus_GetText(status));
+    log_fact(LEVEL_WARNING, "nats_fault", field_text("of", what),
+             field_text("fault", natsStatus_GetText(status)), field_text("text", "tried again"));
     return CARRIER_FAULT;
 }
 
@@ -83,7 +85,8 @@ natsStatus nats_ask_stream(struct nats_carrier *c, unsigned shard, jsStreamInfo 
     fault = fault_of(c, (*info)->Config);
     if (fault == NULL)
         return NATS_OK;
-    notice(&c->refusals, "nats: %s: %s: change the stream, or give other options", name, fault);
+    log_fact(LEVEL_ERROR, "stream_unfit", field_text("stream", name), field_text("fault", fault),
+             field_text("text", "change the stream, or give other options"));
     return NATS_ERR;
 }
 
@@ -97,7 +100,7 @@ static int incarnation(struct carrier *base, unsigned shard, uint64_t *incarnati
     jsStreamInfo_Destroy(info);
     if (status == NATS_OK || status == NATS_NOT_FOUND)
         return 0;
-    return status == NATS_ERR ? CARRIER_FAULT : nats_report(c, "a stream", status);
+    return status == NATS_ERR ? CARRIER_FAULT : nats_report("a stream", status);
 }
 
 static int last(struct carrier *base, unsigned shard, const char *session, struct carried *last)
@@ -117,7 +120,7 @@ static int last(struct carrier *base, unsigned shard, const char *session, struc
     if (status == NATS_NOT_FOUND || code == JSStreamNotFoundErr)
         return 0;
     if (status != NATS_OK)
-        return nats_report(c, "the last frame of a session", status);
+        return nats_report("the last frame of a session", status);
     last->offset = natsMsg_GetSequence(c->last);
     snprintf(last->session, sizeof last->session, "%s", session);
     last->frame = (const uint8_t *)natsMsg_GetData(c->last);
@@ -204,12 +207,11 @@ static int count_of(const char *where)
 static void report_unopened(const char *where, natsStatus status)
 {
     int has_password = strchr(where, '@') != NULL;
-    if (has_password)
-        fprintf(stderr, "none of %d servers of --carrier answers", count_of(where));
-    else
-        fprintf(stderr, "no server answers at %s", where);
-    fprintf(stderr, " (%s): start nats-server with JetStream there (carrier/cluster starts three),"
-                    " or name another --carrier\n", natsStatus_GetText(status));
+    log_fact(LEVEL_ERROR, "carrier_unopened", field_number("servers", (uint64_t)count_of(where)),
+             field_text("carrier", has_password ? "" : where),
+             field_text("fault", natsStatus_GetText(status)),
+             field_text("text", "no server answers: start nats-server with JetStream there"
+                                " (carrier/cluster starts three), or name another --carrier"));
 }
 
 struct carrier *nats_carrier_open(const char *where, unsigned replicas)

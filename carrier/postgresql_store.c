@@ -7,6 +7,7 @@
  * sets of these holds; else what `timeouts` and `connect_to` say. After a fault the store is
  * opened again. */
 #include "effect.h"
+#include "log.h"
 #include "store.h"
 
 #include <libpq-fe.h>
@@ -32,7 +33,8 @@ struct postgresql_store {
 
 static int report(struct postgresql_store *s, const char *what)
 {
-    fprintf(stderr, "postgresql: %s: %s", what, PQerrorMessage(s->db));
+    log_fact(LEVEL_ERROR, "postgresql_fault", field_text("of", what),
+             field_text("text", PQerrorMessage(s->db)));
     return -1;
 }
 
@@ -217,7 +219,7 @@ static const char *prepared(struct postgresql_store *s, const char *sql, char na
     while (i < EFFECTS && s->effects[i] != NULL && s->effects[i] != sql)
         i++;
     if (i == EFFECTS) {
-        fprintf(stderr, "effects have more than %d statements\n", EFFECTS);
+        log_fact(LEVEL_ERROR, "effects_too_many", field_number("most", EFFECTS));
         return NULL;
     }
     snprintf(name, 32, "effect%u", i);

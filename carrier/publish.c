@@ -1,6 +1,7 @@
 /* Publishes the frames of the outbox until they are carried (progress.h). A session whose frame the
  * carrier won't have is stopped, one that fails waits for a moment, and the others go on. */
 #include "clock.h"
+#include "log.h"
 #include "sender.h"
 
 #include <stdio.h>
@@ -20,8 +21,10 @@ static int find_list(struct sender *s, struct sending *it)
     if (it->kept.incarnation == list && !is_other)
         return 1;
     if (it->kept.incarnation != 0 || is_other) {
-        fprintf(stderr, "session %s: its shard is another list than before: what isn't carried is"
-                        " published there\n", it->of->name);
+        log_fact(LEVEL_WARNING, "session_elsewhere", field_text("session", it->of->name),
+                 field_number("shard", it->of->shard),
+                 field_text("text", "its shard is another list than before: what isn't carried is"
+                                    " published there"));
         it->progress.at = 0;
         it->progress.sent = it->progress.carried;
         it->kept.carried = UINT64_MAX; /* so that it is stored */
@@ -87,7 +90,8 @@ static void publish_one(struct sender *s, size_t place)
         return;
     s->again += progress_rewind(&it->progress, now, patience);
     if (it->progress.sent < it->progress.next && publish(s, place) != 0)
-        notice(&s->faults, "session %s: its frames aren't published: tried again", it->of->name);
+        log_fact(LEVEL_WARNING, "session_unpublished", field_text("session", it->of->name),
+                 field_number("shard", it->of->shard), field_text("text", "tried again"));
 }
 
 /* Which list each shard is, of those that have frames. */

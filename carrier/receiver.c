@@ -5,6 +5,7 @@
  * again until it is there. It may be killed at any time: start it again. */
 #include "clock.h"
 #include "ending.h"
+#include "log.h"
 #include "service.h"
 #include "shard.h"
 #include "words.h"
@@ -60,26 +61,33 @@ static unsigned read_count(const unsigned *count)
     return __atomic_load_n(count, __ATOMIC_SEQ_CST);
 }
 
-static double seconds_since(uint64_t began)
-{
-    return (double)(nanoseconds() - began) / 1e9;
-}
-
 /* The store is away: waits for longer each time. */
 static void wait_for_store(const struct shard *shard, unsigned *pause)
 {
     unsigned waited;
-    fprintf(stderr, "shard %u: the store is away: it is opened again in %u ms, and the shard goes"
-                    " on where it was\n", shard->number, *pause);
+    log_fact(LEVEL_WARNING, "store_away", field_number("shard", shard->number),
+             field_number("milliseconds", *pause),
+             field_text("text", "it is opened again then, and the shard goes on where it was"));
     for (waited = 0; waited < *pause && !is_ending(); waited += WAIT)
         pause_milliseconds(WAIT);
     *pause = 2 * *pause < LONGEST ? 2 * *pause : LONGEST;
+}
+
+/* Each second: shows what was counted, and logs it if something was since. */
+static void report(struct shard *shard, unsigned part, uint64_t began, struct shard_counts *before)
+{
+    shard_show(shard, part);
+    if (shard->counts.frames == before->frames)
+        return;
+    shard_report(shard, "shard_progress", nanoseconds() - began);
+    *before = shard->counts;
 }
 
 /* What waits for the first frame isn't counted in the seconds. */
 static void serve(struct shard *shard, unsigned part)
 {
     uint64_t began = nanoseconds(), reported = began;
+    struct shard_counts before = { 0 };
     unsigned pause = SHORTEST;
     while (!is_ending() && !(options.until_closed && shard->is_loaded && shard->open == 0)) {
         int count = shard_step(shard, WAIT);
@@ -90,12 +98,11 @@ static void serve(struct shard *shard, unsigned part)
         if (shard->counts.accepted == 0 && count == 0)
             began = nanoseconds();
         if (nanoseconds() - reported > SECOND) {
-            shard_report(shard, seconds_since(began));
-            shard_show(shard, part);
+            report(shard, part, began, &before);
             reported = nanoseconds();
         }
     }
-    shard_report(shard, seconds_since(began));
+    shard_report(shard, "shard_ended", nanoseconds() - began);
 }
 
 /* A thread's shard, and its place among all. */
@@ -127,7 +134,7 @@ static int start_thread(struct thread *it, unsigned part, unsigned number,
     it->shard.number = number;
     if (pthread_create(&it->thread, NULL, work, it) == 0)
         return 1;
-    perror("a thread");
+    log_system("thread_unstarted", "receiver");
     __atomic_store_n(&failed, 1, __ATOMIC_SEQ_CST);
     end_now();
     return 0;
@@ -159,7 +166,7 @@ static void work_all(const struct session *sessions, size_t count)
     unsigned number, i, started = 0;
     if (threads == NULL || service_begin(shard_metrics, shard_metrics_count, &shard_stands_metric,
                                          options.shard_count) != 0) {
-        perror("receiver");
+        log_system("out_of_memory", "receiver");
         failed = 1;
     } else if (options.metrics != NULL && service_listen(options.metrics) != 0) {
         failed = 1;
@@ -170,7 +177,7 @@ static void work_all(const struct session *sessions, size_t count)
     tell_all(started);
     for (i = 0; i < started; i++)
         if (pthread_join(threads[i].thread, NULL) != 0)
-            perror("a thread");
+            log_system("thread_unjoined", "receiver");
     service_end();
     free(threads);
 }
@@ -245,5 +252,6 @@ int main(int count, char **words)
         return 1;
     work_all(sessions, session_count);
     forget_sessions(sessions, session_count);
+    log_end();
     return failed;
 }

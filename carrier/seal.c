@@ -35,7 +35,7 @@ static enum seal_answer judge(struct sending *it, enum krbrelay_answer answer)
     char text[KRBRELAY_TEXT_SIZE];
     if (answer == KRBRELAY_OK)
         return SEAL_OK;
-    report_answer("not sealed", it->of->name, it->sealed, answer);
+    report_answer("text_unsealed", it->of->name, it->sealed, answer);
     answer_text(answer, text);
     return answer == KRBRELAY_MEMORY ? SEAL_FAULT : stop(it, it->begin, text);
 }

@@ -7,6 +7,7 @@
 #include "sender.h"
 #include "clock.h"
 #include "ending.h"
+#include "log.h"
 #include "service.h"
 #include "words.h"
 
@@ -46,7 +47,8 @@ static const char usage[] =
 
 int sender_tell_stopped(struct sender *s, const char *session, const char *reason)
 {
-    fprintf(stderr, "session %s is stopped: %s\n", session, reason);
+    log_fact(LEVEL_ERROR, "session_stopped", field_text("session", session),
+             field_text("text", reason));
     s->stopped++;
     return outbox_add_stopped(&s->outbox, session, reason);
 }
@@ -200,9 +202,9 @@ static void report_silence(struct sender *s, size_t rose)
         s->rose = nanoseconds();
     if (nanoseconds() - s->rose < SILENCE)
         return;
-    fprintf(stderr, "none of %zu frames was confirmed for %llu s: are most nodes of the carrier up?"
-                    " They are published again until they are\n", backlog,
-            (unsigned long long)(SILENCE / SECOND));
+    log_fact(LEVEL_WARNING, "nothing_confirmed", field_number("frames", backlog),
+             field_number("seconds", SILENCE / SECOND),
+             field_text("text", "are most nodes of the carrier up? They are published again"));
     s->rose = nanoseconds();
 }
 
@@ -302,7 +304,7 @@ static int make_memory(struct sender *s)
     if (s->sendings == NULL || s->sealing.frame == NULL || s->bytes == NULL || !make_lanes(s)
         || !make_list(&s->touched, s->count) || !make_list(&s->active, s->count)
         || !make_list(&s->wanted, s->count)) {
-        perror("sender");
+        log_system("out_of_memory", "sender");
         return -1;
     }
     return 0;
@@ -352,13 +354,16 @@ static int work(struct sender *s)
 {
     uint64_t began = nanoseconds();
     enum outbox_answer answer = start(s) == 0 ? serve(s) : OUTBOX_FAULT;
-    printf("sender: %lu frames sealed, %lu published, %lu of them again; %.2f s, sealing %.2f,"
-           " storing %.2f, carrier %.2f\n", s->sealing.frames, s->published, s->again,
-           (double)(nanoseconds() - began) / 1e9, (double)s->sealing.nanoseconds / 1e9,
-           (double)s->storing / 1e9, (double)s->carrying / 1e9);
+    log_fact(LEVEL_INFO, "sender_ended", field_number("frames", s->sealing.frames),
+             field_number("published", s->published), field_number("again", s->again),
+             field_seconds("seconds", nanoseconds() - began),
+             field_seconds("sealing", s->sealing.nanoseconds),
+             field_seconds("outbox", s->storing), field_seconds("carrier", s->carrying));
     if (answer == OUTBOX_TAKEN)
-        fprintf(stderr, "another sender has taken %s over: this one ends\n", s->options.outbox);
+        log_fact(LEVEL_ERROR, "outbox_taken", field_text("file", s->options.outbox),
+                 field_text("text", "another sender has taken it over: this one ends"));
     stop(s);
+    log_end();
     if (answer < 0)
         return answer == OUTBOX_TAKEN ? 3 : !is_ending();
     return s->options.drain && !is_ending() && s->stopped > 0 ? 4 : 0;

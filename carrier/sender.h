@@ -7,7 +7,6 @@
 #ifndef SENDER_H
 #define SENDER_H
 
-#include "notice.h"
 #include "seal.h"
 
 enum {
@@ -55,10 +54,9 @@ struct sender {
     uint64_t storing, carrying; /* nanoseconds */
     uint64_t rose;              /* when a frame was carried last, or there was none to be carried */
     uint64_t looked;            /* when it was looked whether the outbox is this process's */
-    struct notice faults;
 };
 
-/* Tells in the outbox and on standard error that a session is stopped. In a transaction. */
+/* Tells in the outbox and in the log that a session is stopped. In a transaction. */
 int sender_tell_stopped(struct sender *s, const char *session, const char *reason);
 
 /* The same in a transaction of its own. */

@@ -1,6 +1,7 @@
 #include "service.h"
 #include "carrier.h"
 #include "clock.h"
+#include "log.h"
 
 #include <math.h>
 #include <pthread.h>
@@ -92,7 +93,7 @@ static void tell(const char *state)
 {
 #ifdef WITH_SYSTEMD
     if (sd_notify(0, state) < 0)
-        fprintf(stderr, "systemd isn't reached: %s\n", state);
+        log_fact(LEVEL_WARNING, "supervisor_unreached", field_text("told", state));
 #else
     (void)state;
 #endif
@@ -249,8 +250,8 @@ int service_listen(const char *where)
     }
     if (service.server != NULL)
         return 0;
-    fprintf(stderr, "--metrics %s: name ADDRESS:PORT at which nothing listens, such as"
-                    " 127.0.0.1:9464\n", where);
+    log_fact(LEVEL_ERROR, "metrics_unopened", field_text("metrics", where), field_text("text",
+             "name ADDRESS:PORT at which nothing listens, such as 127.0.0.1:9464"));
     return -1;
 }
 
@@ -263,9 +264,8 @@ void service_end(void)
 #else
 int service_listen(const char *where)
 {
-    (void)where;
-    fprintf(stderr, "this program was built without --metrics: install libmicrohttpd-dev, and run"
-                    " make\n");
+    log_fact(LEVEL_ERROR, "metrics_missing", field_text("metrics", where), field_text("text",
+             "this program was built without --metrics: install libmicrohttpd-dev, and run make"));
     return -1;
 }
 

@@ -1,4 +1,5 @@
 #include "sessions.h"
+#include "log.h"
 #include "words.h"
 
 #include <arpa/inet.h>
@@ -119,12 +120,14 @@ static int read_lines(FILE *file, const char *path, struct list *list)
         if (is_fine)
             list->at[list->count - 1].line = list->count;
         if (!is_fine)
-            fprintf(stderr, "%s: line %zu isn't NAME SHARD ETYPE MODE KEY FIRST FROM TO\n", path,
-                    list->count);
+            log_fact(LEVEL_ERROR, "session_malformed", field_text("file", path),
+                     field_number("line", list->count),
+                     field_text("text", "a line is NAME SHARD ETYPE MODE KEY FIRST FROM TO"));
     }
     explicit_bzero(line, sizeof line);
     if (is_fine && list->count == 0)
-        fprintf(stderr, "%s has no sessions: give each a line\n", path);
+        log_fact(LEVEL_ERROR, "sessions_missing", field_text("file", path),
+                 field_text("text", "give each session a line"));
     return is_fine && list->count > 0;
 }
 
@@ -153,8 +156,10 @@ static int differ(struct session **sorted, size_t count, const char *path, const
         size_t one = sorted[i - 1]->line, other = sorted[i]->line;
         if (order(&sorted[i - 1], &sorted[i]) != 0)
             continue;
-        fprintf(stderr, "%s: line %zu has the %s of line %zu: give each session its own\n", path,
-                one > other ? one : other, what, one > other ? other : one);
+        log_fact(LEVEL_ERROR, "session_repeated", field_text("file", path),
+                 field_number("line", one > other ? one : other),
+                 field_number("before", one > other ? other : one), field_text("same", what),
+                 field_text("text", "give each session a name and a key of its own"));
         return 0;
     }
     return 1;
@@ -187,12 +192,13 @@ static int is_private(FILE *file, const char *path)
 {
     struct stat is;
     if (fstat(fileno(file), &is) != 0) {
-        perror(path);
+        log_system("sessions_unread", path);
         return 0;
     }
     if ((is.st_mode & OTHERS) == 0)
         return 1;
-    fprintf(stderr, "%s has keys, and others may use it: chmod 600 %s\n", path, path);
+    log_fact(LEVEL_ERROR, "sessions_not_private", field_text("file", path),
+             field_text("text", "it has keys, and others may use it: chmod 600"));
     return 0;
 }
 
@@ -203,7 +209,7 @@ struct session *read_sessions(const char *path, size_t *count)
     FILE *file = fopen(path, "r");
     int is_fine;
     if (file == NULL) {
-        perror(path);
+        log_system("sessions_unread", path);
         return NULL;
     }
     is_fine = setvbuf(file, buffer, _IOFBF, sizeof buffer) == 0 && is_private(file, path)
@@ -248,10 +254,11 @@ void answer_text(enum krbrelay_answer answer, char text[KRBRELAY_TEXT_SIZE])
         text[0] = 0;
 }
 
-void report_answer(const char *what, const char *name, uint64_t number, enum krbrelay_answer answer)
+void report_answer(const char *event, const char *name, uint64_t number,
+                   enum krbrelay_answer answer)
 {
     char text[KRBRELAY_TEXT_SIZE];
     answer_text(answer, text);
-    fprintf(stderr, "session %s, number %llu: %s: %d: %s\n", name, (unsigned long long)number, what,
-            (int)answer, text);
+    log_fact(LEVEL_ERROR, event, field_text("session", name), field_number("number", number),
+             field_number("answer", (uint64_t)answer), field_text("text", text));
 }

@@ -36,8 +36,8 @@ size_t find_session(const struct session *sessions, size_t count, const char *na
 /* Overwrites their keys and frees them. */
 void forget_sessions(struct session *sessions, size_t count);
 
-/* Reports on standard error what a call of libkrbrelay answered. */
-void report_answer(const char *what, const char *name, uint64_t number,
+/* Logs what a call of libkrbrelay answered. */
+void report_answer(const char *event, const char *name, uint64_t number,
                    enum krbrelay_answer answer);
 
 /* What an answer says. */

@@ -1,6 +1,7 @@
 #include "shard.h"
 #include "clock.h"
 #include "effect.h"
+#include "log.h"
 
 #include <stdio.h>
 #include <stdlib.h>
@@ -44,10 +45,10 @@ static void take_early(struct shard *s, size_t place, const struct carried *it, 
                        uint64_t demanded)
 {
     s->counts.early++;
-    notice(&s->notices.early, "session %s: frame %llu at offset %llu of shard %u comes early,"
-                              " %llu is demanded: it has to come again", it->session,
-           (unsigned long long)number, (unsigned long long)it->offset, s->number,
-           (unsigned long long)demanded);
+    log_fact(LEVEL_WARNING, "frame_early", field_text("session", it->session),
+             field_number("shard", s->number), field_number("offset", it->offset),
+             field_number("number", number), field_number("demanded", demanded),
+             field_text("text", "it has to come again after the demanded one"));
     miss(s, place, MISSED_EARLY);
 }
 
@@ -58,13 +59,14 @@ static void take_refused(struct shard *s, size_t place, const struct carried *it
     char text[KRBRELAY_TEXT_SIZE];
     s->counts.refused++;
     answer_text(answer, text);
-    notice(&s->notices.refused, "session %s: a frame at offset %llu of shard %u is refused and"
-                                " passed by: %d: %s", it->session, (unsigned long long)it->offset,
-           s->number, (int)answer, text);
+    log_fact(LEVEL_WARNING, "frame_refused", field_text("session", it->session),
+             field_number("shard", s->number), field_number("offset", it->offset),
+             field_number("answer", (uint64_t)answer), field_text("text", text));
     if (answer == KRBRELAY_SKEW)
-        notice(&s->notices.skew, "session %s stands still until a frame comes in time: are the"
-                                 " clocks right, and is --skew above the time that the carrier"
-                                 " keeps frames?", it->session);
+        log_fact(LEVEL_WARNING, "session_stands", field_text("session", it->session),
+                 field_number("shard", s->number),
+                 field_text("text", "until a frame comes in time: are the clocks right, and is"
+                                    " --skew above the time that the carrier keeps frames?"));
     if (!is_nobodys)
         miss(s, place, MISSED_REFUSED);
 }
@@ -76,7 +78,7 @@ static int take_refusal(struct shard *s, size_t place, const struct carried *it,
     uint64_t number = 0;
     int is_open;
     if (answer >= KRBRELAY_MEMORY || answer < KRBRELAY_ETYPE_NOSUPP) {
-        report_answer("not opened", it->session, demanded, answer);
+        report_answer("frame_unopened", it->session, demanded, answer);
         return -1;
     }
     is_open = answer != KRBRELAY_AFTER_CLOSE && look(s, place, it, &number) == 0;
@@ -94,14 +96,15 @@ static int take_unknown(struct shard *s, size_t place, const struct carried *it)
 {
     s->counts.refused++;
     if (place < s->count) {
-        notice(&s->notices.unknown, "session %s: a frame at offset %llu of shard %u is passed by:"
-                                    " it belongs to shard %u", it->session,
-               (unsigned long long)it->offset, s->number, s->sessions[place].shard);
+        log_fact(LEVEL_WARNING, "frame_misplaced", field_text("session", it->session),
+                 field_number("shard", s->number), field_number("offset", it->offset),
+                 field_number("belongs", s->sessions[place].shard),
+                 field_text("text", "its session belongs to another shard: it is passed by"));
         return 0;
     }
-    notice(&s->notices.unknown, "session %.31s has no line here: its frame at offset %llu of shard"
-                                " %u is read again once it has one", it->session,
-           (unsigned long long)it->offset, s->number);
+    log_fact(LEVEL_WARNING, "session_unknown", field_text("session", it->session),
+             field_number("shard", s->number), field_number("offset", it->offset),
+             field_text("text", "it has no line here: its frame is read again once it has one"));
     return store_miss(s->store, it->session);
 }
 
@@ -154,7 +157,7 @@ static int make_receiver(struct shard *s, size_t place)
                                    it->stored.next, it->stored.closed);
     it->is_made = answer == KRBRELAY_OK;
     if (!it->is_made)
-        report_answer("no receiver", of->name, it->stored.next, answer);
+        report_answer("receiver_unmade", of->name, it->stored.next, answer);
     return it->is_made ? 0 : -1;
 }
 
@@ -319,7 +322,8 @@ static int load_stored(struct shard *s)
 static void begin_anew(struct shard *s)
 {
     size_t i;
-    fprintf(stderr, "shard %u was made anew: it is read from its beginning\n", s->number);
+    log_fact(LEVEL_WARNING, "shard_made_anew", field_number("shard", s->number),
+             field_text("text", "it is read from its beginning"));
     s->now.offset = 0;
     for (i = 0; i < s->count; i++) {
         struct demand *now = &s->receivings[i].now;
@@ -385,6 +389,7 @@ int shard_step(struct shard *s, int milliseconds)
     if (count <= 0)
         return 0;
     s->counts.fetching += nanoseconds() - began;
+    s->counts.frames += (unsigned long)count;
     answer = take_all(s, count);
     if (answer == 0)
         return count;

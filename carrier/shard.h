@@ -26,7 +26,6 @@
 #define SHARD_H
 
 #include "carrier.h"
-#include "notice.h"
 #include "service.h"
 #include "sessions.h"
 #include "store.h"
@@ -53,12 +52,10 @@ struct receiving {
 };
 
 struct shard_counts {
-    unsigned long texts, accepted, repeats, early, refused, fenced, commits, back;
+    unsigned long frames, texts, accepted, repeats, early, refused, fenced, commits, back;
     unsigned long long bytes;
     uint64_t opening, fetching, storing; /* nanoseconds */
 };
-
-struct shard_notices { struct notice early, skew, refused, unknown, back; };
 
 struct shard {
     const struct shard_options *options;
@@ -76,7 +73,6 @@ struct shard {
     size_t open;                   /* so many sessions aren't closed */
     uint8_t *bytes;                /* of one record */
     struct shard_counts counts;
-    struct shard_notices notices;
 };
 
 /* Opens store and carrier. 0, or -1 after a fault. */
@@ -88,12 +84,14 @@ int shard_step(struct shard *shard, int milliseconds);
 
 void shard_stop(struct shard *shard);
 
-/* ---- shard_report.c: prints what was counted; shows it as a part of service.h. */
+/* ---- shard_report.c: logs what was counted; shows it as a part of service.h. */
 
 extern const struct metric shard_metrics[], shard_stands_metric;
 extern const unsigned shard_metrics_count;
 
-void shard_report(const struct shard *shard, double seconds);
+
+/* Work took so many nanoseconds so far. */
+void shard_report(const struct shard *shard, const char *event, uint64_t took);
 void shard_show(struct shard *shard, unsigned part);
 
 /* ---- shard_back.c: how a shard is read again. */

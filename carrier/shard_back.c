@@ -1,4 +1,5 @@
 #include "clock.h"
+#include "log.h"
 #include "shard.h"
 
 #include <stdio.h>
@@ -75,10 +76,10 @@ void shard_go_back(struct shard *s, int all_at_once)
         count++;
     }
     if (start < s->now.offset) {
-        notice(&s->notices.back, "shard %u is read again from offset %llu on, of %llu, since %zu"
-                                 " sessions stand still, such as %s", s->number,
-               (unsigned long long)start, (unsigned long long)s->now.offset, count,
-               s->sessions[s->standing[0]].name);
+        log_fact(LEVEL_WARNING, "shard_read_again", field_number("shard", s->number),
+                 field_number("from", start), field_number("offset", s->now.offset),
+                 field_number("standing", count),
+                 field_text("session", s->sessions[s->standing[0]].name));
         s->counts.back++;
         s->now.offset = start;
     }

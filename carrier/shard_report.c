@@ -1,4 +1,5 @@
 /* What was counted of a shard, for its log and for who looks at the metrics. */
+#include "log.h"
 #include "service.h"
 #include "shard.h"
 
@@ -32,15 +33,16 @@ const struct metric shard_stands_metric = {
     NAME "session_stands", "gauge", "Sessions that stand still, some of them by name", NULL
 };
 
-void shard_report(const struct shard *s, double seconds)
+void shard_report(const struct shard *s, const char *event, uint64_t took)
 {
     const struct shard_counts *c = &s->counts;
-    printf("shard %u: %lu texts of %lu frames; repeats %lu, early %lu, refused %lu; %lu commits,"
-           " %lu fenced, %lu times back; %llu bytes in %.3f s: opening %.3f, carrier %.3f, store"
-           " %.3f\n", s->number, c->texts, c->accepted, c->repeats, c->early, c->refused,
-           c->commits, c->fenced, c->back, c->bytes, seconds, (double)c->opening / 1e9,
-           (double)c->fetching / 1e9, (double)c->storing / 1e9);
-    fflush(stdout);
+    log_numbers(event, field_number("shard", s->number), field_number("texts", c->texts),
+                field_number("frames", c->accepted), field_number("repeats", c->repeats),
+                field_number("early", c->early), field_number("refused", c->refused),
+                field_number("commits", c->commits), field_number("fenced", c->fenced),
+                field_number("again", c->back), field_number("bytes", c->bytes),
+                field_seconds("seconds", took), field_seconds("opening", c->opening),
+                field_seconds("carrier", c->fetching), field_seconds("store", c->storing));
 }
 
 static void name_standing(struct shard *s, unsigned part)

@@ -1,6 +1,7 @@
 /* A store of one SQLite file, or of one for each shard: for receivers on one machine. */
 #include "database.h"
 #include "effect.h"
+#include "log.h"
 #include "store.h"
 
 #include <stdio.h>
@@ -189,7 +190,7 @@ static sqlite3_stmt *prepared(struct sqlite_store *s, const char *sql)
     while (i < EFFECTS && s->effects[i] != NULL && s->effects[i] != sql)
         i++;
     if (i == EFFECTS) {
-        fprintf(stderr, "effects have more than %d statements\n", EFFECTS);
+        log_fact(LEVEL_ERROR, "effects_too_many", field_number("most", EFFECTS));
         return NULL;
     }
     if (s->effects[i] == NULL && (s->prepared[i] = prepare(s->db, sql)) != NULL)
@@ -244,7 +245,7 @@ static const char *path_of_shard(const char *path, unsigned shard, char *name, s
                            : snprintf(name, room, "%.*s%u%s", before, path, shard, mark + 1);
     if (len >= 0 && (size_t)len < room)
         return name;
-    fprintf(stderr, "%s: this name is too long\n", path);
+    log_fact(LEVEL_ERROR, "store_name_too_long", field_text("file", path));
     return NULL;
 }
 

@@ -1,24 +1,28 @@
 /* Which store it is. */
 #include "store.h"
+#include "log.h"
 
 #include <stdio.h>
 #include <string.h>
 
 struct store *store_open(const char *where, unsigned shard)
 {
+    char kind[16];
     if (strncmp(where, "sqlite:", 7) == 0)
         return sqlite_store_open(where + 7, shard);
     if (strncmp(where, "postgresql:", 11) == 0) {
 #ifdef WITH_POSTGRESQL
         return postgresql_store_open(where);
 #else
-        fprintf(stderr, "this program was built without PostgreSQL: install libpq-dev, and run"
-                        " make\n");
+        log_fact(LEVEL_ERROR, "store_missing", field_text("text",
+                 "this program was built without PostgreSQL: install libpq-dev, and run make"));
         return NULL;
 #endif
     }
-    fprintf(stderr, "%.*s is no store: name sqlite:FILE or postgresql://USER@HOST/DATABASE\n",
-            (int)strcspn(where, ":"), where); /* what follows may be a password */
+    /* What follows the first ':' may be a password. */
+    snprintf(kind, sizeof kind, "%.*s", (int)strcspn(where, ":"), where);
+    log_fact(LEVEL_ERROR, "store_unknown", field_text("store", kind), field_text("text",
+             "this is no store: name sqlite:FILE or postgresql://USER@HOST/DATABASE"));
     return NULL;
 }
 

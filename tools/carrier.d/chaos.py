@@ -26,6 +26,7 @@ import threading
 import time
 
 import engines
+import loglines
 from lib import jobs, printed
 
 FAULTS = 5          # of 1,000 frames: what the carrier without a server loses and repeats
@@ -480,19 +481,18 @@ class Trial:
 
     def tally(self):
         """The sums of what all processes reported last."""
-        for path in glob.glob(f"{self.folder}/receiver-*.log"):
+        for path in glob.glob(f"{self.folder}/*er-*.log"):
             with open(path, encoding="utf-8", errors="replace") as file:
-                last = {line.split()[1]: line for line in file if line.startswith("shard ")
-                        and "commits" in line}
+                text = file.read()
+            self.faults += loglines.faults(text)
+            lines = loglines.read(text)
+            last = {line["shard"]: line for line in lines
+                    if line.get("event") in ("shard_progress", "shard_ended")}
             for line in last.values():
-                for word in ("repeats", "early", "refused"):
-                    self.counts[word] += int(re.search(rf"{word} (\d+)", line)[1])
-                self.counts["fenced"] += int(re.search(r"(\d+) fenced", line)[1])
-                self.counts["commits"] += int(re.search(r"(\d+) commits", line)[1])
-        for path in glob.glob(f"{self.folder}/sender-*.log"):
-            with open(path, encoding="utf-8", errors="replace") as file:
-                for found in re.findall(r"(\d+) of them again", file.read()):
-                    self.counts["published again, by senders that ended"] += int(found)
+                for word in ("repeats", "early", "refused", "fenced", "commits"):
+                    self.counts[word] += int(line[word])
+            self.counts["published again, by senders that ended"] += sum(
+                int(line["again"]) for line in lines if line.get("event") == "sender_ended")
 
     def told(self):
         return ", ".join(f"{word} {count}" for word, count in sorted(self.counts.items()))

@@ -21,6 +21,7 @@ import urllib.request
 import engines
 import errors
 import jetstream
+import loglines
 
 DAYS = 86400            # seconds
 TOO_LONG = 1_000_001    # bytes of a text
@@ -101,6 +102,13 @@ class Place(errors.Ends):
             process.wait()
         if self.nats:
             self.nats.stop()
+
+    def check_logs(self):
+        """Each line of each program has its form, and none comes too often. What is wrong with the
+        options is said in words, with status 2."""
+        for process in self.running:
+            if process.returncode != 2 and not {"--help", "--version"} & set(process.args):
+                self.faults += loglines.faults(self.log(process))
 
     # ---- outbox, carrier and store
 
@@ -324,9 +332,8 @@ def stale_repeats(place):
     file.close()
     _, told = place.run("receiver", "--skew", "600", seconds=2)
     place.await_delivered()
-    lines = sum("stands still" in line for line in told.splitlines())
-    place.require(lines == 0, f"{lines} lines say that the session stands still")
-    place.require("repeats 1000" in told, "they aren't counted as repeats")
+    place.require(not loglines.find(told, "session_stands"), "a line says that the session stands")
+    place.require(loglines.has(told, "shard_ended", repeats=1000), "they aren't counted as repeats")
 
 
 def two_reads(place):
@@ -452,7 +459,7 @@ def gap(place):
     place.run("sender", "--drain")
     jetstream.request(place.nats.ports[0], "STREAM.PURGE.KRB_0", seq=151)
     _, told = place.run("receiver", seconds=2)
-    place.require("150 frames before offset 151 are gone" in told, told[:200])
+    place.require(loglines.has(told, "frames_gone", frames=150, offset=151), told[:200])
     place.await_delivered()
 
 
@@ -485,7 +492,8 @@ def use_old_outbox(place, name):
     place.put(texts("ann", 300, 320) + texts("tom", 0, 10), outbox)
     status, told = place.run("sender", "--drain", outbox=outbox, seconds=5)
     place.require(status == 4, f"sender --drain: status {status}")
-    place.require("older than what has left" in told, told[-200:])
+    place.require(loglines.has(told, "session_stopped", "older than what has left",
+                               session="ann"), told[-200:])
     place.start("receiver")
     place.await_delivered()
     waiting = place.ask(name, "SELECT count(*) FROM text")
@@ -501,7 +509,8 @@ def stream_full(place):
     sender = place.start("sender")
     place.start("receiver")
     place.await_delivered()
-    place.require("maximum bytes exceeded" in place.log(sender), place.log(sender)[:200])
+    place.require(loglines.has(place.log(sender), "stream_takes_nothing", "maximum bytes exceeded"),
+                  place.log(sender)[:200])
 
 
 def max_payload(place):
@@ -511,9 +520,8 @@ def max_payload(place):
     sender = place.start("sender")
     place.start("receiver")
     place.await_delivered()
-    lines = place.log(sender).splitlines()
-    place.require(len(lines) < 30, f"{len(lines)} lines of log")
-    place.require(any("ann" in line and "Maximum Payload" in line for line in lines), lines[:2])
+    told = place.log(sender)
+    place.require(loglines.has(told, "session_stopped", "Maximum Payload", session="ann"), told[:300])
     require_stopped(place, "ann", "Maximum Payload")
 
 
@@ -526,7 +534,7 @@ def receiver_first(place):
     place.put([])
     place.put(texts("ann", 0, 10))
     status, told = place.run("sender", "--drain", "--replicas", "3", seconds=3)
-    place.require(status is None and "1 replica" in told, f"status {status}: {told[:200]}")
+    place.require(status is None and loglines.has(told, "stream_unfit", "1 replica"), f"status {status}: {told[:200]}")
     place.run("sender", "--drain")
     place.start("receiver")
     place.await_delivered()
@@ -633,21 +641,23 @@ def numbers_of_words(place):
 def bad_sessions(place):
     """Files of sessions that are refused, with the line and the reason."""
     files = {
-        "the same name": ([ANN, ANN.replace("11" * 16, "33" * 16)], "line 2"),
-        "the same key": ([ANN, ABE.replace("44" * 16, "11" * 16)], "line 2"),
-        "a shard of -1": ([ANN.replace("ann 0", "ann -1")], "line 1"),
-        "a shard of 5000": ([ANN.replace("ann 0", "ann 5000")], "line 1"),
-        "a key with a sign": ([ANN.replace("11" * 16, "+1" * 16)], "line 1"),
-        "a first number of -1": ([ANN.replace(" 1 10", " -1 10")], "line 1"),
-        "a first number of 2^32": ([ANN.replace(" 1 10", f" {LAST + 1} 10")], "line 1"),
-        "a word more": ([ANN.replace("\n", " more\n")], "line 1"),
-        "a long line": ([ANN.replace("\n", " " * 300 + "\n")], "line 1"),
+        "the same name": ([ANN, ANN.replace("11" * 16, "33" * 16)], "session_repeated", 2),
+        "the same key": ([ANN, ABE.replace("44" * 16, "11" * 16)], "session_repeated", 2),
+        "a shard of -1": ([ANN.replace("ann 0", "ann -1")], "session_malformed", 1),
+        "a shard of 5000": ([ANN.replace("ann 0", "ann 5000")], "session_malformed", 1),
+        "a key with a sign": ([ANN.replace("11" * 16, "+1" * 16)], "session_malformed", 1),
+        "a first number of -1": ([ANN.replace(" 1 10", " -1 10")], "session_malformed", 1),
+        "a first number of 2^32": ([ANN.replace(" 1 10", f" {LAST + 1} 10")],
+                                   "session_malformed", 1),
+        "a word more": ([ANN.replace("\n", " more\n")], "session_malformed", 1),
+        "a long line": ([ANN.replace("\n", " " * 300 + "\n")], "session_malformed", 1),
     }
-    for what, (lines, word) in files.items():
+    for what, (lines, event, line) in files.items():
         place.write(place.sessions, lines)
         for program in ("sender", "receiver"):
             status, told = place.run(program, seconds=2)
-            place.require(status == 1 and word in told, f"{what}, {program}: status {status}")
+            place.require(status == 1 and loglines.has(told, event, line=line),
+                          f"{what}, {program}: status {status}")
 
 
 def permissions(place):
@@ -662,7 +672,7 @@ def permissions(place):
     for mode in (0o640, 0o604):
         os.chmod(place.sessions, mode)
         status, told = place.run("sender", "--drain", seconds=2)
-        place.require(status == 1 and "chmod 600" in told, f"mode {mode:o}: status {status}")
+        place.require(status == 1 and loglines.has(told, "sessions_not_private"), f"mode {mode:o}: status {status}")
 
 
 # ---- what an operator sees
@@ -706,7 +716,7 @@ def metrics(place):
         place.require(get(port, "/healthz")[0] == 200, f"/healthz: {get(port, '/healthz')}")
         place.require(get(port, "/other")[0] == 404, "/other is there")
     status, told = place.run("receiver", metrics=f"127.0.0.1:{sender}", seconds=2)
-    place.require(status == 1 and "nothing listens" in told, f"a port that is taken: {status}")
+    place.require(status == 1 and loglines.has(told, "metrics_unopened"), f"a port that is taken: {status}")
 
 
 def supervisor(place):
@@ -842,6 +852,7 @@ def run(programs, folder, case):
         case.run(place)
     finally:
         place.stop()
+    place.check_logs()
     took = time.monotonic() - place.began
     return (not place.faults, f"repro {case.run.__name__}: {case.done}: {took:.1f} s",
             place.faults[:10])
