@@ -163,7 +163,12 @@ static int begin(struct store *base, unsigned shard, const struct reached *from,
     s->is_open = 1;
     if (ask(s, "begin", 0, NULL, NULL, NULL, ANY_ROWS) != 0)
         return -1;
-    return ask_values(s, "move_shard", &v, ONE_ROW);
+    if (ask_values(s, "move_shard", &v, ONE_ROW) != 0)
+        return -1;
+    if (store_is_other(from, to) && (ask(s, "reset_sessions", 1, v.at, NULL, NULL, ANY_ROWS) != 0
+                                     || ask(s, "find_all", 1, v.at, NULL, NULL, ANY_ROWS) != 0))
+        return -1;
+    return 0;
 }
 
 static int advance(struct store *base, const char *session, const struct demand *from,
@@ -178,10 +183,20 @@ static int advance(struct store *base, const char *session, const struct demand 
     return ask_values(s, "move_session", &v, ONE_ROW);
 }
 
-static int miss(struct store *base, const char *session)
+static int pass(struct store *base, unsigned shard, const char *session, uint64_t offset)
 {
-    const struct values v = { .count = 1, .at = { session } };
-    return ask_values((struct postgresql_store *)base, "miss_session", &v, ANY_ROWS);
+    struct values v = { .count = 1, .at = { session } };
+    add_number(&v, shard);
+    add_number(&v, offset);
+    add_number(&v, STORE_NOTED);
+    return ask_values((struct postgresql_store *)base, "pass_session", &v, ANY_ROWS);
+}
+
+static int find(struct store *base, unsigned shard, const char *session)
+{
+    struct values v = { .count = 1, .at = { session } };
+    add_number(&v, shard);
+    return ask_values((struct postgresql_store *)base, "find_session", &v, ANY_ROWS);
 }
 
 /* After a fault the connection isn't used any more: what is left of the answers doesn't matter. */
@@ -304,35 +319,69 @@ static void read_demand(const PGresult *result, int row, struct demand *demand)
     demand->is_stored = 1;
 }
 
-static int session(struct store *base, const char *name, struct demand *demand)
+/* Passes all rows of sessions that a query gives. */
+static int take_rows(PGresult *result, store_take *take, void *given)
 {
-    PGresult *result = query((struct postgresql_store *)base,
-                             "SELECT next, closed, missed, at, shard FROM session WHERE name = $1",
-                             name);
-    if (result == NULL)
-        return -1;
-    demand->is_stored = 0;
-    if (PQntuples(result) == 1)
-        read_demand(result, 0, demand);
-    PQclear(result);
-    return 0;
-}
-
-static int sessions(struct store *base, unsigned shard, store_take *take, void *given)
-{
-    char text[24];
-    PGresult *result;
-    int row, answer = 0;
-    snprintf(text, sizeof text, "%u", shard);
-    result = query((struct postgresql_store *)base, "SELECT next, closed, missed, at, shard, name"
-                                                    " FROM session WHERE shard = $1", text);
-    if (result == NULL)
-        return -1;
+    int row, answer = result != NULL ? 0 : -1;
     for (row = 0; answer == 0 && row < PQntuples(result); row++) {
         struct demand demand;
         read_demand(result, row, &demand);
         answer = take(given, PQgetvalue(result, row, 5), &demand) != 0 ? -1 : 0;
     }
+    PQclear(result);
+    return answer;
+}
+
+/* The names as PostgreSQL writes an array of texts; the caller frees it. */
+static char *array_of(const char *const *names, size_t count)
+{
+    size_t i, size = 0, room = 3;
+    char *text;
+    for (i = 0; i < count; i++)
+        room += strlen(names[i]) + 3;
+    text = malloc(room);
+    if (text == NULL)
+        return NULL;
+    for (i = 0; i < count; i++)
+        size += (size_t)sprintf(text + size, "%c\"%s\"", i == 0 ? '{' : ',', names[i]);
+    strcpy(text + size, "}");
+    return text;
+}
+
+static int sessions(struct store *base, const char *const *names, size_t count, store_take *take,
+                    void *given)
+{
+    char *array = array_of(names, count);
+    int answer = -1;
+    if (array != NULL)
+        answer = take_rows(query((struct postgresql_store *)base,
+                                 "SELECT next, closed, missed, at, shard, name FROM session"
+                                 " WHERE name = ANY ($1::text[])", array), take, given);
+    free(array);
+    return answer;
+}
+
+static int standing(struct store *base, unsigned shard, store_take *take, void *given)
+{
+    char text[24];
+    snprintf(text, sizeof text, "%u", shard);
+    return take_rows(query((struct postgresql_store *)base,
+                           "SELECT next, closed, missed, at, shard, name FROM session"
+                           " WHERE shard = $1 AND missed <> 0", text), take, given);
+}
+
+static int passed(struct store *base, unsigned shard, store_note *take, void *given)
+{
+    char text[24];
+    PGresult *result;
+    int row, answer = 0;
+    snprintf(text, sizeof text, "%u", shard);
+    result = query((struct postgresql_store *)base,
+                   "SELECT at, session FROM passed WHERE shard = $1", text);
+    if (result == NULL)
+        return -1;
+    for (row = 0; answer == 0 && row < PQntuples(result); row++)
+        answer = take(given, PQgetvalue(result, row, 1), number_at(result, row, 0)) != 0 ? -1 : 0;
     PQclear(result);
     return answer;
 }
@@ -379,7 +428,9 @@ static const char tables[] =
     " ALTER TABLE shard ADD COLUMN incarnation bigint NOT NULL DEFAULT 0;"
     " ALTER TABLE session ADD COLUMN missed int NOT NULL DEFAULT 0,"
     " ADD COLUMN at bigint NOT NULL DEFAULT 0, ADD COLUMN shard int NOT NULL DEFAULT -1;"
-    " END IF; END $$; CREATE INDEX IF NOT EXISTS session_of_shard ON session (shard);";
+    " END IF; END $$; CREATE INDEX IF NOT EXISTS standing ON session (shard) WHERE missed <> 0;"
+    "CREATE TABLE IF NOT EXISTS passed (shard int NOT NULL, session text NOT NULL,"
+    " at bigint NOT NULL, PRIMARY KEY (shard, session));";
 
 /* A role that may not make tables may use those that are there. */
 static int make_tables(struct postgresql_store *s)
@@ -419,7 +470,13 @@ static int prepare_all(struct postgresql_store *s)
           "UPDATE session SET next = $2::bigint, closed = $3::int, missed = $4::int,"
           " at = $5::bigint, shard = $6::int WHERE name = $1 AND next = $7::bigint"
           " AND closed = $8::int AND missed = $9::int AND at = $10::bigint AND shard = $11::int" },
-        { "miss_session", "UPDATE session SET missed = 2 WHERE name = $1 AND closed = 0" },
+        { "pass_session",
+          "INSERT INTO passed SELECT $2::int, CASE WHEN (SELECT count(*) FROM passed"
+          " WHERE shard = $2) < $4::bigint THEN $1 ELSE '' END, $3::bigint"
+          " ON CONFLICT DO NOTHING" },
+        { "find_session", "DELETE FROM passed WHERE session = $1 AND shard = $2::int" },
+        { "find_all", "DELETE FROM passed WHERE shard = $1::int" },
+        { "reset_sessions", "UPDATE session SET at = 0, missed = 0 WHERE shard = $1::int" },
     };
     unsigned i;
     for (i = 0; i < sizeof sql / sizeof *sql; i++)
@@ -444,11 +501,13 @@ struct store *postgresql_store_open(const char *where)
     if (s == NULL)
         return NULL;
     s->base.reached = reached;
-    s->base.session = session;
     s->base.sessions = sessions;
+    s->base.standing = standing;
+    s->base.passed = passed;
     s->base.begin = begin;
     s->base.advance = advance;
-    s->base.miss = miss;
+    s->base.pass = pass;
+    s->base.find = find;
     s->base.commit = commit;
     s->base.rollback = rollback;
     s->base.close = close_it;

@@ -44,12 +44,15 @@ struct options {
     const char *sessions, *metrics;
     unsigned char is_served[CARRIER_SHARDS];
     unsigned shard_count;
-    int until_closed;
 };
 
 static struct options options;
 static int failed;           /* a shard couldn't be started */
 static unsigned begun, done; /* so many shards were started, and have ended */
+
+/* The file of sessions as it was read last. */
+static struct { pthread_mutex_t lock; struct sessions *now; }
+    file = { .lock = PTHREAD_MUTEX_INITIALIZER };
 
 static void add_one(unsigned *count)
 {
@@ -60,6 +63,31 @@ static unsigned read_count(const unsigned *count)
 {
     return __atomic_load_n(count, __ATOMIC_SEQ_CST);
 }
+
+/* ---- Sessions */
+
+/* Has a shard use the file's sessions, unless it does. */
+static void use_sessions(struct shard *shard)
+{
+    pthread_mutex_lock(&file.lock);
+    if (shard->sessions != file.now)
+        shard_use(shard, file.now);
+    pthread_mutex_unlock(&file.lock);
+}
+
+/* Looks whether the file is another one. */
+static void look_at_sessions(void)
+{
+    struct sessions *again = sessions_read_again(file.now), *before = file.now;
+    if (again == NULL)
+        return;
+    pthread_mutex_lock(&file.lock);
+    file.now = again;
+    pthread_mutex_unlock(&file.lock);
+    sessions_forget(before);
+}
+
+/* ---- A shard */
 
 /* The store is away: waits for longer each time. */
 static void wait_for_store(const struct shard *shard, unsigned *pause)
@@ -89,8 +117,10 @@ static void serve(struct shard *shard, unsigned part)
     uint64_t began = nanoseconds(), reported = began;
     struct shard_counts before = { 0 };
     unsigned pause = SHORTEST;
-    while (!is_ending() && !(options.until_closed && shard->is_loaded && shard->open == 0)) {
-        int count = shard_step(shard, WAIT);
+    while (!is_ending() && !(options.shard.until_closed && shard->is_loaded && shard->open == 0)) {
+        int count;
+        use_sessions(shard);
+        count = shard_step(shard, WAIT);
         if (count < 0)
             wait_for_store(shard, &pause);
         else if (shard->is_loaded)
@@ -124,13 +154,11 @@ static void *work(void *given)
     return NULL;
 }
 
-static int start_thread(struct thread *it, unsigned part, unsigned number,
-                        const struct session *sessions, size_t count)
+static int start_thread(struct thread *it, unsigned part, unsigned number)
 {
     it->part = part;
+    service_expect(part);
     it->shard.options = &options.shard;
-    it->shard.sessions = sessions;
-    it->shard.count = count;
     it->shard.number = number;
     if (pthread_create(&it->thread, NULL, work, it) == 0)
         return 1;
@@ -155,12 +183,14 @@ static void tell_all(unsigned started)
             service_tell_end();
             is_ended = 1;
         }
-        if (rounds % (2 * SECOND_OF_WAITS) == 0)
+        if (rounds % (2 * SECOND_OF_WAITS) == 0) {
+            look_at_sessions();
             service_tell_alive();
+        }
     }
 }
 
-static void work_all(const struct session *sessions, size_t count)
+static void work_all(void)
 {
     struct thread *threads = calloc(options.shard_count, sizeof *threads);
     unsigned number, i, started = 0;
@@ -173,7 +203,7 @@ static void work_all(const struct session *sessions, size_t count)
     }
     for (number = 0; !failed && number < CARRIER_SHARDS; number++)
         if (options.is_served[number])
-            started += (unsigned)start_thread(&threads[started], started, number, sessions, count);
+            started += (unsigned)start_thread(&threads[started], started, number);
     tell_all(started);
     for (i = 0; i < started; i++)
         if (pthread_join(threads[i].thread, NULL) != 0)
@@ -217,7 +247,7 @@ static int read_option(struct options *o, int letter)
     case 'b': o->shard.batch = option_number("receiver", "batch", optarg, 1, MOST_FRAMES); break;
     case 'k': o->shard.skew = option_number("receiver", "skew", optarg, 0, UINT32_MAX); break;
     case 'm': o->metrics = optarg; break;
-    case 'u': o->until_closed = 1; break;
+    case 'u': o->shard.until_closed = 1; break;
     case 'h': fputs(usage, stdout); exit(0);
     case 'v': print_version("receiver"); exit(0);
     default: return 0;
@@ -237,8 +267,6 @@ static int read_options(struct options *o, int count, char **words)
 
 int main(int count, char **words)
 {
-    struct session *sessions;
-    size_t session_count;
     options.shard = (struct shard_options){ .replicas = 1, .batch = 1024, .skew = 86400 };
     if (!read_options(&options, count, words)) {
         fputs(usage, stderr);
@@ -247,11 +275,11 @@ int main(int count, char **words)
     umask(077); /* databases have texts and frames: they are for their owner alone */
     end_by_signals();
     srand((unsigned)nanoseconds());
-    sessions = read_sessions(options.sessions, &session_count);
-    if (sessions == NULL)
+    file.now = sessions_read(options.sessions);
+    if (file.now == NULL)
         return 1;
-    work_all(sessions, session_count);
-    forget_sessions(sessions, session_count);
+    work_all();
+    sessions_forget(file.now);
     log_end();
     return failed;
 }

@@ -64,27 +64,11 @@ enum outbox_answer sender_stop(struct sender *s, const char *session, const char
     return OUTBOX_AGAIN;
 }
 
-void sender_activate(struct sender *s, size_t place)
+void sender_activate(struct sender *s, struct sending *it)
 {
-    if (!s->sendings[place].is_active)
-        s->active.places[s->active.count++] = place;
-    s->sendings[place].is_active = 1;
-}
-
-int sender_load(struct sender *s, size_t place)
-{
-    struct sending *it = &s->sendings[place];
-    struct lane *lane = &s->lanes[it->lane];
-    if (outbox_load(&s->outbox, it->of->name, &it->kept) != 0)
-        return -1;
-    lane->backlog -= (size_t)(it->progress.next - it->progress.carried);
-    it->progress = (struct progress){ .next = it->kept.next, .carried = it->kept.carried,
-                                      .at = it->kept.at, .sent = it->kept.carried };
-    lane->backlog += (size_t)(it->progress.next - it->progress.carried);
-    seal_reset(it);
-    if (it->progress.carried < it->progress.next)
-        sender_activate(s, place);
-    return 0;
+    if (!it->is_active)
+        s->active.at[s->active.count++] = it;
+    it->is_active = 1;
 }
 
 /* ---- What is stored, in one transaction */
@@ -94,13 +78,13 @@ static enum seal_answer keep_sealed(struct sender *s, struct sending **stopped)
 {
     size_t i;
     for (i = 0; i < s->touched.count; i++) {
-        struct sending *it = &s->sendings[s->touched.places[i]];
+        struct sending *it = s->touched.at[i];
         enum seal_answer answer = seal_rest(&s->sealing, it);
         *stopped = it;
         if (answer != SEAL_OK)
             return answer;
         if (it->sealed > it->progress.next
-            && outbox_set_next(&s->outbox, it->of->name, it->progress.next, it->sealed) != 0)
+            && outbox_set_next(&s->outbox, &it->of, it->progress.next, it->sealed) != 0)
             return SEAL_FAULT;
     }
     return SEAL_OK;
@@ -111,12 +95,12 @@ static enum seal_answer keep_carried(struct sender *s)
 {
     size_t i;
     for (i = 0; i < s->active.count; i++) {
-        struct sending *it = &s->sendings[s->active.places[i]];
+        struct sending *it = s->active.at[i];
         struct outbox_progress now = it->kept;
         now.carried = it->progress.carried;
         now.at = it->progress.at;
         if (it->kept.carried != it->progress.carried
-            && outbox_set_carried(&s->outbox, it->of->name, &now) != 0)
+            && outbox_set_carried(&s->outbox, it->of.name, &now) != 0)
             return SEAL_FAULT;
     }
     return SEAL_OK;
@@ -127,16 +111,16 @@ static void note_kept(struct sender *s)
 {
     size_t i;
     for (i = 0; i < s->active.count; i++) {
-        struct sending *it = &s->sendings[s->active.places[i]];
+        struct sending *it = s->active.at[i];
         it->kept.carried = it->progress.carried;
         it->kept.at = it->progress.at;
     }
     for (i = 0; i < s->touched.count; i++) {
-        struct sending *it = &s->sendings[s->touched.places[i]];
+        struct sending *it = s->touched.at[i];
         s->lanes[it->lane].backlog += (size_t)(it->sealed - it->progress.next);
         it->kept.next = it->progress.next = it->sealed;
         it->is_touched = 0;
-        sender_activate(s, s->touched.places[i]);
+        sender_activate(s, it);
     }
     s->touched.count = 0;
 }
@@ -160,8 +144,8 @@ static void give_up(struct sender *s, const struct looked *before)
     for (i = 0; i < s->lane_count; i++)
         s->lanes[i].deferred = before->deferred[i];
     for (i = 0; i < s->touched.count; i++) {
-        seal_reset(&s->sendings[s->touched.places[i]]);
-        s->sendings[s->touched.places[i]].is_touched = 0;
+        seal_reset(s->touched.at[i]);
+        s->touched.at[i]->is_touched = 0;
     }
     s->touched.count = 0;
 }
@@ -187,7 +171,7 @@ static enum outbox_answer store(struct sender *s, int with_texts, struct looked 
     }
     give_up(s, before);
     if (answer == SEAL_STOP)
-        return sender_stop(s, stopped->of->name, stopped->reason);
+        return sender_stop(s, stopped->of.name, stopped->reason);
     pause_milliseconds(PAUSE);
     return OUTBOX_AGAIN;
 }
@@ -208,27 +192,57 @@ static void report_silence(struct sender *s, size_t rose)
     s->rose = nanoseconds();
 }
 
-/* Each second: shows how it stands, and looks whether the outbox is still this process's, also
- * where nothing is stored. */
-static int is_owner(struct sender *s)
+/* Begins anew if the file of sessions is another one: those that were stopped are tried again. */
+static enum outbox_answer look_at_sessions(struct sender *s)
 {
+    enum outbox_answer begun;
+    if (s->newer == NULL)
+        s->newer = sessions_read_again(s->sessions);
+    if (s->newer == NULL)
+        return OUTBOX_OK;
+    begun = outbox_begin(&s->outbox);
+    if (begun != OUTBOX_OK)
+        return begun;
+    if (outbox_drop_stopped(&s->outbox) != 0 || outbox_commit(&s->outbox) != 0) {
+        outbox_rollback(&s->outbox);
+        return OUTBOX_AGAIN;
+    }
+    sender_forget(s);
+    sessions_forget(s->sessions);
+    s->sessions = s->newer;
+    s->newer = NULL;
+    s->stopped = 0;
+    return sender_begin(s) == 0 ? OUTBOX_OK : OUTBOX_FAULT;
+}
+
+/* Each second: shows how it stands, looks whether the outbox is still this process's, also where
+ * nothing is stored, and whether the file of sessions is another one. */
+static enum outbox_answer look(struct sender *s)
+{
+    enum outbox_answer answer;
     if (nanoseconds() - s->looked < SECOND)
-        return 1;
+        return OUTBOX_OK;
     s->looked = nanoseconds();
     sender_show(s);
     service_tell_alive();
-    return outbox_is_owned(&s->outbox);
+    if (!outbox_is_owned(&s->outbox))
+        return OUTBOX_TAKEN;
+    answer = look_at_sessions(s);
+    return answer == OUTBOX_AGAIN ? OUTBOX_OK : answer; /* then in a second */
 }
 
 /* One round; *rose is how many frames were carried in the last. 1 if all is done that can be. */
 static int step(struct sender *s, struct looked *before, size_t *rose, enum outbox_answer *answer)
 {
     uint64_t began = nanoseconds(), sealing = s->sealing.nanoseconds;
-    size_t backlog = publish_backlog(s);
+    size_t backlog;
     int texts;
-    *answer = is_owner(s) ? texts_check_wanted(s) : OUTBOX_TAKEN;
+    *answer = look(s);
+    if (*answer == OUTBOX_OK)
+        *answer = texts_check_wanted(s);
     if (*answer < 0)
         return 1;
+    backlog = publish_backlog(s);
     texts = texts_wait(s);
     if (texts || *rose > 0)
         *answer = store(s, texts, before);
@@ -250,7 +264,7 @@ static int step(struct sender *s, struct looked *before, size_t *rose, enum outb
 
 static enum outbox_answer serve(struct sender *s)
 {
-    struct looked before = { 0, calloc(s->lane_count, sizeof *before.deferred) };
+    struct looked before = { 0, calloc(CARRIER_SHARDS, sizeof *before.deferred) };
     enum outbox_answer answer = OUTBOX_FAULT;
     size_t rose = 0;
     s->rose = nanoseconds();
@@ -267,86 +281,45 @@ static enum outbox_answer serve(struct sender *s)
 
 /* ---- */
 
-static int make_list(struct list *list, size_t count)
-{
-    list->count = 0;
-    list->places = calloc(count, sizeof *list->places);
-    return list->places != NULL;
-}
-
-/* Gives each shard of a session a lane. */
-static int make_lanes(struct sender *s)
-{
-    static size_t lane_of[CARRIER_SHARDS]; /* and 1; 0: none yet */
-    size_t i;
-    s->lanes = calloc(s->count < CARRIER_SHARDS ? s->count : CARRIER_SHARDS, sizeof *s->lanes);
-    if (s->lanes == NULL)
-        return 0;
-    for (i = 0; i < s->count; i++) {
-        size_t *lane = &lane_of[s->sessions[i].shard];
-        if (*lane == 0) {
-            s->lanes[s->lane_count++].shard = s->sessions[i].shard;
-            *lane = s->lane_count;
-        }
-        s->sendings[i].of = &s->sessions[i];
-        s->sendings[i].lane = *lane - 1;
-    }
-    return 1;
-}
-
 static int make_memory(struct sender *s)
 {
-    s->sendings = calloc(s->count, sizeof *s->sendings);
     s->sealing.outbox = &s->outbox;
     s->sealing.batch = s->options.batch;
     s->sealing.frame = malloc(KRBRELAY_FRAME_LIMIT);
     s->bytes = malloc(KRBRELAY_FRAME_LIMIT);
-    if (s->sendings == NULL || s->sealing.frame == NULL || s->bytes == NULL || !make_lanes(s)
-        || !make_list(&s->touched, s->count) || !make_list(&s->active, s->count)
-        || !make_list(&s->wanted, s->count)) {
-        log_system("out_of_memory", "sender");
-        return -1;
-    }
-    return 0;
+    if (s->sealing.frame != NULL && s->bytes != NULL)
+        return 0;
+    log_system("out_of_memory", "sender");
+    return -1;
 }
 
 static int start(struct sender *s)
 {
-    size_t i;
-    s->sessions = read_sessions(s->options.sessions, &s->count);
+    s->sessions = sessions_read(s->options.sessions);
     if (s->sessions == NULL || make_memory(s) != 0)
         return -1;
     s->carrier = carrier_open(s->options.carrier, s->options.replicas);
     if (s->carrier == NULL) /* the outbox stays with whoever has it */
         return -1;
-    if (outbox_open(&s->outbox, s->options.outbox, s->sessions, s->count) != 0)
+    if (outbox_open(&s->outbox, s->options.outbox) != 0 || sender_begin(s) != 0)
         return -1;
-    for (i = 0; i < s->count; i++)
-        if (sender_load(s, i) != 0)
-            return -1;
-    if (sender_begin_showing(s) != 0)
+    if (sender_begin_showing() != 0)
         return -1;
     return s->options.metrics != NULL ? service_listen(s->options.metrics) : 0;
 }
 
 static void stop(struct sender *s)
 {
-    size_t i;
     service_end();
-    for (i = 0; s->sendings != NULL && i < s->count; i++)
-        seal_free(&s->sendings[i]);
+    sender_forget(s);
     outbox_close(&s->outbox);
     if (s->carrier != NULL)
         carrier_close(s->carrier);
-    forget_sessions(s->sessions, s->count);
+    sessions_forget(s->sessions);
+    sessions_forget(s->newer);
     if (s->bytes != NULL)
         explicit_bzero(s->bytes, KRBRELAY_FRAME_LIMIT);
     free(s->bytes);
-    free(s->sendings);
-    free(s->lanes);
-    free(s->touched.places);
-    free(s->active.places);
-    free(s->wanted.places);
     free(s->sealing.frame);
 }
 

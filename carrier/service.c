@@ -20,6 +20,7 @@
 #define HEARD UINT64_C(10000000000) /* nanoseconds */
 
 struct part {
+    int is_expected;
     uint64_t alive, working; /* when it last said so, or 0 */
     char labels[64];
     double values[SERVICE_METRICS];
@@ -30,7 +31,7 @@ struct part {
 static struct {
     pthread_mutex_t lock;
     const struct metric *metrics, *sessions;
-    unsigned count, part_count;
+    unsigned count, part_count; /* parts: up to the last that was expected */
     struct part *parts;
     void *server;
 } service = { .lock = PTHREAD_MUTEX_INITIALIZER };
@@ -41,15 +42,38 @@ int service_begin(const struct metric *metrics, unsigned count, const struct met
     service.metrics = metrics;
     service.count = count < SERVICE_METRICS ? count : SERVICE_METRICS;
     service.sessions = sessions;
-    service.part_count = parts;
     service.parts = calloc(parts, sizeof *service.parts);
     return service.parts != NULL ? 0 : -1;
 }
 
+/* Under the lock. */
+static struct part *expect(unsigned part)
+{
+    if (service.part_count <= part)
+        service.part_count = part + 1;
+    service.parts[part].is_expected = 1;
+    return &service.parts[part];
+}
+
+void service_expect(unsigned part)
+{
+    pthread_mutex_lock(&service.lock);
+    expect(part);
+    pthread_mutex_unlock(&service.lock);
+}
+
+void service_leave(unsigned part)
+{
+    pthread_mutex_lock(&service.lock);
+    service.parts[part] = (struct part){ 0 };
+    pthread_mutex_unlock(&service.lock);
+}
+
 void service_alive(unsigned part, int does_work, const char *labels, const double *values)
 {
-    struct part *it = &service.parts[part];
+    struct part *it;
     pthread_mutex_lock(&service.lock);
+    it = expect(part);
     it->alive = nanoseconds();
     if (does_work)
         it->working = it->alive;
@@ -81,8 +105,8 @@ static void ask_all(int *are_alive, int *do_work)
     *are_alive = *do_work = 1;
     pthread_mutex_lock(&service.lock);
     for (i = 0; i < service.part_count; i++) {
-        *are_alive &= is_recent(service.parts[i].alive);
-        *do_work &= is_recent(service.parts[i].working);
+        *are_alive &= !service.parts[i].is_expected || is_recent(service.parts[i].alive);
+        *do_work &= !service.parts[i].is_expected || is_recent(service.parts[i].working);
     }
     pthread_mutex_unlock(&service.lock);
 }

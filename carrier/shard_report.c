@@ -25,7 +25,7 @@ const struct metric shard_metrics[] = {
     { NAME "store_seconds_total", "counter", "Time for effects and transactions", NULL },
     { NAME "offset", "gauge", "How far the shard was read", NULL },
     { NAME "lag_frames", "gauge", "Frames that the carrier has after it", NULL },
-    { NAME "open_sessions", "gauge", "Sessions that aren't closed", NULL },
+    { NAME "loaded_sessions", "gauge", "Sessions of which frames came", NULL },
     { NAME "standing_sessions", "gauge", "Sessions that miss a frame, or had one refused", NULL },
 };
 const unsigned shard_metrics_count = sizeof shard_metrics / sizeof *shard_metrics;
@@ -49,9 +49,9 @@ static void name_standing(struct shard *s, unsigned part)
 {
     const char *names[SERVICE_NAMES];
     size_t i, count = 0;
-    for (i = 0; i < s->standing_count && count < SERVICE_NAMES; i++)
-        if (s->receivings[s->standing[i]].now.missed != MISSED_NOTHING)
-            names[count++] = s->sessions[s->standing[i]].name;
+    for (i = 0; i < s->standing.count && count < SERVICE_NAMES; i++)
+        if (s->standing.at[i]->now.missed != MISSED_NOTHING)
+            names[count++] = s->standing.at[i]->of.name;
     service_name(part, names, count);
 }
 
@@ -66,7 +66,7 @@ void shard_show(struct shard *s, unsigned part)
         (double)c->early, (double)c->refused, (double)c->commits, (double)c->fenced,
         (double)c->back, (double)c->opening / 1e9, (double)c->fetching / 1e9,
         (double)c->storing / 1e9, (double)s->now.offset, is_known ? (double)behind : NAN,
-        (double)s->open, (double)s->standing_count,
+        (double)s->count, (double)s->standing.count,
     };
     snprintf(labels, sizeof labels, "shard=\"%u\"", s->number);
     service_alive(part, s->is_loaded, labels, values);

@@ -31,14 +31,20 @@ int store_reached(struct store *store, unsigned shard, struct reached *reached)
     return store->reached(store, shard, reached);
 }
 
-int store_session(struct store *store, const char *session, struct demand *demand)
+int store_sessions(struct store *store, const char *const *names, size_t count, store_take *take,
+                   void *given)
 {
-    return store->session(store, session, demand);
+    return count > 0 ? store->sessions(store, names, count, take, given) : 0;
 }
 
-int store_sessions(struct store *store, unsigned shard, store_take *take, void *given)
+int store_standing(struct store *store, unsigned shard, store_take *take, void *given)
 {
-    return store->sessions(store, shard, take, given);
+    return store->standing(store, shard, take, given);
+}
+
+int store_passed(struct store *store, unsigned shard, store_note *take, void *given)
+{
+    return store->passed(store, shard, take, given);
 }
 
 int store_begin(struct store *store, unsigned shard, const struct reached *from,
@@ -53,9 +59,14 @@ int store_advance(struct store *store, const char *session, const struct demand 
     return store->advance(store, session, from, to);
 }
 
-int store_miss(struct store *store, const char *session)
+int store_pass(struct store *store, unsigned shard, const char *session, uint64_t offset)
 {
-    return store->miss(store, session);
+    return store->pass(store, shard, session, offset);
+}
+
+int store_find(struct store *store, unsigned shard, const char *session)
+{
+    return store->find(store, shard, session);
 }
 
 int store_commit(struct store *store)

@@ -46,15 +46,21 @@ struct store *store_open(const char *where, unsigned shard);
 /* How far the shard was read. Answers 0, or -1 after a fault, as those below. */
 int store_reached(struct store *store, unsigned shard, struct reached *reached);
 
-/* What is stored of the session. If nothing is, only is_stored is changed. */
-int store_session(struct store *store, const char *session, struct demand *demand);
-
-/* Passes each session to a function that is stored as one of the shard. What that doesn't answer 0
- * ends it, with -1. */
+/* Passes each of these sessions that is stored to a function. What that doesn't answer 0 ends it,
+ * with -1. Their names are of the form that sessions.h says. */
 typedef int store_take(void *given, const char *session, const struct demand *demand);
-int store_sessions(struct store *store, unsigned shard, store_take *take, void *given);
+int store_sessions(struct store *store, const char *const *names, size_t count, store_take *take,
+                   void *given);
 
-/* Begins a transaction that moves the shard. */
+/* The same of each session that is stored as one of the shard and misses something. */
+int store_standing(struct store *store, unsigned shard, store_take *take, void *given);
+
+/* The same of each name that is noted as passed by in the shard (store_pass), with the offset. */
+typedef int store_note(void *given, const char *session, uint64_t offset);
+int store_passed(struct store *store, unsigned shard, store_note *take, void *given);
+
+/* Begins a transaction that moves the shard. If that is from one list to another, the places of all
+ * its sessions become 0, none of them misses anything, and nothing is noted as passed by. */
 int store_begin(struct store *store, unsigned shard, const struct reached *from,
                 const struct reached *to);
 
@@ -62,8 +68,14 @@ int store_begin(struct store *store, unsigned shard, const struct reached *from,
 int store_advance(struct store *store, const char *session, const struct demand *from,
                   const struct demand *to);
 
-/* Marks a session that this receiver doesn't know as MISSED_REFUSED, if the store knows it. */
-int store_miss(struct store *store, const char *session);
+/* Notes that the frame at this offset was passed by, since its receiver doesn't know a session of
+ * this name in the shard, unless one is noted. Of a shard STORE_NOTED names are noted, and what is
+ * more under the name "". */
+enum { STORE_NOTED = 1000 };
+int store_pass(struct store *store, unsigned shard, const char *session, uint64_t offset);
+
+/* Ends the note. */
+int store_find(struct store *store, unsigned shard, const char *session);
 
 /* Ends it: 0 if all of it took effect, 1 if something stood elsewhere, and -1 after a fault.
  * After 1 nothing took effect; after -1 it isn't known whether it did: all is to be read again.
@@ -90,16 +102,24 @@ int store_run(struct store *store, const char *sql, const struct value *values, 
 
 struct store {
     int (*reached)(struct store *, unsigned, struct reached *);
-    int (*session)(struct store *, const char *, struct demand *);
-    int (*sessions)(struct store *, unsigned, store_take *, void *);
+    int (*sessions)(struct store *, const char *const *, size_t, store_take *, void *);
+    int (*standing)(struct store *, unsigned, store_take *, void *);
+    int (*passed)(struct store *, unsigned, store_note *, void *);
     int (*begin)(struct store *, unsigned, const struct reached *, const struct reached *);
     int (*advance)(struct store *, const char *, const struct demand *, const struct demand *);
-    int (*miss)(struct store *, const char *);
+    int (*pass)(struct store *, unsigned, const char *, uint64_t);
+    int (*find)(struct store *, unsigned, const char *);
     int (*commit)(struct store *);
     void (*rollback)(struct store *);
     void (*close)(struct store *);
     int (*run)(struct store *, const char *, const struct value *, unsigned);
 };
+
+/* Whether a transaction moves a shard from one list to another. */
+static inline int store_is_other(const struct reached *from, const struct reached *to)
+{
+    return from->incarnation != 0 && from->incarnation != to->incarnation;
+}
 
 struct store *sqlite_store_open(const char *path, unsigned shard);
 struct store *postgresql_store_open(const char *where);

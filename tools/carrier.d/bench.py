@@ -104,7 +104,7 @@ def measure(programs, folder, carrier, replicas, name, postgres):
         receive(programs, folder, carrier, name, "shards", receivers)
     if postgres:
         for receivers in (1, 2, 4):
-            postgres.ask("DROP TABLE IF EXISTS shard, session, effect")
+            postgres.ask("DROP TABLE IF EXISTS shard, session, passed, effect")
             receive(programs, folder, carrier, name, postgres.where, receivers)
 
 

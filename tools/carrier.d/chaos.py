@@ -357,7 +357,7 @@ class Trial:
         for it in range(self.given.senders):
             subprocess.run([f"{self.given.programs}/sender", *self.processes.common,
                             *self.processes.words("sender", it), "--drain"], check=True,
-                           stdout=subprocess.DEVNULL, timeout=60)
+                           stdout=subprocess.DEVNULL, stderr=subprocess.DEVNULL, timeout=60)
         for kind, count in (("sender", self.given.senders), ("receiver", self.given.receivers)):
             for it in range(count):
                 self.processes.start(f"{kind}-{it}")

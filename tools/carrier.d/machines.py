@@ -401,7 +401,7 @@ class World:
             return False
         file = sqlite3.connect(path, timeout=PATIENCE)
         try:
-            return file.execute("SELECT count(*) FROM session").fetchone()[0] > 0
+            return file.execute("SELECT turn FROM owner").fetchone()[0] > 0
         except sqlite3.Error:
             return False
         finally:

@@ -28,16 +28,18 @@ EDITS = {
 """, """\
     s->is_fenced = 0;
 """),
-    "numbers before the offset": ("shard.c", """\
+    "numbers before the offset": ("shard_load.c", """\
     if (store_reached(s->store, s->number, &s->stored) != 0)
         return -1;
-    if (store_sessions(s->store, s->number, note_stored, s) != 0)
+    s->now = s->stored;
+    if (store_standing(s->store, s->number, note_standing, s) != 0)
         return -1;
 """, """\
-    if (store_sessions(s->store, s->number, note_stored, s) != 0)
+    if (store_standing(s->store, s->number, note_standing, s) != 0)
         return -1;
     if (store_reached(s->store, s->number, &s->stored) != 0)
         return -1;
+    s->now = s->stored;
 """),
     "deduplication on": ("nats_publisher.c", """\
     status = natsConnection_PublishRequest(c->connection, subject, reply, frame, (int)len);

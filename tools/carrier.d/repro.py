@@ -25,6 +25,7 @@ import loglines
 
 DAYS = 86400            # seconds
 TOO_LONG = 1_000_001    # bytes of a text
+READING = 1.0           # seconds at most for reading a file of 100,000 sessions, beside other work
 FORGED = 2**62          # an offset that no stream has
 LAST = 2**32 - 1        # the last number of a session
 ANN, TOM = (line.replace("safe", "priv") for line in errors.SESSIONS)
@@ -47,7 +48,7 @@ class Place(errors.Ends):
     def __init__(self, programs, folder, case):
         super().__init__(programs, folder)
         self.case, self.faults, self.running, self.nats = case, [], [], None
-        self.began = time.monotonic()
+        self.began, self.told = time.monotonic(), ""
         self.shards = case.shards
         self.write(self.sessions, case.lines)
 
@@ -111,6 +112,16 @@ class Place(errors.Ends):
                 self.faults += loglines.faults(self.log(process))
 
     # ---- outbox, carrier and store
+
+    def other(self, lines):
+        """Another file of sessions."""
+        self.write(f"{self.folder}/other", lines)
+        return f"{self.folder}/other"
+
+    def replace(self, path, lines):
+        """Puts another file in the place of a file of sessions."""
+        self.write(path + ".new", lines)
+        os.rename(path + ".new", path)
 
     def put(self, rows, outbox=None):
         """Puts texts into an outbox, which is made first."""
@@ -348,6 +359,115 @@ def two_reads(place):
     time.sleep(0.5)
     place.run("receiver", seconds=1, sessions=f"{place.folder}/before")
     place.await_delivered()
+
+
+# ---- the file of sessions
+
+def new_session(place):
+    """A line is added below a sender and a receiver that run, which have passed its frames by."""
+    place.put(texts("ann", 0, 5) + texts("tom", 0, 20))
+    sender, receiver = place.start("sender"), place.start("receiver", sessions=place.other([ANN]))
+    place.wait(lambda: place.ask("store", "SELECT offset FROM shard") == [(25,)], 5)
+    require_passed(place, [("tom", 6)])
+    place.replace(f"{place.folder}/other", [ANN, TOM])
+    place.await_delivered()
+    require_passed(place, [])
+    place.replace(place.sessions, [ANN, TOM, ABE])
+    place.replace(f"{place.folder}/other", [ANN, TOM, ABE])
+    place.put(texts("abe", 0, 7))
+    place.await_delivered({"ann": 5, "tom": 20, "abe": 7})
+    place.require(sender.poll() is None and receiver.poll() is None, "a program has ended")
+
+
+def require_passed(place, wanted):
+    """The names that the store has noted as passed by, with their offsets."""
+    place.require(place.wait(lambda: place.ask("store", "SELECT session, at FROM passed") == wanted,
+                             3), f"passed: {place.ask('store', 'SELECT session, at FROM passed')}")
+
+
+def new_line_of_stopped(place):
+    """A session whose texts wait since it has no line gets one."""
+    place.write(place.sessions, [ANN])
+    place.put(texts("ann", 0, 5) + texts("tom", 0, 20))
+    sender = place.start("sender")
+    place.start("receiver", sessions=place.other([ANN, TOM]))
+    place.wait(lambda: place.is_delivered({"ann": 5}), 5)
+    require_stopped(place, "tom", "no line")
+    place.replace(place.sessions, [ANN, TOM])
+    place.await_delivered()
+    place.require(not place.count("outbox", "stopped"), "a session is stopped")
+    place.require(sender.poll() is None, "the sender has ended")
+
+
+def bad_new_file(place):
+    """A file that can't be used isn't; its next version is."""
+    sender, receiver = place.start("sender"), place.start("receiver")
+    place.wait(lambda: os.path.exists(place.outbox), 5)
+    place.put(texts("ann", 0, 5))
+    place.replace(place.sessions, [ANN, "nobody\n"])
+    told = [place.wait(lambda: loglines.has(place.log(it), "session_malformed", line=2), 5)
+            for it in (sender, receiver)]
+    place.require(all(told), "the malformed line isn't reported")
+    place.put(texts("tom", 0, 3))
+    place.await_delivered({"ann": 5, "tom": 3})
+    place.replace(place.sessions, [ANN, TOM, ABE])
+    place.put(texts("abe", 0, 7))
+    place.await_delivered()
+
+
+def changed_key(place):
+    """The key of a session that waits is changed at both ends; what was sealed before stays."""
+    place.put(texts("ann", 0, 5))
+    place.start("sender")
+    place.start("receiver")
+    place.wait(lambda: place.is_delivered({"ann": 5}), 5)
+    place.replace(place.sessions, [ANN.replace("11" * 16, "55" * 16)])
+    time.sleep(3)
+    place.put(texts("ann", 5, 10))
+    place.await_delivered()
+
+
+def junk_names(place):
+    """Frames under 2,000 names that nobody has come before a session's; it costs no reading again."""
+    place.run("sender", "--drain")
+    with sqlite3.connect(f"{place.folder}/carrier.db", timeout=errors.LIMIT) as file:
+        file.executemany("INSERT INTO carried (shard, session, frame) VALUES (0, ?, ?)",
+                         [(f"junk{it:04}", b"junk") for it in range(2000)]
+                         + [("no name", b"junk"), ("\xff\xfe", b"junk")])
+    file.close()
+    place.put(texts("ann", 0, 5))
+    place.run("sender", "--drain")
+    receiver = place.start("receiver")
+    place.await_delivered()
+    place.require(place.count("store", "passed") == 1001, f"{place.count('store', 'passed')} notes")
+    place.end(receiver)
+    place.put(texts("ann", 5, 10))
+    place.run("sender", "--drain")
+    place.start("receiver")
+    place.await_delivered({"ann": 10})
+
+
+def many_sessions(place):
+    """100,000 sessions of which ten have texts: a sender and a receiver take what ten take."""
+    took = {}
+    for count in (10, 100_000):
+        names = [f"s{it:05}" for it in range(count)]
+        place.write(place.sessions, [TOM.replace("tom", name).replace("22" * 32, f"{it + 1:064x}")
+                                     for it, name in enumerate(names)])
+        busy = names[::count // 10]
+        place.put([row for name in busy for row in texts(name, 0, 400)])
+        before = place.count("store", "effect")
+        began = time.monotonic()
+        place.run("sender", "--drain")
+        sent = time.monotonic()
+        receiver = place.start("receiver")
+        place.wait(lambda: place.count("store", "effect") == before + 4000, 20)
+        took[count] = (sent - began, time.monotonic() - sent)
+        place.end(receiver)
+        place.require(place.count("store", "effect") == before + 4000, "not all took effect")
+    for what, few, many in zip(("sender", "receiver"), took[10], took[100_000]):
+        place.require(many < few + READING, f"{what}: {few:.2f} s and {many:.2f} s")
+        place.told += f"; {what} {few:.2f} s with 10, {many:.2f} s with 100,000"
 
 
 # ---- offsets that aren't what they were
@@ -804,6 +924,13 @@ CASES = (
          {"ann": 100, "tom": 100}, 10),
     Case(session_away, "a receiver doesn't have a session's line for a while", {"tom": 100}, 10),
     Case(key_later, "a receiver has a wrong key at first", {"ann": 100}, 10),
+    Case(new_session, "sessions get a line at both ends, which run", {"ann": 5, "tom": 20}, 15),
+    Case(new_line_of_stopped, "a session whose texts wait gets a line", {"ann": 5, "tom": 20}, 15),
+    Case(bad_new_file, "a file of sessions gets a malformed line, and then another one",
+         {"ann": 5, "tom": 3, "abe": 7}, 20),
+    Case(changed_key, "a session gets another key at both ends", {"ann": 10}, 15, (ANN,)),
+    Case(junk_names, "frames under 2,000 names that nobody has", {"ann": 5}, 15, (ANN,)),
+    Case(many_sessions, "100,000 sessions, of which ten have texts", {}, 60),
     Case(stale_repeats, "frames that took effect come again, older than the skew", {"ann": 1000},
          10),
     Case(two_reads, "a receiver pauses between its two reads", {"ann": 10}, 12),
@@ -854,5 +981,5 @@ def run(programs, folder, case):
         place.stop()
     place.check_logs()
     took = time.monotonic() - place.began
-    return (not place.faults, f"repro {case.run.__name__}: {case.done}: {took:.1f} s",
+    return (not place.faults, f"repro {case.run.__name__}: {case.done}: {took:.1f} s{place.told}",
             place.faults[:10])
