@@ -4,13 +4,13 @@
  * Each wait ends. A receiver whose machine is gone can't keep the locks of its transaction for
  * longer than the server's idle_in_transaction_session_timeout, another waits for a lock no longer
  * than lock_timeout, and one whose server is gone learns it from TCP. What the server or --store
- * sets of these holds; else what `timeouts` and `connect_to` say. After a fault the store is
+ * sets of these holds; else what postgresql.c says. After a fault the store is
  * opened again. */
 #include "effect.h"
 #include "log.h"
+#include "postgresql.h"
 #include "store.h"
 
-#include <libpq-fe.h>
 #include <stdio.h>
 #include <stdlib.h>
 #include <string.h>
@@ -33,9 +33,7 @@ struct postgresql_store {
 
 static int report(struct postgresql_store *s, const char *what)
 {
-    log_fact(LEVEL_ERROR, "postgresql_fault", field_text("of", what),
-             field_text("text", PQerrorMessage(s->db)));
-    return -1;
+    return postgresql_report(s->db, what);
 }
 
 /* ---- What is asked without waiting */
@@ -396,24 +394,6 @@ static void close_it(struct store *base)
     free(s);
 }
 
-static int is_done(struct postgresql_store *s, PGresult *result, const char *sql)
-{
-    ExecStatusType status = PQresultStatus(result);
-    PQclear(result);
-    if (status == PGRES_COMMAND_OK || status == PGRES_TUPLES_OK)
-        return 1;
-    report(s, sql);
-    return 0;
-}
-
-/* What was set before holds. */
-static const char timeouts[] =
-    "SELECT set_config(name, value, false) FROM (VALUES ('lock_timeout', '3s'),"
-    " ('idle_in_transaction_session_timeout', '10s'), ('statement_timeout', '30s'),"
-    " ('tcp_keepalives_idle', '5'), ('tcp_keepalives_interval', '2'),"
-    " ('tcp_keepalives_count', '3'), ('tcp_user_timeout', '10s'))"
-    " AS given (name, value) JOIN pg_settings USING (name) WHERE source = 'default'";
-
 /* In one transaction under a lock, so that two processes may make the tables at once: IF NOT EXISTS
  * alone fails then. */
 static const char tables[] =
@@ -442,9 +422,9 @@ static int make_tables(struct postgresql_store *s)
         const char *state = PQresultErrorField(result, PG_DIAG_SQLSTATE);
         if (state != NULL && strcmp(state, "42501") == 0) {
             PQclear(result);
-            return is_done(s, PQexec(s->db, "ROLLBACK"), "ROLLBACK");
+            return postgresql_is_done(s->db, PQexec(s->db, "ROLLBACK"), "ROLLBACK");
         }
-        if (!is_done(s, result, "the tables"))
+        if (!postgresql_is_done(s->db, result, "the tables"))
             return 0;
     }
     return 1;
@@ -480,19 +460,9 @@ static int prepare_all(struct postgresql_store *s)
     };
     unsigned i;
     for (i = 0; i < sizeof sql / sizeof *sql; i++)
-        if (!is_done(s, PQprepare(s->db, sql[i][0], sql[i][1], 0, NULL), sql[i][1]))
+        if (!postgresql_is_done(s->db, PQprepare(s->db, sql[i][0], sql[i][1], 0, NULL), sql[i][1]))
             return 0;
     return 1;
-}
-
-/* What --store says holds: it comes last. */
-static PGconn *connect_to(const char *where)
-{
-    static const char *const names[] = { "connect_timeout", "tcp_user_timeout", "keepalives_idle",
-                                         "keepalives_interval", "keepalives_count",
-                                         "application_name", "dbname", NULL };
-    const char *values[] = { "5", "5000", "2", "1", "3", "krbrelay", where, NULL };
-    return PQconnectdbParams(names, values, 1);
 }
 
 struct store *postgresql_store_open(const char *where)
@@ -512,11 +482,8 @@ struct store *postgresql_store_open(const char *where)
     s->base.rollback = rollback;
     s->base.close = close_it;
     s->base.run = run_effect;
-    s->db = connect_to(where);
-    if (PQstatus(s->db) != CONNECTION_OK)
-        report(s, "no connection: is the server started, and does --store name it?");
-    else if (is_done(s, PQexec(s->db, timeouts), "timeouts") && make_tables(s) && prepare_all(s)
-             && PQenterPipelineMode(s->db))
+    s->db = postgresql_connect(where);
+    if (s->db != NULL && make_tables(s) && prepare_all(s) && PQenterPipelineMode(s->db))
         return &s->base;
     close_it(&s->base);
     return NULL;

@@ -7,29 +7,29 @@
 #include "ending.h"
 #include "log.h"
 #include "service.h"
-#include "shard.h"
+#include "serving.h"
+#include "sharing.h"
 #include "words.h"
 
 #include <getopt.h>
-#include <pthread.h>
+#include <limits.h>
 #include <stdio.h>
 #include <stdlib.h>
+#include <string.h>
 #include <sys/stat.h>
 
-enum {
-    WAIT = 100, SECOND_OF_WAITS = 10, MOST_REPLICAS = 5, SECOND = 1000000000, SHORTEST = 200,
-    LONGEST = 5000
-};
+enum { WAIT = 50, SECOND_OF_WAITS = 20, MOST_REPLICAS = 5 };
 
 static const char usage[] =
-    "receiver --sessions FILE --store WHERE --carrier WHERE --shards N[-N][,..]\n"
+    "receiver --sessions FILE --store WHERE --carrier WHERE --shards N[-N][,..]|auto\n"
     "         [--replicas N] [--batch N] [--skew SECONDS] [--metrics ADDRESS:PORT]\n"
     "         [--until-closed]\n"
     "  --sessions FILE  a line for each session: NAME SHARD ETYPE MODE KEY FIRST FROM TO\n"
     "  --store WHERE    sqlite:FILE, in whose name '%' is the shard, or\n"
     "                   postgresql://USER@HOST/DATABASE\n"
     "  --carrier WHERE  sqlite:FILE, or nats://HOST:PORT[,..]\n"
-    "  --shards LIST    the shards to be served, such as 0-3,7\n"
+    "  --shards LIST    the shards to be served, such as 0-3,7; auto: those of the sessions, which\n"
+    "                   all receivers of the store that say so share\n"
     "  --replicas N     a stream with fewer isn't read (1)\n"
     "  --batch N        so many frames go into a transaction at most (1024)\n"
     "  --skew SECONDS   by so much a frame's time may be off (86400): more than the time for\n"
@@ -43,139 +43,160 @@ struct options {
     struct shard_options shard;
     const char *sessions, *metrics;
     unsigned char is_served[CARRIER_SHARDS];
-    unsigned shard_count;
+    unsigned shard_count; /* 0: it shares those of the sessions with other receivers */
+    int has_shards;
 };
 
 static struct options options;
-static int failed;           /* a shard couldn't be started */
-static unsigned begun, done; /* so many shards were started, and have ended */
+static struct sessions *sessions; /* the file, as it was read last */
 
-/* The file of sessions as it was read last. */
-static struct { pthread_mutex_t lock; struct sessions *now; }
-    file = { .lock = PTHREAD_MUTEX_INITIALIZER };
+/* ---- Shards that are shared */
 
-static void add_one(unsigned *count)
+static struct sharing *sharing;
+static unsigned char is_closed[CARRIER_SHARDS]; /* with --until-closed: all its sessions are */
+
+static int is_wanted(unsigned shard)
 {
-    __atomic_fetch_add(count, 1, __ATOMIC_SEQ_CST);
+    return sessions_have_shard(sessions, shard) && !is_closed[shard];
 }
 
-static unsigned read_count(const unsigned *count)
+/* How many shards have to be served by somebody. */
+static unsigned count_wanted(void)
 {
-    return __atomic_load_n(count, __ATOMIC_SEQ_CST);
+    unsigned shard, count = 0;
+    for (shard = 0; shard < CARRIER_SHARDS; shard++)
+        count += is_wanted(shard) != 0;
+    return count;
 }
 
-/* ---- Sessions */
-
-/* Has a shard use the file's sessions, unless it does. */
-static void use_sessions(struct shard *shard)
+static unsigned count_served(void)
 {
-    pthread_mutex_lock(&file.lock);
-    if (shard->sessions != file.now)
-        shard_use(shard, file.now);
-    pthread_mutex_unlock(&file.lock);
+    unsigned shard, count = 0;
+    for (shard = 0; shard < CARRIER_SHARDS; shard++)
+        count += serving_state(shard) == SHARD_SERVED;
+    return count;
 }
 
-/* Looks whether the file is another one. */
+/* Takes shards that nobody has, so many at most, from a drawn one on. */
+static void take_shards(unsigned count)
+{
+    unsigned from = (unsigned)rand() % CARRIER_SHARDS, i;
+    for (i = 0; i < CARRIER_SHARDS && count > 0; i++) {
+        unsigned shard = (from + i) % CARRIER_SHARDS;
+        int taken;
+        if (!is_wanted(shard) || serving_state(shard) != SHARD_IDLE)
+            continue;
+        taken = sharing_take(sharing, shard);
+        if (taken < 0)
+            return;
+        count -= taken == 1 && serving_start(shard);
+    }
+}
+
+/* Has so many threads end after their transactions, and those of shards that aren't this one's. */
+static void leave_shards(unsigned count)
+{
+    unsigned shard;
+    for (shard = 0; shard < CARRIER_SHARDS; shard++) {
+        int is_own = is_wanted(shard) && sharing_has(sharing, shard);
+        if (serving_state(shard) != SHARD_SERVED || (is_own && count == 0))
+            continue;
+        serving_leave(shard);
+        count -= count > 0 && is_own;
+    }
+}
+
+/* Gives the locks back of those that aren't served any more. */
+static void give_back_shards(void)
+{
+    unsigned shard;
+    for (shard = 0; shard < CARRIER_SHARDS; shard++) {
+        if (serving_state(shard) != SHARD_IDLE || !sharing_has(sharing, shard))
+            continue;
+        is_closed[shard] = (unsigned char)serving_has_closed(shard);
+        sharing_give_back(sharing, shard);
+    }
+}
+
+static void report_shared(int receivers)
+{
+    static unsigned last = UINT_MAX;
+    unsigned served = count_served();
+    if (served == last)
+        return;
+    last = served;
+    log_fact(LEVEL_INFO, "shards_shared", field_number("receivers", (uint64_t)receivers),
+             field_number("shards", count_wanted()), field_number("served", served));
+}
+
+/* Each receiver serves the same part of the shards, rounded up. */
+static void share(void)
+{
+    int receivers = sharing_count(sharing);
+    unsigned part, served;
+    if (receivers < 1)
+        return; /* the store is away: what is served stays so */
+    part = (count_wanted() + (unsigned)receivers - 1) / (unsigned)receivers;
+    served = count_served();
+    leave_shards(served > part ? served - part : 0);
+    if (served < part)
+        take_shards(part - served);
+    report_shared(receivers);
+}
+
+/* ---- */
+
+static void start_shards(void)
+{
+    unsigned shard;
+    for (shard = 0; shard < CARRIER_SHARDS && !is_ending(); shard++)
+        if (options.is_served[shard] && !serving_start(shard))
+            end_now();
+}
+
+/* Looks whether the file of sessions is another one. */
 static void look_at_sessions(void)
 {
-    struct sessions *again = sessions_read_again(file.now), *before = file.now;
+    struct sessions *again = sessions_read_again(sessions);
     if (again == NULL)
         return;
-    pthread_mutex_lock(&file.lock);
-    file.now = again;
-    pthread_mutex_unlock(&file.lock);
-    sessions_forget(before);
+    serving_use(again);
+    sessions_forget(sessions);
+    sessions = again;
+    memset(is_closed, 0, sizeof is_closed);
 }
 
-/* ---- A shard */
-
-/* The store is away: waits for longer each time. */
-static void wait_for_store(const struct shard *shard, unsigned *pause)
+/* Whether there is nothing to do any more. */
+static int is_done(void)
 {
-    unsigned waited;
-    log_fact(LEVEL_WARNING, "store_away", field_number("shard", shard->number),
-             field_number("milliseconds", *pause),
-             field_text("text", "it is opened again then, and the shard goes on where it was"));
-    for (waited = 0; waited < *pause && !is_ending(); waited += WAIT)
-        pause_milliseconds(WAIT);
-    *pause = 2 * *pause < LONGEST ? 2 * *pause : LONGEST;
-}
-
-/* Each second: shows what was counted, and logs it if something was since. */
-static void report(struct shard *shard, unsigned part, uint64_t began, struct shard_counts *before)
-{
-    shard_show(shard, part);
-    if (shard->counts.frames == before->frames)
-        return;
-    shard_report(shard, "shard_progress", nanoseconds() - began);
-    *before = shard->counts;
-}
-
-/* What waits for the first frame isn't counted in the seconds. */
-static void serve(struct shard *shard, unsigned part)
-{
-    uint64_t began = nanoseconds(), reported = began;
-    struct shard_counts before = { 0 };
-    unsigned pause = SHORTEST;
-    while (!is_ending() && !(options.shard.until_closed && shard->is_loaded && shard->open == 0)) {
-        int count;
-        use_sessions(shard);
-        count = shard_step(shard, WAIT);
-        if (count < 0)
-            wait_for_store(shard, &pause);
-        else if (shard->is_loaded)
-            pause = SHORTEST;
-        if (shard->counts.accepted == 0 && count == 0)
-            began = nanoseconds();
-        if (nanoseconds() - reported > SECOND) {
-            report(shard, part, began, &before);
-            reported = nanoseconds();
-        }
-    }
-    shard_report(shard, "shard_ended", nanoseconds() - began);
-}
-
-/* A thread's shard, and its place among all. */
-struct thread { pthread_t thread; struct shard shard; unsigned part; };
-
-static void *work(void *given)
-{
-    struct thread *it = given;
-    if (shard_start(&it->shard) == 0) {
-        add_one(&begun);
-        shard_show(&it->shard, it->part);
-        serve(&it->shard, it->part);
-    } else if (!is_ending()) {
-        __atomic_store_n(&failed, 1, __ATOMIC_SEQ_CST);
-        end_now();
-    }
-    shard_stop(&it->shard);
-    add_one(&done);
-    return NULL;
-}
-
-static int start_thread(struct thread *it, unsigned part, unsigned number)
-{
-    it->part = part;
-    service_expect(part);
-    it->shard.options = &options.shard;
-    it->shard.number = number;
-    if (pthread_create(&it->thread, NULL, work, it) == 0)
+    if (serving_count() > 0)
+        return 0;
+    if (is_ending() || sharing == NULL)
         return 1;
-    log_system("thread_unstarted", "receiver");
-    __atomic_store_n(&failed, 1, __ATOMIC_SEQ_CST);
-    end_now();
-    return 0;
+    return options.shard.until_closed && count_wanted() == 0;
 }
 
-/* Tells the supervisor how it stands, until all threads have ended. */
-static void tell_all(unsigned started)
+static void do_each_second(void)
+{
+    if (!is_ending())
+        look_at_sessions();
+    if (sharing != NULL && !is_ending())
+        share();
+    service_tell_alive();
+}
+
+/* Until all threads have ended: sees to the shards, and tells the supervisor how it stands. */
+static void watch(void)
 {
     int is_ready = 0, is_ended = 0;
     unsigned rounds;
-    for (rounds = 0; read_count(&done) < started; rounds++) {
-        pause_milliseconds(WAIT / 2);
-        if (!is_ready && read_count(&begun) == options.shard_count) {
+    for (rounds = 0; !is_done(); rounds++) {
+        serving_join();
+        if (sharing != NULL)
+            give_back_shards();
+        if (rounds % SECOND_OF_WAITS == 0)
+            do_each_second();
+        if (!is_ready && serving_is_ready()) {
             service_tell_ready();
             is_ready = 1;
         }
@@ -183,33 +204,27 @@ static void tell_all(unsigned started)
             service_tell_end();
             is_ended = 1;
         }
-        if (rounds % (2 * SECOND_OF_WAITS) == 0) {
-            look_at_sessions();
-            service_tell_alive();
-        }
+        pause_milliseconds(WAIT);
     }
 }
 
-static void work_all(void)
+/* 0, or 1 after a fault at the start. */
+static int work(void)
 {
-    struct thread *threads = calloc(options.shard_count, sizeof *threads);
-    unsigned number, i, started = 0;
-    if (threads == NULL || service_begin(shard_metrics, shard_metrics_count, &shard_stands_metric,
-                                         options.shard_count) != 0) {
-        log_system("out_of_memory", "receiver");
-        failed = 1;
-    } else if (options.metrics != NULL && service_listen(options.metrics) != 0) {
-        failed = 1;
+    int is_fine = serving_begin(&options.shard, sessions, options.shard_count == 0) == 0
+                  && (options.metrics == NULL || service_listen(options.metrics) == 0);
+    if (is_fine && options.shard_count == 0)
+        is_fine = (sharing = sharing_open(options.shard.store)) != NULL;
+    if (is_fine) {
+        start_shards();
+        watch();
+        is_fine = !serving_failed();
     }
-    for (number = 0; !failed && number < CARRIER_SHARDS; number++)
-        if (options.is_served[number])
-            started += (unsigned)start_thread(&threads[started], started, number);
-    tell_all(started);
-    for (i = 0; i < started; i++)
-        if (pthread_join(threads[i].thread, NULL) != 0)
-            log_system("thread_unjoined", "receiver");
+    if (sharing != NULL)
+        sharing_close(sharing);
+    serving_end();
     service_end();
-    free(threads);
+    return !is_fine;
 }
 
 /* ---- Options */
@@ -226,10 +241,11 @@ static const struct option words_of_options[] = {
 
 static void read_shards(struct options *o, const char *text)
 {
-    o->shard_count = read_ranges(text, CARRIER_SHARDS, o->is_served);
-    if (o->shard_count > 0)
+    o->shard_count = strcmp(text, "auto") == 0 ? 0 : read_ranges(text, CARRIER_SHARDS, o->is_served);
+    o->has_shards = o->shard_count > 0 || strcmp(text, "auto") == 0;
+    if (o->has_shards)
         return;
-    fprintf(stderr, "receiver: --shards '%s': name shards below %d, such as 0-3,7\n", text,
+    fprintf(stderr, "receiver: --shards '%s': name shards below %d, such as 0-3,7, or auto\n", text,
             CARRIER_SHARDS);
     exit(2);
 }
@@ -262,11 +278,12 @@ static int read_options(struct options *o, int count, char **words)
         if (!read_option(o, letter))
             return 0;
     return optind == count && o->sessions && o->shard.store && o->shard.carrier
-           && o->shard_count > 0;
+           && o->has_shards;
 }
 
 int main(int count, char **words)
 {
+    int status;
     options.shard = (struct shard_options){ .replicas = 1, .batch = 1024, .skew = 86400 };
     if (!read_options(&options, count, words)) {
         fputs(usage, stderr);
@@ -275,11 +292,11 @@ int main(int count, char **words)
     umask(077); /* databases have texts and frames: they are for their owner alone */
     end_by_signals();
     srand((unsigned)nanoseconds());
-    file.now = sessions_read(options.sessions);
-    if (file.now == NULL)
+    sessions = sessions_read(options.sessions);
+    if (sessions == NULL)
         return 1;
-    work_all();
-    sessions_forget(file.now);
+    status = work();
+    sessions_forget(sessions);
     log_end();
-    return failed;
+    return status;
 }

@@ -21,6 +21,7 @@ struct sessions {
     size_t size;
     struct place *places;  /* by the hashes of names */
     size_t count;
+    unsigned char has_shard[CARRIER_SHARDS];
     struct stat read, seen; /* what the file was when it was read, and at the last look */
     unsigned users;
 };
@@ -224,6 +225,7 @@ static int read_lines(struct sessions *s, struct place *keys)
     while (at < s->size && is_fine) {
         is_fine = read_line(s, at, &it) || is_malformed(s, at);
         s->places[s->count] = (struct place){ hash_of(it.name, strlen(it.name)), at };
+        s->has_shard[it.shard] = 1;
         keys[s->count++] = (struct place){ hash_of(it.key, it.key_len), at };
         at = (size_t)((char *)memchr(s->text + at, '\n', s->size - at) - s->text) + 1;
     }
@@ -346,6 +348,11 @@ int sessions_find(const struct sessions *s, const char *name, struct session *it
         if (read_line(s, at->at, it) && strcmp(it->name, name) == 0)
             return 1;
     return 0;
+}
+
+int sessions_have_shard(const struct sessions *s, unsigned shard)
+{
+    return s->has_shard[shard];
 }
 
 size_t sessions_count(const struct sessions *s)

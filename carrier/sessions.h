@@ -43,6 +43,9 @@ struct sessions *sessions_read_again(struct sessions *sessions);
  * has a key. */
 int sessions_find(const struct sessions *sessions, const char *name, struct session *it);
 
+/* Whether a session is in this shard. */
+int sessions_have_shard(const struct sessions *sessions, unsigned shard);
+
 /* Whether a session may have this name. */
 int sessions_may_have(const char *name);
 

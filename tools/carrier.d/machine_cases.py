@@ -96,14 +96,19 @@ def all_nodes_killed(world):
     time.sleep(2)
 
 
+def require_all_rise(world, seconds, shards=None):
+    """In each of these shards something takes effect meanwhile."""
+    before = world.effects_of_shards()
+    time.sleep(seconds)
+    after = world.effects_of_shards()
+    if not all(after[shard] > before[shard] for shard in shards or range(len(after))):
+        world.notes.append(f"a shard of {shards or 'all'} stood: {before}, {after}")
+
+
 def node_gone(world):
     world.stop("r1")
-    before = world.effects_of_shards()
     world.stop("n2")
-    time.sleep(24)
-    after = world.effects_of_shards()
-    if not all(late > early for early, late in zip(before, after)):
-        world.notes.append(f"a shard stood: {before}, {after}")
+    require_all_rise(world, 24)
     world.start_node("n2")
     time.sleep(3)
 
@@ -134,15 +139,11 @@ def one_replica(world):
     """The shards of that node wait; the other shards don't."""
     leader = world.leader()
     free = [shard for shard in range(world.options.shards) if world.leader(shard) != leader]
-    before = world.effects_of_shards()
     world.stop(leader)
     time.sleep(1)
     for sender in SENDERS:
         world.restart(sender)
-    time.sleep(24)
-    after = world.effects_of_shards()
-    if not all(after[shard] > before[shard] for shard in free):
-        world.notes.append(f"a shard stood that was up: {free}, {before}, {after}")
+    require_all_rise(world, 24, free)
     world.start_node(leader)
     time.sleep(2)
 
@@ -174,6 +175,30 @@ def receiver_lost(world):
     world.stop("r0")
     world.start_receiver("r1")
     time.sleep(25)
+
+
+def shared_killed(world):
+    world.stop("r0")
+    time.sleep(5)
+    require_all_rise(world, 10)
+    world.start_receiver("r0")
+    time.sleep(3)
+    require_all_rise(world, 6)
+
+
+def shared_lost(world):
+    """Its locks end with its connection, which the database gives up."""
+    world.network.isolate("r0")
+    time.sleep(20)
+    require_all_rise(world, 8)
+
+
+def shared_stopped(world):
+    """Its locks end since it says nothing. When it wakes, it serves its part again."""
+    world.signal(["r0"], signal.SIGSTOP)
+    time.sleep(20)
+    require_all_rise(world, 8)
+    world.signal(["r0"], signal.SIGCONT)
 
 
 def receivers_clock(world):
@@ -220,8 +245,12 @@ def all_disks_full(world):
 
 
 def outbox_disk_full(world):
+    """The sender is cut off, so that texts and frames pile up."""
+    world.network.isolate("s0")
     world.disks["s0"].fill()
     time.sleep(7)
+    if not world.counts["insertions that failed"]:
+        world.notes.append("the disk wasn't full")
     world.disks["s0"].make_room()
 
 
@@ -337,7 +366,7 @@ class Case:
     run: typing.Callable
     done: str
     seconds: float = 60
-    gap: float = 15
+    gap: float = 20
     is_whole: bool = True
     seed: int = 0
     made: dict = dataclasses.field(default_factory=dict)
@@ -373,6 +402,12 @@ CASES = (
     Case(ends_stopped, "a sender, then one receiver and then the other are stopped for 3 s"),
     Case(receiver_lost, "a receiver's machine is lost in a transaction; another one is started",
          gap=20, made={"rate": 1200, "seconds": 24}),
+    Case(shared_killed, "receivers share shards; one is killed, and is away for 15 s",
+         made={"is_shared": True, "seconds": 28}),
+    Case(shared_lost, "receivers share shards; the machine of one is cut off for 28 s",
+         made={"is_shared": True, "seconds": 34}),
+    Case(shared_stopped, "receivers share shards; one is stopped for 28 s",
+         made={"is_shared": True, "seconds": 34}),
     Case(receivers_clock, "one of two receivers has a clock that is two days ahead",
          made={"clocks": {"r0": 2 * DAY}}),
     Case(database_killed, "the database is killed three times"),
@@ -381,7 +416,7 @@ CASES = (
          made={"disks": {"n0": "24m"}, "rate": 600, "size": 1000}),
     Case(all_disks_full, "all nodes' disks are full for 7 s", gap=25,
          made={"disks": SMALL, "rate": 600, "size": 1000}),
-    Case(outbox_disk_full, "an outbox's disk is full for 7 s",
+    Case(outbox_disk_full, "an outbox's disk is full for 7 s, and its sender is cut off",
          made={"disks": {"s0": "8m"}, "size": 1000}),
     Case(power_of_two, "two nodes lose power", made={"disks": IMAGES, "rate": 600}),
     Case(power_of_all, "all nodes lose power, over file systems that are mounted sync", gap=25,

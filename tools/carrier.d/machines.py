@@ -195,6 +195,7 @@ class Options:
     shards: int = 4
     batch: int = 1              # texts of a frame
     replicas: int = 3
+    is_shared: bool = False     # receivers share shards; else each serves all
     disks: dict = dataclasses.field(default_factory=dict)   # the kind of a machine's disk
     clocks: dict = dataclasses.field(default_factory=dict)  # seconds by which it is ahead at first
 
@@ -357,10 +358,10 @@ class World:
                    str(self.options.replicas), "--batch", str(self.options.batch), is_tended=True)
 
     def start_receiver(self, name):
+        shards = "auto" if self.options.is_shared else f"0-{self.options.shards - 1}"
         self.spawn(name, f"{self.programs}/receiver", "--sessions", f"{self.folder}/sessions",
-                   "--store", self.store, "--carrier", self.where, "--shards",
-                   f"0-{self.options.shards - 1}", "--replicas", str(self.options.replicas),
-                   is_tended=True)
+                   "--store", self.store, "--carrier", self.where, "--shards", shards,
+                   "--replicas", str(self.options.replicas), is_tended=True)
 
     def write_sessions(self):
         dice = random.Random(7)

@@ -583,6 +583,67 @@ def gap(place):
     place.await_delivered()
 
 
+# ---- shards that are shared
+
+EIGHT = tuple(TOM.replace("tom 0", f"t{it} {it}").replace("22" * 32, f"{it + 1:064x}")
+              for it in range(8))
+
+
+def of_eight(low, high):
+    return [row for it in range(8) for row in texts(f"t{it}", low, high)]
+
+
+def served(process):
+    """How many shards a receiver last said that it serves."""
+    lines = loglines.find(Place.log(process), "shards_shared")
+    return int(lines[-1]["served"]) if lines else 0
+
+
+def require_served(place, processes, wanted, seconds=5):
+    place.require(place.wait(lambda: [served(it) for it in processes] == wanted, seconds),
+                  f"served: {[served(it) for it in processes]} in place of {wanted}")
+
+
+def shared_shards(place):
+    """A second receiver comes, the first is killed, and the second is told to end."""
+    place.put(of_eight(0, 5))
+    place.start("sender")
+    first = place.start("receiver")
+    place.await_delivered({f"t{it}": 5 for it in range(8)})
+    require_served(place, [first], [8])
+    second = place.start("receiver")
+    require_served(place, [first, second], [4, 4])
+    place.put(of_eight(5, 10))
+    place.await_delivered({f"t{it}": 10 for it in range(8)})
+    first.kill()
+    require_served(place, [second], [8])
+    place.put(of_eight(10, 15))
+    place.await_delivered()
+    require_end(place, second, "a receiver that shares")
+
+
+def shared_new_shard(place):
+    """A session in a shard that no session was in gets a line."""
+    place.put(texts("ann", 0, 5))
+    place.start("sender")
+    receiver = place.start("receiver")
+    place.await_delivered({"ann": 5})
+    place.replace(place.sessions, [ANN, TOM_1])
+    place.put(texts("tom", 0, 5))
+    place.await_delivered()
+    require_served(place, [receiver], [2])
+
+
+def shared_until_closed(place):
+    """Three receivers that share end once all is closed."""
+    place.put(of_eight(0, 5) + close(*(f"t{it}" for it in range(8))))
+    receivers = [place.start("receiver", "--until-closed") for _ in range(3)]
+    place.run("sender", "--drain")
+    place.await_delivered()
+    ended = place.wait(lambda: all(it.poll() == 0 for it in receivers), 10)
+    place.require(ended, f"they have ended: {[it.poll() for it in receivers]}")
+
+
 # ---- numbers
 
 def restore_outbox(place):
@@ -947,6 +1008,12 @@ CASES = (
     Case(session_moved, "a session gets another shard", {"ann": 110, "tom": 5}, 15,
          (ANN, TOM_1), "0,1", nats=""),
     Case(gap, "150 frames are deleted before they are read", {}, 10, nats=""),
+    Case(shared_shards, "receivers that share shards come and are killed",
+         {f"t{it}": 15 for it in range(8)}, 25, EIGHT, "auto"),
+    Case(shared_new_shard, "a session in a new shard gets a line", {"ann": 5, "tom": 5}, 15, (ANN,),
+         "auto"),
+    Case(shared_until_closed, "receivers that share shards, until all is closed",
+         {f"t{it}": 5 for it in range(8)}, 20, EIGHT, "auto"),
     Case(restore_outbox, "the outbox is restored from a backup that is 100 texts old",
          {"ann": 200, "tom": 10}, 10),
     Case(lose_outbox, "a sender begins elsewhere with a new outbox", {"ann": 200, "tom": 10}, 10),
