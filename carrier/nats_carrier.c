@@ -2,6 +2,7 @@
 #include "clock.h"
 #include "log.h"
 #include "nats_carrier.h"
+#include "private.h"
 
 #include <stdio.h>
 #include <stdlib.h>
@@ -168,14 +169,65 @@ static void note_fault(natsConnection *connection, natsSubscription *subscriptio
         __atomic_store_n(&((struct nats_carrier *)given)->is_silent, 1, __ATOMIC_SEQ_CST);
 }
 
-static natsStatus connect_to(struct nats_carrier *c, const char *where)
+/* Who this is: USER PASSWORD, or what NATS's own tools write. */
+static natsStatus set_credentials(natsOptions *options, const char *path)
+{
+    size_t size;
+    struct stat is;
+    char *text = private_read(path, &size, &is), *user, *password, *rest = NULL;
+    natsStatus status = NATS_INVALID_ARG;
+    if (text == NULL)
+        return NATS_IO_ERROR;
+    if (strncmp(text, "-----BEGIN", 10) == 0) {
+        status = natsOptions_SetUserCredentialsFromFiles(options, path, NULL);
+    } else {
+        user = strtok_r(text, " \t\r\n", &rest);
+        password = strtok_r(NULL, " \t\r\n", &rest);
+        if (user != NULL && password != NULL && strtok_r(NULL, " \t\r\n", &rest) == NULL)
+            status = natsOptions_SetUserInfo(options, user, password);
+    }
+    private_forget(text, size);
+    return status;
+}
+
+static natsStatus set_tls(natsOptions *options, const struct carrier_options *given)
+{
+    natsStatus status = NATS_OK;
+    if (given->tls_ca != NULL || given->tls_cert != NULL
+        || strncmp(given->where, "tls://", 6) == 0)
+        status = natsOptions_SetSecure(options, true);
+    if (status == NATS_OK && given->tls_ca != NULL)
+        status = natsOptions_LoadCATrustedCertificates(options, given->tls_ca);
+    if (status == NATS_OK && given->tls_cert != NULL)
+        status = natsOptions_LoadCertificatesChain(options, given->tls_cert, given->tls_key);
+    if (status == NATS_OK && given->tls_name != NULL)
+        status = natsOptions_SetExpectedHostname(options, given->tls_name);
+    return status;
+}
+
+/* What has to be right before any server is asked; a fault is logged. */
+static natsStatus set_options(natsOptions *options, const struct carrier_options *given)
+{
+    const char *what = "--carrier";
+    natsStatus status = set_servers(options, given->where);
+    if (status == NATS_OK && given->credentials != NULL) {
+        what = "--credentials";
+        status = set_credentials(options, given->credentials);
+    }
+    if (status == NATS_OK) {
+        what = "--tls-ca, --tls-cert, --tls-key";
+        status = set_tls(options, given);
+    }
+    if (status != NATS_OK)
+        log_fact(LEVEL_ERROR, "option_unusable", field_text("option", what),
+                 field_text("fault", natsStatus_GetText(status)));
+    return status;
+}
+
+static natsStatus connect_to(struct nats_carrier *c)
 {
     jsOptions given;
-    natsStatus status = natsOptions_Create(&c->options);
-    if (status == NATS_OK)
-        status = set_servers(c->options, where);
-    if (status == NATS_OK)
-        status = natsOptions_SetMaxReconnect(c->options, -1);
+    natsStatus status = natsOptions_SetMaxReconnect(c->options, -1);
     if (status == NATS_OK)
         status = natsOptions_SetReconnectWait(c->options, RECONNECT);
     if (status == NATS_OK)
@@ -214,7 +266,7 @@ static void report_unopened(const char *where, natsStatus status)
                                 " (carrier/cluster starts three), or name another --carrier"));
 }
 
-struct carrier *nats_carrier_open(const char *where, unsigned replicas)
+struct carrier *nats_carrier_open(const struct carrier_options *options)
 {
     struct nats_carrier *c = calloc(1, sizeof *c);
     natsStatus status;
@@ -229,13 +281,16 @@ struct carrier *nats_carrier_open(const char *where, unsigned replicas)
     c->base.fetch = nats_fetch;
     c->base.behind = nats_behind;
     c->base.close = close_it;
-    c->replicas = replicas;
-    status = connect_to(c, where);
-    if (status == NATS_OK)
-        status = nats_await_answers(c);
-    if (status == NATS_OK)
-        return &c->base;
-    report_unopened(where, status);
+    c->replicas = options->replicas;
+    status = natsOptions_Create(&c->options);
+    if (status == NATS_OK && set_options(c->options, options) == NATS_OK) {
+        status = connect_to(c);
+        if (status == NATS_OK)
+            status = nats_await_answers(c);
+        if (status == NATS_OK)
+            return &c->base;
+        report_unopened(options->where, status);
+    }
     close_it(&c->base);
     return NULL;
 }

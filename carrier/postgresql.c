@@ -33,7 +33,15 @@ PGconn *postgresql_connect(const char *where)
                                          "keepalives_interval", "keepalives_count",
                                          "application_name", "dbname", NULL };
     const char *values[] = { "5", "5000", "2", "1", "3", "krbrelay", where, NULL };
-    PGconn *db = PQconnectdbParams(names, values, 1);
+    PQconninfoOption *parts = PQconninfoParse(where, NULL);
+    PGconn *db;
+    if (parts == NULL) { /* what libpq says of it may have its password */
+        log_fact(LEVEL_ERROR, "store_unknown", field_text("store", "postgresql"), field_text("text",
+                 "--store isn't of the form postgresql://USER@HOST/DATABASE"));
+        return NULL;
+    }
+    PQconninfoFree(parts);
+    db = PQconnectdbParams(names, values, 1);
     if (PQstatus(db) != CONNECTION_OK)
         postgresql_report(db, "no connection: is the server started, and does --store name it?");
     else if (postgresql_is_done(db, PQexec(db, timeouts), "timeouts"))

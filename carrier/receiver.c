@@ -18,16 +18,14 @@
 #include <string.h>
 #include <sys/stat.h>
 
-enum { WAIT = 50, SECOND_OF_WAITS = 20, MOST_REPLICAS = 5 };
+enum { WAIT = 50, SECOND_OF_WAITS = 20 };
 
 static const char usage[] =
-    "receiver --sessions FILE --store WHERE --carrier WHERE --shards N[-N][,..]|auto\n"
-    "         [--replicas N] [--batch N] [--skew SECONDS] [--metrics ADDRESS:PORT]\n"
-    "         [--until-closed]\n"
+    "receiver --sessions FILE --store WHERE --carrier WHERE --shards LIST|auto [OPTION..]\n"
     "  --sessions FILE  a line for each session: NAME SHARD ETYPE MODE KEY FIRST FROM TO\n"
     "  --store WHERE    sqlite:FILE, in whose name '%' is the shard, or\n"
     "                   postgresql://USER@HOST/DATABASE\n"
-    "  --carrier WHERE  sqlite:FILE, or nats://HOST:PORT[,..]\n"
+    CARRIER_USAGE
     "  --shards LIST    the shards to be served, such as 0-3,7; auto: those of the sessions, which\n"
     "                   all receivers of the store that say so share\n"
     "  --replicas N     a stream with fewer isn't read (1)\n"
@@ -230,9 +228,9 @@ static int work(void)
 /* ---- Options */
 
 static const struct option words_of_options[] = {
+    CARRIER_WORDS,
     { "sessions", required_argument, NULL, 's' }, { "store", required_argument, NULL, 'S' },
-    { "carrier", required_argument, NULL, 'c' },  { "shards", required_argument, NULL, 'n' },
-    { "replicas", required_argument, NULL, 'r' }, { "batch", required_argument, NULL, 'b' },
+    { "shards", required_argument, NULL, 'n' },   { "batch", required_argument, NULL, 'b' },
     { "skew", required_argument, NULL, 'k' },     { "metrics", required_argument, NULL, 'm' },
     { "until-closed", no_argument, NULL, 'u' },
     { "help", no_argument, NULL, 'h' },           { "version", no_argument, NULL, 'v' },
@@ -255,18 +253,14 @@ static int read_option(struct options *o, int letter)
     switch (letter) {
     case 's': o->sessions = optarg; break;
     case 'S': o->shard.store = optarg; break;
-    case 'c': o->shard.carrier = optarg; break;
     case 'n': read_shards(o, optarg); break;
-    case 'r':
-        o->shard.replicas = option_number("receiver", "replicas", optarg, 1, MOST_REPLICAS);
-        break;
     case 'b': o->shard.batch = option_number("receiver", "batch", optarg, 1, MOST_FRAMES); break;
     case 'k': o->shard.skew = option_number("receiver", "skew", optarg, 0, UINT32_MAX); break;
     case 'm': o->metrics = optarg; break;
     case 'u': o->shard.until_closed = 1; break;
     case 'h': fputs(usage, stdout); exit(0);
     case 'v': print_version("receiver"); exit(0);
-    default: return 0;
+    default: return carrier_option("receiver", &o->shard.carrier, letter, optarg);
     }
     return 1;
 }
@@ -277,14 +271,14 @@ static int read_options(struct options *o, int count, char **words)
     while ((letter = getopt_long(count, words, "", words_of_options, NULL)) != -1)
         if (!read_option(o, letter))
             return 0;
-    return optind == count && o->sessions && o->shard.store && o->shard.carrier
-           && o->has_shards;
+    return optind == count && o->sessions && o->shard.store && o->shard.carrier.where
+           && o->has_shards && carrier_options_fit("receiver", &o->shard.carrier);
 }
 
 int main(int count, char **words)
 {
     int status;
-    options.shard = (struct shard_options){ .replicas = 1, .batch = 1024, .skew = 86400 };
+    options.shard = (struct shard_options){ .carrier = { .replicas = 1 }, .batch = 1024, .skew = 86400 };
     if (!read_options(&options, count, words)) {
         fputs(usage, stderr);
         return 2;

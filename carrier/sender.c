@@ -19,19 +19,17 @@
 
 enum {
     IDLE = 20,          /* milliseconds to wait for confirmations, or texts */
-    PAUSE = 100,        /* milliseconds after a fault */
-    MOST_REPLICAS = 5
+    PAUSE = 100         /* milliseconds after a fault */
 };
 
 #define SECOND UINT64_C(1000000000) /* in nanoseconds */
 #define SILENCE (10 * SECOND)
 
 static const char usage[] =
-    "sender --sessions FILE --outbox FILE --carrier WHERE [--replicas N] [--batch N]\n"
-    "       [--retry MILLISECONDS] [--metrics ADDRESS:PORT] [--drain]\n"
+    "sender --sessions FILE --outbox FILE --carrier WHERE [OPTION..]\n"
     "  --sessions FILE  a line for each session: NAME SHARD ETYPE MODE KEY FIRST FROM TO\n"
     "  --outbox FILE    SQLite's, in whose table `text` an application puts texts\n"
-    "  --carrier WHERE  sqlite:FILE, or nats://HOST:PORT[,..]\n"
+    CARRIER_USAGE
     "  --replicas N     so many replicas has a stream that is made; one with fewer isn't used (1)\n"
     "  --batch N        so many texts go into a frame at most (1)\n"
     "  --retry MILLISECONDS  what isn't carried by then is published again (2000): more than the\n"
@@ -298,7 +296,7 @@ static int start(struct sender *s)
     s->sessions = sessions_read(s->options.sessions);
     if (s->sessions == NULL || make_memory(s) != 0)
         return -1;
-    s->carrier = carrier_open(s->options.carrier, s->options.replicas);
+    s->carrier = carrier_open(&s->options.carrier);
     if (s->carrier == NULL) /* the outbox stays with whoever has it */
         return -1;
     if (outbox_open(&s->outbox, s->options.outbox) != 0 || sender_begin(s) != 0)
@@ -345,8 +343,8 @@ static int work(struct sender *s)
 /* ---- Options */
 
 static const struct option words_of_options[] = {
+    CARRIER_WORDS,
     { "sessions", required_argument, NULL, 's' }, { "outbox", required_argument, NULL, 'o' },
-    { "carrier", required_argument, NULL, 'c' },  { "replicas", required_argument, NULL, 'r' },
     { "batch", required_argument, NULL, 'b' },    { "retry", required_argument, NULL, 't' },
     { "metrics", required_argument, NULL, 'm' },  { "drain", no_argument, NULL, 'd' },
     { "help", no_argument, NULL, 'h' },           { "version", no_argument, NULL, 'v' },
@@ -358,15 +356,13 @@ static int read_option(struct options *o, int letter)
     switch (letter) {
     case 's': o->sessions = optarg; break;
     case 'o': o->outbox = optarg; break;
-    case 'c': o->carrier = optarg; break;
-    case 'r': o->replicas = option_number("sender", "replicas", optarg, 1, MOST_REPLICAS); break;
     case 'b': o->batch = option_number("sender", "batch", optarg, 1, BATCH_TEXTS); break;
     case 't': o->retry = option_number("sender", "retry", optarg, 1, 86400000); break;
     case 'm': o->metrics = optarg; break;
     case 'd': o->drain = 1; break;
     case 'h': fputs(usage, stdout); exit(0);
     case 'v': print_version("sender"); exit(0);
-    default: return 0;
+    default: return carrier_option("sender", &o->carrier, letter, optarg);
     }
     return 1;
 }
@@ -377,13 +373,14 @@ static int read_options(struct options *o, int count, char **words)
     while ((letter = getopt_long(count, words, "", words_of_options, NULL)) != -1)
         if (!read_option(o, letter))
             return 0;
-    return optind == count && o->sessions && o->outbox && o->carrier;
+    return optind == count && o->sessions && o->outbox && o->carrier.where
+           && carrier_options_fit("sender", &o->carrier);
 }
 
 int main(int count, char **words)
 {
     static struct sender sender;
-    sender.options.replicas = sender.options.batch = 1;
+    sender.options.carrier.replicas = sender.options.batch = 1;
     sender.options.retry = 2000;
     if (!read_options(&sender.options, count, words)) {
         fputs(usage, stderr);

@@ -19,8 +19,9 @@ enum {
 };
 
 struct options {
-    const char *sessions, *outbox, *carrier, *metrics;
-    unsigned replicas, batch, retry;
+    struct carrier_options carrier;
+    const char *sessions, *outbox, *metrics;
+    unsigned batch, retry;
     int drain;
 };
 

@@ -1,16 +1,14 @@
 #include "sessions.h"
 #include "log.h"
+#include "private.h"
 #include "words.h"
 
 #include <arpa/inet.h>
-#include <errno.h>
-#include <fcntl.h>
 #include <stdlib.h>
 #include <string.h>
 #include <sys/stat.h>
-#include <unistd.h>
 
-enum { WORDS = 8, LINE = 256, OTHERS = 077 };
+enum { WORDS = 8, LINE = 256 };
 
 /* A line of the text, with the hash of its name, or of its key. */
 struct place { uint64_t hash; size_t at; };
@@ -249,58 +247,17 @@ static int sort_lines(struct sessions *s)
 
 /* ---- The file */
 
-static int is_private(const struct sessions *s)
-{
-    if ((s->read.st_mode & OTHERS) == 0)
-        return 1;
-    log_fact(LEVEL_ERROR, "sessions_not_private", field_text("file", s->path),
-             field_text("text", "it has keys, and others may use it: chmod 600"));
-    return 0;
-}
-
-/* Reads all of the file, as long as it is now. */
-static int read_text(struct sessions *s, int file)
-{
-    size_t room = (size_t)s->read.st_size + 1;
-    ssize_t more = 1;
-    s->text = malloc(room);
-    if (s->text == NULL)
-        return 0;
-    while (more > 0 && s->size < room - 1) {
-        more = read(file, s->text + s->size, room - 1 - s->size);
-        s->size += more > 0 ? (size_t)more : 0;
-    }
-    if (s->size > 0 && s->text[s->size - 1] != '\n')
-        s->text[s->size++] = '\n';
-    return more >= 0;
-}
-
-static int read_all(struct sessions *s)
-{
-    int file = open(s->path, O_RDONLY | O_CLOEXEC), is_fine = file >= 0;
-    is_fine = is_fine && fstat(file, &s->read) == 0;
-    if (is_fine && !is_private(s)) {
-        close(file);
-        return 0;
-    }
-    is_fine = is_fine && read_text(s, file);
-    if (!is_fine)
-        log_system("sessions_unread", s->path);
-    if (file >= 0 && close(file) != 0)
-        is_fine = 0;
-    return is_fine;
-}
-
 struct sessions *sessions_read(const char *path)
 {
     struct sessions *s = calloc(1, sizeof *s);
     if (s == NULL) {
-        log_system("sessions_unread", path);
+        log_system("out_of_memory", "sessions");
         return NULL;
     }
     s->path = path;
     s->users = 1;
-    if (read_all(s) && sort_lines(s)) {
+    s->text = private_read(path, &s->size, &s->read);
+    if (s->text != NULL && sort_lines(s)) {
         if (s->count > 0)
             return s;
         log_fact(LEVEL_ERROR, "sessions_missing", field_text("file", path),
@@ -376,9 +333,7 @@ void sessions_forget(struct sessions *s)
 {
     if (s == NULL || __atomic_sub_fetch(&s->users, 1, __ATOMIC_SEQ_CST) > 0)
         return;
-    if (s->text != NULL)
-        explicit_bzero(s->text, s->size);
-    free(s->text);
+    private_forget(s->text, s->size);
     free(s->places);
     free(s);
 }

@@ -312,7 +312,7 @@ int shard_start(struct shard *s)
     s->store = store_open(s->options->store, s->number);
     if (s->store == NULL)
         return -1;
-    s->carrier = carrier_open(s->options->carrier, s->options->replicas);
+    s->carrier = carrier_open(&s->options->carrier);
     s->frames = calloc(s->options->batch, sizeof *s->frames);
     s->of_frames = calloc(s->options->batch, sizeof *s->of_frames);
     s->bytes = malloc(KRBRELAY_FRAME_LIMIT);

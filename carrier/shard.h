@@ -36,8 +36,9 @@
 enum { MOST_FRAMES = 4096 }; /* of one transaction */
 
 struct shard_options {
-    const char *store, *carrier;
-    unsigned replicas, batch;
+    const char *store;
+    struct carrier_options carrier;
+    unsigned batch;
     uint32_t skew;
     int until_closed;
 };

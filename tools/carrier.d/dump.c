@@ -65,13 +65,16 @@ static void print_shard(struct dump *d, struct carrier *carrier, unsigned shard)
 
 int main(int count, char **words)
 {
+    struct carrier_options options = { .replicas = 1 };
     struct dump d = { NULL, malloc(KRBRELAY_FRAME_LIMIT) };
     struct carrier *carrier;
     unsigned shard;
     if (count != 9)
         return 2;
+    options.where = words[2];
+    options.replicas = (unsigned)atoi(words[8]);
     d.sessions = sessions_read(words[4]);
-    carrier = carrier_open(words[2], (unsigned)atoi(words[8]));
+    carrier = carrier_open(&options);
     if (d.sessions == NULL || carrier == NULL || d.text == NULL)
         return 1;
     for (shard = 0; shard < (unsigned)atoi(words[6]); shard++)

@@ -75,7 +75,7 @@ def is_told(done, event, words="", status=1, **fields):
 
 def test_arguments(count, ends):
     done = ends.run("receiver", sessions=f"{ends.folder}/none")
-    count.told(is_told(done, "sessions_unread", "No such file"), "error: no file of sessions")
+    count.told(is_told(done, "file_unread", "No such file"), "error: no file of sessions")
     ends.write(f"{ends.folder}/bad", SESSIONS[:1] + ["tom 0 18 priv 22 1 10.0.0.2 10.0.0.255\n"])
     done = ends.run("sender", sessions=f"{ends.folder}/bad")
     count.told(is_told(done, "session_malformed", "NAME SHARD ETYPE MODE KEY FIRST FROM TO", line=2),

@@ -74,13 +74,16 @@ static int disturb_some(struct noise *n)
 int main(int count, char **words)
 {
     static struct noise n;
+    struct carrier_options options = { .replicas = 1 };
     uint64_t until;
     int had;
     if (count != 13)
         return 2;
+    options.where = words[2];
+    options.replicas = (unsigned)atoi(words[8]);
     n.sessions = sessions_read(words[4]);
     n.shards = (unsigned)atoi(words[6]);
-    n.carrier = carrier_open(words[2], (unsigned)atoi(words[8]));
+    n.carrier = carrier_open(&options);
     if (n.sessions == NULL || n.carrier == NULL || n.shards == 0 || n.shards > SHARDS)
         return 1;
     srand((unsigned)atoi(words[10]));
