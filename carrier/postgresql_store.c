@@ -410,7 +410,8 @@ static const char tables[] =
     " ADD COLUMN at bigint NOT NULL DEFAULT 0, ADD COLUMN shard int NOT NULL DEFAULT -1;"
     " END IF; END $$; CREATE INDEX IF NOT EXISTS standing ON session (shard) WHERE missed <> 0;"
     "CREATE TABLE IF NOT EXISTS passed (shard int NOT NULL, session text NOT NULL,"
-    " at bigint NOT NULL, PRIMARY KEY (shard, session));";
+    " at bigint NOT NULL, PRIMARY KEY (shard, session));"
+    "ALTER TABLE session ADD COLUMN IF NOT EXISTS since bigint NOT NULL DEFAULT 0;";
 
 /* A role that may not make tables may use those that are there. */
 static int make_tables(struct postgresql_store *s)
@@ -443,11 +444,14 @@ static int prepare_all(struct postgresql_store *s)
           " DO UPDATE SET incarnation = $4, at = $5"
           " WHERE shard.incarnation = $2 AND shard.at = $3" },
         { "add_session",
-          "INSERT INTO session (name, next, closed, missed, at, shard)"
-          " VALUES ($1, $2::bigint, $3::int, $4::int, $5::bigint, $6::int)"
+          "INSERT INTO session (name, next, closed, missed, at, shard, since)"
+          " VALUES ($1, $2::bigint, $3::int, $4::int, $5::bigint, $6::int,"
+          " CASE WHEN $4 = 0 THEN 0 ELSE extract(epoch FROM now())::bigint END)"
           " ON CONFLICT DO NOTHING" },
         { "move_session",
-          "UPDATE session SET next = $2::bigint, closed = $3::int, missed = $4::int,"
+          "UPDATE session SET since = CASE WHEN next = $2::bigint AND (since > 0 OR $4::int = 0)"
+          " THEN since WHEN $4 = 0 THEN 0 ELSE extract(epoch FROM now())::bigint END,"
+          " next = $2, closed = $3::int, missed = $4,"
           " at = $5::bigint, shard = $6::int WHERE name = $1 AND next = $7::bigint"
           " AND closed = $8::int AND missed = $9::int AND at = $10::bigint AND shard = $11::int" },
         { "pass_session",

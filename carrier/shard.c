@@ -33,9 +33,9 @@ static int look(struct shard *s, struct receiving *of, const struct carried *it,
 }
 
 /* The session keeps its place: what it misses stands after it. */
-static void miss(struct shard *s, struct receiving *of, enum missed missed)
+static void miss(struct shard *s, struct receiving *of, uint32_t missed)
 {
-    if (of->now.missed < missed)
+    if (missed_kind(of->now.missed) < missed_kind(missed))
         of->now.missed = missed;
     shard_stands(s, of);
     shard_note_changed(s, of);
@@ -68,7 +68,7 @@ static void take_refused(struct shard *s, struct receiving *of, const struct car
                  field_text("text", "until a frame comes in time: are the clocks right, and is"
                                     " --skew above the time that the carrier keeps frames?"));
     if (!is_nobodys)
-        miss(s, of, MISSED_REFUSED);
+        miss(s, of, missed_by(answer));
 }
 
 /* Decides what a refused frame is. Out of memory and the like is no refusal: -1. */
@@ -139,7 +139,7 @@ static void move_place(struct shard *s, struct receiving *it, uint64_t offset)
 {
     it->has_opened = 1;
     it->tries = 0;
-    if (it->now.missed != MISSED_REFUSED) {
+    if (missed_kind(it->now.missed) != MISSED_REFUSED) {
         it->now.missed = MISSED_NOTHING;
         it->now.at = offset;
     }

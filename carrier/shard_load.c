@@ -233,7 +233,7 @@ static void place_passed(struct shard *s, struct receiving *it)
 {
     if (it->now.closed)
         return;
-    it->now.missed = MISSED_REFUSED;
+    it->now.missed = missed_by(0);
     shard_stands(s, it);
 }
 

@@ -35,6 +35,7 @@ static const char *const columns[][2] = {
     { "session", "missed INTEGER NOT NULL DEFAULT 0" },
     { "session", "at INTEGER NOT NULL DEFAULT 0" },
     { "session", "shard INTEGER NOT NULL DEFAULT -1" },
+    { "session", "since INTEGER NOT NULL DEFAULT 0" },
 };
 
 /* Each changes one row if it stands where it is said, and else none. A row that isn't there stands
@@ -49,10 +50,12 @@ static const char *const own_sql[STATEMENTS] = {
                     " WHERE ?2 = 0 AND ?3 = 0 OR ?1 IN (SELECT shard FROM shard)"
                     " ON CONFLICT (shard) DO UPDATE SET incarnation = ?4, offset = ?5"
                     " WHERE incarnation = ?2 AND offset = ?3"),
-    [ADD_SESSION] = ("INSERT INTO session (name, next, closed, missed, at, shard)"
-                     " VALUES (?1, ?2, ?3, ?4, ?5, ?6) ON CONFLICT DO NOTHING"),
-    [MOVE_SESSION] = ("UPDATE session SET next = ?2, closed = ?3, missed = ?4, at = ?5, shard = ?6"
-                      " WHERE name = ?1 AND next = ?7 AND closed = ?8 AND missed = ?9 AND at = ?10"
+    [ADD_SESSION] = ("INSERT INTO session (name, next, closed, missed, at, shard, since)"
+                     " VALUES (?1, ?2, ?3, ?4, ?5, ?6, iif(?4 = 0, 0, strftime('%s')))"
+                     " ON CONFLICT DO NOTHING"),
+    [MOVE_SESSION] = ("UPDATE session SET since = CASE WHEN next = ?2 AND (since > 0 OR ?4 = 0)"
+                      " THEN since WHEN ?4 = 0 THEN 0 ELSE strftime('%s') END,"
+                      " next = ?2, closed = ?3, missed = ?4, at = ?5, shard = ?6 WHERE name = ?1 AND next = ?7 AND closed = ?8 AND missed = ?9 AND at = ?10"
                       " AND shard = ?11"),
     [PASS_SESSION] = ("INSERT INTO passed SELECT ?1, CASE WHEN (SELECT count(*) FROM passed"
                       " WHERE shard = ?1) < ?4 THEN ?2 ELSE '' END, ?3 WHERE true"

@@ -28,12 +28,16 @@ enum missed {
     MISSED_REFUSED = 2  /* a frame was refused for a reason that may be this receiver's own */
 };
 
+/* What a refusal is stored as: with libkrbrelay's answer, or 0 if it had no line. */
+#define missed_by(answer) (MISSED_REFUSED + ((uint32_t)(answer) << 8))
+#define missed_kind(stored) ((enum missed)((stored) & 0xff))
+
 /* A session: what it demands next, whether its close was accepted, and its place. All frames of it
  * up to the offset `at` of this shard took effect, or never will. */
 struct demand {
     uint64_t next;
     uint32_t closed;
-    uint32_t missed;    /* an enum missed */
+    uint32_t missed;    /* an enum missed, or missed_by an answer */
     uint64_t at;
     int32_t shard;      /* -1: it was stored before places were */
     uint32_t is_stored; /* 0: the store doesn't know the session */
@@ -64,7 +68,8 @@ int store_passed(struct store *store, unsigned shard, store_note *take, void *gi
 int store_begin(struct store *store, unsigned shard, const struct reached *from,
                 const struct reached *to);
 
-/* Moves a session from what is stored, or from nothing, to this. */
+/* Moves a session from what is stored, or from nothing, to this. The store notes since when it has
+ * missed something at its number. */
 int store_advance(struct store *store, const char *session, const struct demand *from,
                   const struct demand *to);
 

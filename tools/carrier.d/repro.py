@@ -24,6 +24,7 @@ import jetstream
 import loglines
 
 DAYS = 86400            # seconds
+STATUS = os.path.join(os.path.dirname(os.path.abspath(__file__)), "../../carrier/status")
 TOO_LONG = 1_000_001    # bytes of a text
 READING = 1.0           # seconds at most for reading a file of 100,000 sessions, beside other work
 FORGED = 2**62          # an offset that no stream has
@@ -642,6 +643,10 @@ def secured(place):
     place.start("sender", **given["sender"])
     place.start("receiver", **given["receiver"])
     place.await_delivered()
+    code, lines = ask_status(place, "--store", place.store, "--carrier", place.carrier, *(
+        word for option, value in given["sender"].items() if option != "tls-name"
+        for word in (f"--{option}", value)))
+    place.require(code == 0 and lines.get("0") == ["0", "201", "201", "0"], f"status: {lines}")
     wrong = {"credentials": "wrong.word", "tls-ca": "other.pem", "tls-name": "client.test",
              "tls-cert": "other.pem"}
     for option, value in wrong.items():
@@ -999,6 +1004,40 @@ def metrics(place):
     place.require(status == 1 and loglines.has(told, "metrics_unopened"), f"a port that is taken: {status}")
 
 
+def ask_status(place, *words):
+    """The status of carrier/status, and the lines that it prints, by their first words."""
+    done = subprocess.run([STATUS, *words], check=False, timeout=errors.LIMIT,
+                          stdout=subprocess.PIPE, stderr=subprocess.STDOUT, text=True)
+    return done.returncode, {line.split()[0]: line.split() for line in done.stdout.splitlines()}
+
+
+def status(place):
+    """Of a session that is closed, one that stands since a key is wrong, and one without a line."""
+    place.put(texts("ann", 0, 5) + close("ann") + texts("tom", 0, 5) + texts("nobody", 0, 2))
+    place.write(f"{place.folder}/wrong", [ANN, TOM.replace("22" * 32, "33" * 32)])
+    place.run("sender", "--drain")
+    receiver = place.start("receiver", sessions=f"{place.folder}/wrong")
+    place.await_delivered()
+    place.wait(lambda: place.ask("store", "SELECT offset FROM shard") == [(11,)], 5)
+    where = ("--outbox", place.outbox, "--store", place.store, "--carrier", place.carrier)
+    code, lines = ask_status(place, *where)
+    told = {name: line[1:8] for name, line in lines.items()}
+    place.require(code == 0 and lines["ann"][7:] == ["closed"], f"{code}: {lines}")
+    place.require(told["ann"] == ["0", "7", "7", "0", "0", "7", "closed"], f"ann: {told['ann']}")
+    place.require(told["tom"] == ["0", "6", "6", "0", "0", "1", "stands"], f"tom: {told['tom']}")
+    place.require("integrity check fails" in " ".join(lines["tom"]), f"tom: {lines['tom']}")
+    place.require(told["nobody"][4:] == ["2", "-", "stopped"], f"nobody: {told['nobody']}")
+    place.require(lines["0"] == ["0", "11", "11", "0"], f"shard 0: {lines['0']}")
+    code, lines = ask_status(place, *where, "--standing")
+    place.require(code == 1 and {"tom", "nobody"} == set(lines) - {"NAME", "SHARD", "0"},
+                  f"--standing: {code}: {lines}")
+    place.end(receiver)
+    place.start("receiver")
+    place.await_delivered({"tom": 5})
+    code, lines = ask_status(place, "--store", place.store, "--standing")
+    place.require(code == 0 and "tom" not in lines, f"afterwards: {code}: {lines}")
+
+
 def supervisor(place):
     """What systemd is told of a sender and a receiver: that they have begun, live and end."""
     place.put(texts("ann", 0, 5))
@@ -1133,6 +1172,7 @@ CASES = (
     Case(bad_sessions, "files of sessions that are wrong", {}, 10),
     Case(permissions, "who may read the files", {"ann": 5}, 10),
     Case(metrics, "the numbers that programs show", {"ann": 300}, 15),
+    Case(status, "carrier/status, of a session that stands and one that is stopped", {"ann": 5}, 15),
     Case(supervisor, "what a supervisor is told", {"ann": 5}, 15),
     Case(terminate, "SIGTERM, wherever programs wait", {"ann": 5}, 60, nats=""),
 )
