@@ -199,6 +199,9 @@ int nats_fetch(struct carrier *base, struct carried *list, size_t room, int mill
 int nats_behind(struct carrier *base, uint64_t *frames)
 {
     struct nats_carrier *c = (struct nats_carrier *)base;
-    *frames = c->pending;
-    return c->reader != NULL ? 0 : CARRIER_FAULT;
+    int here = 0, bytes = 0; /* what has come, and wasn't fetched */
+    if (c->reader == NULL || natsSubscription_GetPending(c->reader, &here, &bytes) != NATS_OK)
+        return CARRIER_FAULT;
+    *frames = c->pending > (uint64_t)here ? c->pending : (uint64_t)here;
+    return 0;
 }
