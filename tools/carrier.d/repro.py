@@ -404,9 +404,8 @@ def new_line_of_stopped(place):
 
 def bad_new_file(place):
     """A file that can't be used isn't; its next version is."""
-    sender, receiver = place.start("sender"), place.start("receiver")
-    place.wait(lambda: os.path.exists(place.outbox), 5)
     place.put(texts("ann", 0, 5))
+    sender, receiver = place.start("sender"), place.start("receiver")
     place.replace(place.sessions, [ANN, "nobody\n"])
     told = [place.wait(lambda: loglines.has(place.log(it), "session_malformed", line=2), 5)
             for it in (sender, receiver)]
