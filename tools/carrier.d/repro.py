@@ -406,6 +406,7 @@ def bad_new_file(place):
     """A file that can't be used isn't; its next version is."""
     place.put(texts("ann", 0, 5))
     sender, receiver = place.start("sender"), place.start("receiver")
+    place.await_delivered({"ann": 5})
     place.replace(place.sessions, [ANN, "nobody\n"])
     told = [place.wait(lambda: loglines.has(place.log(it), "session_malformed", line=2), 5)
             for it in (sender, receiver)]

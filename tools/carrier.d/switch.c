@@ -1,4 +1,4 @@
-/* A switch of Ethernet frames in user space, which loses, delays and reorders them as it is told:
+/* A switch of Ethernet frames in user space, which loses, delays and reorders them on command:
  *     switch NAME..
  * It makes a TAP device of each name, which somebody moves into a network namespace. The I'th has
  * the address 02:00:00:00:00:(I+1). Commands come on standard input, one a line; I and J are
