@@ -2,7 +2,7 @@
 looks whether each text of each session took effect once and in order.
 
 An application puts texts into the outboxes. Each shard is served by two receivers at once, which
-both believe that it is theirs. Meanwhile a receiver or a sender is killed (SIGKILL) and started
+both believe that it is theirs; or receivers share the shards. Meanwhile a receiver or a sender is killed (SIGKILL) and started
 again, or stopped for a while so that it wakes beside its successor; a second sender takes an outbox
 over; of three nodes of JetStream one is killed and started again; `noise` publishes frames of the
 shards again, whole or altered, and bytes that are no frame. At last all runs undisturbed until each
@@ -52,6 +52,7 @@ class Setting:
     receivers: int = 3
     shards: int = 4
     batch: int = 7
+    is_shared: bool = False     # receivers share the shards; else each is served by two at once
     seconds: float = 20
     patience: float = 90        # seconds until all has to be carried after the last disturbance
     settle: float = 60          # and until all has to be closed after that
@@ -127,10 +128,11 @@ class Processes:
                     f"{self.folder}/outbox{place}.db", "--retry", "500", "--batch",
                     str(self.given.batch if place % 2 else 1)]
         count = self.given.receivers
-        mine = [it for it in range(self.given.shards)
+        mine = [str(it) for it in range(self.given.shards)
                 if place in (it % count, (it + 1) % count)]
+        shards = "auto" if self.given.is_shared else ",".join(mine)
         return ["--sessions", f"{self.folder}/sessions", "--store", self.store, "--until-closed",
-                "--batch", TAKEN, "--shards", ",".join(map(str, mine))]
+                "--batch", TAKEN, "--shards", shards]
 
     def start(self, name):
         kind, place = name.split("-")[:2]
