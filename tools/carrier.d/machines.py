@@ -32,6 +32,7 @@ HARDWARE = {name: f"02:00:00:00:00:{place + 1:02x}" for place, name in enumerate
 CLIENT, CLUSTER = 4222, 6222        # ports of nodes
 ELECTION = 4                        # seconds until the nodes have a leader
 PATIENCE = 30                       # seconds for a server to answer
+DUMPED = 120                        # seconds for one look at all shards
 STEP = 0.1                          # seconds between insertions
 LOOK = 0.3                          # seconds between looks at the effects
 IMAGE = 400                         # megabytes
@@ -337,11 +338,15 @@ class World:
                     return answer
         return {}
 
+    def leader_now(self, shard):
+        """The node that leads a shard's stream, or None."""
+        return self.jetstream(f"STREAM.INFO.KRB_{shard}").get("cluster", {}).get("leader")
+
     def leader(self, shard=0):
-        """The node that leads a shard's stream."""
+        """The same, which is waited for."""
         until = time.monotonic() + PATIENCE
         while time.monotonic() < until:
-            found = self.jetstream(f"STREAM.INFO.KRB_{shard}").get("cluster", {}).get("leader")
+            found = self.leader_now(shard)
             if found:
                 return found
             time.sleep(0.5)
@@ -498,6 +503,42 @@ class World:
                 return time.monotonic() - began
             time.sleep(LOOK)
         return None
+
+    def places(self):
+        """Of each session the offsets at which each of its frames stands, by number."""
+        lines = run(*self.network.command("n0", f"{self.programs}/dump", "--carrier", self.where,
+                                          "--sessions", f"{self.folder}/sessions", "--shards",
+                                          str(self.options.shards), "--replicas", "1"),
+                    timeout=DUMPED).splitlines()
+        found = collections.defaultdict(lambda: collections.defaultdict(list))
+        for _, offset, name, number, *_ in map(str.split, lines):
+            if offset.isdigit():
+                found[name][number].append(int(offset))
+        return found
+
+    def carried(self, name):
+        """The number below which all frames of a session count as carried."""
+        with contextlib.closing(sqlite3.connect(self.outbox(self.sender_of(name)),
+                                                timeout=PATIENCE)) as file:
+            rows = file.execute("SELECT carried FROM session WHERE name = ?", (name,)).fetchall()
+        return rows[0][0] if rows else 1
+
+    def standing(self):
+        """The sessions that aren't closed: whether that is the carrier's, which has lost the frame that
+        is demanded, though it had confirmed it, or has no leader for the shard; and where that frame
+        and the one before stand."""
+        rows = {name: int(number) for name, number in
+                self.ask("SELECT name, next FROM session WHERE closed = 0")}
+        closed = {name for name, in self.ask("SELECT name FROM session WHERE closed = 1")}
+        places = self.places()
+        down = {shard for shard in range(self.options.shards) if not self.leader_now(shard)}
+        for name in sorted(set(self.names) - closed):
+            demanded, had = rows.get(name, 1), places[name]
+            is_down = self.shard_of(name) in down
+            is_lost = not had[str(demanded)] and (self.carried(name) > demanded or is_down)
+            yield is_lost, (f"{name} demands {demanded}, which stands at {had[str(demanded)][:5]}, the"
+                            f" one before at {had[str(demanded - 1)][:5]}"
+                            + ", and its shard has no leader" * is_down)
 
     def longest_gap(self, since):
         """The longest time without an effect, while effects came."""
