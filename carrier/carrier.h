@@ -58,10 +58,10 @@ struct carrier_options {
 /* The words of a command line for these, what they mean, and their letters for getopt_long. */
 #define CARRIER_USAGE \
     "  --carrier WHERE  sqlite:FILE, or nats://HOST:PORT[,..], or tls://HOST:PORT[,..]\n" \
-    "  --credentials FILE  who this is to NATS: a line USER PASSWORD, or NATS's own credentials; only\n" \
-    "                   its owner may read it\n" \
-    "  --tls-ca FILE    the certificates of who may sign servers': TLS is used (tls:// alone takes\n" \
-    "                   those of the system)\n" \
+    "  --credentials FILE  who this is to NATS: a line USER PASSWORD, or NATS's own credentials;\n" \
+    "                   only its owner may read it\n" \
+    "  --tls-ca FILE    the certificates of who may sign servers': TLS is used (tls:// alone\n" \
+    "                   takes those of the system)\n" \
     "  --tls-name NAME  this name has to be in each server's certificate (any)\n" \
     "  --tls-cert FILE, --tls-key FILE  the certificate of this program, and its key\n"
 enum { CARRIER_WHERE = 256, CARRIER_REPLICAS, CARRIER_CREDENTIALS, CARRIER_TLS_CA, CARRIER_TLS_NAME,

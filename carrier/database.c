@@ -19,7 +19,7 @@ static int report(sqlite3 *db, const char *what)
     if (code == SQLITE_BUSY || code == SQLITE_LOCKED)
         log_fact(LEVEL_ERROR, "database_locked", field_text("file", name),
                  field_number("seconds", PATIENCE / 1000), field_text("text",
-                 "it is locked: another process has been writing; end it, or wait. Nothing is lost"));
+                 "another process has been writing: end it, or wait. Nothing is lost"));
     else
         log_fact(LEVEL_ERROR, "database_fault", field_text("file", name),
                  field_text("statement", what), field_text("text", sqlite3_errmsg(db)));

@@ -47,7 +47,7 @@ static int check_end(struct nats_carrier *c, uint64_t last)
         return CARRIER_FAULT;
     log_fact(LEVEL_WARNING, "shard_lost_frames", field_number("shard", c->shard),
              field_number("end", last), field_number("offset", c->after),
-             field_text("text", "it was read further than it goes: it is read from its beginning"));
+             field_text("text", "it ends before: it is read from its beginning"));
     c->after = 0;
     return 0;
 }
@@ -122,7 +122,7 @@ static void report_gap(struct nats_carrier *c, uint64_t offset)
     if (offset > c->after + 1)
         log_fact(LEVEL_WARNING, "frames_gone", field_number("shard", c->shard),
                  field_number("frames", offset - c->after - 1), field_number("offset", offset),
-                 field_text("text", "those before the offset are gone: were they deleted, or too old?"));
+                 field_text("text", "they stood before the offset: were they deleted, or too old?"));
 }
 
 /* Reads what the consumer says of a message; 0 if it isn't the next one. */

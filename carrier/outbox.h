@@ -50,7 +50,8 @@ void outbox_close(struct outbox *outbox);
 /* How far a session is: as its line says, if nothing of it was sealed yet. */
 int outbox_load(struct outbox *outbox, const struct session *session, struct outbox_progress *it);
 
-/* Passes each session that has frames to a function. What that doesn't answer 0 ends it, with -1. */
+/* Passes each session that has frames to a function. What that doesn't answer 0 ends it, with -1.
+ */
 typedef int outbox_take(void *given, const char *session);
 int outbox_sessions(struct outbox *outbox, outbox_take *take, void *given);
 

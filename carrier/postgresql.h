@@ -4,8 +4,8 @@
 
 #include <libpq-fe.h>
 
-/* Connects, and sets how long is waited for anything, unless the server or `where` does. NULL after a
- * fault, with a line of the log. */
+/* Connects, and sets how long is waited for anything, unless the server or `where` does. NULL after
+ * a fault, with a line of the log. */
 PGconn *postgresql_connect(const char *where);
 
 /* Logs a fault of the connection; -1. */

@@ -26,8 +26,8 @@ static const char usage[] =
     "  --store WHERE    sqlite:FILE, in whose name '%' is the shard, or\n"
     "                   postgresql://USER@HOST/DATABASE\n"
     CARRIER_USAGE
-    "  --shards LIST    the shards to be served, such as 0-3,7; auto: those of the sessions, which\n"
-    "                   all receivers of the store that say so share\n"
+    "  --shards LIST    the shards to be served, such as 0-3,7\n"
+    "  --shards auto    those of the sessions, which all receivers of the store that say so share\n"
     "  --replicas N     a stream with fewer isn't read (1)\n"
     "  --batch N        so many frames go into a transaction at most (1024)\n"
     "  --skew SECONDS   by so much a frame's time may be off (86400): more than the time for\n"
@@ -239,8 +239,9 @@ static const struct option words_of_options[] = {
 
 static void read_shards(struct options *o, const char *text)
 {
-    o->shard_count = strcmp(text, "auto") == 0 ? 0 : read_ranges(text, CARRIER_SHARDS, o->is_served);
-    o->has_shards = o->shard_count > 0 || strcmp(text, "auto") == 0;
+    int is_auto = strcmp(text, "auto") == 0;
+    o->shard_count = is_auto ? 0 : read_ranges(text, CARRIER_SHARDS, o->is_served);
+    o->has_shards = is_auto || o->shard_count > 0;
     if (o->has_shards)
         return;
     fprintf(stderr, "receiver: --shards '%s': name shards below %d, such as 0-3,7, or auto\n", text,
@@ -278,7 +279,8 @@ static int read_options(struct options *o, int count, char **words)
 int main(int count, char **words)
 {
     int status;
-    options.shard = (struct shard_options){ .carrier = { .replicas = 1 }, .batch = 1024, .skew = 86400 };
+    options.shard = (struct shard_options){ .carrier = { .replicas = 1 }, .batch = 1024,
+                                            .skew = 86400 };
     if (!read_options(&options, count, words)) {
         fputs(usage, stderr);
         return 2;

@@ -1,6 +1,6 @@
-/* The state of a sender, in five parts: sender_sessions.c has its sessions, texts.c takes texts from
- * the outbox, publish.c publishes their frames, sender.c stores what they did, and has the loop, and
- * sender_report.c shows it.
+/* The state of a sender, in five parts: sender_sessions.c has its sessions, texts.c takes texts
+ * from the outbox, publish.c publishes their frames, sender.c stores what they did, and has the
+ * loop, and sender_report.c shows it.
  *
  * A session is loaded when its first text comes, or if it has frames. When the file of sessions is
  * another one, all begins anew as in a sender that starts.

@@ -28,8 +28,8 @@ int service_listen(const char *where);
 void service_expect(unsigned part);
 void service_leave(unsigned part);
 
-/* Part `part`, which belongs to the caller and is expected from then on, is alive, does its work or not, and has these labels
- * and numbers. */
+/* Part `part`, which belongs to the caller and is expected from then on, is alive, does its work or
+ * not, and has these labels and numbers. */
 void service_alive(unsigned part, int does_work, const char *labels, const double *values);
 
 /* It names these sessions, of which the first SERVICE_NAMES are kept. */

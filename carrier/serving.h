@@ -1,5 +1,5 @@
-/* The shards that a receiver serves: a thread for each. All is called by one thread, which isn't one
- * of these. */
+/* The shards that a receiver serves: a thread for each. All is called by one thread, which isn't
+ * one of these. */
 #ifndef SERVING_H
 #define SERVING_H
 

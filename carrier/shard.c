@@ -107,7 +107,7 @@ static int take_unknown(struct shard *s, const struct carried *it)
     else
         log_fact(LEVEL_WARNING, "session_unknown", field_text("session", it->session),
                  field_number("shard", s->number), field_number("offset", it->offset),
-                 field_text("text", "it has no line here: its frame is read again once it has one"));
+                 field_text("text", "it has no line: its frame is read again once it has one"));
     if (!sessions_may_have(it->session))
         return 0;
     return store_pass(s->store, s->number, it->session, it->offset);

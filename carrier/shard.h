@@ -11,8 +11,8 @@
  *    stands after some seconds, the carrier's offsets aren't what they were, and the shard is read
  *    again from the session's last accepted frame on.
  *  - A frame that is refused for a reason that may be this receiver's own (its clock, the skew,
- *    the key, addresses) isn't settled. The session keeps the place before it, and the shard is read
- *    again from there.
+ *    the key, addresses) isn't settled. The session keeps the place before it, and the shard is
+ *    read again from there.
  *  - Of a name that is no session's of the shard the store notes the first frame that was passed
  *    by. Once it is a session's, the shard is read again from there.
  * What was read again and refused again waits for longer each time, and reaches further back. A

@@ -1,8 +1,8 @@
 /* Which receiver serves which shard, where receivers of a store share them (--shards auto).
  *
- * A lock on a shard says that a receiver serves it. It ends when the receiver gives it back, ends or
- * is lost. Locks spare work: what is right rests on compare-and-set (store.h), so a receiver that
- * lost its locks without knowing does no harm.
+ * A lock on a shard says that a receiver serves it. It ends when the receiver gives it back, ends
+ * or is lost. Locks spare work: what is right rests on compare-and-set (store.h), so a receiver
+ * that lost its locks without knowing does no harm.
  *
  * Over PostgreSQL they are advisory locks of a connection of its own, which the server ends when
  * nothing came for ten seconds. Over SQLite they are locks on bytes of the file STORE.shards, which
@@ -17,9 +17,9 @@ struct sharing;
 /* Opens it for the store of this name. NULL after a fault. */
 struct sharing *sharing_open(const char *where);
 
-/* How many receivers share the store now, this one among them; -1 if the store doesn't answer. Called
- * each second: that says that this one is there. Locks that were lost are taken again before, unless
- * another receiver has them. */
+/* How many receivers share the store now, this one among them; -1 if the store doesn't answer.
+ * Called each second: that says that this one is there. Locks that were lost are taken again
+ * before, unless another receiver has them. */
 int sharing_count(struct sharing *sharing);
 
 /* Takes a shard, unless another receiver has it: 1, 0, or -1 if the store doesn't answer. */

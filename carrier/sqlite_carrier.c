@@ -132,7 +132,7 @@ static int check_end(struct sqlite_carrier *c)
     if (end < c->after) {
         log_fact(LEVEL_WARNING, "shard_lost_frames", field_number("shard", c->shard),
                  field_number("end", end), field_number("offset", c->after),
-                 field_text("text", "it was read further than it goes: it is read from its beginning"));
+                 field_text("text", "it ends before: it is read from its beginning"));
         c->after = 0;
     }
     c->is_checked = 1;

@@ -55,7 +55,8 @@ static const char *const own_sql[STATEMENTS] = {
                      " ON CONFLICT DO NOTHING"),
     [MOVE_SESSION] = ("UPDATE session SET since = CASE WHEN next = ?2 AND (since > 0 OR ?4 = 0)"
                       " THEN since WHEN ?4 = 0 THEN 0 ELSE strftime('%s') END,"
-                      " next = ?2, closed = ?3, missed = ?4, at = ?5, shard = ?6 WHERE name = ?1 AND next = ?7 AND closed = ?8 AND missed = ?9 AND at = ?10"
+                      " next = ?2, closed = ?3, missed = ?4, at = ?5, shard = ?6"
+                      " WHERE name = ?1 AND next = ?7 AND closed = ?8 AND missed = ?9 AND at = ?10"
                       " AND shard = ?11"),
     [PASS_SESSION] = ("INSERT INTO passed SELECT ?1, CASE WHEN (SELECT count(*) FROM passed"
                       " WHERE shard = ?1) < ?4 THEN ?2 ELSE '' END, ?3 WHERE true"
