@@ -18,6 +18,13 @@ int postgresql_is_done(PGconn *db, PGresult *result, const char *what)
     return 0;
 }
 
+/* What the server says beside answers, as that it ends: libpq would print it as it is. */
+static void note(void *given, const char *message)
+{
+    (void)given;
+    log_fact(LEVEL_WARNING, "postgresql_notice", field_text("text", message));
+}
+
 /* What was set before holds. */
 static const char timeouts[] =
     "SELECT set_config(name, value, false) FROM (VALUES ('lock_timeout', '3s'),"
@@ -42,6 +49,7 @@ PGconn *postgresql_connect(const char *where)
     }
     PQconninfoFree(parts);
     db = PQconnectdbParams(names, values, 1);
+    PQsetNoticeProcessor(db, note, NULL);
     if (PQstatus(db) != CONNECTION_OK)
         postgresql_report(db, "no connection: is the server started, and does --store name it?");
     else if (postgresql_is_done(db, PQexec(db, timeouts), "timeouts"))

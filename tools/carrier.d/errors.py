@@ -172,6 +172,8 @@ def test_store_away(count, ends, postgres):
     count.told(receiver.returncode == 0 and found == dict.fromkeys(("ann", "tom"), len(TEXTS)),
                f"error: the store is away; the receiver goes on: {found}", [text[-500:]])
     count.told(loglines.has(text, "store_away"), "error: that is reported", [text[-500:]])
+    count.told(not loglines.faults(text), "error: each line of its log has its form",
+               loglines.faults(text))
 
 
 def test_junk(count, ends):
