@@ -47,10 +47,44 @@ struct carried {
 /* A frame that was published with this tag and number was stored at this offset of its shard. */
 struct confirmed { uint32_t tag; uint64_t number, offset; };
 
-/* Opens "nats://HOST:PORT[,..]" or "sqlite:FILE". Shards of JetStream have so many replicas at
- * least: one that has fewer, or that may drop frames, isn't used. NULL if the carrier can't be
- * opened. */
-struct carrier *carrier_open(const char *where, unsigned replicas);
+/* Which carrier it is, and how it is reached. */
+struct carrier_options {
+    const char *where;       /* "nats://HOST:PORT[,..]", "tls://HOST:PORT[,..]" or "sqlite:FILE" */
+    unsigned replicas;       /* of shards of JetStream: one that has fewer isn't used */
+    const char *credentials; /* the file that says who this is to NATS, or NULL */
+    const char *tls_ca, *tls_cert, *tls_key, *tls_name; /* files, and a name; or NULL */
+};
+
+/* The words of a command line for these, what they mean, and their letters for getopt_long. */
+#define CARRIER_USAGE \
+    "  --carrier WHERE  sqlite:FILE, or nats://HOST:PORT[,..], or tls://HOST:PORT[,..]\n" \
+    "  --credentials FILE  who this is to NATS: a line USER PASSWORD, or NATS's own credentials;\n" \
+    "                   only its owner may read it\n" \
+    "  --tls-ca FILE    the certificates of who may sign servers': TLS is used (tls:// alone\n" \
+    "                   takes those of the system)\n" \
+    "  --tls-name NAME  this name has to be in each server's certificate (any)\n" \
+    "  --tls-cert FILE, --tls-key FILE  the certificate of this program, and its key\n"
+enum { CARRIER_WHERE = 256, CARRIER_REPLICAS, CARRIER_CREDENTIALS, CARRIER_TLS_CA, CARRIER_TLS_NAME,
+       CARRIER_TLS_CERT, CARRIER_TLS_KEY };
+#define CARRIER_WORDS \
+    { "carrier", required_argument, NULL, CARRIER_WHERE }, \
+    { "replicas", required_argument, NULL, CARRIER_REPLICAS }, \
+    { "credentials", required_argument, NULL, CARRIER_CREDENTIALS }, \
+    { "tls-ca", required_argument, NULL, CARRIER_TLS_CA }, \
+    { "tls-name", required_argument, NULL, CARRIER_TLS_NAME }, \
+    { "tls-cert", required_argument, NULL, CARRIER_TLS_CERT }, \
+    { "tls-key", required_argument, NULL, CARRIER_TLS_KEY }
+
+/* Takes one of these options: 1, or 0 if the letter is none of theirs. A wrong number ends the
+ * program with status 2. */
+int carrier_option(const char *program, struct carrier_options *options, int letter,
+                   const char *word);
+
+/* Whether the options that were taken go together; if not, that is said. */
+int carrier_options_fit(const char *program, const struct carrier_options *options);
+
+/* Opens it; the options stay. NULL, with a line of the log, if it can't be opened. */
+struct carrier *carrier_open(const struct carrier_options *options);
 
 /* The incarnation of a shard: 0 if there is none yet. */
 int carrier_incarnation(struct carrier *carrier, unsigned shard, uint64_t *incarnation);
@@ -103,7 +137,7 @@ struct carrier {
     void (*close)(struct carrier *);
 };
 
-struct carrier *nats_carrier_open(const char *where, unsigned replicas);
+struct carrier *nats_carrier_open(const struct carrier_options *options);
 struct carrier *sqlite_carrier_open(const char *path);
 
 #endif

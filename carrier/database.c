@@ -1,5 +1,6 @@
 #include "database.h"
 #include "ending.h"
+#include "log.h"
 
 #include <stdio.h>
 #include <string.h>
@@ -16,10 +17,12 @@ static int report(sqlite3 *db, const char *what)
     const char *name = path != NULL && *path != 0 ? path : "a database in memory";
     int code = sqlite3_errcode(db);
     if (code == SQLITE_BUSY || code == SQLITE_LOCKED)
-        fprintf(stderr, "%s is locked: another process has been writing for %d s; end it, or wait."
-                        " Nothing is lost\n", name, PATIENCE / 1000);
+        log_fact(LEVEL_ERROR, "database_locked", field_text("file", name),
+                 field_number("seconds", PATIENCE / 1000), field_text("text",
+                 "another process has been writing: end it, or wait. Nothing is lost"));
     else
-        fprintf(stderr, "%s: %s, at %.60s\n", name, sqlite3_errmsg(db), what);
+        log_fact(LEVEL_ERROR, "database_fault", field_text("file", name),
+                 field_text("statement", what), field_text("text", sqlite3_errmsg(db)));
     return -1;
 }
 
@@ -62,8 +65,9 @@ sqlite3 *open_database(const char *path, const char *tables)
 {
     sqlite3 *db = NULL;
     if (sqlite3_open(path, &db) != SQLITE_OK) {
-        fprintf(stderr, "%s: %s: is there such a folder, and may this user write there?\n", path,
-                db != NULL ? sqlite3_errmsg(db) : "out of memory");
+        log_fact(LEVEL_ERROR, "database_unopened", field_text("file", path),
+                 field_text("fault", db != NULL ? sqlite3_errmsg(db) : "out of memory"),
+                 field_text("text", "is there such a folder, and may this user write there?"));
         sqlite3_close(db);
         return NULL;
     }

@@ -1,6 +1,8 @@
 /* The connection to NATS, and what a stream is. */
 #include "clock.h"
+#include "log.h"
 #include "nats_carrier.h"
+#include "private.h"
 
 #include <stdio.h>
 #include <stdlib.h>
@@ -15,9 +17,10 @@ enum {
     WHERE = 2048     /* the most bytes of their addresses */
 };
 
-int nats_report(struct nats_carrier *c, const char *what, natsStatus status)
+int nats_report(const char *what, natsStatus status)
 {
-    notice(&c->faults, "nats: %s: %s: tried again", what, natsStatus_GetText(status));
+    log_fact(LEVEL_WARNING, "nats_fault", field_text("of", what),
+             field_text("fault", natsStatus_GetText(status)), field_text("text", "tried again"));
     return CARRIER_FAULT;
 }
 
@@ -83,7 +86,8 @@ natsStatus nats_ask_stream(struct nats_carrier *c, unsigned shard, jsStreamInfo 
     fault = fault_of(c, (*info)->Config);
     if (fault == NULL)
         return NATS_OK;
-    notice(&c->refusals, "nats: %s: %s: change the stream, or give other options", name, fault);
+    log_fact(LEVEL_ERROR, "stream_unfit", field_text("stream", name), field_text("fault", fault),
+             field_text("text", "change the stream, or give other options"));
     return NATS_ERR;
 }
 
@@ -97,7 +101,7 @@ static int incarnation(struct carrier *base, unsigned shard, uint64_t *incarnati
     jsStreamInfo_Destroy(info);
     if (status == NATS_OK || status == NATS_NOT_FOUND)
         return 0;
-    return status == NATS_ERR ? CARRIER_FAULT : nats_report(c, "a stream", status);
+    return status == NATS_ERR ? CARRIER_FAULT : nats_report("a stream", status);
 }
 
 static int last(struct carrier *base, unsigned shard, const char *session, struct carried *last)
@@ -117,7 +121,7 @@ static int last(struct carrier *base, unsigned shard, const char *session, struc
     if (status == NATS_NOT_FOUND || code == JSStreamNotFoundErr)
         return 0;
     if (status != NATS_OK)
-        return nats_report(c, "the last frame of a session", status);
+        return nats_report("the last frame of a session", status);
     last->offset = natsMsg_GetSequence(c->last);
     snprintf(last->session, sizeof last->session, "%s", session);
     last->frame = (const uint8_t *)natsMsg_GetData(c->last);
@@ -165,14 +169,65 @@ static void note_fault(natsConnection *connection, natsSubscription *subscriptio
         __atomic_store_n(&((struct nats_carrier *)given)->is_silent, 1, __ATOMIC_SEQ_CST);
 }
 
-static natsStatus connect_to(struct nats_carrier *c, const char *where)
+/* Who this is: USER PASSWORD, or what NATS's own tools write. */
+static natsStatus set_credentials(natsOptions *options, const char *path)
+{
+    size_t size;
+    struct stat is;
+    char *text = private_read(path, &size, &is), *user, *password, *rest = NULL;
+    natsStatus status = NATS_INVALID_ARG;
+    if (text == NULL)
+        return NATS_IO_ERROR;
+    if (strncmp(text, "-----BEGIN", 10) == 0) {
+        status = natsOptions_SetUserCredentialsFromFiles(options, path, NULL);
+    } else {
+        user = strtok_r(text, " \t\r\n", &rest);
+        password = strtok_r(NULL, " \t\r\n", &rest);
+        if (user != NULL && password != NULL && strtok_r(NULL, " \t\r\n", &rest) == NULL)
+            status = natsOptions_SetUserInfo(options, user, password);
+    }
+    private_forget(text, size);
+    return status;
+}
+
+static natsStatus set_tls(natsOptions *options, const struct carrier_options *given)
+{
+    natsStatus status = NATS_OK;
+    if (given->tls_ca != NULL || given->tls_cert != NULL
+        || strncmp(given->where, "tls://", 6) == 0)
+        status = natsOptions_SetSecure(options, true);
+    if (status == NATS_OK && given->tls_ca != NULL)
+        status = natsOptions_LoadCATrustedCertificates(options, given->tls_ca);
+    if (status == NATS_OK && given->tls_cert != NULL)
+        status = natsOptions_LoadCertificatesChain(options, given->tls_cert, given->tls_key);
+    if (status == NATS_OK && given->tls_name != NULL)
+        status = natsOptions_SetExpectedHostname(options, given->tls_name);
+    return status;
+}
+
+/* What has to be right before any server is asked; a fault is logged. */
+static natsStatus set_options(natsOptions *options, const struct carrier_options *given)
+{
+    const char *what = "--carrier";
+    natsStatus status = set_servers(options, given->where);
+    if (status == NATS_OK && given->credentials != NULL) {
+        what = "--credentials";
+        status = set_credentials(options, given->credentials);
+    }
+    if (status == NATS_OK) {
+        what = "--tls-ca, --tls-cert, --tls-key";
+        status = set_tls(options, given);
+    }
+    if (status != NATS_OK)
+        log_fact(LEVEL_ERROR, "option_unusable", field_text("option", what),
+                 field_text("fault", natsStatus_GetText(status)));
+    return status;
+}
+
+static natsStatus connect_to(struct nats_carrier *c)
 {
     jsOptions given;
-    natsStatus status = natsOptions_Create(&c->options);
-    if (status == NATS_OK)
-        status = set_servers(c->options, where);
-    if (status == NATS_OK)
-        status = natsOptions_SetMaxReconnect(c->options, -1);
+    natsStatus status = natsOptions_SetMaxReconnect(c->options, -1);
     if (status == NATS_OK)
         status = natsOptions_SetReconnectWait(c->options, RECONNECT);
     if (status == NATS_OK)
@@ -204,15 +259,14 @@ static int count_of(const char *where)
 static void report_unopened(const char *where, natsStatus status)
 {
     int has_password = strchr(where, '@') != NULL;
-    if (has_password)
-        fprintf(stderr, "none of %d servers of --carrier answers", count_of(where));
-    else
-        fprintf(stderr, "no server answers at %s", where);
-    fprintf(stderr, " (%s): start nats-server with JetStream there (carrier/cluster starts three),"
-                    " or name another --carrier\n", natsStatus_GetText(status));
+    log_fact(LEVEL_ERROR, "carrier_unopened", field_number("servers", (uint64_t)count_of(where)),
+             field_text("carrier", has_password ? "" : where),
+             field_text("fault", natsStatus_GetText(status)),
+             field_text("text", "no server answers: start nats-server with JetStream there"
+                                " (carrier/cluster starts three), or name another --carrier"));
 }
 
-struct carrier *nats_carrier_open(const char *where, unsigned replicas)
+struct carrier *nats_carrier_open(const struct carrier_options *options)
 {
     struct nats_carrier *c = calloc(1, sizeof *c);
     natsStatus status;
@@ -227,13 +281,16 @@ struct carrier *nats_carrier_open(const char *where, unsigned replicas)
     c->base.fetch = nats_fetch;
     c->base.behind = nats_behind;
     c->base.close = close_it;
-    c->replicas = replicas;
-    status = connect_to(c, where);
-    if (status == NATS_OK)
-        status = nats_await_answers(c);
-    if (status == NATS_OK)
-        return &c->base;
-    report_unopened(where, status);
+    c->replicas = options->replicas;
+    status = natsOptions_Create(&c->options);
+    if (status == NATS_OK && set_options(c->options, options) == NATS_OK) {
+        status = connect_to(c);
+        if (status == NATS_OK)
+            status = nats_await_answers(c);
+        if (status == NATS_OK)
+            return &c->base;
+        report_unopened(options->where, status);
+    }
     close_it(&c->base);
     return NULL;
 }

@@ -5,7 +5,6 @@
 #define NATS_CARRIER_H
 
 #include "carrier.h"
-#include "notice.h"
 
 #include <nats/nats.h>
 
@@ -46,11 +45,10 @@ struct nats_carrier {
     natsMsg *held[NATS_HELD];
     int held_count;
     int is_silent;                      /* 1: the consumer's heartbeats are missed */
-    struct notice faults, refusals, gaps;
 };
 
-/* Reports a fault of a call; CARRIER_FAULT. */
-int nats_report(struct nats_carrier *c, const char *what, natsStatus status);
+/* Logs a fault of a call; CARRIER_FAULT. */
+int nats_report(const char *what, natsStatus status);
 
 /* Asks for a shard's stream, and destroys nothing: the caller does. NATS_NOT_FOUND if there is
  * none, and NATS_ERR, with a report, if it isn't one that a shard may be. */

@@ -10,6 +10,7 @@
  * beyond the end that is known is kept until the stream was asked, and has answered. Nothing waits
  * for that. */
 #include "clock.h"
+#include "log.h"
 #include "nats_carrier.h"
 
 #include <stdio.h>
@@ -60,7 +61,7 @@ static int try_later(struct nats_carrier *c, unsigned shard, natsStatus status)
 {
     c->made[shard].moment = nanoseconds() + SECOND;
     c->made[shard].is_known = 0;
-    return status == NATS_ERR ? CARRIER_FAULT : nats_report(c, "a stream", status);
+    return status == NATS_ERR ? CARRIER_FAULT : nats_report("a stream", status);
 }
 
 int nats_make(struct carrier *base, unsigned shard, uint64_t *incarnation)
@@ -106,18 +107,20 @@ int nats_publish(struct carrier *base, unsigned shard, const char *session, uint
     status = natsConnection_PublishRequest(c->connection, subject, reply, frame, (int)len);
     if (status == NATS_OK)
         return 0;
-    return status == NATS_MAX_PAYLOAD ? CARRIER_REFUSED : nats_report(c, "publish", status);
+    return status == NATS_MAX_PAYLOAD ? CARRIER_REFUSED : nats_report("publish", status);
 }
 
 /* ---- Confirmations */
 
 /* Reads why the stream took a frame not. */
-static void report_refusal(struct nats_carrier *c, unsigned shard, const char *text)
+static void report_refusal(unsigned shard, char *text)
 {
-    const char *place = strstr(text, "\"description\":\"");
-    int len = place != NULL ? (int)strcspn(place + 15, "\"") : 0;
-    notice(&c->refusals, "nats: KRB_%u takes no frame: %.*s: tried again", shard, len,
-           place != NULL ? place + 15 : "");
+    char *place = strstr(text, "\"description\":\"");
+    if (place != NULL)
+        place[15 + strcspn(place + 15, "\"")] = 0;
+    log_fact(LEVEL_WARNING, "stream_takes_nothing", field_number("shard", shard),
+             field_text("fault", place != NULL ? place + 15 : ""),
+             field_text("text", "tried again"));
 }
 
 /* The number after a word of a message's bytes; 0 if it isn't there. */
@@ -146,7 +149,7 @@ static void read_answer(struct nats_carrier *c, natsMsg *message, const struct n
         return;
     if (memmem(natsMsg_GetData(message), (size_t)len, error, sizeof error - 1) != NULL) {
         snprintf(text, sizeof text, "%.*s", len, natsMsg_GetData(message));
-        report_refusal(c, answer.shard, text);
+        report_refusal(answer.shard, text);
         return;
     }
     answer.it.offset = number_after(message, "\"seq\":");
@@ -169,8 +172,9 @@ static void read_end(struct nats_carrier *c, natsMsg *message, unsigned shard)
         if (it->shard != shard || !it->is_asked || it->it.offset <= end)
             c->unproved[kept++] = *it;
         else
-            notice(&c->refusals, "nats: a frame is confirmed at %llu of KRB_%u, which has no such"
-                                 " offset: ignored", (unsigned long long)it->it.offset, shard);
+            log_fact(LEVEL_WARNING, "confirmation_false", field_number("shard", shard),
+                     field_number("offset", it->it.offset), field_number("end", end),
+                     field_text("text", "the shard has no such offset: ignored"));
     }
     c->unproved_count = kept;
 }
@@ -206,7 +210,7 @@ static void ask_end(struct nats_carrier *c, unsigned shard)
         c->unproved[i].is_asked |= c->unproved[i].shard == shard;
     c->made[shard].asked = nanoseconds();
     if (natsConnection_PublishRequest(c->connection, subject, reply, NULL, 0) != NATS_OK)
-        nats_report(c, "a stream's end", NATS_ERR);
+        nats_report("a stream's end", NATS_ERR);
 }
 
 /* Gives what the ends that are known prove, and asks for the others. */

@@ -5,6 +5,7 @@
  * another consumer is made that begins after the last frame that was fetched. A stream that
  * doesn't exist yet has no frames: readers make none, since senders know how many replicas it has
  * to have. */
+#include "log.h"
 #include "nats_carrier.h"
 
 #include <stdio.h>
@@ -44,9 +45,9 @@ static int check_end(struct nats_carrier *c, uint64_t last)
         return 0;
     if (++c->tries < PATIENCE)
         return CARRIER_FAULT;
-    fprintf(stderr, "nats: KRB_%u ends at %llu, and was read up to %llu: it lost frames, and is"
-                    " read again from the beginning\n", c->shard, (unsigned long long)last,
-            (unsigned long long)c->after);
+    log_fact(LEVEL_WARNING, "shard_lost_frames", field_number("shard", c->shard),
+             field_number("end", last), field_number("offset", c->after),
+             field_text("text", "it ends before: it is read from its beginning"));
     c->after = 0;
     return 0;
 }
@@ -63,7 +64,7 @@ static int check_stream(struct nats_carrier *c)
     else if (status == NATS_NOT_FOUND && c->incarnation != 0)
         answer = CARRIER_CHANGED;
     else if (status != NATS_NOT_FOUND && status != NATS_ERR)
-        nats_report(c, "a stream", status);
+        nats_report("a stream", status);
     jsStreamInfo_Destroy(info);
     return answer;
 }
@@ -107,7 +108,7 @@ static int begin_reading(struct nats_carrier *c)
     if (status != NATS_OK) {
         natsSubscription_Destroy(c->reader);
         c->reader = NULL;
-        return nats_report(c, name, status);
+        return nats_report(name, status);
     }
     __atomic_store_n(&c->is_silent, 0, __ATOMIC_SEQ_CST);
     c->delivered = 0;
@@ -119,9 +120,9 @@ static int begin_reading(struct nats_carrier *c)
 static void report_gap(struct nats_carrier *c, uint64_t offset)
 {
     if (offset > c->after + 1)
-        notice(&c->gaps, "nats: KRB_%u: %llu frames before offset %llu are gone: were they"
-                         " deleted, or too old?", c->shard,
-               (unsigned long long)(offset - c->after - 1), (unsigned long long)offset);
+        log_fact(LEVEL_WARNING, "frames_gone", field_number("shard", c->shard),
+                 field_number("frames", offset - c->after - 1), field_number("offset", offset),
+                 field_text("text", "they stood before the offset: were they deleted, or too old?"));
 }
 
 /* Reads what the consumer says of a message; 0 if it isn't the next one. */
@@ -171,7 +172,7 @@ static void leave(struct nats_carrier *c, natsStatus status)
     c->reader = NULL;
     natsSubscription_Unsubscribe(reader);
     natsSubscription_Destroy(reader);
-    nats_report(c, "a reader begins again after what it had", status);
+    nats_report("a reader begins again after what it had", status);
 }
 
 int nats_fetch(struct carrier *base, struct carried *list, size_t room, int milliseconds)
@@ -198,6 +199,9 @@ int nats_fetch(struct carrier *base, struct carried *list, size_t room, int mill
 int nats_behind(struct carrier *base, uint64_t *frames)
 {
     struct nats_carrier *c = (struct nats_carrier *)base;
-    *frames = c->pending;
-    return c->reader != NULL ? 0 : CARRIER_FAULT;
+    int here = 0, bytes = 0; /* what has come, and wasn't fetched */
+    if (c->reader == NULL || natsSubscription_GetPending(c->reader, &here, &bytes) != NATS_OK)
+        return CARRIER_FAULT;
+    *frames = c->pending > (uint64_t)here ? c->pending : (uint64_t)here;
+    return 0;
 }

@@ -40,12 +40,13 @@ static const char *const sql[OUTBOX_STATEMENTS] = {
     [SELECT_FRAMES] = ("SELECT number, frame FROM frame WHERE session = ? AND number >= ?"
                        " ORDER BY number LIMIT ?"),
     [DROP_FRAMES] = "DELETE FROM frame WHERE session = ? AND number < ?",
-    [SET_NEXT] = "UPDATE session SET next = ?1 WHERE name = ?2 AND next = ?3",
+    [SET_NEXT] = ("INSERT INTO session (name, next, carried, at, shard) VALUES (?2, ?1, ?3, 0, ?4)"
+                  " ON CONFLICT (name) DO UPDATE SET next = ?1 WHERE next = ?3"),
     [SET_CARRIED] = ("UPDATE session SET carried = ?1, at = ?2, incarnation = ?3, shard = ?4"
                      " WHERE name = ?5 AND carried <= ?1"),
     [SELECT_OWNER] = "SELECT turn FROM owner",
-    [ADD_SESSION] = ("INSERT OR IGNORE INTO session (name, next, carried, at, shard)"
-                     " VALUES (?1, ?2, ?2, 0, ?3)"),
+    [SELECT_SENDING] = "SELECT DISTINCT session FROM frame",
+    [DROP_STOPPED] = "DELETE FROM stopped",
     [ADD_STOPPED] = ("INSERT INTO stopped VALUES (?1, ?2, CAST(strftime('%s') AS INTEGER))"
                      " ON CONFLICT (session) DO UPDATE SET reason = ?2"),
     [COUNT_TEXTS] = "SELECT count(*) FROM (SELECT 1 FROM text LIMIT 100000)",
@@ -59,20 +60,6 @@ static sqlite3_int64 owner(struct outbox *o)
     return turn;
 }
 
-static int add_sessions(struct outbox *o, const struct session *sessions, size_t count)
-{
-    sqlite3_stmt *add = o->statements[ADD_SESSION];
-    size_t i;
-    for (i = 0; i < count; i++) {
-        sqlite3_bind_text(add, 1, sessions[i].name, -1, SQLITE_STATIC);
-        sqlite3_bind_int64(add, 2, sessions[i].first);
-        sqlite3_bind_int64(add, 3, sessions[i].shard);
-        if (step_once(add) != 0)
-            return -1;
-    }
-    return 0;
-}
-
 static int complete(struct outbox *o)
 {
     if (begin_writing(o->db) != 0)
@@ -84,7 +71,7 @@ static int complete(struct outbox *o)
     return -1;
 }
 
-int outbox_open(struct outbox *o, const char *path, const struct session *sessions, size_t count)
+int outbox_open(struct outbox *o, const char *path)
 {
     memset(o, 0, sizeof *o);
     o->db = open_database(path, tables);
@@ -92,10 +79,10 @@ int outbox_open(struct outbox *o, const char *path, const struct session *sessio
         || prepare_all(o->db, o->statements, sql, OUTBOX_STATEMENTS) != 0)
         return -1;
     if (begin_writing(o->db) != 0 || run(o->db, "UPDATE owner SET turn = turn + 1") != 0
-        || run(o->db, "DELETE FROM stopped") != 0)
+        || outbox_drop_stopped(o) != 0)
         return -1;
     o->turn = owner(o);
-    return o->turn > 0 && add_sessions(o, sessions, count) == 0 ? run(o->db, "COMMIT") : -1;
+    return o->turn > 0 ? run(o->db, "COMMIT") : -1;
 }
 
 void outbox_close(struct outbox *o)
@@ -106,12 +93,13 @@ void outbox_close(struct outbox *o)
     sqlite3_close(o->db);
 }
 
-int outbox_load(struct outbox *o, const char *session, struct outbox_progress *it)
+int outbox_load(struct outbox *o, const struct session *session, struct outbox_progress *it)
 {
     sqlite3_stmt *select = o->statements[LOAD_SESSION];
     int row;
-    sqlite3_bind_text(select, 1, session, -1, SQLITE_STATIC);
+    sqlite3_bind_text(select, 1, session->name, -1, SQLITE_STATIC);
     row = step_row(select);
+    *it = (struct outbox_progress){ session->first, session->first, 0, 0, (int32_t)session->shard };
     if (row == 1) {
         it->next = (uint64_t)sqlite3_column_int64(select, 0);
         it->carried = (uint64_t)sqlite3_column_int64(select, 1);
@@ -120,7 +108,19 @@ int outbox_load(struct outbox *o, const char *session, struct outbox_progress *i
         it->shard = sqlite3_column_int(select, 4);
     }
     sqlite3_reset(select);
-    return row == 1 ? 0 : -1;
+    return row >= 0 ? 0 : -1;
+}
+
+int outbox_sessions(struct outbox *o, outbox_take *take, void *given)
+{
+    sqlite3_stmt *select = o->statements[SELECT_SENDING];
+    int row, answer = 0;
+    while (answer == 0 && (row = step_row(select)) != 0) {
+        const char *name = row == 1 ? (const char *)sqlite3_column_text(select, 0) : NULL;
+        answer = name == NULL || take(given, name) != 0 ? -1 : 0;
+    }
+    sqlite3_reset(select);
+    return answer;
 }
 
 int outbox_has_text(struct outbox *o, sqlite3_int64 after)
@@ -201,12 +201,13 @@ int outbox_add_frame(struct outbox *o, const char *session, uint64_t number, con
     return step_once(add);
 }
 
-int outbox_set_next(struct outbox *o, const char *session, uint64_t from, uint64_t to)
+int outbox_set_next(struct outbox *o, const struct session *session, uint64_t from, uint64_t to)
 {
     sqlite3_stmt *set = o->statements[SET_NEXT];
     sqlite3_bind_int64(set, 1, (sqlite3_int64)to);
-    sqlite3_bind_text(set, 2, session, -1, SQLITE_STATIC);
+    sqlite3_bind_text(set, 2, session->name, -1, SQLITE_STATIC);
     sqlite3_bind_int64(set, 3, (sqlite3_int64)from);
+    sqlite3_bind_int64(set, 4, session->shard);
     return step_once(set) == 0 && sqlite3_changes(o->db) == 1 ? 0 : -1;
 }
 
@@ -229,6 +230,11 @@ int outbox_add_stopped(struct outbox *o, const char *session, const char *reason
     sqlite3_bind_text(add, 1, session, -1, SQLITE_TRANSIENT);
     sqlite3_bind_text(add, 2, reason, -1, SQLITE_TRANSIENT);
     return step_once(add);
+}
+
+int outbox_drop_stopped(struct outbox *o)
+{
+    return step_once(o->statements[DROP_STOPPED]);
 }
 
 int outbox_commit(struct outbox *o)

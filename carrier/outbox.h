@@ -23,7 +23,8 @@
 
 enum outbox_statement {
     LOAD_SESSION, SELECT_TEXTS, HAS_TEXT, DROP_TEXTS, ADD_FRAME, SELECT_FRAMES, DROP_FRAMES,
-    SET_NEXT, SET_CARRIED, SELECT_OWNER, ADD_SESSION, ADD_STOPPED, COUNT_TEXTS, OUTBOX_STATEMENTS
+    SET_NEXT, SET_CARRIED, SELECT_OWNER, SELECT_SENDING, ADD_STOPPED, DROP_STOPPED, COUNT_TEXTS,
+    OUTBOX_STATEMENTS
 };
 
 struct outbox {
@@ -43,11 +44,16 @@ struct waiting_text { sqlite3_int64 id; const char *session; const uint8_t *body
 struct outbox_progress { uint64_t next, carried, at, incarnation; int32_t shard; };
 
 /* Opens it, makes its tables, and becomes its owner. 0, or -1 after a fault. */
-int outbox_open(struct outbox *outbox, const char *path, const struct session *sessions,
-                size_t count);
+int outbox_open(struct outbox *outbox, const char *path);
 void outbox_close(struct outbox *outbox);
 
-int outbox_load(struct outbox *outbox, const char *session, struct outbox_progress *it);
+/* How far a session is: as its line says, if nothing of it was sealed yet. */
+int outbox_load(struct outbox *outbox, const struct session *session, struct outbox_progress *it);
+
+/* Passes each session that has frames to a function. What that doesn't answer 0 ends it, with -1.
+ */
+typedef int outbox_take(void *given, const char *session);
+int outbox_sessions(struct outbox *outbox, outbox_take *take, void *given);
 
 /* Whether a text waits after this one, and whether this process is the owner. */
 int outbox_has_text(struct outbox *outbox, sqlite3_int64 after);
@@ -72,14 +78,16 @@ int outbox_add_frame(struct outbox *outbox, const char *session, uint64_t number
                      const uint8_t *frame, size_t len);
 
 /* Moves a session's next number, by compare-and-set. */
-int outbox_set_next(struct outbox *outbox, const char *session, uint64_t from, uint64_t to);
+int outbox_set_next(struct outbox *outbox, const struct session *session, uint64_t from,
+                    uint64_t to);
 
 /* Stores how far a session is carried, and deletes the frames below. `next` stays. */
 int outbox_set_carried(struct outbox *outbox, const char *session,
                        const struct outbox_progress *it);
 
-/* Says that a session is stopped, and why. */
+/* Says that a session is stopped, and why; that none is. */
 int outbox_add_stopped(struct outbox *outbox, const char *session, const char *reason);
+int outbox_drop_stopped(struct outbox *outbox);
 
 int outbox_commit(struct outbox *outbox);
 void outbox_rollback(struct outbox *outbox);

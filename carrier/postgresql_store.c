@@ -4,12 +4,13 @@
  * Each wait ends. A receiver whose machine is gone can't keep the locks of its transaction for
  * longer than the server's idle_in_transaction_session_timeout, another waits for a lock no longer
  * than lock_timeout, and one whose server is gone learns it from TCP. What the server or --store
- * sets of these holds; else what `timeouts` and `connect_to` say. After a fault the store is
+ * sets of these holds; else what postgresql.c says. After a fault the store is
  * opened again. */
 #include "effect.h"
+#include "log.h"
+#include "postgresql.h"
 #include "store.h"
 
-#include <libpq-fe.h>
 #include <stdio.h>
 #include <stdlib.h>
 #include <string.h>
@@ -32,8 +33,7 @@ struct postgresql_store {
 
 static int report(struct postgresql_store *s, const char *what)
 {
-    fprintf(stderr, "postgresql: %s: %s", what, PQerrorMessage(s->db));
-    return -1;
+    return postgresql_report(s->db, what);
 }
 
 /* ---- What is asked without waiting */
@@ -161,7 +161,12 @@ static int begin(struct store *base, unsigned shard, const struct reached *from,
     s->is_open = 1;
     if (ask(s, "begin", 0, NULL, NULL, NULL, ANY_ROWS) != 0)
         return -1;
-    return ask_values(s, "move_shard", &v, ONE_ROW);
+    if (ask_values(s, "move_shard", &v, ONE_ROW) != 0)
+        return -1;
+    if (store_is_other(from, to) && (ask(s, "reset_sessions", 1, v.at, NULL, NULL, ANY_ROWS) != 0
+                                     || ask(s, "find_all", 1, v.at, NULL, NULL, ANY_ROWS) != 0))
+        return -1;
+    return 0;
 }
 
 static int advance(struct store *base, const char *session, const struct demand *from,
@@ -176,10 +181,20 @@ static int advance(struct store *base, const char *session, const struct demand 
     return ask_values(s, "move_session", &v, ONE_ROW);
 }
 
-static int miss(struct store *base, const char *session)
+static int pass(struct store *base, unsigned shard, const char *session, uint64_t offset)
 {
-    const struct values v = { .count = 1, .at = { session } };
-    return ask_values((struct postgresql_store *)base, "miss_session", &v, ANY_ROWS);
+    struct values v = { .count = 1, .at = { session } };
+    add_number(&v, shard);
+    add_number(&v, offset);
+    add_number(&v, STORE_NOTED);
+    return ask_values((struct postgresql_store *)base, "pass_session", &v, ANY_ROWS);
+}
+
+static int find(struct store *base, unsigned shard, const char *session)
+{
+    struct values v = { .count = 1, .at = { session } };
+    add_number(&v, shard);
+    return ask_values((struct postgresql_store *)base, "find_session", &v, ANY_ROWS);
 }
 
 /* After a fault the connection isn't used any more: what is left of the answers doesn't matter. */
@@ -217,7 +232,7 @@ static const char *prepared(struct postgresql_store *s, const char *sql, char na
     while (i < EFFECTS && s->effects[i] != NULL && s->effects[i] != sql)
         i++;
     if (i == EFFECTS) {
-        fprintf(stderr, "effects have more than %d statements\n", EFFECTS);
+        log_fact(LEVEL_ERROR, "effects_too_many", field_number("most", EFFECTS));
         return NULL;
     }
     snprintf(name, 32, "effect%u", i);
@@ -302,35 +317,69 @@ static void read_demand(const PGresult *result, int row, struct demand *demand)
     demand->is_stored = 1;
 }
 
-static int session(struct store *base, const char *name, struct demand *demand)
+/* Passes all rows of sessions that a query gives. */
+static int take_rows(PGresult *result, store_take *take, void *given)
 {
-    PGresult *result = query((struct postgresql_store *)base,
-                             "SELECT next, closed, missed, at, shard FROM session WHERE name = $1",
-                             name);
-    if (result == NULL)
-        return -1;
-    demand->is_stored = 0;
-    if (PQntuples(result) == 1)
-        read_demand(result, 0, demand);
-    PQclear(result);
-    return 0;
-}
-
-static int sessions(struct store *base, unsigned shard, store_take *take, void *given)
-{
-    char text[24];
-    PGresult *result;
-    int row, answer = 0;
-    snprintf(text, sizeof text, "%u", shard);
-    result = query((struct postgresql_store *)base, "SELECT next, closed, missed, at, shard, name"
-                                                    " FROM session WHERE shard = $1", text);
-    if (result == NULL)
-        return -1;
+    int row, answer = result != NULL ? 0 : -1;
     for (row = 0; answer == 0 && row < PQntuples(result); row++) {
         struct demand demand;
         read_demand(result, row, &demand);
         answer = take(given, PQgetvalue(result, row, 5), &demand) != 0 ? -1 : 0;
     }
+    PQclear(result);
+    return answer;
+}
+
+/* The names as PostgreSQL writes an array of texts; the caller frees it. */
+static char *array_of(const char *const *names, size_t count)
+{
+    size_t i, size = 0, room = 3;
+    char *text;
+    for (i = 0; i < count; i++)
+        room += strlen(names[i]) + 3;
+    text = malloc(room);
+    if (text == NULL)
+        return NULL;
+    for (i = 0; i < count; i++)
+        size += (size_t)sprintf(text + size, "%c\"%s\"", i == 0 ? '{' : ',', names[i]);
+    strcpy(text + size, "}");
+    return text;
+}
+
+static int sessions(struct store *base, const char *const *names, size_t count, store_take *take,
+                    void *given)
+{
+    char *array = array_of(names, count);
+    int answer = -1;
+    if (array != NULL)
+        answer = take_rows(query((struct postgresql_store *)base,
+                                 "SELECT next, closed, missed, at, shard, name FROM session"
+                                 " WHERE name = ANY ($1::text[])", array), take, given);
+    free(array);
+    return answer;
+}
+
+static int standing(struct store *base, unsigned shard, store_take *take, void *given)
+{
+    char text[24];
+    snprintf(text, sizeof text, "%u", shard);
+    return take_rows(query((struct postgresql_store *)base,
+                           "SELECT next, closed, missed, at, shard, name FROM session"
+                           " WHERE shard = $1 AND missed <> 0", text), take, given);
+}
+
+static int passed(struct store *base, unsigned shard, store_note *take, void *given)
+{
+    char text[24];
+    PGresult *result;
+    int row, answer = 0;
+    snprintf(text, sizeof text, "%u", shard);
+    result = query((struct postgresql_store *)base,
+                   "SELECT at, session FROM passed WHERE shard = $1", text);
+    if (result == NULL)
+        return -1;
+    for (row = 0; answer == 0 && row < PQntuples(result); row++)
+        answer = take(given, PQgetvalue(result, row, 1), number_at(result, row, 0)) != 0 ? -1 : 0;
     PQclear(result);
     return answer;
 }
@@ -344,24 +393,6 @@ static void close_it(struct store *base)
     free(s->expected);
     free(s);
 }
-
-static int is_done(struct postgresql_store *s, PGresult *result, const char *sql)
-{
-    ExecStatusType status = PQresultStatus(result);
-    PQclear(result);
-    if (status == PGRES_COMMAND_OK || status == PGRES_TUPLES_OK)
-        return 1;
-    report(s, sql);
-    return 0;
-}
-
-/* What was set before holds. */
-static const char timeouts[] =
-    "SELECT set_config(name, value, false) FROM (VALUES ('lock_timeout', '3s'),"
-    " ('idle_in_transaction_session_timeout', '10s'), ('statement_timeout', '30s'),"
-    " ('tcp_keepalives_idle', '5'), ('tcp_keepalives_interval', '2'),"
-    " ('tcp_keepalives_count', '3'), ('tcp_user_timeout', '10s'))"
-    " AS given (name, value) JOIN pg_settings USING (name) WHERE source = 'default'";
 
 /* In one transaction under a lock, so that two processes may make the tables at once: IF NOT EXISTS
  * alone fails then. */
@@ -377,7 +408,10 @@ static const char tables[] =
     " ALTER TABLE shard ADD COLUMN incarnation bigint NOT NULL DEFAULT 0;"
     " ALTER TABLE session ADD COLUMN missed int NOT NULL DEFAULT 0,"
     " ADD COLUMN at bigint NOT NULL DEFAULT 0, ADD COLUMN shard int NOT NULL DEFAULT -1;"
-    " END IF; END $$; CREATE INDEX IF NOT EXISTS session_of_shard ON session (shard);";
+    " END IF; END $$; CREATE INDEX IF NOT EXISTS standing ON session (shard) WHERE missed <> 0;"
+    "CREATE TABLE IF NOT EXISTS passed (shard int NOT NULL, session text NOT NULL,"
+    " at bigint NOT NULL, PRIMARY KEY (shard, session));"
+    "ALTER TABLE session ADD COLUMN IF NOT EXISTS since bigint NOT NULL DEFAULT 0;";
 
 /* A role that may not make tables may use those that are there. */
 static int make_tables(struct postgresql_store *s)
@@ -389,9 +423,9 @@ static int make_tables(struct postgresql_store *s)
         const char *state = PQresultErrorField(result, PG_DIAG_SQLSTATE);
         if (state != NULL && strcmp(state, "42501") == 0) {
             PQclear(result);
-            return is_done(s, PQexec(s->db, "ROLLBACK"), "ROLLBACK");
+            return postgresql_is_done(s->db, PQexec(s->db, "ROLLBACK"), "ROLLBACK");
         }
-        if (!is_done(s, result, "the tables"))
+        if (!postgresql_is_done(s->db, result, "the tables"))
             return 0;
     }
     return 1;
@@ -410,30 +444,29 @@ static int prepare_all(struct postgresql_store *s)
           " DO UPDATE SET incarnation = $4, at = $5"
           " WHERE shard.incarnation = $2 AND shard.at = $3" },
         { "add_session",
-          "INSERT INTO session (name, next, closed, missed, at, shard)"
-          " VALUES ($1, $2::bigint, $3::int, $4::int, $5::bigint, $6::int)"
+          "INSERT INTO session (name, next, closed, missed, at, shard, since)"
+          " VALUES ($1, $2::bigint, $3::int, $4::int, $5::bigint, $6::int,"
+          " CASE WHEN $4 = 0 THEN 0 ELSE extract(epoch FROM now())::bigint END)"
           " ON CONFLICT DO NOTHING" },
         { "move_session",
-          "UPDATE session SET next = $2::bigint, closed = $3::int, missed = $4::int,"
+          "UPDATE session SET since = CASE WHEN next = $2::bigint AND (since > 0 OR $4::int = 0)"
+          " THEN since WHEN $4 = 0 THEN 0 ELSE extract(epoch FROM now())::bigint END,"
+          " next = $2, closed = $3::int, missed = $4,"
           " at = $5::bigint, shard = $6::int WHERE name = $1 AND next = $7::bigint"
           " AND closed = $8::int AND missed = $9::int AND at = $10::bigint AND shard = $11::int" },
-        { "miss_session", "UPDATE session SET missed = 2 WHERE name = $1 AND closed = 0" },
+        { "pass_session",
+          "INSERT INTO passed SELECT $2::int, CASE WHEN (SELECT count(*) FROM passed"
+          " WHERE shard = $2) < $4::bigint THEN $1 ELSE '' END, $3::bigint"
+          " ON CONFLICT DO NOTHING" },
+        { "find_session", "DELETE FROM passed WHERE session = $1 AND shard = $2::int" },
+        { "find_all", "DELETE FROM passed WHERE shard = $1::int" },
+        { "reset_sessions", "UPDATE session SET at = 0, missed = 0 WHERE shard = $1::int" },
     };
     unsigned i;
     for (i = 0; i < sizeof sql / sizeof *sql; i++)
-        if (!is_done(s, PQprepare(s->db, sql[i][0], sql[i][1], 0, NULL), sql[i][1]))
+        if (!postgresql_is_done(s->db, PQprepare(s->db, sql[i][0], sql[i][1], 0, NULL), sql[i][1]))
             return 0;
     return 1;
-}
-
-/* What --store says holds: it comes last. */
-static PGconn *connect_to(const char *where)
-{
-    static const char *const names[] = { "connect_timeout", "tcp_user_timeout", "keepalives_idle",
-                                         "keepalives_interval", "keepalives_count",
-                                         "application_name", "dbname", NULL };
-    const char *values[] = { "5", "5000", "2", "1", "3", "krbrelay", where, NULL };
-    return PQconnectdbParams(names, values, 1);
 }
 
 struct store *postgresql_store_open(const char *where)
@@ -442,20 +475,19 @@ struct store *postgresql_store_open(const char *where)
     if (s == NULL)
         return NULL;
     s->base.reached = reached;
-    s->base.session = session;
     s->base.sessions = sessions;
+    s->base.standing = standing;
+    s->base.passed = passed;
     s->base.begin = begin;
     s->base.advance = advance;
-    s->base.miss = miss;
+    s->base.pass = pass;
+    s->base.find = find;
     s->base.commit = commit;
     s->base.rollback = rollback;
     s->base.close = close_it;
     s->base.run = run_effect;
-    s->db = connect_to(where);
-    if (PQstatus(s->db) != CONNECTION_OK)
-        report(s, "no connection: is the server started, and does --store name it?");
-    else if (is_done(s, PQexec(s->db, timeouts), "timeouts") && make_tables(s) && prepare_all(s)
-             && PQenterPipelineMode(s->db))
+    s->db = postgresql_connect(where);
+    if (s->db != NULL && make_tables(s) && prepare_all(s) && PQenterPipelineMode(s->db))
         return &s->base;
     close_it(&s->base);
     return NULL;

@@ -1,6 +1,7 @@
 /* Publishes the frames of the outbox until they are carried (progress.h). A session whose frame the
  * carrier won't have is stopped, one that fails waits for a moment, and the others go on. */
 #include "clock.h"
+#include "log.h"
 #include "sender.h"
 
 #include <stdio.h>
@@ -14,20 +15,22 @@ enum { COUNTED = 512 };
 static int find_list(struct sender *s, struct sending *it)
 {
     uint64_t list = s->lanes[it->lane].incarnation;
-    int is_other = it->kept.shard >= 0 && it->kept.shard != (int32_t)it->of->shard;
+    int is_other = it->kept.shard >= 0 && it->kept.shard != (int32_t)it->of.shard;
     if (list == 0)
         return 0;
     if (it->kept.incarnation == list && !is_other)
         return 1;
     if (it->kept.incarnation != 0 || is_other) {
-        fprintf(stderr, "session %s: its shard is another list than before: what isn't carried is"
-                        " published there\n", it->of->name);
+        log_fact(LEVEL_WARNING, "session_elsewhere", field_text("session", it->of.name),
+                 field_number("shard", it->of.shard),
+                 field_text("text", "its shard is another list than before: what isn't carried is"
+                                    " published there"));
         it->progress.at = 0;
         it->progress.sent = it->progress.carried;
         it->kept.carried = UINT64_MAX; /* so that it is stored */
     }
     it->kept.incarnation = list;
-    it->kept.shard = (int32_t)it->of->shard;
+    it->kept.shard = (int32_t)it->of.shard;
     return 1;
 }
 
@@ -43,13 +46,12 @@ static int put_off(struct sender *s, struct sending *it, int answer, uint64_t nu
     s->lanes[it->lane].backlog -= (size_t)(it->progress.next - it->progress.carried);
     snprintf(it->reason, sizeof it->reason, "the carrier doesn't take frame %llu: is it longer than"
              " its Maximum Payload?", (unsigned long long)number);
-    return sender_stop(s, it->of->name, it->reason) == OUTBOX_OK ? 0 : -1;
+    return sender_stop(s, it->of.name, it->reason) == OUTBOX_OK ? 0 : -1;
 }
 
 /* Publishes the frames of a session that weren't. */
-static int publish(struct sender *s, size_t place)
+static int publish(struct sender *s, struct sending *it)
 {
-    struct sending *it = &s->sendings[place];
     struct progress *progress = &it->progress;
     const uint8_t *frame;
     uint64_t number = 0;
@@ -57,12 +59,12 @@ static int publish(struct sender *s, size_t place)
     int answer = 0, is_there = 1;
     if (progress->sent == progress->carried)
         progress->moved = nanoseconds();
-    outbox_select_frames(&s->outbox, it->of->name, progress->sent, WINDOW);
+    outbox_select_frames(&s->outbox, it->of.name, progress->sent, WINDOW);
     while (answer == 0 && outbox_next_frame(&s->outbox, &number, &frame, &len) == 1) {
         is_there = number == progress->sent;
         if (!is_there)
             break; /* another process has deleted frames: they are carried */
-        answer = carrier_publish(s->carrier, it->of->shard, it->of->name, (uint32_t)place, number,
+        answer = carrier_publish(s->carrier, it->of.shard, it->of.name, it->tag, number,
                                  frame, len);
         progress->sent += answer == 0;
         s->published += answer == 0;
@@ -70,7 +72,7 @@ static int publish(struct sender *s, size_t place)
     outbox_end_frames(&s->outbox);
     if (answer != 0)
         return put_off(s, it, answer, number);
-    return is_there ? 0 : sender_load(s, place);
+    return is_there ? 0 : sender_load(s, it);
 }
 
 /* Whether the session still has something to be carried or stored. */
@@ -79,15 +81,15 @@ static int is_active(const struct sending *it)
     return it->progress.carried < it->progress.next || it->kept.carried != it->progress.carried;
 }
 
-static void publish_one(struct sender *s, size_t place)
+static void publish_one(struct sender *s, struct sending *it)
 {
-    struct sending *it = &s->sendings[place];
     uint64_t patience = s->options.retry * UINT64_C(1000000), now = nanoseconds();
     if (it->is_blocked || now < it->moment || !find_list(s, it))
         return;
     s->again += progress_rewind(&it->progress, now, patience);
-    if (it->progress.sent < it->progress.next && publish(s, place) != 0)
-        notice(&s->faults, "session %s: its frames aren't published: tried again", it->of->name);
+    if (it->progress.sent < it->progress.next && publish(s, it) != 0)
+        log_fact(LEVEL_WARNING, "session_unpublished", field_text("session", it->of.name),
+                 field_number("shard", it->of.shard), field_text("text", "tried again"));
 }
 
 /* Which list each shard is, of those that have frames. */
@@ -107,14 +109,21 @@ void publish_all(struct sender *s)
     size_t i, kept = 0;
     find_lists(s);
     for (i = 0; i < s->active.count; i++)
-        publish_one(s, s->active.places[i]);
+        publish_one(s, s->active.at[i]);
     for (i = 0; i < s->active.count; i++) {
-        size_t place = s->active.places[i];
-        s->sendings[place].is_active = is_active(&s->sendings[place]);
-        if (s->sendings[place].is_active)
-            s->active.places[kept++] = place;
+        struct sending *it = s->active.at[i];
+        it->is_active = is_active(it);
+        if (it->is_active)
+            s->active.at[kept++] = it;
     }
     s->active.count = kept;
+}
+
+/* The session of a confirmation, or NULL: it is of sessions that were forgotten. */
+static struct sending *of_tag(const struct sender *s, uint32_t tag)
+{
+    uint32_t place = tag - s->first_tag;
+    return place < s->all.count ? s->all.at[place] : NULL;
 }
 
 size_t publish_count_carried(struct sender *s, int milliseconds)
@@ -123,8 +132,8 @@ size_t publish_count_carried(struct sender *s, int milliseconds)
     size_t rose = 0;
     int i, count = carrier_confirmed(s->carrier, list, COUNTED, milliseconds);
     for (i = 0; i < count; i++) {
-        struct sending *it = &s->sendings[list[i].tag < s->count ? list[i].tag : 0];
-        if (list[i].tag >= s->count
+        struct sending *it = of_tag(s, list[i].tag);
+        if (it == NULL
             || !progress_confirm(&it->progress, list[i].number, list[i].offset, nanoseconds()))
             continue;
         s->lanes[it->lane].backlog -= !it->is_blocked;
@@ -137,7 +146,7 @@ size_t publish_backlog(const struct sender *s)
 {
     size_t i, frames = 0;
     for (i = 0; i < s->active.count; i++) {
-        const struct sending *it = &s->sendings[s->active.places[i]];
+        const struct sending *it = s->active.at[i];
         if (!it->is_blocked)
             frames += (size_t)(it->progress.next - it->progress.carried);
     }

@@ -5,30 +5,29 @@
  * again until it is there. It may be killed at any time: start it again. */
 #include "clock.h"
 #include "ending.h"
+#include "log.h"
 #include "service.h"
-#include "shard.h"
+#include "serving.h"
+#include "sharing.h"
 #include "words.h"
 
 #include <getopt.h>
-#include <pthread.h>
+#include <limits.h>
 #include <stdio.h>
 #include <stdlib.h>
+#include <string.h>
 #include <sys/stat.h>
 
-enum {
-    WAIT = 100, SECOND_OF_WAITS = 10, MOST_REPLICAS = 5, SECOND = 1000000000, SHORTEST = 200,
-    LONGEST = 5000
-};
+enum { WAIT = 50, SECOND_OF_WAITS = 20 };
 
 static const char usage[] =
-    "receiver --sessions FILE --store WHERE --carrier WHERE --shards N[-N][,..]\n"
-    "         [--replicas N] [--batch N] [--skew SECONDS] [--metrics ADDRESS:PORT]\n"
-    "         [--until-closed]\n"
+    "receiver --sessions FILE --store WHERE --carrier WHERE --shards LIST|auto [OPTION..]\n"
     "  --sessions FILE  a line for each session: NAME SHARD ETYPE MODE KEY FIRST FROM TO\n"
     "  --store WHERE    sqlite:FILE, in whose name '%' is the shard, or\n"
     "                   postgresql://USER@HOST/DATABASE\n"
-    "  --carrier WHERE  sqlite:FILE, or nats://HOST:PORT[,..]\n"
+    CARRIER_USAGE
     "  --shards LIST    the shards to be served, such as 0-3,7\n"
+    "  --shards auto    those of the sessions, which all receivers of the store that say so share\n"
     "  --replicas N     a stream with fewer isn't read (1)\n"
     "  --batch N        so many frames go into a transaction at most (1024)\n"
     "  --skew SECONDS   by so much a frame's time may be off (86400): more than the time for\n"
@@ -42,105 +41,160 @@ struct options {
     struct shard_options shard;
     const char *sessions, *metrics;
     unsigned char is_served[CARRIER_SHARDS];
-    unsigned shard_count;
-    int until_closed;
+    unsigned shard_count; /* 0: it shares those of the sessions with other receivers */
+    int has_shards;
 };
 
 static struct options options;
-static int failed;           /* a shard couldn't be started */
-static unsigned begun, done; /* so many shards were started, and have ended */
+static struct sessions *sessions; /* the file, as it was read last */
 
-static void add_one(unsigned *count)
+/* ---- Shards that are shared */
+
+static struct sharing *sharing;
+static unsigned char is_closed[CARRIER_SHARDS]; /* with --until-closed: all its sessions are */
+
+static int is_wanted(unsigned shard)
 {
-    __atomic_fetch_add(count, 1, __ATOMIC_SEQ_CST);
+    return sessions_have_shard(sessions, shard) && !is_closed[shard];
 }
 
-static unsigned read_count(const unsigned *count)
+/* How many shards have to be served by somebody. */
+static unsigned count_wanted(void)
 {
-    return __atomic_load_n(count, __ATOMIC_SEQ_CST);
+    unsigned shard, count = 0;
+    for (shard = 0; shard < CARRIER_SHARDS; shard++)
+        count += is_wanted(shard) != 0;
+    return count;
 }
 
-static double seconds_since(uint64_t began)
+static unsigned count_served(void)
 {
-    return (double)(nanoseconds() - began) / 1e9;
+    unsigned shard, count = 0;
+    for (shard = 0; shard < CARRIER_SHARDS; shard++)
+        count += serving_state(shard) == SHARD_SERVED;
+    return count;
 }
 
-/* The store is away: waits for longer each time. */
-static void wait_for_store(const struct shard *shard, unsigned *pause)
+/* Takes shards that nobody has, so many at most, from a drawn one on. */
+static void take_shards(unsigned count)
 {
-    unsigned waited;
-    fprintf(stderr, "shard %u: the store is away: it is opened again in %u ms, and the shard goes"
-                    " on where it was\n", shard->number, *pause);
-    for (waited = 0; waited < *pause && !is_ending(); waited += WAIT)
-        pause_milliseconds(WAIT);
-    *pause = 2 * *pause < LONGEST ? 2 * *pause : LONGEST;
-}
-
-/* What waits for the first frame isn't counted in the seconds. */
-static void serve(struct shard *shard, unsigned part)
-{
-    uint64_t began = nanoseconds(), reported = began;
-    unsigned pause = SHORTEST;
-    while (!is_ending() && !(options.until_closed && shard->is_loaded && shard->open == 0)) {
-        int count = shard_step(shard, WAIT);
-        if (count < 0)
-            wait_for_store(shard, &pause);
-        else if (shard->is_loaded)
-            pause = SHORTEST;
-        if (shard->counts.accepted == 0 && count == 0)
-            began = nanoseconds();
-        if (nanoseconds() - reported > SECOND) {
-            shard_report(shard, seconds_since(began));
-            shard_show(shard, part);
-            reported = nanoseconds();
-        }
+    unsigned from = (unsigned)rand() % CARRIER_SHARDS, i;
+    for (i = 0; i < CARRIER_SHARDS && count > 0; i++) {
+        unsigned shard = (from + i) % CARRIER_SHARDS;
+        int taken;
+        if (!is_wanted(shard) || serving_state(shard) != SHARD_IDLE)
+            continue;
+        taken = sharing_take(sharing, shard);
+        if (taken < 0)
+            return;
+        count -= taken == 1 && serving_start(shard);
     }
-    shard_report(shard, seconds_since(began));
 }
 
-/* A thread's shard, and its place among all. */
-struct thread { pthread_t thread; struct shard shard; unsigned part; };
-
-static void *work(void *given)
+/* Has so many threads end after their transactions, and those of shards that aren't this one's. */
+static void leave_shards(unsigned count)
 {
-    struct thread *it = given;
-    if (shard_start(&it->shard) == 0) {
-        add_one(&begun);
-        shard_show(&it->shard, it->part);
-        serve(&it->shard, it->part);
-    } else if (!is_ending()) {
-        __atomic_store_n(&failed, 1, __ATOMIC_SEQ_CST);
-        end_now();
+    unsigned shard;
+    for (shard = 0; shard < CARRIER_SHARDS; shard++) {
+        int is_own = is_wanted(shard) && sharing_has(sharing, shard);
+        if (serving_state(shard) != SHARD_SERVED || (is_own && count == 0))
+            continue;
+        serving_leave(shard);
+        count -= count > 0 && is_own;
     }
-    shard_stop(&it->shard);
-    add_one(&done);
-    return NULL;
 }
 
-static int start_thread(struct thread *it, unsigned part, unsigned number,
-                        const struct session *sessions, size_t count)
+/* Gives the locks back of those that aren't served any more. */
+static void give_back_shards(void)
 {
-    it->part = part;
-    it->shard.options = &options.shard;
-    it->shard.sessions = sessions;
-    it->shard.count = count;
-    it->shard.number = number;
-    if (pthread_create(&it->thread, NULL, work, it) == 0)
+    unsigned shard;
+    for (shard = 0; shard < CARRIER_SHARDS; shard++) {
+        if (serving_state(shard) != SHARD_IDLE || !sharing_has(sharing, shard))
+            continue;
+        is_closed[shard] = (unsigned char)serving_has_closed(shard);
+        sharing_give_back(sharing, shard);
+    }
+}
+
+static void report_shared(int receivers)
+{
+    static unsigned last = UINT_MAX;
+    unsigned served = count_served();
+    if (served == last)
+        return;
+    last = served;
+    log_fact(LEVEL_INFO, "shards_shared", field_number("receivers", (uint64_t)receivers),
+             field_number("shards", count_wanted()), field_number("served", served));
+}
+
+/* Each receiver serves the same part of the shards, rounded up. */
+static void share(void)
+{
+    int receivers = sharing_count(sharing);
+    unsigned part, served;
+    if (receivers < 1)
+        return; /* the store is away: what is served stays so */
+    part = (count_wanted() + (unsigned)receivers - 1) / (unsigned)receivers;
+    served = count_served();
+    leave_shards(served > part ? served - part : 0);
+    if (served < part)
+        take_shards(part - served);
+    report_shared(receivers);
+}
+
+/* ---- */
+
+static void start_shards(void)
+{
+    unsigned shard;
+    for (shard = 0; shard < CARRIER_SHARDS && !is_ending(); shard++)
+        if (options.is_served[shard] && !serving_start(shard))
+            end_now();
+}
+
+/* Looks whether the file of sessions is another one. */
+static void look_at_sessions(void)
+{
+    struct sessions *again = sessions_read_again(sessions);
+    if (again == NULL)
+        return;
+    serving_use(again);
+    sessions_forget(sessions);
+    sessions = again;
+    memset(is_closed, 0, sizeof is_closed);
+}
+
+/* Whether there is nothing to do any more. */
+static int is_done(void)
+{
+    if (serving_count() > 0)
+        return 0;
+    if (is_ending() || sharing == NULL)
         return 1;
-    perror("a thread");
-    __atomic_store_n(&failed, 1, __ATOMIC_SEQ_CST);
-    end_now();
-    return 0;
+    return options.shard.until_closed && count_wanted() == 0;
 }
 
-/* Tells the supervisor how it stands, until all threads have ended. */
-static void tell_all(unsigned started)
+static void do_each_second(void)
+{
+    if (!is_ending())
+        look_at_sessions();
+    if (sharing != NULL && !is_ending())
+        share();
+    service_tell_alive();
+}
+
+/* Until all threads have ended: sees to the shards, and tells the supervisor how it stands. */
+static void watch(void)
 {
     int is_ready = 0, is_ended = 0;
     unsigned rounds;
-    for (rounds = 0; read_count(&done) < started; rounds++) {
-        pause_milliseconds(WAIT / 2);
-        if (!is_ready && read_count(&begun) == options.shard_count) {
+    for (rounds = 0; !is_done(); rounds++) {
+        serving_join();
+        if (sharing != NULL)
+            give_back_shards();
+        if (rounds % SECOND_OF_WAITS == 0)
+            do_each_second();
+        if (!is_ready && serving_is_ready()) {
             service_tell_ready();
             is_ready = 1;
         }
@@ -148,39 +202,35 @@ static void tell_all(unsigned started)
             service_tell_end();
             is_ended = 1;
         }
-        if (rounds % (2 * SECOND_OF_WAITS) == 0)
-            service_tell_alive();
+        pause_milliseconds(WAIT);
     }
 }
 
-static void work_all(const struct session *sessions, size_t count)
+/* 0, or 1 after a fault at the start. */
+static int work(void)
 {
-    struct thread *threads = calloc(options.shard_count, sizeof *threads);
-    unsigned number, i, started = 0;
-    if (threads == NULL || service_begin(shard_metrics, shard_metrics_count, &shard_stands_metric,
-                                         options.shard_count) != 0) {
-        perror("receiver");
-        failed = 1;
-    } else if (options.metrics != NULL && service_listen(options.metrics) != 0) {
-        failed = 1;
+    int is_fine = serving_begin(&options.shard, sessions, options.shard_count == 0) == 0
+                  && (options.metrics == NULL || service_listen(options.metrics) == 0);
+    if (is_fine && options.shard_count == 0)
+        is_fine = (sharing = sharing_open(options.shard.store)) != NULL;
+    if (is_fine) {
+        start_shards();
+        watch();
+        is_fine = !serving_failed();
     }
-    for (number = 0; !failed && number < CARRIER_SHARDS; number++)
-        if (options.is_served[number])
-            started += (unsigned)start_thread(&threads[started], started, number, sessions, count);
-    tell_all(started);
-    for (i = 0; i < started; i++)
-        if (pthread_join(threads[i].thread, NULL) != 0)
-            perror("a thread");
+    if (sharing != NULL)
+        sharing_close(sharing);
+    serving_end();
     service_end();
-    free(threads);
+    return !is_fine;
 }
 
 /* ---- Options */
 
 static const struct option words_of_options[] = {
+    CARRIER_WORDS,
     { "sessions", required_argument, NULL, 's' }, { "store", required_argument, NULL, 'S' },
-    { "carrier", required_argument, NULL, 'c' },  { "shards", required_argument, NULL, 'n' },
-    { "replicas", required_argument, NULL, 'r' }, { "batch", required_argument, NULL, 'b' },
+    { "shards", required_argument, NULL, 'n' },   { "batch", required_argument, NULL, 'b' },
     { "skew", required_argument, NULL, 'k' },     { "metrics", required_argument, NULL, 'm' },
     { "until-closed", no_argument, NULL, 'u' },
     { "help", no_argument, NULL, 'h' },           { "version", no_argument, NULL, 'v' },
@@ -189,10 +239,12 @@ static const struct option words_of_options[] = {
 
 static void read_shards(struct options *o, const char *text)
 {
-    o->shard_count = read_ranges(text, CARRIER_SHARDS, o->is_served);
-    if (o->shard_count > 0)
+    int is_auto = strcmp(text, "auto") == 0;
+    o->shard_count = is_auto ? 0 : read_ranges(text, CARRIER_SHARDS, o->is_served);
+    o->has_shards = is_auto || o->shard_count > 0;
+    if (o->has_shards)
         return;
-    fprintf(stderr, "receiver: --shards '%s': name shards below %d, such as 0-3,7\n", text,
+    fprintf(stderr, "receiver: --shards '%s': name shards below %d, such as 0-3,7, or auto\n", text,
             CARRIER_SHARDS);
     exit(2);
 }
@@ -202,18 +254,14 @@ static int read_option(struct options *o, int letter)
     switch (letter) {
     case 's': o->sessions = optarg; break;
     case 'S': o->shard.store = optarg; break;
-    case 'c': o->shard.carrier = optarg; break;
     case 'n': read_shards(o, optarg); break;
-    case 'r':
-        o->shard.replicas = option_number("receiver", "replicas", optarg, 1, MOST_REPLICAS);
-        break;
     case 'b': o->shard.batch = option_number("receiver", "batch", optarg, 1, MOST_FRAMES); break;
     case 'k': o->shard.skew = option_number("receiver", "skew", optarg, 0, UINT32_MAX); break;
     case 'm': o->metrics = optarg; break;
-    case 'u': o->until_closed = 1; break;
+    case 'u': o->shard.until_closed = 1; break;
     case 'h': fputs(usage, stdout); exit(0);
     case 'v': print_version("receiver"); exit(0);
-    default: return 0;
+    default: return carrier_option("receiver", &o->shard.carrier, letter, optarg);
     }
     return 1;
 }
@@ -224,15 +272,15 @@ static int read_options(struct options *o, int count, char **words)
     while ((letter = getopt_long(count, words, "", words_of_options, NULL)) != -1)
         if (!read_option(o, letter))
             return 0;
-    return optind == count && o->sessions && o->shard.store && o->shard.carrier
-           && o->shard_count > 0;
+    return optind == count && o->sessions && o->shard.store && o->shard.carrier.where
+           && o->has_shards && carrier_options_fit("receiver", &o->shard.carrier);
 }
 
 int main(int count, char **words)
 {
-    struct session *sessions;
-    size_t session_count;
-    options.shard = (struct shard_options){ .replicas = 1, .batch = 1024, .skew = 86400 };
+    int status;
+    options.shard = (struct shard_options){ .carrier = { .replicas = 1 }, .batch = 1024,
+                                            .skew = 86400 };
     if (!read_options(&options, count, words)) {
         fputs(usage, stderr);
         return 2;
@@ -240,10 +288,11 @@ int main(int count, char **words)
     umask(077); /* databases have texts and frames: they are for their owner alone */
     end_by_signals();
     srand((unsigned)nanoseconds());
-    sessions = read_sessions(options.sessions, &session_count);
+    sessions = sessions_read(options.sessions);
     if (sessions == NULL)
         return 1;
-    work_all(sessions, session_count);
-    forget_sessions(sessions, session_count);
-    return failed;
+    status = work();
+    sessions_forget(sessions);
+    log_end();
+    return status;
 }

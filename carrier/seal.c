@@ -35,7 +35,7 @@ static enum seal_answer judge(struct sending *it, enum krbrelay_answer answer)
     char text[KRBRELAY_TEXT_SIZE];
     if (answer == KRBRELAY_OK)
         return SEAL_OK;
-    report_answer("not sealed", it->of->name, it->sealed, answer);
+    report_answer("text_unsealed", it->of.name, it->sealed, answer);
     answer_text(answer, text);
     return answer == KRBRELAY_MEMORY ? SEAL_FAULT : stop(it, it->begin, text);
 }
@@ -48,7 +48,7 @@ static int has_number(const struct sending *it, uint32_t kind)
 
 static enum krbrelay_answer make_sealer(struct sending *it)
 {
-    const struct session *of = it->of;
+    const struct session *of = &it->of;
     struct krbrelay_session session = { .mode = of->mode, .first = (uint32_t)it->sealed,
                                         .sender = of->from };
     if (it->sealer.at != NULL)
@@ -79,7 +79,7 @@ static enum seal_answer seal(struct sealing *s, struct sending *it, uint32_t kin
     if (answer != KRBRELAY_OK)
         return judge(it, answer);
     s->frames++;
-    return outbox_add_frame(s->outbox, it->of->name, number, s->frame, size) == 0 ? SEAL_OK
+    return outbox_add_frame(s->outbox, it->of.name, number, s->frame, size) == 0 ? SEAL_OK
                                                                                  : SEAL_FAULT;
 }
 

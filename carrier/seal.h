@@ -12,9 +12,10 @@
 enum { BATCH_TEXTS = 1000, BATCH_BYTES = 60000, TEXT_BYTES = 1000000 };
 enum seal_answer { SEAL_OK = 0, SEAL_STOP = 1, SEAL_FAULT = -1 };
 
-/* One session of a sender. */
+/* One session of a sender, from its first text or frame on. */
 struct sending {
-    const struct session *of;
+    struct session of;          /* the first member: it is found by its name */
+    uint32_t tag;               /* of its frames' confirmations */
     size_t lane;                /* its shard's place */
     struct krbrelay_sealer sealer; /* made with the first text */
     struct outbox_progress kept;   /* what the outbox has */

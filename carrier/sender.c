@@ -7,6 +7,7 @@
 #include "sender.h"
 #include "clock.h"
 #include "ending.h"
+#include "log.h"
 #include "service.h"
 #include "words.h"
 
@@ -18,19 +19,17 @@
 
 enum {
     IDLE = 20,          /* milliseconds to wait for confirmations, or texts */
-    PAUSE = 100,        /* milliseconds after a fault */
-    MOST_REPLICAS = 5
+    PAUSE = 100         /* milliseconds after a fault */
 };
 
 #define SECOND UINT64_C(1000000000) /* in nanoseconds */
 #define SILENCE (10 * SECOND)
 
 static const char usage[] =
-    "sender --sessions FILE --outbox FILE --carrier WHERE [--replicas N] [--batch N]\n"
-    "       [--retry MILLISECONDS] [--metrics ADDRESS:PORT] [--drain]\n"
+    "sender --sessions FILE --outbox FILE --carrier WHERE [OPTION..]\n"
     "  --sessions FILE  a line for each session: NAME SHARD ETYPE MODE KEY FIRST FROM TO\n"
     "  --outbox FILE    SQLite's, in whose table `text` an application puts texts\n"
-    "  --carrier WHERE  sqlite:FILE, or nats://HOST:PORT[,..]\n"
+    CARRIER_USAGE
     "  --replicas N     so many replicas has a stream that is made; one with fewer isn't used (1)\n"
     "  --batch N        so many texts go into a frame at most (1)\n"
     "  --retry MILLISECONDS  what isn't carried by then is published again (2000): more than the\n"
@@ -46,7 +45,8 @@ static const char usage[] =
 
 int sender_tell_stopped(struct sender *s, const char *session, const char *reason)
 {
-    fprintf(stderr, "session %s is stopped: %s\n", session, reason);
+    log_fact(LEVEL_ERROR, "session_stopped", field_text("session", session),
+             field_text("text", reason));
     s->stopped++;
     return outbox_add_stopped(&s->outbox, session, reason);
 }
@@ -62,27 +62,11 @@ enum outbox_answer sender_stop(struct sender *s, const char *session, const char
     return OUTBOX_AGAIN;
 }
 
-void sender_activate(struct sender *s, size_t place)
+void sender_activate(struct sender *s, struct sending *it)
 {
-    if (!s->sendings[place].is_active)
-        s->active.places[s->active.count++] = place;
-    s->sendings[place].is_active = 1;
-}
-
-int sender_load(struct sender *s, size_t place)
-{
-    struct sending *it = &s->sendings[place];
-    struct lane *lane = &s->lanes[it->lane];
-    if (outbox_load(&s->outbox, it->of->name, &it->kept) != 0)
-        return -1;
-    lane->backlog -= (size_t)(it->progress.next - it->progress.carried);
-    it->progress = (struct progress){ .next = it->kept.next, .carried = it->kept.carried,
-                                      .at = it->kept.at, .sent = it->kept.carried };
-    lane->backlog += (size_t)(it->progress.next - it->progress.carried);
-    seal_reset(it);
-    if (it->progress.carried < it->progress.next)
-        sender_activate(s, place);
-    return 0;
+    if (!it->is_active)
+        s->active.at[s->active.count++] = it;
+    it->is_active = 1;
 }
 
 /* ---- What is stored, in one transaction */
@@ -92,13 +76,13 @@ static enum seal_answer keep_sealed(struct sender *s, struct sending **stopped)
 {
     size_t i;
     for (i = 0; i < s->touched.count; i++) {
-        struct sending *it = &s->sendings[s->touched.places[i]];
+        struct sending *it = s->touched.at[i];
         enum seal_answer answer = seal_rest(&s->sealing, it);
         *stopped = it;
         if (answer != SEAL_OK)
             return answer;
         if (it->sealed > it->progress.next
-            && outbox_set_next(&s->outbox, it->of->name, it->progress.next, it->sealed) != 0)
+            && outbox_set_next(&s->outbox, &it->of, it->progress.next, it->sealed) != 0)
             return SEAL_FAULT;
     }
     return SEAL_OK;
@@ -109,12 +93,12 @@ static enum seal_answer keep_carried(struct sender *s)
 {
     size_t i;
     for (i = 0; i < s->active.count; i++) {
-        struct sending *it = &s->sendings[s->active.places[i]];
+        struct sending *it = s->active.at[i];
         struct outbox_progress now = it->kept;
         now.carried = it->progress.carried;
         now.at = it->progress.at;
         if (it->kept.carried != it->progress.carried
-            && outbox_set_carried(&s->outbox, it->of->name, &now) != 0)
+            && outbox_set_carried(&s->outbox, it->of.name, &now) != 0)
             return SEAL_FAULT;
     }
     return SEAL_OK;
@@ -125,16 +109,16 @@ static void note_kept(struct sender *s)
 {
     size_t i;
     for (i = 0; i < s->active.count; i++) {
-        struct sending *it = &s->sendings[s->active.places[i]];
+        struct sending *it = s->active.at[i];
         it->kept.carried = it->progress.carried;
         it->kept.at = it->progress.at;
     }
     for (i = 0; i < s->touched.count; i++) {
-        struct sending *it = &s->sendings[s->touched.places[i]];
+        struct sending *it = s->touched.at[i];
         s->lanes[it->lane].backlog += (size_t)(it->sealed - it->progress.next);
         it->kept.next = it->progress.next = it->sealed;
         it->is_touched = 0;
-        sender_activate(s, s->touched.places[i]);
+        sender_activate(s, it);
     }
     s->touched.count = 0;
 }
@@ -158,8 +142,8 @@ static void give_up(struct sender *s, const struct looked *before)
     for (i = 0; i < s->lane_count; i++)
         s->lanes[i].deferred = before->deferred[i];
     for (i = 0; i < s->touched.count; i++) {
-        seal_reset(&s->sendings[s->touched.places[i]]);
-        s->sendings[s->touched.places[i]].is_touched = 0;
+        seal_reset(s->touched.at[i]);
+        s->touched.at[i]->is_touched = 0;
     }
     s->touched.count = 0;
 }
@@ -185,7 +169,7 @@ static enum outbox_answer store(struct sender *s, int with_texts, struct looked 
     }
     give_up(s, before);
     if (answer == SEAL_STOP)
-        return sender_stop(s, stopped->of->name, stopped->reason);
+        return sender_stop(s, stopped->of.name, stopped->reason);
     pause_milliseconds(PAUSE);
     return OUTBOX_AGAIN;
 }
@@ -200,33 +184,63 @@ static void report_silence(struct sender *s, size_t rose)
         s->rose = nanoseconds();
     if (nanoseconds() - s->rose < SILENCE)
         return;
-    fprintf(stderr, "none of %zu frames was confirmed for %llu s: are most nodes of the carrier up?"
-                    " They are published again until they are\n", backlog,
-            (unsigned long long)(SILENCE / SECOND));
+    log_fact(LEVEL_WARNING, "nothing_confirmed", field_number("frames", backlog),
+             field_number("seconds", SILENCE / SECOND),
+             field_text("text", "are most nodes of the carrier up? They are published again"));
     s->rose = nanoseconds();
 }
 
-/* Each second: shows how it stands, and looks whether the outbox is still this process's, also
- * where nothing is stored. */
-static int is_owner(struct sender *s)
+/* Begins anew if the file of sessions is another one: those that were stopped are tried again. */
+static enum outbox_answer look_at_sessions(struct sender *s)
 {
+    enum outbox_answer begun;
+    if (s->newer == NULL)
+        s->newer = sessions_read_again(s->sessions);
+    if (s->newer == NULL)
+        return OUTBOX_OK;
+    begun = outbox_begin(&s->outbox);
+    if (begun != OUTBOX_OK)
+        return begun;
+    if (outbox_drop_stopped(&s->outbox) != 0 || outbox_commit(&s->outbox) != 0) {
+        outbox_rollback(&s->outbox);
+        return OUTBOX_AGAIN;
+    }
+    sender_forget(s);
+    sessions_forget(s->sessions);
+    s->sessions = s->newer;
+    s->newer = NULL;
+    s->stopped = 0;
+    return sender_begin(s) == 0 ? OUTBOX_OK : OUTBOX_FAULT;
+}
+
+/* Each second: shows how it stands, looks whether the outbox is still this process's, also where
+ * nothing is stored, and whether the file of sessions is another one. */
+static enum outbox_answer look(struct sender *s)
+{
+    enum outbox_answer answer;
     if (nanoseconds() - s->looked < SECOND)
-        return 1;
+        return OUTBOX_OK;
     s->looked = nanoseconds();
     sender_show(s);
     service_tell_alive();
-    return outbox_is_owned(&s->outbox);
+    if (!outbox_is_owned(&s->outbox))
+        return OUTBOX_TAKEN;
+    answer = look_at_sessions(s);
+    return answer == OUTBOX_AGAIN ? OUTBOX_OK : answer; /* then in a second */
 }
 
 /* One round; *rose is how many frames were carried in the last. 1 if all is done that can be. */
 static int step(struct sender *s, struct looked *before, size_t *rose, enum outbox_answer *answer)
 {
     uint64_t began = nanoseconds(), sealing = s->sealing.nanoseconds;
-    size_t backlog = publish_backlog(s);
+    size_t backlog;
     int texts;
-    *answer = is_owner(s) ? texts_check_wanted(s) : OUTBOX_TAKEN;
+    *answer = look(s);
+    if (*answer == OUTBOX_OK)
+        *answer = texts_check_wanted(s);
     if (*answer < 0)
         return 1;
+    backlog = publish_backlog(s);
     texts = texts_wait(s);
     if (texts || *rose > 0)
         *answer = store(s, texts, before);
@@ -248,7 +262,7 @@ static int step(struct sender *s, struct looked *before, size_t *rose, enum outb
 
 static enum outbox_answer serve(struct sender *s)
 {
-    struct looked before = { 0, calloc(s->lane_count, sizeof *before.deferred) };
+    struct looked before = { 0, calloc(CARRIER_SHARDS, sizeof *before.deferred) };
     enum outbox_answer answer = OUTBOX_FAULT;
     size_t rose = 0;
     s->rose = nanoseconds();
@@ -265,86 +279,45 @@ static enum outbox_answer serve(struct sender *s)
 
 /* ---- */
 
-static int make_list(struct list *list, size_t count)
-{
-    list->count = 0;
-    list->places = calloc(count, sizeof *list->places);
-    return list->places != NULL;
-}
-
-/* Gives each shard of a session a lane. */
-static int make_lanes(struct sender *s)
-{
-    static size_t lane_of[CARRIER_SHARDS]; /* and 1; 0: none yet */
-    size_t i;
-    s->lanes = calloc(s->count < CARRIER_SHARDS ? s->count : CARRIER_SHARDS, sizeof *s->lanes);
-    if (s->lanes == NULL)
-        return 0;
-    for (i = 0; i < s->count; i++) {
-        size_t *lane = &lane_of[s->sessions[i].shard];
-        if (*lane == 0) {
-            s->lanes[s->lane_count++].shard = s->sessions[i].shard;
-            *lane = s->lane_count;
-        }
-        s->sendings[i].of = &s->sessions[i];
-        s->sendings[i].lane = *lane - 1;
-    }
-    return 1;
-}
-
 static int make_memory(struct sender *s)
 {
-    s->sendings = calloc(s->count, sizeof *s->sendings);
     s->sealing.outbox = &s->outbox;
     s->sealing.batch = s->options.batch;
     s->sealing.frame = malloc(KRBRELAY_FRAME_LIMIT);
     s->bytes = malloc(KRBRELAY_FRAME_LIMIT);
-    if (s->sendings == NULL || s->sealing.frame == NULL || s->bytes == NULL || !make_lanes(s)
-        || !make_list(&s->touched, s->count) || !make_list(&s->active, s->count)
-        || !make_list(&s->wanted, s->count)) {
-        perror("sender");
-        return -1;
-    }
-    return 0;
+    if (s->sealing.frame != NULL && s->bytes != NULL)
+        return 0;
+    log_system("out_of_memory", "sender");
+    return -1;
 }
 
 static int start(struct sender *s)
 {
-    size_t i;
-    s->sessions = read_sessions(s->options.sessions, &s->count);
+    s->sessions = sessions_read(s->options.sessions);
     if (s->sessions == NULL || make_memory(s) != 0)
         return -1;
-    s->carrier = carrier_open(s->options.carrier, s->options.replicas);
+    s->carrier = carrier_open(&s->options.carrier);
     if (s->carrier == NULL) /* the outbox stays with whoever has it */
         return -1;
-    if (outbox_open(&s->outbox, s->options.outbox, s->sessions, s->count) != 0)
+    if (outbox_open(&s->outbox, s->options.outbox) != 0 || sender_begin(s) != 0)
         return -1;
-    for (i = 0; i < s->count; i++)
-        if (sender_load(s, i) != 0)
-            return -1;
-    if (sender_begin_showing(s) != 0)
+    if (sender_begin_showing() != 0)
         return -1;
     return s->options.metrics != NULL ? service_listen(s->options.metrics) : 0;
 }
 
 static void stop(struct sender *s)
 {
-    size_t i;
     service_end();
-    for (i = 0; s->sendings != NULL && i < s->count; i++)
-        seal_free(&s->sendings[i]);
+    sender_forget(s);
     outbox_close(&s->outbox);
     if (s->carrier != NULL)
         carrier_close(s->carrier);
-    forget_sessions(s->sessions, s->count);
+    sessions_forget(s->sessions);
+    sessions_forget(s->newer);
     if (s->bytes != NULL)
         explicit_bzero(s->bytes, KRBRELAY_FRAME_LIMIT);
     free(s->bytes);
-    free(s->sendings);
-    free(s->lanes);
-    free(s->touched.places);
-    free(s->active.places);
-    free(s->wanted.places);
     free(s->sealing.frame);
 }
 
@@ -352,13 +325,16 @@ static int work(struct sender *s)
 {
     uint64_t began = nanoseconds();
     enum outbox_answer answer = start(s) == 0 ? serve(s) : OUTBOX_FAULT;
-    printf("sender: %lu frames sealed, %lu published, %lu of them again; %.2f s, sealing %.2f,"
-           " storing %.2f, carrier %.2f\n", s->sealing.frames, s->published, s->again,
-           (double)(nanoseconds() - began) / 1e9, (double)s->sealing.nanoseconds / 1e9,
-           (double)s->storing / 1e9, (double)s->carrying / 1e9);
+    log_fact(LEVEL_INFO, "sender_ended", field_number("frames", s->sealing.frames),
+             field_number("published", s->published), field_number("again", s->again),
+             field_seconds("seconds", nanoseconds() - began),
+             field_seconds("sealing", s->sealing.nanoseconds),
+             field_seconds("outbox", s->storing), field_seconds("carrier", s->carrying));
     if (answer == OUTBOX_TAKEN)
-        fprintf(stderr, "another sender has taken %s over: this one ends\n", s->options.outbox);
+        log_fact(LEVEL_ERROR, "outbox_taken", field_text("file", s->options.outbox),
+                 field_text("text", "another sender has taken it over: this one ends"));
     stop(s);
+    log_end();
     if (answer < 0)
         return answer == OUTBOX_TAKEN ? 3 : !is_ending();
     return s->options.drain && !is_ending() && s->stopped > 0 ? 4 : 0;
@@ -367,8 +343,8 @@ static int work(struct sender *s)
 /* ---- Options */
 
 static const struct option words_of_options[] = {
+    CARRIER_WORDS,
     { "sessions", required_argument, NULL, 's' }, { "outbox", required_argument, NULL, 'o' },
-    { "carrier", required_argument, NULL, 'c' },  { "replicas", required_argument, NULL, 'r' },
     { "batch", required_argument, NULL, 'b' },    { "retry", required_argument, NULL, 't' },
     { "metrics", required_argument, NULL, 'm' },  { "drain", no_argument, NULL, 'd' },
     { "help", no_argument, NULL, 'h' },           { "version", no_argument, NULL, 'v' },
@@ -380,15 +356,13 @@ static int read_option(struct options *o, int letter)
     switch (letter) {
     case 's': o->sessions = optarg; break;
     case 'o': o->outbox = optarg; break;
-    case 'c': o->carrier = optarg; break;
-    case 'r': o->replicas = option_number("sender", "replicas", optarg, 1, MOST_REPLICAS); break;
     case 'b': o->batch = option_number("sender", "batch", optarg, 1, BATCH_TEXTS); break;
     case 't': o->retry = option_number("sender", "retry", optarg, 1, 86400000); break;
     case 'm': o->metrics = optarg; break;
     case 'd': o->drain = 1; break;
     case 'h': fputs(usage, stdout); exit(0);
     case 'v': print_version("sender"); exit(0);
-    default: return 0;
+    default: return carrier_option("sender", &o->carrier, letter, optarg);
     }
     return 1;
 }
@@ -399,13 +373,14 @@ static int read_options(struct options *o, int count, char **words)
     while ((letter = getopt_long(count, words, "", words_of_options, NULL)) != -1)
         if (!read_option(o, letter))
             return 0;
-    return optind == count && o->sessions && o->outbox && o->carrier;
+    return optind == count && o->sessions && o->outbox && o->carrier.where
+           && carrier_options_fit("sender", &o->carrier);
 }
 
 int main(int count, char **words)
 {
     static struct sender sender;
-    sender.options.replicas = sender.options.batch = 1;
+    sender.options.carrier.replicas = sender.options.batch = 1;
     sender.options.retry = 2000;
     if (!read_options(&sender.options, count, words)) {
         fputs(usage, stderr);

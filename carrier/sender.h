@@ -1,5 +1,9 @@
-/* The state of a sender, in four parts: texts.c takes texts from the outbox, publish.c publishes
- * their frames, sender.c stores what they did, and has the loop, and sender_report.c shows it.
+/* The state of a sender, in five parts: sender_sessions.c has its sessions, texts.c takes texts
+ * from the outbox, publish.c publishes their frames, sender.c stores what they did, and has the
+ * loop, and sender_report.c shows it.
+ *
+ * A session is loaded when its first text comes, or if it has frames. When the file of sessions is
+ * another one, all begins anew as in a sender that starts.
  *
  * Sessions share nothing but the outbox. One that can't go on is stopped alone, and reported in the
  * outbox's table `stopped`. Each shard has a window of frames that are under way, so that one which
@@ -7,7 +11,6 @@
 #ifndef SENDER_H
 #define SENDER_H
 
-#include "notice.h"
 #include "seal.h"
 
 enum {
@@ -16,8 +19,9 @@ enum {
 };
 
 struct options {
-    const char *sessions, *outbox, *carrier, *metrics;
-    unsigned replicas, batch, retry;
+    struct carrier_options carrier;
+    const char *sessions, *outbox, *metrics;
+    unsigned batch, retry;
     int drain;
 };
 
@@ -31,18 +35,21 @@ struct lane {
     uint64_t incarnation;   /* of the list to which frames are published; 0: it isn't there now */
 };
 
-/* Places of sessions; each is once in it. */
-struct list { size_t *places, count; };
+/* Sessions; each is once in it. */
+struct list { struct sending **at; size_t count; };
 
 struct sender {
     struct options options;
     struct outbox outbox;
     struct carrier *carrier;
-    struct session *sessions;
-    struct sending *sendings;
-    size_t count;
-    struct lane *lanes;
-    size_t lane_count;
+    struct sessions *sessions;  /* the file, */
+    struct sessions *newer;     /* and what it is now, before that is used, or NULL */
+    struct list all;            /* all that are loaded, in the order of their tags */
+    size_t room;                /* so many have room in each list */
+    void *by_name;              /* tsearch's tree of them */
+    uint32_t first_tag;         /* of the first; those of confirmations below are of the past */
+    struct lane lanes[CARRIER_SHARDS];
+    size_t lane_count, lane_of[CARRIER_SHARDS]; /* each shard's lane, and 1; 0: none yet */
     struct sealing sealing;
     sqlite3_int64 seen;         /* all texts up to this one were looked at */
     struct list touched;        /* sealed from in this transaction */
@@ -55,20 +62,28 @@ struct sender {
     uint64_t storing, carrying; /* nanoseconds */
     uint64_t rose;              /* when a frame was carried last, or there was none to be carried */
     uint64_t looked;            /* when it was looked whether the outbox is this process's */
-    struct notice faults;
 };
 
-/* Tells in the outbox and on standard error that a session is stopped. In a transaction. */
+/* Tells in the outbox and in the log that a session is stopped. In a transaction. */
 int sender_tell_stopped(struct sender *s, const char *session, const char *reason);
 
 /* The same in a transaction of its own. */
 enum outbox_answer sender_stop(struct sender *s, const char *session, const char *reason);
 
 /* Puts a session into the list of active ones. */
-void sender_activate(struct sender *s, size_t place);
+void sender_activate(struct sender *s, struct sending *it);
+
+/* ---- sender_sessions.c */
+
+/* The session of this name: 1, 0 if it has no line, -1 after a fault. */
+int sender_find(struct sender *s, const char *name, struct sending **it);
 
 /* Makes a session what the outbox has. */
-int sender_load(struct sender *s, size_t place);
+int sender_load(struct sender *s, struct sending *it);
+
+/* Loads the sessions that have frames; forgets all. */
+int sender_begin(struct sender *s);
+void sender_forget(struct sender *s);
 
 /* ---- texts.c */
 
@@ -98,7 +113,7 @@ size_t publish_backlog(const struct sender *s);
 
 /* ---- sender_report.c: the sender is the first part of service.h, its shards are the others. */
 
-int sender_begin_showing(struct sender *s);
+int sender_begin_showing(void);
 void sender_show(struct sender *s);
 
 #endif

@@ -1,6 +1,7 @@
 #include "service.h"
 #include "carrier.h"
 #include "clock.h"
+#include "log.h"
 
 #include <math.h>
 #include <pthread.h>
@@ -19,6 +20,7 @@
 #define HEARD UINT64_C(10000000000) /* nanoseconds */
 
 struct part {
+    int is_expected;
     uint64_t alive, working; /* when it last said so, or 0 */
     char labels[64];
     double values[SERVICE_METRICS];
@@ -29,7 +31,7 @@ struct part {
 static struct {
     pthread_mutex_t lock;
     const struct metric *metrics, *sessions;
-    unsigned count, part_count;
+    unsigned count, part_count; /* parts: up to the last that was expected */
     struct part *parts;
     void *server;
 } service = { .lock = PTHREAD_MUTEX_INITIALIZER };
@@ -40,15 +42,38 @@ int service_begin(const struct metric *metrics, unsigned count, const struct met
     service.metrics = metrics;
     service.count = count < SERVICE_METRICS ? count : SERVICE_METRICS;
     service.sessions = sessions;
-    service.part_count = parts;
     service.parts = calloc(parts, sizeof *service.parts);
     return service.parts != NULL ? 0 : -1;
 }
 
+/* Under the lock. */
+static struct part *expect(unsigned part)
+{
+    if (service.part_count <= part)
+        service.part_count = part + 1;
+    service.parts[part].is_expected = 1;
+    return &service.parts[part];
+}
+
+void service_expect(unsigned part)
+{
+    pthread_mutex_lock(&service.lock);
+    expect(part);
+    pthread_mutex_unlock(&service.lock);
+}
+
+void service_leave(unsigned part)
+{
+    pthread_mutex_lock(&service.lock);
+    service.parts[part] = (struct part){ 0 };
+    pthread_mutex_unlock(&service.lock);
+}
+
 void service_alive(unsigned part, int does_work, const char *labels, const double *values)
 {
-    struct part *it = &service.parts[part];
+    struct part *it;
     pthread_mutex_lock(&service.lock);
+    it = expect(part);
     it->alive = nanoseconds();
     if (does_work)
         it->working = it->alive;
@@ -80,8 +105,8 @@ static void ask_all(int *are_alive, int *do_work)
     *are_alive = *do_work = 1;
     pthread_mutex_lock(&service.lock);
     for (i = 0; i < service.part_count; i++) {
-        *are_alive &= is_recent(service.parts[i].alive);
-        *do_work &= is_recent(service.parts[i].working);
+        *are_alive &= !service.parts[i].is_expected || is_recent(service.parts[i].alive);
+        *do_work &= !service.parts[i].is_expected || is_recent(service.parts[i].working);
     }
     pthread_mutex_unlock(&service.lock);
 }
@@ -92,7 +117,7 @@ static void tell(const char *state)
 {
 #ifdef WITH_SYSTEMD
     if (sd_notify(0, state) < 0)
-        fprintf(stderr, "systemd isn't reached: %s\n", state);
+        log_fact(LEVEL_WARNING, "supervisor_unreached", field_text("told", state));
 #else
     (void)state;
 #endif
@@ -249,8 +274,8 @@ int service_listen(const char *where)
     }
     if (service.server != NULL)
         return 0;
-    fprintf(stderr, "--metrics %s: name ADDRESS:PORT at which nothing listens, such as"
-                    " 127.0.0.1:9464\n", where);
+    log_fact(LEVEL_ERROR, "metrics_unopened", field_text("metrics", where), field_text("text",
+             "name ADDRESS:PORT at which nothing listens, such as 127.0.0.1:9464"));
     return -1;
 }
 
@@ -263,9 +288,8 @@ void service_end(void)
 #else
 int service_listen(const char *where)
 {
-    (void)where;
-    fprintf(stderr, "this program was built without --metrics: install libmicrohttpd-dev, and run"
-                    " make\n");
+    log_fact(LEVEL_ERROR, "metrics_missing", field_text("metrics", where), field_text("text",
+             "this program was built without --metrics: install libmicrohttpd-dev, and run make"));
     return -1;
 }
 

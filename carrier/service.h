@@ -16,16 +16,20 @@ struct metric { const char *name, *type, *help, *label; };
 
 enum { SERVICE_METRICS = 40, SERVICE_NAMES = 32 };
 
-/* So many parts, none of them alive yet. `sessions`, if it isn't NULL, is the kind of number that
- * is 1 for each session that a part names. 0, or -1 if there is no memory. */
+/* So many parts at most, of which none is expected. `sessions`, if it isn't NULL, is the kind of
+ * number that is 1 for each session that a part names. 0, or -1 if there is no memory. */
 int service_begin(const struct metric *metrics, unsigned count, const struct metric *sessions,
                   unsigned parts);
 
 /* Listens at ADDRESS:PORT. 0, or -1 with a report. */
 int service_listen(const char *where);
 
-/* Part `part`, which belongs to the caller, is alive, does its work or not, and has these labels
- * and numbers. */
+/* A part is expected to be alive from now on; it isn't any more. */
+void service_expect(unsigned part);
+void service_leave(unsigned part);
+
+/* Part `part`, which belongs to the caller and is expected from then on, is alive, does its work or
+ * not, and has these labels and numbers. */
 void service_alive(unsigned part, int does_work, const char *labels, const double *values);
 
 /* It names these sessions, of which the first SERVICE_NAMES are kept. */

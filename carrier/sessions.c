@@ -1,36 +1,52 @@
 #include "sessions.h"
+#include "log.h"
+#include "private.h"
 #include "words.h"
 
 #include <arpa/inet.h>
-#include <stdio.h>
 #include <stdlib.h>
 #include <string.h>
 #include <sys/stat.h>
 
-struct list { struct session *at; size_t count, room; };
+enum { WORDS = 8, LINE = 256 };
 
-enum { WORDS = 8, LINE = 256, OTHERS = 077, BUFFER = 1 << 16 };
+/* A line of the text, with the hash of its name, or of its key. */
+struct place { uint64_t hash; size_t at; };
 
-static int digit_of(char it)
+struct sessions {
+    const char *path;
+    char *text;            /* the file, each of whose lines ends by a newline */
+    size_t size;
+    struct place *places;  /* by the hashes of names */
+    size_t count;
+    unsigned char has_shard[CARRIER_SHARDS];
+    struct stat read, seen; /* what the file was when it was read, and at the last look */
+    unsigned users;
+};
+
+/* ---- A line */
+
+/* The value of a digit of a key, with no branch on it. *are_bad becomes 1 where it is none. */
+static unsigned value_of(char digit, unsigned *are_bad)
 {
-    static const char digits[] = "0123456789abcdef";
-    const char *place = it != 0 ? strchr(digits, it | (it >= 'A' && it <= 'F' ? 0x20 : 0)) : NULL;
-    return place != NULL ? (int)(place - digits) : -1;
+    unsigned number = (unsigned char)digit - (unsigned)'0';
+    unsigned letter = ((unsigned char)digit | 0x20u) - (unsigned)'a';
+    unsigned is_number = 0u - (number < 10), is_letter = 0u - (letter < 6);
+    *are_bad |= ~(is_number | is_letter) & 1u;
+    return (number & is_number) | ((letter + 10) & is_letter);
 }
 
 static int read_key(const char *digits, struct session *it)
 {
+    unsigned are_bad = 0;
     size_t i;
     it->key_len = it->etype == 17 ? 16 : 32;
     if (strlen(digits) != 2 * it->key_len)
         return 0;
-    for (i = 0; i < it->key_len; i++) {
-        int high = digit_of(digits[2 * i]), low = digit_of(digits[2 * i + 1]);
-        if (high < 0 || low < 0)
-            return 0;
-        it->key[i] = (uint8_t)(high << 4 | low);
-    }
-    return 1;
+    for (i = 0; i < it->key_len; i++)
+        it->key[i] = (uint8_t)(value_of(digits[2 * i], &are_bad) << 4
+                               | value_of(digits[2 * i + 1], &are_bad));
+    return !are_bad;
 }
 
 static int read_address(const char *text, struct krbrelay_address *address)
@@ -47,40 +63,54 @@ static int read_mode(const char *word, uint32_t *mode)
     return *mode == KRBRELAY_SAFE || strcmp(word, "priv") == 0;
 }
 
+static int is_of_name(char it)
+{
+    return (it >= 'a' && it <= 'z') || (it >= 'A' && it <= 'Z') || (it >= '0' && it <= '9')
+           || it == '-' || it == '_';
+}
+
+int sessions_may_have(const char *name)
+{
+    size_t len = 0;
+    while (is_of_name(name[len]))
+        len++;
+    return name[len] == 0 && len > 0 && len < CARRIER_NAME;
+}
+
 static int read_name(const char *word, char name[CARRIER_NAME])
 {
-    static const char letters[] = "abcdefghijklmnopqrstuvwxyzABCDEFGHIJKLMNOPQRSTUVWXYZ"
-                                  "0123456789-_";
-    size_t len = strlen(word);
-    if (len == 0 || len >= CARRIER_NAME || strspn(word, letters) != len)
+    if (!sessions_may_have(word))
         return 0;
-    memcpy(name, word, len + 1);
+    strcpy(name, word);
     return 1;
 }
 
-/* The words of a line, which has to end by a newline or the file's end. */
-static int split(char *line, char *words[WORDS])
+static int is_space(char it)
 {
-    size_t len = strlen(line);
-    char *rest = NULL, *word;
-    int count = 0;
-    if (len == LINE - 1 && line[len - 1] != '\n')
-        return 0;
-    for (word = strtok_r(line, " \t\r\n", &rest); word != NULL; count++) {
-        if (count == WORDS)
-            return 0;
-        words[count] = word;
-        word = strtok_r(NULL, " \t\r\n", &rest);
-    }
-    return count == WORDS;
+    return it == ' ' || it == '\t' || it == '\r';
 }
 
-static int read_session(char *line, struct session *it)
+/* The words of a line, each of which ends by a zero then. */
+static int split(char *line, char *words[WORDS])
 {
-    char *words[WORDS];
+    int count = 0;
+    for (;;) {
+        while (is_space(*line))
+            *line++ = 0;
+        if (*line == 0)
+            return count == WORDS;
+        if (count == WORDS)
+            return 0;
+        words[count++] = line;
+        while (*line != 0 && !is_space(*line))
+            line++;
+    }
+}
+
+static int read_words(char *const words[WORDS], struct session *it)
+{
     uint64_t shard, etype, first;
-    memset(it, 0, sizeof *it);
-    if (!split(line, words) || !read_number(words[1], 0, CARRIER_SHARDS - 1, &shard)
+    if (!read_number(words[1], 0, CARRIER_SHARDS - 1, &shard)
         || !read_number(words[2], 17, 18, &etype)
         || !read_number(words[5], 0, UINT32_MAX, &first))
         return 0;
@@ -92,153 +122,220 @@ static int read_session(char *line, struct session *it)
            && read_address(words[7], &it->to);
 }
 
-/* Room for one more; the old block is overwritten, since it has keys. */
-static int grow(struct list *list)
+/* Reads the line that stands at a place of the text. */
+static int read_line(const struct sessions *s, size_t at, struct session *it)
 {
-    size_t more = list->room == 0 ? 16 : 2 * list->room;
-    struct session *grown;
-    if (list->count < list->room)
-        return 1;
-    grown = calloc(more, sizeof *grown);
-    if (grown == NULL)
+    const char *end = memchr(s->text + at, '\n', s->size - at);
+    size_t len = (size_t)(end - s->text) - at;
+    char line[LINE], *words[WORDS];
+    int is_fine;
+    memset(it, 0, sizeof *it);
+    if (len >= sizeof line || memchr(s->text + at, 0, len) != NULL)
         return 0;
-    if (list->count > 0)
-        memcpy(grown, list->at, list->count * sizeof *grown);
-    forget_sessions(list->at, list->count);
-    list->at = grown;
-    list->room = more;
-    return 1;
-}
-
-static int read_lines(FILE *file, const char *path, struct list *list)
-{
-    char line[LINE];
-    int is_fine = 1;
-    while (is_fine && fgets(line, sizeof line, file) != NULL) {
-        is_fine = grow(list) && read_session(line, &list->at[list->count++]);
-        if (is_fine)
-            list->at[list->count - 1].line = list->count;
-        if (!is_fine)
-            fprintf(stderr, "%s: line %zu isn't NAME SHARD ETYPE MODE KEY FIRST FROM TO\n", path,
-                    list->count);
-    }
+    memcpy(line, s->text + at, len);
+    line[len] = 0;
+    is_fine = split(line, words) && read_words(words, it);
     explicit_bzero(line, sizeof line);
-    if (is_fine && list->count == 0)
-        fprintf(stderr, "%s has no sessions: give each a line\n", path);
-    return is_fine && list->count > 0;
+    return is_fine;
 }
 
-/* Only pointers are sorted: qsort keeps copies of what it moves, and sessions have keys. */
-static int by_name(const void *a, const void *b)
+/* ---- Lines by name, and by key */
+
+static uint64_t hash_of(const void *bytes, size_t len)
 {
-    const struct session *one = *(struct session *const *)a, *other = *(struct session *const *)b;
-    return strcmp(one->name, other->name);
+    const uint8_t *at = bytes;
+    uint64_t hash = UINT64_C(14695981039346656037); /* FNV-1a */
+    for (; len > 0; len--)
+        hash = (hash ^ *at++) * UINT64_C(1099511628211);
+    return hash;
 }
 
-static int by_key(const void *a, const void *b)
+static int by_hash(const void *a, const void *b)
 {
-    const struct session *one = *(struct session *const *)a, *other = *(struct session *const *)b;
-    int order = memcmp(one->key, other->key, sizeof one->key);
-    return order != 0 ? order
-                      : (one->key_len > other->key_len) - (one->key_len < other->key_len);
+    uint64_t one = ((const struct place *)a)->hash, other = ((const struct place *)b)->hash;
+    return (one > other) - (one < other);
 }
 
-/* Sorts them, and reports two that are the same by this order. */
-static int differ(struct session **sorted, size_t count, const char *path, const char *what,
-                  int (*order)(const void *, const void *))
+static int has_same(const struct session *one, const struct session *other, int is_key)
 {
-    size_t i;
-    qsort(sorted, count, sizeof *sorted, order);
-    for (i = 1; i < count; i++) {
-        size_t one = sorted[i - 1]->line, other = sorted[i]->line;
-        if (order(&sorted[i - 1], &sorted[i]) != 0)
-            continue;
-        fprintf(stderr, "%s: line %zu has the %s of line %zu: give each session its own\n", path,
-                one > other ? one : other, what, one > other ? other : one);
-        return 0;
-    }
+    if (is_key)
+        return one->key_len == other->key_len && memcmp(one->key, other->key, one->key_len) == 0;
+    return strcmp(one->name, other->name) == 0;
+}
+
+static size_t line_of(const struct sessions *s, size_t at)
+{
+    size_t line = 1, i;
+    for (i = 0; i < at; i++)
+        line += s->text[i] == '\n';
+    return line;
+}
+
+static void report_repeated(const struct sessions *s, size_t one, size_t other, int is_key)
+{
+    log_fact(LEVEL_ERROR, "session_repeated", field_text("file", s->path),
+             field_number("line", line_of(s, one > other ? one : other)),
+             field_number("before", line_of(s, one > other ? other : one)),
+             field_text("same", is_key ? "key" : "name"),
+             field_text("text", "give each session a name and a key of its own"));
+}
+
+/* Whether two lines of one hash have the same name, or key. */
+static int is_repeated(const struct sessions *s, const struct place *one,
+                       const struct place *other, int is_key)
+{
+    struct session a, b;
+    int is_same = read_line(s, one->at, &a) && read_line(s, other->at, &b)
+                  && has_same(&a, &b, is_key);
+    explicit_bzero(&a, sizeof a);
+    explicit_bzero(&b, sizeof b);
+    if (is_same)
+        report_repeated(s, one->at, other->at, is_key);
+    return is_same;
+}
+
+/* Sorts places by their hashes, unless two lines have the same name, or key. */
+static int sort(const struct sessions *s, struct place *places, int is_key)
+{
+    size_t i, other;
+    qsort(places, s->count, sizeof *places, by_hash);
+    for (i = 0; i < s->count; i++)
+        for (other = i + 1; other < s->count && places[other].hash == places[i].hash; other++)
+            if (is_repeated(s, &places[i], &places[other], is_key))
+                return 0;
     return 1;
 }
 
-/* Sorts the list by name, unless two have a name or a key in common. */
-static int sort(struct list *list, const char *path)
+static int is_malformed(const struct sessions *s, size_t at)
 {
-    struct session **sorted = calloc(list->count, sizeof *sorted);
-    struct session *moved = calloc(list->count, sizeof *moved);
-    size_t i;
-    int is_fine = sorted != NULL && moved != NULL;
-    for (i = 0; is_fine && i < list->count; i++)
-        sorted[i] = &list->at[i];
-    is_fine = is_fine && differ(sorted, list->count, path, "key", by_key)
-              && differ(sorted, list->count, path, "name", by_name);
-    for (i = 0; is_fine && i < list->count; i++)
-        moved[i] = *sorted[i];
-    free(sorted);
-    if (!is_fine) {
-        free(moved);
-        return 0;
-    }
-    forget_sessions(list->at, list->count);
-    list->at = moved;
-    return 1;
-}
-
-static int is_private(FILE *file, const char *path)
-{
-    struct stat is;
-    if (fstat(fileno(file), &is) != 0) {
-        perror(path);
-        return 0;
-    }
-    if ((is.st_mode & OTHERS) == 0)
-        return 1;
-    fprintf(stderr, "%s has keys, and others may use it: chmod 600 %s\n", path, path);
+    log_fact(LEVEL_ERROR, "session_malformed", field_text("file", s->path),
+             field_number("line", line_of(s, at)),
+             field_text("text", "a line is NAME SHARD ETYPE MODE KEY FIRST FROM TO"));
     return 0;
 }
 
-struct session *read_sessions(const char *path, size_t *count)
+/* Checks each line, and notes its name and its key. */
+static int read_lines(struct sessions *s, struct place *keys)
 {
-    char buffer[BUFFER]; /* the file's, so that it can be overwritten: keys pass through it */
-    struct list list = { NULL, 0, 0 };
-    FILE *file = fopen(path, "r");
+    struct session it;
+    size_t at = 0;
+    int is_fine = 1;
+    while (at < s->size && is_fine) {
+        is_fine = read_line(s, at, &it) || is_malformed(s, at);
+        s->places[s->count] = (struct place){ hash_of(it.name, strlen(it.name)), at };
+        s->has_shard[it.shard] = 1;
+        keys[s->count++] = (struct place){ hash_of(it.key, it.key_len), at };
+        at = (size_t)((char *)memchr(s->text + at, '\n', s->size - at) - s->text) + 1;
+    }
+    explicit_bzero(&it, sizeof it);
+    return is_fine;
+}
+
+static int sort_lines(struct sessions *s)
+{
+    size_t lines = line_of(s, s->size);
+    struct place *keys = calloc(lines, sizeof *keys);
     int is_fine;
-    if (file == NULL) {
-        perror(path);
+    s->places = calloc(lines, sizeof *s->places);
+    is_fine = keys != NULL && s->places != NULL && read_lines(s, keys) && sort(s, keys, 1)
+              && sort(s, s->places, 0);
+    if (keys != NULL) /* they say something of keys */
+        explicit_bzero(keys, lines * sizeof *keys);
+    free(keys);
+    return is_fine;
+}
+
+/* ---- The file */
+
+struct sessions *sessions_read(const char *path)
+{
+    struct sessions *s = calloc(1, sizeof *s);
+    if (s == NULL) {
+        log_system("out_of_memory", "sessions");
         return NULL;
     }
-    is_fine = setvbuf(file, buffer, _IOFBF, sizeof buffer) == 0 && is_private(file, path)
-              && read_lines(file, path, &list) && sort(&list, path);
-    if (fclose(file) != 0)
-        is_fine = 0;
-    explicit_bzero(buffer, sizeof buffer);
-    *count = list.count;
-    if (is_fine)
-        return list.at;
-    forget_sessions(list.at, list.count);
+    s->path = path;
+    s->users = 1;
+    s->text = private_read(path, &s->size, &s->read);
+    if (s->text != NULL && sort_lines(s)) {
+        if (s->count > 0)
+            return s;
+        log_fact(LEVEL_ERROR, "sessions_missing", field_text("file", path),
+                 field_text("text", "give each session a line"));
+    }
+    sessions_forget(s);
     return NULL;
 }
 
-size_t find_session(const struct session *sessions, size_t count, const char *name)
+static int is_same(const struct stat *one, const struct stat *other)
 {
-    size_t low = 0, high = count;
-    while (low < high) {
-        size_t middle = low + (high - low) / 2;
-        int order = strcmp(name, sessions[middle].name);
-        if (order == 0)
-            return middle;
-        if (order < 0)
-            high = middle;
-        else
-            low = middle + 1;
-    }
-    return count;
+    return one->st_dev == other->st_dev && one->st_ino == other->st_ino
+           && one->st_size == other->st_size && one->st_mode == other->st_mode
+           && memcmp(&one->st_mtim, &other->st_mtim, sizeof one->st_mtim) == 0;
 }
 
-void forget_sessions(struct session *sessions, size_t count)
+struct sessions *sessions_read_again(struct sessions *s)
 {
-    if (sessions != NULL)
-        explicit_bzero(sessions, count * sizeof *sessions);
-    free(sessions);
+    struct stat is;
+    struct sessions *again;
+    int has_settled;
+    if (stat(s->path, &is) != 0 || is_same(&is, &s->read))
+        return NULL;
+    has_settled = is_same(&is, &s->seen);
+    s->seen = is;
+    if (!has_settled)
+        return NULL;
+    s->read = is; /* if it can't be used, it is looked at again once it has changed again */
+    again = sessions_read(s->path);
+    if (again != NULL)
+        log_fact(LEVEL_INFO, "sessions_read_again", field_text("file", s->path),
+                 field_number("sessions", again->count));
+    return again;
+}
+
+int sessions_find(const struct sessions *s, const char *name, struct session *it)
+{
+    const struct place wanted = { hash_of(name, strlen(name)), 0 };
+    const struct place *end = s->places + s->count,
+                       *at = bsearch(&wanted, s->places, s->count, sizeof *at, by_hash);
+    memset(it, 0, sizeof *it);
+    while (at != NULL && at > s->places && at[-1].hash == wanted.hash)
+        at--;
+    for (; at != NULL && at < end && at->hash == wanted.hash; at++)
+        if (read_line(s, at->at, it) && strcmp(it->name, name) == 0)
+            return 1;
+    return 0;
+}
+
+int sessions_have_shard(const struct sessions *s, unsigned shard)
+{
+    return s->has_shard[shard];
+}
+
+size_t sessions_count(const struct sessions *s)
+{
+    return s->count;
+}
+
+void sessions_at(const struct sessions *s, size_t place, struct session *it)
+{
+    if (!read_line(s, s->places[place].at, it))
+        memset(it, 0, sizeof *it); /* never: each line was checked */
+}
+
+struct sessions *sessions_share(struct sessions *s)
+{
+    __atomic_fetch_add(&s->users, 1, __ATOMIC_SEQ_CST);
+    return s;
+}
+
+void sessions_forget(struct sessions *s)
+{
+    if (s == NULL || __atomic_sub_fetch(&s->users, 1, __ATOMIC_SEQ_CST) > 0)
+        return;
+    private_forget(s->text, s->size);
+    free(s->places);
+    free(s);
 }
 
 void answer_text(enum krbrelay_answer answer, char text[KRBRELAY_TEXT_SIZE])
@@ -248,10 +345,11 @@ void answer_text(enum krbrelay_answer answer, char text[KRBRELAY_TEXT_SIZE])
         text[0] = 0;
 }
 
-void report_answer(const char *what, const char *name, uint64_t number, enum krbrelay_answer answer)
+void report_answer(const char *event, const char *name, uint64_t number,
+                   enum krbrelay_answer answer)
 {
     char text[KRBRELAY_TEXT_SIZE];
     answer_text(answer, text);
-    fprintf(stderr, "session %s, number %llu: %s: %d: %s\n", name, (unsigned long long)number, what,
-            (int)answer, text);
+    log_fact(LEVEL_ERROR, event, field_text("session", name), field_number("number", number),
+             field_number("answer", (uint64_t)answer), field_text("text", text));
 }

@@ -6,7 +6,10 @@
  * A name has 1 to 31 letters, digits, '-' and '_', a shard is below CARRIER_SHARDS, and FIRST
  * below 2^32. No two sessions have a name or a key in common: under one key, what is sealed of one
  * would open as the other's. They stand there as keys stand in a keytab; where they come from is
- * up to the exchange. */
+ * up to the exchange.
+ *
+ * The file is read once, which checks each line. A session is found in it by its name when it is
+ * needed, so a million lines cost nothing else. */
 #ifndef SESSIONS_H
 #define SESSIONS_H
 
@@ -15,7 +18,7 @@
 #include <krbrelay.h>
 
 struct session {
-    char name[CARRIER_NAME];
+    char name[CARRIER_NAME]; /* the first member: who has a session may be found by it */
     unsigned shard;
     int32_t etype;
     uint32_t mode; /* KRBRELAY_SAFE or KRBRELAY_PRIV */
@@ -23,21 +26,39 @@ struct session {
     size_t key_len;
     uint32_t first; /* the first sequence number */
     struct krbrelay_address from, to;
-    size_t line;    /* of the file */
 };
 
-/* Reads them, sorted by name. NULL, with a report, if the file can't be read, isn't of that form,
- * or may be read or written by others than its owner. */
-struct session *read_sessions(const char *path, size_t *count);
+/* The file as it was read. Threads may share it: nothing of it changes. */
+struct sessions;
 
-/* The place of the session with this name, or count. */
-size_t find_session(const struct session *sessions, size_t count, const char *name);
+/* Reads it. The path stays valid. NULL, with a line of the log, if it can't be read, isn't of that
+ * form, or may be read or written by others than its owner. */
+struct sessions *sessions_read(const char *path);
 
-/* Overwrites their keys and frees them. */
-void forget_sessions(struct session *sessions, size_t count);
+/* Called once a second, by one thread: if the file is another one now, and was the same at the last
+ * call, reads it. NULL if it isn't, or, with a line of the log, if it can't be used. */
+struct sessions *sessions_read_again(struct sessions *sessions);
 
-/* Reports on standard error what a call of libkrbrelay answered. */
-void report_answer(const char *what, const char *name, uint64_t number,
+/* The session with this name: 1, or 0 if there is none. The caller overwrites what it got, since it
+ * has a key. */
+int sessions_find(const struct sessions *sessions, const char *name, struct session *it);
+
+/* Whether a session is in this shard. */
+int sessions_have_shard(const struct sessions *sessions, unsigned shard);
+
+/* Whether a session may have this name. */
+int sessions_may_have(const char *name);
+
+/* How many there are; the session at a place below that, in no order. */
+size_t sessions_count(const struct sessions *sessions);
+void sessions_at(const struct sessions *sessions, size_t place, struct session *it);
+
+/* One more user of it; one less, which overwrites and frees it after the last. NULL is none. */
+struct sessions *sessions_share(struct sessions *sessions);
+void sessions_forget(struct sessions *sessions);
+
+/* Logs what a call of libkrbrelay answered. */
+void report_answer(const char *event, const char *name, uint64_t number,
                    enum krbrelay_answer answer);
 
 /* What an answer says. */

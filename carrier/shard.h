@@ -6,27 +6,29 @@
  *
  * What is refused is passed by, but not forgotten:
  *  - A repeat has taken its effect, and what doesn't open under a key that has opened other frames
- *    is
- *    nobody's: that is final.
+ *    is nobody's: that is final.
  *  - A frame that came early comes again after those before it (progress.h). If the session still
  *    stands after some seconds, the carrier's offsets aren't what they were, and the shard is read
  *    again from the session's last accepted frame on.
  *  - A frame that is refused for a reason that may be this receiver's own (its clock, the skew,
- *    the
- *    key, addresses, no line for the session) isn't settled. The session keeps the place before it,
- *    and the shard is read again from there.
+ *    the key, addresses) isn't settled. The session keeps the place before it, and the shard is
+ *    read again from there.
+ *  - Of a name that is no session's of the shard the store notes the first frame that was passed
+ *    by. Once it is a session's, the shard is read again from there.
  * What was read again and refused again waits for longer each time, and reaches further back. A
  * receiver that begins, perhaps with other options, goes back at once to the least place of a
  * session that stands. All that takes effect meanwhile are texts whose turn it is: repeats are
  * refused.
  *
  * Each transaction compares the shard, and each session of which a frame was accepted or wasn't
- * settled. */
+ * settled.
+ *
+ * A session is loaded when its first frame comes: what the store has of it is read before the
+ * transaction, and compared in it. Sessions of which no frame comes cost nothing. */
 #ifndef SHARD_H
 #define SHARD_H
 
 #include "carrier.h"
-#include "notice.h"
 #include "service.h"
 #include "sessions.h"
 #include "store.h"
@@ -34,18 +36,23 @@
 enum { MOST_FRAMES = 4096 }; /* of one transaction */
 
 struct shard_options {
-    const char *store, *carrier;
-    unsigned replicas, batch;
+    const char *store;
+    struct carrier_options carrier;
+    unsigned batch;
     uint32_t skew;
+    int until_closed;
 };
 
-/* One session of the shard. */
+/* One session of the shard, from its first frame on. */
 struct receiving {
+    struct session of;             /* the first member: it is found by its name */
     struct krbrelay_receiver receiver; /* made with the first frame after loading */
     struct krbrelay_opener opener; /* looks at what was refused; made when it is first needed */
-    struct demand stored, now;     /* what the store has, and what it shall have */
+    struct demand stored, now;     /* what the store has, and what it shall have, */
+    unsigned long turn;            /* as of this turn of the shard's loading */
     int is_made;                   /* the receiver is what is stored, and what followed */
     int is_changed;
+    uint64_t passed;               /* the offset of a frame that was passed by (store_pass), or 0 */
     int has_opened;                /* a frame opened: the key is right */
     int is_standing;               /* it is in the list of those that stand: */
     uint64_t since;                /* since this moment, */
@@ -53,34 +60,43 @@ struct receiving {
 };
 
 struct shard_counts {
-    unsigned long texts, accepted, repeats, early, refused, fenced, commits, back;
+    unsigned long frames, texts, accepted, repeats, early, refused, fenced, commits, back;
     unsigned long long bytes;
     uint64_t opening, fetching, storing; /* nanoseconds */
 };
 
-struct shard_notices { struct notice early, skew, refused, unknown, back; };
+/* Some of a shard's sessions. */
+struct receivings { struct receiving **at; size_t count; };
 
 struct shard {
     const struct shard_options *options;
-    const struct session *sessions;
-    size_t count;
+    struct sessions *sessions;     /* the file, of which this is a user */
     unsigned number;
     struct store *store;           /* NULL: it has to be opened (again) */
     struct carrier *carrier;
-    struct receiving *receivings;  /* one for each session, also of other shards */
+    void *receivings;              /* tsearch's tree of a struct receiving for each session */
+    size_t count, room;            /* so many there are, and those below have room in these: */
+    struct receivings changed;     /* those that this transaction moves */
+    struct receivings standing;    /* those that stand, or did a moment ago */
+    struct receivings asked;       /* those of which the store is asked */
+    const char **names;            /* of those */
     struct carried *frames;
-    size_t *changed, changed_count;   /* the sessions that this transaction moves */
-    size_t *standing, standing_count; /* the sessions that stand, or did a moment ago */
+    struct receiving **of_frames;  /* of each frame the session, or NULL */
     struct reached stored, now;    /* how far the store says that it was read, and where it is */
+    uint64_t least;                /* of a note of other names: from there on all is read again; 0:
+                                    * there is none */
+    unsigned long turn;            /* so often it was loaded */
     int is_loaded, has_begun;
-    size_t open;                   /* so many sessions aren't closed */
+    size_t open;                   /* if it is asked for, so many sessions aren't closed */
     uint8_t *bytes;                /* of one record */
     struct shard_counts counts;
-    struct shard_notices notices;
 };
 
 /* Opens store and carrier. 0, or -1 after a fault. */
 int shard_start(struct shard *shard);
+
+/* From now on these are its sessions, of which it becomes a user. What it knew of others ends. */
+void shard_use(struct shard *shard, struct sessions *sessions);
 
 /* Fetches frames, and takes them in one transaction. Answers how many there were, or -1 after a
  * fault of the store, which the next step opens again. */
@@ -88,24 +104,37 @@ int shard_step(struct shard *shard, int milliseconds);
 
 void shard_stop(struct shard *shard);
 
-/* ---- shard_report.c: prints what was counted; shows it as a part of service.h. */
+/* ---- shard_report.c: logs what was counted; shows it as a part of service.h. */
 
 extern const struct metric shard_metrics[], shard_stands_metric;
 extern const unsigned shard_metrics_count;
 
-void shard_report(const struct shard *shard, double seconds);
+
+/* Work took so many nanoseconds so far. */
+void shard_report(const struct shard *shard, const char *event, uint64_t took);
 void shard_show(struct shard *shard, unsigned part);
+
+/* ---- shard_load.c: which sessions a shard has, and what the store has of them. */
+
+/* Makes all what store and carrier have: 0, 1 if the carrier doesn't answer or has no such shard
+ * yet, -1 after a fault of the store. */
+int shard_load(struct shard *shard);
+
+/* Loads the sessions of the first `count` frames. 0, or -1 after a fault. */
+int shard_load_frames(struct shard *shard, int count);
+
+void shard_forget(struct shard *shard);
 
 /* ---- shard_back.c: how a shard is read again. */
 
 /* This session stands at its place. */
-void shard_stands(struct shard *shard, size_t place);
+void shard_stands(struct shard *shard, struct receiving *it);
 
 /* Goes back if a session has stood for long enough, or, where all_at_once is 1, to the least
  * place. */
 void shard_go_back(struct shard *shard, int all_at_once);
 
 /* The session's row is to be compared and moved. */
-void shard_note_changed(struct shard *shard, size_t place);
+void shard_note_changed(struct shard *shard, struct receiving *it);
 
 #endif

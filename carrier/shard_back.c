@@ -1,4 +1,5 @@
 #include "clock.h"
+#include "log.h"
 #include "shard.h"
 
 #include <stdio.h>
@@ -7,21 +8,20 @@ enum { LONGEST = 7, REACH = 1024 };
 
 #define PATIENCE UINT64_C(5000000000) /* nanoseconds, doubled with each try: at last ten minutes */
 
-void shard_note_changed(struct shard *s, size_t place)
+void shard_note_changed(struct shard *s, struct receiving *it)
 {
-    if (!s->receivings[place].is_changed)
-        s->changed[s->changed_count++] = place;
-    s->receivings[place].is_changed = 1;
+    if (!it->is_changed)
+        s->changed.at[s->changed.count++] = it;
+    it->is_changed = 1;
 }
 
-void shard_stands(struct shard *s, size_t place)
+void shard_stands(struct shard *s, struct receiving *it)
 {
-    struct receiving *it = &s->receivings[place];
     if (it->is_standing)
         return;
     it->is_standing = 1;
     it->since = nanoseconds();
-    s->standing[s->standing_count++] = place;
+    s->standing.at[s->standing.count++] = it;
 }
 
 static int is_due(const struct receiving *it)
@@ -45,17 +45,16 @@ static uint64_t least_start(struct shard *s, int all_at_once)
 {
     uint64_t least = UINT64_MAX;
     size_t i, kept = 0;
-    for (i = 0; i < s->standing_count; i++) {
-        size_t place = s->standing[i];
-        struct receiving *it = &s->receivings[place];
+    for (i = 0; i < s->standing.count; i++) {
+        struct receiving *it = s->standing.at[i];
         it->is_standing = it->now.missed != MISSED_NOTHING;
         if (!it->is_standing)
             continue;
-        s->standing[kept++] = place;
+        s->standing.at[kept++] = it;
         if ((all_at_once || is_due(it)) && start_of(it) < least)
             least = start_of(it);
     }
-    s->standing_count = kept;
+    s->standing.count = kept;
     return least;
 }
 
@@ -63,22 +62,24 @@ void shard_go_back(struct shard *s, int all_at_once)
 {
     uint64_t start = least_start(s, all_at_once);
     size_t i, count = 0;
+    if (s->least > 0 && s->least <= start)
+        start = s->least - 1;
     if (start == UINT64_MAX)
         return;
-    for (i = 0; i < s->standing_count; i++) {
-        struct receiving *it = &s->receivings[s->standing[i]];
+    for (i = 0; i < s->standing.count; i++) {
+        struct receiving *it = s->standing.at[i];
         if (it->now.at < start)
             continue; /* its turn comes later */
         it->now.missed = MISSED_NOTHING;
         it->tries += !all_at_once;
-        shard_note_changed(s, s->standing[i]);
+        shard_note_changed(s, it);
         count++;
     }
     if (start < s->now.offset) {
-        notice(&s->notices.back, "shard %u is read again from offset %llu on, of %llu, since %zu"
-                                 " sessions stand still, such as %s", s->number,
-               (unsigned long long)start, (unsigned long long)s->now.offset, count,
-               s->sessions[s->standing[0]].name);
+        log_fact(LEVEL_WARNING, "shard_read_again", field_number("shard", s->number),
+                 field_number("from", start), field_number("offset", s->now.offset),
+                 field_number("standing", count),
+                 field_text("session", s->standing.count > 0 ? s->standing.at[0]->of.name : ""));
         s->counts.back++;
         s->now.offset = start;
     }

@@ -1,4 +1,5 @@
 /* What was counted of a shard, for its log and for who looks at the metrics. */
+#include "log.h"
 #include "service.h"
 #include "shard.h"
 
@@ -24,7 +25,7 @@ const struct metric shard_metrics[] = {
     { NAME "store_seconds_total", "counter", "Time for effects and transactions", NULL },
     { NAME "offset", "gauge", "How far the shard was read", NULL },
     { NAME "lag_frames", "gauge", "Frames that the carrier has after it", NULL },
-    { NAME "open_sessions", "gauge", "Sessions that aren't closed", NULL },
+    { NAME "loaded_sessions", "gauge", "Sessions of which frames came", NULL },
     { NAME "standing_sessions", "gauge", "Sessions that miss a frame, or had one refused", NULL },
 };
 const unsigned shard_metrics_count = sizeof shard_metrics / sizeof *shard_metrics;
@@ -32,24 +33,25 @@ const struct metric shard_stands_metric = {
     NAME "session_stands", "gauge", "Sessions that stand still, some of them by name", NULL
 };
 
-void shard_report(const struct shard *s, double seconds)
+void shard_report(const struct shard *s, const char *event, uint64_t took)
 {
     const struct shard_counts *c = &s->counts;
-    printf("shard %u: %lu texts of %lu frames; repeats %lu, early %lu, refused %lu; %lu commits,"
-           " %lu fenced, %lu times back; %llu bytes in %.3f s: opening %.3f, carrier %.3f, store"
-           " %.3f\n", s->number, c->texts, c->accepted, c->repeats, c->early, c->refused,
-           c->commits, c->fenced, c->back, c->bytes, seconds, (double)c->opening / 1e9,
-           (double)c->fetching / 1e9, (double)c->storing / 1e9);
-    fflush(stdout);
+    log_numbers(event, field_number("shard", s->number), field_number("texts", c->texts),
+                field_number("frames", c->accepted), field_number("repeats", c->repeats),
+                field_number("early", c->early), field_number("refused", c->refused),
+                field_number("commits", c->commits), field_number("fenced", c->fenced),
+                field_number("again", c->back), field_number("bytes", c->bytes),
+                field_seconds("seconds", took), field_seconds("opening", c->opening),
+                field_seconds("carrier", c->fetching), field_seconds("store", c->storing));
 }
 
 static void name_standing(struct shard *s, unsigned part)
 {
     const char *names[SERVICE_NAMES];
     size_t i, count = 0;
-    for (i = 0; i < s->standing_count && count < SERVICE_NAMES; i++)
-        if (s->receivings[s->standing[i]].now.missed != MISSED_NOTHING)
-            names[count++] = s->sessions[s->standing[i]].name;
+    for (i = 0; i < s->standing.count && count < SERVICE_NAMES; i++)
+        if (s->standing.at[i]->now.missed != MISSED_NOTHING)
+            names[count++] = s->standing.at[i]->of.name;
     service_name(part, names, count);
 }
 
@@ -64,7 +66,7 @@ void shard_show(struct shard *s, unsigned part)
         (double)c->early, (double)c->refused, (double)c->commits, (double)c->fenced,
         (double)c->back, (double)c->opening / 1e9, (double)c->fetching / 1e9,
         (double)c->storing / 1e9, (double)s->now.offset, is_known ? (double)behind : NAN,
-        (double)s->open, (double)s->standing_count,
+        (double)s->count, (double)s->standing.count,
     };
     snprintf(labels, sizeof labels, "shard=\"%u\"", s->number);
     service_alive(part, s->is_loaded, labels, values);

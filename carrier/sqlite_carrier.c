@@ -2,6 +2,7 @@
  * shards have one incarnation, which is drawn when the file is made. */
 #include "carrier.h"
 #include "database.h"
+#include "log.h"
 
 #include <stdio.h>
 #include <stdlib.h>
@@ -129,9 +130,9 @@ static int check_end(struct sqlite_carrier *c)
     end = (uint64_t)sqlite3_column_int64(select, 0);
     sqlite3_reset(select);
     if (end < c->after) {
-        fprintf(stderr, "shard %u ends at %llu, and was read up to %llu: it lost frames, and is"
-                        " read again from the beginning\n", c->shard, (unsigned long long)end,
-                (unsigned long long)c->after);
+        log_fact(LEVEL_WARNING, "shard_lost_frames", field_number("shard", c->shard),
+                 field_number("end", end), field_number("offset", c->after),
+                 field_text("text", "it ends before: it is read from its beginning"));
         c->after = 0;
     }
     c->is_checked = 1;

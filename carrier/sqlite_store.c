@@ -1,6 +1,7 @@
 /* A store of one SQLite file, or of one for each shard: for receivers on one machine. */
 #include "database.h"
 #include "effect.h"
+#include "log.h"
 #include "store.h"
 
 #include <stdio.h>
@@ -8,8 +9,8 @@
 #include <string.h>
 
 enum {
-    SELECT_REACHED, SELECT_SESSION, SELECT_SESSIONS, MOVE_SHARD, ADD_SESSION, MOVE_SESSION,
-    MISS_SESSION, STATEMENTS
+    SELECT_REACHED, SELECT_SESSION, SELECT_STANDING, SELECT_PASSED, MOVE_SHARD, ADD_SESSION,
+    MOVE_SESSION, PASS_SESSION, FIND_SESSION, RESET_SESSIONS, FIND_ALL, STATEMENTS
 };
 enum { EFFECTS = 16 }; /* the most statements of effects */
 
@@ -25,31 +26,44 @@ struct sqlite_store {
 static const char tables[] =
     "CREATE TABLE IF NOT EXISTS shard (shard INTEGER PRIMARY KEY, offset INTEGER NOT NULL);"
     "CREATE TABLE IF NOT EXISTS session (name TEXT PRIMARY KEY, next INTEGER NOT NULL,"
-    " closed INTEGER NOT NULL) WITHOUT ROWID;";
+    " closed INTEGER NOT NULL) WITHOUT ROWID;"
+    "CREATE TABLE IF NOT EXISTS passed (shard INTEGER NOT NULL, session TEXT NOT NULL,"
+    " at INTEGER NOT NULL, PRIMARY KEY (shard, session)) WITHOUT ROWID;";
 
 static const char *const columns[][2] = {
     { "shard", "incarnation INTEGER NOT NULL DEFAULT 0" },
     { "session", "missed INTEGER NOT NULL DEFAULT 0" },
     { "session", "at INTEGER NOT NULL DEFAULT 0" },
     { "session", "shard INTEGER NOT NULL DEFAULT -1" },
+    { "session", "since INTEGER NOT NULL DEFAULT 0" },
 };
 
 /* Each changes one row if it stands where it is said, and else none. A row that isn't there stands
  * at zeros, or nowhere. */
 static const char *const own_sql[STATEMENTS] = {
     [SELECT_REACHED] = "SELECT incarnation, offset FROM shard WHERE shard = ?",
-    [SELECT_SESSION] = "SELECT next, closed, missed, at, shard FROM session WHERE name = ?",
-    [SELECT_SESSIONS] = "SELECT next, closed, missed, at, shard, name FROM session WHERE shard = ?",
+    [SELECT_SESSION] = "SELECT next, closed, missed, at, shard, name FROM session WHERE name = ?",
+    [SELECT_STANDING] = ("SELECT next, closed, missed, at, shard, name FROM session"
+                         " WHERE shard = ? AND missed != 0"),
+    [SELECT_PASSED] = "SELECT at, session FROM passed WHERE shard = ?",
     [MOVE_SHARD] = ("INSERT INTO shard (shard, incarnation, offset) SELECT ?1, ?4, ?5"
                     " WHERE ?2 = 0 AND ?3 = 0 OR ?1 IN (SELECT shard FROM shard)"
                     " ON CONFLICT (shard) DO UPDATE SET incarnation = ?4, offset = ?5"
                     " WHERE incarnation = ?2 AND offset = ?3"),
-    [ADD_SESSION] = ("INSERT INTO session (name, next, closed, missed, at, shard)"
-                     " VALUES (?1, ?2, ?3, ?4, ?5, ?6) ON CONFLICT DO NOTHING"),
-    [MOVE_SESSION] = ("UPDATE session SET next = ?2, closed = ?3, missed = ?4, at = ?5, shard = ?6"
+    [ADD_SESSION] = ("INSERT INTO session (name, next, closed, missed, at, shard, since)"
+                     " VALUES (?1, ?2, ?3, ?4, ?5, ?6, iif(?4 = 0, 0, strftime('%s')))"
+                     " ON CONFLICT DO NOTHING"),
+    [MOVE_SESSION] = ("UPDATE session SET since = CASE WHEN next = ?2 AND (since > 0 OR ?4 = 0)"
+                      " THEN since WHEN ?4 = 0 THEN 0 ELSE strftime('%s') END,"
+                      " next = ?2, closed = ?3, missed = ?4, at = ?5, shard = ?6"
                       " WHERE name = ?1 AND next = ?7 AND closed = ?8 AND missed = ?9 AND at = ?10"
                       " AND shard = ?11"),
-    [MISS_SESSION] = "UPDATE session SET missed = 2 WHERE name = ? AND closed = 0",
+    [PASS_SESSION] = ("INSERT INTO passed SELECT ?1, CASE WHEN (SELECT count(*) FROM passed"
+                      " WHERE shard = ?1) < ?4 THEN ?2 ELSE '' END, ?3 WHERE true"
+                      " ON CONFLICT DO NOTHING"),
+    [FIND_SESSION] = "DELETE FROM passed WHERE shard = ? AND session = ?",
+    [RESET_SESSIONS] = "UPDATE session SET at = 0, missed = 0 WHERE shard = ?",
+    [FIND_ALL] = "DELETE FROM passed WHERE shard = ?",
 };
 
 static int reached(struct store *base, unsigned shard, struct reached *reached)
@@ -75,32 +89,50 @@ static void read_demand(sqlite3_stmt *select, struct demand *demand)
     demand->is_stored = 1;
 }
 
-static int session(struct store *base, const char *name, struct demand *demand)
+/* Passes all rows of sessions that a statement gives. */
+static int take_rows(sqlite3_stmt *select, store_take *take, void *given)
 {
-    struct sqlite_store *s = (struct sqlite_store *)base;
-    sqlite3_stmt *select = s->statements[SELECT_SESSION];
-    int row;
-    sqlite3_bind_text(select, 1, name, -1, SQLITE_STATIC);
-    row = step_row(select);
-    demand->is_stored = 0;
-    if (row == 1)
-        read_demand(select, demand);
-    sqlite3_reset(select);
-    return row < 0 ? -1 : 0;
-}
-
-static int sessions(struct store *base, unsigned shard, store_take *take, void *given)
-{
-    struct sqlite_store *s = (struct sqlite_store *)base;
-    sqlite3_stmt *select = s->statements[SELECT_SESSIONS];
     int row, answer = 0;
-    sqlite3_bind_int64(select, 1, shard);
     while (answer == 0 && (row = step_row(select)) != 0) {
         const char *name = row == 1 ? (const char *)sqlite3_column_text(select, 5) : NULL;
         struct demand demand;
         if (row == 1)
             read_demand(select, &demand);
         answer = name == NULL || take(given, name, &demand) != 0 ? -1 : 0;
+    }
+    sqlite3_reset(select);
+    return answer;
+}
+
+static int sessions(struct store *base, const char *const *names, size_t count, store_take *take,
+                    void *given)
+{
+    sqlite3_stmt *select = ((struct sqlite_store *)base)->statements[SELECT_SESSION];
+    size_t i;
+    int answer = 0;
+    for (i = 0; i < count && answer == 0; i++) {
+        sqlite3_bind_text(select, 1, names[i], -1, SQLITE_STATIC);
+        answer = take_rows(select, take, given);
+    }
+    return answer;
+}
+
+static int standing(struct store *base, unsigned shard, store_take *take, void *given)
+{
+    sqlite3_stmt *select = ((struct sqlite_store *)base)->statements[SELECT_STANDING];
+    sqlite3_bind_int64(select, 1, shard);
+    return take_rows(select, take, given);
+}
+
+static int passed(struct store *base, unsigned shard, store_note *take, void *given)
+{
+    sqlite3_stmt *select = ((struct sqlite_store *)base)->statements[SELECT_PASSED];
+    int row, answer = 0;
+    sqlite3_bind_int64(select, 1, shard);
+    while (answer == 0 && (row = step_row(select)) != 0) {
+        const char *name = row == 1 ? (const char *)sqlite3_column_text(select, 1) : NULL;
+        uint64_t at = row == 1 ? (uint64_t)sqlite3_column_int64(select, 0) : 0;
+        answer = name == NULL || take(given, name, at) != 0 ? -1 : 0;
     }
     sqlite3_reset(select);
     return answer;
@@ -113,6 +145,15 @@ static int move(struct sqlite_store *s, sqlite3_stmt *statement)
         return -1;
     s->is_fenced |= sqlite3_changes(s->db) != 1;
     return 0;
+}
+
+/* The shard is another list than before. */
+static int reset_sessions(struct sqlite_store *s, unsigned shard)
+{
+    sqlite3_bind_int64(s->statements[RESET_SESSIONS], 1, shard);
+    sqlite3_bind_int64(s->statements[FIND_ALL], 1, shard);
+    return step_once(s->statements[RESET_SESSIONS]) == 0 && step_once(s->statements[FIND_ALL]) == 0
+               ? 0 : -1;
 }
 
 static int begin(struct store *base, unsigned shard, const struct reached *from,
@@ -128,7 +169,9 @@ static int begin(struct store *base, unsigned shard, const struct reached *from,
     sqlite3_bind_int64(statement, 3, (sqlite3_int64)from->offset);
     sqlite3_bind_int64(statement, 4, (sqlite3_int64)to->incarnation);
     sqlite3_bind_int64(statement, 5, (sqlite3_int64)to->offset);
-    return move(s, statement);
+    if (move(s, statement) != 0)
+        return -1;
+    return store_is_other(from, to) ? reset_sessions(s, shard) : 0;
 }
 
 /* Binds five places of a statement, from this one on. */
@@ -153,11 +196,22 @@ static int advance(struct store *base, const char *session, const struct demand 
     return move(s, statement);
 }
 
-static int miss(struct store *base, const char *session)
+static int pass(struct store *base, unsigned shard, const char *session, uint64_t offset)
 {
-    struct sqlite_store *s = (struct sqlite_store *)base;
-    sqlite3_bind_text(s->statements[MISS_SESSION], 1, session, -1, SQLITE_STATIC);
-    return step_once(s->statements[MISS_SESSION]);
+    sqlite3_stmt *statement = ((struct sqlite_store *)base)->statements[PASS_SESSION];
+    sqlite3_bind_int64(statement, 1, shard);
+    sqlite3_bind_text(statement, 2, session, -1, SQLITE_STATIC);
+    sqlite3_bind_int64(statement, 3, (sqlite3_int64)offset);
+    sqlite3_bind_int64(statement, 4, STORE_NOTED);
+    return step_once(statement);
+}
+
+static int find(struct store *base, unsigned shard, const char *session)
+{
+    sqlite3_stmt *statement = ((struct sqlite_store *)base)->statements[FIND_SESSION];
+    sqlite3_bind_int64(statement, 1, shard);
+    sqlite3_bind_text(statement, 2, session, -1, SQLITE_STATIC);
+    return step_once(statement);
 }
 
 static void rollback(struct store *base)
@@ -189,7 +243,7 @@ static sqlite3_stmt *prepared(struct sqlite_store *s, const char *sql)
     while (i < EFFECTS && s->effects[i] != NULL && s->effects[i] != sql)
         i++;
     if (i == EFFECTS) {
-        fprintf(stderr, "effects have more than %d statements\n", EFFECTS);
+        log_fact(LEVEL_ERROR, "effects_too_many", field_number("most", EFFECTS));
         return NULL;
     }
     if (s->effects[i] == NULL && (s->prepared[i] = prepare(s->db, sql)) != NULL)
@@ -244,7 +298,7 @@ static const char *path_of_shard(const char *path, unsigned shard, char *name, s
                            : snprintf(name, room, "%.*s%u%s", before, path, shard, mark + 1);
     if (len >= 0 && (size_t)len < room)
         return name;
-    fprintf(stderr, "%s: this name is too long\n", path);
+    log_fact(LEVEL_ERROR, "store_name_too_long", field_text("file", path));
     return NULL;
 }
 
@@ -258,7 +312,7 @@ static int complete(sqlite3 *db)
         if (add_column(db, columns[i][0], columns[i][1]) != 0)
             break;
     if (i == sizeof columns / sizeof *columns
-        && run(db, "CREATE INDEX IF NOT EXISTS session_of_shard ON session (shard)") == 0
+        && run(db, "CREATE INDEX IF NOT EXISTS standing ON session (shard) WHERE missed != 0") == 0
         && run(db, effect_tables_sqlite) == 0
         && run(db, "COMMIT") == 0)
         return 0;
@@ -283,11 +337,13 @@ struct store *sqlite_store_open(const char *path, unsigned shard)
     if (s == NULL)
         return NULL;
     s->base.reached = reached;
-    s->base.session = session;
     s->base.sessions = sessions;
+    s->base.standing = standing;
+    s->base.passed = passed;
     s->base.begin = begin;
     s->base.advance = advance;
-    s->base.miss = miss;
+    s->base.pass = pass;
+    s->base.find = find;
     s->base.commit = commit;
     s->base.rollback = rollback;
     s->base.close = close_it;

@@ -1,24 +1,28 @@
 /* Which store it is. */
 #include "store.h"
+#include "log.h"
 
 #include <stdio.h>
 #include <string.h>
 
 struct store *store_open(const char *where, unsigned shard)
 {
+    char kind[16];
     if (strncmp(where, "sqlite:", 7) == 0)
         return sqlite_store_open(where + 7, shard);
     if (strncmp(where, "postgresql:", 11) == 0) {
 #ifdef WITH_POSTGRESQL
         return postgresql_store_open(where);
 #else
-        fprintf(stderr, "this program was built without PostgreSQL: install libpq-dev, and run"
-                        " make\n");
+        log_fact(LEVEL_ERROR, "store_missing", field_text("text",
+                 "this program was built without PostgreSQL: install libpq-dev, and run make"));
         return NULL;
 #endif
     }
-    fprintf(stderr, "%.*s is no store: name sqlite:FILE or postgresql://USER@HOST/DATABASE\n",
-            (int)strcspn(where, ":"), where); /* what follows may be a password */
+    /* What follows the first ':' may be a password. */
+    snprintf(kind, sizeof kind, "%.*s", (int)strcspn(where, ":"), where);
+    log_fact(LEVEL_ERROR, "store_unknown", field_text("store", kind), field_text("text",
+             "this is no store: name sqlite:FILE or postgresql://USER@HOST/DATABASE"));
     return NULL;
 }
 
@@ -27,14 +31,20 @@ int store_reached(struct store *store, unsigned shard, struct reached *reached)
     return store->reached(store, shard, reached);
 }
 
-int store_session(struct store *store, const char *session, struct demand *demand)
+int store_sessions(struct store *store, const char *const *names, size_t count, store_take *take,
+                   void *given)
 {
-    return store->session(store, session, demand);
+    return count > 0 ? store->sessions(store, names, count, take, given) : 0;
 }
 
-int store_sessions(struct store *store, unsigned shard, store_take *take, void *given)
+int store_standing(struct store *store, unsigned shard, store_take *take, void *given)
 {
-    return store->sessions(store, shard, take, given);
+    return store->standing(store, shard, take, given);
+}
+
+int store_passed(struct store *store, unsigned shard, store_note *take, void *given)
+{
+    return store->passed(store, shard, take, given);
 }
 
 int store_begin(struct store *store, unsigned shard, const struct reached *from,
@@ -49,9 +59,14 @@ int store_advance(struct store *store, const char *session, const struct demand 
     return store->advance(store, session, from, to);
 }
 
-int store_miss(struct store *store, const char *session)
+int store_pass(struct store *store, unsigned shard, const char *session, uint64_t offset)
 {
-    return store->miss(store, session);
+    return store->pass(store, shard, session, offset);
+}
+
+int store_find(struct store *store, unsigned shard, const char *session)
+{
+    return store->find(store, shard, session);
 }
 
 int store_commit(struct store *store)

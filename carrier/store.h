@@ -28,12 +28,16 @@ enum missed {
     MISSED_REFUSED = 2  /* a frame was refused for a reason that may be this receiver's own */
 };
 
+/* What a refusal is stored as: with libkrbrelay's answer, or 0 if it had no line. */
+#define missed_by(answer) (MISSED_REFUSED + ((uint32_t)(answer) << 8))
+#define missed_kind(stored) ((enum missed)((stored) & 0xff))
+
 /* A session: what it demands next, whether its close was accepted, and its place. All frames of it
  * up to the offset `at` of this shard took effect, or never will. */
 struct demand {
     uint64_t next;
     uint32_t closed;
-    uint32_t missed;    /* an enum missed */
+    uint32_t missed;    /* an enum missed, or missed_by an answer */
     uint64_t at;
     int32_t shard;      /* -1: it was stored before places were */
     uint32_t is_stored; /* 0: the store doesn't know the session */
@@ -46,24 +50,37 @@ struct store *store_open(const char *where, unsigned shard);
 /* How far the shard was read. Answers 0, or -1 after a fault, as those below. */
 int store_reached(struct store *store, unsigned shard, struct reached *reached);
 
-/* What is stored of the session. If nothing is, only is_stored is changed. */
-int store_session(struct store *store, const char *session, struct demand *demand);
-
-/* Passes each session to a function that is stored as one of the shard. What that doesn't answer 0
- * ends it, with -1. */
+/* Passes each of these sessions that is stored to a function. What that doesn't answer 0 ends it,
+ * with -1. Their names are of the form that sessions.h says. */
 typedef int store_take(void *given, const char *session, const struct demand *demand);
-int store_sessions(struct store *store, unsigned shard, store_take *take, void *given);
+int store_sessions(struct store *store, const char *const *names, size_t count, store_take *take,
+                   void *given);
 
-/* Begins a transaction that moves the shard. */
+/* The same of each session that is stored as one of the shard and misses something. */
+int store_standing(struct store *store, unsigned shard, store_take *take, void *given);
+
+/* The same of each name that is noted as passed by in the shard (store_pass), with the offset. */
+typedef int store_note(void *given, const char *session, uint64_t offset);
+int store_passed(struct store *store, unsigned shard, store_note *take, void *given);
+
+/* Begins a transaction that moves the shard. If that is from one list to another, the places of all
+ * its sessions become 0, none of them misses anything, and nothing is noted as passed by. */
 int store_begin(struct store *store, unsigned shard, const struct reached *from,
                 const struct reached *to);
 
-/* Moves a session from what is stored, or from nothing, to this. */
+/* Moves a session from what is stored, or from nothing, to this. The store notes since when it has
+ * missed something at its number. */
 int store_advance(struct store *store, const char *session, const struct demand *from,
                   const struct demand *to);
 
-/* Marks a session that this receiver doesn't know as MISSED_REFUSED, if the store knows it. */
-int store_miss(struct store *store, const char *session);
+/* Notes that the frame at this offset was passed by, since its receiver doesn't know a session of
+ * this name in the shard, unless one is noted. Of a shard STORE_NOTED names are noted, and what is
+ * more under the name "". */
+enum { STORE_NOTED = 1000 };
+int store_pass(struct store *store, unsigned shard, const char *session, uint64_t offset);
+
+/* Ends the note. */
+int store_find(struct store *store, unsigned shard, const char *session);
 
 /* Ends it: 0 if all of it took effect, 1 if something stood elsewhere, and -1 after a fault.
  * After 1 nothing took effect; after -1 it isn't known whether it did: all is to be read again.
@@ -90,16 +107,24 @@ int store_run(struct store *store, const char *sql, const struct value *values, 
 
 struct store {
     int (*reached)(struct store *, unsigned, struct reached *);
-    int (*session)(struct store *, const char *, struct demand *);
-    int (*sessions)(struct store *, unsigned, store_take *, void *);
+    int (*sessions)(struct store *, const char *const *, size_t, store_take *, void *);
+    int (*standing)(struct store *, unsigned, store_take *, void *);
+    int (*passed)(struct store *, unsigned, store_note *, void *);
     int (*begin)(struct store *, unsigned, const struct reached *, const struct reached *);
     int (*advance)(struct store *, const char *, const struct demand *, const struct demand *);
-    int (*miss)(struct store *, const char *);
+    int (*pass)(struct store *, unsigned, const char *, uint64_t);
+    int (*find)(struct store *, unsigned, const char *);
     int (*commit)(struct store *);
     void (*rollback)(struct store *);
     void (*close)(struct store *);
     int (*run)(struct store *, const char *, const struct value *, unsigned);
 };
+
+/* Whether a transaction moves a shard from one list to another. */
+static inline int store_is_other(const struct reached *from, const struct reached *to)
+{
+    return from->incarnation != 0 && from->incarnation != to->incarnation;
+}
 
 struct store *sqlite_store_open(const char *path, unsigned shard);
 struct store *postgresql_store_open(const char *where);

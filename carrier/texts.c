@@ -44,10 +44,10 @@ static int check(struct sender *s, struct sending *it)
 {
     struct carried last;
     uint64_t number = 0;
-    int found = carrier_last(s->carrier, it->of->shard, it->of->name, &last);
+    int found = carrier_last(s->carrier, it->of.shard, it->of.name, &last);
     if (found < 0)
         return -1;
-    if (found == 0 || !number_of(s, it->of, &last, &number) || number < it->progress.next)
+    if (found == 0 || !number_of(s, &it->of, &last, &number) || number < it->progress.next)
         return 1;
     snprintf(it->reason, sizeof it->reason, "this outbox is older than what has left: it goes on at"
              " number %llu, and frame %llu is in the carrier: the session needs a new key",
@@ -57,9 +57,8 @@ static int check(struct sender *s, struct sending *it)
 }
 
 /* Checks one session, unless its shard didn't answer a moment ago. 1 if that is done. */
-static int check_one(struct sender *s, size_t place, enum outbox_answer *answer)
+static int check_one(struct sender *s, struct sending *it, enum outbox_answer *answer)
 {
-    struct sending *it = &s->sendings[place];
     struct lane *lane = &s->lanes[it->lane];
     int is_fine;
     if (*answer != OUTBOX_OK || nanoseconds() < lane->moment)
@@ -68,7 +67,7 @@ static int check_one(struct sender *s, size_t place, enum outbox_answer *answer)
     if (is_fine < 0)
         lane->moment = nanoseconds() + LATER;
     else if (is_fine == 0)
-        *answer = sender_stop(s, it->of->name, it->reason);
+        *answer = sender_stop(s, it->of.name, it->reason);
     if (is_fine < 0 || *answer != OUTBOX_OK)
         return 0;
     it->is_checked = 1;
@@ -82,29 +81,28 @@ enum outbox_answer texts_check_wanted(struct sender *s)
     enum outbox_answer answer = OUTBOX_OK;
     size_t i, kept = 0;
     for (i = 0; i < s->wanted.count; i++)
-        if (!check_one(s, s->wanted.places[i], &answer))
-            s->wanted.places[kept++] = s->wanted.places[i];
+        if (!check_one(s, s->wanted.at[i], &answer))
+            s->wanted.at[kept++] = s->wanted.at[i];
     s->wanted.count = kept;
     return answer == OUTBOX_AGAIN ? OUTBOX_OK : answer;
 }
 
-static void want(struct sender *s, size_t place)
+static void want(struct sender *s, struct sending *it)
 {
-    struct sending *it = &s->sendings[place];
     if (it->is_checked || it->is_wanted)
         return;
     it->is_wanted = 1;
     s->lanes[it->lane].waiting++;
-    s->wanted.places[s->wanted.count++] = place;
+    s->wanted.at[s->wanted.count++] = it;
 }
 
 /* ---- Passes over texts */
 
-static void touch(struct sender *s, size_t place)
+static void touch(struct sender *s, struct sending *it)
 {
-    if (!s->sendings[place].is_touched)
-        s->touched.places[s->touched.count++] = place;
-    s->sendings[place].is_touched = 1;
+    if (!it->is_touched)
+        s->touched.at[s->touched.count++] = it;
+    it->is_touched = 1;
 }
 
 static int tell_unknown(struct sender *s, const char *session)
@@ -120,24 +118,24 @@ static int tell_unknown(struct sender *s, const char *session)
 static enum seal_answer look_at(struct sender *s, const struct lane *only,
                                 const struct waiting_text *text, struct sending **it, int *is_taken)
 {
-    size_t place = find_session(s->sessions, s->count, text->session);
     struct lane *lane;
+    int found = sender_find(s, text->session, it);
     *is_taken = 0;
-    *it = NULL;
-    if (place == s->count)
+    if (found < 0)
+        return SEAL_FAULT;
+    if (found == 0)
         return only != NULL || tell_unknown(s, text->session) == 0 ? SEAL_OK : SEAL_FAULT;
-    *it = &s->sendings[place];
     lane = &s->lanes[(*it)->lane];
     if (((*it)->stopped_at > 0 && text->id >= (*it)->stopped_at) || (only != NULL && lane != only))
         return SEAL_OK;
-    want(s, place);
+    want(s, *it);
     if (lane->deferred == 0 && (lane->room == 0 || !(*it)->is_checked))
         lane->deferred = text->id;
     if (lane->deferred > 0)
         return SEAL_OK;
     lane->room--;
     *is_taken = 1;
-    touch(s, place);
+    touch(s, *it);
     return seal_text(&s->sealing, *it, text);
 }
 
@@ -201,15 +199,6 @@ static size_t room_of(const struct lane *lane)
     return lane->backlog + TAKEN <= WINDOW ? TAKEN : 0;
 }
 
-static int are_all_deferred(const struct sender *s)
-{
-    size_t i;
-    for (i = 0; i < s->lane_count; i++)
-        if (s->lanes[i].deferred == 0)
-            return 0;
-    return 1;
-}
-
 /* Whether deferred texts of a lane may be looked at again. */
 static int is_due(const struct lane *lane)
 {
@@ -224,7 +213,7 @@ int texts_wait(struct sender *s)
         if (is_due(&s->lanes[i]))
             return 1;
     }
-    return !are_all_deferred(s) && outbox_has_text(&s->outbox, s->seen);
+    return outbox_has_text(&s->outbox, s->seen);
 }
 
 enum seal_answer texts_take(struct sender *s, struct sending **stopped)
@@ -238,7 +227,7 @@ enum seal_answer texts_take(struct sender *s, struct sending **stopped)
     for (i = 0; i < s->lane_count && answer == SEAL_OK; i++)
         if (is_due(&s->lanes[i]))
             answer = pass_lane(s, &s->lanes[i], stopped);
-    if (answer != SEAL_OK || are_all_deferred(s))
+    if (answer != SEAL_OK)
         return answer;
     answer = pass(s, NULL, s->seen, INT64_MAX, &last, &has_more, stopped);
     if (answer == SEAL_OK && last > 0)

@@ -8,7 +8,6 @@ shard, take them, 1,024 frames a transaction: `shards` is a SQLite file for each
 import glob
 import os
 import random
-import re
 import shutil
 import sqlite3
 import subprocess
@@ -17,6 +16,7 @@ import time
 
 import engines
 import errors
+import loglines
 
 SHARDS, SESSIONS, TEXTS, BYTES, FRAME = 4, 64, 120_000, 1000, 1110
 LIMIT = 300
@@ -73,9 +73,9 @@ def raw(programs, carrier, replicas, name):
 def send(programs, folder, carrier, replicas, name):
     fill_outboxes(programs, folder, carrier, replicas)
     took, texts = at_once([sender(programs, folder, carrier, replicas, it) for it in range(SHARDS)])
-    found = [re.search(r"([\d.]+) s, sealing ([\d.]+), storing ([\d.]+), carrier ([\d.]+)", text)
-             for text in texts]
-    sums = [sum(float(it[place]) for it in found) for place in (1, 2, 3, 4)]
+    found = [loglines.find(text, "sender_ended")[-1] for text in texts]
+    sums = [sum(float(it[key]) for it in found)
+            for key in ("seconds", "sealing", "outbox", "carrier")]
     print(f"{name:7} {SHARDS} senders: {TEXTS / took:7,.0f} texts a second; sealing"
           f" {sums[1] / sums[0]:.0%}, outbox {sums[2] / sums[0]:.0%}, carrier"
           f" {sums[3] / sums[0]:.0%}", flush=True)
@@ -89,10 +89,9 @@ def receive(programs, folder, carrier, name, store, receivers, batch=1024):
     _, texts = at_once([[f"{programs}/receiver", "--sessions", f"{folder}/sessions", "--store",
                          where, "--carrier", carrier, "--batch", str(batch), "--until-closed",
                          "--shards", str(it)] for it in range(receivers)])
-    last = [re.findall(r"(\d+) texts of .* in ([\d.]+) s: opening ([\d.]+), carrier ([\d.]+),"
-                       r" store ([\d.]+)", text)[-1] for text in texts]
-    count, slowest = sum(int(it[0]) for it in last), max(float(it[1]) for it in last)
-    sums = [sum(float(it[place]) for it in last) for place in (1, 2, 3, 4)]
+    last = [loglines.find(text, "shard_ended")[-1] for text in texts]
+    count, slowest = sum(int(it["texts"]) for it in last), max(float(it["seconds"]) for it in last)
+    sums = [sum(float(it[key]) for it in last) for key in ("seconds", "opening", "carrier", "store")]
     print(f"{name:7} {store.split(':')[0]:10} {receivers} receivers, {batch:4} a transaction:"
           f" {count / slowest:7,.0f} texts a second; opening {sums[1] / sums[0]:.0%}, carrier"
           f" {sums[2] / sums[0]:.0%}, store {sums[3] / sums[0]:.0%}", flush=True)
@@ -105,7 +104,7 @@ def measure(programs, folder, carrier, replicas, name, postgres):
         receive(programs, folder, carrier, name, "shards", receivers)
     if postgres:
         for receivers in (1, 2, 4):
-            postgres.ask("DROP TABLE IF EXISTS shard, session, effect")
+            postgres.ask("DROP TABLE IF EXISTS shard, session, passed, effect")
             receive(programs, folder, carrier, name, postgres.where, receivers)
 
 

@@ -117,11 +117,13 @@ static void check_shards(struct carrier *c, struct carrier *reader)
 
 int main(int count, char **words)
 {
+    struct carrier_options options = { .replicas = count > 2 ? (unsigned)atoi(words[2]) : 1 };
     struct carrier *c, *reader;
-    unsigned i, replicas = count > 2 ? (unsigned)atoi(words[2]) : 1;
+    unsigned i;
     check(count >= 2, "usage: carrier_test WHERE [REPLICAS]");
-    c = carrier_open(words[1], replicas);
-    reader = carrier_open(words[1], replicas);
+    options.where = words[1];
+    c = carrier_open(&options);
+    reader = carrier_open(&options);
     check(c != NULL && reader != NULL, "open");
     publish_all(c);
     await_confirmed(c);

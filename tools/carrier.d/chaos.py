@@ -2,7 +2,7 @@
 looks whether each text of each session took effect once and in order.
 
 An application puts texts into the outboxes. Each shard is served by two receivers at once, which
-both believe that it is theirs. Meanwhile a receiver or a sender is killed (SIGKILL) and started
+both believe that it is theirs; or receivers share the shards. Meanwhile a receiver or a sender is killed (SIGKILL) and started
 again, or stopped for a while so that it wakes beside its successor; a second sender takes an outbox
 over; of three nodes of JetStream one is killed and started again; `noise` publishes frames of the
 shards again, whole or altered, and bytes that are no frame. At last all runs undisturbed until each
@@ -26,6 +26,7 @@ import threading
 import time
 
 import engines
+import loglines
 from lib import jobs, printed
 
 FAULTS = 5          # of 1,000 frames: what the carrier without a server loses and repeats
@@ -51,6 +52,7 @@ class Setting:
     receivers: int = 3
     shards: int = 4
     batch: int = 7
+    is_shared: bool = False     # receivers share the shards; else each is served by two at once
     seconds: float = 20
     patience: float = 90        # seconds until all has to be carried after the last disturbance
     settle: float = 60          # and until all has to be closed after that
@@ -126,10 +128,11 @@ class Processes:
                     f"{self.folder}/outbox{place}.db", "--retry", "500", "--batch",
                     str(self.given.batch if place % 2 else 1)]
         count = self.given.receivers
-        mine = [it for it in range(self.given.shards)
+        mine = [str(it) for it in range(self.given.shards)
                 if place in (it % count, (it + 1) % count)]
+        shards = "auto" if self.given.is_shared else ",".join(mine)
         return ["--sessions", f"{self.folder}/sessions", "--store", self.store, "--until-closed",
-                "--batch", TAKEN, "--shards", ",".join(map(str, mine))]
+                "--batch", TAKEN, "--shards", shards]
 
     def start(self, name):
         kind, place = name.split("-")[:2]
@@ -356,7 +359,7 @@ class Trial:
         for it in range(self.given.senders):
             subprocess.run([f"{self.given.programs}/sender", *self.processes.common,
                             *self.processes.words("sender", it), "--drain"], check=True,
-                           stdout=subprocess.DEVNULL, timeout=60)
+                           stdout=subprocess.DEVNULL, stderr=subprocess.DEVNULL, timeout=60)
         for kind, count in (("sender", self.given.senders), ("receiver", self.given.receivers)):
             for it in range(count):
                 self.processes.start(f"{kind}-{it}")
@@ -480,19 +483,18 @@ class Trial:
 
     def tally(self):
         """The sums of what all processes reported last."""
-        for path in glob.glob(f"{self.folder}/receiver-*.log"):
+        for path in glob.glob(f"{self.folder}/*er-*.log"):
             with open(path, encoding="utf-8", errors="replace") as file:
-                last = {line.split()[1]: line for line in file if line.startswith("shard ")
-                        and "commits" in line}
+                text = file.read()
+            self.faults += loglines.faults(text)
+            lines = loglines.read(text)
+            last = {line["shard"]: line for line in lines
+                    if line.get("event") in ("shard_progress", "shard_ended")}
             for line in last.values():
-                for word in ("repeats", "early", "refused"):
-                    self.counts[word] += int(re.search(rf"{word} (\d+)", line)[1])
-                self.counts["fenced"] += int(re.search(r"(\d+) fenced", line)[1])
-                self.counts["commits"] += int(re.search(r"(\d+) commits", line)[1])
-        for path in glob.glob(f"{self.folder}/sender-*.log"):
-            with open(path, encoding="utf-8", errors="replace") as file:
-                for found in re.findall(r"(\d+) of them again", file.read()):
-                    self.counts["published again, by senders that ended"] += int(found)
+                for word in ("repeats", "early", "refused", "fenced", "commits"):
+                    self.counts[word] += int(line[word])
+            self.counts["published again, by senders that ended"] += sum(
+                int(line["again"]) for line in lines if line.get("event") == "sender_ended")
 
     def told(self):
         return ", ".join(f"{word} {count}" for word, count in sorted(self.counts.items()))

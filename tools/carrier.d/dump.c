@@ -11,26 +11,29 @@
 
 enum { TAKEN = 256, SILENT = 5, WAIT = 100 };
 
-struct dump {
-    struct session *sessions;
-    struct krbrelay_opener *openers;
-    size_t count;
-    uint8_t *text;
-};
+struct dump { struct sessions *sessions; uint8_t *text; };
 
 /* Opens the frame at any number; 0 if it doesn't open. */
 static int number_of(struct dump *d, const struct carried *it, unsigned long *number)
 {
     const struct krbrelay_demand any = { 0 };
+    struct krbrelay_opener opener = { 0 };
+    struct krbrelay_expect expect = { 0 };
     struct krbrelay_moment now = read_clock();
-    struct krbrelay_carried carried;
-    size_t place = find_session(d->sessions, d->count, it->session), size;
-    if (place == d->count
-        || krbrelay_opener_open(&d->openers[place], it->frame, it->len, &any, &now, d->text,
-                                KRBRELAY_FRAME_LIMIT, &size, &carried) != KRBRELAY_OK)
+    struct krbrelay_carried carried = { 0 };
+    enum krbrelay_answer answer;
+    struct session of;
+    size_t size;
+    if (!sessions_find(d->sessions, it->session, &of))
         return 0;
+    expect.mode = of.mode;
+    answer = krbrelay_opener_new(&opener, of.etype, of.key, of.key_len, &expect);
+    if (answer == KRBRELAY_OK)
+        answer = krbrelay_opener_open(&opener, it->frame, it->len, &any, &now, d->text,
+                                      KRBRELAY_FRAME_LIMIT, &size, &carried);
+    krbrelay_opener_free(&opener);
     *number = carried.number;
-    return (int)carried.has_number;
+    return answer == KRBRELAY_OK && carried.has_number;
 }
 
 static void print(struct dump *d, unsigned shard, const struct carried *it)
@@ -60,47 +63,24 @@ static void print_shard(struct dump *d, struct carrier *carrier, unsigned shard)
     }
 }
 
-static int make_openers(struct dump *d)
-{
-    size_t i;
-    d->openers = calloc(d->count, sizeof *d->openers);
-    d->text = malloc(KRBRELAY_FRAME_LIMIT);
-    if (d->openers == NULL || d->text == NULL)
-        return -1;
-    for (i = 0; i < d->count; i++) {
-        const struct session *of = &d->sessions[i];
-        const struct krbrelay_expect expect = { .mode = of->mode };
-        if (krbrelay_opener_new(&d->openers[i], of->etype, of->key, of->key_len, &expect)
-            != KRBRELAY_OK)
-            return -1;
-    }
-    return 0;
-}
-
-static void free_openers(struct dump *d)
-{
-    size_t i;
-    for (i = 0; i < d->count; i++)
-        krbrelay_opener_free(&d->openers[i]);
-    free(d->openers);
-    free(d->text);
-    forget_sessions(d->sessions, d->count);
-}
-
 int main(int count, char **words)
 {
-    struct dump d = { NULL, NULL, 0, NULL };
+    struct carrier_options options = { .replicas = 1 };
+    struct dump d = { NULL, malloc(KRBRELAY_FRAME_LIMIT) };
     struct carrier *carrier;
     unsigned shard;
     if (count != 9)
         return 2;
-    d.sessions = read_sessions(words[4], &d.count);
-    carrier = carrier_open(words[2], (unsigned)atoi(words[8]));
-    if (d.sessions == NULL || carrier == NULL || make_openers(&d) != 0)
+    options.where = words[2];
+    options.replicas = (unsigned)atoi(words[8]);
+    d.sessions = sessions_read(words[4]);
+    carrier = carrier_open(&options);
+    if (d.sessions == NULL || carrier == NULL || d.text == NULL)
         return 1;
     for (shard = 0; shard < (unsigned)atoi(words[6]); shard++)
         print_shard(&d, carrier, shard);
-    free_openers(&d);
+    free(d.text);
+    sessions_forget(d.sessions);
     carrier_close(carrier);
     return 0;
 }

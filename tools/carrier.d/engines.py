@@ -1,6 +1,7 @@
 """The servers of tools/carrier, on the loopback: JetStream of one or three nodes, PostgreSQL."""
 import glob
 import os
+import random
 import shutil
 import signal
 import socket
@@ -20,6 +21,27 @@ def free_ports(count):
     for it in sockets:
         it.close()
     return ports
+
+
+def free_base(offsets):
+    """A port below those that systems give, so that nothing listens at it and these offsets."""
+    while True:
+        base = random.randrange(20000, 30000)
+        if not any(is_open(base + it) for it in offsets):
+            return base
+
+
+def processes_with(word):
+    """The command lines of processes that have this word."""
+    found = []
+    for path in glob.glob("/proc/[0-9]*/cmdline"):
+        try:
+            with open(path, "rb") as file:
+                line = file.read().replace(b"\0", b" ").decode(errors="replace")
+        except OSError:
+            continue        # it has ended
+        found += [line] if word in line else []
+    return found
 
 
 def listen():
@@ -49,6 +71,13 @@ def await_port(port):
         if time.monotonic() > until:
             raise RuntimeError(f"nothing listens at port {port}")
         time.sleep(0.05)
+
+
+def ask(where, sql):
+    """The rows of PostgreSQL's answer, of columns without tabs."""
+    done = subprocess.run(["psql", "-qAtF", "\t", where, "-c", sql], check=True,
+                          stdout=subprocess.PIPE, stderr=subprocess.DEVNULL, text=True)
+    return [line.split("\t") for line in done.stdout.splitlines()]
 
 
 class Nats:
@@ -140,10 +169,7 @@ class Postgres:
                 time.sleep(0.1)
 
     def ask(self, sql):
-        """The rows of an answer, of columns without tabs."""
-        done = subprocess.run(["psql", "-qAtF", "\t", self.where, "-c", sql], check=True,
-                              stdout=subprocess.PIPE, stderr=subprocess.DEVNULL, text=True)
-        return [line.split("\t") for line in done.stdout.splitlines()]
+        return ask(self.where, sql)
 
     def stop(self):
         if self.server.poll() is None:

@@ -6,6 +6,8 @@ import subprocess
 import threading
 import time
 
+import loglines
+
 LIMIT = 30          # seconds for one program
 TEXTS = [f"text {it}" for it in range(300)]
 LOCKED = 4          # seconds; the tests' programs wait for 2 (tools/carrier.d/Makefile)
@@ -67,37 +69,40 @@ class Ends:
         return all(texts == TEXTS for texts in effects.values())
 
 
-def is_told(done, words, status=1):
-    return done.returncode == status and words in done.stdout
+def is_told(done, event, words="", status=1, **fields):
+    return done.returncode == status and loglines.has(done.stdout, event, words, **fields)
 
 
 def test_arguments(count, ends):
     done = ends.run("receiver", sessions=f"{ends.folder}/none")
-    count.told(is_told(done, "No such file"), "error: no file of sessions")
+    count.told(is_told(done, "file_unread", "No such file"), "error: no file of sessions")
     ends.write(f"{ends.folder}/bad", SESSIONS[:1] + ["tom 0 18 priv 22 1 10.0.0.2 10.0.0.255\n"])
     done = ends.run("sender", sessions=f"{ends.folder}/bad")
-    count.told(is_told(done, "line 2 isn't NAME SHARD ETYPE MODE KEY FIRST FROM TO"),
+    count.told(is_told(done, "session_malformed", "NAME SHARD ETYPE MODE KEY FIRST FROM TO", line=2),
                "error: a bad line among the sessions")
     done = ends.run("receiver", carrier="tcp:7")
-    count.told(is_told(done, "is no carrier: name nats://HOST:PORT or sqlite:FILE"),
+    count.told(is_told(done, "carrier_unknown", "nats://HOST:PORT or sqlite:FILE", carrier="tcp"),
                "error: an unknown carrier")
     done = ends.run("receiver", store="file")
-    count.told(is_told(done, "is no store: name sqlite:FILE"), "error: an unknown store")
+    count.told(is_told(done, "store_unknown", "name sqlite:FILE", store="file"), "error: an unknown store")
     done = ends.run("receiver", store=f"sqlite:{ends.folder}/none/store.db")
-    count.told(is_told(done, "is there such a folder"), "error: no folder for a store")
-    count.told(is_told(ends.run("sender", "--all"), "sender --sessions FILE", 2),
+    count.told(is_told(done, "database_unopened", "is there such a folder"), "error: no folder for a store")
+    done = ends.run("sender", "--all")
+    count.told(done.returncode == 2 and "sender --sessions FILE" in done.stdout,
                "error: an unknown option")
 
 
 def test_no_server(count, ends, with_servers):
     """Port 1 has no server. Nothing that waits in the outbox is lost."""
     ends.put_all()
-    words = "no server answers at nats://127.0.0.1:1" if with_servers else "install libnats-dev"
+    told = ("carrier_unopened", "no server answers") if with_servers else \
+        ("carrier_missing", "install libnats-dev")
     done = ends.run("sender", "--drain", carrier="nats://127.0.0.1:1")
-    count.told(is_told(done, words), "error: no server of the carrier")
-    words = "is the server started" if with_servers else "install libpq-dev"
+    count.told(is_told(done, *told), "error: no server of the carrier")
+    told = ("postgresql_fault", "is the server started") if with_servers else \
+        ("store_missing", "install libpq-dev")
     done = ends.run("receiver", store="postgresql://postgres@127.0.0.1:1/postgres")
-    count.told(is_told(done, words), "error: no server of the store")
+    count.told(is_told(done, *told), "error: no server of the store")
     ends.run("sender", "--drain")
     ends.run("receiver", "--until-closed")
     count.told(ends.has_all(), "error: after it all texts arrive")
@@ -129,7 +134,7 @@ def test_locked(count, ends):
     ends.run("sender", "--drain")
     text = receiver.communicate(timeout=LIMIT)[0]
     thread.join()
-    count.told("is locked: another process has been writing" in text and ends.has_all(),
+    count.told(loglines.has(text, "database_locked") and ends.has_all(),
                "error: a locked store; after it all texts arrive")
 
 
@@ -166,7 +171,9 @@ def test_store_away(count, ends, postgres):
         "SELECT session, count(DISTINCT text) FROM effect GROUP BY session")}
     count.told(receiver.returncode == 0 and found == dict.fromkeys(("ann", "tom"), len(TEXTS)),
                f"error: the store is away; the receiver goes on: {found}", [text[-500:]])
-    count.told("the store is away" in text, "error: that is reported", [text[-500:]])
+    count.told(loglines.has(text, "store_away"), "error: that is reported", [text[-500:]])
+    count.told(not loglines.faults(text), "error: each line of its log has its form",
+               loglines.faults(text))
 
 
 def test_junk(count, ends):
@@ -184,7 +191,7 @@ def test_junk(count, ends):
                          junk + rows)
     file.close()
     done = ends.run("receiver", "--until-closed")
-    count.told(done.returncode == 0 and "is refused and passed by" in done.stdout
+    count.told(done.returncode == 0 and loglines.has(done.stdout, "frame_refused")
                and ends.has_all(), "error: junk in a shard; all texts arrive")
 
 

@@ -7,10 +7,10 @@ HELLO = b'CONNECT {"verbose":false,"headers":true,"no_responders":true}\r\n'
 
 
 class Connection:
-    """One connection to a node on the loopback."""
+    """One connection to a node."""
 
-    def __init__(self, port):
-        self.socket = socket.create_connection(("127.0.0.1", port), PATIENCE)
+    def __init__(self, port, host="127.0.0.1"):
+        self.socket = socket.create_connection((host, port), PATIENCE)
         self.file = self.socket.makefile("rwb")
         self.file.readline()
         self.file.write(HELLO)
@@ -44,9 +44,9 @@ class Connection:
         self.socket.close()
 
 
-def request(port, subject, **body):
+def request(port, subject, host="127.0.0.1", **body):
     """What JetStream answers to one request of its interface."""
-    connection = Connection(port)
+    connection = Connection(port, host)
     try:
         connection.subscribe("_answer.here")
         connection.publish(f"$JS.API.{subject}", json.dumps(body).encode() if body else b"",

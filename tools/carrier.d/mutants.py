@@ -4,11 +4,17 @@ import os
 import shutil
 
 # The case of repro.py that has to find it; the others are for chaos.
-CASES = {"numbers before the offset": "two_reads"}
+CASES = {
+    "numbers before the offset": "two_reads",
+    "what is passed by isn't noted": "session_later",
+    "places stay those of another list": "carrier_replaced",
+}
 
 # What has to be said of each: that it fails for another reason isn't enough.
 FOUND = {
     "numbers before the offset": "delivered {'ann': 5} of {'ann': 10}",
+    "what is passed by isn't noted": "delivered {'ann': 100} of {'ann': 100, 'tom': 100}",
+    "places stay those of another list": "delivered {'ann': 5000} of {'ann': 5010}",
     "confirmations counted singly": "not all is closed, though all counts as carried",
     "no compare-and-set": "doubled",
     "deduplication on": "not all is carried",
@@ -28,16 +34,28 @@ EDITS = {
 """, """\
     s->is_fenced = 0;
 """),
-    "numbers before the offset": ("shard.c", """\
+    "numbers before the offset": ("shard_load.c", """\
     if (store_reached(s->store, s->number, &s->stored) != 0)
         return -1;
-    if (store_sessions(s->store, s->number, note_stored, s) != 0)
+    s->now = s->stored;
+    if (store_standing(s->store, s->number, note_standing, s) != 0)
         return -1;
 """, """\
-    if (store_sessions(s->store, s->number, note_stored, s) != 0)
+    if (store_standing(s->store, s->number, note_standing, s) != 0)
         return -1;
     if (store_reached(s->store, s->number, &s->stored) != 0)
         return -1;
+    s->now = s->stored;
+"""),
+    "what is passed by isn't noted": ("shard.c", """\
+    return store_pass(s->store, s->number, it->session, it->offset);
+""", """\
+    return 0;
+"""),
+    "places stay those of another list": ("sqlite_store.c", """\
+    return store_is_other(from, to) ? reset_sessions(s, shard) : 0;
+""", """\
+    return store_is_other(from, to) && from->offset == 0 ? reset_sessions(s, shard) : 0;
 """),
     "deduplication on": ("nats_publisher.c", """\
     status = natsConnection_PublishRequest(c->connection, subject, reply, frame, (int)len);

@@ -14,8 +14,7 @@ enum { TAKEN = 16, SHARDS = 256, RATE = 300, AHEAD = 1000, WAIT = 200 };
 
 struct noise {
     struct carrier *carrier;
-    struct session *sessions;
-    size_t count;
+    struct sessions *sessions;
     unsigned shards;
     uint64_t top[SHARDS]; /* about how far each shard is filled */
     unsigned long repeats, altered;
@@ -25,6 +24,7 @@ struct noise {
 static void disturb(struct noise *n, unsigned shard, const struct carried *it)
 {
     uint8_t *copy = malloc(it->len + 1);
+    struct session other;
     const char *name = it->session;
     size_t i, len = it->len;
     int kind = rand() % 8;
@@ -35,9 +35,10 @@ static void disturb(struct noise *n, unsigned shard, const struct carried *it)
     memcpy(copy, it->frame, len);
     if (kind == 0)
         copy[(size_t)rand() % len] ^= (uint8_t)(1 + rand() % 255);
-    else if (kind == 1)
-        name = n->sessions[(size_t)rand() % n->count].name;
-    else if (kind == 2)
+    else if (kind == 1) {
+        sessions_at(n->sessions, (size_t)rand() % sessions_count(n->sessions), &other);
+        name = other.name;
+    } else if (kind == 2)
         len = (size_t)rand() % len;
     else if (kind == 3)
         for (i = 0; i < len; i++)
@@ -73,13 +74,16 @@ static int disturb_some(struct noise *n)
 int main(int count, char **words)
 {
     static struct noise n;
+    struct carrier_options options = { .replicas = 1 };
     uint64_t until;
     int had;
     if (count != 13)
         return 2;
-    n.sessions = read_sessions(words[4], &n.count);
+    options.where = words[2];
+    options.replicas = (unsigned)atoi(words[8]);
+    n.sessions = sessions_read(words[4]);
     n.shards = (unsigned)atoi(words[6]);
-    n.carrier = carrier_open(words[2], (unsigned)atoi(words[8]));
+    n.carrier = carrier_open(&options);
     if (n.sessions == NULL || n.carrier == NULL || n.shards == 0 || n.shards > SHARDS)
         return 1;
     srand((unsigned)atoi(words[10]));
@@ -91,6 +95,6 @@ int main(int count, char **words)
     pause_milliseconds(300);
     printf("noise: %lu repeats, %lu altered\n", n.repeats, n.altered);
     carrier_close(n.carrier);
-    forget_sessions(n.sessions, n.count);
+    sessions_forget(n.sessions);
     return 0;
 }

@@ -7,8 +7,8 @@
 
 int __real_store_reached(struct store *store, unsigned shard, struct reached *reached);
 int __wrap_store_reached(struct store *store, unsigned shard, struct reached *reached);
-int __real_store_sessions(struct store *store, unsigned shard, store_take *take, void *given);
-int __wrap_store_sessions(struct store *store, unsigned shard, store_take *take, void *given);
+int __real_store_standing(struct store *store, unsigned shard, store_take *take, void *given);
+int __wrap_store_standing(struct store *store, unsigned shard, store_take *take, void *given);
 
 static void pause_once(void)
 {
@@ -25,9 +25,9 @@ int __wrap_store_reached(struct store *store, unsigned shard, struct reached *re
     return answer;
 }
 
-int __wrap_store_sessions(struct store *store, unsigned shard, store_take *take, void *given)
+int __wrap_store_standing(struct store *store, unsigned shard, store_take *take, void *given)
 {
-    int answer = __real_store_sessions(store, shard, take, given);
+    int answer = __real_store_standing(store, shard, take, given);
     pause_once();
     return answer;
 }

@@ -41,10 +41,16 @@ static double read_all(struct carrier *c, unsigned shard, int frames)
 
 int main(int count, char **words)
 {
-    struct carrier *c = count == 11 ? carrier_open(words[2], (unsigned)atoi(words[4])) : NULL;
+    struct carrier_options options = { .replicas = 1 };
+    struct carrier *c;
     double published;
-    if (c == NULL)
+    if (count != 11)
         return 2;
+    options.where = words[2];
+    options.replicas = (unsigned)atoi(words[4]);
+    c = carrier_open(&options);
+    if (c == NULL)
+        return 1;
     published = publish_all(c, (unsigned)atoi(words[6]), atoi(words[8]), (size_t)atoi(words[10]));
     printf("published %.0f a second, read %.0f a second\n", published,
            read_all(c, (unsigned)atoi(words[6]), atoi(words[8])));

@@ -1,0 +1,134 @@
+/* Locks of shards in PostgreSQL: advisory locks of one connection, in a class that the schema has.
+ * Each receiver also has a shared lock, by which all are counted. */
+#include "log.h"
+#include "postgresql.h"
+#include "sharing.h"
+
+#include <stdio.h>
+#include <stdlib.h>
+#include <string.h>
+
+struct postgresql_sharing {
+    struct sharing base;
+    const char *where;
+    PGconn *db;  /* NULL: it has to be opened (again) */
+    char class[16];
+};
+
+/* The first value of the first row of a statement with one or two values, as a text; "" after a
+ * fault, after which the connection isn't used any more. */
+static const char *ask(struct postgresql_sharing *s, const char *sql, unsigned shard, char text[32])
+{
+    char number[16];
+    const char *const values[] = { s->class, number };
+    PGresult *result;
+    text[0] = 0;
+    snprintf(number, sizeof number, "%u", shard);
+    result = PQexecParams(s->db, sql, 2, NULL, values, NULL, NULL, 0);
+    if (PQresultStatus(result) == PGRES_TUPLES_OK && PQntuples(result) == 1)
+        snprintf(text, 32, "%s", PQgetvalue(result, 0, 0));
+    else
+        postgresql_report(s->db, "locks of shards");
+    PQclear(result);
+    if (text[0] == 0) {
+        PQfinish(s->db);
+        s->db = NULL;
+    }
+    return text;
+}
+
+/* The class of the locks, and the lock by which this receiver is counted. */
+static const char first[] =
+    "SELECT class, pg_try_advisory_lock_shared(class, 2147483647) FROM"
+    " (SELECT hashtext('krbrelay ' || current_schema()) AS class) AS it";
+
+static int be_there(struct postgresql_sharing *s)
+{
+    PGresult *result;
+    int is_fine = 0;
+    s->db = postgresql_connect(s->where);
+    if (s->db == NULL)
+        return 0;
+    if (postgresql_is_done(s->db, PQexec(s->db, "SET idle_session_timeout = '10s';"
+                                                " SET statement_timeout = '3s'"), "timeouts")) {
+        result = PQexec(s->db, first);
+        is_fine = PQresultStatus(result) == PGRES_TUPLES_OK && PQntuples(result) == 1
+                  && strcmp(PQgetvalue(result, 0, 1), "t") == 0;
+        if (is_fine)
+            snprintf(s->class, sizeof s->class, "%s", PQgetvalue(result, 0, 0));
+        else
+            postgresql_report(s->db, "locks of shards");
+        PQclear(result);
+    }
+    if (is_fine)
+        return 1;
+    PQfinish(s->db);
+    s->db = NULL;
+    return 0;
+}
+
+static int take(struct sharing *base, unsigned shard)
+{
+    struct postgresql_sharing *s = (struct postgresql_sharing *)base;
+    char text[32];
+    if (s->db == NULL)
+        return -1;
+    ask(s, "SELECT pg_try_advisory_lock($1::int, $2::int)", shard, text);
+    return text[0] == 0 ? -1 : text[0] == 't';
+}
+
+static void give_back(struct sharing *base, unsigned shard)
+{
+    struct postgresql_sharing *s = (struct postgresql_sharing *)base;
+    char text[32];
+    if (s->db != NULL)
+        ask(s, "SELECT pg_advisory_unlock($1::int, $2::int)", shard, text);
+}
+
+/* Opens the connection again, and takes the locks that were lost with it. */
+static int come_again(struct postgresql_sharing *s)
+{
+    unsigned shard;
+    if (!be_there(s))
+        return 0;
+    for (shard = 0; shard < CARRIER_SHARDS && s->db != NULL; shard++)
+        if (s->base.has[shard])
+            sharing_take(&s->base, shard);
+    return s->db != NULL;
+}
+
+static int count(struct sharing *base)
+{
+    struct postgresql_sharing *s = (struct postgresql_sharing *)base;
+    char text[32];
+    if (s->db == NULL && !come_again(s))
+        return -1;
+    ask(s, "SELECT count(*) FROM pg_locks JOIN pg_database ON pg_database.oid = database"
+           " WHERE locktype = 'advisory' AND datname = current_database() AND granted"
+           " AND classid::bigint = ($1::int::bigint & 4294967295) AND objid = 2147483647"
+           " AND objsubid = 2 AND $2::int = 0", 0, text);
+    return text[0] == 0 ? -1 : atoi(text);
+}
+
+static void close_it(struct sharing *base)
+{
+    struct postgresql_sharing *s = (struct postgresql_sharing *)base;
+    PQfinish(s->db);
+    free(s);
+}
+
+struct sharing *postgresql_sharing_open(const char *where)
+{
+    struct postgresql_sharing *s = calloc(1, sizeof *s);
+    if (s == NULL)
+        return NULL;
+    s->base.count = count;
+    s->base.take = take;
+    s->base.give_back = give_back;
+    s->base.close = close_it;
+    s->where = where;
+    if (be_there(s))
+        return &s->base;
+    close_it(&s->base);
+    return NULL;
+}

@@ -1,0 +1,16 @@
+/* Files with keys or passwords, which only their owner may read. */
+#ifndef PRIVATE_H
+#define PRIVATE_H
+
+#include <stddef.h>
+#include <sys/stat.h>
+
+/* The bytes of a file and, after them, a newline unless they end by one, and a zero. Tells what the
+ * file was. NULL, with a line of the log, if it can't be read, or may be used by others than its
+ * owner. End it by private_forget. */
+char *private_read(const char *path, size_t *size, struct stat *is);
+
+/* Overwrites and frees it. */
+void private_forget(char *text, size_t size);
+
+#endif

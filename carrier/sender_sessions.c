@@ -1,0 +1,136 @@
+/* The sessions of a sender that are loaded. */
+#include "sender.h"
+
+#include <search.h>
+#include <stdlib.h>
+#include <string.h>
+
+/* A name, or a struct that begins with one. */
+static int by_name(const void *one, const void *other)
+{
+    return strcmp(one, other);
+}
+
+static int grow_list(struct list *list, size_t room)
+{
+    struct sending **more = realloc(list->at, room * sizeof *more);
+    if (more == NULL)
+        return 0;
+    list->at = more;
+    return 1;
+}
+
+/* Room for one more session in each list. */
+static int grow(struct sender *s)
+{
+    size_t room = 2 * s->room + 64;
+    if (s->all.count < s->room)
+        return 1;
+    if (!grow_list(&s->all, room) || !grow_list(&s->touched, room)
+        || !grow_list(&s->active, room) || !grow_list(&s->wanted, room))
+        return 0;
+    s->room = room;
+    return 1;
+}
+
+/* The lane of a shard, which is made with its first session. */
+static size_t lane_of(struct sender *s, unsigned shard)
+{
+    size_t *lane = &s->lane_of[shard];
+    if (*lane == 0) {
+        s->lanes[s->lane_count++].shard = shard;
+        *lane = s->lane_count;
+    }
+    return *lane - 1;
+}
+
+static void free_sending(struct sending *it)
+{
+    seal_free(it);
+    explicit_bzero(it, sizeof *it);
+    free(it);
+}
+
+/* Adds a session, as the outbox has it. NULL after a fault of the outbox, or out of memory. */
+static struct sending *add(struct sender *s, const struct session *of)
+{
+    struct sending *it = grow(s) ? calloc(1, sizeof *it) : NULL;
+    if (it == NULL)
+        return NULL;
+    it->of = *of;
+    it->lane = lane_of(s, of->shard);
+    it->tag = s->first_tag + (uint32_t)s->all.count;
+    if (tsearch(it, &s->by_name, by_name) != NULL && sender_load(s, it) == 0) {
+        s->all.at[s->all.count++] = it;
+        return it;
+    }
+    tdelete(it, &s->by_name, by_name);
+    free_sending(it);
+    return NULL;
+}
+
+int sender_load(struct sender *s, struct sending *it)
+{
+    struct lane *lane = &s->lanes[it->lane];
+    if (outbox_load(&s->outbox, &it->of, &it->kept) != 0)
+        return -1;
+    lane->backlog -= (size_t)(it->progress.next - it->progress.carried);
+    it->progress = (struct progress){ .next = it->kept.next, .carried = it->kept.carried,
+                                      .at = it->kept.at, .sent = it->kept.carried };
+    lane->backlog += (size_t)(it->progress.next - it->progress.carried);
+    seal_reset(it);
+    if (it->progress.carried < it->progress.next)
+        sender_activate(s, it);
+    return 0;
+}
+
+int sender_find(struct sender *s, const char *name, struct sending **it)
+{
+    void *found = tfind(name, &s->by_name, by_name);
+    struct session of;
+    int is_there;
+    *it = found != NULL ? *(struct sending **)found : NULL;
+    if (*it != NULL)
+        return 1;
+    is_there = sessions_find(s->sessions, name, &of);
+    if (is_there)
+        *it = add(s, &of);
+    explicit_bzero(&of, sizeof of);
+    return is_there && *it == NULL ? -1 : is_there;
+}
+
+static int load_named(void *given, const char *name)
+{
+    struct sending *it;
+    return sender_find(given, name, &it) < 0 ? -1 : 0;
+}
+
+int sender_begin(struct sender *s)
+{
+    return outbox_sessions(&s->outbox, load_named, s);
+}
+
+static void keep(void *given)
+{
+    (void)given;
+}
+
+void sender_forget(struct sender *s)
+{
+    size_t i;
+    tdestroy(s->by_name, keep);
+    s->by_name = NULL;
+    for (i = 0; i < s->all.count; i++)
+        free_sending(s->all.at[i]);
+    for (i = 0; i < s->lane_count; i++)
+        s->lanes[i] = (struct lane){ .shard = s->lanes[i].shard };
+    s->first_tag += (uint32_t)s->all.count;
+    free(s->all.at);
+    free(s->touched.at);
+    free(s->active.at);
+    free(s->wanted.at);
+    s->all = s->touched = s->active = s->wanted = (struct list){ NULL, 0 };
+    s->room = 0;
+    s->seen = 0;
+    s->unknown[0] = 0;
+}

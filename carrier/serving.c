@@ -1,0 +1,232 @@
+#include "serving.h"
+#include "clock.h"
+#include "ending.h"
+#include "log.h"
+#include "service.h"
+
+#include <pthread.h>
+#include <stdlib.h>
+
+enum { WAIT = 100, SHORTEST = 200, LONGEST = 5000 }; /* milliseconds */
+
+#define SECOND UINT64_C(1000000000) /* nanoseconds */
+
+/* What the thread and its owner both use is read and written atomically. */
+struct thread {
+    pthread_t thread;
+    struct shard shard;
+    enum shard_state state;  /* of the owner alone, as is: */
+    int has_closed;
+    int is_left;             /* it is to end */
+    int has_begun, has_ended, is_closed;
+};
+
+static struct {
+    const struct shard_options *options;
+    struct thread *threads;  /* one for each shard */
+    unsigned count;
+    int come_and_go, failed;
+    pthread_mutex_t lock;    /* of the sessions */
+    struct sessions *sessions;
+} serving = { .lock = PTHREAD_MUTEX_INITIALIZER };
+
+static void set(int *flag)
+{
+    __atomic_store_n(flag, 1, __ATOMIC_SEQ_CST);
+}
+
+static int is_set(const int *flag)
+{
+    return __atomic_load_n(flag, __ATOMIC_SEQ_CST);
+}
+
+/* ---- A thread */
+
+/* Has a shard use the file's sessions, unless it does. */
+static void use_sessions(struct shard *shard)
+{
+    pthread_mutex_lock(&serving.lock);
+    if (shard->sessions != serving.sessions)
+        shard_use(shard, serving.sessions);
+    pthread_mutex_unlock(&serving.lock);
+}
+
+static int has_to_end(const struct thread *it)
+{
+    return is_ending() || is_set(&it->is_left);
+}
+
+/* The store is away: waits for longer each time. */
+static void wait_for_store(const struct thread *it, unsigned *pause)
+{
+    unsigned waited;
+    log_fact(LEVEL_WARNING, "store_away", field_number("shard", it->shard.number),
+             field_number("milliseconds", *pause),
+             field_text("text", "it is opened again then, and the shard goes on where it was"));
+    for (waited = 0; waited < *pause && !has_to_end(it); waited += WAIT)
+        pause_milliseconds(WAIT);
+    *pause = 2 * *pause < LONGEST ? 2 * *pause : LONGEST;
+}
+
+/* Each second: shows what was counted, and logs it if something was since. */
+static void report(struct shard *shard, uint64_t began, struct shard_counts *before)
+{
+    shard_show(shard, shard->number);
+    if (shard->counts.frames == before->frames)
+        return;
+    shard_report(shard, "shard_progress", nanoseconds() - began);
+    *before = shard->counts;
+}
+
+/* Whether all sessions of the shard are closed, if that is the end. */
+static int is_closed(const struct shard *shard)
+{
+    return shard->options->until_closed && shard->is_loaded && shard->open == 0;
+}
+
+/* What waits for the first frame isn't counted in the seconds. */
+static void serve(struct thread *it)
+{
+    struct shard *shard = &it->shard;
+    uint64_t began = nanoseconds(), reported = began;
+    struct shard_counts before = { 0 };
+    unsigned pause = SHORTEST;
+    while (!has_to_end(it) && !is_closed(shard)) {
+        int count;
+        use_sessions(shard);
+        count = shard_step(shard, WAIT);
+        if (count < 0)
+            wait_for_store(it, &pause);
+        else if (shard->is_loaded)
+            pause = SHORTEST;
+        if (shard->counts.accepted == 0 && count == 0)
+            began = nanoseconds();
+        if (nanoseconds() - reported > SECOND) {
+            report(shard, began, &before);
+            reported = nanoseconds();
+        }
+    }
+    shard_report(shard, "shard_ended", nanoseconds() - began);
+    if (is_closed(shard))
+        set(&it->is_closed);
+}
+
+static void fail(void)
+{
+    set(&serving.failed);
+    end_now();
+}
+
+static void *work(void *given)
+{
+    struct thread *it = given;
+    if (shard_start(&it->shard) == 0) {
+        set(&it->has_begun);
+        shard_show(&it->shard, it->shard.number);
+        serve(it);
+    } else if (!is_ending() && !serving.come_and_go) {
+        fail();
+    }
+    shard_stop(&it->shard);
+    service_leave(it->shard.number);
+    set(&it->has_ended);
+    return NULL;
+}
+
+/* ---- All of them */
+
+int serving_begin(const struct shard_options *options, struct sessions *sessions, int come_and_go)
+{
+    serving.options = options;
+    serving.come_and_go = come_and_go;
+    serving.sessions = sessions_share(sessions);
+    serving.threads = calloc(CARRIER_SHARDS, sizeof *serving.threads);
+    if (serving.threads != NULL && service_begin(shard_metrics, shard_metrics_count,
+                                                 &shard_stands_metric, CARRIER_SHARDS) == 0)
+        return 0;
+    log_system("out_of_memory", "receiver");
+    return -1;
+}
+
+void serving_use(struct sessions *sessions)
+{
+    pthread_mutex_lock(&serving.lock);
+    sessions_forget(serving.sessions);
+    serving.sessions = sessions_share(sessions);
+    pthread_mutex_unlock(&serving.lock);
+}
+
+int serving_start(unsigned shard)
+{
+    struct thread *it = &serving.threads[shard];
+    *it = (struct thread){ .state = SHARD_SERVED };
+    it->shard.options = serving.options;
+    it->shard.number = shard;
+    service_expect(shard);
+    if (pthread_create(&it->thread, NULL, work, it) == 0) {
+        serving.count++;
+        return 1;
+    }
+    log_system("thread_unstarted", "receiver");
+    service_leave(shard);
+    it->state = SHARD_IDLE;
+    set(&serving.failed);
+    return 0;
+}
+
+void serving_leave(unsigned shard)
+{
+    serving.threads[shard].state = SHARD_LEFT;
+    set(&serving.threads[shard].is_left);
+}
+
+void serving_join(void)
+{
+    unsigned shard;
+    for (shard = 0; shard < CARRIER_SHARDS; shard++) {
+        struct thread *it = &serving.threads[shard];
+        if (it->state == SHARD_IDLE || !is_set(&it->has_ended))
+            continue;
+        if (pthread_join(it->thread, NULL) != 0)
+            log_system("thread_unjoined", "receiver");
+        it->state = SHARD_IDLE;
+        it->has_closed = is_set(&it->is_closed);
+        serving.count--;
+    }
+}
+
+enum shard_state serving_state(unsigned shard)
+{
+    return serving.threads[shard].state;
+}
+
+unsigned serving_count(void)
+{
+    return serving.count;
+}
+
+int serving_is_ready(void)
+{
+    unsigned shard;
+    for (shard = 0; shard < CARRIER_SHARDS; shard++)
+        if (serving.threads[shard].state == SHARD_SERVED
+            && !is_set(&serving.threads[shard].has_begun))
+            return 0;
+    return 1;
+}
+
+int serving_failed(void)
+{
+    return is_set(&serving.failed);
+}
+
+int serving_has_closed(unsigned shard)
+{
+    return serving.threads[shard].has_closed;
+}
+
+void serving_end(void)
+{
+    sessions_forget(serving.sessions);
+    free(serving.threads);
+}

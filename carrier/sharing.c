@@ -1,0 +1,136 @@
+#include "sharing.h"
+#include "log.h"
+
+#include <errno.h>
+#include <fcntl.h>
+#include <stdio.h>
+#include <stdlib.h>
+#include <string.h>
+#include <unistd.h>
+
+enum { RECEIVERS = 256 }; /* the most that share one file */
+
+/* Byte N of the file is shard N; those from CARRIER_SHARDS on are the receivers'. */
+struct file_sharing { struct sharing base; int file; };
+
+/* Asks something of a byte's lock: F_OFD_SETLK, or F_OFD_GETLK, whose answer is the lock's type. */
+static int ask(const struct file_sharing *s, int what, short type, unsigned byte)
+{
+    struct flock lock = { .l_type = type, .l_whence = SEEK_SET, .l_start = byte, .l_len = 1 };
+    if (fcntl(s->file, what, &lock) == 0)
+        return what == F_OFD_GETLK ? lock.l_type : 1;
+    if (errno == EAGAIN || errno == EACCES)
+        return 0;
+    log_system("shards_unlocked", "fcntl");
+    return -1;
+}
+
+static int count(struct sharing *base)
+{
+    const struct file_sharing *s = (const struct file_sharing *)base;
+    unsigned i;
+    int others = 0;
+    for (i = 0; i < RECEIVERS; i++) {
+        int type = ask(s, F_OFD_GETLK, F_WRLCK, CARRIER_SHARDS + i);
+        if (type < 0)
+            return -1;
+        others += type != F_UNLCK;
+    }
+    return others + 1;
+}
+
+static int take(struct sharing *base, unsigned shard)
+{
+    return ask((struct file_sharing *)base, F_OFD_SETLK, F_WRLCK, shard);
+}
+
+static void give_back(struct sharing *base, unsigned shard)
+{
+    if (ask((struct file_sharing *)base, F_OFD_SETLK, F_UNLCK, shard) != 1)
+        log_system("shards_unlocked", "fcntl");
+}
+
+static void close_it(struct sharing *base)
+{
+    struct file_sharing *s = (struct file_sharing *)base;
+    if (s->file >= 0 && close(s->file) != 0)
+        log_system("shards_unlocked", "close");
+    free(s);
+}
+
+/* Opens the file, and takes the first byte of a receiver that is free. */
+static int be_there(struct file_sharing *s, const char *path)
+{
+    char name[512];
+    unsigned i = 0;
+    int taken = 0;
+    if ((size_t)snprintf(name, sizeof name, "%s.shards", path) >= sizeof name)
+        return 0;
+    s->file = open(name, O_RDWR | O_CREAT | O_CLOEXEC, 0600);
+    if (s->file < 0) {
+        log_system("shards_unlocked", name);
+        return 0;
+    }
+    while (taken == 0 && i < RECEIVERS)
+        taken = ask(s, F_OFD_SETLK, F_WRLCK, CARRIER_SHARDS + i++);
+    return taken == 1;
+}
+
+struct sharing *file_sharing_open(const char *path)
+{
+    struct file_sharing *s = calloc(1, sizeof *s);
+    if (s == NULL)
+        return NULL;
+    s->base.count = count;
+    s->base.take = take;
+    s->base.give_back = give_back;
+    s->base.close = close_it;
+    s->file = -1;
+    if (be_there(s, path))
+        return &s->base;
+    close_it(&s->base);
+    return NULL;
+}
+
+/* ---- */
+
+struct sharing *sharing_open(const char *where)
+{
+    if (strncmp(where, "sqlite:", 7) == 0)
+        return file_sharing_open(where + 7);
+#ifdef WITH_POSTGRESQL
+    if (strncmp(where, "postgresql:", 11) == 0)
+        return postgresql_sharing_open(where);
+#endif
+    log_fact(LEVEL_ERROR, "shards_unshared",
+             field_text("text", "receivers share shards over sqlite:FILE or postgresql://.."));
+    return NULL;
+}
+
+int sharing_count(struct sharing *sharing)
+{
+    return sharing->count(sharing);
+}
+
+int sharing_take(struct sharing *sharing, unsigned shard)
+{
+    int answer = sharing->take(sharing, shard);
+    sharing->has[shard] = answer == 1;
+    return answer;
+}
+
+int sharing_has(const struct sharing *sharing, unsigned shard)
+{
+    return sharing->has[shard];
+}
+
+void sharing_give_back(struct sharing *sharing, unsigned shard)
+{
+    sharing->has[shard] = 0;
+    sharing->give_back(sharing, shard);
+}
+
+void sharing_close(struct sharing *sharing)
+{
+    sharing->close(sharing);
+}

@@ -1,0 +1,48 @@
+/* Which receiver serves which shard, where receivers of a store share them (--shards auto).
+ *
+ * A lock on a shard says that a receiver serves it. It ends when the receiver gives it back, ends
+ * or is lost. Locks spare work: what is right rests on compare-and-set (store.h), so a receiver
+ * that lost its locks without knowing does no harm.
+ *
+ * Over PostgreSQL they are advisory locks of a connection of its own, which the server ends when
+ * nothing came for ten seconds. Over SQLite they are locks on bytes of the file STORE.shards, which
+ * the system ends with the process. It belongs to one thread. */
+#ifndef SHARING_H
+#define SHARING_H
+
+#include "carrier.h"
+
+struct sharing;
+
+/* Opens it for the store of this name. NULL after a fault. */
+struct sharing *sharing_open(const char *where);
+
+/* How many receivers share the store now, this one among them; -1 if the store doesn't answer.
+ * Called each second: that says that this one is there. Locks that were lost are taken again
+ * before, unless another receiver has them. */
+int sharing_count(struct sharing *sharing);
+
+/* Takes a shard, unless another receiver has it: 1, 0, or -1 if the store doesn't answer. */
+int sharing_take(struct sharing *sharing, unsigned shard);
+
+/* Whether this receiver has a shard's lock, as far as it knows. */
+int sharing_has(const struct sharing *sharing, unsigned shard);
+
+void sharing_give_back(struct sharing *sharing, unsigned shard);
+
+void sharing_close(struct sharing *sharing);
+
+/* ---- For those who write one: its first member is a struct sharing. */
+
+struct sharing {
+    int (*count)(struct sharing *);
+    int (*take)(struct sharing *, unsigned);
+    void (*give_back)(struct sharing *, unsigned);
+    void (*close)(struct sharing *);
+    unsigned char has[CARRIER_SHARDS];
+};
+
+struct sharing *file_sharing_open(const char *path);
+struct sharing *postgresql_sharing_open(const char *where);
+
+#endif

@@ -1,0 +1,479 @@
+"""What is done to the machines of machines.py. CASES is the table: what is done, within which time
+all has to be delivered after it, and how long nothing may take effect. A case's function does it,
+and returns when it is over; then the network is whole again.
+"""
+import dataclasses
+import random
+import signal
+import time
+import typing
+
+import machines
+from machines import DATABASE, NODES, RECEIVERS, SENDERS
+
+BEFORE = 3              # seconds before anything is done
+DAY = 86400
+THIN = 1000             # kbit a second
+STATES = ("SELECT count(*) FROM pg_stat_activity WHERE client_addr = '{}'"
+          " AND state LIKE '%transaction%'")
+
+
+def others(node):
+    return [it for it in NODES if it != node]
+
+
+def nothing(world):
+    time.sleep(6)
+
+
+# ---- the network
+
+def leader_cut_from_peers(world):
+    leader = world.leader()
+    world.network.cut([leader], others(leader))
+    time.sleep(7)
+
+
+def leader_isolated(world):
+    world.network.isolate(world.leader())
+    time.sleep(7)
+
+
+def leader_one_way_out(world):
+    leader = world.leader()
+    world.network.set_way([leader], others(leader), 1)
+    time.sleep(7)
+
+
+def leader_one_way_in(world):
+    leader = world.leader()
+    world.network.set_way(others(leader), [leader], 1)
+    time.sleep(7)
+
+
+def nodes_apart(world):
+    for node in NODES:
+        world.network.cut([node], others(node))
+    time.sleep(7)
+
+
+def half_ring(world):
+    world.network.cut(["n0"], ["n2"])
+    time.sleep(7)
+
+
+def loss(world):
+    world.network.set_way("*", "*", 0.2, 20, 80)
+    time.sleep(8)
+
+
+def confirmations_lost(world):
+    world.network.set_way(NODES, SENDERS, 0.5)
+    time.sleep(7)
+
+
+def far_senders(world):
+    world.network.set_way(SENDERS, NODES, 0, 1300)
+    world.network.set_way(NODES, SENDERS, 0, 1300)
+    time.sleep(14)
+
+
+def thin_senders(world):
+    for sender in SENDERS:
+        world.network.set_line(sender, THIN)
+    world.put_texts(dict.fromkeys(world.names, 120))
+    time.sleep(30)
+
+
+# ---- nodes
+
+def all_nodes_killed(world):
+    for node in NODES:
+        world.stop(node)
+    time.sleep(1.5)
+    for node in NODES:
+        world.start_node(node)
+    time.sleep(2)
+
+
+def require_all_rise(world, seconds, shards=None):
+    """In each of these shards something takes effect meanwhile."""
+    before = world.effects_of_shards()
+    time.sleep(seconds)
+    after = world.effects_of_shards()
+    if not all(after[shard] > before[shard] for shard in shards or range(len(after))):
+        world.notes.append(f"a shard of {shards or 'all'} stood: {before}, {after}")
+
+
+def node_gone(world):
+    world.stop("r1")
+    world.stop("n2")
+    require_all_rise(world, 24)
+    world.start_node("n2")
+    time.sleep(3)
+
+
+def nodes_in_turn(world):
+    world.stop("r1")
+    for node in NODES:
+        world.stop(node)
+        time.sleep(2.5)
+        world.start_node(node)
+        time.sleep(2)
+
+
+def leader_stopped(world):
+    leader = world.leader()
+    world.signal([leader], signal.SIGSTOP)
+    time.sleep(6)
+    world.signal([leader], signal.SIGCONT)
+
+
+def all_nodes_stopped(world):
+    world.signal(NODES, signal.SIGSTOP)
+    time.sleep(6)
+    world.signal(NODES, signal.SIGCONT)
+
+
+def one_replica(world):
+    """The shards of that node wait; the other shards don't."""
+    leader = world.leader()
+    free = [shard for shard in range(world.options.shards) if world.leader(shard) != leader]
+    world.stop(leader)
+    time.sleep(1)
+    for sender in SENDERS:
+        world.restart(sender)
+    require_all_rise(world, 24, free)
+    world.start_node(leader)
+    time.sleep(2)
+
+
+# ---- senders and receivers
+
+def ends_stopped(world):
+    world.signal(["s0", "r0"], signal.SIGSTOP)
+    time.sleep(3)
+    world.signal(["r1"], signal.SIGSTOP)
+    world.signal(["r0"], signal.SIGCONT)
+    time.sleep(3)
+    world.signal(["s0", "r1"], signal.SIGCONT)
+
+
+def receiver_lost(world):
+    """r0 alone, 10 ms from the database, is lost in a transaction; then r1 is started."""
+    world.stop("r1")
+    receiver, near = machines.ADDRESS["r0"], (["r0"], [DATABASE])
+    is_within = False
+    while not is_within:
+        world.network.heal()
+        world.network.set_way(*near, 0, 10)
+        world.network.set_way(*reversed(near), 0, 10)
+        time.sleep(random.uniform(0.3, 0.6))
+        world.network.isolate("r0")
+        time.sleep(0.25)
+        is_within = world.ask(STATES.format(receiver)) != [["0"]]
+    world.stop("r0")
+    world.start_receiver("r1")
+    time.sleep(25)
+
+
+def shared_killed(world):
+    world.stop("r0")
+    time.sleep(5)
+    require_all_rise(world, 10)
+    world.start_receiver("r0")
+    time.sleep(3)
+    require_all_rise(world, 6)
+
+
+def shared_lost(world):
+    """Its locks end with its connection, which the database gives up."""
+    world.network.isolate("r0")
+    time.sleep(20)
+    require_all_rise(world, 8)
+
+
+def shared_stopped(world):
+    """Its locks end since it says nothing. When it wakes, it serves its part again."""
+    world.signal(["r0"], signal.SIGSTOP)
+    time.sleep(20)
+    require_all_rise(world, 8)
+    world.signal(["r0"], signal.SIGCONT)
+
+
+def receivers_clock(world):
+    time.sleep(7)
+    world.clocks = {}
+    world.restart("r0")
+
+
+# ---- the database
+
+def database_killed(world):
+    for _ in range(3):
+        world.end_database()
+        time.sleep(0.7)
+        world.start_database()
+        time.sleep(1.5)
+
+
+def database_cut_off(world):
+    world.network.isolate(DATABASE)
+    time.sleep(7)
+
+
+# ---- disks
+
+def node_disk_full(world):
+    world.disks["n0"].fill()
+    time.sleep(7)
+    world.disks["n0"].make_room()
+    world.restart("n0")
+    time.sleep(2)
+
+
+def all_disks_full(world):
+    for node in NODES:
+        world.disks[node].fill()
+    time.sleep(7)
+    for node in NODES:
+        world.disks[node].make_room()
+        world.stop(node)
+    for node in NODES:
+        world.start_node(node)
+    time.sleep(2)
+
+
+def outbox_disk_full(world):
+    """The sender is cut off, so that texts and frames pile up."""
+    world.network.isolate("s0")
+    world.disks["s0"].fill()
+    time.sleep(7)
+    if not world.counts["insertions that failed"]:
+        world.notes.append("the disk wasn't full")
+    world.disks["s0"].make_room()
+
+
+def lose_power(world, nodes):
+    """All at once. What their disks had at that moment is what they have when they start again."""
+    world.signal(nodes, signal.SIGSTOP)
+    for node in nodes:
+        world.disks[node].note()
+    for node in nodes:
+        world.stop(node)
+        world.disks[node].lose()
+    time.sleep(0.5)
+    for node in nodes:
+        world.start_node(node)
+    time.sleep(3)
+
+
+def power_of_two(world):
+    for node in NODES:
+        world.disks[node].sync()
+    time.sleep(6)
+    lose_power(world, NODES[:2])
+
+
+def power_of_all(world):
+    lose_power(world, NODES)
+    time.sleep(6)
+    for end in SENDERS + RECEIVERS:
+        world.restart(end)
+
+
+def power_of_all_unsynced(world):
+    for node in NODES:
+        world.disks[node].sync()
+    time.sleep(6)
+    power_of_all(world)
+
+
+def power_of_sender(world):
+    """An application's texts are on the disk when its transaction has ended."""
+    for _ in range(3):
+        time.sleep(1.5)
+        with world.feeding:
+            world.signal(["s0"], signal.SIGSTOP)
+            world.disks["s0"].note()
+            world.network.isolate("s0")
+            world.stop("s0")
+            world.disks["s0"].lose()
+            world.network.heal()
+            world.start_sender("s0")
+
+
+# ---- drawn faults
+
+def drawn_faults(world):
+    dice, until = random.Random(world.seed), time.monotonic() + 22
+    while time.monotonic() < until:
+        dice.choice(DRAWN)(world, dice)
+        world.network.heal()
+        time.sleep(dice.uniform(0.2, 1.2))
+
+
+def cut_one(world, dice):
+    world.network.isolate(dice.choice(NODES))
+    time.sleep(dice.uniform(1, 4))
+
+
+def cut_one_way(world, dice):
+    source, target = dice.sample(machines.MACHINES, 2)
+    world.network.set_way([source], [target], 1)
+    time.sleep(dice.uniform(1, 4))
+
+
+def lose_some(world, dice):
+    world.network.set_way("*", "*", dice.uniform(0, 0.15), dice.uniform(2, 200), dice.uniform(0, 100))
+    time.sleep(dice.uniform(1, 3))
+
+
+def kill_node(world, dice):
+    node = dice.choice(NODES)
+    world.stop(node)
+    time.sleep(dice.uniform(0.3, 3))
+    world.start_node(node)
+
+
+def kill_end(world, dice):
+    world.restart(dice.choice(SENDERS + RECEIVERS))
+
+
+def stop_one(world, dice):
+    name = dice.choice(NODES + SENDERS + RECEIVERS)
+    world.signal([name], signal.SIGSTOP)
+    time.sleep(dice.uniform(1, 4))
+    world.signal([name], signal.SIGCONT)
+
+
+def kill_database(world, dice):
+    world.end_database()
+    time.sleep(dice.uniform(0.2, 1))
+    world.start_database()
+
+
+DRAWN = (cut_one, cut_one_way, lose_some, kill_node, kill_end, stop_one, kill_database)
+
+
+# ---- the table
+
+@dataclasses.dataclass
+class Case:
+    """What is done, and how the machines are made. All texts have to take effect within so many
+    seconds after it, and no longer gap may be between two effects. If the carrier may lose what it
+    confirmed, as JetStream 2.9.10 does in some of these cases, a session may stand whose demanded
+    frame it has lost, or whose shard has no leader any more."""
+    run: typing.Callable
+    done: str
+    seconds: float = 60
+    gap: float = 20
+    may_lose: bool = False
+    seed: int = 0
+    made: dict = dataclasses.field(default_factory=dict)
+
+    def name(self):
+        return self.run.__name__ + (f"_{self.seed}" if self.seed else "")
+
+
+IMAGES = dict.fromkeys(NODES, "image")
+SYNCED = dict.fromkeys(NODES, "image,sync")
+SMALL = dict.fromkeys(NODES, "24m")
+
+CASES = (
+    Case(nothing, "nothing", 20, 5),
+    Case(leader_cut_from_peers, "a leader is cut from its peers for 7 s", may_lose=True),
+    Case(leader_isolated, "a leader is cut off for 7 s", may_lose=True),
+    Case(leader_one_way_out, "what a leader sends to its peers is lost for 7 s", may_lose=True),
+    Case(leader_one_way_in, "what its peers send to a leader is lost for 7 s", may_lose=True),
+    Case(nodes_apart, "all nodes are cut from each other for 7 s", gap=25, may_lose=True),
+    Case(half_ring, "two of three nodes are cut from each other for 7 s", may_lose=True),
+    Case(loss, "a fifth of all is lost and the rest late by 20 to 100 ms, for 8 s"),
+    Case(confirmations_lost, "half of what nodes send to senders is lost for 7 s"),
+    Case(far_senders, "senders are 1.3 s from the nodes for 14 s", gap=25, made={"seconds": 20}),
+    Case(thin_senders, "senders have 1 Mbit/s for 30 s, with a backlog of 1,440 texts of 1,000 bytes",
+         made={"rate": 100, "size": 1000}),
+    Case(all_nodes_killed, "all nodes are killed and started again", may_lose=True),
+    Case(node_gone, "one receiver alone; a node is away for 24 s", gap=10, made={"seconds": 30}),
+    Case(nodes_in_turn, "one receiver alone; each node is killed in turn", gap=20),
+    Case(leader_stopped, "a leader is stopped for 6 s", may_lose=True),
+    Case(all_nodes_stopped, "all nodes are stopped for 6 s", may_lose=True),
+    Case(one_replica, "one replica; a node is away for 25 s, senders are started again", gap=40,
+         made={"replicas": 1, "rate": 240, "seconds": 20}),
+    Case(ends_stopped, "a sender, then one receiver and then the other are stopped for 3 s"),
+    Case(receiver_lost, "a receiver's machine is lost in a transaction; another one is started",
+         gap=20, made={"rate": 1200, "seconds": 24}),
+    Case(shared_killed, "receivers share shards; one is killed, and is away for 15 s",
+         made={"is_shared": True, "seconds": 28}),
+    Case(shared_lost, "receivers share shards; the machine of one is cut off for 28 s",
+         made={"is_shared": True, "seconds": 34}),
+    Case(shared_stopped, "receivers share shards; one is stopped for 28 s",
+         made={"is_shared": True, "seconds": 34}),
+    Case(receivers_clock, "one of two receivers has a clock that is two days ahead",
+         made={"clocks": {"r0": 2 * DAY}}),
+    Case(database_killed, "the database is killed three times"),
+    Case(database_cut_off, "the database is cut off for 7 s", gap=25),
+    Case(node_disk_full, "a node's disk is full for 7 s", may_lose=True,
+         made={"disks": {"n0": "24m"}, "rate": 600, "size": 1000}),
+    Case(all_disks_full, "all nodes' disks are full for 7 s", gap=25, may_lose=True,
+         made={"disks": SMALL, "rate": 600, "size": 1000}),
+    Case(outbox_disk_full, "an outbox's disk is full for 7 s, and its sender is cut off",
+         made={"disks": {"s0": "8m"}, "size": 1000}),
+    Case(power_of_two, "two nodes lose power 6 s after their disks were synced", gap=25,
+         may_lose=True, made={"disks": IMAGES, "rate": 600}),
+    Case(power_of_all, "all nodes lose power, over file systems that are mounted sync", gap=60,
+         may_lose=True, made={"disks": SYNCED, "rate": 600}),
+    Case(power_of_all_unsynced, "all nodes lose power 6 s after their disks were synced", gap=60,
+         may_lose=True, made={"disks": IMAGES, "rate": 600}),
+    Case(power_of_sender, "a sender's machine loses power three times",
+         made={"disks": {"s0": "image"}, "rate": 600}),
+    *(Case(drawn_faults, f"drawn faults for 22 s, seed {seed}", gap=30, may_lose=True, seed=seed,
+           made={"seconds": 26}) for seed in (101, 102, 103)),
+)
+
+
+def judge_standing(world, case, faults):
+    """How many sessions stand by the carrier's loss; the others are faults."""
+    found = list(world.standing())
+    faults += [line for is_lost, line in found if not (is_lost and case.may_lose)]
+    return sum(is_lost for is_lost, _ in found)
+
+
+def judge(world, case, since):
+    """What went wrong, and the line of what was seen."""
+    took, gap = world.await_whole(case.seconds), world.longest_gap(since)
+    found, faults = world.effects(), list(world.notes)
+    doubled = sum(len(texts) - len(set(texts)) for texts in found.values())
+    lost = sum(len(set(texts) - set(found[name])) for name, texts in world.sent.items())
+    mixed = [name for name, texts in found.items() if texts != world.sent[name][:len(texts)]]
+    sent, delivered = (sum(map(len, it.values())) for it in (world.sent, found))
+    if doubled or mixed:
+        faults.append(f"doubled, changed or out of order: {mixed}")
+    if gap > case.gap:
+        faults.append(f"nothing took effect for {gap:.1f} s")
+    whole = f"whole after {took or 0:.1f} s"
+    if took is None:
+        whole = f"{judge_standing(world, case, faults)} sessions stand by the carrier's loss"
+    faults += [f"{what}: {count}" for what, count in world.counts.items()] if faults else []
+    return faults, (f"{sent} texts sent, {delivered} delivered, {lost} lost, {doubled} doubled;"
+                    f" longest gap {gap:.1f} s; {whole}")
+
+
+def run(programs, folder, template, case):
+    """One case: whether it went right, its line, and what went wrong."""
+    network = machines.Network(f"{programs}/switch")
+    world = machines.World(folder, programs, network, machines.Options(**case.made))
+    world.seed = case.seed
+    try:
+        world.start(template)
+        time.sleep(BEFORE)
+        since = time.monotonic()
+        case.run(world)
+        network.heal()
+        world.await_fed()
+        world.close_all()
+        faults, seen = judge(world, case, since)
+    finally:
+        world.end()
+        network.stop()
+    return not faults, f"machines {case.name()}: {case.done}: {seen}", faults

@@ -1,0 +1,559 @@
+"""Eight machines on one: three nodes of JetStream, two senders, two receivers and PostgreSQL. Each is
+a network namespace with a wire to one switch in user space (switch.c), which loses, delays and
+reorders as it is told. A disk may be a file system on an image: a copy of the image at a moment is
+what a loss of power leaves. machine_cases.py has the table of what is done to them.
+
+An application puts texts into the outboxes all the while. At the end each session is closed.
+"""
+import collections
+import contextlib
+import dataclasses
+import glob
+import itertools
+import json
+import os
+import random
+import shutil
+import signal
+import sqlite3
+import subprocess
+import threading
+import time
+
+import errors
+
+NODES = ("n0", "n1", "n2")
+SENDERS = ("s0", "s1")
+RECEIVERS = ("r0", "r1")
+DATABASE = "pg"
+MACHINES = (*NODES, *SENDERS, *RECEIVERS, DATABASE)
+ADDRESS = {name: f"10.77.0.{place + 1}" for place, name in enumerate(MACHINES)}
+HARDWARE = {name: f"02:00:00:00:00:{place + 1:02x}" for place, name in enumerate(MACHINES)}
+CLIENT, CLUSTER = 4222, 6222        # ports of nodes
+ELECTION = 4                        # seconds until the nodes have a leader
+PATIENCE = 30                       # seconds for a server to answer
+DUMPED = 120                        # seconds for one look at all shards
+STEP = 0.1                          # seconds between insertions
+LOOK = 0.3                          # seconds between looks at the effects
+IMAGE = 400                         # megabytes
+AS_POSTGRES = ("setpriv", "--reuid", "postgres", "--regid", "postgres", "--clear-groups")
+TURNS = itertools.count()
+MAKING = threading.Lock()           # of the database that is copied
+
+
+def missing():
+    """What this needs beside servers, and isn't here."""
+    needs = {"root": os.geteuid() == 0, "/dev/net/tun": os.path.exists("/dev/net/tun"),
+             "a loop device": os.path.exists("/dev/loop-control")}
+    commands = {"ip": "iproute2", "setpriv": "util-linux", "mkfs.ext4": "e2fsprogs",
+                "mount": "mount", "nats-server": "nats-server",
+                "psql": "postgresql-client"}
+    needs |= {package: bool(shutil.which(command)) for command, package in commands.items()}
+    needs["postgresql"] = bool(glob.glob("/usr/lib/postgresql/*/bin/postgres"))
+    return [name for name, is_there in needs.items() if not is_there]
+
+
+def run(*words, **how):
+    """What a command prints, which has to go right."""
+    return subprocess.run(words, check=True, stdout=subprocess.PIPE, stderr=subprocess.STDOUT,
+                          text=True, **how).stdout
+
+
+# ---- the network
+
+class Network:
+    """A namespace for each machine, and the switch between them."""
+
+    def __init__(self, switch):
+        tag = f"k{os.getpid()}n{next(TURNS)}"
+        self.spaces = {name: f"{tag}-{name}" for name in MACHINES}
+        wires = [f"{tag}t{place}" for place in range(len(MACHINES))]
+        self.lock = threading.Lock()
+        self.switch = subprocess.Popen([switch, *wires], stdin=subprocess.PIPE,
+                                       stdout=subprocess.PIPE, text=True)
+        if self.switch.stdout.readline() != "ready\n":
+            raise RuntimeError("the switch doesn't start")
+        for name, wire in zip(MACHINES, wires):
+            self.connect(name, wire)
+
+    def connect(self, name, wire):
+        space = self.spaces[name]
+        run("ip", "netns", "add", space)
+        run("ip", "link", "set", wire, "netns", space)
+        inside = ("ip", "-n", space)
+        run(*inside, "link", "set", wire, "name", "eth0")
+        run(*inside, "link", "set", "eth0", "address", HARDWARE[name])
+        run(*inside, "addr", "add", f"{ADDRESS[name]}/24", "dev", "eth0")
+        for device in ("eth0", "lo"):
+            run(*inside, "link", "set", device, "up")
+        for other in MACHINES:
+            if other != name:
+                run(*inside, "neigh", "add", ADDRESS[other], "lladdr", HARDWARE[other], "dev", "eth0",
+                    "nud", "permanent")
+
+    def command(self, name, *words):
+        """The words that run a command on a machine."""
+        return ["ip", "netns", "exec", self.spaces[name], *words]
+
+    def tell(self, line):
+        with self.lock:
+            self.switch.stdin.write(line + "\n")
+            self.switch.stdin.flush()
+            if self.switch.stdout.readline() != "done\n":
+                raise ValueError(f"the switch doesn't know {line}")
+
+    @staticmethod
+    def places(names):
+        return ["*"] if names == "*" else [MACHINES.index(name) for name in names]
+
+    def set_way(self, sources, targets, loss=0, delay=0, jitter=0):
+        """What these send to those: which part is lost, and how many milliseconds it takes."""
+        for source in self.places(sources):
+            for target in self.places(targets):
+                self.tell(f"L {source} {target} {loss} {delay} {jitter}")
+
+    def cut(self, some, others):
+        """Nothing passes between these and those."""
+        self.set_way(some, others, 1)
+        self.set_way(others, some, 1)
+
+    def isolate(self, name):
+        self.cut([name], "*")
+
+    def set_line(self, name, kbit):
+        """All that a machine sends goes through a line of so many kbit a second."""
+        self.tell(f"R {MACHINES.index(name)} {kbit}")
+
+    def heal(self):
+        self.tell("C")
+
+    def stop(self):
+        self.switch.stdin.close()
+        self.switch.wait(PATIENCE)
+        for space in self.spaces.values():
+            subprocess.run(["ip", "netns", "del", space], check=False, stderr=subprocess.DEVNULL)
+
+
+# ---- disks
+
+class Disk:
+    """A machine's files. Its kind is "", a folder; "image" or "image,sync", a file system on an
+    image, whose writes are all synced or not; or "24m", one in memory of this size."""
+
+    def __init__(self, folder, name, kind):
+        self.path, self.image, self.kind = f"{folder}/{name}", f"{folder}/{name}.img", kind
+        os.makedirs(self.path)
+        if kind.startswith("image"):
+            run("truncate", "-s", f"{IMAGE}M", self.image)
+            run("mkfs.ext4", "-q", self.image)
+        self.mount()
+
+    def mount(self):
+        if self.kind.startswith("image"):
+            options = "loop,sync,dirsync" if self.kind.endswith("sync") else "loop"
+            run("mount", "-o", options, self.image, self.path)
+        elif self.kind:
+            run("mount", "-t", "tmpfs", "-o", f"size={self.kind}", "none", self.path)
+
+    def sync(self):
+        run("sync", "-f", self.path)
+
+    def fill(self):
+        """Until it is full."""
+        with contextlib.suppress(OSError), open(f"{self.path}/fill", "wb") as file:
+            while True:
+                file.write(bytes(4096))
+                file.flush()
+
+    def make_room(self):
+        run("mount", "-o", "remount,size=200m", self.path)
+        os.unlink(f"{self.path}/fill")
+
+    def note(self):
+        """Keeps what a loss of power would leave now."""
+        run("cp", "--sparse=always", self.image, self.image + ".left")
+
+    def lose(self):
+        """Makes the disk what was kept. Nothing uses it any more."""
+        run("umount", "-l", self.path)
+        os.replace(self.image + ".left", self.image)
+        self.mount()
+
+    def stop(self):
+        if self.kind:
+            subprocess.run(["umount", "-l", self.path], check=False, stderr=subprocess.DEVNULL)
+
+
+# ---- processes and what they serve
+
+@dataclasses.dataclass
+class Options:
+    """How the machines are made, and what the application does."""
+    seconds: float = 14         # for which texts are put in,
+    rate: int = 300             # so many a second,
+    size: int = 200             # of so many bytes
+    sessions: int = 12
+    shards: int = 4
+    batch: int = 1              # texts of a frame
+    replicas: int = 3
+    is_shared: bool = False     # receivers share shards; else each serves all
+    disks: dict = dataclasses.field(default_factory=dict)   # the kind of a machine's disk
+    clocks: dict = dataclasses.field(default_factory=dict)  # seconds by which it is ahead at first
+
+
+@dataclasses.dataclass
+class Process:
+    running: subprocess.Popen
+    words: list
+    is_tended: bool     # it is started again where it ends
+
+
+class World:
+    """The machines, their processes and what was sent."""
+
+    def __init__(self, folder, programs, network, options):
+        self.folder, self.programs, self.network, self.options = folder, programs, network, options
+        self.processes, self.disks, self.clocks = {}, {}, dict(options.clocks)
+        self.counts, self.lock, self.ending = collections.Counter(), threading.RLock(), False
+        self.feeding = threading.Lock()
+        self.sent, self.samples, self.notes = collections.defaultdict(list), [], []
+        self.where = ",".join(f"nats://{ADDRESS[node]}:{CLIENT}" for node in NODES)
+        self.store = f"postgresql://postgres@{ADDRESS[DATABASE]}/postgres"
+        self.names = [f"s{place:03}" for place in range(options.sessions)]
+        self.seed = 0
+        self.feeder = threading.Thread(target=self.feed)
+        self.threads = [self.feeder, *(threading.Thread(target=it)
+                                       for it in (self.tend, self.watch))]
+
+    def shard_of(self, name):
+        return int(name[1:]) % self.options.shards
+
+    def sender_of(self, name):
+        return SENDERS[int(name[1:]) % len(SENDERS)]
+
+    # ---- processes
+
+    def spawn(self, name, *words, is_tended=False):
+        """Starts the process of a machine."""
+        with self.lock:
+            self.counts["processes"] += 1
+            path = f"{self.folder}/{name}.{self.counts['processes']:03}.log"
+            clock = dict(os.environ, CLOCK_OFFSET=str(self.clocks.get(name, 0)))
+            with open(path, "wb") as log:
+                running = subprocess.Popen(self.network.command(name, *words), stdout=log, stderr=log,
+                                           env=clock, cwd="/")
+            self.processes[name] = Process(running, list(words), is_tended)
+
+    def tend(self):
+        """Starts senders and receivers again that have ended, as systemd's units do."""
+        while not self.ending:
+            with self.lock:
+                for name, it in list(self.processes.items()):
+                    if it.is_tended and it.running.poll() is not None:
+                        self.counts[f"{name[0]} ended, {it.running.returncode}"] += 1
+                        self.spawn(name, *it.words, is_tended=True)
+            time.sleep(0.5)
+
+    def signal(self, names, number):
+        for name in names:
+            if self.processes[name].running.poll() is None:
+                self.processes[name].running.send_signal(number)
+
+    def stop(self, name):
+        """The machine's process ends at once and isn't started again."""
+        with self.lock:
+            self.processes[name].is_tended = False
+            self.signal([name], signal.SIGKILL)
+            self.processes[name].running.wait()
+
+    def restart(self, name):
+        """The process is killed, and started again as it was."""
+        with self.lock:
+            self.stop(name)
+            self.spawn(name, *self.processes[name].words, is_tended=name in SENDERS + RECEIVERS)
+
+    # ---- servers
+
+    def start_node(self, name):
+        routes = ", ".join(f'"nats://{ADDRESS[node]}:{CLUSTER}"' for node in NODES)
+        path = f"{self.folder}/{name}.conf"
+        with open(path, "w", encoding="utf-8") as file:
+            file.write(f'server_name: {name}\nlisten: "{ADDRESS[name]}:{CLIENT}"\n'
+                       f'jetstream {{ store_dir: "{self.disks[name].path}/store", max_file: 4GB,'
+                       f' max_mem: 256MB }}\ncluster {{ name: krbrelay,'
+                       f' listen: "{ADDRESS[name]}:{CLUSTER}", routes: [{routes}] }}\n')
+        self.spawn(name, "nats-server", "-c", path, "-l", f"{self.folder}/{name}.nats.log")
+
+    def make_database(self, template):
+        """A copy of a cluster that initdb made, which is made first."""
+        programs = max(glob.glob("/usr/lib/postgresql/*/bin"))
+        with MAKING:
+            if not os.path.exists(template):
+                os.makedirs(template, 0o700)
+                shutil.chown(template, "postgres", "postgres")
+                run(*AS_POSTGRES, f"{programs}/initdb", "-D", template, "-U", "postgres", "-A",
+                    "trust", "--no-sync", cwd="/")
+                with open(f"{template}/pg_hba.conf", "a", encoding="ascii") as file:
+                    file.write("host all all 10.77.0.0/24 trust\n")
+        run("cp", "-a", template, f"{self.folder}/data")
+        os.makedirs(f"{self.folder}/socket")
+        os.chmod(f"{self.folder}/socket", 0o777)
+        self.database = [*AS_POSTGRES, f"{programs}/postgres", "-D", f"{self.folder}/data",
+                         "-c", f"listen_addresses={ADDRESS[DATABASE]}",
+                         "-c", f"unix_socket_directories={self.folder}/socket",
+                         "-c", "shared_buffers=64MB", "-c", "max_wal_size=1GB"]
+
+    def start_database(self):
+        self.spawn(DATABASE, *self.database)
+        until = time.monotonic() + PATIENCE
+        while self.count() is None:
+            if time.monotonic() > until:
+                raise RuntimeError("PostgreSQL doesn't start")
+            time.sleep(0.1)
+
+    def end_database(self):
+        """At once, as by a crash."""
+        self.signal([DATABASE], signal.SIGQUIT)
+        self.processes[DATABASE].running.wait()
+
+    def ask(self, sql):
+        """The rows of an answer, by way of a socket that no network cuts."""
+        done = subprocess.run(["psql", "-qAtF", "\t", "-h", f"{self.folder}/socket", "-U", "postgres",
+                               "-c", sql, "postgres"], check=True, stdout=subprocess.PIPE,
+                              stderr=subprocess.DEVNULL, text=True, timeout=PATIENCE)
+        return [line.split("\t") for line in done.stdout.splitlines()]
+
+    def jetstream(self, subject):
+        """What the first node that answers says to a request."""
+        here = os.path.dirname(os.path.abspath(__file__))
+        code = ("import sys, json; sys.path.insert(0, sys.argv[1]); import jetstream;"
+                " print(json.dumps(jetstream.request(int(sys.argv[2]), sys.argv[3],"
+                " host=sys.argv[4])))")
+        for node in NODES:
+            with contextlib.suppress(subprocess.SubprocessError, json.JSONDecodeError):
+                answer = json.loads(run(*self.network.command(
+                    node, "python3", "-c", code, here, str(CLIENT), subject, ADDRESS[node]),
+                    timeout=PATIENCE))
+                if "error" not in answer:
+                    return answer
+        return {}
+
+    def leader_now(self, shard):
+        """The node that leads a shard's stream, or None."""
+        return self.jetstream(f"STREAM.INFO.KRB_{shard}").get("cluster", {}).get("leader")
+
+    def leader(self, shard=0):
+        """The same, which is waited for."""
+        until = time.monotonic() + PATIENCE
+        while time.monotonic() < until:
+            found = self.leader_now(shard)
+            if found:
+                return found
+            time.sleep(0.5)
+        raise RuntimeError(f"shard {shard} has no leader")
+
+    # ---- senders and receivers
+
+    def outbox(self, sender):
+        return f"{self.disks[sender].path}/outbox.db"
+
+    def start_sender(self, name):
+        self.spawn(name, f"{self.programs}/sender", "--sessions", f"{self.folder}/sessions-{name}",
+                   "--outbox", self.outbox(name), "--carrier", self.where, "--replicas",
+                   str(self.options.replicas), "--batch", str(self.options.batch), is_tended=True)
+
+    def start_receiver(self, name):
+        shards = "auto" if self.options.is_shared else f"0-{self.options.shards - 1}"
+        self.spawn(name, f"{self.programs}/receiver", "--sessions", f"{self.folder}/sessions",
+                   "--store", self.store, "--carrier", self.where, "--shards", shards,
+                   "--replicas", str(self.options.replicas), is_tended=True)
+
+    def write_sessions(self):
+        dice = random.Random(7)
+        lines = {name: f"{name} {self.shard_of(name)} 18 priv {dice.randbytes(32).hex()} 1 10.0.0.1"
+                       " 10.0.0.2\n" for name in self.names}
+        errors.Ends.write(f"{self.folder}/sessions", lines.values())
+        for sender in SENDERS:
+            errors.Ends.write(f"{self.folder}/sessions-{sender}", [
+                line for name, line in lines.items() if self.sender_of(name) == sender])
+
+    def start(self, template):
+        self.disks = {name: Disk(self.folder, name, self.options.disks.get(name, ""))
+                      for name in NODES + SENDERS}
+        self.make_database(template)
+        for node in NODES:
+            self.start_node(node)
+        self.start_database()
+        self.write_sessions()
+        time.sleep(ELECTION)
+        for sender in SENDERS:
+            self.start_sender(sender)
+        for receiver in RECEIVERS:
+            self.start_receiver(receiver)
+        self.await_outboxes()
+        for thread in self.threads:
+            thread.start()
+
+    def await_outboxes(self):
+        until = time.monotonic() + PATIENCE
+        while not all(map(self.has_outbox, SENDERS)):
+            if time.monotonic() > until:
+                raise RuntimeError("a sender doesn't start")
+            time.sleep(0.1)
+
+    def has_outbox(self, sender):
+        path = self.outbox(sender)
+        if not os.path.exists(path):
+            return False
+        file = sqlite3.connect(path, timeout=PATIENCE)
+        try:
+            return file.execute("SELECT turn FROM owner").fetchone()[0] > 0
+        except sqlite3.Error:
+            return False
+        finally:
+            file.close()
+
+    # ---- the application
+
+    def put(self, sender, rows):
+        """Puts rows into an outbox. Whether they are there for good."""
+        try:
+            with contextlib.closing(sqlite3.connect(self.outbox(sender), timeout=PATIENCE)) as file:
+                with file:
+                    file.executemany("INSERT INTO text (session, body) VALUES (?, ?)", rows)
+            return True
+        except sqlite3.Error:
+            self.counts["insertions that failed"] += 1
+            return False
+
+    def put_texts(self, counts):
+        """Puts so many texts of each session into the outboxes."""
+        with self.feeding:
+            for sender in SENDERS:
+                texts = {name: [f"{name} {len(self.sent[name]) + it}".ljust(self.options.size).encode()
+                                for it in range(count)]
+                         for name, count in counts.items() if self.sender_of(name) == sender}
+                rows = [(name, text) for name, mine in texts.items() for text in mine]
+                if self.put(sender, rows):
+                    for name, mine in texts.items():
+                        self.sent[name] += mine
+
+    def feed(self):
+        steps, began, had = int(self.options.seconds / STEP), time.monotonic(), 0
+        for step in range(steps):
+            wanted = int((step + 1) * STEP * self.options.rate)
+            counts = collections.Counter(self.names[it % len(self.names)]
+                                         for it in range(had, wanted))
+            had = wanted
+            self.put_texts(counts)
+            time.sleep(max(0, began + (step + 1) * STEP - time.monotonic()))
+
+    def await_fed(self):
+        self.feeder.join()
+
+    def close_all(self):
+        for sender in SENDERS:
+            mine = [(name, None) for name in self.names if self.sender_of(name) == sender]
+            until = time.monotonic() + PATIENCE
+            while not self.put(sender, mine) and time.monotonic() < until:
+                time.sleep(0.5)
+
+    # ---- what was delivered
+
+    def count(self):
+        """How many effects there are; None where nobody answers."""
+        try:
+            if self.ask("SELECT to_regclass('effect') IS NULL")[0][0] == "t":
+                return 0
+            return int(self.ask("SELECT count(*) FROM effect")[0][0])
+        except subprocess.SubprocessError:
+            return None
+
+    def watch(self):
+        while not self.ending:
+            count = self.count()
+            if count is not None:
+                self.samples.append((time.monotonic(), count))
+            time.sleep(LOOK)
+
+    def effects(self):
+        found = collections.defaultdict(list)
+        for name, text in self.ask("SELECT session, encode(text, 'hex') FROM effect ORDER BY id"):
+            found[name].append(bytes.fromhex(text))
+        return found
+
+    def effects_of_shards(self):
+        """How many effects each shard has."""
+        found = self.effects()
+        return [sum(len(texts) for name, texts in found.items() if self.shard_of(name) == shard)
+                for shard in range(self.options.shards)]
+
+    def is_whole(self):
+        wanted = sum(map(len, self.sent.values()))
+        if (self.count() or 0) < wanted:
+            return False
+        closed = self.ask("SELECT count(*) FROM session WHERE closed = 1")
+        return int(closed[0][0]) == len(self.names)
+
+    def await_whole(self, seconds):
+        """Waits until all has taken effect: how long that took, None where it didn't."""
+        began = time.monotonic()
+        while time.monotonic() - began < seconds:
+            if self.is_whole():
+                return time.monotonic() - began
+            time.sleep(LOOK)
+        return None
+
+    def places(self):
+        """Of each session the offsets at which each of its frames stands, by number."""
+        lines = run(*self.network.command("n0", f"{self.programs}/dump", "--carrier", self.where,
+                                          "--sessions", f"{self.folder}/sessions", "--shards",
+                                          str(self.options.shards), "--replicas", "1"),
+                    timeout=DUMPED).splitlines()
+        found = collections.defaultdict(lambda: collections.defaultdict(list))
+        for _, offset, name, number, *_ in map(str.split, lines):
+            if offset.isdigit():
+                found[name][number].append(int(offset))
+        return found
+
+    def carried(self, name):
+        """The number below which all frames of a session count as carried."""
+        with contextlib.closing(sqlite3.connect(self.outbox(self.sender_of(name)),
+                                                timeout=PATIENCE)) as file:
+            rows = file.execute("SELECT carried FROM session WHERE name = ?", (name,)).fetchall()
+        return rows[0][0] if rows else 1
+
+    def standing(self):
+        """The sessions that aren't closed: whether that is the carrier's, which has lost the frame that
+        is demanded, though it had confirmed it, or has no leader for the shard; and where that frame
+        and the one before stand."""
+        rows = {name: int(number) for name, number in
+                self.ask("SELECT name, next FROM session WHERE closed = 0")}
+        closed = {name for name, in self.ask("SELECT name FROM session WHERE closed = 1")}
+        places = self.places()
+        down = {shard for shard in range(self.options.shards) if not self.leader_now(shard)}
+        for name in sorted(set(self.names) - closed):
+            demanded, had = rows.get(name, 1), places[name]
+            is_down = self.shard_of(name) in down
+            is_lost = not had[str(demanded)] and (self.carried(name) > demanded or is_down)
+            yield is_lost, (f"{name} demands {demanded}, which stands at {had[str(demanded)][:5]}, the"
+                            f" one before at {had[str(demanded - 1)][:5]}"
+                            + ", and its shard has no leader" * is_down)
+
+    def longest_gap(self, since):
+        """The longest time without an effect, while effects came."""
+        rose = [moment for (_, before), (moment, now) in zip(self.samples, self.samples[1:])
+                if now > before]
+        return max((late - early for early, late in zip(rose, rose[1:]) if late > since), default=0)
+
+    def end(self):
+        self.ending = True
+        for thread in self.threads:
+            if thread.ident is not None:
+                thread.join()
+        for it in self.processes.values():
+            it.running.kill()
+            it.running.wait()
+        for disk in self.disks.values():
+            disk.stop()
+
