@@ -21,11 +21,11 @@ pub demand_unmet : {A : Type 0} (o : OpenerState) (d : KrbDemand) (now : ℕ) (f
     → AuthenticOrMemory (OpensWith o d now frame) result
 demand_unmet o d now frame made b checked r result (inl h) is unmet was e = absurd (let x : Ok b ≡ Err Memory = sym is ∙ h in cc)
 demand_unmet o d now frame made b checked r result (inr h) is unmet was e =
-    goes_on o d now frame made b result h is (body_not_passed (demand_checks d now b) (GivesBody b) checked r result (inr unmet) was e)
+    goes_on o d now frame made b result h is (inr (body_not_passed (demand_checks d now b) (GivesBody b) checked r result unmet was e))
 
 pub demand_met : {A : Type 0} (o : OpenerState) (d : KrbDemand) (now : ℕ) (frame : List ℕ) (made : Authenticity) (b : Body) (checked : Result A Refusal) (x : A)
     → AuthenticOrMemory (Authenticates o frame) made → made ≡ Ok b → first_unmet (demand_checks d now b) ≡ refusal_of checked → checked ≡ Ok x
     → AuthenticOrMemory (OpensWith o d now frame) (Ok b)
 demand_met o d now frame made b checked x (inl h) is met was = absurd (let y : Ok b ≡ Err Memory = sym is ∙ h in cc)
 demand_met o d now frame made b checked x (inr h) is met was =
-    goes_on o d now frame made b (Ok b) h is (all_passed (demand_checks d now b) (GivesBody b) checked x (Ok b) (inr met) was (inr refl))
+    goes_on o d now frame made b (Ok b) h is (all_passed (demand_checks d now b) (GivesBody b) checked x (Ok b) met was (inr refl))

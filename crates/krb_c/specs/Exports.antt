@@ -1,7 +1,8 @@
 -- What the exports answer.
-use Rattle.std.specs.Prelude.{ℕ, ◌≡◌, ◌≤◌, List, Option, Some, None, Ok, Bool, if◌then◌else◌}
+use Rattle.std.specs.Prelude.{ℕ, ◌≡◌, ◌≤◌, false, List, Option, Some, None, Ok, Bool, if◌then◌else◌}
 use Rattle.krb_base.specs.Limits.{user_data_limit}
-use Rattle.krb_seal.specs.Sealer.{HasFrameSize, SealerState, SealsNext, advanced, in_mode}
+use Rattle.krb_seal.specs.Sealer.{HasFrameSize, SealerState, SealsNext, advanced, end_of_numbers}
+use Rattle.krb_seal.specs.Sealer.{in_mode}
 use Rattle.krb_seal.specs.Sealer.{wiped_state}
 use Rattle.krb_der.specs.declared.body.Body.{Body}
 use Rattle.krb_seal.specs.declared.session.Mode.{Mode}
@@ -19,6 +20,18 @@ use Rattle.krb_c.specs.Carried.{carried_of}
 abbrev pub SealsTo : Option SealerState → List ℕ → ℕ → List ℕ → List ℕ → Type 0
 SealsTo None user at conf frame = ⊥
 SealsTo (Some s) user at conf frame = SealsNext s user at conf frame
+
+-- nothing stands against sealing n bytes of user data at a moment
+pub record CanSeal (s : SealerState) (n : ℕ) (at : KrbMoment) : Type 0 where
+  pub live : s.wiped ≡ false
+  pub short : n ≤ user_data_limit
+  pub left : ¬ (s.next ≡ end_of_numbers)
+  pub moment : IsMoment at
+
+-- the handle holds a sealer, and nothing stands against it
+abbrev pub CanSealBy : Option SealerState → ℕ → KrbMoment → Type 0
+CanSealBy None n at = ⊥
+CanSealBy (Some s) n at = CanSeal s n at
 
 -- a handle with a sealer that sealed one frame more
 abbrev pub advanced_if : Option SealerState → Option SealerState

@@ -13,7 +13,8 @@ use Rattle.krb_c.specs.declared.moment.KrbMoment.{KrbMoment}
 use Rattle.krb_c.specs.declared.demand.KrbDemand.{KrbDemand}
 use Rattle.krb_seal.specs.declared.refusal.Refusal.{Refusal}
 use Rattle.krb_peers.specs.ReceiverState.{ReceiverState}
-use Rattle.krb_peers.specs.Verdicts.{Fails}
+use Rattle.krb_peers.specs.Receiver.{TakesMemory}
+use Rattle.krb_peers.specs.Verdicts.{IsVerdict}
 use Rattle.krb_c.specs.Record.{Accepts, IsNoRecordOf}
 use Rattle.krb_c.specs.Room.{frame_room}
 use Rattle.krb_c.specs.Moment.{IsMoment, micros_of}
@@ -21,6 +22,7 @@ use Rattle.krb_c.specs.Session.{IsMode, address_room}
 use Rattle.krb_c.specs.Demand.{IsDemand, OpensWith}
 use Rattle.krb_c.specs.Fault.{fault_code}
 use Rattle.krb_c.specs.Answers.{IsTextOf}
+use Rattle.krb_c.specs.Exports.{CanSeal}
 use Rattle.krb_c.specs.declared.fault.Fault.{Fault}
 use Rattle.krb_c.specs.declared.fault.Fault.TheVariants.{Wiped, TooLong, Exhausted, Refused, Etype}
 use Rattle.krb_c.specs.declared.fault.Fault.TheVariants.{Room, Empty, KeySize, Mode, Moment}
@@ -35,7 +37,7 @@ abbrev pub SealReason : SealerState → ℕ → KrbMoment → ℕ → Fault → 
 SealReason s n at room Wiped = s.wiped ≡ true
 SealReason s n at room TooLong = user_data_limit < n
 SealReason s n at room Exhausted = s.next ≡ end_of_numbers
-SealReason s n at room (Refused r) = r ≡ refusals.Memory
+SealReason s n at room (Refused r) = (r ≡ refusals.Memory) × CanSeal s n at × (frame_room n ≤ room)
 SealReason s n at room Moment = IsNoMoment at
 SealReason s n at room Room = room < frame_room n
 SealReason s n at room Etype = ⊥
@@ -55,7 +57,8 @@ SealFault (Some s) n at room f = SealReason s n at room f
 -- sealing its user data fails
 abbrev pub RecordReason : SealerState → ℕ → List ℕ → KrbMoment → ℕ → Fault → Type 0
 RecordReason s kind body at room f =
-    ((f ≡ Record) × IsNoRecordOf kind body) ⊎ SealReason s (length body + 1) at room f
+    ((f ≡ Record) × IsNoRecordOf kind body)
+    ⊎ ((f ≡ Refused refusals.Memory) ⊎ SealReason s (length body + 1) at room f)
 
 abbrev pub RecordFault : Option SealerState → ℕ → List ℕ → KrbMoment → ℕ → Fault → Type 0
 RecordFault None kind body at room f = f ≡ Empty
@@ -72,7 +75,8 @@ SizeFault (Some s) n at f = SizeReason n at f
 -- why opening fails
 abbrev pub OpenReason : OpenerState → ℕ → KrbMoment → List ℕ → ℕ → Fault → Type 0
 OpenReason o number at frame room (Refused r) =
-    (r ≡ refusals.Memory → ⊥) → Opens o number (micros_of at) frame (Err r)
+    IsMoment at × (r ≡ refusals.Memory → length frame ≤ frame_limit)
+    × ((r ≡ refusals.Memory → ⊥) → Opens o number (micros_of at) frame (Err r))
 OpenReason o number at frame room Moment = IsNoMoment at
 OpenReason o number at frame room Room =
     (user : List ℕ) × Opens o number (micros_of at) frame (Ok user) × (room < length user)
@@ -119,7 +123,8 @@ DemandFault (Some (Some o)) d at frame room f = DemandReason o d at frame room f
 
 -- why no address is made: it has more bytes than there is room for
 abbrev pub AddressReason : ℕ → Fault → Type 0
-AddressReason n f = ((f ≡ Address) × (address_room < n)) ⊎ (f ≡ Refused refusals.Memory)
+AddressReason n f =
+    ((f ≡ Address) × (address_room < n)) ⊎ ((f ≡ Refused refusals.Memory) × (n ≤ address_room))
 
 -- why no session is made: its mode, or an address
 abbrev pub SessionReason : ℕ → ℕ → ℕ → Fault → Type 0
@@ -139,20 +144,22 @@ KeyReason etype n f =
 abbrev pub NewReason : ℤ → ℕ → ℕ → ℕ → ℕ → Fault → Type 0
 NewReason etype n mode s r f = KeyReason etype n f ⊎ SessionReason mode s r f
 
--- Why a receiver takes no frame: it fails a check, or the body of its record needs more room.
+-- Why a receiver takes no frame at a moment: the verdict on it is a refusal, or the body of its record
+-- needs more room, or memory ran out, and the frame is within the limit and after no close.
 abbrev pub TakeReason : ReceiverState → ℕ → List ℕ → ℕ → Fault → Type 0
 TakeReason s now frame room f =
-    ((r : Refusal) × (f ≡ Refused r)
-    × ((r ≡ refusals.Memory) ⊎ Fails s.opener s.demand now frame r))
-    ⊎ ((f ≡ Room)
+    ((r : Refusal) × (f ≡ Refused r) × IsVerdict s.opener s.demand now frame (Err r))
+    ⊎ (((f ≡ Room)
     × ((kind : ℕ)
     × ((body : List ℕ)
     × ((new : ReceiverState) × Accepts s now frame kind body new × (room < length body)))))
+    ⊎ ((f ≡ Refused refusals.Memory) × TakesMemory s frame))
 
 abbrev pub TakeFault : Option ReceiverState → KrbMoment → List ℕ → ℕ → Fault → Type 0
 TakeFault None at frame room f = f ≡ Empty
 TakeFault (Some s) at frame room f =
-    ((f ≡ Moment) × IsNoMoment at) ⊎ TakeReason s (micros_of at) frame room f
+    ((f ≡ Moment) × IsNoMoment at)
+    ⊎ (IsMoment at × TakeReason s (micros_of at) frame room f)
 
 -- why no receiver is made: as no opener is, or its number is over the end of all
 abbrev pub ReceiverReason : ℤ → ℕ → ℕ → ℕ → ℕ → ℕ → Fault → Type 0
@@ -170,7 +177,7 @@ HeaderReason frame f =
     ((f ≡ Refused refusals.FieldTooLong) × (frame_limit < length frame))
     ⊎ (((f ≡ Refused refusals.Malformed) × (length frame ≤ frame_limit)
     × ((m : Message) → Spells m frame → ⊥))
-    ⊎ (f ≡ Refused refusals.Memory))
+    ⊎ ((f ≡ Refused refusals.Memory) × (length frame ≤ frame_limit)))
 
 -- why no name or text is written: no answer has the number, or it and a zero need more room
 abbrev pub TextReason : (Fault → List ℕ) → List ℕ → ℕ → ℕ → Fault → Type 0

@@ -1,11 +1,12 @@
 -- Records as C sees them: the number of one's kind, and its bytes after the first.
-use Rattle.std.specs.Prelude.{◌≡◌, ℕ, false, List, ◌∷◌, Option, Some, None, Ok}
-use Rattle.krb_seal.specs.Opens.{Opens}
+use Rattle.std.specs.Prelude.{◌≡◌, ℕ, List, ◌∷◌, Option, Some, None, Ok}
 use Rattle.krb_seal.specs.Sealer.{SealerState, SealsNext}
 use Rattle.krb_record.specs.declared.record.Record.{Record}
-use Rattle.krb_record.specs.Record.{SpellsRecord, is_close, kind_of, number_of, first_byte_of}
+use Rattle.krb_record.specs.Record.{SpellsRecord, kind_of, number_of, first_byte_of}
+use Rattle.krb_peers.specs.declared.delivery.Delivery.{Delivery}
 use Rattle.krb_peers.specs.ReceiverState.{ReceiverState}
-use Rattle.krb_peers.specs.Receiver.{advanced}
+use Rattle.krb_peers.specs.Receiver.{receiver_behind}
+use Rattle.krb_peers.specs.Verdicts.{IsVerdict, record_of}
 
 -- the user data are those of a record whose kind has this number, and the body is what follows
 -- their first byte
@@ -27,12 +28,13 @@ abbrev pub SealsRecordTo : Option SealerState → ℕ → List ℕ → ℕ → L
 SealsRecordTo None kind body at conf frame = ⊥
 SealsRecordTo (Some s) kind body at conf frame = SealsRecord s kind body at conf frame
 
--- A receiver accepts a frame: no close was accepted before, the frame opens at the demanded number
--- and carries such a record, and the next number is demanded from then on, or none after a close.
+-- A receiver accepts a frame: the verdict on it is a delivery, whose record this is, and the receiver
+-- is as after that.
 abbrev pub Accepts : ReceiverState → ℕ → List ℕ → ℕ → List ℕ → ReceiverState → Type 0
-Accepts old now frame kind body new = (old.demand.closed ≡ false) × ((r : Record) × ((user : List ℕ)
-    × Opens old.opener old.demand.expected now frame (Ok user) × IsRecordOf kind body r user
-    × (new ≡ advanced old (is_close r))))
+Accepts old now frame kind body new =
+    (delivery : Delivery) × IsVerdict old.opener old.demand now frame (Ok delivery)
+    × ((user : List ℕ) × IsRecordOf kind body (record_of delivery) user)
+    × (new ≡ receiver_behind old (Ok delivery))
 
 abbrev pub AcceptsTo : Option ReceiverState → ℕ → List ℕ → ℕ → List ℕ → Option ReceiverState
     → Type 0

@@ -1,7 +1,7 @@
 //! A sealer whose frames fit.
 
-ghost use Rattle.std.specs.Prelude.{◌≡◌, ◌≤◌, true, drop, length, take, IfErr, IfOk, OnOk, OnErr};
-ghost use Rattle.krb_c.specs.Exports.{SizesNext};
+ghost use Rattle.std.specs.Prelude.{◌≡◌, ◌≤◌, ◌+◌, true, drop, length, take, IfErr, IfOk, OnOk, OnErr};
+ghost use Rattle.krb_c.specs.Exports.{CanSeal, SizesNext};
 ghost use Rattle.krb_c.specs.Moment.{micros_of};
 ghost use Rattle.krb_c.specs.Reasons.{NewReason, RecordReason, SealReason, SizeReason};
 ghost use Rattle.krb_c.specs.Record.{SealsRecord};
@@ -90,6 +90,7 @@ impl AnySealer {
     ) -> Result<usize, Fault>
         ensures sealed { IfOk result (λ size. SealsNext self.old user.now (micros_of at.now)
             confounder.now (take size out.new)) }
+        ensures ready { OnOk result (CanSeal self.old (length user.now) at.now) }
         ensures size { IfOk result (λ size. size ≤ length out.new) }
         ensures behind { IfOk result (λ size. drop size out.new ≡ drop size out.old) }
         ensures advanced { OnOk result (self.new ≡ advanced self.old) }
@@ -120,6 +121,7 @@ impl AnySealer {
     ) -> Result<usize, Fault>
         ensures sealed { IfOk result (λ size. SealsRecord self.old kind body.now
             (micros_of at.now) confounder.now (take size out.new)) }
+        ensures ready { OnOk result (CanSeal self.old (1 + length body.now) at.now) }
         ensures size { IfOk result (λ size. size ≤ length out.new) }
         ensures behind { IfOk result (λ size. drop size out.new ≡ drop size out.old) }
         ensures advanced { OnOk result (self.new ≡ advanced self.old) }

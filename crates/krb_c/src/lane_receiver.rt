@@ -1,8 +1,8 @@
-//! What opens the frames of one sender, one number after another.
+//! What takes the frames of one sender, one number after another.
 
-ghost use Rattle.std.specs.Prelude.{◌≡◌, ◌≤◌, length, drop, take, true, IfErr, IfOk, OnErr, Some};
+ghost use Rattle.std.specs.Prelude.{◌≡◌, ◌≤◌, length, drop, take, IfErr, IfOk, OnErr, OnOk, Some};
 ghost use Rattle.krb_seal.specs.Opens.{opener_of};
-ghost use Rattle.krb_c.specs.Moment.{micros_of};
+ghost use Rattle.krb_c.specs.Moment.{IsMoment, micros_of};
 ghost use Rattle.krb_c.specs.Reasons.{ReceiverReason, TakeFault};
 ghost use Rattle.krb_c.specs.Record.{Accepts};
 ghost use Rattle.krb_c.specs.Session.{expect_of};
@@ -12,36 +12,25 @@ use crate::buffer::put_within;
 use crate::fault::Fault;
 use crate::held::Wipe;
 use crate::moment::KrbMoment;
-use crate::record::record_kind;
 use crate::session::{KrbExpect, expectation, session_key};
-use krb_base::{LAST_NUMBER, Secret};
-use krb_peers::RecordKind;
+use krb_base::LAST_NUMBER;
+use krb_peers::Receiver;
 use krb_seal::{Opener, Refusal};
 use std::alloc::Global;
 use std::marker::Model;
 
-/// An opener, the number that it demands next, and whether a close was accepted: a receiver of
-/// `krb_peers` that goes on from any state, and gives the bytes of a record where they lie.
+/// A receiver of `krb_peers`, which goes on from any state.
 #[derive(Drop)]
 pub struct LaneReceiver {
-    opener: Opener,
-    expected: u64,
-    closed: bool,
+    receiver: Receiver,
 }
 
 impl Model for LaneReceiver {
-    ghost use Rattle.std.specs.Prelude.{◌+◌, ◌≤◌};
-    ghost use Rattle.krb_base.specs.Limits.{last_number};
     ghost use Rattle.krb_peers.specs.ReceiverState.{ReceiverState};
 
     ghost Value = { ReceiverState };
 
-    ghost view = { λ a. record {
-      opener = a.opener;
-      demand = record { expected = a.expected; closed = a.closed };
-    } };
-
-    ghost invariant = { λ a. a.expected ≤ last_number + 1 };
+    ghost view = { λ a. a.receiver };
 }
 
 impl LaneReceiver {
@@ -65,10 +54,9 @@ impl LaneReceiver {
             return Err(Fault::Argument);
         }
         let expect = expectation(alloc, told)?;
+        let opener = Opener::new(session_key(etype, key)?, expect);
         let receiver = LaneReceiver {
-            opener: Opener::new(session_key(etype, key)?, expect),
-            expected,
-            closed,
+            receiver: Receiver::resume(opener, expected, closed),
         };
         Box::new(alloc, receiver).map_err(|_| Fault::Refused(Refusal::Memory))
     }
@@ -77,14 +65,14 @@ impl LaneReceiver {
     pub fn expected(&self) -> u64
         ensures { result ≡ self.now.demand.expected }
     {
-        self.expected
+        self.receiver.expected()
     }
 
     /// Whether a close was accepted.
     pub fn closed(&self) -> bool
         ensures { result ≡ self.now.demand.closed }
     {
-        self.closed
+        self.receiver.closed()
     }
 
     /// Takes a frame at a moment, and writes the bytes of its record after the first: answers the
@@ -99,6 +87,7 @@ impl LaneReceiver {
     ) -> Result<(u32, usize), Fault>
         ensures accepted { IfOk result (λ taken. Accepts self.old (micros_of at.now) frame.now
             taken.0 (take taken.1 out.new) self.new) }
+        ensures moment { OnOk result (IsMoment at.now) }
         ensures size { IfOk result (λ taken. taken.1 ≤ length out.new) }
         ensures behind { IfOk result (λ taken. drop taken.1 out.new ≡ drop taken.1 out.old) }
         ensures unchanged { OnErr result (self.new ≡ self.old) }
@@ -106,17 +95,10 @@ impl LaneReceiver {
         ensures why { IfErr result (TakeFault (Some self.old) at.now frame.now (length out.old)) }
     {
         let now = at.moment()?;
-        if self.closed {
-            return Err(Fault::Refused(Refusal::AfterClose));
-        }
-        let opened = self.opener.unseal(alloc, frame, self.expected, now)?;
-        let user_data = Secret::new(opened);
-        let (kind, body) = record_kind(user_data.as_slice())?;
-        let size = put_within(out, body)?;
-        let closes = matches!(kind, RecordKind::Close);
-        self.expected += 1;
-        self.closed = closes;
-        Ok((kind.number(), size))
+        let opened = self.receiver.open(alloc, frame, now)?;
+        let size = put_within(out, &opened.bytes.as_slice()[1..])?;
+        self.receiver.accept(opened.kind);
+        Ok((opened.kind.number(), size))
     }
 }
 
@@ -127,7 +109,6 @@ impl Wipe for LaneReceiver {
     fn wipe(&mut self)
         ensures { IsWipedReceiver self.new }
     {
-        self.opener.wipe();
-        self.closed = true;
+        self.receiver.wipe();
     }
 }

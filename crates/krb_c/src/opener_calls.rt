@@ -7,7 +7,7 @@ ghost use Rattle.krb_seal.specs.declared.refusal.Refusal.{Refusal};
 ghost use Rattle.krb_seal.specs.declared.refusal.Refusal.TheVariants.{Memory};
 ghost use Rattle.krb_c.specs.Exports.{GivesTo, OpensTo, OpensWithTo, opener_wiped_if};
 ghost use Rattle.krb_c.specs.Fault.{FaultedBy};
-ghost use Rattle.krb_c.specs.Moment.{micros_of};
+ghost use Rattle.krb_c.specs.Moment.{IsMoment, micros_of};
 ghost use Rattle.krb_c.specs.Reasons.{DemandFault, NewReason, OpenFault};
 ghost use Rattle.krb_c.specs.Session.{expect_of};
 
@@ -65,6 +65,7 @@ pub extern "C" fn krbrelay_opener_unseal(
 ) -> u32
     ensures opened { result ≡ 0 → OpensTo handle.old.opener number (micros_of at.now)
         frame.now (Ok (take size.new out.new)) }
+    ensures moment { result ≡ 0 → IsMoment at.now }
     ensures size { result ≡ 0 → size.new ≤ length out.new }
     ensures behind { result ≡ 0 → drop size.new out.new ≡ drop size.new out.old }
     ensures refused { (r : Refusal) → result ≡ code_of r → ¬ (r ≡ Memory)
@@ -97,6 +98,7 @@ pub extern "C" fn krbrelay_opener_unseal_in_place(
 ) -> u32
     ensures opened { result ≡ 0 → OpensTo handle.old.opener number (micros_of at.now)
         frame.old (Ok (take size.new frame.new)) }
+    ensures moment { result ≡ 0 → IsMoment at.now }
     ensures size { result ≡ 0 → size.new ≤ length frame.new }
     ensures behind { result ≡ 0 → drop size.new frame.new ≡ drop size.new frame.old }
     ensures refused { (r : Refusal) → result ≡ code_of r → ¬ (r ≡ Memory)
@@ -131,6 +133,7 @@ pub extern "C" fn krbrelay_opener_open(
 ) -> u32
     ensures opened { result ≡ 0 → GivesTo handle.old.opener demand.now (micros_of at.now)
         frame.now (take size.new out.new) told.new }
+    ensures moment { result ≡ 0 → IsMoment at.now }
     ensures size { result ≡ 0 → size.new ≤ length out.new }
     ensures behind { result ≡ 0 → drop size.new out.new ≡ drop size.new out.old }
     ensures refused { (r : Refusal) → result ≡ code_of r → ¬ (r ≡ Memory)

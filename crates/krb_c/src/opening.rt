@@ -1,8 +1,8 @@
 //! Openers used, in Rattle's types.
 
-ghost use Rattle.std.specs.Prelude.{◌≡◌, ◌≤◌, ℕ, drop, length, take, IfErr, IfOk, OnErr, Ok, Some};
+ghost use Rattle.std.specs.Prelude.{◌≡◌, ◌≤◌, ℕ, drop, length, take, IfErr, IfOk, OnErr, OnOk, Ok, Some};
 ghost use Rattle.krb_c.specs.Exports.{GivesTo, OpensTo};
-ghost use Rattle.krb_c.specs.Moment.{micros_of};
+ghost use Rattle.krb_c.specs.Moment.{IsMoment, micros_of};
 ghost use Rattle.krb_c.specs.Reasons.{DemandFault, OpenFault};
 ghost use Rattle.krb_c.specs.Unseals.{UnsealsInto};
 
@@ -27,6 +27,7 @@ fn unsealed(
 ) -> Result<Secret, Fault>
     ensures opened { IfOk result (λ user. OpensTo (Some opener.now) number (micros_of at.now)
         frame.now (Ok user)) }
+    ensures moment { OnOk result (IsMoment at.now) }
     // Whatever room a buffer has: it is too small in none of the reasons.
     ensures why { (room : ℕ) → IfErr result
         (OpenFault (Some opener.now) number at.now frame.now room) }
@@ -82,6 +83,7 @@ pub fn open_into(
 ) -> Result<usize, Fault>
     ensures opened { IfOk result (λ size. GivesTo (Some opener.now) demand.now (micros_of at.now)
         frame.now (take size out.new) told.new) }
+    ensures moment { OnOk result (IsMoment at.now) }
     ensures size { IfOk result (λ size. size ≤ length out.new) }
     ensures behind { IfOk result (λ size. drop size out.new ≡ drop size out.old) }
     ensures kept { OnErr result (out.new ≡ out.old) }

@@ -4,7 +4,7 @@ ghost use Rattle.std.specs.Prelude.{◌≡◌, ◌≤◌, drop, length, take, No
 ghost use Rattle.krb_seal.specs.Opens.{opener_of};
 ghost use Rattle.krb_c.specs.Exports.{Demands, IsDemanding};
 ghost use Rattle.krb_c.specs.Fault.{FaultedBy};
-ghost use Rattle.krb_c.specs.Moment.{micros_of};
+ghost use Rattle.krb_c.specs.Moment.{IsMoment, micros_of};
 ghost use Rattle.krb_c.specs.Reasons.{ReceiverReason, TakeFault};
 ghost use Rattle.krb_c.specs.Record.{AcceptsTo};
 ghost use Rattle.krb_c.specs.Session.{expect_of, is_set};
@@ -62,6 +62,7 @@ pub extern "C" fn krbrelay_receiver_take(
 ) -> u32
     ensures accepted { result ≡ 0 → AcceptsTo handle.old.receiver (micros_of at.now) frame.now
         kind.new (take size.new out.new) handle.new.receiver }
+    ensures moment { result ≡ 0 → IsMoment at.now }
     ensures size { result ≡ 0 → size.new ≤ length out.new }
     ensures behind { result ≡ 0 → drop size.new out.new ≡ drop size.new out.old }
 

@@ -1,8 +1,8 @@
 //! What C calls of sealers. Each function answers 0, or the number of a fault whose reason holds.
 
-ghost use Rattle.std.specs.Prelude.{◌≡◌, ◌≤◌, drop, length, take, None, Some};
+ghost use Rattle.std.specs.Prelude.{◌≡◌, ◌≤◌, ◌+◌, drop, length, take, None, Some};
 ghost use Rattle.krb_seal.specs.Sealer.{new_state};
-ghost use Rattle.krb_c.specs.Exports.{IsNext, IsNextSize, SealsTo, advanced_if, in_mode_if, wiped_if};
+ghost use Rattle.krb_c.specs.Exports.{CanSealBy, IsNext, IsNextSize, SealsTo, advanced_if, in_mode_if, wiped_if};
 ghost use Rattle.krb_c.specs.Fault.{FaultedBy};
 ghost use Rattle.krb_c.specs.Moment.{micros_of};
 ghost use Rattle.krb_c.specs.Reasons.{ModeFault, NewReason, RecordFault, SealFault, SizeFault};
@@ -71,6 +71,7 @@ pub extern "C" fn krbrelay_sealer_seal(
 ) -> u32
     ensures sealed { result ≡ 0 → SealsTo handle.old.sealer user.now (micros_of at.now)
         confounder.now (take size.new out.new) }
+    ensures ready { result ≡ 0 → CanSealBy handle.old.sealer (length user.now) at.now }
     ensures size { result ≡ 0 → size.new ≤ length out.new }
     ensures behind { result ≡ 0 → drop size.new out.new ≡ drop size.new out.old }
     ensures advanced { result ≡ 0 → handle.new.sealer ≡ advanced_if handle.old.sealer }
@@ -105,6 +106,7 @@ pub extern "C" fn krbrelay_sealer_seal_record(
 ) -> u32
     ensures sealed { result ≡ 0 → SealsRecordTo handle.old.sealer kind body.now (micros_of at.now)
         confounder.now (take size.new out.new) }
+    ensures ready { result ≡ 0 → CanSealBy handle.old.sealer (1 + length body.now) at.now }
     ensures size { result ≡ 0 → size.new ≤ length out.new }
     ensures behind { result ≡ 0 → drop size.new out.new ≡ drop size.new out.old }
     ensures advanced { result ≡ 0 → handle.new.sealer ≡ advanced_if handle.old.sealer }

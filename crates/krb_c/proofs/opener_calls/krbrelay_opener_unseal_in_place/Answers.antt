@@ -1,0 +1,22 @@
+use Rattle.std.proofs.Common.{Option, Some, sym, ◌∙◌, ap, subst, length, Err, refl}
+use Rattle.krb_seal.specs.Opens.{OpenerState}
+use Rattle.krb_c.specs.declared.fault.Fault.TheVariants.{Empty}
+use Rattle.krb_c.specs.Moment.{micros_of}
+use Rattle.krb_c.specs.Exports.{HeldOpener, OpensTo}
+use Rattle.krb_c.specs.Reasons.{OpenFault}
+use Rattle.krb_c.proofs.Codes.{on_refused}
+use Rattle.krb_c.proofs.OpenerLemmas.{open_refused}
+use Rattle.krb_c.proofs.opener_calls.krbrelay_opener_unseal_in_place.Goals as goal
+
+pub returns-clause-refused : goal.returns-clause-refused
+returns-clause-refused c = λ r e other.
+    let frame = c.args.frame.now in let room = length c.args.frame.now in
+    let held = c.deref.result.now in
+    let why = on_refused (OpenFault (Some held) c.args.number c.args.at.now frame room) c.unseal_in_place-opened.result c.answer.result r c.answer.ensures.fault c.unseal_in_place-opened.ensures.why e in
+    let is = ap (λ (o : Option OpenerState). Some o) c.deref.ensures ∙ sym c.in-Some.ensures.taken in
+    subst (λ (o : HeldOpener). OpensTo o c.args.number (micros_of c.args.at.now) frame (Err r)) is (open_refused (Some held) c.args.number c.args.at.now frame room r why other)
+
+pub returns-in_default-clause-why : goal.returns-in_default-clause-why
+returns-in_default-clause-why c = λ _.
+    let frame = c.args.frame.now in let room = length c.args.frame.now in
+    (Empty, c.code.ensures.value, subst (λ (o : HeldOpener). OpenFault o c.args.number c.args.at.now frame room Empty) (sym c.in_default.ensures.taken) refl)

@@ -1,0 +1,10 @@
+use Rattle.std.proofs.Common.{Option, sym, subst, refl, length}
+use Rattle.krb_seal.specs.Sealer.{SealerState}
+use Rattle.krb_c.specs.declared.fault.Fault.TheVariants.{Empty}
+use Rattle.krb_c.specs.Reasons.{RecordFault}
+use Rattle.krb_c.proofs.sealer_calls.krbrelay_sealer_seal_record.Goals as goal
+
+pub returns-in_default-clause-why : goal.returns-in_default-clause-why
+returns-in_default-clause-why c = λ _.
+    let room = length c.args.out.now in
+    (Empty, c.code.ensures.value, subst (λ (s : Option SealerState). RecordFault s c.args.kind c.args.body.now c.args.at.now room Empty) (sym c.in_default.ensures.taken) refl)
