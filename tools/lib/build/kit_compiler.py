@@ -56,8 +56,11 @@ def stamp_of(crate):
 
 
 def keep(crate, folder, built_from):
-    """Moves what was kept in a folder to its place, with the digest of what it was built from."""
+    """Copies what was kept in a folder to its place, with the digest of what it was built from. If
+    the prover called no compiler, nothing is kept: whoever wants a module asks the prover again."""
     shutil.rmtree(place_of(crate), ignore_errors=True)
+    if not os.path.exists(os.path.join(folder, MODULE)):
+        return
     os.makedirs(place_of(crate))
     for name in (MODULE, WORDS):
         shutil.copy(os.path.join(folder, name), place_of(crate))
