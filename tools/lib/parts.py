@@ -100,9 +100,11 @@ PARTS = [
     Part("tools/test_picture", 2),
     Part("tools/figure --check", 1),
     Part("tools/picture --check", 1, (PROGRAM,)),
-    Part("tools/test_program", 3, (PROGRAM,)),
+    Part("tools/test_program", 3, (PROGRAM, COMPILER)),
     Part("tools/sweep", 10, (PROGRAM, COMPILER, CRYPTOGRAPHY)),
+    Part("tools/job_costs --check", 5, (PROGRAM,)),
     Part("tools/residue --program", 5, (PROGRAM, COMPILER, CRYPTOGRAPHY)),
+    Part("tools/residue --relays", 10, ("rt", COMPILER, CRYPTOGRAPHY)),
     Part("tools/redelivery", 5, (PROGRAM, CRYPTOGRAPHY)),
     Part("tools/carrier", 30, (PROGRAM, "rt", COMPILER, MAKE, SQLITE)),
     Part("tools/fuzz 2000", 5, (PROGRAM, CRYPTOGRAPHY)),
@@ -128,7 +130,7 @@ QUICK = [
     Part("tools/picture --quick", 1, (UNPROVED,)),
     Part("tools/redelivery --quick", 4, (UNPROVED, CRYPTOGRAPHY)),
     Part("tools/fuzz --quick 300", 5, (UNPROVED, CRYPTOGRAPHY)),
-    Part("tools/test_program --quick", 6, (UNPROVED,)),
+    Part("tools/test_program --quick", 6, (UNPROVED, COMPILER)),
 ]
 
 

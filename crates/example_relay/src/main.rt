@@ -2,7 +2,7 @@
 #![tactic(auto)]
 
 ghost use Rattle.std.specs.Prelude.{◌≡◌, ◌<◌, ◌≤◌, IfOk, length};
-ghost use Rattle.krb_base.specs.Limits.{text_limit};
+ghost use Rattle.krb_base.specs.Limits.{last_number, text_limit};
 ghost use Rattle.krb_peers.specs.Sending.{source_of, IsSender};
 ghost use Rattle.krb_seal.specs.Session.{HasShortAddresses};
 
@@ -11,7 +11,7 @@ use krb_base::Bytes;
 use krb_der::{HostAddress, Moment};
 use krb_peers::{Emit, Entry, Event, Receiver, Receiving, Sending};
 use krb_relay::{NoGate, Report, relay};
-use krb_seal::{Aes256Sealer, Expect, Mode, Opener, Session};
+use krb_seal::{Aes256Sealer, Expect, Mode, Opener, Sealer, Session};
 use rand_chacha::ChaCha20Rng;
 use rand_core::SeedableRng;
 use std::alloc::{AllocError, Global};
@@ -32,24 +32,32 @@ fn session(alloc: Global, host: u8) -> Result<Session, AllocError>
     })
 }
 
-/// A sender of one text. Its key and its seed are fixed, so that the program always prints the
-/// same.
-fn sending(
+/// The sealer of that session. Its key is fixed, so that the program always prints the same.
+fn sealer(alloc: Global, host: u8) -> Result<Aes256Sealer, AllocError>
+    ensures { IfOk result (λ sealer. sealer.next ≤ last_number) }
+{
+    Ok(Aes256Sealer::new(&mut [host; 32], session(alloc, host)?))
+}
+
+/// A sender of one text, whose seed is fixed too.
+fn sending<S: Sealer>(
     alloc: Global,
-    host: u8,
+    sealer: S,
+    seed: [u8; 32],
     text: &[u8],
     plan: Option<Vec<Emit>>,
     at: Moment,
-) -> Result<Sending<Aes256Sealer>, AllocError>
-    requires { length text.now ≤ text_limit }
-    ensures { IfOk result (λ sending. IsSender (source_of (λ sealer. sealer) sending)) }
+) -> Result<Sending<S>, AllocError>
+    requires short { length text.now ≤ text_limit }
+    requires next { (S.state sealer).next ≤ last_number }
+    ensures { IfOk result (λ sending. IsSender (source_of S.state sending)) }
 {
     Ok(Sending {
-        sealer: Aes256Sealer::new(&mut [host; 32], session(alloc, host)?),
+        sealer,
         texts: vec![in alloc; Bytes::new(Vec::from_slice(alloc, text)?)]?,
         batch: 1,
         ats: vec![in alloc; at]?,
-        draws: ChaCha20Rng::from_seed([host; 32]),
+        draws: ChaCha20Rng::from_seed(seed),
         plan,
     })
 }
@@ -78,8 +86,10 @@ fn relay_both<R: Threads + Wait + Sync>(rt: &R, alloc: Global, at: Moment) -> Re
 {
     // Frame 0 twice, and then the close.
     let plan = vec![in alloc; Emit::Frame(0), Emit::Frame(0), Emit::Frame(1)]?;
-    let first = sending(alloc, 1, b"hi", Some(plan), at)?;
-    let second = sending(alloc, 2, b"last", None, at)?;
+    let one: Box<dyn Sealer + Send> = Box::new(alloc, sealer(alloc, 1)?)?;
+    let other: Box<dyn Sealer + Send> = Box::new(alloc, sealer(alloc, 2)?)?;
+    let first = sending(alloc, one, [1; 32], b"hi", Some(plan), at)?;
+    let second = sending(alloc, other, [2; 32], b"last", None, at)?;
     let sendings = vec![in alloc; first, second]?;
     let receivings = vec![in alloc; receiving(alloc, 1, at)?, receiving(alloc, 2, at)?]?;
     Ok(relay(rt, alloc, sendings, receivings, 8, &NoGate)?)

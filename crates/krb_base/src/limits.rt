@@ -14,7 +14,7 @@ pub const FRAME_LIMIT: usize = 1_005_000;
 /// The most bytes of a raw emission of a plan.
 pub const RAW_LIMIT: usize = 1_010_000;
 
-/// The most bytes of an address of a session.
+/// The most bytes of an address in a job.
 pub const ADDRESS_LIMIT: usize = 32;
 
 /// The most lanes of a relay, and senders of a job.

@@ -10,7 +10,7 @@ use std::{fmt, mem};
 /// A key on the heap, a text that holds keys, or user data. Contracts see it as the list of its
 /// bytes.
 ///
-/// Its whole block is overwritten when it is dropped, with what is left of earlier bytes behind the
+/// Its whole block is overwritten when it is dropped, with what is left of earlier bytes after the
 /// present ones, and so is its old block when it grows. `Debug` shows none of them.
 pub struct Secret {
     held: Held,
@@ -88,7 +88,7 @@ struct Held {
 }
 
 impl Held {
-    /// Makes all bytes of the block zero, also those behind its bytes. It allocates nothing.
+    /// Makes all bytes of the block zero, also those past its length. It allocates nothing.
     fn wipe(&mut self)
         ensures zeros { self.new.bytes.items ≡ replicate (vec_capacity self.old.bytes) 0 }
         ensures size { vec_len self.new.bytes ≡ vec_capacity self.old.bytes }

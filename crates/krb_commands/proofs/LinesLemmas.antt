@@ -1,12 +1,18 @@
 -- The lines of a list of items.
-use Rattle.std.proofs.Common.{◌≡◌, ℕ, ◌+◌, ◌<◌, List, [], ◌∷◌, ◌++◌, length, map, take, drop, get_or, Option, sym, ap, ◌∙◌, append-nil}
+use Rattle.std.proofs.Common.{◌≡◌, ℕ, zero, suc, ◌+◌, ◌<◌, List, [], ◌∷◌, ◌++◌, length, map, take, drop, get_or, Option, refl, sym, ap, ◌∙◌, append-nil, arith}
 use Rattle.std.proofs.lemmas.List.{take_more, take-append-drop, map-append}
 use Rattle.std.proofs.lemmas.List.Folds.{concat-append}
 use Rattle.std.specs.List.{concat}
 use Rattle.std.specs.Io.KnownBytes.{Appends}
-use Rattle.std.proofs.KnownBytes.{Appends-trans}
+use Rattle.std.proofs.KnownBytes.{Appends-trans, Appends-nil}
 use Rattle.krb_commands.specs.Output.{AppendsPart}
 use Rattle.krb_commands.proofs.OutputLemmas.{AppendsPart-after}
+
+-- what stands in a list
+slice_at : {X : Type 0} (xs : List X) (i : ℕ) → i < length xs → (x : X) × (x ≡ get_or xs i x)
+slice_at [] i lt = absurd (omega (arith, lt))
+slice_at (x ∷ xs) zero lt = (x, refl)
+slice_at (x ∷ xs) (suc i) lt = slice_at xs i (omega (arith, lt))
 
 module _ {X : Type 0} (line : X → List ℕ) where
   lines-append : (xs ys : List X) → concat (map line (xs ++ ys)) ≡ concat (map line xs) ++ concat (map line ys)
@@ -32,3 +38,10 @@ module _ {X : Type 0} (line : X → List ℕ) where
   printed-part old then now xs i x lt is done next =
       AppendsPart-after old then now (concat (map line (take i xs))) (line x) (concat (map line xs)) done next
       (concat (map line (drop (i + 1) xs))) (lines-cut xs (i + 1) ∙ ap (λ l. l ++ concat (map line (drop (i + 1) xs))) (lines-more xs i x lt is))
+
+  -- the lines so far alone, where each line has a byte
+  pub printed-front : ((x : X) → 0 < length (line x)) → (old now : Option (List ℕ)) (xs : List X) (i : ℕ) → i < length xs
+      → Appends old now (concat (map line (take i xs))) → AppendsPart old now (concat (map line xs))
+  printed-front some old now xs i lt done =
+      let at = slice_at xs i lt in
+      printed-part old now now xs i at.0 lt at.1 done ([], Appends-nil now, (line at.0, refl), some at.0)

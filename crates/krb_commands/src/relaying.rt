@@ -15,7 +15,7 @@ ghost use Rattle.krb_base.specs.Limits.{lane_limit, capacity_limit};
 use crate::fault::Fault;
 use crate::job_lines::{EndLine, is_closed, print_log, status_of_lanes};
 use crate::line::print_line;
-use krb_peers::{Receiving, Sending};
+use krb_peers::{Boxed, Receiving, Sending};
 use krb_relay::{Cause, Gate, Report, relay};
 use krb_seal::Sealer;
 use std::alloc::Global;
@@ -32,7 +32,7 @@ use std::thread::Threads;
 /// accepted, else 3. A bad plan is bad input, and nothing is printed. `Stopped` is an allocation
 /// that failed in the run and `Thread` a fault of its threads: their `lines` are printed, the
 /// outcome of each frame until then. After a fault of printing a prefix is.
-pub fn relay_job<T: Threads + Wait + Sync, G: Gate + Sync, S: Sealer + Send, W: Write>(
+pub fn relay_job<T: Threads + Wait + Sync, G: Gate + Sync, S: Sealer + Boxed + Send, W: Write>(
     rt: &T,
     alloc: Global,
     sendings: Vec<Sending<S>>,

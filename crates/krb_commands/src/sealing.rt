@@ -1,16 +1,18 @@
 //! The command `seal`.
 
 ghost use Rattle.std.specs.Prelude.{◌≡◌, false, IfOk, IfErr, OnOk, OnErr};
-ghost use Rattle.std.specs.Io.KnownBytes.{Keeps};
+ghost use Rattle.std.specs.Io.KnownBytes.{Appends, Keeps};
 ghost use Rattle.krb_job.specs.declared.bad_input.BadInput.{BadInput};
 ghost use Rattle.krb_peers.specs.Sending.{source_of, IsSender};
 ghost use Rattle.krb_peers.specs.Wire.{IsBad};
-ghost use Rattle.krb_commands.specs.Fault.{bad_plan, IsOfSealing};
+ghost use Rattle.krb_commands.specs.Fault.{bad_plan, IsOfPrinting, IsOfSealing};
+ghost use Rattle.krb_commands.specs.JobLines.{frame_lines};
+ghost use Rattle.krb_commands.specs.Output.{AppendsPart};
 ghost use Rattle.krb_commands.specs.Sealed.{PrintsSealed, PrintsSealedPrefix};
 
 use crate::fault::Fault;
-use crate::line::{print_line, print_lines};
-use krb_peers::{Sending, emit_sealed};
+use crate::line::print_line;
+use krb_peers::{Sending, Wire, emit_sealed};
 use krb_seal::Sealer;
 use std::alloc::Global;
 use std::io::Write;
@@ -45,7 +47,24 @@ pub fn seal_job<S: Sealer, W: Write>(
         Ok(wire) => wire,
         Err(error) => return Err(Fault::of_start(error)),
     };
-    print_lines(alloc, wire.as_slice(), writer)?;
+    print_wire(alloc, &wire, writer)?;
     print_line(alloc, &sent, writer)?;
     Ok(0)
+}
+
+/// Prints the emissions, one a line. Each is made once the one before is printed.
+///
+/// After a fault a prefix of the lines is written, and not all.
+fn print_wire<W: Write>(alloc: Global, wire: &Wire, writer: &mut W) -> Result<(), Fault>
+    ensures printed { OnOk result
+        (Appends (W.contents writer.old) (W.contents writer.new) (frame_lines wire.now)) }
+    ensures part { OnErr result
+        (AppendsPart (W.contents writer.old) (W.contents writer.new) (frame_lines wire.now)) }
+    ensures faults { IfErr result IsOfPrinting }
+{
+    for k in 0..wire.len() {
+        let frame = wire.emission(alloc, k)?;
+        print_line(alloc, &frame, writer)?;
+    }
+    Ok(())
 }

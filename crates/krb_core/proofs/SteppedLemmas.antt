@@ -1,5 +1,6 @@
 -- What a turn leaves of a relay.
-use Rattle.std.proofs.Common.{◌≡◌, ◌≢◌, ◌↔◌, ℕ, zero, suc, ◌+◌, ◌<◌, false, List, [], ◌∷◌, ◌++◌, length, set, get_or, take, slice_get, Option, Some, None, Result, Ok, Err, refl, sym, ap, ap₂, ◌∙◌, arith}
+use Rattle.std.proofs.Common.{◌≡◌, ◌≢◌, ◌↔◌, ℕ, zero, suc, ◌+◌, ◌<◌, false, List, [], ◌∷◌, ◌++◌, length, set, get_or, take, slice_get, Option, Some, None, Result, Ok, Err, refl, sym, ap, ap₂, subst, ◌∙◌, arith}
+use Rattle.std.proofs.lemmas.Option.{slice_get-get_or}
 use Rattle.std.proofs.lemmas.List.{take_more, length-set}
 use Rattle.std.specs.Prelude.{OnOk, OnErr, IfOk}
 use Rattle.krb_base.specs.Lane.{Item, Frame, End, is_possible}
@@ -11,9 +12,9 @@ use Rattle.krb_core.specs.declared.turn.Turn.{Turn}
 use Rattle.krb_core.specs.declared.turn.Turn.TheVariants.{Send, Take}
 use Rattle.krb_peers.specs.LogState.{LogState}
 use Rattle.krb_peers.specs.ReceiverState.{ReceiverState}
-use Rattle.krb_core.specs.Track.{TrackState, receiver_after, log_behind, verdict_now, next_send, after_send, after_take, log_after}
+use Rattle.krb_core.specs.Track.{TrackState, receiver_after, log_behind, verdict_now, next_send, after_send, after_take, log_after, HasFrameFirst}
 use Rattle.krb_peers.specs.Logged.{IsShut}
-use Rattle.krb_core.specs.Stepped.{Relay, lane_of, track_behind, turned_at, turned, after, may_move, IsRelay}
+use Rattle.krb_core.specs.Stepped.{Relay, lane_of, track_behind, turned_at, turned, after, may_move, TakesFrame, StopsAt, IsRelay}
 use Rattle.krb_peers.proofs.LoggedLemmas.{shut_same, shut_other}
 
 -- ---- closes in a log
@@ -121,6 +122,22 @@ pub take_undone : {X E : Type 0} (r : Result X E) (tracks : List TrackState) (lo
     → OnErr r (now ≡ old) → OnErr r (log-now ≡ log) → OnErr r (relay_of (set tracks k now) log-now sents ≡ relay_of tracks log sents)
 take_undone (Ok x) tracks log log-now sents k old now at t l = tt
 take_undone (Err e) tracks log log-now sents k old now at t l = ap₂ (λ x y. relay_of (set tracks k x) y sents) t l ∙ ap (λ ts. relay_of ts log sents) (set-same tracks k old at)
+
+-- and a frame was to be taken
+pub take_memory : {X E : Type 0} (r : Result X E) (tracks : List TrackState) (log : LogState) (sents : List Sent) (k : ℕ) (old : TrackState) → slice_get tracks k ≡ Some old
+    → OnErr r (HasFrameFirst old) → OnErr r (TakesFrame (relay_of tracks log sents) (Take k))
+take_memory (Ok x) tracks log sents k old at first = tt
+take_memory (Err e) tracks log sents k old at first = record { lane = k; takes = refl; track = old; at = at; frame = first }
+
+-- turns stop at one that takes a frame
+pub stops_at : (relay now : Relay) (turns : List Turn) (i : ℕ) (d : Turn) → i < length turns → now ≡ relay → TakesFrame relay (get_or turns i d) → StopsAt now turns i
+stops_at relay now turns i d lt kept takes =
+    let P : Relay → Type 0 = λ r. TakesFrame r (get_or turns i d) in
+    record { turn = get_or turns i d; next = slice_get-get_or turns i d lt; takes = subst P (sym kept) takes }
+
+pub on_err : {X E : Type 0} (P : Type 0) (r : Result X E) → P → OnErr r P
+on_err P (Ok x) h = tt
+on_err P (Err e) h = h
 
 -- the lanes stay
 turned_count_at : (relay : Relay) (t : Turn) (o : Option TrackState) → length (turned_at relay t o).tracks ≡ length relay.tracks

@@ -3,7 +3,6 @@ use Rattle.std.proofs.Common.{◌≡◌, ◌↔◌, ℕ, zero, suc, ◌+◌, ◌
 use Rattle.std.proofs.lemmas.Bool.{lt-ltb}
 use Rattle.std.proofs.lemmas.Bool.Decides.{leb_tells}
 use Rattle.std.proofs.lemmas.List.{drop-append-le, length-drop, drop_all}
-use Rattle.std.specs.Prelude.{Vec}
 use Rattle.krb_base.specs.Lane.{Item, Lane, Frame, End, Send, Take, has_end, is_possible, taken, moved, after_event}
 use Rattle.krb_base.proofs.LaneLemmas.{may_send, after_possible, after_impossible}
 use Rattle.krb_core.specs.declared.turn.Did.{Did}
@@ -12,9 +11,9 @@ use Rattle.krb_peers.specs.LogState.{LogState}
 use Rattle.krb_peers.specs.ReceiverState.{ReceiverState}
 use Rattle.krb_peers.specs.Receiver.{receiver_behind}
 use Rattle.krb_peers.specs.Log.{ended_at}
-use Rattle.krb_peers.specs.Plan.{contents}
 use Rattle.krb_peers.specs.Moments.{moment_at}
-use Rattle.krb_core.specs.Track.{TrackState, item_of, item_at, next_send, after_send, receiver_after, after_take, log_behind, log_after, LogsFront}
+use Rattle.krb_core.specs.Track.{TrackState, item_of, item_at, next_send, after_send, receiver_after, after_take, log_behind, log_after, LogsFront, HasFrameFirst}
+use Rattle.krb_peers.proofs.ListLemmas.{there_is}
 use Rattle.krb_peers.specs.Receiver.{verdict_by}
 use Rattle.krb_peers.specs.Logged.{noted, LogsNext}
 use Rattle.krb_core.specs.TrackPlaces.{items_of, lane_at, ArePlaces}
@@ -49,18 +48,6 @@ front [] (suc s) zero h lt = refl
 front [] (suc s) (suc t) h lt = absurd (omega arith)
 front (f ∷ wire) (suc s) zero h lt = refl
 front (f ∷ wire) (suc s) (suc t) h lt = let e : suc t + 1 ≡ suc (t + 1) = omega arith in rw e (front wire s t (omega arith) (omega arith))
-
--- ---- the vectors of a wire
-
-pub wire_frame : {A : Type 0} (vectors : List (Vec ℕ A)) (t : ℕ) (v : Vec ℕ A) → t < length vectors → v ≡ get_or vectors t v → slice_get (contents vectors) t ≡ Some v.items
-wire_frame [] t v lt is = absurd (omega arith)
-wire_frame (x ∷ vectors) zero v lt is = ap (λ y. Some y.items) (sym is)
-wire_frame (x ∷ vectors) (suc t) v lt is = wire_frame vectors t v (omega arith) is
-
-pub wire_over : {A : Type 0} (vectors : List (Vec ℕ A)) (t : ℕ) → length vectors ≤ t → slice_get (contents vectors) t ≡ None
-wire_over [] t over = refl
-wire_over (x ∷ vectors) zero over = absurd (omega arith)
-wire_over (x ∷ vectors) (suc t) over = wire_over vectors t (omega arith)
 
 -- ---- a send
 
@@ -154,6 +141,12 @@ module _ (wire : List (List ℕ)) (capacity s t : ℕ) (receiver : ReceiverState
   makes_track : (receiver-now : ReceiverState) → ArePlaces wire s t → t < s → receiver-now ≡ receiver_after here (drop t (take s (items_of wire))) → track_at wire capacity s (t + 1) receiver-now nows ≡ after_take here
   makes_track receiver-now h lt is =
       ap₂ (λ (l : Lane (List ℕ)) (r : ReceiverState). let z : TrackState = record { wire = wire; lane = l; receiver = r; nows = nows } in z) (sym (lane_takes h lt)) is
+
+  -- a take of a frame, before the wire's end
+  pub frame_first : ArePlaces wire s t → t < s → t < length wire → HasFrameFirst here
+  frame_first h lt within =
+      let one = there_is t wire within in
+      record { frame = one.0; queue = drop (t + 1) (take s (items_of wire)); first = at_front (Frame one.0) (ap item_of one.1) h lt }
 
   -- a frame at the front
   pub take_frame : (log log-now : LogState) (number : ℕ) (frame : List ℕ) (receiver-now : ReceiverState) → ArePlaces wire s t → t < s → slice_get wire t ≡ Some frame

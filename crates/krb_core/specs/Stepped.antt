@@ -8,6 +8,7 @@ use Rattle.krb_core.specs.declared.turn.Turn.{Turn}
 use Rattle.krb_core.specs.declared.turn.Turn.TheVariants as turn
 use Rattle.krb_peers.specs.LogState.{LogState}
 use Rattle.krb_core.specs.Track.{TrackState, next_send, after_send, after_take, log_after}
+use Rattle.krb_core.specs.Track.{HasFrameFirst}
 use Rattle.krb_peers.specs.Logged.{IsShut}
 
 -- its lanes, its log, and how much each sender sealed
@@ -57,6 +58,20 @@ may_at t (Some track) = is_possible track.lane (event_of t track)
 
 abbrev pub may_move : Relay → Turn → Bool
 may_move relay t = may_at t (slice_get relay.tracks (lane_of t))
+
+-- the turn takes a frame: no other one allocates
+pub record TakesFrame (relay : Relay) (t : Turn) : Type 0 where
+  pub lane : ℕ
+  pub takes : t ≡ turn.Take lane
+  pub track : TrackState
+  pub at : slice_get relay.tracks lane ≡ Some track
+  pub frame : HasFrameFirst track
+
+-- the next one of the turns takes a frame
+pub record StopsAt (relay : Relay) (turns : List Turn) (n : ℕ) : Type 0 where
+  pub turn : Turn
+  pub next : slice_get turns n ≡ Some turn
+  pub takes : TakesFrame relay turn
 
 -- whether every End was taken
 abbrev pub is_done : Relay → Bool

@@ -64,3 +64,9 @@ LogsFront lane track log track-now log-now =
     (frame : List ℕ) (queue : List (Item (List ℕ))) → track.lane.queue ≡ Frame frame ∷ queue
     → LogsNext track.receiver log lane
     (moment_at track.nows (length track.lane.got)) frame track-now.receiver log-now
+
+-- a frame is first in the queue
+pub record HasFrameFirst (track : TrackState) : Type 0 where
+  pub frame : List ℕ
+  pub queue : List (Item (List ℕ))
+  pub first : track.lane.queue ≡ Frame frame ∷ queue

@@ -6,8 +6,9 @@ ghost use Rattle.krb_peers.specs.Sending.{source_of, IsSender};
 ghost use Rattle.krb_peers.specs.StartError.{IsReason};
 ghost use Rattle.krb_core.specs.Start.{IsBegun};
 
+use crate::settled::Settled;
 use crate::track::Track;
-use krb_peers::{Receiving, Sending, Sent, StartError, emit_sealed};
+use krb_peers::{Sending, Sent, StartError, emit_sealed};
 use krb_seal::Sealer;
 use std::alloc::Global;
 
@@ -16,7 +17,7 @@ pub(crate) fn begin_lane<S: Sealer>(
     alloc: Global,
     lane: u32,
     sending: Sending<S>,
-    receiving: Receiving,
+    receiving: Settled,
     capacity: usize,
 ) -> Result<(Track, Sent), StartError>
     requires sender { IsSender (source_of S.state sending) }

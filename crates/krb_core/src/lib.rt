@@ -15,16 +15,17 @@
 
 mod begin;
 mod relayed;
+mod settled;
 mod stepped;
 mod track;
 mod turn;
 
 pub use krb_peers::{
-    Delivery, Emit, EmitError, Ending, Entry, Event, LAST_NUMBER, Log, Order, OrderRefusal,
+    Boxed, Delivery, Emit, EmitError, Ending, Entry, Event, LAST_NUMBER, Log, Order, OrderRefusal,
     Receiver, Receiving, Record, RecordError, Sending, Sent, StartError, Status, TEXT_LIMIT, Texts,
-    USER_DATA_LIMIT, accepted_laws, attempt_laws, carried_laws, emit, emit_sealed, frames_laws,
-    going_on_laws, headline_laws, logged_laws, read_record, record_bytes, record_laws, relay_laws,
-    rounds_laws, source_laws, undisturbed_laws, verdict_laws,
+    USER_DATA_LIMIT, Wire, accepted_laws, attempt_laws, carried_laws, emit, emit_sealed,
+    frames_laws, going_on_laws, headline_laws, logged_laws, read_record, record_bytes, record_laws,
+    relay_laws, rounds_laws, source_laws, undisturbed_laws, verdict_laws,
 };
 pub use relayed::stepped_laws;
 pub use stepped::Stepped;

@@ -7,14 +7,15 @@ ghost use Rattle.krb_peers.specs.Sending.{source_of, IsSender};
 ghost use Rattle.krb_peers.specs.Ends.{lanes_of};
 ghost use Rattle.krb_core.specs.Start.{AreBegun, FailsToBegin};
 ghost use Rattle.krb_core.specs.Relayed.{HasTurned, GoesOn, KeepsHeadline};
-ghost use Rattle.krb_core.specs.Stepped.{lane_of, turned, after, may_move, is_done};
+ghost use Rattle.krb_core.specs.Stepped.{lane_of, turned, after, may_move, is_done, TakesFrame, StopsAt};
 
 mod finish;
 
 use crate::begin::begin_lane;
+use crate::settled::settle_all;
 use crate::track::Track;
 use crate::turn::{Did, Turn};
-use krb_peers::{Log, Receiving, Sending, Sent, StartError};
+use krb_peers::{Boxed, Log, Receiving, Sending, Sent, StartError};
 use krb_seal::Sealer;
 use std::alloc::{AllocError, Global};
 use std::marker::Model;
@@ -51,7 +52,7 @@ impl Stepped {
     /// There are one to eight lanes, with as many receivers as senders, each within its limits. The
     /// first error ends it: out of memory, or the least lane whose plan is bad or whose sealer was
     /// wiped.
-    pub fn new<S: Sealer>(
+    pub fn new<S: Sealer + Boxed>(
         alloc: Global,
         sendings: Vec<Sending<S>>,
         receivings: Vec<Receiving>,
@@ -74,6 +75,7 @@ impl Stepped {
     {
         let count = sendings.len();
         let log = Log::new(alloc, count as u32);
+        let receivings = settle_all(alloc, receivings)?;
         let mut tracks = Vec::with_capacity(alloc, count)?;
         let mut sents = Vec::with_capacity(alloc, count)?;
         for (sending, receiving) in sendings.into_iter().zip(receivings) {
@@ -95,12 +97,13 @@ impl Stepped {
     /// A send puts the lane's next frame into the queue, and after the last one the end. A take
     /// gives the first frame of the queue to the lane's receiver and enters the outcome in the log,
     /// or notes the end there. An impossible event changes nothing, and neither does out of memory,
-    /// which is the only error.
+    /// which is the only error: only a take of a frame ends so.
     pub fn step(&mut self, turn: Turn) -> Result<Did, AllocError>
         requires { lane_of turn < length self.old.tracks }
         ensures ok { OnOk result (self.new ≡ turned self.old turn) }
         ensures waits { IfOk result (λ did. (did ≡ Did.Waits) ↔ (may_move self.old turn ≡ false)) }
         ensures err { OnErr result (self.new ≡ self.old) }
+        ensures memory { OnErr result (TakesFrame self.old turn) }
         ensures lanes { length self.new.tracks ≡ length self.old.tracks }
 
         // After any turns, the turn comes next, and the headline holds of each lane.
@@ -118,11 +121,12 @@ impl Stepped {
 
     /// All turns, one after another.
     ///
-    /// It ends when it first runs out of memory, with the earlier turns done.
+    /// It ends when it first runs out of memory, at a take of a frame, with the earlier turns done.
     pub fn run(&mut self, turns: &[Turn]) -> Result<(), AllocError>
         requires { All (λ turn. lane_of turn < length self.old.tracks) turns.now }
         ensures after { (n : ℕ) × (self.new ≡ after self.old (take n turns.now))
-            × OnOk result (n ≡ length turns.now) }
+            × OnOk result (n ≡ length turns.now)
+            × OnErr result (StopsAt self.new turns.now n) }
 
         // After any turns, these turns come next, and the headline holds of each lane, also if
         // memory ran out.

@@ -2,23 +2,24 @@
 
 ghost use Rattle.std.specs.Prelude.{◌≡◌, ◌↔◌, ◌<◌, length, false, OnOk, OnErr, IfOk};
 ghost use Rattle.krb_base.specs.Lane.{Take, has_end, is_possible};
-ghost use Rattle.krb_peers.specs.Plan.{contents};
 ghost use Rattle.krb_core.specs.Start.{fresh};
-ghost use Rattle.krb_core.specs.Track.{next_send, after_send, after_take, log_after, LogsFront};
+ghost use Rattle.krb_core.specs.Track.{next_send, after_send, after_take, log_after, LogsFront, HasFrameFirst};
 ghost use Rattle.krb_peers.specs.Logged.{IsShut};
 
+use crate::settled::Settled;
 use crate::turn::Did;
-use krb_peers::{Log, Receiving};
+use krb_peers::{Log, Wire};
 use std::alloc::{AllocError, Global};
 use std::marker::Model;
 
-/// A lane whose frames stay where they are: two places say what was sent, and what of it was taken.
+/// A lane whose wire stays where it is: two places say what was sent, and what of it was taken. A frame
+/// is made when it is taken.
 ///
 /// After the last frame comes the end, as one more item.
 #[derive(Drop)]
 pub(crate) struct Track {
-    wire: Vec<Vec<u8>>,
-    receiving: Receiving,
+    wire: Wire,
+    receiving: Settled,
     capacity: usize,
     sent: usize,
     taken: usize,
@@ -26,29 +27,27 @@ pub(crate) struct Track {
 
 impl Model for Track {
     ghost use Rattle.std.specs.Prelude.{◌<◌, length};
-    ghost use Rattle.krb_peers.specs.Plan.{contents};
     ghost use Rattle.krb_core.specs.Track.{TrackState};
     ghost use Rattle.krb_core.specs.TrackPlaces.{lane_at, ArePlaces};
 
     ghost Value = { TrackState };
 
     ghost view = { λ track. record {
-      wire = contents track.wire.items;
-      lane = lane_at track.capacity (contents track.wire.items) track.sent track.taken;
+      wire = track.wire;
+      lane = lane_at track.capacity track.wire track.sent track.taken;
       receiver = track.receiving.receiver;
       nows = track.receiving.nows.items;
     } };
 
-    ghost invariant = { λ track. ArePlaces (contents track.wire.items) track.sent track.taken
+    ghost invariant = { λ track. ArePlaces track.wire track.sent track.taken
         × (0 < length track.receiving.nows.items) };
 }
 
 impl Track {
     /// A lane through which nothing went.
-    pub(crate) fn new(wire: Vec<Vec<u8>>, receiving: Receiving, capacity: usize) -> Track
+    pub(crate) fn new(wire: Wire, receiving: Settled, capacity: usize) -> Track
         requires { 0 < length receiving.nows.items }
-        ensures { result
-            ≡ fresh (contents wire.items) receiving.receiver receiving.nows.items capacity }
+        ensures { result ≡ fresh wire receiving.receiver receiving.nows.items capacity }
     {
         Track {
             wire,
@@ -76,7 +75,7 @@ impl Track {
     /// Takes the first item of the queue, if there is one.
     ///
     /// The receiver judges a frame at the timestamp of its place, and the outcome goes to the log.
-    /// The end is noted there. Out of memory changes nothing.
+    /// The end is noted there. Only a frame takes memory. Out of memory changes nothing.
     pub(crate) fn take(
         &mut self,
         alloc: Global,
@@ -90,19 +89,19 @@ impl Track {
         ensures logged { OnOk result (LogsFront lane self.old log.old self.new log.new) }
         ensures waits { IfOk result (λ did.
             (did ≡ Did.Waits) ↔ (is_possible self.old.lane Take ≡ false)) }
+        ensures memory { OnErr result (HasFrameFirst self.old) }
         ensures unchanged { OnErr result (self.new ≡ self.old) }
         ensures unwritten { OnErr result (log.new ≡ log.old) }
     {
         if self.taken == self.sent {
             return Ok(Did::Waits);
         }
-        match self.wire.get(self.taken) {
-            Some(frame) => {
-                let now = self.receiving.moment_at(self.taken);
-                let receiver = &mut self.receiving.receiver;
-                receiver.take_into(log, alloc, lane, frame.as_slice(), now)?;
-            }
-            None => log.end(lane),
+        if self.taken < self.wire.len() {
+            let frame = self.wire.emission(alloc, self.taken)?;
+            self.receiving
+                .take_into(log, alloc, lane, frame.as_slice(), self.taken)?;
+        } else {
+            log.end(lane);
         }
         self.taken += 1;
         Ok(Did::Moved)

@@ -1,4 +1,5 @@
 pub mod ListLemmas
+pub mod EmissionLemmas
 pub mod OrderLemmas
 pub mod AcceptedLemmas
 pub mod AcceptedPrefix

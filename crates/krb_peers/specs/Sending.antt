@@ -1,6 +1,6 @@
 -- A sender as the code holds it.
 use Rattle.std.specs.Prelude.{◌≡◌, ◌≤◌, ◌<◌, ℕ, ◌+◌, ◌-◌, ◌*◌, ◌==◌, if◌then◌else◌, List, length}
-use Rattle.std.specs.Prelude.{take, option_map, true, ◌⊎◌, Result, IfOk, IfErr, OnOk, OnErr, IsErr}
+use Rattle.std.specs.Prelude.{take, option_map, None, true, ◌⊎◌, Result, IfOk, IfErr, OnOk, OnErr, IsErr}
 use Rattle.std.specs.Global.{Vec}
 use Rattle.krb_base.specs.Limits.{last_number}
 use Rattle.krb_seal.specs.Sealer.{SealerState}
@@ -47,6 +47,10 @@ behind k source = record source {
   sealer = record source.sealer { next = source.sealer.next + k };
   draws = after_words (4 * k) source.draws;
 }
+
+-- the same sender without a plan
+abbrev pub unplanned : Source → Source
+unplanned source = record source { plan = None }
 
 -- the limits of a sender: no text is too long, not too many go together, there is a timestamp, and
 -- a number is left for the close

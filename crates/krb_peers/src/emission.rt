@@ -1,6 +1,7 @@
-//! What a plan puts on the wire.
+//! What a plan makes of frames.
 
 ghost use Rattle.std.specs.Prelude.{◌≡◌, ◌↔◌, IsTrue, IsFalse, IfOk, OnOk, Some};
+ghost use Rattle.krb_base.specs.Bytes.{AreBytes};
 ghost use Rattle.krb_peers.specs.Plan.{contents, is_good, is_good_emission, emission, emissions, wire};
 ghost use Rattle.krb_peers.specs.Verdicts.{AllBytes};
 
@@ -26,7 +27,7 @@ pub fn emit(alloc: Global, frames: &[Vec<u8>], plan: &[Emit]) -> Result<Vec<Vec<
 }
 
 /// Whether each emission is good.
-fn is_good(frames: &[Vec<u8>], plan: &[Emit]) -> bool
+pub(crate) fn is_good(frames: &[Vec<u8>], plan: &[Emit]) -> bool
     ensures { result ≡ is_good (contents frames.now) plan.now }
 {
     plan.iter()
@@ -41,6 +42,31 @@ fn is_good_emission(frames: &[Vec<u8>], emission: &Emit) -> bool
         Emit::Frame(k) => *k < frames.len(),
         Emit::Flip { k, at, mask } => { *k < frames.len() && *at < frames[*k].len() && *mask != 0 }
         Emit::Raw(_) => true,
+    }
+}
+
+/// A law, and no work: what is emitted are bytes, if the frames are.
+pub(crate) fn known_emissions(frames: &[Vec<u8>], plan: &[Emit])
+    ensures { AllBytes (contents frames.now)
+        → AllBytes (emissions (contents frames.now) plan.now) }
+{
+    for emission in plan {
+        known_emission(frames, emission);
+    }
+}
+
+/// The same of one emission.
+fn known_emission(frames: &[Vec<u8>], one: &Emit)
+    ensures { AllBytes (contents frames.now)
+        → AreBytes (emission (contents frames.now) one.now) }
+{
+    let _ = frames;
+    match one {
+        Emit::Frame(_) => {}
+        Emit::Flip { mask, .. } => {
+            let _mask = *mask;
+        }
+        Emit::Raw(bytes) => known_bytes(bytes.as_slice()),
     }
 }
 
@@ -61,7 +87,7 @@ fn emit_all(alloc: Global, frames: &[Vec<u8>], plan: &[Emit]) -> Result<Vec<Vec<
 }
 
 /// One good emission.
-fn emit_one(alloc: Global, frames: &[Vec<u8>], one: &Emit) -> Result<Vec<u8>, AllocError>
+pub(crate) fn emit_one(alloc: Global, frames: &[Vec<u8>], one: &Emit) -> Result<Vec<u8>, AllocError>
     requires { IsTrue (is_good_emission (contents frames.now) one.now) }
     ensures { IfOk result (λ frame. frame.items ≡ emission (contents frames.now) one.now) }
 {

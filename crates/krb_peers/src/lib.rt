@@ -17,16 +17,17 @@
 //!
 //! ```rust crates/example_relay/src/main.rt
 //! Ok(Sending {
-//!     sealer: Aes256Sealer::new(&mut [host; 32], session(alloc, host)?),
+//!     sealer,
 //!     texts: vec![in alloc; Bytes::new(Vec::from_slice(alloc, text)?)]?,
 //!     batch: 1,
 //!     ats: vec![in alloc; at]?,
-//!     draws: ChaCha20Rng::from_seed([host; 32]),
+//!     draws: ChaCha20Rng::from_seed(seed),
 //!     plan,
 //! })
 //! ```
 #![tactic(auto)]
 
+mod boxed;
 mod confounder;
 mod delivery;
 mod emission;
@@ -42,7 +43,9 @@ mod receivers;
 mod relay;
 mod sending;
 mod start;
+mod wire;
 
+pub use boxed::Boxed;
 pub use delivery::Delivery;
 pub use emission::emit;
 pub use frames::{attempt_laws, frames_laws};
@@ -61,3 +64,4 @@ pub use receivers::{Receivers, wipe_receivers};
 pub use relay::relay_laws;
 pub use sending::{Ending, Sending, Sent};
 pub use start::{StartError, emit_sealed, emit_sealed_within};
+pub use wire::Wire;

@@ -1,16 +1,14 @@
-//! What a sender puts on its wire: all is sealed, and the plan is followed.
+//! How a sender's wire begins: all is sealed, and its plan is looked at.
 
 ghost use Rattle.std.specs.Prelude.{◌≡◌, length, false, Some, IfOk, IfErr, OnOk, OnErr};
-ghost use Rattle.krb_peers.specs.Plan.{contents};
 ghost use Rattle.krb_peers.specs.Sender.{records};
-ghost use Rattle.krb_peers.specs.Sending.{source_of, behind, IsSender, StandsAfterSome};
+ghost use Rattle.krb_peers.specs.Sending.{source_of, behind, unplanned, IsSender, StandsAfterSome};
 ghost use Rattle.krb_peers.specs.StartError.{code_of, words_of, IsReason};
 ghost use Rattle.krb_peers.specs.Wire.{IsWire};
 
-use crate::emission::emit;
 use crate::gate::{Gate, NoGate};
-use crate::plan::EmitError;
 use crate::sending::Sending;
+use crate::wire::Wire;
 use krb_seal::{SealError, Sealer};
 use std::alloc::{AllocError, Global};
 use std::error::Error;
@@ -69,35 +67,34 @@ impl From<AllocError> for StartError {
     }
 }
 
-/// Seals all records of the sender of `lane`, and emits what its plan makes of the frames.
+/// Seals all records of the sender of `lane`, and answers its wire.
 pub fn emit_sealed<S: Sealer>(
     alloc: Global,
     lane: u32,
     mut sending: Sending<S>,
-) -> Result<Vec<Vec<u8>>, StartError>
+) -> Result<Wire, StartError>
     requires { IsSender (source_of S.state sending) }
-    ensures ok { IfOk result (λ wire. IsWire (source_of S.state sending) (contents wire.items)) }
-    ensures live { IfOk result (λ wire. (S.state sending.sealer).wiped ≡ false) }
+    ensures ok { IfOk result (λ wire. IsWire (source_of S.state sending) wire) }
+    ensures live { OnOk result ((S.state sending.sealer).wiped ≡ false) }
     ensures err { IfErr result (λ error. IsReason (source_of S.state sending) lane error) }
 {
     emit_sealed_within(alloc, &NoGate, lane, &mut sending)
 }
 
-/// Seals all records of the sender of `lane`, each seal call within `gate`, and emits what its plan
-/// makes of the frames.
+/// Seals all records of the sender of `lane`, each seal call within `gate`, and answers its wire,
+/// which takes the sender's plan.
 pub fn emit_sealed_within<G: Gate, S: Sealer>(
     alloc: Global,
     gate: &G,
     lane: u32,
     sending: &mut Sending<S>,
-) -> Result<Vec<Vec<u8>>, StartError>
+) -> Result<Wire, StartError>
     requires { IsSender (source_of S.state sending.old) }
-    ensures ok { IfOk result
-        (λ wire. IsWire (source_of S.state sending.old) (contents wire.items)) }
+    ensures ok { IfOk result (λ wire. IsWire (source_of S.state sending.old) wire) }
     ensures live { OnOk result ((S.state sending.old.sealer).wiped ≡ false) }
     ensures err { IfErr result (λ error. IsReason (source_of S.state sending.old) lane error) }
-    ensures behind { OnOk result (source_of S.state sending.new ≡ behind
-        (length (records (source_of S.state sending.old))) (source_of S.state sending.old)) }
+    ensures behind { OnOk result (source_of S.state sending.new ≡ unplanned (behind
+        (length (records (source_of S.state sending.old))) (source_of S.state sending.old))) }
     ensures stopped { OnErr result
         (StandsAfterSome (source_of S.state sending.old) (S.state sending.new.sealer)) }
 {
@@ -106,12 +103,8 @@ pub fn emit_sealed_within<G: Gate, S: Sealer>(
         Err(SealError::Wiped) => return Err(StartError::Wiped { lane }),
         Err(_) => return Err(StartError::Memory),
     };
-    let Some(plan) = &sending.plan else {
-        return Ok(frames);
-    };
-    match emit(alloc, frames.as_slice(), plan.as_slice()) {
-        Ok(wire) => Ok(wire),
-        Err(EmitError::BadPlan) => Err(StartError::BadPlan { lane }),
-        Err(EmitError::Memory) => Err(StartError::Memory),
+    match Wire::new(frames, sending.plan.take()) {
+        Some(wire) => Ok(wire),
+        None => Err(StartError::BadPlan { lane }),
     }
 }

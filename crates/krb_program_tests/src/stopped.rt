@@ -9,7 +9,7 @@ use krb_base::{LAST_NUMBER, USER_DATA_LIMIT};
 use krb_commands::{Fault, push_lane, relay_job, sealer_of};
 use krb_der::Moment;
 use krb_job::{Command, SenderJob, read_job};
-use krb_relay::NoGate;
+use krb_relay::{Boxed, NoGate};
 use krb_seal::{SealError, Sealer, SessionSealer};
 use std::alloc::{AllocError, Global};
 use std::process::Abort;
@@ -45,6 +45,9 @@ impl RefusingSealer {
         })
     }
 }
+
+// Its keys are those of a test.
+impl Boxed for RefusingSealer {}
 
 impl Sealer for RefusingSealer {
     ghost state = { λ s. s.inner };

@@ -2,11 +2,12 @@
 use Rattle.std.proofs.Common.{◌≡◌, ℕ, ◌<◌, zero, suc, List, [], ◌∷◌, length, map, set, get_or, refl, ap, ap₂, ◌∙◌, arith}
 use Rattle.std.specs.Prelude.{All}
 use Rattle.std.specs.List.{AllZip}
-use Rattle.std.proofs.lemmas.List.Elements.{All-nil, All-cons, All-head, All-tail}
+use Rattle.std.proofs.lemmas.List.Elements.{All-nil, All-cons, All-head, All-tail, AllZip-get_or}
 use Rattle.krb_base.proofs.PrefixLemmas.{prefix_same, prefix_trans}
 use Rattle.krb_lane.specs.Side.{Side}
 use Rattle.krb_peers.specs.declared.receiver.Receiving.{Receiving}
-use Rattle.krb_relay.specs.Gathering.{lane_of}
+use Rattle.krb_peers.specs.LogState.{LogState}
+use Rattle.krb_relay.specs.Gathering.{lane_of, NotesTaken}
 use Rattle.krb_relay.specs.Heard.{heard, AreAnswers, BeginsAt, all_heard}
 use Rattle.krb_relay.specs.Serving.{Post, post, posts, heard_at, Drains}
 use Rattle.krb_relay.proofs.HeardLemmas.{begins_self}
@@ -59,10 +60,11 @@ pub drains_more : (l m n : Side) → Drains l m → Drains m n → Drains l n
 drains_more l m n p q = record {
   same = q.same ∙ p.same;
   more = prefix_trans l.frames m.frames n.frames p.more q.more;
+  ended = λ is. q.ended (p.ended is);
 }
 
 pub drains_self : (l : Side) → Drains l l
-drains_self l = record { same = refl; more = prefix_same l.frames }
+drains_self l = record { same = refl; more = prefix_same l.frames; ended = λ is. is }
 
 pub all_drains_self : (ls : List Side) → AllZip Drains ls ls
 all_drains_self [] = tt
@@ -96,6 +98,20 @@ drained_same [] [] h = refl
 drained_same [] (n ∷ now) h = absurd h
 drained_same (l ∷ ends) [] h = absurd h
 drained_same (l ∷ ends) (n ∷ now) h = ap₂ (λ x xs. x ∷ xs) h.0.same (drained_same ends now h.1)
+
+drained_count : (ends now : List Side) → AllZip Drains ends now → length now ≡ length ends
+drained_count [] [] h = refl
+drained_count [] (n ∷ now) h = absurd h
+drained_count (l ∷ ends) [] h = absurd h
+drained_count (l ∷ ends) (n ∷ now) h = ap suc (drained_count ends now h.1)
+
+-- Ends that were taken then are taken now
+pub drained_taken : (log : LogState) (ends now : List Side) → AllZip Drains ends now → NotesTaken log ends → NotesTaken log now
+drained_taken log ends now h taken lane below is =
+    let t = taken lane below is in
+    let there = t.there in
+    let c = drained_count ends now h in
+    record { there = omega (arith, c, there); ended = λ none. (AllZip-get_or Drains ends now lane none none h there).ended (t.ended none) }
 
 -- a write of an end of the same lane
 pub same_lanes : (ends : List Side) (k : ℕ) (none n : Side) → n.lane ≡ (get_or ends k none).lane → map lane_of (set ends k n) ≡ map lane_of ends

@@ -11,7 +11,7 @@ use Rattle.krb_relay.specs.declared.cause.Cause.{Cause}
 use Rattle.krb_relay.specs.declared.fault.OwnFault.{OwnFault}
 use Rattle.krb_relay.specs.declared.fault.WorkerFault.{WorkerFault}
 use Rattle.krb_relay.specs.declared.worker.Handed.{Handed}
-use Rattle.krb_relay.specs.Gathering.{lane_of, IsEnded, IsFresh, Finished, Begun, EndsWith, Started, got_by, HasEnded, least, Counts, IsServed, Gathers, Leaves}
+use Rattle.krb_relay.specs.Gathering.{lane_of, NotesTaken, IsEnded, IsFresh, Finished, Begun, EndsWith, Started, got_by, HasEnded, least, Counts, IsServed, Gathers, Leaves}
 use Rattle.krb_relay.specs.Heard.{BeginsAt, all_heard}
 use Rattle.krb_relay.specs.Sealed.{sealed_on}
 
@@ -104,6 +104,7 @@ module _ {S : Type 0} (gives : S → Side → Handed → Type 0) where
         begins = subst P (sym (append-nil now)) f.begins;
         lanes = f.lanes;
         same = f.same;
+        taken = (let Q : List Side → Type 0 = λ x. NotesTaken log x in subst Q (sym (append-nil now)) f.taken);
         counted = λ later within. ap (sealed_on later) zeros ∙ zeros_on later;
         long = ap length zeros;
         named = named;
@@ -138,6 +139,7 @@ module _ {S : Type 0} (gives : S → Side → Handed → Type 0) where
         begins = subst P sides g.begins;
         lanes = g.lanes;
         same = (same_from_push (map lane_of left) (map lane_of ends) (lane_of met) (lane_of mine) names).0;
+        taken = (let T : List Side → Type 0 = λ x. NotesTaken log x in subst T sides g.taken);
         counted = counts_more before sealed (length ends) me g.inner set room (let C : ℕ → Type 0 = λ n. Counts before n g.inner in subst C more g.counted);
         long = ap length set ∙ (length-set before (length ends) handed.sealed ∙ g.long);
         named = faults g.inner (g.named ∙ ap (λ n. least n g.inner) more);

@@ -1,7 +1,7 @@
 -- What a worker sent of its sender's wire.
-use Rattle.std.proofs.Common.{◌≡◌, Bool, true, ℕ, ◌+◌, ◌≤◌, inl, inr, List, [], ◌∷◌, ◌++◌, length, take, Option, Some, None, refl, sym, ap, subst, ◌∙◌, arith}
+use Rattle.std.proofs.Common.{◌≡◌, Bool, true, ℕ, zero, suc, ◌+◌, ◌≤◌, ◌⊎◌, inl, inr, List, [], ◌∷◌, ◌++◌, length, take, drop, slice_get, Option, Some, None, refl, sym, ap, subst, ◌∙◌, arith}
 use Rattle.std.specs.Prelude.{unwrap_or}
-use Rattle.std.proofs.lemmas.List.{append-nil, nil_from_length, take_all, take_at, take-take, length-append, length-take}
+use Rattle.std.proofs.lemmas.List.{append-nil, nil_from_length, take_all, take_at, take-append-drop, take-take, length-append, length-take}
 use Rattle.krb_base.specs.Prefix.{IsPrefix}
 use Rattle.krb_peers.specs.Plan.{wire}
 use Rattle.krb_peers.specs.declared.start.StartError.{StartError}
@@ -143,10 +143,27 @@ cut_unsent source after lane sent error none s h =
     let P : List (List ℕ) → Type 0 = λ x. IsCut source (sealed_since source after) x (cause_of_start error) in
     subst P (sym none) (record { front = front_unsent source (sealed_since source after) (some_stands source after s); reason = reason_of_start source lane error h })
 
-pub cut_wire : (source : Source) (count : ℕ) (sent emitted : List (List ℕ)) (cause : Cause) → cause ≡ Lost → IsPrefix sent emitted → count ≡ length (records source) → IsAll source emitted → IsCut source count sent cause
-cut_wire source count sent emitted cause is front whole all =
+-- a worker that stops since memory ran out or its other end is gone has sent a front
+cut_front : (source : Source) (count : ℕ) (sent : List (List ℕ)) (cause : Cause) → IsFront source count sent → (cause ≡ Memory) ⊎ (cause ≡ Lost) → IsCut source count sent cause
+cut_front source count sent cause front why =
     let P : Cause → Type 0 = λ c. IsCut source count sent c in
-    subst P (sym is) (cut_lost source count sent (front_shorter source count sent emitted front (front_all source count emitted whole all)))
+    elim why [
+      | inl memory ↦ subst P (sym memory) (record { front = front; reason = tt })
+      | inr lost ↦ subst P (sym lost) (record { front = front; reason = tt })
+    ]
+
+pub cut_wire : (source : Source) (count : ℕ) (sent emitted : List (List ℕ)) (cause : Cause) → (cause ≡ Memory) ⊎ (cause ≡ Lost) → IsPrefix sent emitted → count ≡ length (records source) → IsAll source emitted → IsCut source count sent cause
+cut_wire source count sent emitted cause why front whole all =
+    cut_front source count sent cause (front_shorter source count sent emitted front (front_all source count emitted whole all)) why
+
+-- what was sent and the emission at its end, and what was sent is a front
+pub sent_more : (wire : List (List ℕ)) (k : ℕ) (frame : List ℕ) → slice_get wire k ≡ Some frame → take (k + 1) wire ≡ take k wire ++ frame ∷ []
+sent_more [] k frame at = absurd (let e = at in cc)
+sent_more (x ∷ wire) zero frame at = let same : x ≡ frame = cc in ap (λ y. y ∷ []) same
+sent_more (x ∷ wire) (suc k) frame at = let e : suc k + 1 ≡ suc (k + 1) = omega arith in rw e (ap (λ l. x ∷ l) (sent_more wire k frame at))
+
+pub sent_front : (wire sent : List (List ℕ)) (k : ℕ) → sent ≡ take k wire → IsPrefix sent wire
+sent_front wire sent k is = (drop k wire, sym (take-append-drop k wire) ∙ ap (λ l. l ++ drop k wire) (sym is))
 
 -- ---- in turn, as it ends
 

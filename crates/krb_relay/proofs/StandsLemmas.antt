@@ -1,8 +1,8 @@
 -- What the calling thread's ends and receivers stand at, turn by turn.
-use Rattle.std.proofs.Common.{◌≡◌, ℕ, ◌+◌, ◌<◌, ◌≤◌, true, false, suc, List, [], ◌∷◌, length, map, set, get_or, replicate, Some, None, refl, sym, ap, subst, ◌∙◌, arith}
+use Rattle.std.proofs.Common.{◌≡◌, ℕ, zero, suc, ◌+◌, ◌<◌, ◌≤◌, true, false, List, [], ◌∷◌, length, map, set, get_or, replicate, Some, None, refl, sym, ap, subst, ◌∙◌, arith}
 use Rattle.std.specs.Prelude.{All}
 use Rattle.std.specs.List.{AllZip}
-use Rattle.std.proofs.lemmas.List.{length-set, length-replicate, get_or-replicate}
+use Rattle.std.proofs.lemmas.List.{length-set, length-map, length-replicate, get_or-replicate}
 use Rattle.std.proofs.lemmas.List.Elements.{All-nil}
 use Rattle.krb_base.specs.Limits.{lane_limit}
 use Rattle.krb_lane.specs.Side.{Side}
@@ -13,11 +13,11 @@ use Rattle.krb_peers.specs.LogState.{LogState}
 use Rattle.krb_peers.specs.Logged.{IsShut, HasLogged}
 use Rattle.krb_peers.proofs.LoggedLemmas.{logged_none, logged_shut}
 use Rattle.krb_relay.specs.declared.fault.OwnFault.{OwnFault}
-use Rattle.krb_relay.specs.Gathering.{lane_of, IsEnded, IsFresh, NotesAll, Finished}
+use Rattle.krb_relay.specs.Gathering.{lane_of, IsEnded, IsFresh, NotesAll, NotesTaken, Finished}
 use Rattle.krb_relay.specs.Heard.{Heard, heard, answers, AreAnswers, rounds_heard, all_heard}
 use Rattle.krb_relay.specs.Serving.{Post, post, posts, IsTied, AreTied, IsLevel, InRound, Stands, Turns, Drains, Stops}
 use Rattle.krb_relay.proofs.HeardLemmas.{rounds_none, none_answered, begins_selves}
-use Rattle.krb_relay.proofs.EndsLemmas.{posts_length, posts_at, posts_set, posts_heard, posts_answered, all_drains_self, all_drains_set, all_drains_more, drained_begins, drained_same}
+use Rattle.krb_relay.proofs.EndsLemmas.{posts_length, posts_at, posts_set, posts_heard, posts_answered, all_drains_self, all_drains_set, all_drains_more, drained_begins, drained_same, drained_taken}
 use Rattle.krb_relay.proofs.ServingLemmas.{turn_step, round_over}
 
 module _ (lane : ℕ) (starts : List Receiving) (ends : List Side) (receivings : List Receiving) (log : LogState) (h : Stands lane starts ends receivings log) where
@@ -36,6 +36,21 @@ module _ (lane : ℕ) (starts : List Receiving) (ends : List Side) (receivings :
       let P : List Heard → Type 0 = λ x. All AreAnswers x in
       subst P (posts_heard starts ends receivings h.each_end h.each_receiver)
       (posts_answered (posts starts ends receivings) (λ k none lt. (h.stands.tied k none lt).logged.judged))
+
+  -- the Ends that the log notes were taken
+  pub notes_taken : NotesTaken log ends
+  notes_taken k below is =
+      let lt : k < length starts = let l = lanes_are in omega (arith, l, below) in
+      let in-posts : k < length (posts starts ends receivings) = let c = count in omega (arith, c, lt) in
+      record { there = (let e = h.each_end in omega (arith, e, lt)); ended = λ none. taken_at none lt in-posts (posts starts ends receivings) refl }
+    where
+      taken_at : (none : Side) → k < length starts → k < length (posts starts ends receivings) → (ps : List Post) → ps ≡ posts starts ends receivings → (get_or ends k none).ended ≡ true
+      taken_at none lt in-posts [] same = absurd (let e = ap length same in omega (arith, e, in-posts))
+      taken_at none lt in-posts (p ∷ ps) same =
+          let t = h.stands.tied k p in-posts in
+          let post_is : get_or (posts starts ends receivings) k p ≡ post (get_or starts k p.start) (get_or ends k none) (get_or receivings k p.receiving) =
+          posts_at starts ends receivings k p.start none p.receiving p h.each_end h.each_receiver lt in
+          ap (λ (q : Post). q.rx.ended) (sym post_is) ∙ (sym t.ended ∙ is)
 
   -- a lane whose turn it is
   module _ (there : lane < length ends) where
@@ -88,6 +103,7 @@ module _ (lane : ℕ) (starts : List Receiving) (ends : List Side) (receivings :
           judged = all_answered;
           logged = ap (λ (l : LogState). l.entries) same ∙ all_logged;
           lanes = ap (λ (l : LogState). l.lanes) same ∙ lanes_are;
+          taken = λ k below is. notes_taken k (let l = ap (λ (l : LogState). l.lanes) same in omega (arith, l, below)) (ap (has_ended k) (sym same) ∙ is);
           same = refl;
           drained = all_drains_set ends ends lane x now there drains (all_drains_self ends);
         }
@@ -116,6 +132,11 @@ module _ (lane : ℕ) (starts : List Receiving) (ends : List Side) (receivings :
           t.ended ∙ (ap (λ (q : Post). q.rx.ended) same ∙ ended k p.rx at)
 
 -- ---- at first
+
+none_ended : (n lane : ℕ) → get_or (replicate n false) lane false ≡ false
+none_ended zero lane = refl
+none_ended (suc n) zero = refl
+none_ended (suc n) (suc lane) = none_ended n lane
 
 fresh_ended : (lane : ℕ) → lane < lane_limit → get_or (replicate lane_limit false) lane false ≡ false
 fresh_ended lane lt = get_or-replicate lane_limit lane false false lt
@@ -170,14 +191,17 @@ fresh_stands starts ends log each few moments fresh is =
 
 -- all lanes were served to their Ends
 pub finished_well : (starts : List Receiving) (ends now : List Side) (log : LogState) → All AreAnswers (all_heard starts now) → log.entries ≡ rounds_heard (all_heard starts now)
-    → All IsEnded now → NotesAll log (length starts) → log.lanes ≡ length starts → map lane_of now ≡ map lane_of ends → Finished starts ends now log None
-finished_well starts ends now log judged logged ended noted lanes same = record {
+    → All IsEnded now → NotesAll log (length starts) → log.lanes ≡ length starts → map lane_of now ≡ map lane_of ends → length ends ≡ length starts → Finished starts ends now log None
+finished_well starts ends now log judged logged ended noted lanes same each = record {
   seen = all_heard starts now;
   judged = judged;
   logged = logged;
   begins = begins_selves (all_heard starts now);
   lanes = lanes;
   same = same;
+  taken = λ k below is.
+      let there : k < length now = let c = sym (length-map now lane_of) ∙ (ap length same ∙ length-map ends lane_of) in omega (arith, c, each, lanes, below) in
+      record { there = there; ended = λ none. ended k none there };
   whole = λ none. (refl, ended, noted);
 }
 
@@ -192,6 +216,7 @@ finished_badly starts ends stopped now log fault stops drained =
       begins = drained_begins starts stops.mid now all;
       lanes = stops.lanes;
       same = drained_same stops.mid now all ∙ stops.same;
+      taken = drained_taken log stops.mid now all stops.taken;
       whole = λ none. absurd (let e : Some fault ≡ None = none in cc);
     }
 
@@ -204,6 +229,7 @@ finished_none starts ends now log fault is fresh drained =
       judged = none_answered starts ends none;
       logged = ap (λ (l : LogState). l.entries) is ∙ rounds_none starts ends none;
       lanes = ap (λ (l : LogState). l.lanes) is;
+      taken = λ k below noted. absurd (let e : true ≡ false = sym noted ∙ (ap (has_ended k) is ∙ none_ended 8 k) in cc);
       same = refl;
       drained = all_drains_self ends;
     } in

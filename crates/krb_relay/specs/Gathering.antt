@@ -1,6 +1,6 @@
 -- What fork and join over the lanes gathers.
 use Rattle.std.specs.Prelude.{◌≡◌, ℕ, ◌+◌, ◌<◌, ◌≤◌, ◌⊎◌, true, false, List, [], ◌∷◌, ◌++◌, map}
-use Rattle.std.specs.Prelude.{reverse, length, All, Option, None, Some}
+use Rattle.std.specs.Prelude.{reverse, length, get_or, All, Option, None, Some}
 use Rattle.std.specs.List.{AllZip}
 use Rattle.krb_base.specs.Limits.{lane_limit}
 use Rattle.krb_base.specs.Prefix.{IsPrefix}
@@ -30,8 +30,18 @@ pub record IsFresh (rx : Side) : Type 0 where
 abbrev pub NotesAll : LogState → ℕ → Type 0
 NotesAll log lanes = (lane : ℕ) → lane < lanes → has_ended lane log ≡ true
 
+-- End was taken of a lane
+pub record TookEnd (ends : List Side) (lane : ℕ) : Type 0 where
+  pub there : lane < length ends
+  pub ended : (none : Side) → (get_or ends lane none).ended ≡ true
+
+-- of its lanes the log notes as ended only those whose End was taken
+abbrev pub NotesTaken : LogState → List Side → Type 0
+NotesTaken log ends =
+    (lane : ℕ) → lane < log.lanes → has_ended lane log ≡ true → TookEnd ends lane
+
 -- The log is that of the rounds of the verdicts on the first frames of each lane, and on all of
--- them unless the thread had a fault of its own.
+-- them unless the thread had a fault of its own. It notes the Ends that were taken.
 pub record Finished (starts : List Receiving) (ends now : List Side) (log : LogState)
     (own : Option OwnFault) : Type 0 where
   pub seen : List Heard
@@ -40,6 +50,7 @@ pub record Finished (starts : List Receiving) (ends now : List Side) (log : LogS
   pub begins : AllZip BeginsAt seen (all_heard starts now)
   pub lanes : log.lanes ≡ length starts
   pub same : map lane_of now ≡ map lane_of ends
+  pub taken : NotesTaken log now
   pub whole : own ≡ None → (seen ≡ all_heard starts now) × All IsEnded now
       × NotesAll log (length starts)
 
@@ -116,6 +127,7 @@ module _ {S : Type 0} (gives : S → Side → Handed → Type 0) where
     pub begins : AllZip BeginsAt seen (all_heard starts (now ++ map got_by inner))
     pub lanes : log.lanes ≡ length starts
     pub same : map lane_of now ≡ map lane_of ends
+    pub taken : NotesTaken log (now ++ map got_by inner)
     pub counted : Counts sealed (length ends) inner
     pub long : length sealed ≡ lane_limit
     pub named : fault ≡ least (length ends) inner

@@ -13,6 +13,7 @@ use Rattle.krb_peers.specs.Logged.{HasLogged, LogsNext, noted}
 use Rattle.krb_peers.specs.Receiver.{verdict_by, receiver_behind}
 use Rattle.krb_peers.specs.Moments.{moment_at}
 use Rattle.krb_peers.specs.Verdicts.{Verdict}
+use Rattle.krb_relay.specs.Gathering.{NotesTaken}
 use Rattle.krb_relay.specs.Heard.{Heard, heard, answers, AreAnswers, rounds_heard, all_heard}
 
 -- one lane at the calling thread: its end, its receiver as it was at first, and as it is
@@ -114,16 +115,19 @@ Turns lane p log q log-now =
 
 -- ---- where the thread stops
 
--- more came through the same end
+-- more came through the same end, and an End that was taken stays taken
 pub record Drains (rx now : Side) : Type 0 where
   pub same : now.lane ≡ rx.lane
   pub more : IsPrefix rx.frames now.frames
+  pub ended : rx.ended ≡ true → now.ended ≡ true
 
--- the log is that of the rounds of these ends at some moment, and more came since
+-- the log is that of the rounds of these ends at some moment, with the Ends that were taken until
+-- then, and more came since
 pub record Stops (starts : List Receiving) (ends now : List Side) (log : LogState) : Type 0 where
   pub mid : List Side
   pub judged : All AreAnswers (all_heard starts mid)
   pub logged : log.entries ≡ rounds_heard (all_heard starts mid)
   pub lanes : log.lanes ≡ length starts
+  pub taken : NotesTaken log mid
   pub same : map (λ (rx : Side). rx.lane) mid ≡ map (λ (rx : Side). rx.lane) ends
   pub drained : AllZip Drains mid now

@@ -26,5 +26,5 @@ mod worker;
 
 pub use cause::Cause;
 pub use fault::Fault;
-pub use krb_peers::{Gate, NoGate};
+pub use krb_peers::{Boxed, Gate, NoGate};
 pub use running::{Report, relay};

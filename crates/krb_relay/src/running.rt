@@ -20,7 +20,7 @@ use crate::work::Work;
 use crate::worker::{Handed, serve};
 use krb_base::LANE_LIMIT;
 use krb_lane::LaneTx;
-use krb_peers::{Gate, Log, Receiving, Sending, Sent, wipe_receivers};
+use krb_peers::{Boxed, Gate, Log, Receiving, Sending, Sent, wipe_receivers};
 use krb_seal::Sealer;
 use std::alloc::{AllocError, Global};
 use std::sync::Wait;
@@ -46,7 +46,7 @@ pub struct Report {
 /// then. `BadPlan` and `Wiped` name the least lane whose plan is bad or whose
 /// sealer was wiped: the lanes below it have their whole logs, and the lane itself no entry. The
 /// call waits for the workers.
-pub fn relay<R: Threads + Wait + Sync, G: Gate + Sync, S: Sealer + Send>(
+pub fn relay<R: Threads + Wait + Sync, G: Gate + Sync, S: Sealer + Boxed + Send>(
     rt: &R,
     alloc: Global,
     mut sendings: Vec<Sending<S>>,

@@ -1,9 +1,8 @@
 //! What a worker does: it seals its sender's records, and sends the frames.
 
-ghost use Rattle.std.specs.Prelude.{◌≡◌, ◌+◌, ◌<◌, ◌≤◌, ◌++◌, ◌∷◌, [], ℕ, List, length, false, true, None, IfOk, IfErr, OnOk, OnErr};
+ghost use Rattle.std.specs.Prelude.{◌≡◌, ◌⊎◌, ◌+◌, ◌<◌, ◌≤◌, ◌++◌, ◌∷◌, [], ℕ, List, length, false, true, None, IfOk, IfErr, OnOk, OnErr};
 ghost use Rattle.krb_base.specs.Bytes.{AreBytes};
 ghost use Rattle.krb_base.specs.Prefix.{IsPrefix};
-ghost use Rattle.krb_peers.specs.Plan.{contents};
 ghost use Rattle.krb_peers.specs.Sender.{Source, records, texts_before};
 ghost use Rattle.krb_peers.specs.Sending.{source_of, before, IsSender, HasSealed};
 ghost use Rattle.krb_relay.specs.Sent.{IsAll, IsCut, IsOfSealing, Sends, Served, sealed_since};
@@ -11,7 +10,7 @@ ghost use Rattle.krb_relay.specs.Sent.{IsAll, IsCut, IsOfSealing, Sends, Served,
 use crate::cause::Cause;
 use krb_base::known_bytes;
 use krb_lane::{LaneTx, SentAll};
-use krb_peers::{Gate, Sending, emit_sealed_within};
+use krb_peers::{Gate, Sending, Wire, emit_sealed_within};
 use krb_seal::{SealError, Sealer};
 use std::alloc::Global;
 use std::sync::Wait;
@@ -35,7 +34,7 @@ pub(crate) struct Ended {
 /// Seals and sends what a sender has for its lane, and then End.
 ///
 /// Without a plan each frame is sent before the next record is sealed. With a plan all records are
-/// sealed and emitted first.
+/// sealed first. Then each emission is made and sent before the next.
 pub(crate) fn serve<R: Wait, G: Gate, S: Sealer>(
     rt: &R,
     alloc: Global,
@@ -142,18 +141,21 @@ fn send_planned<R: Wait, G: Gate, S: Sealer>(
     ensures lane { tx.new.lane ≡ tx.old.lane }
 {
     let wire = emit_sealed_within(alloc, gate, lane, sending)?;
-    send_wire(rt, wire, tx)
+    send_wire(rt, alloc, &wire, tx)
 }
 
-/// Sends the frames in turn.
-fn send_wire<R: Wait>(rt: &R, wire: Vec<Vec<u8>>, tx: &mut LaneTx) -> Result<(), Cause>
+/// Sends the emissions in turn. Each is made once the one before is sent.
+fn send_wire<R: Wait>(rt: &R, alloc: Global, wire: &Wire, tx: &mut LaneTx) -> Result<(), Cause>
     requires fresh { tx.old.frames ≡ [] }
-    ensures ok { OnOk result (tx.new.frames ≡ contents wire.items) }
-    ensures lost { IfErr result (λ cause. (cause ≡ Cause.Lost)
-        × IsPrefix tx.new.frames (contents wire.items)) }
+    ensures ok { OnOk result (tx.new.frames ≡ wire.now) }
+    ensures stopped { IfErr result (λ cause. ((cause ≡ Cause.Memory) ⊎ (cause ≡ Cause.Lost))
+        × IsPrefix tx.new.frames wire.now) }
     ensures lane { tx.new.lane ≡ tx.old.lane }
 {
-    for frame in wire {
+    for k in 0..wire.len() {
+        let Ok(frame) = wire.emission(alloc, k) else {
+            return Err(Cause::Memory);
+        };
         if tx.send(rt, frame).is_err() {
             return Err(Cause::Lost);
         }

@@ -5,9 +5,9 @@
 use crate::asserts::{assert_log, assert_same, assert_sender};
 use crate::lanes::Lanes;
 use crate::watch::{Odd, Watch};
-use krb_peers::emit_sealed_within;
+use krb_peers::{Wire, emit_sealed_within};
 use krb_relay::Cause;
-use std::alloc::Global;
+use std::alloc::{AllocError, Global};
 use std::process::Abort;
 use std::sync::Wait;
 use std::sync::atomic::Ordering;
@@ -212,6 +212,17 @@ fn sender_seals_until_its_lane_is_full(rt: HostRuntime) -> Result<(), Fail> {
     Ok(())
 }
 
+/// Makes each emission of a wire, none of which is empty, and counts them.
+fn count_emissions(
+    rt: &(impl Abort + Alloc<A = Global>),
+    wire: &Wire,
+) -> Result<usize, AllocError> {
+    for k in 0..wire.len() {
+        assert!(rt; !wire.emission(rt.alloc(), k)?.is_empty());
+    }
+    Ok(wire.len())
+}
+
 /// The records of two texts and the close, from 7 on, all or until the second call is refused.
 #[test]
 fn sealing_all_stands_within_its_lane(rt: HostRuntime) -> Result<(), Fail> {
@@ -226,9 +237,8 @@ fn sealing_all_stands_within_its_lane(rt: HostRuntime) -> Result<(), Fail> {
         lanes.add(rt.alloc(), &gate, false, odd, b"ab", 1)?;
         let mut sender = lanes.sendings.pop().ok_or("no sender")?;
         assert_sender(&rt, &sender);
-        let wire = emit_sealed_within(rt.alloc(), &gate, 1, &mut sender);
-        let count = match wire {
-            Ok(wire) => Some(wire.len()),
+        let count = match emit_sealed_within(rt.alloc(), &gate, 1, &mut sender) {
+            Ok(wire) => Some(count_emissions(&rt, &wire)?),
             Err(_) => None,
         };
         assert_same(&rt, count, frames);

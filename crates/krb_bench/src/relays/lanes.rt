@@ -28,7 +28,7 @@ pub(crate) struct Size {
 /// The ends of all lanes.
 #[derive(Drop)]
 pub(crate) struct Lanes {
-    pub(crate) sendings: Vec<Sending<Aes256Sealer>>,
+    pub(crate) sendings: Vec<Sending>,
     pub(crate) receivings: Vec<Receiving>,
 }
 
@@ -63,7 +63,7 @@ fn moments(alloc: Global) -> Result<Vec<Moment>, AllocError> {
 }
 
 /// A sender of texts of one letter each, the next one in each text.
-fn sending(alloc: Global, host: u8, size: Size) -> Result<Sending<Aes256Sealer>, AllocError> {
+fn sending(alloc: Global, host: u8, size: Size) -> Result<Sending, AllocError> {
     let session = session(alloc, host)?;
     let mut texts = Vec::with_capacity(alloc, size.texts)?;
     for place in 0..size.texts {
@@ -71,7 +71,7 @@ fn sending(alloc: Global, host: u8, size: Size) -> Result<Sending<Aes256Sealer>,
         texts.push(Bytes::new(vec![in alloc; letter; size.bytes]?))?;
     }
     Ok(Sending {
-        sealer: Aes256Sealer::new(&mut [host; 32], session),
+        sealer: Box::new(alloc, Aes256Sealer::new(&mut [host; 32], session))?,
         texts,
         batch: size.batch,
         ats: moments(alloc)?,

@@ -6,8 +6,9 @@ ghost use Rattle.krb_peers.specs.Sending.{source_of, IsSender};
 
 use super::lanes::{Lanes, Size, are_senders, have_moments, lanes_of};
 use krb_core::Stepped;
-use krb_peers::{Entry, Event, Log, Status};
+use krb_peers::{Entry, Event, Log, Receiving, Sending, Status};
 use krb_relay::{NoGate, Report, relay};
+use krb_seal::Sealer;
 use std::alloc::Global;
 use std::io;
 use std::sync::Wait;
@@ -15,23 +16,26 @@ use std::thread::Threads;
 use std::time::{Clock, Instant};
 
 /// Whether the lanes and their room keep the limits of a relay.
-fn is_ready(lanes: &Lanes, capacity: usize) -> bool
-    ensures same { IsTrue result
-        → length lanes.now.sendings.items ≡ length lanes.now.receivings.items }
-    ensures some { IsTrue result → 1 ≤ length lanes.now.sendings.items }
-    ensures few { IsTrue result → length lanes.now.sendings.items ≤ lane_limit }
-    ensures senders { IsTrue result → All (λ sending.
-        IsSender (source_of (λ sealer. sealer) sending)) lanes.now.sendings.items }
-    ensures moments { IsTrue result → All (λ receiving.
-        0 < length receiving.nows.items) lanes.now.receivings.items }
+fn is_ready<S: Sealer>(
+    sendings: &[Sending<S>],
+    receivings: &[Receiving],
+    capacity: usize,
+) -> bool
+    ensures same { IsTrue result → length sendings.now ≡ length receivings.now }
+    ensures some { IsTrue result → 1 ≤ length sendings.now }
+    ensures few { IsTrue result → length sendings.now ≤ lane_limit }
+    ensures senders { IsTrue result
+        → All (λ sending. IsSender (source_of S.state sending)) sendings.now }
+    ensures moments { IsTrue result
+        → All (λ receiving. 0 < length receiving.nows.items) receivings.now }
     ensures room { IsTrue result → (0 < capacity) × (capacity ≤ 64) }
 {
-    let count = lanes.sendings.len();
+    let count = sendings.len();
     (1..=8).contains(&count)
-        && count == lanes.receivings.len()
+        && count == receivings.len()
         && (1..=64).contains(&capacity)
-        && are_senders(lanes.sendings.as_slice())
-        && have_moments(lanes.receivings.as_slice())
+        && are_senders(sendings)
+        && have_moments(receivings)
 }
 
 /// Whether every lane was closed.
@@ -44,12 +48,15 @@ pub(crate) fn run_stepped(
     rt: &(impl Clock + Alloc<A = Global>),
     size: Size,
 ) -> io::Result<(u128, bool)> {
-    let lanes = lanes_of(rt.alloc(), size)?;
-    if !is_ready(&lanes, size.capacity) {
+    let Lanes {
+        sendings,
+        receivings,
+    } = lanes_of(rt.alloc(), size)?;
+    if !is_ready(sendings.as_slice(), receivings.as_slice(), size.capacity) {
         return Ok((0, false));
     }
     let start = Instant::now(rt)?;
-    let stepped = Stepped::new(rt.alloc(), lanes.sendings, lanes.receivings, size.capacity);
+    let stepped = Stepped::new(rt.alloc(), sendings, receivings, size.capacity);
     let Ok(mut stepped) = stepped else {
         return Ok((0, false));
     };
@@ -63,15 +70,14 @@ pub(crate) fn run_threads<R: Threads + Wait + Sync + Clock + Alloc<A = Global>>(
     rt: &R,
     size: Size,
 ) -> io::Result<(u128, Option<Log>)> {
-    let lanes = lanes_of(rt.alloc(), size)?;
-    if !is_ready(&lanes, size.capacity) {
-        return Ok((0, None));
-    }
-    let start = Instant::now(rt)?;
     let Lanes {
         sendings,
         receivings,
-    } = lanes;
+    } = lanes_of(rt.alloc(), size)?;
+    if !is_ready(sendings.as_slice(), receivings.as_slice(), size.capacity) {
+        return Ok((0, None));
+    }
+    let start = Instant::now(rt)?;
     let relayed = relay(rt, rt.alloc(), sendings, receivings, size.capacity, &NoGate);
     let micros = start.elapsed(rt)?.as_micros();
     let log = match relayed {

@@ -6,7 +6,7 @@ use Rattle.krb_commands.proofs.input.read_all.Goals as goal
 
 pub returns-in_err-append-clause-part : goal.returns-in_err-append-clause-part
 returns-in_err-append-clause-part g c =
-    on_err _ c.from_residual.result (_, Consumes-trans _ _ _ _ _ c.loop-alloc.invariant.0 c.in-Ok.ensures.bytes.0)
+    on_err _ c.from_residual-in_err-append.result (_, Consumes-trans _ _ _ _ _ c.loop-alloc.invariant.0 c.in_ok-count.ensures.bytes.0)
 
 pub returns-clause-too_long : goal.returns-clause-too_long
 returns-clause-too_long g c = λ _.

@@ -1,5 +1,5 @@
 -- The receivers at first are those that were given.
-use Rattle.std.proofs.Common.{ap, subst, List, None, Some}
+use Rattle.std.proofs.Common.{length, ap, sym, ◌∙◌, subst, List, None, Some}
 use Rattle.krb_peers.specs.declared.receiver.Receiving.{Receiving}
 use Rattle.krb_relay.specs.Gathering.{Finished}
 use Rattle.krb_relay.proofs.StandsLemmas.{fresh_stands, finished_well, finished_badly}
@@ -15,7 +15,8 @@ returns-in-Ok-clause-finished g c =
     let P : List Receiving → Type 0 = λ s. Finished s c.args.ends.now c.serve_all-served.new.ends c.serve_all-served.new.log None in
     let e = c.in-Ok.ensures in
     subst P (ap (λ v. v.items) c.of-starts.ensures)
-    (finished_well c.of-starts.result.value.items c.args.ends.now c.serve_all-served.new.ends c.serve_all-served.new.log e.judged e.logged e.ended e.noted e.lanes e.same)
+    (finished_well c.of-starts.result.value.items c.args.ends.now c.serve_all-served.new.ends c.serve_all-served.new.log e.judged e.logged e.ended e.noted e.lanes e.same
+    (c.requires.each ∙ sym (ap (λ v. length v.items) c.of-starts.ensures)))
 
 pub returns-clause-finished : goal.returns-clause-finished
 returns-clause-finished g c =

@@ -1,9 +1,8 @@
--- Nothing was sent of what was not sealed, and a front of the wire where the other end was lost.
-use Rattle.std.proofs.Common.{◌≡◌, length, refl}
+-- Nothing was sent of what was not sealed, and a front of the wire where the worker stopped.
+use Rattle.std.proofs.Common.{◌≡◌, length, refl, ap}
 use Rattle.std.proofs.lemmas.Result.{IfErr-weaker, err_from_is_err_and}
-use Rattle.krb_peers.specs.Plan.{contents}
 use Rattle.krb_peers.specs.Sender.{records}
-use Rattle.krb_peers.specs.Sending.{source_of}
+use Rattle.krb_peers.specs.Sending.{source_of, behind}
 use Rattle.krb_relay.specs.Sent.{IsAll, sealed_since}
 use Rattle.krb_relay.proofs.SentLemmas.{cut_unsent, cut_wire, since_behind}
 use Rattle.krb_relay.proofs.worker.send_planned.Goals as goal
@@ -19,9 +18,9 @@ pub returns-clause-cut : goal.returns-clause-cut
 returns-clause-cut g c =
     let source = source_of g.S.Sealer.state c.args.sending.now in
     let after = source_of g.S.Sealer.state c.emit_sealed_within.new.sending in
-    let wire = contents c.in_ok-wire.wire.items in
-    let whole : sealed_since source after ≡ length (records source) = since_behind source after after _ c.in_ok-wire.ensures.behind refl in
+    let wire = c.in_ok-wire.wire in
+    let whole : sealed_since source after ≡ length (records source) = since_behind source (behind (length (records source)) source) after _ refl (ap (λ s. s.sealer.next) c.in_ok-wire.ensures.behind) in
     let all : IsAll source wire = record { live = c.in_ok-wire.ensures.live; emits = c.in_ok-wire.ensures.ok } in
     IfErr-weaker c.send_wire.result _ _
-    (λ cause lost. cut_wire source _ c.send_wire.new.tx.frames wire cause lost.0 lost.1 whole all)
-    c.send_wire.ensures.lost
+    (λ cause h. cut_wire source _ c.send_wire.new.tx.frames wire cause h.0 h.1 whole all)
+    c.send_wire.ensures.stopped

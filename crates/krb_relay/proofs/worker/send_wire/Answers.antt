@@ -1,14 +1,22 @@
--- What was sent until the other end was lost.
-use Rattle.std.proofs.Common.{◌≡◌, ◌++◌, refl, ap, sym, ◌∙◌, rules}
-use Rattle.std.proofs.lemmas.List.{map-append}
-use Rattle.std.specs.Vec.Iter.{into_iter_items}
-use Rattle.krb_peers.specs.Plan.{contents}
+-- An emission more, and what was sent until the worker stopped.
+use Rattle.std.proofs.Common.{◌≡◌, ◌++◌, ◌∷◌, [], inl, inr, refl, ap, sym, ◌∙◌, rules, arith}
+use Rattle.std.proofs.lemmas.List.{take_all}
+use Rattle.krb_relay.proofs.SentLemmas.{sent_more, sent_front}
 use Rattle.krb_relay.proofs.worker.send_wire.Goals as goal
 
-pub returns-then-is_err-clause-lost : goal.returns-then-is_err-clause-lost
-returns-then-is_err-clause-lost g c =
-    let left = into_iter_items c.loop-frame.frame-iterator in
-    let same : c.send.new.self.frames ≡ c.loop-frame.tx.frames = search rules in
-    let split : c.args.wire.items ≡ c.loop-frame.yielded ++ left = search rules in
-    let sent : c.loop-frame.tx.frames ≡ contents c.loop-frame.yielded = search rules in
-    (refl, (contents left, ap contents split ∙ (map-append (λ v. v.items) c.loop-frame.yielded left ∙ ap (λ fs. fs ++ contents left) (sym (same ∙ sent)))))
+pub loop-k-preserved : goal.loop-k-preserved
+loop-k-preserved g c =
+    let sent : c.send.new.self.frames ≡ c.loop-k.tx.frames ++ c.in-Ok.frame.items ∷ [] = search rules in
+    record {
+      sent = sent ∙ ap (λ l. l ++ c.in-Ok.frame.items ∷ []) c.loop-k.invariant.sent ∙ sym (sent_more c.args.wire.now c.loop-k.k c.in-Ok.frame.items c.in-Ok.ensures);
+      lane = search rules;
+    }
+
+pub returns-then-is_err-clause-stopped : goal.returns-then-is_err-clause-stopped
+returns-then-is_err-clause-stopped g c =
+    let same : c.send.new.self.frames ≡ c.loop-k.tx.frames = search rules in
+    (inr refl, sent_front c.args.wire.now c.send.new.self.frames c.loop-k.k (same ∙ c.loop-k.invariant.sent))
+
+pub returns-in_default-clause-stopped : goal.returns-in_default-clause-stopped
+returns-in_default-clause-stopped g c =
+    (inl refl, sent_front c.args.wire.now c.loop-k.tx.frames c.loop-k.k c.loop-k.invariant.sent)

@@ -1,7 +1,7 @@
 -- One turn more.
 use Rattle.std.proofs.Common.{rules, ◌≡◌, ◌<◌, length, take, ◌∙◌, arith}
 use Rattle.krb_core.specs.Stepped.{after}
-use Rattle.krb_core.proofs.SteppedLemmas.{after_more, count_more}
+use Rattle.krb_core.proofs.SteppedLemmas.{after_more, count_more, stops_at, on_err}
 use Rattle.krb_core.proofs.RelayedClaims.{goes_on, keeps_headline}
 use Rattle.krb_core.proofs.stepped.Stepped.run.Goals as goal
 
@@ -12,6 +12,19 @@ loop-turn-preserved c =
       count = count_more c.args.self.now c.loop-turn.self c.step.new.self c.args.turns.now c.loop-turn.turn-index _ c.loop-turn.invariant.count c.in_ok-step.ensures.ok;
       relay = after_more c.args.self.now c.loop-turn.self c.step.new.self c.args.turns.now c.loop-turn.turn-index _ lt c.loop-turn.invariant.relay c.in_ok-step.ensures.ok;
     }
+
+pub returns-in_err-step-clause-after : goal.returns-in_err-step-clause-after
+returns-in_err-step-clause-after c =
+    let lt : c.loop-turn.turn-index < length c.args.turns.now = omega arith in
+    let is : c.step.new.self ≡ after c.args.self.now (take c.loop-turn.turn-index c.args.turns.now) = c.in_err-step.ensures.err ∙ c.loop-turn.invariant.relay in (
+      c.loop-turn.turn-index,
+      is,
+      search rules,
+      on_err _ c.from_residual.result (stops_at c.loop-turn.self c.step.new.self c.args.turns.now c.loop-turn.turn-index _ lt c.in_err-step.ensures.err c.in_err-step.ensures.memory),
+    )
+
+pub returns-clause-after : goal.returns-clause-after
+returns-clause-after c = (c.loop-turn.turn-index, c.loop-turn.invariant.relay, omega arith, tt)
 
 pub returns-in_err-step-clause-turned : goal.returns-in_err-step-clause-turned
 returns-in_err-step-clause-turned c =

@@ -4,8 +4,8 @@ use Rattle.std.specs.Prelude.{OnOk, OnErr, IfOk}
 use Rattle.krb_core.specs.declared.turn.Did.TheVariants.{Waits}
 use Rattle.krb_core.specs.declared.turn.Turn.{Turn}
 use Rattle.krb_core.specs.declared.turn.Turn.TheVariants.{Send, Take}
-use Rattle.krb_core.specs.Stepped.{Relay, lane_of, turned, may_move}
-use Rattle.krb_core.proofs.SteppedLemmas.{get-get_or, relay_of, relay_by, step_send, step_take, take_leaves, take_waits, take_undone}
+use Rattle.krb_core.specs.Stepped.{Relay, lane_of, turned, may_move, TakesFrame}
+use Rattle.krb_core.proofs.SteppedLemmas.{get-get_or, relay_of, relay_by, step_send, step_take, take_leaves, take_waits, take_undone, take_memory}
 use Rattle.krb_core.proofs.RelayedClaims.{goes_on, goes_on_by, keeps_headline, keeps_headline_by}
 use Rattle.krb_core.proofs.stepped.Stepped.step.Goals as goal
 
@@ -92,3 +92,14 @@ returns-in-Take-clause-headline c =
     let undone = take_undone c.take.result inside.tracks.items inside.log c.take.new.log inside.sents.items k old c.take.new.self at c.take.ensures.unchanged c.take.ensures.unwritten in
     let P : Relay → Type 0 = λ r. OnErr c.take.result (now ≡ r) in
     keeps_headline_by c.take.result c.args.self.now now c.args.turn (returns-in-Take-clause-ok c) (subst P c.self.view_is undone)
+
+pub returns-in-Take-clause-memory : goal.returns-in-Take-clause-memory
+returns-in-Take-clause-memory c =
+    let inside = c.self.inside in
+    let k = c.in-Take.lane in
+    let old = c.index_mut-track.result.now in
+    let lt : k < length inside.tracks.items = rw c.in-Take.is at (subst (λ (r : Relay). lane_of c.args.turn < length r.tracks) (sym c.self.view_is) c.requires) in
+    let at : slice_get inside.tracks.items k ≡ Some old = get-get_or inside.tracks.items k old lt c.index_mut-track.ensures.value in
+    let P : Relay → Type 0 = λ r. OnErr c.take.result (TakesFrame r (Take k)) in
+    let Q : Turn → Type 0 = λ t. OnErr c.take.result (TakesFrame c.args.self.now t) in
+    subst Q (sym c.in-Take.is) (subst P c.self.view_is (take_memory c.take.result inside.tracks.items inside.log inside.sents.items k old at c.take.ensures.memory))
