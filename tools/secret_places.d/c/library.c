@@ -1,0 +1,210 @@
+/* Calls of libkrbrelay with secrets that memcheck takes for undefined: its key, confounders and user
+ * data. Frames are public once they are made, and so is the answer of each call.
+ *
+ *     library PART ETYPE MODE      PART is control, seal, refuse or open
+ *
+ * It ends with 0 if each call answered as it has to. */
+#include "krbrelay.h"
+
+#include <stdio.h>
+#include <stdlib.h>
+#include <string.h>
+#include <valgrind/memcheck.h>
+
+#define NUMBER 7u
+#define LONGEST 4097u
+
+static const struct krbrelay_moment now = { .seconds = 1700000000u, .microseconds = 5 };
+static const size_t sizes[] = { 0, 1, 15, 16, 17, 31, 32, 33, 64, 100, 1000, LONGEST };
+
+static uint8_t key[32], confounder[16], text[LONGEST];
+static uint8_t frame[KRBRELAY_FRAME_SIZE(LONGEST + 1)], opened[sizeof frame];
+static int32_t etype;
+static uint32_t mode;
+
+static void end(const char *what)
+{
+    fprintf(stderr, "library: %s\n", what);
+    exit(1);
+}
+
+static void hide(void *bytes, size_t size) { VALGRIND_MAKE_MEM_UNDEFINED(bytes, size); }
+
+static void publish(void *bytes, size_t size) { VALGRIND_MAKE_MEM_DEFINED(bytes, size); }
+
+/* Ends where a call answered otherwise. */
+static void has_answered(enum krbrelay_answer answer, enum krbrelay_answer wanted, const char *what)
+{
+    publish(&answer, sizeof answer);
+    if (answer != wanted)
+        end(what);
+}
+
+static size_t key_size(void) { return etype == 17 ? 16 : sizeof key; }
+
+static void draw_secrets(void)
+{
+    for (size_t i = 0; i < sizeof key; i++)
+        key[i] = (uint8_t)(7 * i + 3);
+    for (size_t i = 0; i < sizeof confounder; i++)
+        confounder[i] = (uint8_t)(5 * i + 9);
+    for (size_t i = 0; i < sizeof text; i++)
+        text[i] = (uint8_t)(31 * i + 1);
+    hide(key, sizeof key);
+    hide(confounder, sizeof confounder);
+    hide(text, sizeof text);
+}
+
+static struct krbrelay_address host(uint8_t last)
+{
+    struct krbrelay_address address = { .kind = 2, .len = 4, .bytes = { 10, 0, 0, last } };
+    return address;
+}
+
+static struct krbrelay_expect expected(void)
+{
+    struct krbrelay_expect demands = { .mode = mode, .sender = host(1), .receiver = host(2),
+                                       .require_time = 1, .skew = 300 };
+    return demands;
+}
+
+/* ---- the parts */
+
+/* Three places: one for each secret. */
+static void control(void)
+{
+    unsigned count = 0;
+    if (key[0] == 3)
+        count++;
+    if (confounder[0] == 9)
+        count++;
+    if (text[0] == 1)
+        count++;
+    publish(&count, sizeof count);
+    if (count != 3)
+        end("the control counted otherwise");
+}
+
+static void make_sealer(struct krbrelay_sealer *sealer)
+{
+    struct krbrelay_session session = { .mode = mode, .first = NUMBER, .sender = host(1) };
+    has_answered(krbrelay_sealer_new(sealer, etype, key, key_size(), &session), KRBRELAY_OK, "sealer_new");
+}
+
+static size_t sealed(struct krbrelay_sealer *sealer, size_t len)
+{
+    size_t size;
+    has_answered(krbrelay_sealer_seal(sealer, text, len, &now, confounder, frame, sizeof frame, &size),
+                 KRBRELAY_OK, "sealer_seal");
+    publish(frame, size);
+    return size;
+}
+
+static size_t sealed_record(struct krbrelay_sealer *sealer, uint32_t kind, const uint8_t *data, size_t len)
+{
+    size_t size;
+    has_answered(krbrelay_sealer_seal_record(sealer, kind, data, len, &now, confounder, frame,
+                                             sizeof frame, &size),
+                 KRBRELAY_OK, "sealer_seal_record");
+    publish(frame, size);
+    return size;
+}
+
+static size_t two_texts(uint8_t *batch, size_t room)
+{
+    size_t size = 0;
+    has_answered(krbrelay_batch_add(batch, room, &size, text, 50), KRBRELAY_OK, "batch_add");
+    has_answered(krbrelay_batch_add(batch, room, &size, text + 50, 70), KRBRELAY_OK, "batch_add");
+    return size;
+}
+
+static void seal(void)
+{
+    static const uint32_t other[] = { KRBRELAY_PRIV, KRBRELAY_SAFE };
+    struct krbrelay_sealer sealer = { 0 };
+    uint8_t batch[200];
+    uint64_t next;
+    size_t size;
+    make_sealer(&sealer);
+    for (size_t i = 0; i < sizeof sizes / sizeof sizes[0]; i++)
+        (void)sealed(&sealer, sizes[i]);
+    (void)sealed_record(&sealer, KRBRELAY_TEXT, text, 50);
+    (void)sealed_record(&sealer, KRBRELAY_BATCH, batch, two_texts(batch, sizeof batch));
+    has_answered(krbrelay_sealer_next(&sealer, &next), KRBRELAY_OK, "sealer_next");
+    has_answered(krbrelay_sealer_frame_size(&sealer, 50, &now, &size), KRBRELAY_OK, "sealer_frame_size");
+    has_answered(krbrelay_sealer_set_mode(&sealer, other[mode - KRBRELAY_SAFE]), KRBRELAY_OK, "set_mode");
+    (void)sealed(&sealer, 100);
+    (void)sealed_record(&sealer, KRBRELAY_CLOSE, NULL, 0);
+    krbrelay_sealer_wipe(&sealer);
+    krbrelay_sealer_free(&sealer);
+}
+
+/* The opener's calls, of a frame that each of them accepts or refuses. */
+static void open_by_opener(size_t len, enum krbrelay_answer wanted)
+{
+    const struct krbrelay_expect demands = expected();
+    struct krbrelay_demand demand = { .how_number = KRBRELAY_REQUIRED, .number = NUMBER };
+    struct krbrelay_opener opener = { 0 };
+    struct krbrelay_carried carried;
+    size_t size;
+    has_answered(krbrelay_opener_new(&opener, etype, key, key_size(), &demands), KRBRELAY_OK, "opener_new");
+    has_answered(krbrelay_opener_unseal(&opener, frame, len, NUMBER, &now, opened, sizeof opened, &size),
+                 wanted, "opener_unseal");
+    has_answered(krbrelay_opener_open(&opener, frame, len, &demand, &now, opened, sizeof opened, &size,
+                                      &carried),
+                 wanted, "opener_open");
+    has_answered(krbrelay_opener_unseal_in_place(&opener, frame, len, NUMBER, &now, &size), wanted,
+                 "opener_unseal_in_place");
+    krbrelay_opener_wipe(&opener);
+    krbrelay_opener_free(&opener);
+}
+
+static void take_by_receiver(size_t len, enum krbrelay_answer wanted)
+{
+    const struct krbrelay_expect demands = expected();
+    struct krbrelay_receiver receiver = { 0 };
+    uint32_t kind;
+    size_t size;
+    has_answered(krbrelay_receiver_new(&receiver, etype, key, key_size(), &demands, NUMBER, 0),
+                 KRBRELAY_OK, "receiver_new");
+    has_answered(krbrelay_receiver_take(&receiver, frame, len, &now, &kind, opened, sizeof opened, &size),
+                 wanted, "receiver_take");
+    krbrelay_receiver_free(&receiver);
+}
+
+/* Frames of a text and of a batch, with their last byte as it is or changed by `mask`. */
+static void open_all(uint8_t mask, enum krbrelay_answer wanted)
+{
+    struct krbrelay_sealer sealer = { 0 };
+    uint8_t batch[200];
+    size_t len;
+    for (int is_batch = 0; is_batch <= 1; is_batch++) {
+        make_sealer(&sealer);
+        len = is_batch ? sealed_record(&sealer, KRBRELAY_BATCH, batch, two_texts(batch, sizeof batch))
+                       : sealed_record(&sealer, KRBRELAY_TEXT, text, 100);
+        krbrelay_sealer_free(&sealer);
+        frame[len - 1] ^= mask;
+        take_by_receiver(len, wanted);
+        open_by_opener(len, wanted);
+    }
+}
+
+int main(int count, char **words)
+{
+    if (count != 4)
+        end("PART ETYPE MODE");
+    etype = atoi(words[2]);
+    mode = (uint32_t)atoi(words[3]);
+    draw_secrets();
+    if (strcmp(words[1], "control") == 0)
+        control();
+    else if (strcmp(words[1], "seal") == 0)
+        seal();
+    else if (strcmp(words[1], "refuse") == 0)
+        open_all(1, KRBRELAY_MODIFIED);
+    else if (strcmp(words[1], "open") == 0)
+        open_all(0, KRBRELAY_OK);
+    else
+        end("no such part");
+    return 0;
+}
