@@ -110,6 +110,7 @@ PARTS = [
     Part("tools/fuzz 2000", 5, (PROGRAM, CRYPTOGRAPHY)),
     Part("tools/test_bench", 30, ("rt",)),
     Part("tools/secret_places", 60, ("rt", COMPILER, "valgrind")),
+    Part("tools/secret_places --library", 20, ("rt", COMPILER, MAKE, "valgrind")),
 ]
 MORE = [
     Part("tools/wrong_bodies --try", 170, ("rt",)),

@@ -37,6 +37,10 @@ REFUSED_KEYS = [
     ("an unknown key after it", KEY_LINE, f"{KEY_LINE}\nunknown = 1"),
     ("a bad mode after it", 'mode = "safe"', 'mode = "none"'),
     ("a capacity out of range", "[[sender]]", "capacity = 0\n[[sender]]"),
+    ("an unknown type", "etype = 17", "etype = 16"),
+    ("a key in a table of the sender", 'texts = ["6869"]', f'texts = ["6869"]\n[sender.x]\n{KEY_LINE}'),
+    ("a name with a capital", "key = ", "Key = "),
+    ("an input that is too long", 'texts = ["6869"]', 'texts = ["6869"]\n#' + 16_777_216 * "x"),
 ]
 PARSERS = [
     ("a syntax error after the key", KEY_LINE, f"{KEY_LINE}\n= 1"),
@@ -44,6 +48,7 @@ PARSERS = [
     ("a text without an end after the key", KEY_LINE, f'{KEY_LINE}\nother = "'),
     ("a bad escape after the key", KEY_LINE, f'{KEY_LINE}\nother = "\\q"'),
     ("a table twice after the key", KEY_LINE, f"{KEY_LINE}\n[other]\n[other]"),
+    ("a byte that is no UTF-8 after the key", KEY_LINE, f"{KEY_LINE}\n# \udcff"),
 ]
 
 
@@ -103,8 +108,23 @@ def in_places():
                            ACCEPTED if accepted else REFUSED, it.escapes)
 
 
+def in_one_line(job):
+    """The job with its sender in a list of tables on one line."""
+    sender = job[job.index("[[sender]]"):].splitlines()[1:]
+    return f"sender = [{{ {', '.join(sender)} }}]\n"
+
+
+def of_whole_jobs():
+    job = building.text_of("examples/seal.toml")
+    sender = job[job.index("[[sender]]"):]
+    yield Document("a sender in one line", in_one_line(job), ACCEPTED)
+    yield Document("two senders of one key", job + sender)
+    yield Document("no table of the sender", job.replace("[[sender]]\n", ""))
+
+
 def all_documents():
     yield from in_places()
+    yield from of_whole_jobs()
     for what, old, new in REFUSED_KEYS + NAMES:
         yield Document(what, differing(old, new))
     for what, old, new in PARSERS:

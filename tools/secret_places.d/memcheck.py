@@ -1,5 +1,5 @@
-"""What valgrind's memcheck reports of a program: each place that branches on an undefined value, or
-takes one as an address."""
+"""What valgrind sees of a run: the places that branch on an undefined value, or take one as an
+address, and the instructions that it gets to."""
 import collections
 import dataclasses
 import os
@@ -28,6 +28,17 @@ def reported(folder, words, **given):
                           stdout=subprocess.PIPE, **given)
     with open(log, encoding="utf-8", errors="replace") as file:
         return [Place(int(at, 16), name) for at, name in REPORTED.findall(file.read())], done
+
+
+def reached(words):
+    """The addresses of all instructions of a run."""
+    found = set()
+    with subprocess.Popen(["valgrind", "--tool=lackey", "--trace-mem=yes", *words],
+                          stderr=subprocess.PIPE) as process:
+        for line in process.stderr:
+            if line.startswith(b"I "):
+                found.add(line[3:].split(b",")[0])
+    return {int(it, 16) for it in found}
 
 
 def by_function(places):

@@ -8,8 +8,16 @@ from lib.build import building, c_tools
 
 import memcheck
 
+KINDS = [(name, etype, mode) for etype in (17, 18) for name, mode in (("safe", 20), ("priv", 21))]
 CONTROL = 3             # the places of the part `control`: one of each secret
-KINDS = [(etype, mode) for etype in (17, 18) for mode in (20, 21)]
+# Those of `refuse`, of each mode: the branch on the outcome of the comparison; of KRB-SAFE one for the
+# receiver and unseal and one for open, and the use of the outcome in each of the four calls.
+OUTCOMES = {"safe": 6, "priv": 1}
+# What holds decrypted bytes before their code is compared, and the calls of the library.
+HOLDERS = ("krb_seal.opening.", "krbrelay_")
+# What may read a text whose code was right.
+READERS = ("krb_der.", "krb_tlv.", "krb_time.", "krb_seal.checks.check_body", "core.cmp.",
+           "std_alloc.vec.", "malloc", "memmove")
 
 
 def build(folder, prefix):
@@ -24,22 +32,51 @@ def build(folder, prefix):
 
 
 class Calls:
-    """The program's parts, under memcheck."""
+    """The program's parts in one mode and type."""
 
-    def __init__(self, folder, program, count):
+    def __init__(self, folder, program, count, kind):
         self.folder, self.program, self.count = folder, program, count
+        self.name, etype, mode = kind
+        self.words = [str(etype), str(mode)]
+        self.what = f"{self.name} {etype}"
 
-    def places(self, part, etype, mode):
-        places, done = memcheck.reported(self.folder, [self.program, part, str(etype), str(mode)])
-        self.count.right(done.returncode == 0, f"FAILED {part} {etype} {mode}: a call answered otherwise")
+    def places(self, part):
+        places, done = memcheck.reported(self.folder, [self.program, part, *self.words])
+        self.count.right(done.returncode == 0,
+                         f"FAILED {part}, {self.what}: a call answered otherwise")
         return set(places)
+
+    def has(self, part, wanted):
+        """A part has so many places, each in what may have some. Returns them."""
+        places = self.places(part)
+        self.count.told(len(places) == wanted and (part == "control" or all(
+            it.is_of(HOLDERS) for it in places)),
+            f"{part}, {self.what}: {len(places)} places depend on a secret, and {wanted} have to",
+            memcheck.by_function(places))
+        return places
+
+    def opening(self, outcomes):
+        """A text whose code was right is read by those that may, and after the comparison alone."""
+        places = self.places("open")
+        reached = memcheck.reached([self.program, "refuse", *self.words])
+        before = {it for it in places if it.is_of(HOLDERS) and it.at in reached}
+        wrong = before - outcomes | {it for it in places - before if not it.is_of(HOLDERS + READERS)}
+        self.count.check(f"refuse, {self.what}: its places are instructions of its run",
+                         {it.at for it in outcomes} <= reached)
+        self.count.told(before and not wrong,
+                        f"open, {self.what}: {len(before)} places are outcomes of the comparison,"
+                        f" {len(wrong)} depend on a secret elsewhere, and {len(places - before)} read"
+                        " a text whose code was right", memcheck.by_function(wrong))
+
+    def watch(self):
+        self.has("control", CONTROL)
+        self.has("seal", 0)
+        self.opening(self.has("refuse", OUTCOMES[self.name]))
 
 
 def watch(folder, prefix):
     count = report.Count()
-    calls = Calls(folder, build(folder, prefix), count)
-    for etype, mode in KINDS:
-        for part in ("control", "seal", "refuse", "open"):
-            places = calls.places(part, etype, mode)
-            print(part, etype, mode, len(places), memcheck.by_function(places))
+    program = build(folder, prefix)
+    for kind in KINDS:
+        Calls(folder, program, count, kind).watch()
     return count

@@ -201,7 +201,7 @@ int main(int count, char **words)
     else if (strcmp(words[1], "seal") == 0)
         seal();
     else if (strcmp(words[1], "refuse") == 0)
-        open_all(1, KRBRELAY_MODIFIED);
+        open_all(1, mode == KRBRELAY_SAFE ? KRBRELAY_MODIFIED : KRBRELAY_BAD_INTEGRITY);
     else if (strcmp(words[1], "open") == 0)
         open_all(0, KRBRELAY_OK);
     else
