@@ -16,11 +16,7 @@ use std::thread::Threads;
 use std::time::{Clock, Instant};
 
 /// Whether the lanes and their room keep the limits of a relay.
-fn is_ready<S: Sealer>(
-    sendings: &[Sending<S>],
-    receivings: &[Receiving],
-    capacity: usize,
-) -> bool
+fn is_ready<S: Sealer>(sendings: &[Sending<S>], receivings: &[Receiving], capacity: usize) -> bool
     ensures same { IsTrue result → length sendings.now ≡ length receivings.now }
     ensures some { IsTrue result → 1 ≤ length sendings.now }
     ensures few { IsTrue result → length sendings.now ≤ lane_limit }
