@@ -1,11 +1,6 @@
 mod Values
 mod HeldBox
-mod ReceiverLemmas
 mod Pairs
 mod Codes
-mod RoomLemmas
 mod Crossing
-mod AnswerLemmas
-mod DemandLemmas
 mod OpenerLemmas
-mod Refusals

@@ -2,12 +2,12 @@
 use Rattle.std.proofs.Common.{◌≡◌, ℕ, List, Some, None, Err}
 use Rattle.krb_seal.specs.declared.refusal.Refusal.{Refusal}
 use Rattle.krb_seal.specs.declared.refusal.Refusal.TheVariants.{Memory}
-use Rattle.krb_c.specs.declared.demand.KrbDemand.{KrbDemand}
-use Rattle.krb_c.specs.declared.moment.KrbMoment.{KrbMoment}
-use Rattle.krb_c.specs.declared.fault.Fault.TheVariants.{Refused}
-use Rattle.krb_c.specs.Exports.{HeldOpener, OpensTo, OpensWithTo}
-use Rattle.krb_c.specs.Moment.{micros_of}
-use Rattle.krb_c.specs.Reasons.{OpenFault, DemandFault}
+use Rattle.krb_structs.specs.declared.demand.KrbDemand.{KrbDemand}
+use Rattle.krb_structs.specs.declared.moment.KrbMoment.{KrbMoment}
+use Rattle.krb_structs.specs.declared.fault.Fault.TheVariants.{Refused}
+use Rattle.krb_structs.specs.Opening.{HeldOpener, OpensTo, OpensWithTo}
+use Rattle.krb_structs.specs.Moment.{micros_of}
+use Rattle.krb_structs.specs.Reasons.{OpenFault, DemandFault}
 
 pub open_refused : (h : HeldOpener) (number : ℕ) (at : KrbMoment) (frame : List ℕ) (room : ℕ) (r : Refusal) → OpenFault h number at frame room (Refused r)
     → ¬ (r ≡ Memory) → OpensTo h number (micros_of at) frame (Err r)

@@ -8,9 +8,9 @@ use Rattle.krb_seal.specs.Sealer.{SealerState}
 use Rattle.krb_seal.specs.Opens.{OpenerState}
 use Rattle.krb_peers.specs.ReceiverState.{ReceiverState}
 use Rattle.krb_c.specs.Held.{owns}
-use Rattle.krb_c.specs.contracts.lane_receiver.LaneReceiver.{the_row as receiver_row}
-use Rattle.krb_c.specs.contracts.any_sealer.AnySealer.{the_row as sealer_row}
-use Rattle.krb_c.specs.contracts.wipeable_opener.WipeableOpener.{the_row as opener_row}
+use Rattle.krb_structs.specs.contracts.lane_receiver.LaneReceiver.{the_row as receiver_row}
+use Rattle.krb_structs.specs.contracts.any_sealer.AnySealer.{the_row as sealer_row}
+use Rattle.krb_structs.specs.contracts.wipeable_opener.WipeableOpener.{the_row as opener_row}
 
 abbrev pub owns_sealer : Ptr → ℕ → Option SealerState → Fml
 owns_sealer = owns sealer_row

@@ -1,15 +1,4 @@
-pub mod Answers
-pub mod Carried
-pub mod Demand
 pub mod Exports
-pub mod Fault
+pub mod Faults
 pub mod Handles
-pub mod Header
 pub mod Held
-pub mod Moment
-pub mod Reasons
-pub mod Record
-pub mod Room
-pub mod Session
-pub mod Unseals
-pub mod Wipeable

@@ -5,19 +5,10 @@ ghost use Rattle.std.specs.Coded.{coded_option};
 ghost use Rattle.krb_c.specs.Held.{owns};
 
 use crate::parts::Parts;
+use krb_structs::Wipe;
 use std::alloc::Global;
 use std::marker::Model;
 use std::ptr;
-
-/// What has keys that can be overwritten where they lie.
-pub trait Wipe: Drop {
-    /// All its keys are overwritten.
-    ghost IsWiped: { Self → Type 0 };
-
-    /// Overwrites all keys where they lie.
-    fn wipe(&mut self)
-        ensures { IsWiped self.new };
-}
 
 /// A value on the heap, or nothing.
 ///

@@ -6,29 +6,15 @@
 //! answers comes only where the reason of that answer holds.
 #![tactic(auto)]
 
-mod answers;
-mod any_sealer;
-mod buffer;
-mod carried;
-mod demand;
-mod fault;
 mod handle;
-mod header;
 mod held;
-mod lane_receiver;
 mod message_calls;
-mod moment;
 mod opener_calls;
 mod opener_handle;
-mod opening;
 mod parts;
 mod receiver_calls;
 mod receiver_handle;
-mod record;
-mod room;
 mod sealer_calls;
 mod sealer_handle;
-mod session;
 #[cfg(test)]
 mod tests;
-mod wipeable_opener;

@@ -1,14 +1,12 @@
 //! What C calls of messages and answers, with no handle.
 
 ghost use Rattle.std.specs.Prelude.{◌≡◌, ◌≤◌, length};
-ghost use Rattle.krb_c.specs.Answers.{IsWritten, name_of, ok_name, ok_text, text_of};
-ghost use Rattle.krb_c.specs.Fault.{FaultedBy};
-ghost use Rattle.krb_c.specs.Header.{ReadsHeader};
-ghost use Rattle.krb_c.specs.Reasons.{HeaderReason, TextReason};
+ghost use Rattle.krb_structs.specs.Answers.{IsWritten, name_of, ok_name, ok_text, text_of};
+ghost use Rattle.krb_structs.specs.Fault.{FaultedBy};
+ghost use Rattle.krb_structs.specs.Header.{ReadsHeader};
+ghost use Rattle.krb_structs.specs.Reasons.{HeaderReason, TextReason};
 
-use crate::answers::{name_into, text_into};
-use crate::fault::answer;
-use crate::header::{KrbHeader, header};
+use krb_structs::{KrbHeader, answer, message_header, name_into, text_into};
 use std::alloc::Global;
 
 /// The version of the library: 0x010000 is 1.0.0.
@@ -30,7 +28,7 @@ pub extern "C" fn krbrelay_message_header(alloc: Global, frame: &[u8], told: &mu
     ensures kept { ¬ (result ≡ 0) → told.new ≡ told.old }
     ensures why { ¬ (result ≡ 0) → FaultedBy (HeaderReason frame.now) result }
 {
-    match header(alloc, frame) {
+    match message_header(alloc, frame) {
         Ok(found) => {
             *told = found;
             0

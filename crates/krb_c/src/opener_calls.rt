@@ -5,22 +5,19 @@ ghost use Rattle.krb_seal.specs.Opens.{opener_of};
 ghost use Rattle.krb_seal.specs.Refusal.{code_of};
 ghost use Rattle.krb_seal.specs.declared.refusal.Refusal.{Refusal};
 ghost use Rattle.krb_seal.specs.declared.refusal.Refusal.TheVariants.{Memory};
-ghost use Rattle.krb_c.specs.Exports.{GivesTo, OpensTo, OpensWithTo, opener_wiped_if};
-ghost use Rattle.krb_c.specs.Fault.{FaultedBy};
-ghost use Rattle.krb_c.specs.Moment.{IsMoment, micros_of};
-ghost use Rattle.krb_c.specs.Reasons.{DemandFault, NewReason, OpenFault};
-ghost use Rattle.krb_c.specs.Session.{expect_of};
+ghost use Rattle.krb_structs.specs.Opening.{GivesTo, OpensTo, OpensWithTo};
+ghost use Rattle.krb_c.specs.Exports.{opener_wiped_if};
+ghost use Rattle.krb_structs.specs.Fault.{FaultedBy};
+ghost use Rattle.krb_structs.specs.Moment.{IsMoment, micros_of};
+ghost use Rattle.krb_structs.specs.Reasons.{DemandFault, NewReason, OpenFault};
+ghost use Rattle.krb_structs.specs.Session.{expect_of};
 
-use crate::carried::KrbCarried;
-use crate::demand::KrbDemand;
-use crate::fault::{Fault, answer};
 use crate::handle::Handle;
-use crate::held::Wipe;
-use crate::moment::KrbMoment;
 use crate::opener_handle::KrbOpener;
-use crate::opening::{open_into, unseal_in_place, unseal_into};
-use crate::session::KrbExpect;
-use crate::wipeable_opener::WipeableOpener;
+use krb_structs::{
+    Fault, KrbCarried, KrbDemand, KrbExpect, KrbMoment, Wipe, WipeableOpener, answer, open_into,
+    unseal_in_place, unseal_into,
+};
 use std::alloc::Global;
 
 /// Makes an opener of encryption type 17 or 18 under a key of 16 or 32 bytes. What the handle held

@@ -6,7 +6,7 @@ ghost use Rattle.krb_c.specs.Handles.{owns_opener, opener_coded};
 
 use crate::handle::Handle;
 use crate::held::Held;
-use crate::wipeable_opener::WipeableOpener;
+use krb_structs::WipeableOpener;
 use std::marker::Model;
 
 /// An opener on the heap, or nothing.

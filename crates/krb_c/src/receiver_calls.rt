@@ -2,19 +2,15 @@
 
 ghost use Rattle.std.specs.Prelude.{◌≡◌, ◌≤◌, drop, length, take, None};
 ghost use Rattle.krb_seal.specs.Opens.{opener_of};
-ghost use Rattle.krb_c.specs.Exports.{Demands, IsDemanding};
-ghost use Rattle.krb_c.specs.Fault.{FaultedBy};
-ghost use Rattle.krb_c.specs.Moment.{IsMoment, micros_of};
-ghost use Rattle.krb_c.specs.Reasons.{ReceiverReason, TakeFault};
-ghost use Rattle.krb_c.specs.Record.{AcceptsTo};
-ghost use Rattle.krb_c.specs.Session.{expect_of, is_set};
+ghost use Rattle.krb_c.specs.Exports.{Demands, IsDemanding, AcceptsTo};
+ghost use Rattle.krb_structs.specs.Fault.{FaultedBy};
+ghost use Rattle.krb_structs.specs.Moment.{IsMoment, micros_of};
+ghost use Rattle.krb_structs.specs.Reasons.{ReceiverReason, TakeFault};
+ghost use Rattle.krb_structs.specs.Session.{expect_of, is_set};
 
-use crate::fault::Fault;
 use crate::handle::Handle;
-use crate::lane_receiver::LaneReceiver;
-use crate::moment::KrbMoment;
 use crate::receiver_handle::KrbReceiver;
-use crate::session::KrbExpect;
+use krb_structs::{Fault, KrbExpect, KrbMoment, LaneReceiver};
 use std::alloc::Global;
 
 /// Makes a receiver of encryption type 17 or 18 under a key of 16 or 32 bytes, which demands the

@@ -6,7 +6,7 @@ ghost use Rattle.krb_c.specs.Handles.{owns_receiver, receiver_coded};
 
 use crate::handle::Handle;
 use crate::held::Held;
-use crate::lane_receiver::LaneReceiver;
+use krb_structs::LaneReceiver;
 use std::marker::Model;
 
 /// A receiver on the heap, or nothing.

@@ -2,22 +2,17 @@
 
 ghost use Rattle.std.specs.Prelude.{◌≡◌, ◌≤◌, ◌+◌, drop, length, take, None, Some};
 ghost use Rattle.krb_seal.specs.Sealer.{new_state};
-ghost use Rattle.krb_c.specs.Exports.{CanSealBy, IsNext, IsNextSize, SealsTo, advanced_if, in_mode_if, wiped_if};
-ghost use Rattle.krb_c.specs.Fault.{FaultedBy};
-ghost use Rattle.krb_c.specs.Moment.{micros_of};
-ghost use Rattle.krb_c.specs.Reasons.{ModeFault, NewReason, RecordFault, SealFault, SizeFault};
-ghost use Rattle.krb_c.specs.Record.{SealsRecordTo};
-ghost use Rattle.krb_c.specs.Room.{FitsFrames, frame_room};
-ghost use Rattle.krb_c.specs.Session.{mode_of, session_of};
+ghost use Rattle.krb_c.specs.Exports.{CanSealBy, IsNext, IsNextSize, SealsTo, advanced_if, in_mode_if, wiped_if, SealsRecordTo};
+ghost use Rattle.krb_structs.specs.Fault.{FaultedBy};
+ghost use Rattle.krb_structs.specs.Moment.{micros_of};
+ghost use Rattle.krb_c.specs.Faults.{ModeFault, RecordFault, SealFault, SizeFault};
+ghost use Rattle.krb_structs.specs.Reasons.{NewReason};
+ghost use Rattle.krb_structs.specs.Room.{FitsFrames, frame_room};
+ghost use Rattle.krb_structs.specs.Session.{mode_of, session_of};
 
-use crate::any_sealer::AnySealer;
-use crate::fault::{Fault, answer};
 use crate::handle::Handle;
-use crate::held::Wipe;
-use crate::moment::KrbMoment;
-use crate::room::frame_size;
 use crate::sealer_handle::KrbSealer;
-use crate::session::KrbSession;
+use krb_structs::{AnySealer, Fault, KrbMoment, KrbSession, Wipe, answer, frame_size};
 use std::alloc::Global;
 
 /// Makes a sealer of encryption type 17 or 18 under a key of 16 or 32 bytes. What the handle held

@@ -1,14 +1,10 @@
 //! The exports, against frames of an independent sealer as `tools/frames.py` prints them. Programs
 //! in C (`tools/c_library`) try each answer, and each allocation refused.
 
-use crate::carried::KrbCarried;
-use crate::demand::KrbDemand;
 use crate::handle::Handle;
-use crate::header::KrbHeader;
 use crate::message_calls::{
     krbrelay_answer_name, krbrelay_answer_text, krbrelay_message_header, krbrelay_version,
 };
-use crate::moment::KrbMoment;
 use crate::opener_calls::{
     krbrelay_opener_free, krbrelay_opener_new, krbrelay_opener_open, krbrelay_opener_unseal,
     krbrelay_opener_unseal_in_place, krbrelay_opener_wipe,
@@ -24,7 +20,7 @@ use crate::sealer_calls::{
     krbrelay_sealer_set_mode, krbrelay_sealer_wipe,
 };
 use crate::sealer_handle::KrbSealer;
-use crate::session::{KrbAddress, KrbExpect, KrbSession};
+use krb_structs::{KrbAddress, KrbCarried, KrbDemand, KrbExpect, KrbHeader, KrbMoment, KrbSession};
 use std::alloc::Global;
 use std::test::Fail;
 

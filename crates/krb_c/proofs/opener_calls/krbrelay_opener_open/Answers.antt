@@ -1,9 +1,9 @@
 use Rattle.std.proofs.Common.{Option, Some, sym, ◌∙◌, ap, subst, length, Err, refl}
 use Rattle.krb_seal.specs.Opens.{OpenerState}
-use Rattle.krb_c.specs.declared.fault.Fault.TheVariants.{Empty}
-use Rattle.krb_c.specs.Moment.{micros_of}
-use Rattle.krb_c.specs.Exports.{HeldOpener, OpensWithTo}
-use Rattle.krb_c.specs.Reasons.{DemandFault}
+use Rattle.krb_structs.specs.declared.fault.Fault.TheVariants.{Empty}
+use Rattle.krb_structs.specs.Moment.{micros_of}
+use Rattle.krb_structs.specs.Opening.{HeldOpener, OpensWithTo}
+use Rattle.krb_structs.specs.Reasons.{DemandFault}
 use Rattle.krb_c.proofs.Codes.{on_refused}
 use Rattle.krb_c.proofs.OpenerLemmas.{demand_refused}
 use Rattle.krb_c.proofs.opener_calls.krbrelay_opener_open.Goals as goal

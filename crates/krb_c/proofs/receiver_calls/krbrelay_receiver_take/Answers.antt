@@ -1,9 +1,10 @@
 use Rattle.std.proofs.Common.{Option, Some, sym, subst, refl, length, take}
 use Rattle.krb_peers.specs.ReceiverState.{ReceiverState}
-use Rattle.krb_c.specs.declared.fault.Fault.TheVariants.{Empty}
-use Rattle.krb_c.specs.Moment.{micros_of}
-use Rattle.krb_c.specs.Reasons.{TakeFault}
-use Rattle.krb_c.specs.Record.{Accepts, AcceptsTo}
+use Rattle.krb_structs.specs.declared.fault.Fault.TheVariants.{Empty}
+use Rattle.krb_structs.specs.Moment.{micros_of}
+use Rattle.krb_structs.specs.Reasons.{TakeFault}
+use Rattle.krb_structs.specs.Record.{Accepts}
+use Rattle.krb_c.specs.Exports.{AcceptsTo}
 use Rattle.krb_c.proofs.receiver_calls.krbrelay_receiver_take.Goals as goal
 
 pub returns-in_default-clause-why : goal.returns-in_default-clause-why

@@ -1,8 +1,8 @@
 use Rattle.std.proofs.Common.{Option, Some, sym, ap, subst, refl, ◌∙◌}
 use Rattle.krb_seal.specs.Sealer.{SealerState}
-use Rattle.krb_c.specs.declared.fault.Fault.TheVariants.{Empty}
+use Rattle.krb_structs.specs.declared.fault.Fault.TheVariants.{Empty}
 use Rattle.krb_c.specs.Exports.{IsNextSize}
-use Rattle.krb_c.specs.Reasons.{SizeFault}
+use Rattle.krb_c.specs.Faults.{SizeFault}
 use Rattle.krb_c.proofs.Codes.{on_told}
 use Rattle.krb_c.proofs.sealer_calls.krbrelay_sealer_frame_size.Goals as goal
 

@@ -1,7 +1,7 @@
 use Rattle.std.proofs.Common.{Option, sym, subst, refl, length}
 use Rattle.krb_seal.specs.Sealer.{SealerState}
-use Rattle.krb_c.specs.declared.fault.Fault.TheVariants.{Empty}
-use Rattle.krb_c.specs.Reasons.{SealFault}
+use Rattle.krb_structs.specs.declared.fault.Fault.TheVariants.{Empty}
+use Rattle.krb_c.specs.Faults.{SealFault}
 use Rattle.krb_c.proofs.sealer_calls.krbrelay_sealer_seal.Goals as goal
 
 pub returns-in_default-clause-why : goal.returns-in_default-clause-why

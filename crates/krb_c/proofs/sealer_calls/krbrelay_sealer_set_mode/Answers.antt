@@ -1,7 +1,7 @@
 use Rattle.std.proofs.Common.{Option, sym, subst, refl}
 use Rattle.krb_seal.specs.Sealer.{SealerState}
-use Rattle.krb_c.specs.declared.fault.Fault.TheVariants.{Empty}
-use Rattle.krb_c.specs.Reasons.{ModeFault}
+use Rattle.krb_structs.specs.declared.fault.Fault.TheVariants.{Empty}
+use Rattle.krb_c.specs.Faults.{ModeFault}
 use Rattle.krb_c.proofs.sealer_calls.krbrelay_sealer_set_mode.Goals as goal
 
 pub returns-in_default-clause-why : goal.returns-in_default-clause-why

@@ -1,0 +1,5 @@
+mod AnswerLemmas
+mod DemandLemmas
+mod ReceiverLemmas
+mod Refusals
+mod RoomLemmas

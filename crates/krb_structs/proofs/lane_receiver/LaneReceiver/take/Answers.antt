@@ -1,0 +1,34 @@
+use Rattle.std.proofs.Common.{◌≡◌, ◌∙◌, ℕ, List, Err, subst, ap, drop, length, take}
+use Rattle.std.proofs.lemmas.List.{take_rest}
+use Rattle.krb_record.specs.Record.{number_of}
+use Rattle.krb_peers.specs.ReceiverState.{ReceiverState}
+use Rattle.krb_peers.specs.Receiver.{IsJudgement, OpensRecord, TakesMemory}
+use Rattle.krb_structs.specs.Moment.{micros_of}
+use Rattle.krb_structs.specs.Record.{Accepts}
+use Rattle.krb_structs.proofs.ReceiverLemmas.{accepts_of, take_no_room, take_refused}
+use Rattle.krb_structs.proofs.lane_receiver.LaneReceiver.take.Goals as goal
+
+pub returns-in_err-opened-clause-why : goal.returns-in_err-opened-clause-why
+returns-in_err-opened-clause-why c =
+    let now = c.in_ok-now.now in let frame = c.args.frame.now in let r = c.in_err-opened.field-0.0 in
+    let judged = subst (λ (s : ReceiverState). IsJudgement s now frame (Err r)) c.self.view_is c.in_err-opened.ensures.refused in
+    take_refused c.args.self.now now c.args.at.now frame (length c.args.out.now) r c.from_residual-in_err-opened.result c.in_ok-now.ensures.some c.in_ok-now.ensures.value judged
+    (λ e. subst (λ (s : ReceiverState). TakesMemory s frame) c.self.view_is (c.in_err-opened.ensures.memory (ap Err e))) c.from_residual-in_err-opened.ensures.1
+
+pub returns-in_err-size-clause-why : goal.returns-in_err-size-clause-why
+returns-in_err-size-clause-why c =
+    let now = c.in_ok-now.now in let frame = c.args.frame.now in let opened = c.in_ok-opened.opened in
+    let opens = subst (λ (s : ReceiverState). OpensRecord s now frame opened) c.self.view_is c.in_ok-opened.ensures.opened in
+    take_no_room c.args.self.now now c.args.at.now frame (length c.args.out.now) opened _ c.in_err-size.field-0.0 c.from_residual-in_err-size.result c.in_ok-now.ensures.some
+    c.in_ok-now.ensures.value opens (take_rest c.as_slice.result.now 1 ∙ ap (drop 1) c.as_slice.ensures) c.in_err-size.ensures.room c.from_residual-in_err-size.ensures.1
+
+pub returns-clause-accepted : goal.returns-clause-accepted
+returns-clause-accepted c =
+    let now = c.in_ok-now.now in let frame = c.args.frame.now in let opened = c.in_ok-opened.opened in
+    let s : ReceiverState = c.self.inside.receiver in
+    let o = c.in_ok-opened.ensures.opened in
+    let written : List ℕ = take c.in_ok-size.size c.put_within.new.out in
+    let next = c.accept.new.self in
+    let accepts = accepts_of s now frame opened written next o (c.in_ok-size.ensures.written ∙ take_rest c.as_slice.result.now 1 ∙ ap (drop 1) c.as_slice.ensures) (c.accept.ensures o.0 o.3) in
+    rw c.number.ensures (subst (λ (z : ReceiverState). Accepts z (micros_of c.args.at.now) frame (number_of opened.kind) written next) c.self.view_is
+    (subst (λ (m : ℕ). Accepts s m frame (number_of opened.kind) written next) c.in_ok-now.ensures.value accepts))

@@ -1,0 +1,80 @@
+-- What a caller demands of an authentic message, each demand with a number that says how: 0
+-- nothing, 1 that what the message tells fits, 2 that the message tells it and it fits. Of the
+-- sequence number 3 says that a message without one has the number 0.
+use Rattle.std.specs.Prelude.{◌≡◌, ℕ, ◌*◌, ◌≤◌, Bool, false, not, ◌&&◌, ◌||◌, [], ◌∷◌, List, length}
+use Rattle.std.specs.Prelude.{Option, Some, None, Ok, Err, nat_le, nat_eq}
+use Rattle.std.specs.Option.{ForSome}
+use Rattle.krb_der.specs.declared.address.HostAddress.{HostAddress}
+use Rattle.krb_der.specs.declared.body.Body.{Body}
+use Rattle.krb_der.specs.Moment.{micros_per_second, moment_of}
+use Rattle.krb_der.specs.Address.{same_address}
+use Rattle.krb_seal.specs.declared.refusal.Refusal.TheVariants.{BadAddr, Skew, BadOrder}
+use Rattle.krb_seal.specs.Session.{IsShortAddress}
+use Rattle.krb_seal.specs.Opens.{OpenerState, Checks, Passes, distance}
+use Rattle.krb_seal.specs.Authentic.{Authenticity, Authenticates, GivesBody}
+use Rattle.krb_structs.specs.declared.demand.KrbDemand.{KrbDemand}
+use Rattle.krb_structs.specs.Session.{address_of, address_room}
+
+-- the demands are ones that there are, and the addresses fit
+pub record IsDemand (d : KrbDemand) : Type 0 where
+  pub sender : d.sender ≤ 2
+  pub receiver : d.receiver ≤ 2
+  pub time : d.time ≤ 2
+  pub number : d.number ≤ 3
+  pub s_addr : d.s_addr.len ≤ address_room
+  pub r_addr : d.r_addr.len ≤ address_room
+
+-- ---- the tests
+
+-- the addresses are no longer than there is room for
+abbrev pub has_room : HostAddress → Bool
+has_room a = nat_le (length a.bytes) address_room
+
+abbrev pub all_have_room : HostAddress → Option HostAddress → Bool
+all_have_room s None = has_room s
+all_have_room s (Some r) = has_room s && has_room r
+
+abbrev pub AreShort : HostAddress → Option HostAddress → Type 0
+AreShort s r = IsShortAddress s × ForSome r IsShortAddress
+
+abbrev pub sender_meets : KrbDemand → HostAddress → Bool
+sender_meets d a = nat_eq d.sender 0 || same_address a (address_of d.s_addr)
+
+abbrev pub receiver_meets : KrbDemand → Option HostAddress → Bool
+receiver_meets d None = not (nat_eq d.receiver 2)
+receiver_meets d (Some a) = nat_eq d.receiver 0 || same_address a (address_of d.r_addr)
+
+-- in whole microseconds, and both ends of the window are in it
+abbrev pub is_within : KrbDemand → ℕ → Option ℕ → Option ℕ → Bool
+is_within d now (Some secs) (Some usec) =
+    nat_le (distance now (moment_of secs usec)) (micros_per_second * d.skew)
+is_within d now None None = not (nat_eq d.time 2)
+is_within d now (Some secs) None = false
+is_within d now None (Some usec) = false
+
+abbrev pub time_meets : KrbDemand → ℕ → Body → Bool
+time_meets d now b = nat_eq d.time 0 || is_within d now b.time b.usec
+
+abbrev pub number_meets : KrbDemand → Option ℕ → Bool
+number_meets d None = not (nat_eq d.number 2) && (not (nat_eq d.number 3) || nat_eq d.expected 0)
+number_meets d (Some n) = nat_eq d.number 0 || nat_eq n d.expected
+
+-- ---- the checks, in their order
+
+abbrev pub demand_checks : KrbDemand → ℕ → Body → Checks
+demand_checks d now b =
+    (all_have_room b.s_addr b.r_addr, BadAddr)
+    ∷ (sender_meets d b.s_addr && receiver_meets d b.r_addr, BadAddr)
+    ∷ (time_meets d now b, Skew)
+    ∷ (number_meets d b.seq, BadOrder)
+    ∷ []
+
+-- a body goes on where it meets the demands, and a refusal stays
+abbrev pub AsDemanded : KrbDemand → ℕ → Authenticity → Authenticity → Type 0
+AsDemanded d now (Ok b) outcome = Passes (demand_checks d now b) (GivesBody b) outcome
+AsDemanded d now (Err r) outcome = outcome ≡ Err r
+
+-- The outcome of opening a frame with demands: it is authenticated first.
+abbrev pub OpensWith : OpenerState → KrbDemand → ℕ → List ℕ → Authenticity → Type 0
+OpensWith o d now frame outcome =
+    (x : Authenticity) × Authenticates o frame x × AsDemanded d now x outcome

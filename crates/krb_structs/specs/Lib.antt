@@ -1,0 +1,14 @@
+pub mod Answers
+pub mod Carried
+pub mod Demand
+pub mod Fault
+pub mod Header
+pub mod Moment
+pub mod Opening
+pub mod Reasons
+pub mod Record
+pub mod Room
+pub mod Sealing
+pub mod Session
+pub mod Unseals
+pub mod Wipeable

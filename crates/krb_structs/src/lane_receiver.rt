@@ -1,0 +1,114 @@
+//! What takes the frames of one sender, one number after another.
+
+ghost use Rattle.std.specs.Prelude.{◌≡◌, ◌≤◌, length, drop, take, IfErr, IfOk, OnErr, OnOk, Some};
+ghost use Rattle.krb_seal.specs.Opens.{opener_of};
+ghost use Rattle.krb_structs.specs.Moment.{IsMoment, micros_of};
+ghost use Rattle.krb_structs.specs.Reasons.{ReceiverReason, TakeFault};
+ghost use Rattle.krb_structs.specs.Record.{Accepts};
+ghost use Rattle.krb_structs.specs.Session.{expect_of};
+ghost use Rattle.krb_structs.specs.Wipeable.{IsWipedReceiver};
+
+use crate::buffer::put_within;
+use crate::fault::Fault;
+use crate::moment::KrbMoment;
+use crate::session::{KrbExpect, expectation, session_key};
+use crate::wipe::Wipe;
+use krb_base::LAST_NUMBER;
+use krb_peers::Receiver;
+use krb_seal::{Opener, Refusal};
+use std::alloc::Global;
+use std::marker::Model;
+
+/// A receiver of `krb_peers`, which goes on from any state.
+#[derive(Drop)]
+pub struct LaneReceiver {
+    receiver: Receiver,
+}
+
+impl Model for LaneReceiver {
+    ghost use Rattle.krb_peers.specs.ReceiverState.{ReceiverState};
+
+    ghost Value = { ReceiverState };
+
+    ghost view = { λ a. a.receiver };
+}
+
+impl LaneReceiver {
+    /// A receiver on the heap, which demands this number next, or nothing after a close.
+    pub fn new(
+        alloc: Global,
+        etype: i32,
+        key: &[u8],
+        told: &KrbExpect,
+        expected: u64,
+        closed: bool,
+    ) -> Result<Box<LaneReceiver>, Fault>
+        ensures opener { IfOk result (λ b.
+            b.value.opener ≡ opener_of etype key.now (expect_of told.now)) }
+        ensures expected { IfOk result (λ b. b.value.demand.expected ≡ expected) }
+        ensures closed { IfOk result (λ b. b.value.demand.closed ≡ closed) }
+        ensures why { IfErr result (ReceiverReason etype (length key.now) told.now.mode
+            told.now.s_addr.len told.now.r_addr.len expected) }
+    {
+        if expected > LAST_NUMBER + 1 {
+            return Err(Fault::Argument);
+        }
+        let expect = expectation(alloc, told)?;
+        let opener = Opener::new(session_key(etype, key)?, expect);
+        let receiver = LaneReceiver {
+            receiver: Receiver::resume(opener, expected, closed),
+        };
+        Box::new(alloc, receiver).map_err(|_| Fault::Refused(Refusal::Memory))
+    }
+
+    /// The number that is demanded next: at most one over the last, which no message has.
+    pub fn expected(&self) -> u64
+        ensures { result ≡ self.now.demand.expected }
+    {
+        self.receiver.expected()
+    }
+
+    /// Whether a close was accepted.
+    pub fn closed(&self) -> bool
+        ensures { result ≡ self.now.demand.closed }
+    {
+        self.receiver.closed()
+    }
+
+    /// Takes a frame at a moment, and writes the bytes of its record after the first: answers the
+    /// record's kind and their number. Each fault leaves all as it was. The user data's block is
+    /// overwritten before it is freed.
+    pub fn take(
+        &mut self,
+        alloc: Global,
+        frame: &[u8],
+        at: &KrbMoment,
+        out: &mut [u8],
+    ) -> Result<(u32, usize), Fault>
+        ensures accepted { IfOk result (λ taken. Accepts self.old (micros_of at.now) frame.now
+            taken.0 (take taken.1 out.new) self.new) }
+        ensures moment { OnOk result (IsMoment at.now) }
+        ensures size { IfOk result (λ taken. taken.1 ≤ length out.new) }
+        ensures behind { IfOk result (λ taken. drop taken.1 out.new ≡ drop taken.1 out.old) }
+        ensures unchanged { OnErr result (self.new ≡ self.old) }
+        ensures kept { OnErr result (out.new ≡ out.old) }
+        ensures why { IfErr result (TakeFault (Some self.old) at.now frame.now (length out.old)) }
+    {
+        let now = at.moment()?;
+        let opened = self.receiver.open(alloc, frame, now)?;
+        let size = put_within(out, &opened.bytes.as_slice()[1..])?;
+        self.receiver.accept(opened.kind);
+        Ok((opened.kind.number(), size))
+    }
+}
+
+impl Wipe for LaneReceiver {
+    ghost IsWiped = { IsWipedReceiver };
+
+    /// Overwrites all keys where they lie. Each frame is refused from then on, as after a close.
+    fn wipe(&mut self)
+        ensures { IsWipedReceiver self.new }
+    {
+        self.receiver.wipe();
+    }
+}

@@ -1,0 +1,107 @@
+//! Openers used, in Rattle's types.
+
+ghost use Rattle.std.specs.Prelude.{◌≡◌, ◌≤◌, ℕ, drop, length, take, IfErr, IfOk, OnErr, OnOk, Ok, Some};
+ghost use Rattle.krb_structs.specs.Opening.{GivesTo, OpensTo};
+ghost use Rattle.krb_structs.specs.Moment.{IsMoment, micros_of};
+ghost use Rattle.krb_structs.specs.Reasons.{DemandFault, OpenFault};
+ghost use Rattle.krb_structs.specs.Unseals.{UnsealsInto};
+
+use crate::buffer::put_user_data;
+use crate::carried::{KrbCarried, carried};
+use crate::demand::{KrbDemand, is_demand, open_body};
+use crate::fault::Fault;
+use crate::moment::KrbMoment;
+use crate::wipeable_opener::WipeableOpener;
+use krb_base::Secret;
+use krb_der::Body;
+use std::alloc::Global;
+
+/// The user data of a frame, unless the opener was wiped. Their block is overwritten before it is
+/// freed.
+fn unsealed(
+    alloc: Global,
+    opener: &WipeableOpener,
+    frame: &[u8],
+    number: u64,
+    at: &KrbMoment,
+) -> Result<Secret, Fault>
+    ensures opened { IfOk result (λ user. OpensTo (Some opener.now) number (micros_of at.now)
+        frame.now (Ok user)) }
+    ensures moment { OnOk result (IsMoment at.now) }
+    // Whatever room a buffer has: it is too small in none of the reasons.
+    ensures why { (room : ℕ) → IfErr result
+        (OpenFault (Some opener.now) number at.now frame.now room) }
+{
+    let opener = opener.live()?;
+    let now = at.moment()?;
+    let user_data = opener.unseal(alloc, frame, number, now)?;
+    Ok(Secret::new(user_data))
+}
+
+/// Opens into a buffer, unless the opener was wiped, and answers the size of the user data. What is
+/// after them stays, and so does the whole buffer if nothing is opened.
+pub fn unseal_into(
+    alloc: Global,
+    opener: &WipeableOpener,
+    frame: &[u8],
+    number: u64,
+    at: &KrbMoment,
+    out: &mut [u8],
+) -> Result<usize, Fault>
+    ensures { UnsealsInto (Some opener.now) number at.now frame.now out.old out.new result }
+{
+    let user_data = unsealed(alloc, opener, frame, number, at)?;
+    put_user_data(out, &user_data)
+}
+
+/// Opens a frame into its own bytes, unless the opener was wiped, and answers the size of the user
+/// data. What is after them stays, and the frame as a whole where it isn't opened.
+pub fn unseal_in_place(
+    alloc: Global,
+    opener: &WipeableOpener,
+    frame: &mut [u8],
+    number: u64,
+    at: &KrbMoment,
+) -> Result<usize, Fault>
+    ensures { UnsealsInto (Some opener.now) number at.now frame.old frame.old frame.new result }
+{
+    let user_data = unsealed(alloc, opener, frame, number, at)?;
+    put_user_data(frame, &user_data)
+}
+
+/// Opens with demands of the caller's into a buffer, unless the opener was wiped, tells what else
+/// the message carried, and answers the size of the user data. What is after them stays, and all
+/// where nothing is opened.
+pub fn open_into(
+    alloc: Global,
+    opener: &WipeableOpener,
+    frame: &[u8],
+    demand: &KrbDemand,
+    at: &KrbMoment,
+    out: &mut [u8],
+    told: &mut KrbCarried,
+) -> Result<usize, Fault>
+    ensures opened { IfOk result (λ size. GivesTo (Some opener.now) demand.now (micros_of at.now)
+        frame.now (take size out.new) told.new) }
+    ensures moment { OnOk result (IsMoment at.now) }
+    ensures size { IfOk result (λ size. size ≤ length out.new) }
+    ensures behind { IfOk result (λ size. drop size out.new ≡ drop size out.old) }
+    ensures kept { OnErr result (out.new ≡ out.old) }
+    ensures untold { OnErr result (told.new ≡ told.old) }
+    ensures why { IfErr result
+        (DemandFault (Some opener.now) demand.now at.now frame.now (length out.old)) }
+{
+    let opener = opener.live()?;
+    let moment = at.moment()?;
+    let now = moment.micros();
+    if !is_demand(demand) {
+        return Err(Fault::Argument);
+    }
+    let body = open_body(alloc, opener, frame, demand, now)?;
+    let carried = carried(&body);
+    let Body { user_data, .. } = body;
+    let user_data = Secret::new(user_data.into_vec());
+    let size = put_user_data(out, &user_data)?;
+    *told = carried;
+    Ok(size)
+}
