@@ -1,22 +1,55 @@
 #include "progress.h"
 
+#include <krbrelay.h>
+
+static struct krbrelay_progress given(const struct progress *it)
+{
+    return (struct krbrelay_progress){ it->next, it->carried, it->at, it->sent };
+}
+
+static void take(struct progress *it, const struct krbrelay_progress *now)
+{
+    it->next = now->next;
+    it->carried = now->carried;
+    it->at = now->at;
+    it->sent = now->sent;
+}
+
+int progress_begin_again(struct progress *it)
+{
+    struct krbrelay_progress now = given(it);
+    if (krbrelay_progress_new(&now, it->next, it->carried, 0) != KRBRELAY_OK)
+        return -1;
+    take(it, &now);
+    return 0;
+}
+
+int progress_publish(struct progress *it)
+{
+    struct krbrelay_progress now = given(it);
+    if (krbrelay_progress_publish(&now, 1) != KRBRELAY_OK)
+        return -1;
+    take(it, &now);
+    return 0;
+}
+
 int progress_confirm(struct progress *it, uint64_t number, uint64_t offset, uint64_t now)
 {
-    if (number != it->carried || it->carried >= it->next || offset <= it->at)
+    struct krbrelay_progress after = given(it);
+    uint32_t counts;
+    if (krbrelay_progress_confirm(&after, number, offset, &counts) != KRBRELAY_OK || !counts)
         return 0;
-    it->carried++;
-    it->at = offset;
+    take(it, &after);
     it->moved = now;
-    if (it->sent < it->carried)
-        it->sent = it->carried;
     return 1;
 }
 
 uint64_t progress_rewind(struct progress *it, uint64_t now, uint64_t patience)
 {
-    uint64_t again = it->sent - it->carried;
-    if (again == 0 || now - it->moved <= patience)
+    struct krbrelay_progress after = given(it);
+    uint64_t again;
+    if (now - it->moved <= patience || krbrelay_progress_rewind(&after, &again) != KRBRELAY_OK)
         return 0;
-    it->sent = it->carried;
+    take(it, &after);
     return again;
 }

@@ -7,10 +7,13 @@
  *     Frame k counts as carried only when a copy of it stands after the counted copy of frame k-1.
  *     What isn't carried in time is published again, with all frames that follow it.
  *
- * By induction the counted copies stand in the shard in their order. Whatever stands between
- * them, a receiver that takes the frames one by one reaches the end, though it passes by all that
- * it refuses. A carrier that drops what it has stored before would break this: the copy that is
- * to come after its predecessor would be dropped as a repeat. */
+ * The counted copies then stand in the shard in their order. Whatever stands between them, a
+ * receiver that takes the frames one by one reaches the end, though it passes by all that it
+ * refuses. A carrier that drops what it has stored before would break this: the copy that is
+ * to come after its predecessor would be dropped as a repeat.
+ *
+ * Which copies count, and what that leaves, is the library's (krbrelay_progress(3)), and proved
+ * (docs/reference/krb_carry.md). Here is what it leaves to C: when, and how long to wait. */
 #ifndef PROGRESS_H
 #define PROGRESS_H
 
@@ -24,6 +27,14 @@ struct progress {
     uint64_t sent;    /* the frames below were published since `moved` */
     uint64_t moved;   /* when `carried` last rose, or all that isn't carried was published again */
 };
+
+/* The shard is another list than before: what isn't carried counts as not published, and offsets
+ * begin anew. Like progress_publish it answers 0, or -1 if these are no numbers of a progress, and
+ * changes nothing then. */
+int progress_begin_again(struct progress *it);
+
+/* One frame more was published. Also -1 if none is left. */
+int progress_publish(struct progress *it);
 
 /* A copy of this frame stands at this offset. Answers 1 if it counts: then one more is carried. */
 int progress_confirm(struct progress *it, uint64_t number, uint64_t offset, uint64_t now);

@@ -25,8 +25,8 @@ static int find_list(struct sender *s, struct sending *it)
                  field_number("shard", it->of.shard),
                  field_text("text", "its shard is another list than before: what isn't carried is"
                                     " published there"));
-        it->progress.at = 0;
-        it->progress.sent = it->progress.carried;
+        if (progress_begin_again(&it->progress) != 0)
+            return 0;
         it->kept.carried = UINT64_MAX; /* so that it is stored */
     }
     it->kept.incarnation = list;
@@ -60,14 +60,15 @@ static int publish(struct sender *s, struct sending *it)
     if (progress->sent == progress->carried)
         progress->moved = nanoseconds();
     outbox_select_frames(&s->outbox, it->of.name, progress->sent, WINDOW);
-    while (answer == 0 && outbox_next_frame(&s->outbox, &number, &frame, &len) == 1) {
+    while (answer == 0 && progress->sent < progress->next
+           && outbox_next_frame(&s->outbox, &number, &frame, &len) == 1) {
         is_there = number == progress->sent;
         if (!is_there)
             break; /* another process has deleted frames: they are carried */
         answer = carrier_publish(s->carrier, it->of.shard, it->of.name, it->tag, number,
                                  frame, len);
-        progress->sent += answer == 0;
-        s->published += answer == 0;
+        if (answer == 0 && progress_publish(progress) == 0)
+            s->published++;
     }
     outbox_end_frames(&s->outbox);
     if (answer != 0)

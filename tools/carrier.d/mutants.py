@@ -21,13 +21,15 @@ FOUND = {
 }
 EDITS = {
     "confirmations counted singly": ("progress.c", """\
-    if (number != it->carried || it->carried >= it->next || offset <= it->at)
+    if (krbrelay_progress_confirm(&after, number, offset, &counts) != KRBRELAY_OK || !counts)
         return 0;
-    it->carried++;
 """, """\
-    if (number < it->carried || number >= it->next)
+    counts = number >= it->carried && number < it->next;
+    if (!counts)
         return 0;
-    it->carried = number + 1;
+    after.carried = number + 1;
+    after.at = offset;
+    after.sent = after.sent < after.carried ? after.carried : after.sent;
 """),
     "no compare-and-set": ("sqlite_store.c", """\
     s->is_fenced |= sqlite3_changes(s->db) != 1;
