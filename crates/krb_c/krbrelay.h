@@ -232,6 +232,14 @@ struct krbrelay_header {
     uint32_t reserved;
 };
 
+/* How far the frames of one session are carried (krbrelay_progress_new). carried <= sent <= next. */
+struct krbrelay_progress {
+    uint64_t next;                      /* the frames below this number are stored */
+    uint64_t carried;                   /* the frames below this number count as carried, */
+    uint64_t at;                        /* the last of them at this offset; or the first is after it */
+    uint64_t sent;                      /* the frames below this number were published */
+};
+
 /* ---- Sealing */
 
 /* Makes a sealer: encryption type 17 takes a key of 16 bytes, 18 one of 32. The caller's bytes of
@@ -401,6 +409,40 @@ static inline enum krbrelay_answer krbrelay_batch_next(const uint8_t *batch, siz
     *at = from + 4 + n;
     return KRBRELAY_OK;
 }
+
+/* ---- Progress: how far a session's frames are carried into a list that a carrier keeps, in four
+ * numbers of the caller's, without a handle. Publishing doesn't wait for confirmations. So a frame
+ * counts as carried only where a copy of it stands after the counted copy of the one before, and what
+ * isn't carried in time is published again, with all that follow it. Each call answers KRBRELAY_OK, or
+ * KRBRELAY_ARGUMENT, which changes nothing: if and only if the numbers are no progress, or those that it
+ * is given don't fit. */
+
+/* Makes the progress of a session that continues where so much was stored: all that isn't carried counts
+ * as not published. A new one begins with its first number as next and as carried, and with at 0.
+ * KRBRELAY_ARGUMENT: carried is over next. */
+enum krbrelay_answer krbrelay_progress_new(struct krbrelay_progress *progress, uint64_t next,
+                                           uint64_t carried, uint64_t at)
+    KRBRELAY_NONNULL(1) KRBRELAY_CHECKED;
+
+/* So many frames more are stored. KRBRELAY_ARGUMENT also where next would be 2^64 or more. */
+enum krbrelay_answer krbrelay_progress_store(struct krbrelay_progress *progress, uint64_t count)
+    KRBRELAY_NONNULL(1) KRBRELAY_CHECKED;
+
+/* So many frames more were published. KRBRELAY_ARGUMENT also where sent would be over next. */
+enum krbrelay_answer krbrelay_progress_publish(struct krbrelay_progress *progress, uint64_t count)
+    KRBRELAY_NONNULL(1) KRBRELAY_CHECKED;
+
+/* A copy of the frame of this number stands at this offset: tells 1 if it counts, else 0. It counts if
+ * the number is carried, such a frame is stored, and the offset is over at: then one more is carried, at
+ * this offset, and was published. Else nothing changes. */
+enum krbrelay_answer krbrelay_progress_confirm(struct krbrelay_progress *progress, uint64_t number,
+                                               uint64_t offset, uint32_t *counts)
+    KRBRELAY_NONNULL(1, 4) KRBRELAY_CHECKED;
+
+/* All that isn't carried is to be published again: tells how many frames were published and don't count
+ * as carried. */
+enum krbrelay_answer krbrelay_progress_rewind(struct krbrelay_progress *progress, uint64_t *again)
+    KRBRELAY_NONNULL(1, 2) KRBRELAY_CHECKED;
 
 /* ---- Messages, answers and the version */
 

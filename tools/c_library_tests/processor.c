@@ -90,6 +90,9 @@ static void others(void)
 {
     char name[KRBRELAY_TEXT_SIZE];
     struct krbrelay_moment now = KRBRELAY_INIT;
+    struct krbrelay_progress progress;
+    uint64_t again = 0;
+    uint32_t counts = 0;
     size_t size = 0;
     for (uint32_t answer = 0; answer < 1000; answer++) {
         enum krbrelay_answer found = krbrelay_answer_name(answer, name, sizeof name, &size);
@@ -101,6 +104,11 @@ static void others(void)
     CHECK(strcmp(name, "BADORDER") == 0);
     CHECK(krbrelay_frame_size(3) == KRBRELAY_FRAME_SIZE(3) && krbrelay_version() == KRBRELAY_VERSION);
     CHECK(krbrelay_now(&now) == KRBRELAY_OK && now.seconds > SECS);
+    CHECK(krbrelay_progress_new(&progress, 7, 7, 0) == KRBRELAY_OK);
+    CHECK(krbrelay_progress_store(&progress, 2) == KRBRELAY_OK);
+    CHECK(krbrelay_progress_publish(&progress, 2) == KRBRELAY_OK);
+    CHECK(krbrelay_progress_confirm(&progress, 7, 1, &counts) == KRBRELAY_OK && counts == 1);
+    CHECK(krbrelay_progress_rewind(&progress, &again) == KRBRELAY_OK && again == 1);
     krbrelay_clear_stack();
 }
 

@@ -2,3 +2,4 @@ pub mod Exports
 pub mod Faults
 pub mod Handles
 pub mod Held
+pub mod Progress

@@ -1,9 +1,10 @@
 //! Sealing and opening of KRB-SAFE and KRB-PRIV messages (RFC 4120) for programs in C:
 //! `krbrelay.h` declares what this library exports, and docs/C.md has a whole program.
 //!
-//! A handle is a struct of the caller's, made of zeros, which then holds a sealer or an opener on
-//! the heap. Each export says of the handle what the function of `krb_seal` says, and each of its
-//! answers comes only where the reason of that answer holds.
+//! A handle is a struct of the caller's, made of zeros, which then holds a sealer, an opener or a
+//! receiver on the heap. Each export says of the handle what the function of `krb_structs` says, and
+//! each of its answers comes only where the reason of that answer holds. The progress of a session's
+//! frames ([`krb_carry::Progress`]) has no handle: it is four numbers of the caller's.
 #![tactic(auto)]
 
 mod handle;
@@ -12,6 +13,8 @@ mod message_calls;
 mod opener_calls;
 mod opener_handle;
 mod parts;
+mod progress;
+mod progress_calls;
 mod receiver_calls;
 mod receiver_handle;
 mod sealer_calls;

@@ -10,6 +10,11 @@ use crate::opener_calls::{
     krbrelay_opener_unseal_in_place, krbrelay_opener_wipe,
 };
 use crate::opener_handle::KrbOpener;
+use crate::progress::KrbProgress;
+use crate::progress_calls::{
+    krbrelay_progress_confirm, krbrelay_progress_new, krbrelay_progress_publish,
+    krbrelay_progress_rewind, krbrelay_progress_store,
+};
 use crate::receiver_calls::{
     krbrelay_receiver_free, krbrelay_receiver_new, krbrelay_receiver_state, krbrelay_receiver_take,
 };
@@ -376,4 +381,41 @@ fn an_answer_has_a_name_and_a_text(rt: HostRuntime) {
     assert_eq!(rt; (size, &name[..5]), (4, b"done\0".as_slice()));
     assert_eq!(rt; krbrelay_answer_name(5, &mut name, &mut size), 912);
     assert_eq!(rt; krbrelay_version(), 65536);
+}
+
+// A sender that continues at frame 9 stores two. The carrier lost frame 9 and kept 10, and 9 comes
+// again after it, and then 10.
+#[test]
+fn frames_are_carried_in_turn(rt: HostRuntime) {
+    let mut it = KrbProgress {
+        next: 0,
+        carried: 0,
+        at: 0,
+        sent: 0,
+    };
+    let (mut counts, mut again) = (9u32, 9u64);
+    let p = &mut it;
+    assert_eq!(rt; krbrelay_progress_new(p, 8, 9, 40), 912);
+    assert_eq!(rt; krbrelay_progress_new(p, 9, 9, 40), 0);
+    assert_eq!(rt; krbrelay_progress_store(p, 2), 0);
+    assert_eq!(rt; krbrelay_progress_publish(p, 3), 912);
+    assert_eq!(rt; krbrelay_progress_publish(p, 2), 0);
+    assert_eq!(rt; krbrelay_progress_confirm(p, 10, 41, &mut counts), 0);
+    assert_eq!(rt; counts, 0);
+    assert_eq!(rt; krbrelay_progress_rewind(p, &mut again), 0);
+    assert_eq!(rt; (again, p.sent), (2, 9));
+    assert_eq!(rt; krbrelay_progress_publish(p, 2), 0);
+    assert_eq!(rt; krbrelay_progress_confirm(p, 9, 42, &mut counts), 0);
+    assert_eq!(rt;
+        (counts, p.next, p.carried, p.at, p.sent),
+        (1, 11, 10, 42, 11)
+    );
+    p.sent = 9;
+    assert_eq!(rt; krbrelay_progress_confirm(p, 10, 43, &mut counts), 912);
+    assert_eq!(rt; krbrelay_progress_rewind(p, &mut again), 912);
+    assert_eq!(rt; krbrelay_progress_store(p, 1), 912);
+    assert_eq!(rt;
+        (counts, again, p.next, p.carried, p.at),
+        (1, 2, 11, 10, 42)
+    );
 }
