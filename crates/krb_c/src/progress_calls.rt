@@ -41,14 +41,14 @@ pub extern "C" fn krbrelay_progress_store(progress: &mut KrbProgress, count: u64
         → told_progress progress.new ≡ after (told_progress progress.old) (Store count) }
     ensures kept { ¬ (result ≡ 0) → progress.new ≡ progress.old }
 {
-    let Some(mut now) = progress.progress() else {
+    let Some(mut stored) = progress.progress() else {
         return Fault::Argument.code();
     };
-    if count > u64::MAX - now.next() {
+    if count > u64::MAX - stored.next() {
         return Fault::Argument.code();
     }
-    now.store(count);
-    *progress = KrbProgress::of(&now);
+    stored.store(count);
+    *progress = KrbProgress::of(&stored);
     0
 }
 
@@ -61,14 +61,14 @@ pub extern "C" fn krbrelay_progress_publish(progress: &mut KrbProgress, count: u
         → told_progress progress.new ≡ after (told_progress progress.old) (Publish count) }
     ensures kept { ¬ (result ≡ 0) → progress.new ≡ progress.old }
 {
-    let Some(mut now) = progress.progress() else {
+    let Some(mut published) = progress.progress() else {
         return Fault::Argument.code();
     };
-    if count > now.next() - now.sent() {
+    if count > published.next() - published.sent() {
         return Fault::Argument.code();
     }
-    now.publish(count);
-    *progress = KrbProgress::of(&now);
+    published.publish(count);
+    *progress = KrbProgress::of(&published);
     0
 }
 
@@ -91,11 +91,11 @@ pub extern "C" fn krbrelay_progress_confirm(
     ensures kept { ¬ (result ≡ 0) → progress.new ≡ progress.old }
     ensures untold { ¬ (result ≡ 0) → counts.new ≡ counts.old }
 {
-    let Some(mut now) = progress.progress() else {
+    let Some(mut confirmed) = progress.progress() else {
         return Fault::Argument.code();
     };
-    *counts = u32::from(now.confirm(number, offset));
-    *progress = KrbProgress::of(&now);
+    *counts = u32::from(confirmed.confirm(number, offset));
+    *progress = KrbProgress::of(&confirmed);
     0
 }
 
@@ -111,10 +111,10 @@ pub extern "C" fn krbrelay_progress_rewind(progress: &mut KrbProgress, again: &m
     ensures kept { ¬ (result ≡ 0) → progress.new ≡ progress.old }
     ensures untold { ¬ (result ≡ 0) → again.new ≡ again.old }
 {
-    let Some(mut now) = progress.progress() else {
+    let Some(mut rewound) = progress.progress() else {
         return Fault::Argument.code();
     };
-    *again = now.rewind();
-    *progress = KrbProgress::of(&now);
+    *again = rewound.rewind();
+    *progress = KrbProgress::of(&rewound);
     0
 }
