@@ -1,16 +1,15 @@
 -- What taking a frame gives, from what a receiver's opening it gives.
-use Rattle.std.proofs.Common.{◌≡◌, ℕ, ◌<◌, List, [], ◌∷◌, length, drop, Result, Ok, Err, Some, refl, sym, ap, subst, ◌∙◌, inl, inr}
+use Rattle.std.proofs.Common.{◌≡◌, ℕ, ◌<◌, List, ◌∷◌, length, drop, Result, Ok, Err, Some, refl, sym, ap, subst, ◌∙◌, inl, inr}
 use Rattle.std.specs.Prelude.{IfErr, IsErrAnd}
 use Rattle.krb_seal.specs.declared.refusal.Refusal.{Refusal}
 use Rattle.krb_seal.specs.declared.refusal.Refusal.TheVariants.{Memory}
 use Rattle.krb_record.specs.declared.record.Record.{Record}
 use Rattle.krb_record.specs.declared.record.Record.TheVariants.{Text, Batch, Close}
-use Rattle.krb_record.specs.declared.record.RecordKind.{RecordKind}
 use Rattle.krb_record.specs.Record.{SpellsRecord, first_byte_of, kind_of, number_of}
 use Rattle.krb_peers.specs.declared.receiver.Opened.{Opened}
 use Rattle.krb_peers.specs.ReceiverState.{ReceiverState}
 use Rattle.krb_peers.specs.Receiver.{IsJudgement, OpensRecord, TakesMemory, receiver_behind}
-use Rattle.krb_peers.specs.Verdicts.{Verdict, record_of}
+use Rattle.krb_peers.specs.Verdicts.{record_of}
 use Rattle.krb_structs.specs.declared.fault.Fault.{Fault}
 use Rattle.krb_structs.specs.declared.fault.Fault.TheVariants.{Refused, Room}
 use Rattle.krb_structs.specs.declared.moment.KrbMoment.{KrbMoment}

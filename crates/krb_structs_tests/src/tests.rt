@@ -1,4 +1,4 @@
-//! Sealing, opening and receiving, and what is told with no key.
+//! Sealing, opening and receiving, and what needs no key.
 
 use krb_structs::{
     AnySealer, Fault, KrbAddress, KrbCarried, KrbDemand, KrbExpect, KrbMoment, KrbSession,
@@ -190,7 +190,7 @@ fn a_receiver_takes_the_frame_of_another(rt: HostRuntime) -> Result<(), Fail> {
 }
 
 #[test]
-fn what_is_told_with_no_key(rt: HostRuntime) -> Result<(), Fail> {
+fn what_needs_no_key(rt: HostRuntime) -> Result<(), Fail> {
     let (mut name, mut size) = ([0xee_u8; 12], 9usize);
     let header = made(message_header(rt.alloc(), &SAFE_17))?;
     assert_eq!(rt;

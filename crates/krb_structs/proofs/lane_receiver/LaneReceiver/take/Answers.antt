@@ -1,4 +1,4 @@
-use Rattle.std.proofs.Common.{◌≡◌, ◌∙◌, ℕ, List, Err, subst, ap, drop, length, take}
+use Rattle.std.proofs.Common.{◌∙◌, ℕ, List, Err, subst, ap, drop, length, take}
 use Rattle.std.proofs.lemmas.List.{take_rest}
 use Rattle.krb_record.specs.Record.{number_of}
 use Rattle.krb_peers.specs.ReceiverState.{ReceiverState}
