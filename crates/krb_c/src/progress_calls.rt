@@ -84,7 +84,7 @@ pub extern "C" fn krbrelay_progress_confirm(
     ensures ok { result ≡ 0 ↔ IsProgress progress.old }
     ensures argument { ¬ (result ≡ 0) → result ≡ 912 }
     ensures counts { result ≡ 0
-        → counts.new ≡ 1 ↔ Counts (told_progress progress.old) number offset }
+        → (counts.new ≡ 1 ↔ Counts (told_progress progress.old) number offset) }
     ensures or_not { result ≡ 0 → counts.new ≤ 1 }
     ensures confirmed { result ≡ 0
         → told_progress progress.new ≡ after (told_progress progress.old) (Confirm number offset) }
