@@ -94,6 +94,7 @@ PARTS = [
     Part("tools/reference --check", 1),
     Part("tools/test_reference", 1),
     Part("tools/test_tables", 1),
+    Part("tools/test_jobs", 1, (CRYPTOGRAPHY,)),
     Part("tools/vector_tables.py --check", 1),
     Part("tools/test_building", 5, (COMPILER, CRYPTOGRAPHY)),
     Part("tools/test_parts", 5, (COMPILER, CRYPTOGRAPHY, MAKE, SQLITE)),
@@ -128,6 +129,7 @@ BUILD_UNPROVED = Part("tools/krbrelay --unproved", 10, ("rt",))
 QUICK = [
     Part("tools/quotes", 1),
     Part("tools/test_tables", 1),
+    Part("tools/test_jobs", 1, (CRYPTOGRAPHY,)),
     Part("tools/picture --quick", 1, (UNPROVED,)),
     Part("tools/redelivery --quick", 4, (UNPROVED, CRYPTOGRAPHY)),
     Part("tools/fuzz --quick 300", 5, (UNPROVED, CRYPTOGRAPHY)),
