@@ -15,6 +15,9 @@ from krbrelay.values import ranged
 Self = TypeVar("Self", bound="Handle")
 Key = Union[bytes, bytearray]
 
+# A child doesn't wait for the lock: a thread of its parent may have held it.
+OF_A_PARENT = "the handle was made before a fork, by the parent process"
+
 
 class Handle:
     """Keys that the library holds, until `free`, the end of the `with`, or the handle's end.
@@ -46,13 +49,13 @@ class Handle:
 
     def _call(self, name: str, *arguments: object) -> None:
         """Makes a call that has the handle for itself, and raises the exception of its answer."""
+        if os.getpid() != self._process:
+            raise RuntimeError(OF_A_PARENT)
         with self._lock:
             self._call_locked(name, *arguments)
 
     def _call_locked(self, name: str, *arguments: object) -> None:
-        """The same where the handle's lock is held."""
-        if os.getpid() != self._process:
-            raise RuntimeError("the handle was made before a fork, by the parent process")
+        """The same in the process that made the handle, where its lock is held."""
         call = self._functions.get(name) or self._function(name)
         answer = call(self._place, *arguments)
         if answer:

@@ -1,17 +1,16 @@
 """Sealing."""
 from __future__ import annotations
 
+import os
 from ctypes import CDLL, addressof, c_size_t, c_uint8, c_uint64
-from os import urandom
 from time import time_ns
 from typing import Optional
 
-from krbrelay.handle import Handle, Key
+from krbrelay.handle import OF_A_PARENT, Handle, Key
 from krbrelay.library import CONFOUNDER_SIZE, MomentStruct, SessionStruct
 from krbrelay.values import (
     LAST_NUMBER, Address, Bytes, Mode, Moment, Record, address_struct, bytes_of, micros_of,
     optional_struct, ranged, record_bytes)
-
 
 KEPT_SIZE = 1_024                   # user data of messages that are written into a kept buffer
 UNUSED = bytes(CONFOUNDER_SIZE)     # KRB-SAFE has no confounder
@@ -19,8 +18,8 @@ MOST = 2**64 - 1                    # microseconds
 
 
 class Kept:
-    """What a call that seals is given beside the user data, which fit if they have at most a number of
-    bytes: the moment, and room for the message and for its size."""
+    """What a call that seals is given beside the user data, which fit if they have at most a
+    number of bytes: the moment, and room for the message and for its size."""
 
     def __init__(self, calls: CDLL, fits: int) -> None:
         room = calls.krbrelay_frame_size(fits)
@@ -79,17 +78,19 @@ class Sealer(Handle):
     def _sealed(self, name: str, size: int, content: bytes, at: Optional[Moment],
                 confounder: Optional[Bytes], *kind: int) -> bytes:
         """What a call seals of the content, which becomes user data of this size."""
-        if confounder is not None:
-            drawn = _confounder(confounder)
-        else:
-            drawn = urandom(CONFOUNDER_SIZE) if self._mode is Mode.PRIV else UNUSED
+        given = None if confounder is None else _confounder(confounder)
         micros = time_ns() // 1000 if at is None else ranged("the moment", micros_of(at), 0, MOST)
+        if os.getpid() != self._process:
+            raise RuntimeError(OF_A_PARENT)
         with self._lock:
+            # The lock also keeps the mode: a KRB-PRIV is never sealed under what isn't drawn.
+            drawn = given or (UNUSED if self._mode is Mode.SAFE else os.urandom(CONFOUNDER_SIZE))
             kept = self._kept
             if size > kept.fits:
                 kept = Kept(self._library, size)
             kept.moment.seconds, kept.moment.microseconds = divmod(micros, 1_000_000)
-            self._call_locked(name, *kind, content, len(content), kept.moment_at, drawn, *kept.places)
+            self._call_locked(name, *kind, content, len(content), kept.moment_at, drawn,
+                              *kept.places)
             return kept.view[:kept.size.value].tobytes()
 
     @property
@@ -101,8 +102,10 @@ class Sealer(Handle):
 
     def set_mode(self, mode: Mode) -> None:
         """Seals in this mode from now on. Key, number and addresses stay. ValueError, Freed."""
+        if os.getpid() != self._process:
+            raise RuntimeError(OF_A_PARENT)
         with self._lock:
-            self._call("set_mode", Mode(mode))
+            self._call_locked("set_mode", Mode(mode))
             self._mode = Mode(mode)
 
     def wipe(self) -> None:
