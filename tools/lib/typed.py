@@ -49,3 +49,8 @@ def pattern(lines):
 def are_printed(wanted, got):
     """Whether a command printed what a document says, and nothing else."""
     return re.fullmatch(pattern(wanted), "".join(f"{line}\n" for line in got)) is not None
+
+
+def words(command):
+    """The words that run a command as a shell does, whose output goes to a terminal: in lines."""
+    return ["stdbuf", "-oL", "sh", "-c", command]
