@@ -8,6 +8,7 @@ import signal
 import time
 import typing
 
+import evidence
 import machines
 from machines import DATABASE, NODES, RECEIVERS, SENDERS
 
@@ -361,14 +362,17 @@ DRAWN = (cut_one, cut_one_way, lose_some, kill_node, kill_end, stop_one, kill_da
 @dataclasses.dataclass
 class Case:
     """What is done, and how the machines are made. All texts have to take effect within so many
-    seconds after it, and no longer gap may be between two effects. If the carrier may lose what it
-    confirmed, as JetStream 2.9.10 does in some of these cases, a session may stand whose demanded
-    frame it has lost, or whose shard has no leader any more."""
+    seconds after it, and no longer gap may be between two effects.
+
+    `loses` says why the carrier may lose what it confirmed, and `stays_down` why a shard may take no
+    frame any more; if it is empty, that may not be. A session may stand for these reasons alone, and
+    only if evidence.py shows of it that it does."""
     run: typing.Callable
     done: str
     seconds: float = 60
     gap: float = 20
-    may_lose: bool = False
+    loses: str = ""
+    stays_down: str = ""
     seed: int = 0
     made: dict = dataclasses.field(default_factory=dict)
 
@@ -380,24 +384,34 @@ IMAGES = dict.fromkeys(NODES, "image")
 SYNCED = dict.fromkeys(NODES, "image,sync")
 SMALL = dict.fromkeys(NODES, "24m")
 
+# Why JetStream 2.9.10 may lose what it confirmed, or a shard of it stays down.
+ONE_WAY = ("a leader whose messages to its peers are lost gives offsets that others give again"
+           " after the next election")
+STOPPED = "nodes that wake all at once each go on with what they had before the others' election"
+KILLED = "a node writes what it confirmed a moment later, and all are killed at once"
+FULL = "a node whose disk is full drops what it confirmed"
+UNSYNCED = "a node that loses power has what it had synced, up to two minutes before"
+BROKEN = "a node that loses power may leave files from which the group of all streams doesn't start"
+DRAWN_FAULTS = "nodes are killed, stopped and cut off one way, one after the other"
+
 CASES = (
     Case(nothing, "nothing", 20, 5),
-    Case(leader_cut_from_peers, "a leader is cut from its peers for 7 s", may_lose=True),
-    Case(leader_isolated, "a leader is cut off for 7 s", may_lose=True),
-    Case(leader_one_way_out, "what a leader sends to its peers is lost for 7 s", may_lose=True),
-    Case(leader_one_way_in, "what its peers send to a leader is lost for 7 s", may_lose=True),
-    Case(nodes_apart, "all nodes are cut from each other for 7 s", gap=25, may_lose=True),
-    Case(half_ring, "two of three nodes are cut from each other for 7 s", may_lose=True),
+    Case(leader_cut_from_peers, "a leader is cut from its peers for 7 s"),
+    Case(leader_isolated, "a leader is cut off for 7 s"),
+    Case(leader_one_way_out, "what a leader sends to its peers is lost for 7 s", loses=ONE_WAY),
+    Case(leader_one_way_in, "what its peers send to a leader is lost for 7 s"),
+    Case(nodes_apart, "all nodes are cut from each other for 7 s", gap=25),
+    Case(half_ring, "two of three nodes are cut from each other for 7 s"),
     Case(loss, "a fifth of all is lost and the rest late by 20 to 100 ms, for 8 s"),
     Case(confirmations_lost, "half of what nodes send to senders is lost for 7 s"),
     Case(far_senders, "senders are 1.3 s from the nodes for 14 s", gap=25, made={"seconds": 20}),
     Case(thin_senders, "senders have 1 Mbit/s for 30 s, with a backlog of 1,440 texts of 1,000 bytes",
          made={"rate": 100, "size": 1000}),
-    Case(all_nodes_killed, "all nodes are killed and started again", may_lose=True),
+    Case(all_nodes_killed, "all nodes are killed and started again", loses=KILLED),
     Case(node_gone, "one receiver alone; a node is away for 24 s", gap=10, made={"seconds": 30}),
     Case(nodes_in_turn, "one receiver alone; each node is killed in turn", gap=20),
-    Case(leader_stopped, "a leader is stopped for 6 s", may_lose=True),
-    Case(all_nodes_stopped, "all nodes are stopped for 6 s", may_lose=True),
+    Case(leader_stopped, "a leader is stopped for 6 s"),
+    Case(all_nodes_stopped, "all nodes are stopped for 6 s", loses=STOPPED),
     Case(one_replica, "one replica; a node is away for 25 s, senders are started again", gap=40,
          made={"replicas": 1, "rate": 240, "seconds": 20}),
     Case(ends_stopped, "a sender, then one receiver and then the other are stopped for 3 s"),
@@ -413,47 +427,61 @@ CASES = (
          made={"clocks": {"r0": 2 * DAY}}),
     Case(database_killed, "the database is killed three times"),
     Case(database_cut_off, "the database is cut off for 7 s", gap=25),
-    Case(node_disk_full, "a node's disk is full for 7 s", may_lose=True,
+    Case(node_disk_full, "a node's disk is full for 7 s", loses=FULL,
          made={"disks": {"n0": "24m"}, "rate": 600, "size": 1000}),
-    Case(all_disks_full, "all nodes' disks are full for 7 s", gap=25, may_lose=True,
+    Case(all_disks_full, "all nodes' disks are full for 7 s", gap=25, loses=FULL,
          made={"disks": SMALL, "rate": 600, "size": 1000}),
     Case(outbox_disk_full, "an outbox's disk is full for 7 s, and its sender is cut off",
          made={"disks": {"s0": "8m"}, "size": 1000}),
     Case(power_of_two, "two nodes lose power 6 s after their disks were synced", gap=25,
-         may_lose=True, made={"disks": IMAGES, "rate": 600}),
+         loses=UNSYNCED, stays_down=BROKEN, made={"disks": IMAGES, "rate": 600}),
     Case(power_of_all, "all nodes lose power, over file systems that are mounted sync", gap=60,
-         may_lose=True, made={"disks": SYNCED, "rate": 600}),
+         loses=KILLED, stays_down=BROKEN, made={"disks": SYNCED, "rate": 600}),
     Case(power_of_all_unsynced, "all nodes lose power 6 s after their disks were synced", gap=60,
-         may_lose=True, made={"disks": IMAGES, "rate": 600}),
+         loses=UNSYNCED, stays_down=BROKEN, made={"disks": IMAGES, "rate": 600}),
     Case(power_of_sender, "a sender's machine loses power three times",
          made={"disks": {"s0": "image"}, "rate": 600}),
-    *(Case(drawn_faults, f"drawn faults for 22 s, seed {seed}", gap=30, may_lose=True, seed=seed,
-           made={"seconds": 26}) for seed in (101, 102, 103)),
+    *(Case(drawn_faults, f"drawn faults for 22 s, seed {seed}", gap=30, loses=DRAWN_FAULTS,
+           seed=seed, made={"seconds": 26}) for seed in (101, 102, 103)),
 )
 
 
 def judge_standing(world, case, faults):
-    """How many sessions stand by the carrier's loss; the others are faults."""
-    found = list(world.standing())
-    faults += [line for is_lost, line in found if not (is_lost and case.may_lose)]
-    return sum(is_lost for is_lost, _ in found)
+    """Which sessions stand; what isn't shown to be what the case allows is a fault."""
+    allowed = {evidence.LOST: case.loses, evidence.DOWN: case.stays_down, evidence.FAULT: ""}
+    found = world.standing()
+    faults += [f"{reason}: {line}" for reason, line in found if not allowed[reason]]
+    shown = [line for reason, line in found if allowed[reason]]
+    return f"{len(found)} sessions stand" + (f", shown of {len(shown)}: {shown[0]}" if shown else "")
+
+
+def judge_texts(world, found, faults):
+    """What took effect is what was sent, in order; all of it, if the session is closed; and what
+    wasn't sealed yet waits."""
+    closed = world.closed()
+    for name, texts in world.sent.items():
+        if found[name] != texts[:len(found[name])]:
+            faults.append(f"{name}: doubled, changed or out of order")
+        elif name in closed and len(found[name]) < len(texts):
+            faults.append(f"{name}: closed after {len(found[name])} of {len(texts)} texts")
+        sending = world.sending(name)
+        if not sending.accounts_for(len(texts)):
+            faults.append(f"{name}: its outbox doesn't account for {len(texts)} texts: {sending}")
 
 
 def judge(world, case, since):
     """What went wrong, and the line of what was seen."""
     took, gap = world.await_whole(case.seconds), world.longest_gap(since)
-    found, faults = world.effects(), list(world.notes)
+    faults, whole = list(world.notes), f"whole after {took or 0:.1f} s"
+    if took is None:
+        whole = judge_standing(world, case, faults)
+    found = world.effects()
+    judge_texts(world, found, faults)
     doubled = sum(len(texts) - len(set(texts)) for texts in found.values())
     lost = sum(len(set(texts) - set(found[name])) for name, texts in world.sent.items())
-    mixed = [name for name, texts in found.items() if texts != world.sent[name][:len(texts)]]
     sent, delivered = (sum(map(len, it.values())) for it in (world.sent, found))
-    if doubled or mixed:
-        faults.append(f"doubled, changed or out of order: {mixed}")
     if gap > case.gap:
         faults.append(f"nothing took effect for {gap:.1f} s")
-    whole = f"whole after {took or 0:.1f} s"
-    if took is None:
-        whole = f"{judge_standing(world, case, faults)} sessions stand by the carrier's loss"
     faults += [f"{what}: {count}" for what, count in world.counts.items()] if faults else []
     return faults, (f"{sent} texts sent, {delivered} delivered, {lost} lost, {doubled} doubled;"
                     f" longest gap {gap:.1f} s; {whole}")
