@@ -57,7 +57,7 @@ static void take_refused(struct shard *s, struct receiving *of, const struct car
                          enum krbrelay_answer answer, int is_nobodys)
 {
     char text[KRBRELAY_TEXT_SIZE];
-    s->counts.refused++;
+    shard_count_refused(&s->counts, answer);
     answer_text(answer, text);
     log_fact(LEVEL_WARNING, "frame_refused", field_text("session", it->session),
              field_number("shard", s->number), field_number("offset", it->offset),
@@ -98,7 +98,7 @@ static int take_unknown(struct shard *s, const struct carried *it)
     int is_elsewhere = sessions_find(s->sessions, it->session, &of);
     unsigned shard = of.shard;
     explicit_bzero(&of, sizeof of);
-    s->counts.refused++;
+    shard_count_refused(&s->counts, 0);
     if (is_elsewhere)
         log_fact(LEVEL_WARNING, "frame_misplaced", field_text("session", it->session),
                  field_number("shard", s->number), field_number("offset", it->offset),

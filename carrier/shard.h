@@ -59,8 +59,11 @@ struct receiving {
     unsigned tries;                /* and so often the shard was read again for it */
 };
 
+enum { REFUSALS = 14 }; /* reasons for which a frame is refused (shard_report.c) */
+
 struct shard_counts {
-    unsigned long frames, texts, accepted, repeats, early, refused, fenced, commits, back;
+    unsigned long frames, texts, accepted, repeats, early, fenced, commits, back;
+    unsigned long refused[REFUSALS]; /* neither as repeats nor as early */
     unsigned long long bytes;
     uint64_t opening, fetching, storing; /* nanoseconds */
 };
@@ -109,6 +112,8 @@ void shard_stop(struct shard *shard);
 extern const struct metric shard_metrics[], shard_stands_metric;
 extern const unsigned shard_metrics_count;
 
+/* Counts a frame that was refused with libkrbrelay's answer, or 0 if its name has no line. */
+void shard_count_refused(struct shard_counts *counts, uint32_t answer);
 
 /* Work took so many nanoseconds so far. */
 void shard_report(const struct shard *shard, const char *event, uint64_t took);

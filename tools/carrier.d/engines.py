@@ -150,6 +150,14 @@ class Postgres:
              "-c", "shared_buffers=256MB", "-c", "max_wal_size=2GB"],
             stderr=subprocess.DEVNULL, **self.how)
 
+    def signal_all(self, number):
+        """To the server and each of its processes."""
+        with open(f"/proc/{self.server.pid}/task/{self.server.pid}/children",
+                  encoding="ascii") as file:
+            children = list(map(int, file.read().split()))
+        for process in (self.server.pid, *children):
+            os.kill(process, number)
+
     def restart(self, seconds):
         """Ends it at once, and starts it again after so many seconds."""
         self.stop()

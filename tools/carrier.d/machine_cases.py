@@ -160,6 +160,17 @@ def ends_stopped(world):
     world.signal(["s0", "r1"], signal.SIGCONT)
 
 
+def told_to_end(world):
+    """While what they wait for is cut off."""
+    for away in (NODES, [DATABASE]):
+        for name in away:
+            world.network.isolate(name)
+        time.sleep(2)
+        world.require_end(["s0", "r0"])
+        world.network.heal()
+        time.sleep(4)
+
+
 def receiver_lost(world):
     """r0 alone, 10 ms from the database, is lost in a transaction; then r1 is started."""
     world.stop("r1")
@@ -415,6 +426,8 @@ CASES = (
     Case(one_replica, "one replica; a node is away for 25 s, senders are started again", gap=40,
          made={"replicas": 1, "rate": 240, "seconds": 20}),
     Case(ends_stopped, "a sender, then one receiver and then the other are stopped for 3 s"),
+    Case(told_to_end, "a sender and a receiver are told to end while nodes, then the database, are"
+         " cut off", gap=25, made={"seconds": 18}),
     Case(receiver_lost, "a receiver's machine is lost in a transaction; another one is started",
          gap=20, made={"rate": 1200, "seconds": 24}),
     Case(shared_killed, "receivers share shards; one is killed, and is away for 15 s",

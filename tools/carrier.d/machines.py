@@ -268,6 +268,18 @@ class World:
             self.signal([name], signal.SIGKILL)
             self.processes[name].running.wait()
 
+    def require_end(self, names):
+        """SIGTERM ends these in time, and in order. They are started again."""
+        running = [self.processes[name].running for name in names]
+        for it in running:
+            it.send_signal(signal.SIGTERM)
+        until = time.monotonic() + errors.TO_END
+        for name, it in zip(names, running):
+            with contextlib.suppress(subprocess.TimeoutExpired):
+                it.wait(max(0, until - time.monotonic()))
+            if it.poll() != 0:
+                self.notes.append(f"{name} was told to end: {it.poll()} after {errors.TO_END} s")
+
     def restart(self, name):
         """The process is killed, and started again as it was."""
         with self.lock:
