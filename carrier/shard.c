@@ -285,6 +285,7 @@ int shard_step(struct shard *s, int milliseconds)
     if (answer != 1)
         return answer;
     shard_go_back(s, 0);
+    shard_look_back(s);
     began = nanoseconds();
     count = carrier_fetch(s->carrier, s->frames, s->options->batch, milliseconds);
     if (count == CARRIER_CHANGED)
@@ -293,6 +294,8 @@ int shard_step(struct shard *s, int milliseconds)
         return 0;
     s->counts.fetching += nanoseconds() - began;
     s->counts.frames += (unsigned long)count;
+    if (s->frames[count - 1].offset > s->highest)
+        shard_hear(s, s->frames[count - 1].offset);
     answer = take_all(s, count);
     if (answer == 0)
         return count;

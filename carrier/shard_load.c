@@ -311,6 +311,7 @@ static void begin_anew(struct shard *s)
     log_fact(LEVEL_WARNING, "shard_made_anew", field_number("shard", s->number),
              field_text("text", "it is read from its beginning"));
     s->now.offset = s->least = 0;
+    shard_hear(s, 0);
     for (i = 0; i < s->standing.count; i++)
         begin_session_anew(s->standing.at[i]);
     for (i = 0; i < s->changed.count; i++)
@@ -327,6 +328,8 @@ int shard_load(struct shard *s)
     if (carrier_incarnation(s->carrier, s->number, &incarnation) != 0 || incarnation == 0)
         return 1;
     s->now = (struct reached){ incarnation, s->stored.offset };
+    if (!s->has_begun)
+        shard_hear(s, s->now.offset);
     if (s->stored.incarnation != 0 && s->stored.incarnation != incarnation)
         begin_anew(s);
     carrier_seek(s->carrier, s->number, s->now.offset);

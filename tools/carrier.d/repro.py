@@ -502,6 +502,21 @@ def unstable_offsets(place):
     place.await_delivered()
 
 
+def unstable_end(place):
+    """The same of the last frames: nothing comes early after them."""
+    place.put(texts("ann", 0, 10) + close("ann"))
+    place.run("sender", "--drain")
+    rows = place.ask("carrier", "SELECT offset, shard, session, frame FROM carried ORDER BY offset")
+    rewrite(place, [(at, *rows[0][1:]) for at in range(1, 12)])
+    receiver = place.start("receiver")
+    place.wait(lambda: place.ask("store", "SELECT offset FROM shard") == [(11,)], 5)
+    rewrite(place, rows)
+    place.await_delivered()
+    time.sleep(12)
+    place.end(receiver)
+    place.require(loglines.has(place.log(receiver), "shard_ended", again=1), "it was read again")
+
+
 def rewrite(place, rows):
     with sqlite3.connect(f"{place.folder}/carrier.db", timeout=errors.LIMIT) as file:
         file.execute("DELETE FROM carried")
@@ -1171,6 +1186,7 @@ CASES = (
     Case(two_reads, "a receiver pauses between its two reads", {"ann": 10}, 12),
     Case(unstable_offsets, "other frames stand at the offsets than a reader was given",
          {"ann": 10}, 20),
+    Case(unstable_end, "the same of the last frames of a session", {"ann": 10}, 15, (ANN,)),
     Case(carrier_replaced, "the carrier's file is replaced by an empty one", {"ann": 5010}, 15),
     Case(nats_stream_replaced, "the stream is deleted after all was delivered", {"ann": 5010}, 20,
          nats=""),
