@@ -16,12 +16,15 @@ All else is a FAULT: a frame that stands in its stream and wasn't taken, one tha
 whose shard takes frames, and one that was dropped though it wasn't confirmed.
 """
 import collections
+import contextlib
 import dataclasses
 import json
+import sqlite3
 import subprocess
 
 LOST, DOWN, FAULT = "lost", "down", "fault"
 PATIENCE = 120          # seconds for one look at a stream
+LOCKED = 30             # seconds to wait for an outbox
 
 
 @dataclasses.dataclass
@@ -49,6 +52,18 @@ class Shard:
     takes: bool
     places: dict | None
     content: dict
+
+
+def read_outbox(path, name, first):
+    """How far a session is in an outbox, at one moment."""
+    found = []
+    with contextlib.closing(sqlite3.connect(path, timeout=LOCKED)) as file:
+        file.execute("BEGIN")
+        for sql in ("SELECT next, carried FROM session WHERE name = ?",
+                    "SELECT count(*) FROM frame WHERE session = ?",
+                    "SELECT count(body), count(*) - count(body) FROM text WHERE session = ?"):
+            found += file.execute(sql, (name,)).fetchone() or (first, first)
+    return Sending(first, *found)
 
 
 # ---- what the carrier confirmed
@@ -145,6 +160,23 @@ def verdict(name, demanded, sending, shard, confirmed):
     if shard.places is None:
         return (FAULT if shard.takes else DOWN), f"{what}, and its stream can't be read"
     return LOST, f"{what}, which was confirmed at {gone(confirmed[demanded], shard.content)}"
+
+
+def closed(world):
+    """The sessions whose close took effect. A world has `names` of sessions, and `ask` for its store."""
+    return {name for name, in world.ask("SELECT name FROM session WHERE closed = 1")}
+
+
+def standing(world, first):
+    """Of each session that isn't closed why it stands, and how that is shown."""
+    demanded = {name: int(number) for name, number in
+                world.ask("SELECT name, next FROM session WHERE closed = 0")}
+    names = sorted(set(world.names) - closed(world))
+    sending = {name: world.sending(name) for name in names}
+    shards = {it: world.read_shard(it) for it in set(map(world.shard_of, names))}
+    confirmed = confirmations(world.records())
+    return [verdict(name, demanded.get(name, first), sending[name], shards[world.shard_of(name)],
+                    confirmed[name]) for name in names]
 
 
 # ---- the verdicts are tested

@@ -3,17 +3,21 @@
     jetstream.py HOST PORT info SHARD       what a shard's stream is, as JSON
     jetstream.py HOST PORT frames SHARD     each message that it has: OFFSET SESSION FRAME
     jetstream.py HOST PORT takes SHARD      publishes a frame of nobody until it is confirmed
+    jetstream.py HOST PORT delete SHARD OFFSET      deletes a frame
 
 The status is 0 if the answer is whole.
 """
 import base64
 import json
+import os
 import socket
+import subprocess
 import sys
 import time
 
 PATIENCE = 6        # seconds for an answer
 TAKING = 10         # seconds for a frame to be confirmed
+LOOKING = 120       # seconds for all frames
 NOT_THERE = 10037   # of a message: the stream has none at this offset
 INBOX = "_answer.here"
 HELLO = b'CONNECT {"verbose":false,"headers":true,"no_responders":true}\r\n'
@@ -135,7 +139,21 @@ def takes(port, shard, host="127.0.0.1"):
     return True
 
 
-def main(host, port, what, shard):
+def run(host, port, what, *more, command=()):
+    """What this program prints, where `command` runs it; None if the answer isn't whole."""
+    words = [*command, sys.executable, os.path.abspath(__file__), host, str(port), what,
+             *map(str, more)]
+    try:
+        return subprocess.run(words, check=True, stdout=subprocess.PIPE, stderr=subprocess.DEVNULL,
+                              text=True, timeout=LOOKING).stdout
+    except subprocess.SubprocessError:
+        return None
+
+
+def main(host, port, what, shard, *offset):
+    if what == "delete":
+        answer = request(int(port), f"STREAM.MSG.DELETE.KRB_{shard}", host, seq=int(offset[0]))
+        return 0 if answer.get("success") else 1
     if what == "info":
         print(json.dumps(request(int(port), f"STREAM.INFO.KRB_{shard}", host=host)))
     elif what == "frames":

@@ -3,6 +3,7 @@ all has to be delivered after it, and how long nothing may take effect. A case's
 and returns when it is over; then the network is whole again.
 """
 import dataclasses
+import json
 import random
 import signal
 import time
@@ -158,6 +159,19 @@ def ends_stopped(world):
     world.signal(["r0"], signal.SIGCONT)
     time.sleep(3)
     world.signal(["s0", "r1"], signal.SIGCONT)
+
+
+def frame_deleted(world):
+    """One that was confirmed and not read. Its session stands, and evidence.py has to show why."""
+    for receiver in RECEIVERS:
+        world.stop(receiver)
+    time.sleep(2)
+    end = json.loads(world.ask_node(world.leader(), "info", 0))["state"]["last_seq"]
+    time.sleep(2)
+    if world.ask_node(world.leader(), "delete", 0, end) is None:
+        world.notes.append(f"frame {end} isn't deleted")
+    for receiver in RECEIVERS:
+        world.start_receiver(receiver)
 
 
 def told_to_end(world):
@@ -384,6 +398,7 @@ class Case:
     gap: float = 20
     loses: str = ""
     stays_down: str = ""
+    stand: int = None       # so many sessions have to stand
     seed: int = 0
     made: dict = dataclasses.field(default_factory=dict)
 
@@ -426,6 +441,8 @@ CASES = (
     Case(one_replica, "one replica; a node is away for 25 s, senders are started again", gap=40,
          made={"replicas": 1, "rate": 240, "seconds": 20}),
     Case(ends_stopped, "a sender, then one receiver and then the other are stopped for 3 s"),
+    Case(frame_deleted, "a frame that wasn't read is deleted from its stream", 20,
+         loses="the test deletes it", stand=1),
     Case(told_to_end, "a sender and a receiver are told to end while nodes, then the database, are"
          " cut off", gap=25, made={"seconds": 18}),
     Case(receiver_lost, "a receiver's machine is lost in a transaction; another one is started",
@@ -462,10 +479,13 @@ CASES = (
 def judge_standing(world, case, faults):
     """Which sessions stand; what isn't shown to be what the case allows is a fault."""
     allowed = {evidence.LOST: case.loses, evidence.DOWN: case.stays_down, evidence.FAULT: ""}
-    found = world.standing()
+    found = evidence.standing(world, machines.FIRST)
     faults += [f"{reason}: {line}" for reason, line in found if not allowed[reason]]
     shown = [line for reason, line in found if allowed[reason]]
-    return f"{len(found)} sessions stand" + (f", shown of {len(shown)}: {shown[0]}" if shown else "")
+    if case.stand is not None and len(shown) != case.stand:
+        faults.append(f"of {case.stand} sessions it has to be shown why they stand: {shown}")
+    return (f"sessions that stand: {len(found)}, of which it is shown why: {len(shown)}"
+            + "".join(f"; {line}" for line in shown[:1]))
 
 
 def judge_texts(world, found, faults):
@@ -488,6 +508,8 @@ def judge(world, case, since):
     faults, whole = list(world.notes), f"whole after {took or 0:.1f} s"
     if took is None:
         whole = judge_standing(world, case, faults)
+    elif case.stand:
+        faults.append("no session stands")
     found = world.effects()
     judge_texts(world, found, faults)
     doubled = sum(len(texts) - len(set(texts)) for texts in found.values())

@@ -22,6 +22,7 @@ import time
 
 import errors
 import evidence
+import jetstream
 
 NODES = ("n0", "n1", "n2")
 SENDERS = ("s0", "s1")
@@ -33,7 +34,6 @@ HARDWARE = {name: f"02:00:00:00:00:{place + 1:02x}" for place, name in enumerate
 CLIENT, CLUSTER = 4222, 6222        # ports of nodes
 ELECTION = 4                        # seconds until the nodes have a leader
 PATIENCE = 30                       # seconds for a server to answer
-LOOKED = 120                        # seconds for one look at a shard
 FIRST = 1                           # the first number of each session
 STEP = 0.1                          # seconds between insertions
 LOOK = 0.3                          # seconds between looks at the effects
@@ -337,16 +337,9 @@ class World:
                               stderr=subprocess.DEVNULL, text=True, timeout=PATIENCE)
         return [line.split("\t") for line in done.stdout.splitlines()]
 
-    def ask_node(self, node, what, shard):
+    def ask_node(self, node, what, *more):
         """What a node says of a shard's stream (jetstream.py); None if the answer isn't whole."""
-        here = os.path.dirname(os.path.abspath(__file__))
-        with contextlib.suppress(subprocess.SubprocessError):
-            return subprocess.run(
-                self.network.command(node, "python3", f"{here}/jetstream.py", ADDRESS[node],
-                                     str(CLIENT), what, str(shard)),
-                check=True, stdout=subprocess.PIPE, stderr=subprocess.DEVNULL, text=True,
-                timeout=LOOKED).stdout
-        return None
+        return jetstream.run(ADDRESS[node], CLIENT, what, *more, command=self.network.command(node))
 
     def leader_now(self, shard):
         """The node that leads a shard's stream, or None."""
@@ -519,36 +512,17 @@ class World:
         return None
 
     def sending(self, name):
-        """How far a session is in its outbox, at one moment."""
-        found = []
-        with contextlib.closing(sqlite3.connect(self.outbox(self.sender_of(name)),
-                                                timeout=PATIENCE)) as file:
-            file.execute("BEGIN")
-            for sql in ("SELECT next, carried FROM session WHERE name = ?",
-                        "SELECT count(*) FROM frame WHERE session = ?",
-                        "SELECT count(body), count(*) - count(body) FROM text WHERE session = ?"):
-                found += file.execute(sql, (name,)).fetchone() or (FIRST, FIRST)
-        return evidence.Sending(FIRST, *found)
+        return evidence.read_outbox(self.outbox(self.sender_of(name)), name, FIRST)
 
     def read_shard(self, shard):
         return evidence.read_shard(lambda node, what: self.ask_node(NODES[node], what, shard),
                                    len(NODES), f"{self.programs}/numbers", f"{self.folder}/sessions")
 
-    def closed(self):
-        """The sessions whose close took effect."""
-        return {name for name, in self.ask("SELECT name FROM session WHERE closed = 1")}
+    def records(self):
+        return [self.record(it) for it in SENDERS]
 
-    def standing(self):
-        """Of each session that isn't closed why it stands, and how that is shown (evidence.py)."""
-        demanded = {name: int(number) for name, number in
-                    self.ask("SELECT name, next FROM session WHERE closed = 0")}
-        open_ones = sorted(set(self.names) - self.closed())
-        sending = {name: self.sending(name) for name in open_ones}
-        shards = {it: self.read_shard(it) for it in set(map(self.shard_of, open_ones))}
-        confirmed = evidence.confirmations(map(self.record, SENDERS))
-        return [evidence.verdict(name, demanded.get(name, FIRST), sending[name],
-                                 shards[self.shard_of(name)], confirmed[name])
-                for name in open_ones]
+    def closed(self):
+        return evidence.closed(self)
 
     def longest_gap(self, since):
         """The longest time without an effect, while effects came."""

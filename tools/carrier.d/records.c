@@ -33,7 +33,7 @@ static int record(void)
     return file;
 }
 
-/* What doesn't fit into a line is what a stream tells of itself, and is left out. */
+/* What doesn't fit into a line is what a stream says of itself, and is left out. */
 static void note(char kind, const char *subject, const char *text, int len)
 {
     char line[LINE];
