@@ -44,6 +44,12 @@ def processes_with(word):
     return found
 
 
+def with_children(process):
+    """The numbers of a process and its children."""
+    with open(f"/proc/{process}/task/{process}/children", encoding="ascii") as file:
+        return [process, *map(int, file.read().split())]
+
+
 def listen():
     """A socket that listens at a port of the loopback."""
     server = socket.socket()
@@ -152,10 +158,7 @@ class Postgres:
 
     def signal_all(self, number):
         """To the server and each of its processes."""
-        with open(f"/proc/{self.server.pid}/task/{self.server.pid}/children",
-                  encoding="ascii") as file:
-            children = list(map(int, file.read().split()))
-        for process in (self.server.pid, *children):
+        for process in with_children(self.server.pid):
             os.kill(process, number)
 
     def restart(self, seconds):

@@ -178,6 +178,19 @@ def test_store_away(count, ends, postgres):
                loglines.faults(text))
 
 
+def test_privileges(count, ends, postgres):
+    """A role that may not make tables, as by default in PostgreSQL 15, uses those that are there."""
+    ends.put_all()
+    ends.run("sender", "--drain")
+    for sql in ("CREATE ROLE plain LOGIN", "GRANT USAGE ON SEQUENCE effect_id_seq TO plain",
+                "GRANT SELECT, INSERT, UPDATE, DELETE ON shard, session, passed, effect TO plain"):
+        postgres.ask(sql)
+    done = ends.run("receiver", "--until-closed", store=postgres.where.replace("postgres@", "plain@"))
+    found = postgres.ask("SELECT count(DISTINCT text) FROM effect GROUP BY session")
+    count.told(done.returncode == 0 and found == [[str(len(TEXTS))]] * 2,
+               f"error: a role that may make no table; all texts arrive: {found}", [done.stdout[-500:]])
+
+
 def test_store_silent(count, ends, postgres):
     """The server of the store doesn't answer any more, and a receiver is told to end."""
     ends.put_all()

@@ -124,6 +124,17 @@ def nodes_in_turn(world):
         time.sleep(2)
 
 
+def alone_cut_from_peers(world):
+    """The receiver may stay connected to the leader."""
+    world.stop("r1")
+    leader_cut_from_peers(world)
+
+
+def alone_leader_stopped(world):
+    world.stop("r1")
+    leader_stopped(world)
+
+
 def leader_stopped(world):
     leader = world.leader()
     world.signal([leader], signal.SIGSTOP)
@@ -243,6 +254,12 @@ def database_killed(world):
         time.sleep(1.5)
 
 
+def database_stopped(world):
+    world.signal_database(signal.SIGSTOP)
+    time.sleep(6)
+    world.signal_database(signal.SIGCONT)
+
+
 def database_cut_off(world):
     world.network.isolate(DATABASE)
     time.sleep(7)
@@ -292,6 +309,12 @@ def lose_power(world, nodes):
     for node in nodes:
         world.start_node(node)
     time.sleep(3)
+
+
+def power_of_one(world):
+    world.disks["n0"].sync()
+    time.sleep(6)
+    lose_power(world, NODES[:1])
 
 
 def power_of_two(world):
@@ -437,6 +460,8 @@ CASES = (
     Case(node_gone, "one receiver alone; a node is away for 24 s", gap=10, made={"seconds": 30}),
     Case(nodes_in_turn, "one receiver alone; each node is killed in turn", gap=20),
     Case(leader_stopped, "a leader is stopped for 6 s"),
+    Case(alone_cut_from_peers, "one receiver alone; a leader is cut from its peers for 7 s"),
+    Case(alone_leader_stopped, "one receiver alone; a leader is stopped for 6 s"),
     Case(all_nodes_stopped, "all nodes are stopped for 6 s", loses=STOPPED),
     Case(one_replica, "one replica; a node is away for 25 s, senders are started again", gap=40,
          made={"replicas": 1, "rate": 240, "seconds": 20}),
@@ -456,6 +481,7 @@ CASES = (
     Case(receivers_clock, "one of two receivers has a clock that is two days ahead",
          made={"clocks": {"r0": 2 * DAY}}),
     Case(database_killed, "the database is killed three times"),
+    Case(database_stopped, "the database is stopped for 6 s", gap=25),
     Case(database_cut_off, "the database is cut off for 7 s", gap=25),
     Case(node_disk_full, "a node's disk is full for 7 s", loses=FULL,
          made={"disks": {"n0": "24m"}, "rate": 600, "size": 1000}),
@@ -463,6 +489,8 @@ CASES = (
          made={"disks": SMALL, "rate": 600, "size": 1000}),
     Case(outbox_disk_full, "an outbox's disk is full for 7 s, and its sender is cut off",
          made={"disks": {"s0": "8m"}, "size": 1000}),
+    Case(power_of_one, "a node loses power 6 s after its disk was synced",
+         made={"disks": {"n0": "image"}, "rate": 600}),
     Case(power_of_two, "two nodes lose power 6 s after their disks were synced", gap=25,
          loses=UNSYNCED, stays_down=BROKEN, made={"disks": IMAGES, "rate": 600}),
     Case(power_of_all, "all nodes lose power, over file systems that are mounted sync", gap=60,

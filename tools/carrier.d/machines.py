@@ -20,6 +20,7 @@ import subprocess
 import threading
 import time
 
+import engines
 import errors
 import evidence
 import jetstream
@@ -329,6 +330,11 @@ class World:
         """At once, as by a crash."""
         self.signal([DATABASE], signal.SIGQUIT)
         self.processes[DATABASE].running.wait()
+
+    def signal_database(self, number):
+        """To the server and each of its processes."""
+        for process in engines.with_children(self.processes[DATABASE].running.pid):
+            os.kill(process, number)
 
     def ask(self, sql):
         """The rows of an answer, by way of a socket that no network cuts."""

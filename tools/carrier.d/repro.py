@@ -796,6 +796,16 @@ def use_old_outbox(place, name):
     place.require(waiting == [(20,)], f"{waiting} texts wait")
 
 
+def numbers_end(place):
+    """The close has the last number. Both ends are started again after it."""
+    place.put(texts("ann", 0, 2) + close("ann"))
+    for turn in ("first", "second"):
+        told = [place.run(name, word, seconds=10)[0]
+                for name, word in (("sender", "--drain"), ("receiver", "--until-closed"))]
+        place.require(told == [0, 0], f"the {turn} time they end with {told}")
+    place.await_delivered()
+
+
 OLD_OUTBOX = """
 CREATE TABLE session (name TEXT PRIMARY KEY, next INTEGER NOT NULL, carried INTEGER NOT NULL,
  at INTEGER NOT NULL) WITHOUT ROWID;
@@ -845,6 +855,58 @@ def max_payload(place):
     told = place.log(sender)
     place.require(loglines.has(told, "session_stopped", "Maximum Payload", session="ann"), told[:300])
     require_stopped(place, "ann", "Maximum Payload")
+
+
+def effect_fails(place):
+    """An effect that the store refuses stops its shard alone, and is reported; once the store takes it,
+    all goes on."""
+    place.run("receiver", seconds=1)
+    with sqlite3.connect(f"{place.folder}/store.db") as file:
+        file.execute("CREATE TRIGGER bad BEFORE INSERT ON effect WHEN NEW.text = CAST('ann 5' AS BLOB)"
+                     " BEGIN SELECT RAISE(ABORT, 'no such effect'); END")
+    file.close()
+    place.put(texts("ann", 0, 10) + texts("tom", 0, 10))
+    place.run("sender", "--drain")
+    receiver = place.start("receiver")
+    place.require(place.wait(lambda: place.is_delivered({"tom": 10}), 5), "the other shard stands")
+    time.sleep(1)
+    place.require(place.delivered()["ann"] == [], f"of ann {place.delivered()['ann']} took effect")
+    place.require(loglines.has(place.log(receiver), "database_fault", "no such effect"),
+                  place.log(receiver)[:300])
+    with sqlite3.connect(f"{place.folder}/store.db", timeout=errors.LIMIT) as file:
+        file.execute("DROP TRIGGER bad")
+    file.close()
+    place.await_delivered()
+
+
+def replicas_on_one_node(place):
+    """A stream with three replicas can't be made on one node: that is reported, with the reason."""
+    place.put(texts("ann", 0, 10), given={"replicas": "3"})
+    status, told = place.run("sender", "--drain", "--replicas", "3", seconds=3)
+    place.require(status is None and loglines.has(told, "stream_unmade", "replicas > 1"),
+                  f"status {status}: {told[:300]}")
+    place.run("sender", "--drain")
+    place.start("receiver")
+    place.await_delivered()
+
+
+def outbox_corrupt(place):
+    """The outbox's file is overwritten below a sender: who puts a text there is told, and so is who
+    starts a sender. Nothing is made up."""
+    sender, _ = start_both(place, 10)
+    with open(place.outbox, "r+b") as file:
+        file.write(bytes(os.path.getsize(place.outbox)))
+    os.truncate(place.outbox + "-wal", 0)
+    try:
+        place.put(texts("ann", 10, 11))
+        place.faults.append("a text was taken")
+    except sqlite3.DatabaseError as fault:
+        place.require("not a database" in str(fault), str(fault))
+    place.end(sender)
+    status, told = place.run("sender", "--drain", seconds=5)
+    place.require(status == 1 and loglines.has(told, "database_fault", "not a database"),
+                  f"status {status}: {told[-300:]}")
+    place.await_delivered()
 
 
 def receiver_first(place):
@@ -1210,6 +1272,12 @@ CASES = (
     Case(restore_outbox, "the outbox is restored from a backup that is 100 texts old",
          {"ann": 200, "tom": 10}, 10),
     Case(lose_outbox, "a sender begins elsewhere with a new outbox", {"ann": 200, "tom": 10}, 10),
+    Case(numbers_end, "a session's close has the last number", {"ann": 2}, 15,
+         (ANN.replace(" 1 10", f" {LAST - 2} 10"),)),
+    Case(effect_fails, "the store refuses the effect of a text, for a while", {"ann": 10, "tom": 10},
+         25, (ANN, TOM_1), "0,1"),
+    Case(replicas_on_one_node, "--replicas 3, and there is one node", {"ann": 10}, 15, (ANN,), nats=""),
+    Case(outbox_corrupt, "the outbox is overwritten below a sender", {"ann": 10}, 15, (ANN,)),
     Case(old_files, "an outbox and a store were made by an older version", {"ann": 5}, 10),
     Case(stream_full, "the stream of one shard is full", {"tom": 500}, 10, (ANN, TOM_1), "0,1", ""),
     Case(max_payload, "a frame is longer than the broker takes", {"abe": 300, "tom": 500}, 10,
