@@ -57,7 +57,8 @@ static natsStatus add_stream(struct nats_carrier *c, unsigned shard, jsStreamInf
         status = js_AddStream(info, c->js, &config, NULL, &code);
     if (status == NATS_ERR)
         log_fact(LEVEL_ERROR, "stream_unmade", field_text("stream", name),
-                 field_number("replicas", c->replicas), field_text("fault", nats_GetLastError(NULL)),
+                 field_number("replicas", c->replicas),
+                 field_text("fault", nats_GetLastError(NULL)),
                  field_text("text", "are there so many nodes? Tried again"));
     return status;
 }

@@ -4,7 +4,7 @@
 
 #include <stdio.h>
 
-enum { LONGEST = 7, REACH = 1024, END = 16384 /* frames */ };
+enum { LONGEST = 7, REACH = 1024, END = 4096 /* frames */ };
 
 #define PATIENCE UINT64_C(5000000000) /* nanoseconds, doubled with each try: at last ten minutes */
 #define QUIET UINT64_C(10000000000)

@@ -1,5 +1,5 @@
-/* Tells the numbers of frames: of each line of the input, SESSION FRAME with the frame in hexadecimal
- * digits, a line with its number, or '-' if it doesn't open.
+/* Tells the numbers of frames: of each line of the input, SESSION FRAME with the frame in
+ * hexadecimal digits, a line with its number, or '-' if it doesn't open.
  *     numbers SESSIONS */
 #include "opened.h"
 

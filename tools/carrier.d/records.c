@@ -1,8 +1,8 @@
 /* Writes down what a sender hands to NATS and what comes to it, as the library has it, before any
  * code of carrier/ judges it. The linker puts these calls in the place of the library's (--wrap).
  *
- * CARRIER_RECORD names the file, to which each line is added by one call: "P SUBJECT REPLY" of what is
- * published, "M SUBJECT DATA" of what came. */
+ * CARRIER_RECORD names the file, to which each line is added by one call: "P SUBJECT REPLY" of what
+ * is published, "M SUBJECT DATA" of what came. */
 #include <nats/nats.h>
 
 #include <fcntl.h>
@@ -21,7 +21,8 @@ natsStatus __real_natsSubscription_NextMsg(natsMsg **message, natsSubscription *
 natsStatus __wrap_natsSubscription_NextMsg(natsMsg **message, natsSubscription *subscription,
                                            int64_t timeout);
 
-/* The file, or -1 if there is to be none. What can't be written down can't be judged: that ends it. */
+/* The file, or -1 if there is to be none. What can't be written down can't be judged: that ends
+ * the program. */
 static int record(void)
 {
     static int file = -2;
