@@ -99,12 +99,12 @@ def all_nodes_killed(world):
 
 
 def require_all_rise(world, seconds, shards=None):
-    """In each of these shards something takes effect meanwhile."""
-    before = world.effects_of_shards()
+    """In each of these shards something takes effect meanwhile, unless all has that was sent."""
+    before = world.of_shards(world.effects())
     time.sleep(seconds)
-    after = world.effects_of_shards()
-    if not all(after[shard] > before[shard] for shard in shards or range(len(after))):
-        world.notes.append(f"a shard of {shards or 'all'} stood: {before}, {after}")
+    after, sent = (world.of_shards(it) for it in (world.effects(), world.sent))
+    if not all(after[it] > before[it] or after[it] == sent[it] for it in shards or range(len(after))):
+        world.notes.append(f"a shard of {shards or 'all'} stood: {before}, {after} of {sent}")
 
 
 def node_gone(world):
@@ -464,7 +464,7 @@ CASES = (
     Case(alone_leader_stopped, "one receiver alone; a leader is stopped for 6 s"),
     Case(all_nodes_stopped, "all nodes are stopped for 6 s", loses=STOPPED),
     Case(one_replica, "one replica; a node is away for 25 s, senders are started again", gap=40,
-         made={"replicas": 1, "rate": 240, "seconds": 20}),
+         made={"replicas": 1, "rate": 240, "seconds": 32}),
     Case(ends_stopped, "a sender, then one receiver and then the other are stopped for 3 s"),
     Case(frame_deleted, "a frame that wasn't read is deleted from its stream", 20,
          loses="the test deletes it", stand=1),

@@ -496,10 +496,9 @@ class World:
             found[name].append(bytes.fromhex(text))
         return found
 
-    def effects_of_shards(self):
-        """How many effects each shard has."""
-        found = self.effects()
-        return [sum(len(texts) for name, texts in found.items() if self.shard_of(name) == shard)
+    def of_shards(self, texts):
+        """How many of these texts each shard has."""
+        return [sum(len(it) for name, it in list(texts.items()) if self.shard_of(name) == shard)
                 for shard in range(self.options.shards)]
 
     def is_whole(self):
