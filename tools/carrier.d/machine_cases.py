@@ -468,8 +468,8 @@ CASES = (
     Case(ends_stopped, "a sender, then one receiver and then the other are stopped for 3 s"),
     Case(frame_deleted, "a frame that wasn't read is deleted from its stream", 20,
          loses="the test deletes it", stand=1),
-    Case(told_to_end, "a sender and a receiver are told to end while nodes, then the database, are"
-         " cut off", gap=25, made={"seconds": 18}),
+    Case(told_to_end, "SIGTERM to a sender and a receiver while nodes, then the database, are cut off",
+         gap=25, made={"seconds": 18}),
     Case(receiver_lost, "a receiver's machine is lost in a transaction; another one is started",
          gap=20, made={"rate": 1200, "seconds": 24}),
     Case(shared_killed, "receivers share shards; one is killed, and is away for 15 s",
