@@ -78,7 +78,7 @@ sqlite3 *open_database(const char *path, const char *tables)
     return NULL;
 }
 
-int add_column(sqlite3 *db, const char *table, const char *column)
+static int add_column(sqlite3 *db, const char *table, const char *column)
 {
     char sql[256];
     sqlite3_stmt *select;
@@ -93,6 +93,15 @@ int add_column(sqlite3 *db, const char *table, const char *column)
         return has > 0 ? 0 : -1;
     snprintf(sql, sizeof sql, "ALTER TABLE %s ADD COLUMN %s", table, column);
     return run(db, sql);
+}
+
+int add_columns(sqlite3 *db, const char *const columns[][2], size_t count)
+{
+    size_t i;
+    for (i = 0; i < count; i++)
+        if (add_column(db, columns[i][0], columns[i][1]) != 0)
+            return -1;
+    return 0;
 }
 
 int run(sqlite3 *db, const char *sql)

@@ -3,6 +3,7 @@
 #define DATABASE_H
 
 #include <sqlite3.h>
+#include <stddef.h>
 
 /* Opens the file, which is made if it doesn't exist, and runs the statements of its tables, each of
  * which may be run again. What is committed survives a loss of power. NULL after a fault. The
@@ -10,9 +11,9 @@
  * mode. */
 sqlite3 *open_database(const char *path, const char *tables);
 
-/* Adds a column, "NAME TYPE NOT NULL DEFAULT VALUE", unless the table has one of that name: for
- * files that were made before. In a transaction that writes. */
-int add_column(sqlite3 *db, const char *table, const char *column);
+/* Adds columns, each a table and "NAME TYPE NOT NULL DEFAULT VALUE", where the table has none of that
+ * name: for files that were made before. In a transaction that writes. 0, or -1 after a fault. */
+int add_columns(sqlite3 *db, const char *const columns[][2], size_t count);
 
 /* Runs statements that give no rows; 0 if all were run. */
 int run(sqlite3 *db, const char *sql);

@@ -97,6 +97,8 @@ static int incarnation(struct carrier *base, unsigned shard, uint64_t *incarnati
     jsStreamInfo *info = NULL;
     natsStatus status = nats_ask_stream(c, shard, &info);
     *incarnation = status == NATS_OK ? (uint64_t)info->Created : 0;
+    if (c->incarnation != *incarnation)
+        c->known = 0;
     c->incarnation = *incarnation;
     jsStreamInfo_Destroy(info);
     if (status == NATS_OK || status == NATS_NOT_FOUND)

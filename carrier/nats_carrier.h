@@ -39,6 +39,7 @@ struct nats_carrier {
      * how often it was tried to begin, and the frames of the last fetch. */
     unsigned shard;
     uint64_t incarnation, after, delivered;
+    uint64_t known;                     /* it has been here: what is gone before it was told */
     uint64_t pending;                   /* frames after the last, when it was delivered */
     unsigned tries;
     natsSubscription *reader;

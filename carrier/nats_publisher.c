@@ -38,6 +38,7 @@ natsStatus nats_await_answers(struct nats_carrier *c)
 
 /* ---- Streams */
 
+/* NATS_ERR: the servers don't make it, which is reported. */
 static natsStatus add_stream(struct nats_carrier *c, unsigned shard, jsStreamInfo **info)
 {
     char name[32], subject[32];
@@ -52,11 +53,18 @@ static natsStatus add_stream(struct nats_carrier *c, unsigned shard, jsStreamInf
     config.SubjectsLen = 1;
     config.Storage = js_FileStorage;
     config.Replicas = c->replicas;
-    return status == NATS_OK ? js_AddStream(info, c->js, &config, NULL, &code) : status;
+    if (status == NATS_OK)
+        status = js_AddStream(info, c->js, &config, NULL, &code);
+    if (status == NATS_ERR)
+        log_fact(LEVEL_ERROR, "stream_unmade", field_text("stream", name),
+                 field_number("replicas", c->replicas),
+                 field_text("fault", nats_GetLastError(NULL)),
+                 field_text("text", "are there so many nodes? Tried again"));
+    return status;
 }
 
 /* A shard that can't be made is asked for again after a second, so that it doesn't keep the others
- * waiting. */
+ * waiting. NATS_ERR was reported. */
 static int try_later(struct nats_carrier *c, unsigned shard, natsStatus status)
 {
     c->made[shard].moment = nanoseconds() + SECOND;

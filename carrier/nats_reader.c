@@ -31,6 +31,8 @@ void nats_seek(struct carrier *base, unsigned shard, uint64_t offset)
 {
     struct nats_carrier *c = (struct nats_carrier *)base;
     nats_stop_reading(c);
+    if (c->shard != shard || offset > c->known)
+        c->known = offset;
     c->shard = shard;
     c->after = offset;
     c->tries = 0;
@@ -119,9 +121,10 @@ static int begin_reading(struct nats_carrier *c)
 /* Retention, an operator, or a broker that lost them: sessions of theirs stand then. */
 static void report_gap(struct nats_carrier *c, uint64_t offset)
 {
-    if (offset > c->after + 1)
+    uint64_t before = c->after > c->known ? c->after : c->known;
+    if (offset > before + 1)
         log_fact(LEVEL_WARNING, "frames_gone", field_number("shard", c->shard),
-                 field_number("frames", offset - c->after - 1), field_number("offset", offset),
+                 field_number("frames", offset - before - 1), field_number("offset", offset),
                  field_text("text", "they stood before the offset: were they deleted, or too old?"));
 }
 
@@ -147,6 +150,8 @@ static int read_message(struct nats_carrier *c, natsMsg *message, struct carried
     c->delivered++;
     report_gap(c, it->offset);
     c->after = it->offset;
+    if (c->after > c->known)
+        c->known = c->after;
     return 1;
 }
 

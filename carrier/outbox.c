@@ -8,7 +8,7 @@ static const char tables[] =
     "CREATE TABLE IF NOT EXISTS session (name TEXT PRIMARY KEY, next INTEGER NOT NULL,"
     " carried INTEGER NOT NULL, at INTEGER NOT NULL) WITHOUT ROWID;"
     "CREATE TABLE IF NOT EXISTS text (id INTEGER PRIMARY KEY AUTOINCREMENT, session TEXT NOT NULL,"
-    " body BLOB);"
+    " body BLOB, since INTEGER NOT NULL DEFAULT (CAST(strftime('%s') AS INTEGER)));"
     "CREATE TABLE IF NOT EXISTS closed (session TEXT PRIMARY KEY) WITHOUT ROWID;"
     "CREATE TRIGGER IF NOT EXISTS nothing_after_the_close BEFORE INSERT ON text"
     " WHEN EXISTS (SELECT 1 FROM closed WHERE session = NEW.session)"
@@ -27,8 +27,11 @@ static const char tables[] =
     "INSERT OR IGNORE INTO owner VALUES (1, 0)";
 
 /* Columns that files of an older version don't have. */
-static const char *const columns[] = { "shard INTEGER NOT NULL DEFAULT -1",
-                                       "incarnation INTEGER NOT NULL DEFAULT 0" };
+static const char *const columns[][2] = {
+    { "session", "shard INTEGER NOT NULL DEFAULT -1" },
+    { "session", "incarnation INTEGER NOT NULL DEFAULT 0" },
+    { "text", "since INTEGER NOT NULL DEFAULT 0" },
+};
 
 static const char *const sql[OUTBOX_STATEMENTS] = {
     [LOAD_SESSION] = "SELECT next, carried, at, incarnation, shard FROM session WHERE name = ?",
@@ -50,6 +53,7 @@ static const char *const sql[OUTBOX_STATEMENTS] = {
     [ADD_STOPPED] = ("INSERT INTO stopped VALUES (?1, ?2, CAST(strftime('%s') AS INTEGER))"
                      " ON CONFLICT (session) DO UPDATE SET reason = ?2"),
     [COUNT_TEXTS] = "SELECT count(*) FROM (SELECT 1 FROM text LIMIT 100000)",
+    [OLDEST_TEXT] = "SELECT since FROM text ORDER BY id LIMIT 1",
 };
 
 static sqlite3_int64 owner(struct outbox *o)
@@ -64,8 +68,8 @@ static int complete(struct outbox *o)
 {
     if (begin_writing(o->db) != 0)
         return -1;
-    if (add_column(o->db, "session", columns[0]) == 0
-        && add_column(o->db, "session", columns[1]) == 0 && run(o->db, "COMMIT") == 0)
+    if (add_columns(o->db, columns, sizeof columns / sizeof *columns) == 0
+        && run(o->db, "COMMIT") == 0)
         return 0;
     outbox_rollback(o);
     return -1;
@@ -132,12 +136,23 @@ int outbox_has_text(struct outbox *o, sqlite3_int64 after)
     return row;
 }
 
-unsigned long outbox_count_texts(struct outbox *o)
+/* The number that a question has for its answer; 0 if there is none. */
+static uint64_t number_of(struct outbox *o, enum outbox_statement question)
 {
-    sqlite3_stmt *select = o->statements[COUNT_TEXTS];
-    sqlite3_int64 count = step_row(select) == 1 ? sqlite3_column_int64(select, 0) : 0;
+    sqlite3_stmt *select = o->statements[question];
+    sqlite3_int64 number = step_row(select) == 1 ? sqlite3_column_int64(select, 0) : 0;
     sqlite3_reset(select);
-    return (unsigned long)count;
+    return (uint64_t)number;
+}
+
+uint64_t outbox_count_texts(struct outbox *o)
+{
+    return number_of(o, COUNT_TEXTS);
+}
+
+uint64_t outbox_oldest_text(struct outbox *o)
+{
+    return number_of(o, OLDEST_TEXT);
 }
 
 int outbox_is_owned(struct outbox *o)

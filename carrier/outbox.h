@@ -24,7 +24,7 @@
 enum outbox_statement {
     LOAD_SESSION, SELECT_TEXTS, HAS_TEXT, DROP_TEXTS, ADD_FRAME, SELECT_FRAMES, DROP_FRAMES,
     SET_NEXT, SET_CARRIED, SELECT_OWNER, SELECT_SENDING, ADD_STOPPED, DROP_STOPPED, COUNT_TEXTS,
-    OUTBOX_STATEMENTS
+    OLDEST_TEXT, OUTBOX_STATEMENTS
 };
 
 struct outbox {
@@ -59,8 +59,10 @@ int outbox_sessions(struct outbox *outbox, outbox_take *take, void *given);
 int outbox_has_text(struct outbox *outbox, sqlite3_int64 after);
 int outbox_is_owned(struct outbox *outbox);
 
-/* How many texts there are, of the first 100,000. */
-unsigned long outbox_count_texts(struct outbox *outbox);
+/* How many texts there are, of the first 100,000; when the oldest was put in, in seconds since 1970, 0
+ * if there is none or it isn't known. */
+uint64_t outbox_count_texts(struct outbox *outbox);
+uint64_t outbox_oldest_text(struct outbox *outbox);
 
 /* ---- Within a transaction. OUTBOX_AGAIN: another process's transaction took long. OUTBOX_TAKEN:
  * another process is the owner. */

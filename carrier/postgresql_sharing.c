@@ -119,16 +119,10 @@ static void close_it(struct sharing *base)
 
 struct sharing *postgresql_sharing_open(const char *where)
 {
-    struct postgresql_sharing *s = calloc(1, sizeof *s);
+    static const struct sharing_calls calls = { count, take, give_back, close_it };
+    struct postgresql_sharing *s = sharing_make(sizeof *s, &calls);
     if (s == NULL)
         return NULL;
-    s->base.count = count;
-    s->base.take = take;
-    s->base.give_back = give_back;
-    s->base.close = close_it;
     s->where = where;
-    if (be_there(s))
-        return &s->base;
-    close_it(&s->base);
-    return NULL;
+    return sharing_made(&s->base, be_there(s));
 }

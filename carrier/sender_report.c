@@ -18,6 +18,8 @@ static const struct metric metrics[] = {
     { NAME "outbox_seconds_total", "counter", "Time for the outbox", NULL },
     { NAME "carrier_seconds_total", "counter", "Time for the carrier", NULL },
     { NAME "waiting_texts", "gauge", "Texts in the outbox, of the first 100,000", NULL },
+    { NAME "oldest_text_seconds", "gauge", "Since the oldest of them was put in, if that is known",
+      NULL },
     { NAME "stopped_sessions", "gauge", "Sessions that were stopped", NULL },
     { NAME "silent_seconds", "gauge", "Since a frame was carried, if any waits", NULL },
     { NAME "waiting_frames", "gauge", "Frames of a shard that aren't carried", NULL },
@@ -42,13 +44,23 @@ static void show_lane(const struct lane *lane, unsigned part)
     service_alive(part, 1, labels, values);
 }
 
+/* How long the oldest text has waited, 0 if none waits; NAN if that isn't known. */
+static double age_of_oldest(struct sender *s, uint64_t texts)
+{
+    uint64_t since = texts > 0 ? outbox_oldest_text(&s->outbox) : 0, now = read_clock().seconds;
+    if (texts > 0 && since == 0)
+        return NAN;
+    return since > 0 && now > since ? (double)(now - since) : 0;
+}
+
 void sender_show(struct sender *s)
 {
+    uint64_t texts = outbox_count_texts(&s->outbox);
     double silent = (double)(nanoseconds() - s->rose) / 1e9;
     const double values[METRICS] = {
         (double)s->sealing.frames, (double)s->published, (double)s->again,
         (double)s->sealing.nanoseconds / 1e9, (double)s->storing / 1e9, (double)s->carrying / 1e9,
-        (double)outbox_count_texts(&s->outbox), (double)s->stopped, silent, NAN,
+        (double)texts, age_of_oldest(s, texts), (double)s->stopped, silent, NAN,
     };
     unsigned i;
     service_alive(0, silent < SILENCE, "", values);

@@ -57,7 +57,7 @@ static void take_refused(struct shard *s, struct receiving *of, const struct car
                          enum krbrelay_answer answer, int is_nobodys)
 {
     char text[KRBRELAY_TEXT_SIZE];
-    s->counts.refused++;
+    shard_count_refused(&s->counts, answer);
     answer_text(answer, text);
     log_fact(LEVEL_WARNING, "frame_refused", field_text("session", it->session),
              field_number("shard", s->number), field_number("offset", it->offset),
@@ -98,7 +98,7 @@ static int take_unknown(struct shard *s, const struct carried *it)
     int is_elsewhere = sessions_find(s->sessions, it->session, &of);
     unsigned shard = of.shard;
     explicit_bzero(&of, sizeof of);
-    s->counts.refused++;
+    shard_count_refused(&s->counts, 0);
     if (is_elsewhere)
         log_fact(LEVEL_WARNING, "frame_misplaced", field_text("session", it->session),
                  field_number("shard", s->number), field_number("offset", it->offset),
@@ -285,6 +285,7 @@ int shard_step(struct shard *s, int milliseconds)
     if (answer != 1)
         return answer;
     shard_go_back(s, 0);
+    shard_look_back(s);
     began = nanoseconds();
     count = carrier_fetch(s->carrier, s->frames, s->options->batch, milliseconds);
     if (count == CARRIER_CHANGED)
@@ -293,6 +294,8 @@ int shard_step(struct shard *s, int milliseconds)
         return 0;
     s->counts.fetching += nanoseconds() - began;
     s->counts.frames += (unsigned long)count;
+    if (s->frames[count - 1].offset > s->highest)
+        shard_hear(s, s->frames[count - 1].offset);
     answer = take_all(s, count);
     if (answer == 0)
         return count;

@@ -15,6 +15,9 @@
  *    read again from there.
  *  - Of a name that is no session's of the shard the store notes the first frame that was passed
  *    by. Once it is a session's, the shard is read again from there.
+ *  - Where offsets aren't what they were, the last frames of a session may stand before the offset,
+ *    and nothing comes early after them. So the end of a shard in which nothing comes any more is
+ *    read once more.
  * What was read again and refused again waits for longer each time, and reaches further back. A
  * receiver that begins, perhaps with other options, goes back at once to the least place of a
  * session that stands. All that takes effect meanwhile are texts whose turn it is: repeats are
@@ -59,8 +62,11 @@ struct receiving {
     unsigned tries;                /* and so often the shard was read again for it */
 };
 
+enum { REFUSALS = 14 }; /* reasons for which a frame is refused (shard_report.c) */
+
 struct shard_counts {
-    unsigned long frames, texts, accepted, repeats, early, refused, fenced, commits, back;
+    unsigned long frames, texts, accepted, repeats, early, fenced, commits, back;
+    unsigned long refused[REFUSALS]; /* neither as repeats nor as early */
     unsigned long long bytes;
     uint64_t opening, fetching, storing; /* nanoseconds */
 };
@@ -85,6 +91,8 @@ struct shard {
     struct reached stored, now;    /* how far the store says that it was read, and where it is */
     uint64_t least;                /* of a note of other names: from there on all is read again; 0:
                                     * there is none */
+    uint64_t highest, heard;       /* the greatest offset of a frame, and when that one came */
+    int has_looked;                /* the shard's end was read once more since */
     unsigned long turn;            /* so often it was loaded */
     int is_loaded, has_begun;
     size_t open;                   /* if it is asked for, so many sessions aren't closed */
@@ -109,6 +117,8 @@ void shard_stop(struct shard *shard);
 extern const struct metric shard_metrics[], shard_stands_metric;
 extern const unsigned shard_metrics_count;
 
+/* Counts a frame that was refused with libkrbrelay's answer, or 0 if its name has no line. */
+void shard_count_refused(struct shard_counts *counts, uint32_t answer);
 
 /* Work took so many nanoseconds so far. */
 void shard_report(const struct shard *shard, const char *event, uint64_t took);
@@ -133,6 +143,12 @@ void shard_stands(struct shard *shard, struct receiving *it);
 /* Goes back if a session has stood for long enough, or, where all_at_once is 1, to the least
  * place. */
 void shard_go_back(struct shard *shard, int all_at_once);
+
+/* No frame beyond this offset has come. From now on the shard is quiet until one does. */
+void shard_hear(struct shard *shard, uint64_t offset);
+
+/* Goes back from the end, once, if the shard has been quiet for long enough. */
+void shard_look_back(struct shard *shard);
 
 /* The session's row is to be compared and moved. */
 void shard_note_changed(struct shard *shard, struct receiving *it);

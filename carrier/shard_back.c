@@ -4,9 +4,10 @@
 
 #include <stdio.h>
 
-enum { LONGEST = 7, REACH = 1024 };
+enum { LONGEST = 7, REACH = 1024, END = 4096 /* frames */ };
 
 #define PATIENCE UINT64_C(5000000000) /* nanoseconds, doubled with each try: at last ten minutes */
+#define QUIET UINT64_C(10000000000)
 
 void shard_note_changed(struct shard *s, struct receiving *it)
 {
@@ -83,5 +84,24 @@ void shard_go_back(struct shard *s, int all_at_once)
         s->counts.back++;
         s->now.offset = start;
     }
+    carrier_seek(s->carrier, s->number, s->now.offset);
+}
+
+void shard_hear(struct shard *s, uint64_t offset)
+{
+    s->highest = offset;
+    s->heard = nanoseconds();
+    s->has_looked = 0;
+}
+
+void shard_look_back(struct shard *s)
+{
+    if (s->has_looked || nanoseconds() - s->heard < QUIET)
+        return;
+    s->has_looked = 1;
+    if (s->now.offset == 0)
+        return;
+    s->now.offset = s->now.offset > END ? s->now.offset - END : 0;
+    s->counts.back++;
     carrier_seek(s->carrier, s->number, s->now.offset);
 }

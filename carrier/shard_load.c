@@ -64,22 +64,23 @@ static struct receiving *add(struct shard *s, const struct session *of)
     return it;
 }
 
-/* The session of this name, NULL if the shard has none. -1 if there is no memory. */
+/* The session of this name: 1, 0 and NULL if the shard has none, -1 if there is no memory. */
 static int find(struct shard *s, const char *name, struct receiving **it)
 {
     void *found = tfind(name, &s->receivings, by_name);
     struct session of;
-    int answer = 0;
+    int is_there;
     *it = found != NULL ? *(struct receiving **)found : NULL;
     if (*it != NULL)
-        return 0;
-    if (sessions_find(s->sessions, name, &of) && of.shard == s->number
-        && (*it = add(s, &of)) == NULL) {
-        log_system("out_of_memory", "sessions");
-        answer = -1;
-    }
+        return 1;
+    is_there = sessions_find(s->sessions, name, &of) && of.shard == s->number;
+    if (is_there)
+        *it = add(s, &of);
     explicit_bzero(&of, sizeof of);
-    return answer;
+    if (!is_there || *it != NULL)
+        return is_there;
+    log_system("out_of_memory", "sessions");
+    return -1;
 }
 
 void shard_forget(struct shard *s)
@@ -121,10 +122,9 @@ static int note_stored(void *given, const char *name, const struct demand *deman
 {
     struct shard *s = given;
     struct receiving *it;
-    if (find(s, name, &it) != 0)
-        return -1;
-    if (it == NULL)
-        return 0;
+    int found = find(s, name, &it);
+    if (found != 1)
+        return found;
     it->stored = *demand;
     if (store_is_other(&s->stored, &s->now) && demand->shard == (int32_t)s->number)
         reset(&it->stored);
@@ -164,9 +164,10 @@ int shard_load_frames(struct shard *s, int count)
     size_t each;
     s->asked.count = 0;
     for (i = 0; i < count; i++) {
-        if (find(s, s->frames[i].session, &s->of_frames[i]) != 0)
+        int found = find(s, s->frames[i].session, &s->of_frames[i]);
+        if (found < 0)
             return -1;
-        if (s->of_frames[i] == NULL || s->of_frames[i]->turn == s->turn)
+        if (found == 0 || s->of_frames[i]->turn == s->turn)
             continue;
         ask(s, s->of_frames[i]);
         s->of_frames[i]->now.at = s->frames[i].offset - 1; /* until it is placed */
@@ -197,10 +198,9 @@ static int note_standing(void *given, const char *name, const struct demand *dem
 {
     struct shard *s = given;
     struct receiving *it;
-    if (find(s, name, &it) != 0)
-        return -1;
-    if (it == NULL)
-        return 0;
+    int found = find(s, name, &it);
+    if (found != 1)
+        return found;
     s->asked.count = 0;
     ask(s, it);
     it->stored = *demand;
@@ -213,13 +213,14 @@ static int note_standing(void *given, const char *name, const struct demand *dem
 static int note_passed(void *given, const char *name, uint64_t offset)
 {
     struct shard *s = given;
-    struct receiving *it = NULL;
+    struct receiving *it;
+    int found = 0;
     if (*name == 0)
         s->least = offset;
-    else if (find(s, name, &it) != 0)
-        return -1;
-    if (it == NULL)
-        return 0;
+    else
+        found = find(s, name, &it);
+    if (found != 1)
+        return found;
     if (it->turn != s->turn) {
         ask(s, it);
         it->now.at = offset - 1; /* until it is placed */
@@ -310,6 +311,7 @@ static void begin_anew(struct shard *s)
     log_fact(LEVEL_WARNING, "shard_made_anew", field_number("shard", s->number),
              field_text("text", "it is read from its beginning"));
     s->now.offset = s->least = 0;
+    shard_hear(s, 0);
     for (i = 0; i < s->standing.count; i++)
         begin_session_anew(s->standing.at[i]);
     for (i = 0; i < s->changed.count; i++)
@@ -326,6 +328,8 @@ int shard_load(struct shard *s)
     if (carrier_incarnation(s->carrier, s->number, &incarnation) != 0 || incarnation == 0)
         return 1;
     s->now = (struct reached){ incarnation, s->stored.offset };
+    if (!s->has_begun)
+        shard_hear(s, s->now.offset);
     if (s->stored.incarnation != 0 && s->stored.incarnation != incarnation)
         begin_anew(s);
     carrier_seek(s->carrier, s->number, s->now.offset);

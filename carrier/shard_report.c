@@ -7,15 +7,17 @@
 #include <stdio.h>
 
 #define NAME "krbrelay_receiver_"
+#define REFUSED(reason) \
+    { NAME "refused_frames_total", "counter", "Other frames that were refused, by reason", \
+      "reason=\"" reason "\"" }
 
-/* In the order of the values in shard_show. */
+/* In the order of the values in shard_show; those of refusals are the last. */
 const struct metric shard_metrics[] = {
     { NAME "texts_total", "counter", "Texts that took effect", NULL },
     { NAME "text_bytes_total", "counter", "Bytes of them", NULL },
     { NAME "accepted_frames_total", "counter", "Frames that were accepted", NULL },
     { NAME "repeated_frames_total", "counter", "Frames that had been accepted before", NULL },
     { NAME "early_frames_total", "counter", "Frames that came before one that is missing", NULL },
-    { NAME "refused_frames_total", "counter", "Other frames that were refused", NULL },
     { NAME "transactions_total", "counter", "Transactions that were committed", NULL },
     { NAME "fenced_transactions_total", "counter", "Transactions that another receiver preceded",
       NULL },
@@ -27,18 +29,46 @@ const struct metric shard_metrics[] = {
     { NAME "lag_frames", "gauge", "Frames that the carrier has after it", NULL },
     { NAME "loaded_sessions", "gauge", "Sessions of which frames came", NULL },
     { NAME "standing_sessions", "gauge", "Sessions that miss a frame, or had one refused", NULL },
+    REFUSED("NO_LINE"), REFUSED("ETYPE_NOSUPP"), REFUSED("BAD_INTEGRITY"), REFUSED("SKEW"),
+    REFUSED("BADADDR"), REFUSED("BADVERSION"), REFUSED("MSG_TYPE"), REFUSED("MODIFIED"),
+    REFUSED("BADORDER"), REFUSED("INAPP_CKSUM"), REFUSED("FIELD_TOOLONG"), REFUSED("MALFORMED"),
+    REFUSED("BAD_RECORD"), REFUSED("OTHER"),
 };
 const unsigned shard_metrics_count = sizeof shard_metrics / sizeof *shard_metrics;
 const struct metric shard_stands_metric = {
     NAME "session_stands", "gauge", "Sessions that stand still, some of them by name", NULL
 };
 
+/* In the order of the metrics; what isn't here is another one. */
+static const uint32_t refusals[REFUSALS - 1] = {
+    0, KRBRELAY_ETYPE_NOSUPP, KRBRELAY_BAD_INTEGRITY, KRBRELAY_SKEW, KRBRELAY_BADADDR,
+    KRBRELAY_BADVERSION, KRBRELAY_MSG_TYPE, KRBRELAY_MODIFIED, KRBRELAY_BADORDER,
+    KRBRELAY_INAPP_CKSUM, KRBRELAY_FIELD_TOOLONG, KRBRELAY_MALFORMED, KRBRELAY_BAD_RECORD,
+};
+
+void shard_count_refused(struct shard_counts *counts, uint32_t answer)
+{
+    unsigned i = 0;
+    while (i < REFUSALS - 1 && refusals[i] != answer)
+        i++;
+    counts->refused[i]++;
+}
+
+static unsigned long count_refused(const struct shard_counts *counts)
+{
+    unsigned long all = 0;
+    unsigned i;
+    for (i = 0; i < REFUSALS; i++)
+        all += counts->refused[i];
+    return all;
+}
+
 void shard_report(const struct shard *s, const char *event, uint64_t took)
 {
     const struct shard_counts *c = &s->counts;
     log_numbers(event, field_number("shard", s->number), field_number("texts", c->texts),
                 field_number("frames", c->accepted), field_number("repeats", c->repeats),
-                field_number("early", c->early), field_number("refused", c->refused),
+                field_number("early", c->early), field_number("refused", count_refused(c)),
                 field_number("commits", c->commits), field_number("fenced", c->fenced),
                 field_number("again", c->back), field_number("bytes", c->bytes),
                 field_seconds("seconds", took), field_seconds("opening", c->opening),
@@ -60,14 +90,17 @@ void shard_show(struct shard *s, unsigned part)
     const struct shard_counts *c = &s->counts;
     char labels[32];
     uint64_t behind = 0;
+    unsigned i;
     int is_known = s->is_loaded && carrier_behind(s->carrier, &behind) == 0;
-    const double values[] = {
+    double values[sizeof shard_metrics / sizeof *shard_metrics] = {
         (double)c->texts, (double)c->bytes, (double)c->accepted, (double)c->repeats,
-        (double)c->early, (double)c->refused, (double)c->commits, (double)c->fenced,
+        (double)c->early, (double)c->commits, (double)c->fenced,
         (double)c->back, (double)c->opening / 1e9, (double)c->fetching / 1e9,
         (double)c->storing / 1e9, (double)s->now.offset, is_known ? (double)behind : NAN,
         (double)s->count, (double)s->standing.count,
     };
+    for (i = 0; i < REFUSALS; i++)
+        values[shard_metrics_count - REFUSALS + i] = (double)c->refused[i];
     snprintf(labels, sizeof labels, "shard=\"%u\"", s->number);
     service_alive(part, s->is_loaded, labels, values);
     name_standing(s, part);

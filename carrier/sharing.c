@@ -78,21 +78,31 @@ static int be_there(struct file_sharing *s, const char *path)
 
 struct sharing *file_sharing_open(const char *path)
 {
-    struct file_sharing *s = calloc(1, sizeof *s);
+    static const struct sharing_calls calls = { count, take, give_back, close_it };
+    struct file_sharing *s = sharing_make(sizeof *s, &calls);
     if (s == NULL)
         return NULL;
-    s->base.count = count;
-    s->base.take = take;
-    s->base.give_back = give_back;
-    s->base.close = close_it;
     s->file = -1;
-    if (be_there(s, path))
-        return &s->base;
-    close_it(&s->base);
-    return NULL;
+    return sharing_made(&s->base, be_there(s, path));
 }
 
 /* ---- */
+
+void *sharing_make(size_t size, const struct sharing_calls *calls)
+{
+    struct sharing *it = calloc(1, size);
+    if (it != NULL)
+        it->calls = calls;
+    return it;
+}
+
+struct sharing *sharing_made(struct sharing *sharing, int is_open)
+{
+    if (is_open)
+        return sharing;
+    sharing_close(sharing);
+    return NULL;
+}
 
 struct sharing *sharing_open(const char *where)
 {
@@ -109,12 +119,12 @@ struct sharing *sharing_open(const char *where)
 
 int sharing_count(struct sharing *sharing)
 {
-    return sharing->count(sharing);
+    return sharing->calls->count(sharing);
 }
 
 int sharing_take(struct sharing *sharing, unsigned shard)
 {
-    int answer = sharing->take(sharing, shard);
+    int answer = sharing->calls->take(sharing, shard);
     sharing->has[shard] = answer == 1;
     return answer;
 }
@@ -127,10 +137,10 @@ int sharing_has(const struct sharing *sharing, unsigned shard)
 void sharing_give_back(struct sharing *sharing, unsigned shard)
 {
     sharing->has[shard] = 0;
-    sharing->give_back(sharing, shard);
+    sharing->calls->give_back(sharing, shard);
 }
 
 void sharing_close(struct sharing *sharing)
 {
-    sharing->close(sharing);
+    sharing->calls->close(sharing);
 }

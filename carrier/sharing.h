@@ -34,13 +34,19 @@ void sharing_close(struct sharing *sharing);
 
 /* ---- For those who write one: its first member is a struct sharing. */
 
-struct sharing {
+struct sharing_calls {
     int (*count)(struct sharing *);
     int (*take)(struct sharing *, unsigned);
     void (*give_back)(struct sharing *, unsigned);
     void (*close)(struct sharing *);
-    unsigned char has[CARRIER_SHARDS];
 };
+struct sharing { const struct sharing_calls *calls; unsigned char has[CARRIER_SHARDS]; };
+
+/* Zeros of this size, but for these calls; NULL without memory. */
+void *sharing_make(size_t size, const struct sharing_calls *calls);
+
+/* What was made, if it could be opened; else it is closed, and this is NULL. */
+struct sharing *sharing_made(struct sharing *sharing, int is_open);
 
 struct sharing *file_sharing_open(const char *path);
 struct sharing *postgresql_sharing_open(const char *where);

@@ -305,13 +305,9 @@ static const char *path_of_shard(const char *path, unsigned shard, char *name, s
 /* The tables of effects, and what files of an older version don't have. */
 static int complete(sqlite3 *db)
 {
-    size_t i;
     if (begin_writing(db) != 0)
         return -1;
-    for (i = 0; i < sizeof columns / sizeof *columns; i++)
-        if (add_column(db, columns[i][0], columns[i][1]) != 0)
-            break;
-    if (i == sizeof columns / sizeof *columns
+    if (add_columns(db, columns, sizeof columns / sizeof *columns) == 0
         && run(db, "CREATE INDEX IF NOT EXISTS standing ON session (shard) WHERE missed != 0") == 0
         && run(db, effect_tables_sqlite) == 0
         && run(db, "COMMIT") == 0)

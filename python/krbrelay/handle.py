@@ -6,14 +6,17 @@ import os
 import threading
 import weakref
 from ctypes import byref, c_size_t, c_uint8
-from typing import Any, Callable, NoReturn, Tuple, TypeVar, Union
+from typing import Any, Callable, Dict, NoReturn, Tuple, TypeVar, Union
 
-from krbrelay.errors import check
+from krbrelay.errors import exception_of
 from krbrelay.library import HandleStruct, library
 from krbrelay.values import ranged
 
 Self = TypeVar("Self", bound="Handle")
 Key = Union[bytes, bytearray]
+
+# A child doesn't wait for the lock: a thread of its parent may have held it.
+OF_A_PARENT = "the handle was made before a fork, by the parent process"
 
 
 class Handle:
@@ -24,10 +27,12 @@ class Handle:
     """
 
     _kind: str
+    _functions: Dict[str, Callable[..., Any]]
 
     def __init__(self, etype: int, key: Key, *arguments: object) -> None:
         self._library = library()
         self._struct, self._lock, self._process = HandleStruct(), threading.RLock(), os.getpid()
+        self._place, self._functions = ctypes.addressof(self._struct), {}
         self._end = weakref.finalize(self, _end, self._function("free"), self._struct, self._lock,
                                      self._process)
         etype = ranged("the encryption type", etype, -2**31, 2**31 - 1)
@@ -39,15 +44,22 @@ class Handle:
 
     def _function(self, name: str) -> Callable[..., Any]:
         found: Callable[..., Any] = getattr(self._library, f"krbrelay_{self._kind}_{name}")
+        self._functions[name] = found
         return found
 
     def _call(self, name: str, *arguments: object) -> None:
         """Makes a call that has the handle for itself, and raises the exception of its answer."""
         if os.getpid() != self._process:
-            raise RuntimeError("the handle was made before a fork, by the parent process")
+            raise RuntimeError(OF_A_PARENT)
         with self._lock:
-            answer = self._function(name)(byref(self._struct), *arguments)
-        check(answer or 0)
+            self._call_locked(name, *arguments)
+
+    def _call_locked(self, name: str, *arguments: object) -> None:
+        """The same in the process that made the handle, where its lock is held."""
+        call = self._functions.get(name) or self._function(name)
+        answer = call(self._place, *arguments)
+        if answer:
+            raise exception_of(answer)
 
     def _write(self, name: str, room: int, *before: object, after: Tuple[object, ...] = ()
                ) -> bytes:

@@ -7,7 +7,8 @@ import os
 import pathlib
 import shutil
 import subprocess
-from ctypes import POINTER, c_char_p, c_int32, c_size_t, c_uint8, c_uint32, c_uint64
+from ctypes import (
+    POINTER, c_char_p, c_int32, c_size_t, c_uint8, c_uint32, c_uint64, c_void_p)
 from typing import Any, Dict, Iterator, List, Optional, Tuple
 
 MAJOR = 1
@@ -32,7 +33,7 @@ class LibraryError(OSError):
 
 class HandleStruct(ctypes.Structure):
     """struct krbrelay_sealer, krbrelay_opener and krbrelay_receiver, which are alike."""
-    _fields_ = [("at", ctypes.c_void_p), ("count", c_size_t)]
+    _fields_ = [("at", c_void_p), ("count", c_size_t)]
 
 
 class MomentStruct(ctypes.Structure):
@@ -84,21 +85,23 @@ class HeaderStruct(ctypes.Structure):
 
 # ---- the calls of krbrelay.h: what each returns, and its parameters
 
-_HANDLE = POINTER(HandleStruct)
+_AT = c_void_p                  # an address of what this package keeps, which is passed quickest
+_HANDLE = _AT
 _MOMENT = POINTER(MomentStruct)
 _KEY = [c_int32, POINTER(c_uint8), c_size_t]     # the encryption type, the key and its size
 _BYTES = [c_char_p, c_size_t]                   # what is read
 _ROOM = [POINTER(c_uint8), c_size_t]             # what is written
 _SIZE = POINTER(c_size_t)
+_KEPT = [_AT, c_size_t, _AT]     # what is written, and its size
 
 CALLS: Dict[str, Tuple[Any, List[Any]]] = {
     "krbrelay_version": (c_uint32, []),
     "krbrelay_sealer_new": (c_uint32, [_HANDLE, *_KEY, POINTER(SessionStruct)]),
     "krbrelay_frame_size": (c_size_t, [c_size_t]),
     "krbrelay_sealer_seal":
-        (c_uint32, [_HANDLE, *_BYTES, _MOMENT, c_char_p, *_ROOM, _SIZE]),
+        (c_uint32, [_HANDLE, *_BYTES, _AT, c_char_p, *_KEPT]),
     "krbrelay_sealer_seal_record":
-        (c_uint32, [_HANDLE, c_uint32, *_BYTES, _MOMENT, c_char_p, *_ROOM, _SIZE]),
+        (c_uint32, [_HANDLE, c_uint32, *_BYTES, _AT, c_char_p, *_KEPT]),
     "krbrelay_sealer_next": (c_uint32, [_HANDLE, POINTER(c_uint64)]),
     "krbrelay_sealer_frame_size": (c_uint32, [_HANDLE, c_size_t, _MOMENT, _SIZE]),
     "krbrelay_sealer_set_mode": (c_uint32, [_HANDLE, c_uint32]),

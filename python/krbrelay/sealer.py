@@ -2,14 +2,31 @@
 from __future__ import annotations
 
 import os
-from ctypes import c_uint64
+from ctypes import CDLL, addressof, c_size_t, c_uint8, c_uint64
+from time import time_ns
 from typing import Optional
 
-from krbrelay.handle import Handle, Key
-from krbrelay.library import CONFOUNDER_SIZE, SessionStruct
+from krbrelay.handle import OF_A_PARENT, Handle, Key
+from krbrelay.library import CONFOUNDER_SIZE, MomentStruct, SessionStruct
 from krbrelay.values import (
-    LAST_NUMBER, Address, Bytes, Mode, Moment, Record, address_struct, bytes_of, moment_struct,
+    LAST_NUMBER, Address, Bytes, Mode, Moment, Record, address_struct, bytes_of, micros_of,
     optional_struct, ranged, record_bytes)
+
+KEPT_SIZE = 1_024                   # user data of messages that are written into a kept buffer
+UNUSED = bytes(CONFOUNDER_SIZE)     # KRB-SAFE has no confounder
+MOST = 2**64 - 1                    # microseconds
+
+
+class Kept:
+    """What a call that seals is given beside the user data, which fit if they have at most a
+    number of bytes: the moment, and room for the message and for its size."""
+
+    def __init__(self, calls: CDLL, fits: int) -> None:
+        room = calls.krbrelay_frame_size(fits)
+        self.fits, self.moment, self.size = fits, MomentStruct(), c_size_t()
+        self._buffer = (c_uint8 * room)()
+        self.view, self.moment_at = memoryview(self._buffer).cast("B"), addressof(self.moment)
+        self.places = (addressof(self._buffer), room, addressof(self.size))
 
 
 class Sealer(Handle):
@@ -27,14 +44,16 @@ class Sealer(Handle):
 
     def __init__(self, etype: int, key: Key, *, mode: Mode, sender: Address, first: int,
                  receiver: Optional[Address] = None) -> None:
+        self._mode = Mode(mode)
         session = SessionStruct(
-            Mode(mode),
+            self._mode,
             ranged("the first number", first, 0, LAST_NUMBER),
             address_struct("the sender", sender),
             receiver is not None,
             optional_struct("the receiver", receiver),
         )
         super().__init__(etype, key, session)
+        self._kept = Kept(self._library, KEPT_SIZE)
 
     def seal(self, user_data: Bytes, at: Optional[Moment] = None,
              confounder: Optional[Bytes] = None) -> bytes:
@@ -59,8 +78,20 @@ class Sealer(Handle):
     def _sealed(self, name: str, size: int, content: bytes, at: Optional[Moment],
                 confounder: Optional[Bytes], *kind: int) -> bytes:
         """What a call seals of the content, which becomes user data of this size."""
-        return self._write(name, self._library.krbrelay_frame_size(size), *kind,
-                           content, len(content), moment_struct(at), _confounder(confounder))
+        given = None if confounder is None else _confounder(confounder)
+        micros = time_ns() // 1000 if at is None else ranged("the moment", micros_of(at), 0, MOST)
+        if os.getpid() != self._process:
+            raise RuntimeError(OF_A_PARENT)
+        with self._lock:
+            # The lock also keeps the mode: a KRB-PRIV is never sealed under what isn't drawn.
+            drawn = given or (UNUSED if self._mode is Mode.SAFE else os.urandom(CONFOUNDER_SIZE))
+            kept = self._kept
+            if size > kept.fits:
+                kept = Kept(self._library, size)
+            kept.moment.seconds, kept.moment.microseconds = divmod(micros, 1_000_000)
+            self._call_locked(name, *kind, content, len(content), kept.moment_at, drawn,
+                              *kept.places)
+            return kept.view[:kept.size.value].tobytes()
 
     @property
     def next(self) -> int:
@@ -71,16 +102,18 @@ class Sealer(Handle):
 
     def set_mode(self, mode: Mode) -> None:
         """Seals in this mode from now on. Key, number and addresses stay. ValueError, Freed."""
-        self._call("set_mode", Mode(mode))
+        if os.getpid() != self._process:
+            raise RuntimeError(OF_A_PARENT)
+        with self._lock:
+            self._call_locked("set_mode", Mode(mode))
+            self._mode = Mode(mode)
 
     def wipe(self) -> None:
         """Overwrites the keys: sealing raises Wiped from then on."""
         self._call("wipe")
 
 
-def _confounder(given: Optional[Bytes]) -> bytes:
-    if given is None:
-        return os.urandom(CONFOUNDER_SIZE)
+def _confounder(given: Bytes) -> bytes:
     confounder = bytes_of("the confounder", given)
     if len(confounder) != CONFOUNDER_SIZE:
         raise ValueError(f"the confounder has {len(confounder)} bytes: it has to have 16")

@@ -16,7 +16,15 @@ def ran(name, *words):
     return done.returncode, done.stdout, done.stderr
 
 
-class ShowFrame(unittest.TestCase):
+def shown(*words, given=""):
+    """What `python3 -m krbrelay show` does with these words."""
+    environment = {**os.environ, "PYTHONPATH": PYTHON, "PYTHONDONTWRITEBYTECODE": "1"}
+    done = subprocess.run([sys.executable, "-m", "krbrelay", "show", *words], env=environment,
+                          input=given, capture_output=True, text=True)
+    return done.returncode, done.stdout, done.stderr
+
+
+class Show(unittest.TestCase):
     FIELDS = "data=446869 time=20231114221320Z usec=5 seq=7 from=2:0a000001"
 
     def test_lines(self):
@@ -27,37 +35,46 @@ class ShowFrame(unittest.TestCase):
                 line = (f"PRIV 5 21 etype={etype} kvno=- {self.FIELDS} to={to}\n"
                         if mode.name == "PRIV" else
                         f"SAFE 5 20 {self.FIELDS} to={to} cksum={etype - 2}:{frame[-12:].hex()}\n")
-                self.assertEqual(ran("show_frame.py", frame.hex(), key.hex()), (0, line, ""))
+                self.assertEqual(shown(frame.hex(), "--key", "-", given=key.hex()), (0, line, ""))
+
+    def test_what_is_in_clear(self):
+        for key, mode in KINDS:
+            etype = 17 if key is KEYS[0] else 18
+            line = (f"PRIV 5 21 etype={etype} kvno=-\n" if mode.name == "PRIV" else
+                    f"SAFE 5 20 seq=7 cksum={etype - 2}\n")
+            frame = frame_of(key, mode, b"Dhi").hex()
+            self.assertEqual(shown(frame), (0, line, ""))
+            self.assertEqual(shown("-", given=frame + "\n"), (0, line, ""))
 
     def test_what_a_message_leaves_out(self):
         body = frames.body(b"", fixtures.MICROS, 7, fixtures.SENDER, left_out=(0xA1, 0xA2, 0xA3))
         frame = frames.seal_priv(KEYS[1], body, bytes(16))
-        self.assertEqual(ran("show_frame.py", frame.hex(), KEYS[1].hex()), (
+        self.assertEqual(shown(frame.hex(), "--key", "-", given=KEYS[1].hex()), (
             0, "PRIV 5 21 etype=18 kvno=- data= time=- usec=- seq=- from=2:0a000001 to=-\n", ""))
 
     def test_refusals(self):
         frame = frame_of(*KINDS[1], b"Dhi")
-        self.assertEqual(ran("show_frame.py", frame[:-1].hex(), KEYS[0].hex()),
-                         (1, "", "refused 901 MALFORMED\n"))
-        self.assertEqual(ran("show_frame.py", frame.hex(), bytes(16).hex()),
-                         (1, "", "refused 31 BAD_INTEGRITY\n"))
-        self.assertEqual(ran("show_frame.py", frame.hex())[0], 1)
+        self.assertEqual(shown(frame[:-1].hex()), (2, "refused 901 MALFORMED\n", ""))
+        self.assertEqual(shown(frame.hex(), "--key", "-", given=bytes(16).hex()),
+                         (2, "refused 31 BAD_INTEGRITY\n", ""))
 
     def test_what_is_no_message_or_no_key(self):
         """A line says what is wrong, and not where the program met it."""
         frame, key = frame_of(*KINDS[1], b"Dhi").hex(), KEYS[0].hex()
-        for words in ((frame, "xy"), ("xy", key), (frame, key[:-1]), (frame, key[:-2]),
-                      (frame, "")):
-            status, written, told = ran("show_frame.py", *words)
-            self.assertEqual((status, written, told.count("\n")), (1, "", 1), told)
+        for message, given in ((frame, "xy"), ("xy", key), (frame, key[:-1]), (frame, key[:-2]),
+                               (frame, "")):
+            status, written, told = shown(message, "--key", "-", given=given)
+            self.assertEqual((status, written, told.count("\n")), (2, "", 1), told)
+        self.assertIn("No such file", shown(frame, "--key", os.path.join(PYTHON, "none"))[2])
 
-    def test_its_size(self):
-        with open(os.path.join(EXAMPLES, "show_frame.py"), encoding="utf-8") as file:
-            self.assertLessEqual(len(file.readlines()), 40)
+    def test_words(self):
+        self.assertEqual(shown()[0], 2)
+        self.assertEqual(shown("--help")[0], 0)
 
 
 class TwoEnds(unittest.TestCase):
     PRINTED = "message 7: hello\nopen: 42 BADORDER\n"
+    BY_ASYNCIO = "hello\nrefused: BADORDER\nagain\nclosed\n"
 
     def test_it_runs(self):
         self.assertEqual(ran("two_ends.py"), (0, self.PRINTED, ""))
@@ -69,6 +86,12 @@ class TwoEnds(unittest.TestCase):
             self.assertEqual(re.findall(r"^```python\n(.*?)^```", page, re.M | re.S)[0],
                              file.read())
         self.assertIn("".join(f"    {line}\n" for line in self.PRINTED.splitlines()), page)
+
+    def test_over_asyncio(self):
+        self.assertEqual(ran("two_ends_asyncio.py"), (0, self.BY_ASYNCIO, ""))
+        with open(os.path.join(TOP, "docs", "PYTHON.md"), encoding="utf-8") as file:
+            self.assertIn("".join(f"    {line}\n" for line in self.BY_ASYNCIO.splitlines()),
+                          file.read())
 
     def test_the_page_names_each_call(self):
         import krbrelay

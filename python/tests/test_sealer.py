@@ -1,11 +1,12 @@
 import datetime
+import threading
 import time
 import unittest
 from unittest import mock
 
 from support import (
     CONFOUNDER, KEYS, KINDS, MICROS, OTHER, RECEIVER, SENDER, fixtures, frame_of, frames, opener,
-    opener_of, sealer_of)
+    opener_of, reader, sealer_of)
 
 import krbrelay
 from krbrelay import Batch, Closed, Mode, Text
@@ -141,6 +142,12 @@ class Moments(unittest.TestCase):
         self.assertTrue(before <= body.seconds * 10**6 + body.microseconds <= after)
 
 
+def confounder_of(key, frame):
+    """What the encrypted part of a KRB-PRIV begins with."""
+    cipher = reader.message(frame)[2][2]
+    return opener.cts_open(opener.derive(key, 13, 0xAA), cipher[:-12])[:16]
+
+
 class Confounders(unittest.TestCase):
     def test_they_are_drawn_from_the_system(self):
         with sealer_of(KEYS[1], Mode.PRIV) as sealer, \
@@ -149,6 +156,30 @@ class Confounders(unittest.TestCase):
             self.assertEqual(sealer.seal_record(Text(b"hi"), MICROS),
                              frame_of(KEYS[1], Mode.PRIV, b"Dhi", 8))
         self.assertEqual(drawn.call_args_list, [mock.call(16)] * 2)
+
+    def test_none_is_drawn_for_a_safe_message(self):
+        with sealer_of(KEYS[1], Mode.SAFE) as sealer, mock.patch("os.urandom") as drawn:
+            self.assertEqual(sealer.seal(b"hi", MICROS), frame_of(KEYS[1], Mode.SAFE, b"hi"))
+        self.assertEqual(drawn.call_args_list, [])
+
+    def test_each_private_message_has_one_while_the_mode_changes(self):
+        """Also if another thread sets the mode meanwhile."""
+        frames_made, is_over = [], threading.Event()
+        with sealer_of(KEYS[1], Mode.SAFE) as sealer:
+            def change():
+                while not is_over.is_set():
+                    sealer.set_mode(Mode.PRIV)
+                    sealer.set_mode(Mode.SAFE)
+            changing = threading.Thread(target=change)
+            changing.start()
+            while sum(it[0] == 0x75 for it in frames_made) < 200:
+                frames_made.append(sealer.seal(b"hi", MICROS))
+            is_over.set()
+            changing.join()
+        private = [it for it in frames_made if it[0] == 0x75]
+        drawn = {confounder_of(KEYS[1], it) for it in private}
+        self.assertEqual(len(drawn), len(private))
+        self.assertNotIn(bytes(16), drawn)
 
     def test_each_is_another(self):
         seals = set()

@@ -2,8 +2,7 @@
  * where the frame doesn't open at any, and the frame in hexadecimal digits.
  *     dump --carrier WHERE --sessions FILE --shards N --replicas N */
 #include "carrier.h"
-#include "clock.h"
-#include "sessions.h"
+#include "opened.h"
 
 #include <stdio.h>
 #include <stdlib.h>
@@ -13,35 +12,12 @@ enum { TAKEN = 256, SILENT = 5, WAIT = 100 };
 
 struct dump { struct sessions *sessions; uint8_t *text; };
 
-/* Opens the frame at any number; 0 if it doesn't open. */
-static int number_of(struct dump *d, const struct carried *it, unsigned long *number)
-{
-    const struct krbrelay_demand any = { 0 };
-    struct krbrelay_opener opener = { 0 };
-    struct krbrelay_expect expect = { 0 };
-    struct krbrelay_moment now = read_clock();
-    struct krbrelay_carried carried = { 0 };
-    enum krbrelay_answer answer;
-    struct session of;
-    size_t size;
-    if (!sessions_find(d->sessions, it->session, &of))
-        return 0;
-    expect.mode = of.mode;
-    answer = krbrelay_opener_new(&opener, of.etype, of.key, of.key_len, &expect);
-    if (answer == KRBRELAY_OK)
-        answer = krbrelay_opener_open(&opener, it->frame, it->len, &any, &now, d->text,
-                                      KRBRELAY_FRAME_LIMIT, &size, &carried);
-    krbrelay_opener_free(&opener);
-    *number = carried.number;
-    return answer == KRBRELAY_OK && carried.has_number;
-}
-
 static void print(struct dump *d, unsigned shard, const struct carried *it)
 {
     unsigned long number;
     size_t i;
     printf("%u %llu %s ", shard, (unsigned long long)it->offset, it->session);
-    if (number_of(d, it, &number))
+    if (opened_number(d->sessions, it->session, it->frame, it->len, d->text, &number))
         printf("%lu ", number);
     else
         printf("- ");

@@ -14,6 +14,8 @@ import threading
 
 import chaos
 import engines
+import evidence
+import jetstream
 import loglines
 import repro
 import units
@@ -22,6 +24,7 @@ UNITS = os.path.join(os.path.dirname(os.path.abspath(__file__)), "../../carrier/
 SENDERS, RECEIVERS, SESSIONS, SHARDS = 3, 3, 24, 8
 RATE = 48               # texts a second, of all sessions
 SIZE = 600              # bytes at most
+FIRST = 1               # the first number of each session
 CAUGHT_UP = 120         # seconds until all has taken effect after the end
 QUIET = (6, 20)         # seconds between two disturbances
 NODE_PAUSE = 8          # seconds for a node to catch up
@@ -52,12 +55,17 @@ class Endurance:
         self.down = None        # a node, and when it is started again
         self.asleep = []        # what was stopped, and when it wakes
 
-    def sender_of(self, name):
+    @staticmethod
+    def sender_of(name):
         return int(name[1:]) % SENDERS
 
+    @staticmethod
+    def shard_of(name):
+        return int(name[1:]) % SHARDS
+
     def write_sessions(self):
-        lines = {name: f"{name} {int(name[1:]) % SHARDS} 18 priv {int(name[1:]) + 1:064x} 1 10.0.0.1"
-                       " 10.0.0.2\n" for name in self.names}
+        lines = {name: f"{name} {self.shard_of(name)} 18 priv {int(name[1:]) + 1:064x} {FIRST}"
+                       " 10.0.0.1 10.0.0.2\n" for name in self.names}
         repro.Place.write(f"{self.folder}/sessions", lines.values())
         for sender in range(SENDERS):
             repro.Place.write(f"{self.folder}/sessions{sender}", [
@@ -225,9 +233,23 @@ class Endurance:
             found[name].append(bytes.fromhex(text))
         return found
 
+    def ask(self, sql):
+        return self.database.ask(sql)
+
+    def sending(self, name):
+        return evidence.read_outbox(f"{self.folder}/outbox{self.sender_of(name)}.db", name, FIRST)
+
+    def read_shard(self, shard):
+        def ask(node, what):
+            return jetstream.run("127.0.0.1", self.nats.ports[node], what, shard)
+        return evidence.read_shard(ask, len(self.nats.ports), f"{self.programs}/numbers",
+                                   f"{self.folder}/sessions")
+
+    def records(self):
+        return [self.units[f"sender{it}"].record() for it in range(SENDERS)]
+
     def is_whole(self):
-        closed = int(self.database.ask("SELECT count(*) FROM session WHERE closed = 1")[0][0])
-        return closed == SESSIONS and self.is_idle()
+        return len(evidence.closed(self)) == SESSIONS and self.is_idle()
 
     def await_whole(self):
         """Until all is closed and the metrics say that nothing waits."""
@@ -235,6 +257,7 @@ class Endurance:
         while not self.is_whole():
             if time.monotonic() - began > CAUGHT_UP:
                 self.faults.append(f"not whole after {CAUGHT_UP} s: {self.samples[-1]}")
+                self.faults += map(": ".join, evidence.standing(self, FIRST))
                 return
             time.sleep(0.5)
         self.counts["seconds until all was whole"] = round(time.monotonic() - began)

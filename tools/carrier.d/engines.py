@@ -44,6 +44,12 @@ def processes_with(word):
     return found
 
 
+def with_children(process):
+    """The numbers of a process and its children."""
+    with open(f"/proc/{process}/task/{process}/children", encoding="ascii") as file:
+        return [process, *map(int, file.read().split())]
+
+
 def listen():
     """A socket that listens at a port of the loopback."""
     server = socket.socket()
@@ -149,6 +155,11 @@ class Postgres:
              "-c", "listen_addresses=127.0.0.1", "-c", "unix_socket_directories=",
              "-c", "shared_buffers=256MB", "-c", "max_wal_size=2GB"],
             stderr=subprocess.DEVNULL, **self.how)
+
+    def signal_all(self, number):
+        """To the server and each of its processes."""
+        for process in with_children(self.server.pid):
+            os.kill(process, number)
 
     def restart(self, seconds):
         """Ends it at once, and starts it again after so many seconds."""

@@ -1,6 +1,7 @@
 """Errors of the senders and receivers of carrier/: each has a message that says what to do, and
 nothing is lost."""
 import os
+import signal
 import sqlite3
 import subprocess
 import threading
@@ -10,6 +11,7 @@ import loglines
 
 LIMIT = 30          # seconds for one program
 TEXTS = [f"text {it}" for it in range(300)]
+TO_END = 5          # seconds for an end by SIGTERM
 LOCKED = 4          # seconds; the tests' programs wait for 2 (tools/carrier.d/Makefile)
 AT_ONCE = 8         # processes
 SESSIONS = [f"ann 0 17 safe {'11' * 16} 1 10.0.0.1 10.0.0.255\n",
@@ -174,6 +176,38 @@ def test_store_away(count, ends, postgres):
     count.told(loglines.has(text, "store_away"), "error: that is reported", [text[-500:]])
     count.told(not loglines.faults(text), "error: each line of its log has its form",
                loglines.faults(text))
+
+
+def test_privileges(count, ends, postgres):
+    """A role that may not make tables, as by default in PostgreSQL 15, uses those that are there."""
+    ends.put_all()
+    ends.run("sender", "--drain")
+    for sql in ("CREATE ROLE plain LOGIN", "GRANT USAGE ON SEQUENCE effect_id_seq TO plain",
+                "GRANT SELECT, INSERT, UPDATE, DELETE ON shard, session, passed, effect TO plain"):
+        postgres.ask(sql)
+    done = ends.run("receiver", "--until-closed", store=postgres.where.replace("postgres@", "plain@"))
+    found = postgres.ask("SELECT count(DISTINCT text) FROM effect GROUP BY session")
+    count.told(done.returncode == 0 and found == [[str(len(TEXTS))]] * 2,
+               f"error: a role that may make no table; all texts arrive: {found}", [done.stdout[-500:]])
+
+
+def test_store_silent(count, ends, postgres):
+    """The server of the store doesn't answer any more, and a receiver is told to end."""
+    ends.put_all()
+    receiver = subprocess.Popen(ends.command("receiver"), stdout=subprocess.PIPE,
+                                stderr=subprocess.STDOUT, text=True)
+    time.sleep(1)
+    postgres.signal_all(signal.SIGSTOP)
+    ends.run("sender", "--drain")
+    time.sleep(1)
+    receiver.send_signal(signal.SIGTERM)
+    began = time.monotonic()
+    receiver.communicate(timeout=LIMIT)
+    took = time.monotonic() - began
+    postgres.signal_all(signal.SIGCONT)
+    count.told(receiver.returncode == 0 and took < TO_END,
+               f"error: the store is silent; SIGTERM ends a receiver: {receiver.returncode} after"
+               f" {took:.1f} s")
 
 
 def test_junk(count, ends):

@@ -1,8 +1,25 @@
-"""Requests to NATS over a plain socket: no client is needed."""
+"""Requests to NATS over a plain socket: no client is needed.
+
+    jetstream.py HOST PORT info SHARD       what a shard's stream is, as JSON
+    jetstream.py HOST PORT frames SHARD     each message that it has: OFFSET SESSION FRAME
+    jetstream.py HOST PORT takes SHARD      publishes a frame of nobody until it is confirmed
+    jetstream.py HOST PORT delete SHARD OFFSET      deletes a frame
+
+The status is 0 if the answer is whole.
+"""
+import base64
 import json
+import os
 import socket
+import subprocess
+import sys
+import time
 
 PATIENCE = 6        # seconds for an answer
+TAKING = 10         # seconds for a frame to be confirmed
+LOOKING = 120       # seconds for all frames
+NOT_THERE = 10037   # of a message: the stream has none at this offset
+INBOX = "_answer.here"
 HELLO = b'CONNECT {"verbose":false,"headers":true,"no_responders":true}\r\n'
 
 
@@ -44,17 +61,21 @@ class Connection:
         self.socket.close()
 
 
+    def ask(self, subject, body=b""):
+        """What is answered to one request; the inbox is subscribed to."""
+        self.publish(subject, body, INBOX)
+        words, answer = self.next()
+        if words[0] == "HMSG":
+            raise OSError(f"{subject}: nobody answers")
+        return json.loads(answer)
+
+
 def request(port, subject, host="127.0.0.1", **body):
     """What JetStream answers to one request of its interface."""
     connection = Connection(port, host)
     try:
-        connection.subscribe("_answer.here")
-        connection.publish(f"$JS.API.{subject}", json.dumps(body).encode() if body else b"",
-                           "_answer.here")
-        words, answer = connection.next()
-        if words[0] == "HMSG":
-            raise OSError(f"{subject}: nobody answers")
-        return json.loads(answer)
+        connection.subscribe(INBOX)
+        return connection.ask(f"$JS.API.{subject}", json.dumps(body).encode() if body else b"")
     finally:
         connection.close()
 
@@ -69,3 +90,79 @@ def make_stream(port, shard, **more):
 def stream(port, shard):
     """What the stream of a shard is."""
     return request(port, f"STREAM.INFO.KRB_{shard}")
+
+
+def frames(port, shard, host="127.0.0.1"):
+    """Each message that the stream of a shard has, asked for by its offset: the offset, the session
+    and the frame. A fault if one can't be asked for."""
+    connection, found = Connection(port, host), []
+    try:
+        connection.subscribe(INBOX)
+        state = member(connection.ask(f"$JS.API.STREAM.INFO.KRB_{shard}"), "state")
+        for offset in range(state["first_seq"], state["last_seq"] + 1):
+            answer = connection.ask(f"$JS.API.STREAM.MSG.GET.KRB_{shard}", b'{"seq":%d}' % offset)
+            if answer.get("error", {}).get("err_code") == NOT_THERE:
+                continue
+            message = member(answer, "message")
+            found.append((offset, message["subject"].rsplit(".", 1)[1],
+                          base64.b64decode(message.get("data", ""))))
+    finally:
+        connection.close()
+    return found
+
+
+def member(answer, name):
+    if name not in answer:
+        raise OSError(f"no {name}: {answer}")
+    return answer[name]
+
+
+def is_taken(port, shard, host):
+    """Whether the stream of a shard confirms a frame, of a session that nobody has."""
+    try:
+        connection = Connection(port, host)
+        connection.subscribe(INBOX)
+        is_confirmed = connection.ask(f"krb.{shard}.nobody", b"nobody's").get("seq", 0) > 0
+        connection.close()
+        return is_confirmed
+    except OSError:
+        return False
+
+
+def takes(port, shard, host="127.0.0.1"):
+    """The same, tried for some seconds."""
+    until = time.monotonic() + TAKING
+    while not is_taken(port, shard, host):
+        if time.monotonic() > until:
+            return False
+        time.sleep(0.2)
+    return True
+
+
+def run(host, port, what, *more, command=()):
+    """What this program prints, where `command` runs it; None if the answer isn't whole."""
+    words = [*command, sys.executable, os.path.abspath(__file__), host, str(port), what,
+             *map(str, more)]
+    try:
+        return subprocess.run(words, check=True, stdout=subprocess.PIPE, stderr=subprocess.DEVNULL,
+                              text=True, timeout=LOOKING).stdout
+    except subprocess.SubprocessError:
+        return None
+
+
+def main(host, port, what, shard, *offset):
+    if what == "delete":
+        answer = request(int(port), f"STREAM.MSG.DELETE.KRB_{shard}", host, seq=int(offset[0]))
+        return 0 if answer.get("success") else 1
+    if what == "info":
+        print(json.dumps(request(int(port), f"STREAM.INFO.KRB_{shard}", host=host)))
+    elif what == "frames":
+        for offset, name, frame in frames(int(port), int(shard), host):
+            print(offset, name, frame.hex())
+    else:
+        return 0 if takes(int(port), int(shard), host) else 1
+    return 0
+
+
+if __name__ == "__main__":
+    sys.exit(main(*sys.argv[1:]))

@@ -3,11 +3,13 @@ all has to be delivered after it, and how long nothing may take effect. A case's
 and returns when it is over; then the network is whole again.
 """
 import dataclasses
+import json
 import random
 import signal
 import time
 import typing
 
+import evidence
 import machines
 from machines import DATABASE, NODES, RECEIVERS, SENDERS
 
@@ -97,12 +99,12 @@ def all_nodes_killed(world):
 
 
 def require_all_rise(world, seconds, shards=None):
-    """In each of these shards something takes effect meanwhile."""
-    before = world.effects_of_shards()
+    """In each of these shards something takes effect meanwhile, unless all has that was sent."""
+    before = world.of_shards(world.effects())
     time.sleep(seconds)
-    after = world.effects_of_shards()
-    if not all(after[shard] > before[shard] for shard in shards or range(len(after))):
-        world.notes.append(f"a shard of {shards or 'all'} stood: {before}, {after}")
+    after, sent = (world.of_shards(it) for it in (world.effects(), world.sent))
+    if not all(after[it] > before[it] or after[it] == sent[it] for it in shards or range(len(after))):
+        world.notes.append(f"a shard of {shards or 'all'} stood: {before}, {after} of {sent}")
 
 
 def node_gone(world):
@@ -120,6 +122,17 @@ def nodes_in_turn(world):
         time.sleep(2.5)
         world.start_node(node)
         time.sleep(2)
+
+
+def alone_cut_from_peers(world):
+    """The receiver may stay connected to the leader."""
+    world.stop("r1")
+    leader_cut_from_peers(world)
+
+
+def alone_leader_stopped(world):
+    world.stop("r1")
+    leader_stopped(world)
 
 
 def leader_stopped(world):
@@ -157,6 +170,30 @@ def ends_stopped(world):
     world.signal(["r0"], signal.SIGCONT)
     time.sleep(3)
     world.signal(["s0", "r1"], signal.SIGCONT)
+
+
+def frame_deleted(world):
+    """One that was confirmed and not read. Its session stands, and evidence.py has to show why."""
+    for receiver in RECEIVERS:
+        world.stop(receiver)
+    time.sleep(2)
+    end = json.loads(world.ask_node(world.leader(), "info", 0))["state"]["last_seq"]
+    time.sleep(2)
+    if world.ask_node(world.leader(), "delete", 0, end) is None:
+        world.notes.append(f"frame {end} isn't deleted")
+    for receiver in RECEIVERS:
+        world.start_receiver(receiver)
+
+
+def told_to_end(world):
+    """While what they wait for is cut off."""
+    for away in (NODES, [DATABASE]):
+        for name in away:
+            world.network.isolate(name)
+        time.sleep(2)
+        world.require_end(["s0", "r0"])
+        world.network.heal()
+        time.sleep(4)
 
 
 def receiver_lost(world):
@@ -217,6 +254,12 @@ def database_killed(world):
         time.sleep(1.5)
 
 
+def database_stopped(world):
+    world.signal_database(signal.SIGSTOP)
+    time.sleep(6)
+    world.signal_database(signal.SIGCONT)
+
+
 def database_cut_off(world):
     world.network.isolate(DATABASE)
     time.sleep(7)
@@ -266,6 +309,12 @@ def lose_power(world, nodes):
     for node in nodes:
         world.start_node(node)
     time.sleep(3)
+
+
+def power_of_one(world):
+    world.disks["n0"].sync()
+    time.sleep(6)
+    lose_power(world, NODES[:1])
 
 
 def power_of_two(world):
@@ -361,14 +410,18 @@ DRAWN = (cut_one, cut_one_way, lose_some, kill_node, kill_end, stop_one, kill_da
 @dataclasses.dataclass
 class Case:
     """What is done, and how the machines are made. All texts have to take effect within so many
-    seconds after it, and no longer gap may be between two effects. If the carrier may lose what it
-    confirmed, as JetStream 2.9.10 does in some of these cases, a session may stand whose demanded
-    frame it has lost, or whose shard has no leader any more."""
+    seconds after it, and no longer gap may be between two effects.
+
+    `loses` says why the carrier may lose what it confirmed, and `stays_down` why a shard may take no
+    frame any more; if it is empty, that may not be. A session may stand for these reasons alone, and
+    only if evidence.py shows of it that it does."""
     run: typing.Callable
     done: str
     seconds: float = 60
     gap: float = 20
-    may_lose: bool = False
+    loses: str = ""
+    stays_down: str = ""
+    stand: int = None       # so many sessions have to stand
     seed: int = 0
     made: dict = dataclasses.field(default_factory=dict)
 
@@ -380,27 +433,43 @@ IMAGES = dict.fromkeys(NODES, "image")
 SYNCED = dict.fromkeys(NODES, "image,sync")
 SMALL = dict.fromkeys(NODES, "24m")
 
+# Why JetStream 2.9.10 may lose what it confirmed, or a shard of it stays down.
+ONE_WAY = ("a leader whose messages to its peers are lost gives offsets that others give again"
+           " after the next election")
+STOPPED = "nodes that wake all at once each go on with what they had before the others' election"
+KILLED = "a node writes what it confirmed a moment later, and all are killed at once"
+FULL = "a node whose disk is full drops what it confirmed"
+UNSYNCED = "a node that loses power has what it had synced, up to two minutes before"
+BROKEN = "a node that loses power may leave files from which the group of all streams doesn't start"
+DRAWN_FAULTS = "nodes are killed, stopped and cut off one way, one after the other"
+
 CASES = (
     Case(nothing, "nothing", 20, 5),
-    Case(leader_cut_from_peers, "a leader is cut from its peers for 7 s", may_lose=True),
-    Case(leader_isolated, "a leader is cut off for 7 s", may_lose=True),
-    Case(leader_one_way_out, "what a leader sends to its peers is lost for 7 s", may_lose=True),
-    Case(leader_one_way_in, "what its peers send to a leader is lost for 7 s", may_lose=True),
-    Case(nodes_apart, "all nodes are cut from each other for 7 s", gap=25, may_lose=True),
-    Case(half_ring, "two of three nodes are cut from each other for 7 s", may_lose=True),
+    Case(leader_cut_from_peers, "a leader is cut from its peers for 7 s"),
+    Case(leader_isolated, "a leader is cut off for 7 s"),
+    Case(leader_one_way_out, "what a leader sends to its peers is lost for 7 s", loses=ONE_WAY),
+    Case(leader_one_way_in, "what its peers send to a leader is lost for 7 s"),
+    Case(nodes_apart, "all nodes are cut from each other for 7 s", gap=25),
+    Case(half_ring, "two of three nodes are cut from each other for 7 s"),
     Case(loss, "a fifth of all is lost and the rest late by 20 to 100 ms, for 8 s"),
     Case(confirmations_lost, "half of what nodes send to senders is lost for 7 s"),
     Case(far_senders, "senders are 1.3 s from the nodes for 14 s", gap=25, made={"seconds": 20}),
     Case(thin_senders, "senders have 1 Mbit/s for 30 s, with a backlog of 1,440 texts of 1,000 bytes",
          made={"rate": 100, "size": 1000}),
-    Case(all_nodes_killed, "all nodes are killed and started again", may_lose=True),
+    Case(all_nodes_killed, "all nodes are killed and started again", loses=KILLED),
     Case(node_gone, "one receiver alone; a node is away for 24 s", gap=10, made={"seconds": 30}),
     Case(nodes_in_turn, "one receiver alone; each node is killed in turn", gap=20),
-    Case(leader_stopped, "a leader is stopped for 6 s", may_lose=True),
-    Case(all_nodes_stopped, "all nodes are stopped for 6 s", may_lose=True),
+    Case(leader_stopped, "a leader is stopped for 6 s"),
+    Case(alone_cut_from_peers, "one receiver alone; a leader is cut from its peers for 7 s"),
+    Case(alone_leader_stopped, "one receiver alone; a leader is stopped for 6 s"),
+    Case(all_nodes_stopped, "all nodes are stopped for 6 s", loses=STOPPED),
     Case(one_replica, "one replica; a node is away for 25 s, senders are started again", gap=40,
-         made={"replicas": 1, "rate": 240, "seconds": 20}),
+         made={"replicas": 1, "rate": 240, "seconds": 32}),
     Case(ends_stopped, "a sender, then one receiver and then the other are stopped for 3 s"),
+    Case(frame_deleted, "a frame that wasn't read is deleted from its stream", 20,
+         loses="the test deletes it", stand=1),
+    Case(told_to_end, "SIGTERM to a sender and a receiver while nodes, then the database, are cut off",
+         gap=25, made={"seconds": 18}),
     Case(receiver_lost, "a receiver's machine is lost in a transaction; another one is started",
          gap=20, made={"rate": 1200, "seconds": 24}),
     Case(shared_killed, "receivers share shards; one is killed, and is away for 15 s",
@@ -412,48 +481,70 @@ CASES = (
     Case(receivers_clock, "one of two receivers has a clock that is two days ahead",
          made={"clocks": {"r0": 2 * DAY}}),
     Case(database_killed, "the database is killed three times"),
+    Case(database_stopped, "the database is stopped for 6 s", gap=25),
     Case(database_cut_off, "the database is cut off for 7 s", gap=25),
-    Case(node_disk_full, "a node's disk is full for 7 s", may_lose=True,
+    Case(node_disk_full, "a node's disk is full for 7 s", loses=FULL,
          made={"disks": {"n0": "24m"}, "rate": 600, "size": 1000}),
-    Case(all_disks_full, "all nodes' disks are full for 7 s", gap=25, may_lose=True,
+    Case(all_disks_full, "all nodes' disks are full for 7 s", gap=25, loses=FULL,
          made={"disks": SMALL, "rate": 600, "size": 1000}),
     Case(outbox_disk_full, "an outbox's disk is full for 7 s, and its sender is cut off",
          made={"disks": {"s0": "8m"}, "size": 1000}),
+    Case(power_of_one, "a node loses power 6 s after its disk was synced",
+         made={"disks": {"n0": "image"}, "rate": 600}),
     Case(power_of_two, "two nodes lose power 6 s after their disks were synced", gap=25,
-         may_lose=True, made={"disks": IMAGES, "rate": 600}),
+         loses=UNSYNCED, stays_down=BROKEN, made={"disks": IMAGES, "rate": 600}),
     Case(power_of_all, "all nodes lose power, over file systems that are mounted sync", gap=60,
-         may_lose=True, made={"disks": SYNCED, "rate": 600}),
+         loses=KILLED, stays_down=BROKEN, made={"disks": SYNCED, "rate": 600}),
     Case(power_of_all_unsynced, "all nodes lose power 6 s after their disks were synced", gap=60,
-         may_lose=True, made={"disks": IMAGES, "rate": 600}),
+         loses=UNSYNCED, stays_down=BROKEN, made={"disks": IMAGES, "rate": 600}),
     Case(power_of_sender, "a sender's machine loses power three times",
          made={"disks": {"s0": "image"}, "rate": 600}),
-    *(Case(drawn_faults, f"drawn faults for 22 s, seed {seed}", gap=30, may_lose=True, seed=seed,
-           made={"seconds": 26}) for seed in (101, 102, 103)),
+    *(Case(drawn_faults, f"drawn faults for 22 s, seed {seed}", gap=30, loses=DRAWN_FAULTS,
+           seed=seed, made={"seconds": 26}) for seed in (101, 102, 103)),
 )
 
 
 def judge_standing(world, case, faults):
-    """How many sessions stand by the carrier's loss; the others are faults."""
-    found = list(world.standing())
-    faults += [line for is_lost, line in found if not (is_lost and case.may_lose)]
-    return sum(is_lost for is_lost, _ in found)
+    """Which sessions stand; what isn't shown to be what the case allows is a fault."""
+    allowed = {evidence.LOST: case.loses, evidence.DOWN: case.stays_down, evidence.FAULT: ""}
+    found = evidence.standing(world, machines.FIRST)
+    faults += [f"{reason}: {line}" for reason, line in found if not allowed[reason]]
+    shown = [line for reason, line in found if allowed[reason]]
+    if case.stand is not None and len(shown) != case.stand:
+        faults.append(f"of {case.stand} sessions it has to be shown why they stand: {shown}")
+    return (f"sessions that stand: {len(found)}, of which it is shown why: {len(shown)}"
+            + "".join(f"; {line}" for line in shown[:1]))
+
+
+def judge_texts(world, found, faults):
+    """What took effect is what was sent, in order; all of it, if the session is closed; and what
+    wasn't sealed yet waits."""
+    closed = world.closed()
+    for name, texts in world.sent.items():
+        if found[name] != texts[:len(found[name])]:
+            faults.append(f"{name}: doubled, changed or out of order")
+        elif name in closed and len(found[name]) < len(texts):
+            faults.append(f"{name}: closed after {len(found[name])} of {len(texts)} texts")
+        sending = world.sending(name)
+        if not sending.accounts_for(len(texts)):
+            faults.append(f"{name}: its outbox doesn't account for {len(texts)} texts: {sending}")
 
 
 def judge(world, case, since):
     """What went wrong, and the line of what was seen."""
     took, gap = world.await_whole(case.seconds), world.longest_gap(since)
-    found, faults = world.effects(), list(world.notes)
+    faults, whole = list(world.notes), f"whole after {took or 0:.1f} s"
+    if took is None:
+        whole = judge_standing(world, case, faults)
+    elif case.stand:
+        faults.append("no session stands")
+    found = world.effects()
+    judge_texts(world, found, faults)
     doubled = sum(len(texts) - len(set(texts)) for texts in found.values())
     lost = sum(len(set(texts) - set(found[name])) for name, texts in world.sent.items())
-    mixed = [name for name, texts in found.items() if texts != world.sent[name][:len(texts)]]
     sent, delivered = (sum(map(len, it.values())) for it in (world.sent, found))
-    if doubled or mixed:
-        faults.append(f"doubled, changed or out of order: {mixed}")
     if gap > case.gap:
         faults.append(f"nothing took effect for {gap:.1f} s")
-    whole = f"whole after {took or 0:.1f} s"
-    if took is None:
-        whole = f"{judge_standing(world, case, faults)} sessions stand by the carrier's loss"
     faults += [f"{what}: {count}" for what, count in world.counts.items()] if faults else []
     return faults, (f"{sent} texts sent, {delivered} delivered, {lost} lost, {doubled} doubled;"
                     f" longest gap {gap:.1f} s; {whole}")

@@ -20,7 +20,10 @@ import subprocess
 import threading
 import time
 
+import engines
 import errors
+import evidence
+import jetstream
 
 NODES = ("n0", "n1", "n2")
 SENDERS = ("s0", "s1")
@@ -32,7 +35,7 @@ HARDWARE = {name: f"02:00:00:00:00:{place + 1:02x}" for place, name in enumerate
 CLIENT, CLUSTER = 4222, 6222        # ports of nodes
 ELECTION = 4                        # seconds until the nodes have a leader
 PATIENCE = 30                       # seconds for a server to answer
-DUMPED = 120                        # seconds for one look at all shards
+FIRST = 1                           # the first number of each session
 STEP = 0.1                          # seconds between insertions
 LOOK = 0.3                          # seconds between looks at the effects
 IMAGE = 400                         # megabytes
@@ -194,7 +197,6 @@ class Options:
     size: int = 200             # of so many bytes
     sessions: int = 12
     shards: int = 4
-    batch: int = 1              # texts of a frame
     replicas: int = 3
     is_shared: bool = False     # receivers share shards; else each serves all
     disks: dict = dataclasses.field(default_factory=dict)   # the kind of a machine's disk
@@ -238,10 +240,11 @@ class World:
         with self.lock:
             self.counts["processes"] += 1
             path = f"{self.folder}/{name}.{self.counts['processes']:03}.log"
-            clock = dict(os.environ, CLOCK_OFFSET=str(self.clocks.get(name, 0)))
+            given = dict(os.environ, CLOCK_OFFSET=str(self.clocks.get(name, 0)),
+                         CARRIER_RECORD=self.record(name))
             with open(path, "wb") as log:
                 running = subprocess.Popen(self.network.command(name, *words), stdout=log, stderr=log,
-                                           env=clock, cwd="/")
+                                           env=given, cwd="/")
             self.processes[name] = Process(running, list(words), is_tended)
 
     def tend(self):
@@ -265,6 +268,18 @@ class World:
             self.processes[name].is_tended = False
             self.signal([name], signal.SIGKILL)
             self.processes[name].running.wait()
+
+    def require_end(self, names):
+        """SIGTERM ends these in time, and in order. They are started again."""
+        running = [self.processes[name].running for name in names]
+        for it in running:
+            it.send_signal(signal.SIGTERM)
+        until = time.monotonic() + errors.TO_END
+        for name, it in zip(names, running):
+            with contextlib.suppress(subprocess.TimeoutExpired):
+                it.wait(max(0, until - time.monotonic()))
+            if it.poll() != 0:
+                self.notes.append(f"{name} was told to end: {it.poll()} after {errors.TO_END} s")
 
     def restart(self, name):
         """The process is killed, and started again as it was."""
@@ -316,6 +331,11 @@ class World:
         self.signal([DATABASE], signal.SIGQUIT)
         self.processes[DATABASE].running.wait()
 
+    def signal_database(self, number):
+        """To the server and each of its processes."""
+        for process in engines.with_children(self.processes[DATABASE].running.pid):
+            os.kill(process, number)
+
     def ask(self, sql):
         """The rows of an answer, by way of a socket that no network cuts."""
         done = subprocess.run(["psql", "-qAtF", "\t", "-h", f"{self.folder}/socket", "-U", "postgres",
@@ -323,24 +343,14 @@ class World:
                               stderr=subprocess.DEVNULL, text=True, timeout=PATIENCE)
         return [line.split("\t") for line in done.stdout.splitlines()]
 
-    def jetstream(self, subject):
-        """What the first node that answers says to a request."""
-        here = os.path.dirname(os.path.abspath(__file__))
-        code = ("import sys, json; sys.path.insert(0, sys.argv[1]); import jetstream;"
-                " print(json.dumps(jetstream.request(int(sys.argv[2]), sys.argv[3],"
-                " host=sys.argv[4])))")
-        for node in NODES:
-            with contextlib.suppress(subprocess.SubprocessError, json.JSONDecodeError):
-                answer = json.loads(run(*self.network.command(
-                    node, "python3", "-c", code, here, str(CLIENT), subject, ADDRESS[node]),
-                    timeout=PATIENCE))
-                if "error" not in answer:
-                    return answer
-        return {}
+    def ask_node(self, node, what, *more):
+        """What a node says of a shard's stream (jetstream.py); None if the answer isn't whole."""
+        return jetstream.run(ADDRESS[node], CLIENT, what, *more, command=self.network.command(node))
 
     def leader_now(self, shard):
         """The node that leads a shard's stream, or None."""
-        return self.jetstream(f"STREAM.INFO.KRB_{shard}").get("cluster", {}).get("leader")
+        answers = map(json.loads, filter(None, (self.ask_node(it, "info", shard) for it in NODES)))
+        return next((it["cluster"].get("leader") for it in answers if "cluster" in it), None)
 
     def leader(self, shard=0):
         """The same, which is waited for."""
@@ -354,13 +364,17 @@ class World:
 
     # ---- senders and receivers
 
+    def record(self, sender):
+        """What a sender heard from NATS (records.c); it outlives the sender's disk."""
+        return f"{self.folder}/{sender}.record"
+
     def outbox(self, sender):
         return f"{self.disks[sender].path}/outbox.db"
 
     def start_sender(self, name):
         self.spawn(name, f"{self.programs}/sender", "--sessions", f"{self.folder}/sessions-{name}",
                    "--outbox", self.outbox(name), "--carrier", self.where, "--replicas",
-                   str(self.options.replicas), "--batch", str(self.options.batch), is_tended=True)
+                   str(self.options.replicas), is_tended=True)
 
     def start_receiver(self, name):
         shards = "auto" if self.options.is_shared else f"0-{self.options.shards - 1}"
@@ -370,8 +384,8 @@ class World:
 
     def write_sessions(self):
         dice = random.Random(7)
-        lines = {name: f"{name} {self.shard_of(name)} 18 priv {dice.randbytes(32).hex()} 1 10.0.0.1"
-                       " 10.0.0.2\n" for name in self.names}
+        lines = {name: f"{name} {self.shard_of(name)} 18 priv {dice.randbytes(32).hex()} {FIRST}"
+                       " 10.0.0.1 10.0.0.2\n" for name in self.names}
         errors.Ends.write(f"{self.folder}/sessions", lines.values())
         for sender in SENDERS:
             errors.Ends.write(f"{self.folder}/sessions-{sender}", [
@@ -482,18 +496,16 @@ class World:
             found[name].append(bytes.fromhex(text))
         return found
 
-    def effects_of_shards(self):
-        """How many effects each shard has."""
-        found = self.effects()
-        return [sum(len(texts) for name, texts in found.items() if self.shard_of(name) == shard)
+    def of_shards(self, texts):
+        """How many of these texts each shard has."""
+        return [sum(len(it) for name, it in list(texts.items()) if self.shard_of(name) == shard)
                 for shard in range(self.options.shards)]
 
     def is_whole(self):
         wanted = sum(map(len, self.sent.values()))
         if (self.count() or 0) < wanted:
             return False
-        closed = self.ask("SELECT count(*) FROM session WHERE closed = 1")
-        return int(closed[0][0]) == len(self.names)
+        return len(self.closed()) == len(self.names)
 
     def await_whole(self, seconds):
         """Waits until all has taken effect: how long that took, None where it didn't."""
@@ -504,41 +516,18 @@ class World:
             time.sleep(LOOK)
         return None
 
-    def places(self):
-        """Of each session the offsets at which each of its frames stands, by number."""
-        lines = run(*self.network.command("n0", f"{self.programs}/dump", "--carrier", self.where,
-                                          "--sessions", f"{self.folder}/sessions", "--shards",
-                                          str(self.options.shards), "--replicas", "1"),
-                    timeout=DUMPED).splitlines()
-        found = collections.defaultdict(lambda: collections.defaultdict(list))
-        for _, offset, name, number, *_ in map(str.split, lines):
-            if offset.isdigit():
-                found[name][number].append(int(offset))
-        return found
+    def sending(self, name):
+        return evidence.read_outbox(self.outbox(self.sender_of(name)), name, FIRST)
 
-    def carried(self, name):
-        """The number below which all frames of a session count as carried."""
-        with contextlib.closing(sqlite3.connect(self.outbox(self.sender_of(name)),
-                                                timeout=PATIENCE)) as file:
-            rows = file.execute("SELECT carried FROM session WHERE name = ?", (name,)).fetchall()
-        return rows[0][0] if rows else 1
+    def read_shard(self, shard):
+        return evidence.read_shard(lambda node, what: self.ask_node(NODES[node], what, shard),
+                                   len(NODES), f"{self.programs}/numbers", f"{self.folder}/sessions")
 
-    def standing(self):
-        """The sessions that aren't closed: whether that is the carrier's, which has lost the frame that
-        is demanded, though it had confirmed it, or has no leader for the shard; and where that frame
-        and the one before stand."""
-        rows = {name: int(number) for name, number in
-                self.ask("SELECT name, next FROM session WHERE closed = 0")}
-        closed = {name for name, in self.ask("SELECT name FROM session WHERE closed = 1")}
-        places = self.places()
-        down = {shard for shard in range(self.options.shards) if not self.leader_now(shard)}
-        for name in sorted(set(self.names) - closed):
-            demanded, had = rows.get(name, 1), places[name]
-            is_down = self.shard_of(name) in down
-            is_lost = not had[str(demanded)] and (self.carried(name) > demanded or is_down)
-            yield is_lost, (f"{name} demands {demanded}, which stands at {had[str(demanded)][:5]}, the"
-                            f" one before at {had[str(demanded - 1)][:5]}"
-                            + ", and its shard has no leader" * is_down)
+    def records(self):
+        return [self.record(it) for it in SENDERS]
+
+    def closed(self):
+        return evidence.closed(self)
 
     def longest_gap(self, since):
         """The longest time without an effect, while effects came."""

@@ -186,6 +186,25 @@ class Place(errors.Ends):
             self.faults.append(f"delivered {found} of {wanted}")
 
 
+# ---- what many cases begin with
+
+def start_both(place, count):
+    """A sender and a receiver, which run, and by which so many texts are delivered."""
+    place.put(texts("ann", 0, count))
+    running = place.start("sender"), place.start("receiver")
+    place.require(place.wait(lambda: place.is_delivered({"ann": count}), 5), "nothing is delivered")
+    return running
+
+
+def deliver(place, rows, wanted):
+    """Sends texts, and has a receiver that ends then deliver them."""
+    place.put(rows)
+    place.run("sender", "--drain")
+    receiver = place.start("receiver")
+    place.require(place.wait(lambda: place.is_delivered(wanted), 8), "nothing is delivered")
+    place.end(receiver)
+
+
 # ---- texts and sessions that can't be sealed
 
 def send_and_receive(place):
@@ -404,9 +423,7 @@ def new_line_of_stopped(place):
 
 def bad_new_file(place):
     """A file that can't be used isn't; its next version is."""
-    place.put(texts("ann", 0, 5))
-    sender, receiver = place.start("sender"), place.start("receiver")
-    place.await_delivered({"ann": 5})
+    sender, receiver = start_both(place, 5)
     place.replace(place.sessions, [ANN, "nobody\n"])
     told = [place.wait(lambda: loglines.has(place.log(it), "session_malformed", line=2), 5)
             for it in (sender, receiver)]
@@ -420,10 +437,7 @@ def bad_new_file(place):
 
 def changed_key(place):
     """The key of a session that waits is changed at both ends; what was sealed before stays."""
-    place.put(texts("ann", 0, 5))
-    place.start("sender")
-    place.start("receiver")
-    place.wait(lambda: place.is_delivered({"ann": 5}), 5)
+    start_both(place, 5)
     place.replace(place.sessions, [ANN.replace("11" * 16, "55" * 16)])
     time.sleep(3)
     place.put(texts("ann", 5, 10))
@@ -488,6 +502,21 @@ def unstable_offsets(place):
     place.await_delivered()
 
 
+def unstable_end(place):
+    """The same of the last frames: nothing comes early after them."""
+    place.put(texts("ann", 0, 10) + close("ann"))
+    place.run("sender", "--drain")
+    rows = place.ask("carrier", "SELECT offset, shard, session, frame FROM carried ORDER BY offset")
+    rewrite(place, [(at, *rows[0][1:]) for at in range(1, 12)])
+    receiver = place.start("receiver")
+    place.wait(lambda: place.ask("store", "SELECT offset FROM shard") == [(11,)], 5)
+    rewrite(place, rows)
+    place.await_delivered()
+    time.sleep(12)
+    place.end(receiver)
+    place.require(loglines.has(place.log(receiver), "shard_ended", again=1), "it was read again")
+
+
 def rewrite(place, rows):
     with sqlite3.connect(f"{place.folder}/carrier.db", timeout=errors.LIMIT) as file:
         file.execute("DELETE FROM carried")
@@ -510,11 +539,7 @@ def carrier_replaced(place):
 
 
 def nats_stream_replaced(place):
-    place.put(texts("ann", 0, 5000))
-    place.run("sender", "--drain")
-    receiver = place.start("receiver")
-    place.wait(lambda: place.is_delivered({"ann": 5000}), 8)
-    place.end(receiver)
+    deliver(place, texts("ann", 0, 5000), {"ann": 5000})
     jetstream.request(place.nats.ports[0], "STREAM.DELETE.KRB_0")
     place.put(texts("ann", 5000, 5010))
     status, _ = place.run("sender", "--drain", "--retry", "500", seconds=5)
@@ -525,11 +550,7 @@ def nats_stream_replaced(place):
 
 def stream_regrown(place):
     """The new stream has grown past the stored offset before the receiver looks."""
-    place.put(texts("ann", 0, 100))
-    place.run("sender", "--drain")
-    receiver = place.start("receiver")
-    place.wait(lambda: place.is_delivered({"ann": 100}), 5)
-    place.end(receiver)
+    deliver(place, texts("ann", 0, 100), {"ann": 100})
     jetstream.request(place.nats.ports[0], "STREAM.DELETE.KRB_0")
     for rows in (texts("abe", 0, 50), texts("ann", 100, 400)):
         place.put(rows)
@@ -540,10 +561,7 @@ def stream_regrown(place):
 
 def stream_deleted(place):
     """The stream is deleted below a sender and a receiver that run."""
-    place.put(texts("ann", 0, 10))
-    place.start("sender")
-    place.start("receiver")
-    place.wait(lambda: place.is_delivered({"ann": 10}), 5)
+    start_both(place, 10)
     jetstream.request(place.nats.ports[0], "STREAM.DELETE.KRB_0")
     place.put(texts("ann", 10, 40))
     place.await_delivered()
@@ -551,10 +569,7 @@ def stream_deleted(place):
 
 def consumer_gone(place):
     """The consumer of a receiver is gone, as with a node that stays away."""
-    place.put(texts("ann", 0, 10))
-    place.start("sender")
-    place.start("receiver")
-    place.wait(lambda: place.is_delivered({"ann": 10}), 5)
+    start_both(place, 10)
     for name in jetstream.request(place.nats.ports[0], "CONSUMER.NAMES.KRB_0")["consumers"]:
         jetstream.request(place.nats.ports[0], f"CONSUMER.DELETE.KRB_0.{name}")
     place.put(texts("ann", 10, 40))
@@ -563,11 +578,7 @@ def consumer_gone(place):
 
 def session_moved(place):
     """A session gets another shard, in which offsets are lower."""
-    place.put(texts("ann", 0, 100) + texts("tom", 0, 5))
-    place.run("sender", "--drain")
-    receiver = place.start("receiver")
-    place.wait(lambda: place.is_delivered({"ann": 100, "tom": 5}), 5)
-    place.end(receiver)
+    deliver(place, texts("ann", 0, 100) + texts("tom", 0, 5), {"ann": 100, "tom": 5})
     place.write(place.sessions, [ANN.replace("ann 0", "ann 1"), TOM_1])
     place.put(texts("ann", 100, 110))
     status, _ = place.run("sender", "--drain", "--retry", "500", seconds=3)
@@ -785,6 +796,42 @@ def use_old_outbox(place, name):
     place.require(waiting == [(20,)], f"{waiting} texts wait")
 
 
+def numbers_end(place):
+    """The close has the last number. Both ends are started again after it."""
+    place.put(texts("ann", 0, 2) + close("ann"))
+    for turn in ("first", "second"):
+        told = [place.run(name, word, seconds=10)[0]
+                for name, word in (("sender", "--drain"), ("receiver", "--until-closed"))]
+        place.require(told == [0, 0], f"the {turn} time they end with {told}")
+    place.await_delivered()
+
+
+OLD_OUTBOX = """
+CREATE TABLE session (name TEXT PRIMARY KEY, next INTEGER NOT NULL, carried INTEGER NOT NULL,
+ at INTEGER NOT NULL) WITHOUT ROWID;
+CREATE TABLE text (id INTEGER PRIMARY KEY AUTOINCREMENT, session TEXT NOT NULL, body BLOB);
+CREATE TABLE frame (session TEXT NOT NULL, number INTEGER NOT NULL, frame BLOB NOT NULL,
+ PRIMARY KEY (session, number));
+CREATE TABLE owner (one INTEGER PRIMARY KEY CHECK (one = 1), turn INTEGER NOT NULL);
+INSERT INTO owner VALUES (1, 7);
+"""
+OLD_STORE = """
+CREATE TABLE shard (shard INTEGER PRIMARY KEY, offset INTEGER NOT NULL);
+CREATE TABLE session (name TEXT PRIMARY KEY, next INTEGER NOT NULL, closed INTEGER NOT NULL)
+ WITHOUT ROWID;
+"""
+
+
+def old_files(place):
+    """An outbox and a store as an older version made them, of which each column is added."""
+    for path, tables in ((place.outbox, OLD_OUTBOX), (f"{place.folder}/store.db", OLD_STORE)):
+        file = sqlite3.connect(path)
+        file.executescript(tables)
+        file.close()
+    place.put(texts("ann", 0, 5))
+    send_and_receive(place)
+
+
 # ---- one of many fails
 
 def stream_full(place):
@@ -808,6 +855,58 @@ def max_payload(place):
     told = place.log(sender)
     place.require(loglines.has(told, "session_stopped", "Maximum Payload", session="ann"), told[:300])
     require_stopped(place, "ann", "Maximum Payload")
+
+
+def effect_fails(place):
+    """An effect that the store refuses stops its shard alone, and is reported; once the store takes it,
+    all goes on."""
+    place.run("receiver", seconds=1)
+    with sqlite3.connect(f"{place.folder}/store.db") as file:
+        file.execute("CREATE TRIGGER bad BEFORE INSERT ON effect WHEN NEW.text = CAST('ann 5' AS BLOB)"
+                     " BEGIN SELECT RAISE(ABORT, 'no such effect'); END")
+    file.close()
+    place.put(texts("ann", 0, 10) + texts("tom", 0, 10))
+    place.run("sender", "--drain")
+    receiver = place.start("receiver")
+    place.require(place.wait(lambda: place.is_delivered({"tom": 10}), 5), "the other shard stands")
+    time.sleep(1)
+    place.require(place.delivered()["ann"] == [], f"of ann {place.delivered()['ann']} took effect")
+    place.require(loglines.has(place.log(receiver), "database_fault", "no such effect"),
+                  place.log(receiver)[:300])
+    with sqlite3.connect(f"{place.folder}/store.db", timeout=errors.LIMIT) as file:
+        file.execute("DROP TRIGGER bad")
+    file.close()
+    place.await_delivered()
+
+
+def replicas_on_one_node(place):
+    """A stream with three replicas can't be made on one node: that is reported, with the reason."""
+    place.put(texts("ann", 0, 10), given={"replicas": "3"})
+    status, told = place.run("sender", "--drain", "--replicas", "3", seconds=3)
+    place.require(status is None and loglines.has(told, "stream_unmade", "replicas > 1"),
+                  f"status {status}: {told[:300]}")
+    place.run("sender", "--drain")
+    place.start("receiver")
+    place.await_delivered()
+
+
+def outbox_corrupt(place):
+    """The outbox's file is overwritten below a sender: who puts a text there is told, and so is who
+    starts a sender. Nothing is made up."""
+    sender, _ = start_both(place, 10)
+    with open(place.outbox, "r+b") as file:
+        file.write(bytes(os.path.getsize(place.outbox)))
+    os.truncate(place.outbox + "-wal", 0)
+    try:
+        place.put(texts("ann", 10, 11))
+        place.faults.append("a text was taken")
+    except sqlite3.DatabaseError as fault:
+        place.require("not a database" in str(fault), str(fault))
+    place.end(sender)
+    status, told = place.run("sender", "--drain", seconds=5)
+    place.require(status == 1 and loglines.has(told, "database_fault", "not a database"),
+                  f"status {status}: {told[-300:]}")
+    place.await_delivered()
 
 
 def receiver_first(place):
@@ -979,6 +1078,18 @@ def numbers(port):
     return dict(line.rsplit(" ", 1) for line in lines if " " in line and line[0] != "#")
 
 
+def require_age(place, port):
+    """A text of a session without a line waits: since when, as far as that is known."""
+    place.put(texts("nobody", 0, 2))
+    for change, is_right in (("since - 100", lambda age: age and 100 <= float(age) < 110),
+                             ("0", lambda age: age is None)):
+        with sqlite3.connect(place.outbox, timeout=errors.LIMIT) as file:
+            file.execute(f"UPDATE text SET since = {change} WHERE session = 'nobody'")
+        file.close()
+        place.require(place.wait(lambda: is_right(
+            numbers(port).get("krbrelay_sender_oldest_text_seconds{}")), 4), f"the age, {change}")
+
+
 def metrics(place):
     """The numbers are those that the files have; a session with a wrong key stands, by name."""
     sender, receiver = engines.free_ports(2)
@@ -990,13 +1101,17 @@ def metrics(place):
     wanted = {(sender, 'krbrelay_sender_sealed_frames_total{}'): "307",
               (sender, 'krbrelay_sender_waiting_frames{shard="0"}'): "0",
               (receiver, 'krbrelay_receiver_texts_total{shard="0"}'): "300",
-              (receiver, 'krbrelay_receiver_refused_frames_total{shard="0"}'): "7",
+              (receiver, 'krbrelay_receiver_refused_frames_total'
+                         '{shard="0",reason="BAD_INTEGRITY"}'): "7",
+              (receiver, 'krbrelay_receiver_refused_frames_total{shard="0",reason="NO_LINE"}'): "0",
+              (sender, 'krbrelay_sender_oldest_text_seconds{}'): "0",
               (receiver, 'krbrelay_receiver_offset{shard="0"}'): "307",
               (receiver, 'krbrelay_receiver_lag_frames{shard="0"}'): "0",
               (receiver, 'krbrelay_receiver_session_stands{shard="0",session="tom"}'): "1"}
     for (port, name), number in wanted.items():
         fine = place.wait(lambda: numbers(port).get(name) == number, 4)
         place.require(fine, f"{name} isn't {number}: {numbers(port).get(name)}")
+    require_age(place, sender)
     for port in (sender, receiver):
         place.require(get(port, "/healthz")[0] == 200, f"/healthz: {get(port, '/healthz')}")
         place.require(get(port, "/other")[0] == 404, "/other is there")
@@ -1066,9 +1181,7 @@ def require_end(place, process, what):
 
 def terminate(place):
     """Wherever they wait: for work, for a store that is locked, for a node that is silent."""
-    place.put(texts("ann", 0, 5))
-    sender, receiver = place.start("sender"), place.start("receiver")
-    place.await_delivered()
+    sender, receiver = start_both(place, 5)
     require_end(place, receiver, "a receiver without work")
     require_end(place, sender, "a sender without work")
     place.put(texts("ann", 5, 6))
@@ -1135,6 +1248,7 @@ CASES = (
     Case(two_reads, "a receiver pauses between its two reads", {"ann": 10}, 12),
     Case(unstable_offsets, "other frames stand at the offsets than a reader was given",
          {"ann": 10}, 20),
+    Case(unstable_end, "the same of the last frames of a session", {"ann": 10}, 15, (ANN,)),
     Case(carrier_replaced, "the carrier's file is replaced by an empty one", {"ann": 5010}, 15),
     Case(nats_stream_replaced, "the stream is deleted after all was delivered", {"ann": 5010}, 20,
          nats=""),
@@ -1158,6 +1272,13 @@ CASES = (
     Case(restore_outbox, "the outbox is restored from a backup that is 100 texts old",
          {"ann": 200, "tom": 10}, 10),
     Case(lose_outbox, "a sender begins elsewhere with a new outbox", {"ann": 200, "tom": 10}, 10),
+    Case(numbers_end, "a session's close has the last number", {"ann": 2}, 15,
+         (ANN.replace(" 1 10", f" {LAST - 2} 10"),)),
+    Case(effect_fails, "the store refuses the effect of a text, for a while", {"ann": 10, "tom": 10},
+         25, (ANN, TOM_1), "0,1"),
+    Case(replicas_on_one_node, "--replicas 3, and there is one node", {"ann": 10}, 15, (ANN,), nats=""),
+    Case(outbox_corrupt, "the outbox is overwritten below a sender", {"ann": 10}, 15, (ANN,)),
+    Case(old_files, "an outbox and a store were made by an older version", {"ann": 5}, 10),
     Case(stream_full, "the stream of one shard is full", {"tom": 500}, 10, (ANN, TOM_1), "0,1", ""),
     Case(max_payload, "a frame is longer than the broker takes", {"abe": 300, "tom": 500}, 10,
          (ABE, ANN, TOM_1), "0,1", "max_payload: 65536"),

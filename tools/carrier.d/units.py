@@ -49,6 +49,10 @@ class Unit:
                 found.append(re.sub(r"\$\{([A-Z]+)\}", lambda it: given[it[1]], word))
         return found
 
+    def record(self):
+        """What a sender hears from NATS (records.c)."""
+        return f"{self.folder}/{self.name}.record"
+
     def seconds(self, key):
         return float(self.says[key])
 
@@ -58,7 +62,8 @@ class Unit:
 
     def keep(self):
         """Starts it, and again when it has ended."""
-        told = dict(os.environ, NOTIFY_SOCKET=f"{self.folder}/{self.name}.notify")
+        told = dict(os.environ, NOTIFY_SOCKET=f"{self.folder}/{self.name}.notify",
+                    CARRIER_RECORD=self.record())
         while not self.is_stopping:
             self.starts += 1
             path = f"{self.folder}/{self.name}.{self.starts:04}.log"

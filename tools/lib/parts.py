@@ -22,7 +22,8 @@ SERVERS = ("Debian's nats-server, libnats-dev, postgresql, libpq-dev, libmicroht
            " libsystemd-dev")
 REALM = "Debian's krb5-kdc, krb5-admin-server, krb5-kpropd and krb5-user"
 CROSS = "Debian's gdb, gcc-aarch64-linux-gnu, libc6-dev-arm64-cross and qemu-user-static"
-PACKAGING = "Debian's debhelper, dpkg-dev, lintian and isa-support"
+PACKAGING = "Debian's debhelper, dh-python, dpkg-dev, lintian, isa-support and debootstrap, and root"
+PKG_CONFIG = "pkg-config"
 
 
 def has(command):
@@ -50,7 +51,9 @@ IS_THERE = {
                        ("krb5kdc", "kadmind", "kpropd", "kprop", "kpasswd", "kadmin.local")),
     CROSS: lambda: has("gdb") and has("aarch64-linux-gnu-gcc") and has("qemu-aarch64-static")
     and os.path.exists("/usr/aarch64-linux-gnu/lib/libc.so.6"),
-    PACKAGING: lambda: has("dh") and has("dpkg-buildpackage") and has("lintian"),
+    PACKAGING: lambda: all(map(has, ("dh", "dh_python3", "dpkg-buildpackage", "lintian",
+                                     "debootstrap"))) and os.geteuid() == 0,
+    PKG_CONFIG: lambda: has("pkg-config"),
     MAKE: lambda: has("make"),
     SQLITE: lambda: os.path.exists("/usr/include/sqlite3.h"),
     SERVERS: lambda: has("nats-server") and os.path.exists("/usr/lib/postgresql")
@@ -94,6 +97,7 @@ PARTS = [
     Part("tools/reference --check", 1),
     Part("tools/test_reference", 1),
     Part("tools/test_tables", 1),
+    Part("tools/test_jobs", 1, (CRYPTOGRAPHY,)),
     Part("tools/vector_tables.py --check", 1),
     Part("tools/test_building", 5, (COMPILER, CRYPTOGRAPHY)),
     Part("tools/test_parts", 5, (COMPILER, CRYPTOGRAPHY, MAKE, SQLITE)),
@@ -101,6 +105,7 @@ PARTS = [
     Part("tools/figure --check", 1),
     Part("tools/picture --check", 1, (PROGRAM,)),
     Part("tools/test_program", 3, (PROGRAM, COMPILER)),
+    Part("tools/test_install", 1, (PROGRAM,)),
     Part("tools/sweep", 10, (PROGRAM, COMPILER, CRYPTOGRAPHY)),
     Part("tools/job_costs --check", 5, (PROGRAM,)),
     Part("tools/residue --program", 5, (PROGRAM, COMPILER, CRYPTOGRAPHY)),
@@ -113,12 +118,13 @@ PARTS = [
     Part("tools/secret_places --library", 20, ("rt", COMPILER, MAKE, "valgrind")),
 ]
 MORE = [
+    Part("tools/quotes --typed", 10, (PROGRAM, "rt", COMPILER, MAKE, PKG_CONFIG)),
     Part("tools/wrong_bodies --try", 170, ("rt",)),
     Part("tools/fuzz 20000 2", 60, (PROGRAM, CRYPTOGRAPHY)),
     Part("tools/interop", 20, (PROGRAM, COMPILER, MIT, HEIMDAL)),
     Part("tools/c_library", 60, ("rt", COMPILER, MIT, "clang", "valgrind", MAKE)),
     Part("tools/dist --check", 60, ("rt", COMPILER, "clang", MAKE, CROSS)),
-    Part("tools/dist --debian", 30, ("rt", COMPILER, MAKE, PACKAGING)),
+    Part("tools/debian --check", 60, (PROGRAM, "rt", COMPILER, MAKE, PACKAGING)),
     Part("tools/python --all", 20, (COMPILER, CRYPTOGRAPHY)),
     Part("tools/kerberos", 75, ("rt", COMPILER, MIT, HEIMDAL, REALM)),
     Part("tools/carrier --all", 60, (PROGRAM, "rt", COMPILER, "clang", MAKE, SQLITE, SERVERS)),
@@ -128,14 +134,30 @@ BUILD_UNPROVED = Part("tools/krbrelay --unproved", 10, ("rt",))
 QUICK = [
     Part("tools/quotes", 1),
     Part("tools/test_tables", 1),
+    Part("tools/test_jobs", 1, (CRYPTOGRAPHY,)),
     Part("tools/picture --quick", 1, (UNPROVED,)),
     Part("tools/redelivery --quick", 4, (UNPROVED, CRYPTOGRAPHY)),
+    Part("tools/test_install --quick", 1, (UNPROVED,)),
     Part("tools/fuzz --quick 300", 5, (UNPROVED, CRYPTOGRAPHY)),
     Part("tools/test_program --quick", 6, (UNPROVED, COMPILER)),
 ]
 
 
 # ---- the table
+
+# What tools are for, in the order of the table. Those that aren't named check something.
+VERBS = {
+    "run": ("krbrelay", "relay", "show", "picture", "check_job"),
+    "make": ("install", "c_library", "dist", "debian", "reference", "figure"),
+    "prove": ("test", "proving.py", "wrong_bodies"),
+    "bench": ("bench", "bench_aes", "bench_lane", "job_costs"),
+}
+OTHERS = "check"
+
+
+def verb_of(name):
+    return next((verb for verb, names in VERBS.items() if name in names), OTHERS)
+
 
 def of_tool(name, parts):
     return [part for part in parts if part.tool() == name]
@@ -161,5 +183,10 @@ def table():
 
 
 def lines_of_table():
-    for name, form, purpose, needs in table():
-        yield f"{name:18} {form:16} {purpose}. Needs: {needs}."
+    """The table, below a heading for each verb."""
+    rows = table()
+    for verb in (*VERBS, OTHERS):
+        yield f"# {verb}"
+        for name, form, purpose, needs in rows:
+            if verb_of(name) == verb:
+                yield f"{name:18} {form:16} {purpose}. Needs: {needs}."

@@ -95,6 +95,9 @@ PLACES = [
 NAMES = [
     ("the digits as a name", KEY_LINE, f"{DIGITS} = 1"),
     ("the digits as a name in quotes", KEY_LINE, f'"{DIGITS}" = 1'),
+]
+# As a table's name or a part of one, of which the parser makes copies.
+NAMES_OF_PARTS = [
     ("the digits as a table", KEY_LINE, f"[{DIGITS}]"),
     ("the digits as a part of a name", KEY_LINE, f"key.{DIGITS}.of = 1"),
 ]
@@ -127,5 +130,5 @@ def all_documents():
     yield from of_whole_jobs()
     for what, old, new in REFUSED_KEYS + NAMES:
         yield Document(what, differing(old, new))
-    for what, old, new in PARSERS:
+    for what, old, new in PARSERS + NAMES_OF_PARTS:
         yield Document(what, differing(old, new), parsed=True)

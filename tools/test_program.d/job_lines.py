@@ -1,6 +1,7 @@
 """Jobs of which one line is another, and what the commands say of them: the rows of keys.toml."""
 import os
-import tomllib
+
+from lib import toml_reader
 
 ROWS = os.path.join(os.path.dirname(os.path.abspath(__file__)), "keys.toml")
 COMMANDS = ("seal", "open", "relay")
@@ -8,8 +9,7 @@ UNKNOWN = "unknown key"
 
 
 def rows():
-    with open(ROWS, "rb") as file:
-        return tomllib.load(file)
+    return toml_reader.load(ROWS)
 
 
 def sender(table, command, key=None, line="", more=""):

@@ -2,7 +2,8 @@
 import collections
 import os
 import re
-import tomllib
+
+from lib import toml_reader
 
 ROWS = os.path.join(os.path.dirname(os.path.abspath(__file__)), "runs.toml")
 PLACES = (1, 64)            # of the lanes
@@ -11,8 +12,7 @@ TRAFFIC = ("seed", "at", "texts", "batch")      # what a job of `open` doesn't h
 
 
 def rows():
-    with open(ROWS, "rb") as file:
-        return tomllib.load(file)
+    return toml_reader.load(ROWS)
 
 
 def sender(keys):

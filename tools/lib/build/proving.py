@@ -1,8 +1,8 @@
 """Proves and builds a program or a static library, with the crates that it stands on. Crates that
 don't stand on each other are proved side by side, on all cores, as memory allows.
 
-A line on standard error for each crate has the minutes gone, and an estimate of those left. The
-prover's output is in out/proving/, a file a crate.
+A line on standard error for each crate, and one each minute between them, has the minutes gone, and an
+estimate of those left. The prover's output is in out/proving/, a file a crate.
 """
 import dataclasses
 import os
@@ -32,6 +32,10 @@ SECONDS = {
 MIDDLING = 200
 # What a second job spares: two take three fifths of the time of one.
 GAIN = 0.67
+# A proof that took less than this part of its time in the table was kept by an earlier run: it says
+# nothing of those that are left.
+KEPT = 0.15
+SILENT = 60         # seconds after which a line says what is being proved
 
 
 # ---- the machine
@@ -148,7 +152,7 @@ class Run:
     def __init__(self, schedule, start, harvest, say):
         self.schedule, self.start, self.harvest, self.say = schedule, start, harvest, say
         self.count = len(schedule.waiting)
-        self.begun = time.monotonic()
+        self.begun = self.said = time.monotonic()
         self.since, self.processes = {}, {}
         self.taken = self.wanted = 0    # seconds of all that are proved: taken, and of the table
 
@@ -161,6 +165,8 @@ class Run:
                 for crate, process in list(self.processes.items()):
                     if process.poll() is not None:
                         self.ended(crate, process.returncode)
+                if time.monotonic() - self.said >= SILENT:
+                    self.tell(f"proving {', '.join(sorted(self.schedule.running))}")
         finally:
             for process in self.processes.values():
                 process.terminate()
@@ -182,18 +188,25 @@ class Run:
         del self.processes[crate]
         self.harvest(crate)
         now, jobs = time.monotonic(), self.schedule.running[crate]
-        self.taken += now - self.since[crate]
-        self.wanted += seconds_of(crate, jobs)
+        took, usual = now - self.since[crate], seconds_of(crate, jobs)
+        if took >= KEPT * usual:
+            self.taken += took
+            self.wanted += usual
         self.schedule.end(crate)
-        done = len(self.schedule.proved)
-        told = f"{minutes(now - self.begun)} gone"
-        if done < self.count:
-            told += f", about {minutes(self.left(now))} left"
-        self.say(f"{crate} proved ({done} of {self.count}): {told}")
+        self.tell(f"{crate} proved ({len(self.schedule.proved)} of {self.count})")
+
+    def tell(self, what):
+        """A line with the minutes gone and left."""
+        self.said = time.monotonic()
+        told = f"{what}: {minutes(self.said - self.begun)} gone"
+        if len(self.schedule.proved) < self.count:
+            left_now = self.left(self.said)
+            told += f", about {minutes(left_now)} left" if left_now else ", longer than estimated"
+        self.say(told)
 
     def left(self, now):
         """The seconds until all is proved, at the pace so far."""
-        pace = self.taken / self.wanted
+        pace = self.taken / self.wanted if self.wanted else 1
         gone = {crate: (now - self.since[crate]) / pace for crate in self.schedule.running}
         return pace * left(self.schedule, gone)
 

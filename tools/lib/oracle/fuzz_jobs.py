@@ -12,6 +12,12 @@ MOMENTS = [5, 951_782_400_000_000, jobs.MICROS, jobs.MICROS + 999_994, LAST_MOME
 SIZES = [0, 0, 1, 2, 2, 3, 13, 14, 15, 16, 31, 100, 200, 1000]
 LONG = [[59_999], [65_535], [999_999], [1_000_000], [499_996, 499_996], [499_997, 499_996],
         [999_992, 0], [999_993, 0]]
+ODD_VALUES = ['""', "0", "-1", "17", "1.0", "true", "[]", "[0]", '["0"]', '["00"]', "{}", "{a = 1}",
+              "1979-05-27", "07:32", "07:32:60", "1979-02-30", '"2:00"', "[1,\n2,]", "{a = 1,\n}",
+              r'"\x41"', "\'\'\'a\'\'\'", '"""\n00"""', "0x11", "1_7", "1__7", "inf", "1e3", "1e400", "[{}]",
+              "9223372036854775808", "1979-05-27 07:32", "0x", "00", '["flip 0 0 00"]', '["999"]']
+ODD_LINES = ["[[sender]]", "[sender]", "a.b = 1", '"key" = 1', "capacity = 2", "capacity = 0", "[a.b]",
+             "[[a]]", "sender.x = 1", "sender = []", "#", "\r", "\x00", "é", "other = 1", "]"]
 BATCHES = [1, 2, 2, 3, 4, 1000]
 WRONG_BATCHES = ["0", "1001", "-2", "2.0", "true", '"2"']
 
@@ -237,3 +243,36 @@ def relay_job(dice):
     lines = [fault] if fault else opener.relay_lines(pairs)
     tables = [table for _, _, table in lanes]
     return jobs.job(tables, dice.choice([1, 2, 64])), lines, emissions(senders)
+
+
+# ---- jobs that are spoilt
+
+def spoilt_line(dice, lines):
+    """The lines of a job with one of them changed."""
+    place, other = dice.randrange(len(lines)), dice.randrange(len(lines))
+    how = dice.randrange(5)
+    if how == 0:
+        return lines[:place] + lines[place + 1:]
+    if how == 1:
+        return [*lines[:place], lines[other], *lines[place:]]
+    if how == 2:
+        return [*lines[:place], dice.choice(ODD_LINES), *lines[place:]]
+    key, equals, _ = lines[place].partition(" = ")
+    return [*lines[:place], f"{key} = {dice.choice(ODD_VALUES)}" if equals else key, *lines[place + 1:]]
+
+
+def spoilt_text(dice, text):
+    """A text with a character changed, left out or put in."""
+    at = dice.randrange(len(text))
+    put_in = dice.choice(["", "", chr(dice.randrange(32, 127)), dice.choice('"\'[]{}=.,#\\\n')])
+    return text[:at] + put_in + text[at + dice.randrange(2):]
+
+
+def spoilt(dice, text):
+    """A job with one change or a few, most of which make it no job."""
+    for _ in range(dice.choice([1, 1, 1, 2, 3])):
+        if dice.random() < 0.7:
+            text = "\n".join(spoilt_line(dice, text.split("\n")))
+        else:
+            text = spoilt_text(dice, text)
+    return text

@@ -7,12 +7,11 @@ each line belongs to one frame. Lines that don't fit the job are a Fault.
 """
 import dataclasses
 import itertools
-import re
+
+from lib import log_lines
 
 LAST = 4_294_967_295                        # the last sequence number
 MOST_TEXTS_BYTES = 1_000_000                # of a batch, with four more bytes for each text
-ENTRY = re.compile(r"lane (\d+) (?:text ([0-9a-f]*)|(closed)|refused (\d+) (\w+))")
-END = re.compile(r"lane (\d+) sent (\d+) of (\d+) (\w+) (\w+)")
 
 
 class Fault(Exception):
@@ -111,22 +110,21 @@ def lane_of(place, sender):
 
 # ---- what the program says
 
-def settle(lane, lines):
-    """Gives each emission of a lane the lines that are its own."""
-    following, demanded = iter(lines), 0
+def settle(lane, entries):
+    """Gives each emission of a lane the entries that are its own."""
+    following, demanded = iter(entries), 0
     for it in lane.emissions:
-        line = next(following, None)
-        if line is None:
+        entry = next(following, None)
+        if entry is None:
             raise Fault(f"lane {lane.place} has fewer lines than frames")
-        _, text, closed, code, name = line.groups()
-        if code is not None:
-            it.refusal = int(code), name
+        if entry["event"] == "refused":
+            it.refusal = entry["code"], entry["name"]
             continue
         record = lane.frames[demanded].texts if demanded < len(lane.frames) else ()
-        more = [next(following, None) for _ in record[1:]]
-        told = [line, *more] if text is not None else []
-        it.texts = tuple(bytes.fromhex(one[2] or "") for one in told if one)
-        it.closed = closed is not None
+        more = [next(following, {}) for _ in record[1:]]
+        told = [entry, *more] if entry["event"] == "text" else []
+        it.texts = tuple(bytes.fromhex(one.get("text", "")) for one in told if one)
+        it.closed = entry["event"] == "closed"
         if it.texts != record:
             raise Fault(f"lane {lane.place} delivered another record than that of frame {demanded}")
         demanded += 1
@@ -135,31 +133,38 @@ def settle(lane, lines):
 
 
 def in_rounds(lanes):
-    """The lines of the log, as the emissions have them: round by round, lane by lane."""
+    """The entries of the log, as the emissions have them: round by round, lane by lane."""
     for row in itertools.zip_longest(*(it.emissions for it in lanes)):
         for lane, it in zip(lanes, row):
             if it is not None and it.refusal:
-                yield f"lane {lane.place} refused {it.refusal[0]} {it.refusal[1]}"
+                yield dict(lane=lane.place, event="refused", code=it.refusal[0], name=it.refusal[1])
             elif it is not None and it.closed:
-                yield f"lane {lane.place} closed"
+                yield dict(lane=lane.place, event="closed")
             elif it is not None:
-                yield from (f"lane {lane.place} text {text.hex()}" for text in it.texts)
+                yield from (dict(lane=lane.place, event="text", text=text.hex())
+                            for text in it.texts)
+
+
+def events_of(output):
+    try:
+        return [log_lines.event(line) for line in output.splitlines()]
+    except log_lines.Fault as fault:
+        raise Fault(str(fault)) from None
 
 
 def follow(job, output):
     """The lanes of a job, with the outcome of each of their emissions."""
     lanes = [lane_of(place, sender) for place, sender in enumerate(job["sender"])]
-    lines = output.splitlines()
-    entries = [ENTRY.fullmatch(line) for line in lines[:len(lines) - len(lanes)]]
-    if None in entries:
+    events = events_of(output)
+    entries, ends = events[:len(events) - len(lanes)], events[len(events) - len(lanes):]
+    if any(it["event"] not in ("text", "closed", "refused") for it in entries):
         raise Fault("a line is none of the log")
     for lane in lanes:
-        settle(lane, [it for it in entries if int(it[1]) == lane.place])
-    if list(in_rounds(lanes)) != [it[0] for it in entries]:
+        settle(lane, [it for it in entries if it["lane"] == lane.place])
+    if list(in_rounds(lanes)) != entries:
         raise Fault("the lines don't come in rounds")
-    for lane, line in zip(lanes, lines[len(entries):]):
-        found = END.fullmatch(line)
-        if found is None or int(found[1]) != lane.place:
+    for lane, it in zip(lanes, ends):
+        if it["event"] != "sent" or it["lane"] != lane.place:
             raise Fault(f"lane {lane.place} has no last line")
-        lane.sealed, lane.ending, lane.state = int(found[2]), found[4], found[5]
+        lane.sealed, lane.ending, lane.state = it["sealed"], it["ending"], it["state"]
     return lanes

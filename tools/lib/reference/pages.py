@@ -14,7 +14,7 @@ from lib.reference import sources
 from lib.reference.sources import (
     KIT, Clause, Definition, Function, Item, Module, Project, Ref, Scope)
 
-INDEX, HEADLINE = "README", "headline"
+INDEX, HEADLINE, PROMISES = "README", "headline", "promises"
 LAW = Ref("krb_peers", "", "frames_laws")       # its contract is the headline
 TAKER, TAKE = Ref("krb_peers", "", "Receiver"), "take"      # the call whose verdicts it is about
 OWN = "this project"                    # the source of a definition that cites no standard
@@ -485,7 +485,9 @@ class Writer:
             Paragraph([Inline("Start with "),
                        Inline("what the headline rests on", False, Target(HEADLINE)),
                        Inline(": the contract of "), *code("relay", Target("krb_relay", "relay")),
-                       Inline(", and each definition that it reaches.")]),
+                       Inline(", and each definition that it reaches. Then "),
+                       Inline("what is proved, crate by crate", False, Target(PROMISES)),
+                       Inline(": each promise in a line.")]),
             Heading(2, "How to read a contract", "contracts"), *self.guide(),
             Heading(2, "Crates", "crates")]
         rows = []

@@ -1,10 +1,11 @@
-"""Writes the pages of the reference as HTML for a browser: one folder, with no script and nothing
-from elsewhere. The words of a source text link where they stand."""
+"""Writes the pages of the reference as HTML for a browser: one folder, with nothing from elsewhere. The
+words of a source text link where they stand. names.html has all names, and its script, the only one,
+shows those that have the words of the search: without it they all stand there."""
 from __future__ import annotations
 
 import html
 import re
-from typing import Iterable, Iterator, List
+from typing import Dict, Iterable, Iterator, List, Tuple
 
 from lib.reference import pages
 from lib.reference.pages import (
@@ -12,7 +13,7 @@ from lib.reference.pages import (
 
 FOLDER = "out/reference"
 TO_TOP = "../../"
-STYLE = "style.css"
+STYLE, SCRIPT, NAMES = "style.css", "names.js", "names.html"
 TOKEN = re.compile(r"(//[^\n]*|--[^\n]*|\"(?:\\.|[^\"\\])*\")"
                    r"|((?<![\w.'])[A-Za-z_][\w']*(?:\.[A-Za-z_][\w']*)*)")
 KEYWORDS = {
@@ -22,7 +23,7 @@ KEYWORDS = {
 }
 
 CSS = """\
-:root { --ink: #1c2024; --muted: #5b6570; --page: #ffffff; --box: #f4f6f8; --line: #d9dfe5;
+:root { color-scheme: light dark; --ink: #1c2024; --muted: #5b6570; --page: #ffffff; --box: #f4f6f8; --line: #d9dfe5;
   --link: #0b5cad; --key: #7a3e9d; --aside: #1f7a3a; }
 @media (prefers-color-scheme: dark) {
   :root { --ink: #e3e7eb; --muted: #9aa5b1; --page: #14181c; --box: #1d2329; --line: #333c45;
@@ -35,9 +36,20 @@ nav { position: sticky; top: 0; height: 100vh; overflow-y: auto; padding: 1.2rem
 nav ul { list-style: none; margin: 0 0 1rem; padding: 0; }
 nav li.under { padding-left: 1rem; }
 nav .here { font-weight: bold; color: var(--ink); }
+nav form { margin: 0 0 1rem; }
+input[type=search] { width: 100%; padding: 0.3rem 0.5rem; font: inherit; color: var(--ink);
+  background: var(--box); border: 1px solid var(--muted); border-radius: 4px; }
+#fold, nav label.fold { display: none; }
 main { padding: 1.2rem 2.5rem 6rem; max-width: 68rem; }
 a { color: var(--link); text-decoration: none; }
+main a { text-decoration: underline; text-decoration-thickness: 1px; text-underline-offset: 0.3em; }
+main pre a { text-decoration-style: dotted; }
 a:hover { text-decoration: underline; }
+main { overflow-wrap: anywhere; }
+.names { list-style: none; padding: 0; columns: 24rem; column-gap: 2rem; }
+.names li { break-inside: avoid; padding-left: 1rem; text-indent: -1rem; }
+.names span { color: var(--muted); font-size: 0.85em; }
+[hidden] { display: none; }
 h1, h2, h3, h4 { line-height: 1.25; margin: 2rem 0 0.5rem; }
 h1 { margin-top: 0; }
 h2 { border-bottom: 1px solid var(--line); padding-bottom: 0.2rem; margin-top: 3rem; }
@@ -59,7 +71,42 @@ th, td { text-align: left; vertical-align: top; padding: 0.3rem 0.6rem;
   border-bottom: 1px solid var(--line); }
 td:last-child, th:last-child { text-align: right; }
 th:nth-child(3):not(:last-child) { min-width: 8.5rem; }
-@media (max-width: 50rem) { body { display: block; } nav { position: static; height: auto; } }
+@media (max-width: 50rem) {
+  body { display: block; }
+  main { padding: 1rem 1rem 4rem; }
+  nav { position: static; height: auto; padding: 0.7rem 1rem; border-right: 0;
+    border-bottom: 1px solid var(--line); }
+  nav form { margin: 0.5rem 0 0; }
+  nav label.fold { display: block; padding: 0.3rem 0; color: var(--link); cursor: pointer; }
+  #fold { display: block; position: absolute; opacity: 0; }
+  #fold:focus-visible + nav label.fold { outline: 2px solid var(--link); }
+  nav ul { display: none; }
+  #fold:checked + nav ul { display: block; margin-top: 0.7rem; }
+  .clause { display: block; }
+  .clause .kind { display: block; }
+  pre { padding: 0.5rem; }
+  table { display: block; overflow-x: auto; }
+  td, th { overflow-wrap: normal; }
+}
+"""
+
+JAVASCRIPT = """\
+"use strict";
+// Shows the names that have each word of the search, in any case.
+const box = document.getElementById("search"), told = document.getElementById("told");
+const names = [...document.querySelectorAll(".names li")];
+function show() {
+  const words = box.value.toLowerCase().split(/\\s+/).filter(Boolean);
+  let count = 0;
+  for (const it of names) {
+    it.hidden = !words.every(word => it.textContent.toLowerCase().includes(word));
+    count += !it.hidden;
+  }
+  told.textContent = `${count} of ${names.length} names`;
+}
+box.value = new URLSearchParams(location.search).get("q") || "";
+box.addEventListener("input", show);
+show();
 """
 
 
@@ -149,23 +196,77 @@ def contents(page: Page) -> Iterator[str]:
             yield f'<li{under}><a href="#{block.anchor}">{html.escape(block.text)}</a></li>'
 
 
-def navigation(page: Page, every: List[Page]) -> Iterator[str]:
-    yield "<nav><ul>"
+def search(value_of: str) -> str:
+    """The field of a search, which the page of names answers."""
+    return (f'<form action="{NAMES}"><input type="search" name="q" {value_of} placeholder="Search names"'
+            ' aria-label="Search names"></form>')
+
+
+def entry(title: str, file: str, is_here: bool) -> str:
+    title = html.escape(title)
+    return f'<li class="here">{title}</li>' if is_here else f'<li><a href="{file}">{title}</a></li>'
+
+
+def navigation(title: str, every: List[Page], own: Iterable[str], field: str) -> Iterator[str]:
+    """The navigation of a page: all pages, and its own headings. A box that is checked unfolds it on
+    a narrow screen."""
+    yield '<input type="checkbox" id="fold" aria-label="Show the contents">'
+    yield f'<nav><label class="fold" for="fold">&#9776; Contents</label>{field}<ul>'
     for it in every:
-        title = html.escape(it.title)
-        yield (f'<li class="here">{title}</li>' if it is page else
-               f'<li><a href="{file_of(it.name)}">{title}</a></li>')
+        yield entry(it.title, file_of(it.name), it.title == title)
+    yield entry("All names", NAMES, title == "All names")
     yield "</ul><ul>"
-    yield from contents(page)
+    yield from own
     yield "</ul></nav>"
 
 
-def written(page: Page, every: List[Page]) -> str:
+def framed(title: str, every: List[Page], own: Iterable[str], body: Iterable[str],
+           field: str) -> str:
+    """A whole page."""
     lines = ["<!DOCTYPE html>", '<html lang="en"><head><meta charset="utf-8">',
              '<meta name="viewport" content="width=device-width, initial-scale=1">',
-             f"<title>{html.escape(page.title)} - krbrelay</title>",
-             f'<link rel="stylesheet" href="{STYLE}"></head><body>', *navigation(page, every),
-             "<main>"]
-    for block in page.blocks:
-        lines += block_lines(block)
+             f"<title>{html.escape(title)} - krbrelay</title>",
+             f'<link rel="stylesheet" href="{STYLE}"></head><body>',
+             *navigation(title, every, own, field), "<main>", *body]
     return "\n".join([*lines, "</main></body></html>"]) + "\n"
+
+
+def written(page: Page, every: List[Page]) -> str:
+    body = [line for block in page.blocks for line in block_lines(block)]
+    return framed(page.title, every, contents(page), body, search(""))
+
+
+# ---- the index of names
+
+def kind_of(anchor: str) -> str:
+    """What a heading names, where it isn't a type, a trait or a function."""
+    kinds = {1: "module of ", 2: "definition of "}
+    return kinds.get(anchor.count("."), "") if anchor.startswith("specs.") else ""
+
+
+def names_of(page: Page) -> Iterator[Tuple[str, str, str]]:
+    """The names that a page explains: each with what it is, and where it stands."""
+    for block in page.blocks:
+        place = f"{file_of(page.name)}#{getattr(block, 'anchor', '')}"
+        if isinstance(block, ClauseBlock) and block.anchor:
+            yield block.anchor, f"{block.kind} of {page.title}", place
+        elif isinstance(block, Heading) and block.anchor and block.is_code:
+            yield block.text, f"{kind_of(block.anchor)}{page.title}", place
+
+
+def index(every: List[Page]) -> str:
+    """The page of all names, by the alphabet."""
+    found = sorted({it for page in every for it in names_of(page)},
+                   key=lambda it: (it[0].lower(), it))
+    body = ["<h1>All names</h1>", f'<p id="told">{len(found)} names</p>', '<ul class="names">']
+    for name, what, place in found:
+        body.append(f'<li><a href="{html.escape(place)}"><code>{html.escape(name)}</code></a>'
+                    f" <span>{html.escape(what)}</span></li>")
+    body += ["</ul>", f'<script src="{SCRIPT}"></script>']
+    return framed("All names", every, (), body, search('id="search"'))
+
+
+def files_of(every: List[Page]) -> Dict[str, str]:
+    """Each file of the reference."""
+    found = {file_of(it.name): written(it, every) for it in every}
+    return {**found, NAMES: index(every), STYLE: CSS, SCRIPT: JAVASCRIPT}

@@ -25,13 +25,6 @@ pub(crate) struct Size {
     pub(crate) capacity: usize,
 }
 
-/// The ends of all lanes.
-#[derive(Drop)]
-pub(crate) struct Lanes {
-    pub(crate) sendings: Vec<Sending>,
-    pub(crate) receivings: Vec<Receiving>,
-}
-
 /// The address 10.0.0.`host`.
 fn address(alloc: Global, host: u8) -> Result<HostAddress, AllocError>
     ensures { IfOk result IsShortAddress }
@@ -62,16 +55,25 @@ fn moments(alloc: Global) -> Result<Vec<Moment>, AllocError> {
     Ok(moments)
 }
 
+/// The sealer of a sender.
+pub(crate) fn sealer(alloc: Global, host: u8) -> Result<Aes256Sealer, AllocError> {
+    Ok(Aes256Sealer::new(&mut [host; 32], session(alloc, host)?))
+}
+
 /// A sender of texts of one letter each, the next one in each text.
-fn sending(alloc: Global, host: u8, size: Size) -> Result<Sending, AllocError> {
-    let session = session(alloc, host)?;
+pub(crate) fn sending<S: Sealer>(
+    alloc: Global,
+    sealer: S,
+    host: u8,
+    size: Size,
+) -> Result<Sending<S>, AllocError> {
     let mut texts = Vec::with_capacity(alloc, size.texts)?;
     for place in 0..size.texts {
         let letter = b'a' + (place % 26) as u8;
         texts.push(Bytes::new(vec![in alloc; letter; size.bytes]?))?;
     }
     Ok(Sending {
-        sealer: Box::new(alloc, Aes256Sealer::new(&mut [host; 32], session))?,
+        sealer,
         texts,
         batch: size.batch,
         ats: moments(alloc)?,
@@ -95,18 +97,13 @@ fn receiving(alloc: Global, host: u8) -> Result<Receiving, AllocError> {
     })
 }
 
-/// The ends of as many lanes as there are senders.
-pub(crate) fn lanes_of(alloc: Global, size: Size) -> Result<Lanes, AllocError> {
-    let mut lanes = Lanes {
-        sendings: Vec::new(alloc),
-        receivings: Vec::new(alloc),
-    };
+/// The receivers of as many lanes as there are senders.
+pub(crate) fn receivings_of(alloc: Global, size: Size) -> Result<Vec<Receiving>, AllocError> {
+    let mut receivings = Vec::new(alloc);
     for host in 0..size.senders {
-        let host = (host % 256) as u8;
-        lanes.sendings.push(sending(alloc, host, size)?)?;
-        lanes.receivings.push(receiving(alloc, host)?)?;
+        receivings.push(receiving(alloc, (host % 256) as u8)?)?;
     }
-    Ok(lanes)
+    Ok(receivings)
 }
 
 fn are_short(texts: &[Bytes]) -> bool

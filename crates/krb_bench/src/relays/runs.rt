@@ -4,7 +4,7 @@ ghost use Rattle.std.specs.Prelude.{◌≡◌, ◌<◌, ◌≤◌, All, IsTrue, 
 ghost use Rattle.krb_base.specs.Limits.{lane_limit};
 ghost use Rattle.krb_peers.specs.Sending.{source_of, IsSender};
 
-use super::lanes::{Lanes, Size, are_senders, have_moments, lanes_of};
+use super::lanes::{Size, are_senders, have_moments, receivings_of, sealer, sending};
 use krb_core::Stepped;
 use krb_peers::{Entry, Event, Log, Receiving, Sending, Status};
 use krb_relay::{NoGate, Report, relay};
@@ -44,10 +44,13 @@ pub(crate) fn run_stepped(
     rt: &(impl Clock + Alloc<A = Global>),
     size: Size,
 ) -> io::Result<(u128, bool)> {
-    let Lanes {
-        sendings,
-        receivings,
-    } = lanes_of(rt.alloc(), size)?;
+    let receivings = receivings_of(rt.alloc(), size)?;
+    let mut sendings = Vec::new(rt.alloc());
+    for host in 0..size.senders {
+        let host = (host % 256) as u8;
+        let boxed: Box<dyn Sealer + Send> = Box::new(rt.alloc(), sealer(rt.alloc(), host)?)?;
+        sendings.push(sending(rt.alloc(), boxed, host, size)?)?;
+    }
     if !is_ready(sendings.as_slice(), receivings.as_slice(), size.capacity) {
         return Ok((0, false));
     }
@@ -66,10 +69,13 @@ pub(crate) fn run_threads<R: Threads + Wait + Sync + Clock + Alloc<A = Global>>(
     rt: &R,
     size: Size,
 ) -> io::Result<(u128, Option<Log>)> {
-    let Lanes {
-        sendings,
-        receivings,
-    } = lanes_of(rt.alloc(), size)?;
+    let receivings = receivings_of(rt.alloc(), size)?;
+    let mut sendings = Vec::new(rt.alloc());
+    for host in 0..size.senders {
+        let host = (host % 256) as u8;
+        let boxed: Box<dyn Sealer + Send> = Box::new(rt.alloc(), sealer(rt.alloc(), host)?)?;
+        sendings.push(sending(rt.alloc(), boxed, host, size)?)?;
+    }
     if !is_ready(sendings.as_slice(), receivings.as_slice(), size.capacity) {
         return Ok((0, None));
     }

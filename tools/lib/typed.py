@@ -1,0 +1,56 @@
+"""The lines of documents that a user types: a command after $, and what it prints below it.
+
+In a block that is indented by four spaces, a line with $ is a command, and the lines up to the next
+one are what it prints. There `..` at the end of a line stands for the rest of the line, and a line of
+`..` alone for any number of lines.
+"""
+import dataclasses
+import re
+
+from lib.build import building
+
+INDENT = "    "
+
+
+@dataclasses.dataclass
+class Typed:
+    """A command: the number of its line, its words, and the lines that it prints."""
+    number: int
+    command: str
+    printed: list
+
+
+def lines_of(path):
+    """The typed lines of a document."""
+    found, inside = [], False
+    for number, line in enumerate(building.text_of(path).split("\n"), 1):
+        if not line.startswith(INDENT):
+            inside = False
+        elif line.startswith(INDENT + "$ "):
+            inside = True
+            found.append(Typed(number, line.removeprefix(INDENT + "$ "), []))
+        elif inside:
+            found[-1].printed.append(line.removeprefix(INDENT))
+    return found
+
+
+def pattern(lines):
+    """The lines as an expression."""
+    parts = []
+    for line in lines:
+        if line.strip() == "..":
+            parts.append(r"(?:.*\n)*?")
+        else:
+            start, left_out = (line[:-2], ".*") if line.endswith("..") else (line, "")
+            parts.append(re.escape(start) + left_out + r"\n")
+    return "".join(parts)
+
+
+def are_printed(wanted, got):
+    """Whether a command printed what a document says, and nothing else."""
+    return re.fullmatch(pattern(wanted), "".join(f"{line}\n" for line in got)) is not None
+
+
+def words(command):
+    """The words that run a command as a shell does, whose output goes to a terminal: in lines."""
+    return ["stdbuf", "-oL", "sh", "-c", command]
