@@ -1,7 +1,9 @@
 //! `seal` and `unseal` of krb_seal, for both encryption types and modes and for data of 64, 1,024,
-//! 60,000 and 1,000,000 bytes: how many messages a second are made and read.
+//! 60,000 and 1,000,000 bytes: how many messages a second are made and read. And sessions of one
+//! message and of ten.
 
 mod ends;
+mod sessions;
 
 use crate::rate::rate;
 use ends::{ends_128, ends_256, moment, open_often, seal_often};
@@ -27,6 +29,25 @@ struct Best {
     make: u128,
     read: u128,
     whole: bool,
+}
+
+impl Best {
+    fn none_yet() -> Best {
+        Best {
+            make: u128::MAX,
+            read: u128::MAX,
+            whole: true,
+        }
+    }
+
+    /// The best of this and of one run more.
+    fn least(self, run: Best) -> Best {
+        Best {
+            make: self.make.min(run.make),
+            read: self.read.min(run.read),
+            whole: self.whole && run.whole,
+        }
+    }
 }
 
 /// One run.
@@ -68,21 +89,12 @@ fn best_of<S: Sealer>(
     rounds: u32,
 ) -> io::Result<Best> {
     let data = vec![in rt.alloc(); 0x61u8; size]?;
-    let mut best = Best {
-        make: u128::MAX,
-        read: u128::MAX,
-        whole: true,
-    };
+    let mut best = Best::none_yet();
     let Some(at) = moment() else {
         return Ok(best);
     };
     for _ in 0..rounds {
-        let run = run_once(rt, sealer, opener, &data, at)?;
-        best = Best {
-            make: best.make.min(run.make),
-            read: best.read.min(run.read),
-            whole: best.whole && run.whole,
-        };
+        best = best.least(run_once(rt, sealer, opener, &data, at)?);
     }
     Ok(best)
 }
@@ -115,8 +127,8 @@ fn print_sizes<S: Sealer>(
     Ok(whole)
 }
 
-/// Prints the best speed of so many runs of each kind, and says whether each message was made and
-/// read.
+/// Prints the best speed of so many runs of each kind, of messages and of sessions, and says whether
+/// each message was made and read.
 pub(crate) fn measure(
     rt: &(impl Clock + Print + Alloc<A = Global>),
     rounds: u32,
@@ -129,5 +141,5 @@ pub(crate) fn measure(
         let wide = print_sizes(rt, &mut sealer, &opener, mode, rounds)?;
         whole = whole && narrow && wide;
     }
-    Ok(whole)
+    Ok(sessions::measure(rt, rounds)? && whole)
 }

@@ -4,7 +4,10 @@ ghost use Rattle.std.specs.Prelude.{IfOk};
 ghost use Rattle.krb_seal.specs.Session.{HasShortAddresses};
 
 use krb_der::{HostAddress, Moment};
-use krb_seal::{Aes128Sealer, Aes256Sealer, Expect, Mode, Opener, SealError, Sealer, Session};
+use krb_seal::{
+    Aes128Sealer, Aes256Sealer, Etype, Expect, Mode, Opener, SealError, Sealer, Session,
+    SessionKey, SessionSealer,
+};
 use std::alloc::{AllocError, Global};
 
 /// 2023-11-14T22:13:20Z and 5 microseconds.
@@ -48,6 +51,23 @@ pub fn ends_256(alloc: Global, mode: Mode) -> Result<(Aes256Sealer, Opener), All
         Aes256Sealer::new(&mut { key }, session(alloc, mode)?),
         Opener::new_256(&mut { key }, expectation(alloc, mode)?),
     ))
+}
+
+fn key_of(etype: Etype) -> SessionKey {
+    match etype {
+        Etype::Aes128 => SessionKey::new_128(&mut { *b"chicken teriyaki" }),
+        Etype::Aes256 => SessionKey::new_256(&mut { *b"chicken teriyaki and wonton soup" }),
+    }
+}
+
+/// The sealer of a session whose type is known when it runs.
+pub fn sealer_of(alloc: Global, etype: Etype, mode: Mode) -> Result<SessionSealer, AllocError> {
+    Ok(SessionSealer::new(key_of(etype), session(alloc, mode)?))
+}
+
+/// The opener of such a session.
+pub fn opener_of(alloc: Global, etype: Etype, mode: Mode) -> Result<Opener, AllocError> {
+    Ok(Opener::new(key_of(etype), expectation(alloc, mode)?))
 }
 
 /// Seals the data so many times, and gives the last frame. Each frame is kept until the next is
