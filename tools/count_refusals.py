@@ -48,4 +48,7 @@ def main():
 
 if __name__ == "__main__":
     usage.answer(__doc__)
-    main()
+    try:
+        main()
+    except ValueError as fault:
+        sys.exit(f"count_refusals.py: {fault}")

@@ -4,8 +4,9 @@ from __future__ import annotations
 import os
 from ctypes import CDLL, addressof, c_size_t, c_uint8, c_uint64
 from time import time_ns
-from typing import Optional
+from typing import Callable, Optional
 
+from krbrelay.errors import exception_of
 from krbrelay.handle import OF_A_PARENT, Handle, Key
 from krbrelay.library import CONFOUNDER_SIZE, MomentStruct, SessionStruct
 from krbrelay.values import (
@@ -23,7 +24,7 @@ class Kept:
 
     def __init__(self, calls: CDLL, fits: int) -> None:
         room = calls.krbrelay_frame_size(fits)
-        self.fits, self.moment, self.size = fits, MomentStruct(), c_size_t()
+        self.moment, self.size = MomentStruct(), c_size_t()
         self._buffer = (c_uint8 * room)()
         self.view, self.moment_at = memoryview(self._buffer).cast("B"), addressof(self.moment)
         self.places = (addressof(self._buffer), room, addressof(self.size))
@@ -44,9 +45,9 @@ class Sealer(Handle):
 
     def __init__(self, etype: int, key: Key, *, mode: Mode, sender: Address, first: int,
                  receiver: Optional[Address] = None) -> None:
-        self._mode = Mode(mode)
+        self._draws = Mode(mode) is Mode.PRIV
         session = SessionStruct(
-            self._mode,
+            Mode(mode),
             ranged("the first number", first, 0, LAST_NUMBER),
             address_struct("the sender", sender),
             receiver is not None,
@@ -54,6 +55,7 @@ class Sealer(Handle):
         )
         super().__init__(etype, key, session)
         self._kept = Kept(self._library, KEPT_SIZE)
+        self._seal, self._seal_record = self._function("seal"), self._function("seal_record")
 
     def seal(self, user_data: Bytes, at: Optional[Moment] = None,
              confounder: Optional[Bytes] = None) -> bytes:
@@ -66,16 +68,16 @@ class Sealer(Handle):
         Freed, ValueError, TypeError, MemoryError.
         """
         content = bytes_of("the user data", user_data)
-        return self._sealed("seal", len(content), content, at, confounder)
+        return self._sealed(self._seal, len(content), content, at, confounder)
 
     def seal_record(self, record: Record, at: Optional[Moment] = None,
                     confounder: Optional[Bytes] = None) -> bytes:
         """The message of a record, which a Receiver takes, as `seal` seals user data. ValueError
         where the record is too long, or a batch hasn't 2 to 1,000 texts."""
         kind, content = record_bytes(record)
-        return self._sealed("seal_record", len(content) + 1, content, at, confounder, kind)
+        return self._sealed(self._seal_record, len(content) + 1, content, at, confounder, kind)
 
-    def _sealed(self, name: str, size: int, content: bytes, at: Optional[Moment],
+    def _sealed(self, call: Callable[..., int], size: int, content: bytes, at: Optional[Moment],
                 confounder: Optional[Bytes], *kind: int) -> bytes:
         """What a call seals of the content, which becomes user data of this size."""
         given = None if confounder is None else _confounder(confounder)
@@ -84,13 +86,14 @@ class Sealer(Handle):
             raise RuntimeError(OF_A_PARENT)
         with self._lock:
             # The lock also keeps the mode: a KRB-PRIV is never sealed under what isn't drawn.
-            drawn = given or (UNUSED if self._mode is Mode.SAFE else os.urandom(CONFOUNDER_SIZE))
-            kept = self._kept
-            if size > kept.fits:
-                kept = Kept(self._library, size)
-            kept.moment.seconds, kept.moment.microseconds = divmod(micros, 1_000_000)
-            self._call_locked(name, *kind, content, len(content), kept.moment_at, drawn,
-                              *kept.places)
+            drawn = given or (os.urandom(CONFOUNDER_SIZE) if self._draws else UNUSED)
+            kept = self._kept if size <= KEPT_SIZE else Kept(self._library, size)
+            moment = kept.moment
+            moment.seconds, moment.microseconds = divmod(micros, 1_000_000)
+            answer = call(self._place, *kind, content, len(content), kept.moment_at, drawn,
+                          *kept.places)
+            if answer:
+                raise exception_of(answer)
             return kept.view[:kept.size.value].tobytes()
 
     @property
@@ -106,7 +109,7 @@ class Sealer(Handle):
             raise RuntimeError(OF_A_PARENT)
         with self._lock:
             self._call_locked("set_mode", Mode(mode))
-            self._mode = Mode(mode)
+            self._draws = Mode(mode) is Mode.PRIV
 
     def wipe(self) -> None:
         """Overwrites the keys: sealing raises Wiped from then on."""

@@ -7,3 +7,11 @@ def answer(doc):
     if sys.argv[1:] == ["--help"]:
         print(doc.strip())
         sys.exit(0)
+
+
+def no_words(doc):
+    """The same, for a tool that takes no other word: it ends with 2 if there is one."""
+    answer(doc)
+    if sys.argv[1:]:
+        print(doc.strip(), file=sys.stderr)
+        sys.exit(2)

@@ -54,6 +54,16 @@ def is_known():
         return False
 
 
+def is_of_sources():
+    """Whether the program is there and was built from these sources, by whatever kit."""
+    if not (os.path.exists(PROGRAM) and os.path.exists(STAMP)):
+        return False
+    with open(STAMP, encoding="utf-8") as file:
+        first, kept = file.read().splitlines()[:2]
+    return (first.split()[1] == building.digest_of("krbrelay")
+            and kept == building.digest([PROGRAM]))
+
+
 def is_kept():
     """Whether the program is there, built from these sources by this kit."""
     return os.path.exists(PROGRAM) and is_known()
@@ -134,6 +144,8 @@ def fail():
 
 def ensure():
     """Builds the program unless it is built. Returns the exit status."""
+    if shutil.which("rt") is None and is_of_sources():
+        return 0
     if shutil.which("rt") is None:
         say("krbrelay can't be built: there is no command rt, which is the kit's")
         return 1
