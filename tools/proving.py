@@ -2,7 +2,8 @@
 """Proves and builds a program or the C library's crate, with the crates that it stands on. Crates
 that don't stand on each other are proved side by side, on all cores, as memory allows.
 
-    tools/proving.py CRATE      krbrelay, krb_bench or krb_c, unless it is built from these sources
+    tools/proving.py CRATE      krbrelay, krb_bench, example_relay or krb_c, unless it is built from
+                                these sources
 
 Of krb_c, the libraries that `rt ci` has built from these sources are proved no second time. A line
 on standard error for each crate has the minutes gone, and an estimate of those left. The prover's
@@ -17,7 +18,7 @@ from lib.build import proving
 
 
 def main(words):
-    if len(words) != 1 or words[0] not in ("krbrelay", "krb_bench", "krb_c"):
+    if len(words) != 1 or words[0] not in ("krbrelay", "krb_bench", "example_relay", "krb_c"):
         proving.say(__doc__)
         return 2
     signal.signal(signal.SIGTERM, lambda number, _: sys.exit(128 + number))

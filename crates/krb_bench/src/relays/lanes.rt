@@ -97,9 +97,10 @@ fn receiving(alloc: Global, host: u8) -> Result<Receiving, AllocError> {
     })
 }
 
-/// The receivers of as many lanes as there are senders.
+/// The receivers of as many lanes as there are senders. The list never grows, so no block with their
+/// keys is freed.
 pub(crate) fn receivings_of(alloc: Global, size: Size) -> Result<Vec<Receiving>, AllocError> {
-    let mut receivings = Vec::new(alloc);
+    let mut receivings = Vec::with_capacity(alloc, size.senders)?;
     for host in 0..size.senders {
         receivings.push(receiving(alloc, (host % 256) as u8)?)?;
     }
