@@ -88,8 +88,8 @@ fn relay_both<R: Threads + Wait + Sync>(rt: &R, alloc: Global, at: Moment) -> Re
     let plan = vec![in alloc; Emit::Frame(0), Emit::Frame(0), Emit::Frame(1)]?;
     let one: Box<dyn Sealer + Send> = Box::new(alloc, sealer(alloc, 1)?)?;
     let other: Box<dyn Sealer + Send> = Box::new(alloc, sealer(alloc, 2)?)?;
-    let first = sending(alloc, one, [1; 32], b"hi", Some(plan), at)?;
-    let second = sending(alloc, other, [2; 32], b"last", None, at)?;
+    let first = sending(alloc, one, [101; 32], b"hi", Some(plan), at)?;
+    let second = sending(alloc, other, [102; 32], b"last", None, at)?;
     let sendings = vec![in alloc; first, second]?;
     let receivings = vec![in alloc; receiving(alloc, 1, at)?, receiving(alloc, 2, at)?]?;
     Ok(relay(rt, alloc, sendings, receivings, 8, &NoGate)?)

@@ -77,7 +77,7 @@ pub(crate) fn sending<S: Sealer>(
         texts,
         batch: size.batch,
         ats: moments(alloc)?,
-        draws: ChaCha20Rng::from_seed([host; 32]),
+        draws: ChaCha20Rng::from_seed([0xaa; 32]),
         plan: None,
     })
 }
