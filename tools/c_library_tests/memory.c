@@ -190,10 +190,27 @@ static long asked_by_batch(int etype)
     return before;
 }
 
+/* How many allocations a text takes that is a byte too long for a record: it is refused first. */
+static long asked_by_long_text(int etype, const uint8_t *bytes)
+{
+    struct krbrelay_session session = session_of(KRBRELAY_PRIV, 7);
+    struct krbrelay_sealer s = { 0 };
+    size_t n = 0;
+    long before;
+    CHECK(krbrelay_sealer_new(&s, etype, key, key_size(etype), &session) == KRBRELAY_OK);
+    before = asked;
+    CHECK(krbrelay_sealer_seal_record(&s, KRBRELAY_TEXT, bytes, KRBRELAY_USER_DATA_LIMIT, &now, confounder,
+                                      frame, sizeof frame, &n) == KRBRELAY_RECORD);
+    before = asked - before;
+    krbrelay_sealer_free(&s);
+    return before;
+}
+
 int main(void)
 {
     static const uint8_t bytes[KRBRELAY_USER_DATA_LIMIT];
     for (int etype = 17; etype <= 18; etype++) {
+        CHECK(asked_by_long_text(etype, bytes) == 0);
         CHECK(asked_by_seal(etype, bytes, 1) == 1);
         CHECK(asked_by_seal(etype, bytes, sizeof bytes) == 1);
         CHECK(asked_by_batch(etype) <= 6);
