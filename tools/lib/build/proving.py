@@ -1,8 +1,8 @@
 """Proves and builds a program or a static library, with the crates that it stands on. Crates that
 don't stand on each other are proved side by side, on all cores, as memory allows.
 
-A line on standard error for each crate, and one each minute between them, has the minutes gone, and an
-estimate of those left. The prover's output is in out/proving/, a file a crate.
+A line on standard error for each crate, and one each minute between them, has the minutes gone, and
+an estimate of those left. The prover's output is in out/proving/, a file a crate.
 """
 import dataclasses
 import os
