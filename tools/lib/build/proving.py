@@ -306,6 +306,9 @@ def ensure(top):
     status."""
     if building.is_built(top, building.top_of(top)):
         return 0
+    if shutil.which("rt") is None:
+        say(f"{top} can't be proved: there is no command rt, which is the kit's")
+        return 1
     os.makedirs(LOGS, exist_ok=True)
     is_over_gate = not building.has_program(top) and static_library.can_build(top)
     try:
