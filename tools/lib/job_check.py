@@ -24,8 +24,8 @@ ADDRESS = re.compile(rf"(-?{DECIMAL}):(.*)", re.S)
 FLIP = re.compile(rf"flip ({DECIMAL}) ({DECIMAL}) ([0-9A-Fa-f]{{2}})")
 FRAME = re.compile(DECIMAL)
 NOT_HEX = re.compile(r"[^0-9A-Fa-f]")
-EMISSION = ('a frame by its number, as "0", the same with a byte changed, as "flip 0 9 01", or bytes,'
-            ' as "raw 74"')
+EMISSION = ('a frame by its number, as "0", the same with a byte changed, as "flip 0 9 01", or'
+            ' bytes, as "raw 74"')
 SEALING = ("seal", "relay")
 
 

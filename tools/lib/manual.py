@@ -15,8 +15,8 @@ krbrelay \\- {about}
 .SH SYNOPSIS
 {synopsis}
 .SH DESCRIPTION
-The messages are those of RFC 4120, under the encryption types 17 and 18 (RFC 3962). Each command reads
-standard input and prints lines. It reads no file, so a job is given by
+The messages are those of RFC 4120, under the encryption types 17 and 18 (RFC 3962). Each command
+reads standard input and prints lines. It reads no file, so a job is given by
 .BR < .
 '''
 TAIL = '''\

@@ -22,7 +22,8 @@ SERVERS = ("Debian's nats-server, libnats-dev, postgresql, libpq-dev, libmicroht
            " libsystemd-dev")
 REALM = "Debian's krb5-kdc, krb5-admin-server, krb5-kpropd and krb5-user"
 CROSS = "Debian's gdb, gcc-aarch64-linux-gnu, libc6-dev-arm64-cross and qemu-user-static"
-PACKAGING = "Debian's debhelper, dh-python, dpkg-dev, lintian, isa-support and debootstrap, and root"
+PACKAGING = ("Debian's debhelper, dh-python, dpkg-dev, lintian, isa-support and debootstrap, and"
+             " root")
 PKG_CONFIG = "pkg-config"
 
 
@@ -165,7 +166,8 @@ def of_tool(name, parts):
 
 def belongs(name):
     """Which form of tools/test runs a tool."""
-    for form, parts in (("test", [FIRST, *ALONE, *PARTS]), ("--all", MORE), ("--without-proofs", [BUILD])):
+    forms = ("test", [FIRST, *ALONE, *PARTS]), ("--all", MORE), ("--without-proofs", [BUILD])
+    for form, parts in forms:
         if of_tool(name, parts):
             return form
     return "-"

@@ -24,15 +24,15 @@ FIRST_NEWLINE = re.compile(rf"(?:{NEWLINE})?")
 ESCAPES = {"b": "\b", "e": "\x1b", "f": "\f", "n": "\n", "r": "\r", "t": "\t", '"': '"', "\\": "\\"}
 HEX_ESCAPES = {"x": 2, "u": 4, "U": 8}
 HEX = re.compile(r"[0-9A-Fa-f]+")
-PREFIXED = {16: re.compile(r"0x[0-9A-Fa-f]+(?:_[0-9A-Fa-f]+)*"), 8: re.compile(r"0o[0-7]+(?:_[0-7]+)*"),
-            2: re.compile(r"0b[01]+(?:_[01]+)*")}
+PREFIXED = [re.compile(r"0x[0-9A-Fa-f]+(?:_[0-9A-Fa-f]+)*"),
+            re.compile(r"0o[0-7]+(?:_[0-7]+)*"), re.compile(r"0b[01]+(?:_[01]+)*")]
 DIGITS = r"[0-9]+(?:_[0-9]+)*"
 INTEGER = re.compile(r"[+-]?(?:0|[1-9](?:_?[0-9]+)*)")
 FLOAT = re.compile(rf"[+-]?(?:0|[1-9](?:_?[0-9]+)*)(?:\.{DIGITS})?(?:[eE][+-]?{DIGITS})?")
 SPECIAL = re.compile(r"[+-]?(?:inf|nan)")
 TIME = r"(\d\d):(\d\d)(?::(\d\d)(?:\.\d+)?)?"
-MOMENT = re.compile(rf"(?:(\d{{4}})-(\d\d)-(\d\d))?(?:(?:(?<=\d)[Tt ]|\A){TIME}([Zz]|[+-](\d\d):(\d\d))?)?",
-                    re.A)
+DAY, ZONE = r"(\d{4})-(\d\d)-(\d\d)", r"[Zz]|[+-](\d\d):(\d\d)"
+DATE, CLOCK = re.compile(rf"{DAY}(?:[Tt ]{TIME}(?:{ZONE})?)?", re.A), re.compile(TIME, re.A)
 VALUES = "a string, a number, true, false, a date, a list or a table"
 
 
@@ -50,8 +50,8 @@ class NotRead(Exception):
 
 @dataclasses.dataclass
 class Item:
-    """A value, with its places in the text: the first one and the one after the last. Of a table and
-    a list the value has items again. `first` is where the characters of a string begin, if each
+    """A value, with its places in the text: the first one and the one after the last. Of a table
+    and a list the value has items again. `first` is where the characters of a string begin, if each
     stands for itself."""
     kind: str
     value: object
@@ -79,6 +79,23 @@ class Entry:
 def shown(text):
     """A part of a text for a message."""
     return repr(text if len(text) <= 40 else text[:37] + "...")
+
+
+def numbers_of(found):
+    return [int(it or 0) for it in found.groups()]
+
+
+def is_date(year, month, day, hour, minute, second, ahead, minutes):
+    """Whether there is such a day, and such a time in such a zone."""
+    try:
+        datetime.date(year or 4, month, day)    # The year 0 is a leap year too.
+    except ValueError:
+        return False
+    return is_time(hour, minute, second) and is_time(ahead, minutes)
+
+
+def is_time(hour, minute, second=0):
+    return hour < 24 and minute < 60 and second <= 60
 
 
 class Lines:
@@ -184,8 +201,8 @@ class Reader:
         return value, first if self.text.startswith(value, first) else None
 
     def at_end(self, delimiter, is_many, parts):
-        """Whether the string ends here. Delimiters of a string of several lines that don't end it are
-        a part of it."""
+        """Whether the string ends here. Delimiters of a string of several lines that don't end it
+        are a part of it."""
         if not is_many:
             return self.has(delimiter)
         count = len(re.compile(f"{delimiter}*").match(self.text, self.at)[0])
@@ -222,7 +239,8 @@ class Reader:
             return self.hex_escape(start, HEX_ESCAPES[letter])
         if letter and letter in ESCAPES:
             return ESCAPES[letter]
-        return self.stop(r'an escape: \b, \e, \f, \n, \r, \t, \", \\, \xHH, \uHHHH or \UHHHHHHHH', start)
+        return self.stop(r'an escape: \b, \e, \f, \n, \r, \t, \", \\, \xHH, \uHHHH or'
+                         r' \UHHHHHHHH', start)
 
     def hex_escape(self, start, size):
         digits = self.text[self.at:self.at + size]
@@ -279,9 +297,8 @@ class Reader:
             return "boolean", word == "true"
         if re.match(r"[0-9]+[-:]", word):
             return "date", self.date(word, start)
-        for radix, pattern in PREFIXED.items():
-            if pattern.fullmatch(word):
-                return "integer", self.sized(int(word.replace("_", ""), 0), start, radix)
+        if any(it.fullmatch(word) for it in PREFIXED):
+            return "integer", self.sized(int(word.replace("_", ""), 0), start)
         if INTEGER.fullmatch(word):
             return "integer", self.sized(int(word.replace("_", "")), start)
         if FLOAT.fullmatch(word) or SPECIAL.fullmatch(word):
@@ -291,23 +308,15 @@ class Reader:
             return "float", number
         return self.stop(VALUES, start)
 
-    def sized(self, number, start, radix=10):
+    def sized(self, number, start):
         if not -2**63 <= number < 2**63:
             self.stop("a whole number of at most 64 bits", start)
         return number
 
     def date(self, word, start):
         """A date, a time or both: its text, if there is such a day and such a time."""
-        found = MOMENT.fullmatch(word)
-        numbers = [int(it) for it in found.groups()[:6] if it] if found else []
-        year, month, day, hour, minute, second, zone, ahead, minutes = found.groups() if found else 9 * [None]
-        right = bool(numbers) and not (zone and year is None)
-        try:
-            datetime.date(int(year or 4) or 4, int(month or 1), int(day or 1))
-        except ValueError:
-            right = False
-        if not right or int(hour or 0) > 23 or int(minute or 0) > 59 or int(second or 0) > 60 \
-                or int(ahead or 0) > 23 or int(minutes or 0) > 59:
+        date, clock = DATE.fullmatch(word), CLOCK.fullmatch(word)
+        if not (date and is_date(*numbers_of(date)) or clock and is_time(*numbers_of(clock))):
             self.stop("a date, as 1979-05-27T07:32:00Z", start)
         return word
 

@@ -1,8 +1,8 @@
 """The lines of documents that a user types: a command after $, and what it prints below it.
 
 In a block that is indented by four spaces, a line with $ is a command, and the lines up to the next
-one are what it prints. There `..` at the end of a line stands for the rest of the line, and a line of
-`..` alone for any number of lines.
+one are what it prints. There `..` at the end of a line stands for the rest of the line, and a line
+of `..` alone for any number of lines.
 """
 import dataclasses
 import re

@@ -1,8 +1,8 @@
 """Proves and builds a program or a static library, with the crates that it stands on. Crates that
 don't stand on each other are proved side by side, on all cores, as memory allows.
 
-A line on standard error for each crate, and one each minute between them, has the minutes gone, and an
-estimate of those left. The prover's output is in out/proving/, a file a crate.
+A line on standard error for each crate, and one each minute between them, has the minutes gone, and
+an estimate of those left. The prover's output is in out/proving/, a file a crate.
 """
 import dataclasses
 import os
@@ -306,6 +306,9 @@ def ensure(top):
     status."""
     if building.is_built(top, building.top_of(top)):
         return 0
+    if shutil.which("rt") is None:
+        say(f"{top} can't be proved: there is no command rt, which is the kit's")
+        return 1
     os.makedirs(LOGS, exist_ok=True)
     is_over_gate = not building.has_program(top) and static_library.can_build(top)
     try:

@@ -14,10 +14,12 @@ LONG = [[59_999], [65_535], [999_999], [1_000_000], [499_996, 499_996], [499_997
         [999_992, 0], [999_993, 0]]
 ODD_VALUES = ['""', "0", "-1", "17", "1.0", "true", "[]", "[0]", '["0"]', '["00"]', "{}", "{a = 1}",
               "1979-05-27", "07:32", "07:32:60", "1979-02-30", '"2:00"', "[1,\n2,]", "{a = 1,\n}",
-              r'"\x41"', "\'\'\'a\'\'\'", '"""\n00"""', "0x11", "1_7", "1__7", "inf", "1e3", "1e400", "[{}]",
+              r'"\x41"', "'''a'''", '"""\n00"""', "0x11", "1_7", "1__7", "inf", "1e3",
+              "1e400", "[{}]",
               "9223372036854775808", "1979-05-27 07:32", "0x", "00", '["flip 0 0 00"]', '["999"]']
-ODD_LINES = ["[[sender]]", "[sender]", "a.b = 1", '"key" = 1', "capacity = 2", "capacity = 0", "[a.b]",
-             "[[a]]", "sender.x = 1", "sender = []", "#", "\r", "\x00", "é", "other = 1", "]"]
+ODD_LINES = ["[[sender]]", "[sender]", "a.b = 1", '"key" = 1', "capacity = 2", "capacity = 0",
+             "[a.b]", "[[a]]", "sender.x = 1", "sender = []", "#", "\r", "\x00", "é",
+             "other = 1", "]"]
 BATCHES = [1, 2, 2, 3, 4, 1000]
 WRONG_BATCHES = ["0", "1001", "-2", "2.0", "true", '"2"']
 
@@ -258,7 +260,8 @@ def spoilt_line(dice, lines):
     if how == 2:
         return [*lines[:place], dice.choice(ODD_LINES), *lines[place:]]
     key, equals, _ = lines[place].partition(" = ")
-    return [*lines[:place], f"{key} = {dice.choice(ODD_VALUES)}" if equals else key, *lines[place + 1:]]
+    line = f"{key} = {dice.choice(ODD_VALUES)}" if equals else key
+    return [*lines[:place], line, *lines[place + 1:]]
 
 
 def spoilt_text(dice, text):

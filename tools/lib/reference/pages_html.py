@@ -1,6 +1,6 @@
-"""Writes the pages of the reference as HTML for a browser: one folder, with nothing from elsewhere. The
-words of a source text link where they stand. names.html has all names, and its script, the only one,
-shows those that have the words of the search: without it they all stand there."""
+"""Writes the pages of the reference as HTML for a browser: one folder, with nothing from elsewhere.
+The words of a source text link where they stand. names.html has all names, and its script, the only
+one, shows those that have the words of the search: without it they all stand there."""
 from __future__ import annotations
 
 import html
@@ -23,7 +23,8 @@ KEYWORDS = {
 }
 
 CSS = """\
-:root { color-scheme: light dark; --ink: #1c2024; --muted: #5b6570; --page: #ffffff; --box: #f4f6f8; --line: #d9dfe5;
+:root { color-scheme: light dark; --ink: #1c2024; --muted: #5b6570; --page: #ffffff; --box: #f4f6f8;
+  --line: #d9dfe5;
   --link: #0b5cad; --key: #7a3e9d; --aside: #1f7a3a; }
 @media (prefers-color-scheme: dark) {
   :root { --ink: #e3e7eb; --muted: #9aa5b1; --page: #14181c; --box: #1d2329; --line: #333c45;
@@ -198,8 +199,8 @@ def contents(page: Page) -> Iterator[str]:
 
 def search(value_of: str) -> str:
     """The field of a search, which the page of names answers."""
-    return (f'<form action="{NAMES}"><input type="search" name="q" {value_of} placeholder="Search names"'
-            ' aria-label="Search names"></form>')
+    return (f'<form action="{NAMES}"><input type="search" name="q" {value_of}'
+            ' placeholder="Search names" aria-label="Search names"></form>')
 
 
 def entry(title: str, file: str, is_here: bool) -> str:
@@ -208,8 +209,8 @@ def entry(title: str, file: str, is_here: bool) -> str:
 
 
 def navigation(title: str, every: List[Page], own: Iterable[str], field: str) -> Iterator[str]:
-    """The navigation of a page: all pages, and its own headings. A box that is checked unfolds it on
-    a narrow screen."""
+    """The navigation of a page: all pages, and its own headings. A box that is checked unfolds it
+    on a narrow screen."""
     yield '<input type="checkbox" id="fold" aria-label="Show the contents">'
     yield f'<nav><label class="fold" for="fold">&#9776; Contents</label>{field}<ul>'
     for it in every:

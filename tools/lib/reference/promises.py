@@ -1,5 +1,5 @@
-"""The page of what is proved, crate by crate: of each public type and function with a clause its doc
-comment, and the clauses by name. It is made of the pages of the crates."""
+"""The page of what is proved, crate by crate: of each public type and function with a clause its
+doc comment, and the clauses by name. It is made of the pages of the crates."""
 from __future__ import annotations
 
 from typing import Iterator, List, Tuple
@@ -12,9 +12,9 @@ from lib.reference.sources import Project
 TITLE = "What is proved, crate by crate"
 STATED = ("ensures", "ghost", "invariant")      # what a clause has to be to promise something
 INTRODUCTION = (
-    "Every function of every crate is proved to be memory safe, not to overflow, and to return, unless"
-    " it waits for another thread. Beyond that, these are the public types and functions with what is"
-    " proved of them. Each name leads to the clause itself.")
+    "Every function of every crate is proved to be memory safe, not to overflow, and to return,"
+    " unless it waits for another thread. Beyond that, these are the public types and functions"
+    " with what is proved of them. Each name leads to the clause itself.")
 
 
 def parts_of(page: Page) -> Iterator[Tuple[Heading, List[Block]]]:
@@ -47,7 +47,7 @@ def clauses(page: Page, owner: str, found: List[ClauseBlock]) -> List[Inline]:
 
 
 def entries_of(page: Page, heading: Heading, blocks: List[Block]) -> Iterator[List[Inline]]:
-    """An item with its clauses, and then the type to which an impl that follows belongs, with its."""
+    """An item with its clauses, and then the type of an impl that follows, with its clauses."""
     found = stated(blocks)
     own = [it for it in found if not it.anchor or it.anchor.startswith(heading.anchor + ".")]
     if own:
