@@ -6,13 +6,12 @@
 
 enum { PATIENCE = 4 }; /* seconds for an end in order */
 
-static volatile sig_atomic_t ending, status;
+static int ending, status; /* of a handler and of threads: all is read and written atomically */
 
 static void end_in_time(void)
 {
-    if (!ending)
+    if (!__atomic_exchange_n(&ending, 1, __ATOMIC_SEQ_CST))
         alarm(PATIENCE);
-    ending = 1;
 }
 
 static void note(int number)
@@ -25,7 +24,7 @@ static void note(int number)
 static void leave(int number)
 {
     (void)number;
-    _exit(status);
+    _exit(__atomic_load_n(&status, __ATOMIC_SEQ_CST));
 }
 
 void end_by_signals(void)
@@ -35,17 +34,17 @@ void end_by_signals(void)
     for (i = 0; i < sizeof numbers / sizeof *numbers; i++) {
         struct sigaction action = { .sa_handler = numbers[i] == SIGALRM ? leave : note };
         if (sigaction(numbers[i], &action, NULL) != 0)
-            ending = 1; /* never: all may be caught */
+            end_now(); /* never: all may be caught */
     }
 }
 
 int is_ending(void)
 {
-    return ending;
+    return __atomic_load_n(&ending, __ATOMIC_SEQ_CST);
 }
 
 void end_now(void)
 {
-    status = 1;
+    __atomic_store_n(&status, 1, __ATOMIC_SEQ_CST);
     end_in_time();
 }
