@@ -8,7 +8,7 @@ use Rattle.krb_carry.specs.ProgressState.{ProgressState}
 use Rattle.krb_record.specs.declared.record.Record.{Record}
 use Rattle.krb_seal.specs.Sealer.{SealerState}
 use Rattle.krb_carry.specs.Shard.{Item, StandsAt, Stands}
-use Rattle.krb_carry.specs.Progress.{Counts, counts, counted, new_progress, Happening, Store, Publish, Rewind, Confirm, after, after_all, IsTruthful, StandInTurn}
+use Rattle.krb_carry.specs.Progress.{Counts, counts, counted, resumed, IsCounted, Happening, Store, Publish, Rewind, Confirm, after, after_all, IsTruthful, StandInTurn}
 use Rattle.krb_carry.proofs.ShardLemmas.{item_of}
 
 -- ---- the test
@@ -34,65 +34,68 @@ old_place place n more k lt = rw (lt-ltb k n lt) refl
 new_place : (place : ℕ → ℕ) (n more k : ℕ) → n ≤ k → with_place place n more k ≡ more
 new_place place n more k le = rw (le-ltb k n le) refl
 
-module _ (sealer : SealerState) (records : List Record) (session : ℕ) (shard : List Item) where
-  pub none_stand : StandInTurn sealer records session shard (new_progress sealer.next)
-  none_stand = record {
+module _ (sealer : SealerState) (records : List Record) (session : ℕ) (shard : List Item) (done : ℕ) where
+  pub none_stand : (next : ℕ) → StandInTurn sealer records session shard done (resumed next done 0)
+  none_stand next = record {
     place = λ k. k;
-    stands = λ k lt. absurd (omega (arith, lt));
-    rises = λ k lt. absurd (omega (arith, lt));
-    within = λ k lt. absurd (omega (arith, lt));
+    stands = λ k counted. absurd (omega (arith, counted.0, counted.1));
+    rises = λ k counted more. absurd (omega (arith, counted.0, counted.1));
+    within = λ k counted. absurd (omega (arith, counted.0, counted.1));
   }
 
-  one_more : (p : ProgressState) (number offset : ℕ) → StandInTurn sealer records session shard p → Stands sealer records session shard number offset → Counts p number offset → StandInTurn sealer records session shard (counted p offset)
+  one_more : (p : ProgressState) (number offset : ℕ) → StandInTurn sealer records session shard done p → Stands sealer records session shard number offset → Counts p number offset → StandInTurn sealer records session shard done (counted p offset)
   one_more p number offset turn there it =
       let n = there.k in
       let carried : p.carried ≡ sealer.next + n = sym it.first_one ∙ there.number_is in
       let P : ℕ → ℕ → Type 0 = λ k q. StandsAt sealer records session shard k q in
       record {
         place = with_place turn.place n there.place;
-        stands = λ k lt. elim (cases_lt k n) [
-          | inl below ↦ subst (P k) (sym (old_place turn.place n there.place k below)) (turn.stands k (omega (arith, below, carried)))
+        stands = λ k counted. elim (cases_lt k n) [
+          | inl below ↦ subst (P k) (sym (old_place turn.place n there.place k below)) (turn.stands k (counted.0, omega (arith, below, carried)))
           | inr from ↦
-              let same : n ≡ k = omega (arith, from, lt, carried) in
+              let same : n ≡ k = omega (arith, from, counted.1, carried) in
               subst (P k) (sym (new_place turn.place n there.place k from)) (subst (λ j. P j there.place) same there.stands)
         ];
-        rises = λ k lt.
-            let before : k < n = omega (arith, lt, carried) in
+        rises = λ k counted more.
+            let before : k < n = omega (arith, more.1, carried) in
+            let its : IsCounted sealer done p k = (counted.0, omega (arith, before, carried)) in
             let here = old_place turn.place n there.place k before in
             elim (cases_lt (suc k) n) [
               | inl below ↦
                   let next = old_place turn.place n there.place (suc k) below in
-                  omega (arith, here, next, turn.rises k (omega (arith, below, carried)))
+                  omega (arith, here, next, turn.rises k its (more.0, omega (arith, below, carried)))
               | inr from ↦
                   let next = new_place turn.place n there.place (suc k) from in
-                  omega (arith, here, next, turn.within k (omega (arith, before, carried)), it.later, there.offset_is)
+                  omega (arith, here, next, turn.within k its, it.later, there.offset_is)
             ];
-        within = λ k lt. elim (cases_lt k n) [
-          | inl below ↦ omega (arith, old_place turn.place n there.place k below, turn.within k (omega (arith, below, carried)), it.later)
+        within = λ k counted. elim (cases_lt k n) [
+          | inl below ↦ omega (arith, old_place turn.place n there.place k below, turn.within k (counted.0, omega (arith, below, carried)), it.later)
           | inr from ↦ omega (arith, new_place turn.place n there.place k from, there.offset_is)
         ];
       }
 
-  same_turn : (p q : ProgressState) → q.carried ≡ p.carried → q.at ≡ p.at → StandInTurn sealer records session shard p → StandInTurn sealer records session shard q
-  same_turn p q carried at turn = record {
-    place = turn.place;
-    stands = λ k lt. turn.stands k (omega (arith, lt, carried));
-    rises = λ k lt. turn.rises k (omega (arith, lt, carried));
-    within = λ k lt. omega (arith, at, turn.within k (omega (arith, lt, carried)));
-  }
+  same_turn : (p q : ProgressState) → q.carried ≡ p.carried → q.at ≡ p.at → StandInTurn sealer records session shard done p → StandInTurn sealer records session shard done q
+  same_turn p q carried at turn =
+      let its : (k : ℕ) → IsCounted sealer done q k → IsCounted sealer done p k = λ k counted. (counted.0, omega (arith, counted.1, carried)) in
+      record {
+        place = turn.place;
+        stands = λ k counted. turn.stands k (its k counted);
+        rises = λ k counted more. turn.rises k (its k counted) (its (suc k) more);
+        within = λ k counted. omega (arith, at, turn.within k (its k counted));
+      }
 
-  after_test : (p : ProgressState) (number offset : ℕ) (b : Bool) → counts p number offset ≡ b → StandInTurn sealer records session shard p → Stands sealer records session shard number offset
-      → StandInTurn sealer records session shard (if b then counted p offset else p)
+  after_test : (p : ProgressState) (number offset : ℕ) (b : Bool) → counts p number offset ≡ b → StandInTurn sealer records session shard done p → Stands sealer records session shard number offset
+      → StandInTurn sealer records session shard done (if b then counted p offset else p)
   after_test p number offset true is turn there = one_more p number offset turn there (counts_is p number offset is)
   after_test p number offset false is turn there = turn
 
-  turn_after : (p : ProgressState) (it : Happening) → StandInTurn sealer records session shard p → IsTruthful sealer records session shard it → StandInTurn sealer records session shard (after p it)
+  turn_after : (p : ProgressState) (it : Happening) → StandInTurn sealer records session shard done p → IsTruthful sealer records session shard it → StandInTurn sealer records session shard done (after p it)
   turn_after p (Store count) turn true_ = same_turn p (after p (Store count)) refl refl turn
   turn_after p (Publish count) turn true_ = same_turn p (after p (Publish count)) refl refl turn
   turn_after p Rewind turn true_ = same_turn p (after p Rewind) refl refl turn
   turn_after p (Confirm number offset) turn there = after_test p number offset (counts p number offset) refl turn there
 
-  pub turn_after_all : (p : ProgressState) (happenings : List Happening) → StandInTurn sealer records session shard p → All (IsTruthful sealer records session shard) happenings → StandInTurn sealer records session shard (after_all p happenings)
+  pub turn_after_all : (p : ProgressState) (happenings : List Happening) → StandInTurn sealer records session shard done p → All (IsTruthful sealer records session shard) happenings → StandInTurn sealer records session shard done (after_all p happenings)
   turn_after_all p [] turn are = turn
   turn_after_all p (it ∷ happenings) turn are =
       turn_after_all (after p it) happenings (turn_after p it turn (All-head (IsTruthful sealer records session shard) it happenings are)) (All-tail (IsTruthful sealer records session shard) it happenings are)

@@ -19,24 +19,26 @@ use Rattle.krb_peers.proofs.FrameLemmas.{fewer, none_more}
 use Rattle.krb_peers.proofs.OrderLemmas.{demand_after-nil}
 use Rattle.krb_carry.specs.ProgressState.{ProgressState}
 use Rattle.krb_carry.specs.Shard.{Item}
-use Rattle.krb_carry.specs.Progress.{StandInTurn}
-use Rattle.krb_carry.specs.Store.{Stored, new_session, applied, Commits, Leads, IsAfter}
+use Rattle.krb_carry.specs.Progress.{IsCounted, StandInTurn}
+use Rattle.krb_carry.specs.Store.{Stored, new_session, applied, Commits, Leads, IsAfter, HasFirst, IsReceipt}
 use Rattle.krb_carry.specs.Reading.{StoredShard, new_shard, Reading, IsReading, CommitsReading, LeadsReading, WasRead, CommitsLess, LeadsLess}
 use Rattle.krb_carry.proofs.ShardLemmas.{item_of, count_before, frame_there, count_rises, slice_get-part}
-use Rattle.krb_carry.proofs.StoreLemmas.{after_none, same_stored, after_more, attempt_after, number_is}
+use Rattle.krb_carry.proofs.StoreLemmas.{same_stored, after_more, attempt_after, number_is}
 
-module _ (sealer : SealerState) (records : List Record) (are : AreRecords records) (fits : FitLimits records) (session : ℕ) (shard : List Item) (p : ProgressState) (turn : StandInTurn sealer records session shard p) where
-  -- each frame that counts as carried at a place before the offset was accepted
-  record HasRead (stored : StoredShard) : Type 0 where
+module _ (sealer : SealerState) (records : List Record) (are : AreRecords records) (fits : FitLimits records) (session : ℕ) (shard : List Item) (done : ℕ) (p : ProgressState) (turn : StandInTurn sealer records session shard done p) where
+  -- all below `done` was accepted, and each frame that counts as carried at a place before the offset
+  pub record HasRead (stored : StoredShard) : Type 0 where
     pub count : ℕ
     pub after : IsAfter sealer records count stored.session
-    pub past : (k : ℕ) → sealer.next + k < p.carried → turn.place k < stored.offset → k < count
+    pub known : done ≤ sealer.next + count
+    pub past : (k : ℕ) → IsCounted sealer done p k → turn.place k < stored.offset → k < count
 
-  read_none : HasRead (new_shard sealer)
-  read_none = record {
-    count = 0;
-    after = after_none sealer records;
-    past = λ k lt before. absurd (omega (arith, before));
+  pub read_none : (then : Stored) → HasFirst sealer records then → IsReceipt then done → HasRead (record { offset = 0; session = then })
+  read_none then has receipt = record {
+    count = has.0;
+    after = has.1;
+    known = omega (arith, receipt, number_is sealer records are (has.0) then has.1);
+    past = λ k counted before. absurd (omega (arith, before));
   }
 
   -- ---- a reading that took effect
@@ -56,7 +58,7 @@ module _ (sealer : SealerState) (records : List Record) (are : AreRecords record
 
     -- the frame is one of those that the receiver takes
     abbrev IsInside : ℕ → Type 0
-    IsInside k = (sealer.next + k < p.carried) × (reading.from ≤ turn.place k) × (turn.place k < reading.from + reading.count)
+    IsInside k = IsCounted sealer done p k × (reading.from ≤ turn.place k) × (turn.place k < reading.from + reading.count)
 
     -- where it is among them
     abbrev place_of : ℕ → ℕ
@@ -75,31 +77,36 @@ module _ (sealer : SealerState) (records : List Record) (are : AreRecords record
     past_each : (k : ℕ) → IsInside k → k < read.count + so_far (suc (place_of k))
     past_each zero inside = past_here zero inside (omega arith)
     past_each (suc k) inside =
-        let lt : sealer.next + k < p.carried = omega (arith, inside.0) in
-        let rises = turn.rises k inside.0 in
         past_here (suc k) inside (
-        elim (cases_lt (turn.place k) reading.from) [
-          | inl earlier ↦
-              let accepted = read.past k lt (omega (arith, earlier, at)) in
-              omega (arith, accepted)
-          | inr from ↦
-              let before : IsInside k = (lt, from, omega (arith, rises, inside.2)) in
-              let accepted = past_each k before in
-              let later = count_rises session part (turn.place k - reading.from) (turn.place (suc k) - reading.from) (turn.stands k lt).it.frame (omega (arith, from, rises)) (in_part k before) in
-              omega (arith, accepted, fewer accepted_by attempt.verdicts (suc (place_of k)) (place_of (suc k)) (omega (arith, later)))
+        elim (cases_lt (sealer.next + k) done) [
+          | inl below ↦ omega (arith, below, read.known)
+          | inr reached ↦
+              let counted : IsCounted sealer done p k = (reached, omega (arith, inside.0.1)) in
+              let rises = turn.rises k counted inside.0 in
+              elim (cases_lt (turn.place k) reading.from) [
+                | inl earlier ↦
+                    let accepted = read.past k counted (omega (arith, earlier, at)) in
+                    omega (arith, accepted)
+                | inr from ↦
+                    let before : IsInside k = (counted, from, omega (arith, rises, inside.2)) in
+                    let accepted = past_each k before in
+                    let later = count_rises session part (turn.place k - reading.from) (turn.place (suc k) - reading.from) (turn.stands k counted).it.frame (omega (arith, from, rises)) (in_part k before) in
+                    omega (arith, accepted, fewer accepted_by attempt.verdicts (suc (place_of k)) (place_of (suc k)) (omega (arith, later)))
+              ]
         ])
 
     read_more : HasRead (record { offset = reading.from + reading.count; session = applied old.session attempt })
     read_more = record {
       count = read.count + length (records_of attempt.verdicts);
       after = after_more sealer records are read.count old.session attempt read.after is.attempt began;
-      past = λ k lt below.
+      known = omega (arith, read.known);
+      past = λ k counted below.
           elim (cases_lt (turn.place k) reading.from) [
             | inl earlier ↦
-                let accepted = read.past k lt (omega (arith, earlier, at)) in
+                let accepted = read.past k counted (omega (arith, earlier, at)) in
                 omega (arith, accepted)
             | inr from ↦
-                let accepted = past_each k (lt, from, below) in
+                let accepted = past_each k (counted, from, below) in
                 omega (arith, accepted, none_more accepted_by attempt.verdicts (suc (place_of k)))
           ];
     }
@@ -108,31 +115,26 @@ module _ (sealer : SealerState) (records : List Record) (are : AreRecords record
   read_commit old reading new read is (inl took) = subst HasRead (sym took.2) (read_more old reading read is took.0 took.1)
   read_commit old reading new read is (inr same) = subst HasRead (sym same) read
 
-  read_all : (old : StoredShard) (readings : List Reading) (new : StoredShard) → HasRead old → All (IsReading sealer records session shard) readings → LeadsReading old readings new → HasRead new
+  pub read_all : (old : StoredShard) (readings : List Reading) (new : StoredShard) → HasRead old → All (IsReading sealer records session shard) readings → LeadsReading old readings new → HasRead new
   read_all old [] new read each same = subst HasRead (sym same) read
   read_all old (reading ∷ readings) new read each leads =
       let then = read_commit old reading (leads.0) read (All-head (IsReading sealer records session shard) reading readings each) leads.1 in
       read_all (leads.0) readings new then (All-tail (IsReading sealer records session shard) reading readings each) leads.2
 
-  has_past : (stored : StoredShard) → HasRead stored → p.at ≤ stored.offset → p.carried ≤ stored.session.demand.expected
+  pub has_past : (stored : StoredShard) → HasRead stored → p.at ≤ stored.offset → p.carried ≤ stored.session.demand.expected
   has_past stored read at =
       let number = number_is sealer records are read.count stored.session read.after in
       elim (cases_lt (sealer.next + read.count) p.carried) [
         | inl missing ↦
-            let place = turn.within read.count missing in
-            let accepted = read.past read.count missing (omega (arith, place, at)) in
+            let counted : IsCounted sealer done p read.count = (read.known, missing) in
+            let place = turn.within read.count counted in
+            let accepted = read.past read.count counted (omega (arith, place, at)) in
             absurd (omega (arith, accepted))
         | inr reached ↦ omega (arith, reached, number)
       ]
 
-  pub carried_accepted : (readings : List Reading) (stored : StoredShard) → All (IsReading sealer records session shard) readings → LeadsReading (new_shard sealer) readings stored → p.at ≤ stored.offset
-      → p.carried ≤ stored.session.demand.expected
-  carried_accepted readings stored each leads at = has_past stored (read_all (new_shard sealer) readings stored read_none each leads) at
-
-  pub all_accepted : (readings : List Reading) (stored : StoredShard) → All (IsReading sealer records session shard) readings → LeadsReading (new_shard sealer) readings stored → p.at ≤ stored.offset
-      → p.carried ≡ sealer.next + length records → IsAfter sealer records (length records) stored.session
-  all_accepted readings stored each leads at whole =
-      let read = read_all (new_shard sealer) readings stored read_none each leads in
+  pub all_accepted : (stored : StoredShard) → HasRead stored → p.at ≤ stored.offset → p.carried ≡ sealer.next + length records → IsAfter sealer records (length records) stored.session
+  all_accepted stored read at whole =
       let past = has_past stored read at in
       let number = number_is sealer records are read.count stored.session read.after in
       let every : read.count ≡ length records = let few = ((read.after).demands).within in omega (arith, past, whole, number, few) in

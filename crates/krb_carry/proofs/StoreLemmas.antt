@@ -20,7 +20,7 @@ use Rattle.krb_peers.proofs.AnswerLemmas.{delivered_texts}
 use Rattle.krb_peers.specs.Attempt.{Attempt, begins_at, IsAttempt, IsAttemptAfter}
 use Rattle.krb_peers.specs.Claims.{texts_of_all}
 use Rattle.krb_peers.specs.Session.{AreRecords}
-use Rattle.krb_carry.specs.Store.{Stored, new_session, applied, Commits, Leads, IsAfter, HasFirst}
+use Rattle.krb_carry.specs.Store.{Stored, new_session, applied, Commits, Leads, IsAfter, HasFirst, IsReceipt}
 use Rattle.krb_peers.proofs.FrameLemmas.{closed_whole}
 use Rattle.krb_peers.proofs.AttemptLemmas.{accepted_together, accepted_within}
 
@@ -135,6 +135,20 @@ module _ (sealer : SealerState) (records : List Record) where
       let stays = quiet_commit old attempt (leads.0) (All-head (IsAttempt sealer records) attempt attempts each) closed leads.1 in
       let still : (leads.0).demand.closed ≡ true = ap (λ (s : Stored). s.demand.closed) stays ∙ closed in
       quiet_after attempts (leads.0) new (All-tail (IsAttempt sealer records) attempt attempts each) still leads.2 ∙ stays
+
+-- ---- receipts
+
+receipt_commit : (old : Stored) (attempt : Attempt) (new : Stored) (number : ℕ) → Commits old attempt new → IsReceipt old number → IsReceipt new number
+receipt_commit old attempt new number (inl took) receipt =
+    let before : old.demand.expected ≡ (begins_at attempt).expected = ap (λ (d : Demand). d.expected) took.0 in
+    let now : new.demand.expected ≡ (begins_at attempt).expected + length (records_of attempt.verdicts) = ap (λ (s : Stored). s.demand.expected) took.1 in
+    omega (arith, before, now, receipt)
+receipt_commit old attempt new number (inr same) receipt = subst (λ s. IsReceipt s number) (sym same) receipt
+
+pub receipt_stays : (attempts : List Attempt) (old new : Stored) (number : ℕ) → Leads old attempts new → IsReceipt old number → IsReceipt new number
+receipt_stays [] old new number same receipt = subst (λ s. IsReceipt s number) (sym same) receipt
+receipt_stays (attempt ∷ attempts) old new number leads receipt =
+    receipt_stays attempts (leads.0) new number leads.2 (receipt_commit old attempt (leads.0) number leads.1 receipt)
 
 -- ---- what compare-and-set is for
 

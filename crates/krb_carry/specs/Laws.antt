@@ -12,12 +12,14 @@ use Rattle.krb_peers.specs.Verdicts.{delivered}
 use Rattle.krb_carry.specs.Outbox.{texts_put, has_close_put, numbered, Outbox, new_outbox}
 use Rattle.krb_carry.specs.Outbox.{records_in, sealed_in, stored_records}
 use Rattle.krb_carry.specs.Outbox.{MayLeave, Sealing, Act, IsAct, with_frames, LeadsOutbox}
-use Rattle.krb_carry.specs.Progress.{Happening, new_progress, after_all, IsTruthful, StandInTurn}
+use Rattle.krb_carry.specs.Place.{PlacedShard, unread, Step, LeadsPlaced}
+use Rattle.krb_carry.specs.Progress.{Happening, new_progress, resumed, after_all, IsTruthful}
+use Rattle.krb_carry.specs.Progress.{IsCounted, StandInTurn}
 use Rattle.krb_carry.specs.ProgressState.{ProgressState}
 use Rattle.krb_carry.specs.Reading.{Reading, StoredShard, new_shard, IsReading, LeadsReading}
 use Rattle.krb_carry.specs.Reading.{LeadsLess}
 use Rattle.krb_carry.specs.Shard.{Item}
-use Rattle.krb_carry.specs.Store.{Stored, new_session, applied, Leads, HasFirst}
+use Rattle.krb_carry.specs.Store.{Stored, new_session, applied, Leads, HasFirst, IsReceipt}
 
 -- ---- a session whose receivers share a store
 
@@ -81,14 +83,15 @@ OneReceiverDoes =
 
 -- ---- the rule of carried frames
 
--- it holds of what a sender knows of a shard after whatever happened, if each confirmation is true
+-- It holds of what a sender knows of a shard after whatever happened, if each confirmation is true.
+-- It begins, or begins again with another shard, at the number `done`, and counts no frame below it.
 abbrev pub OfProgress :
-    (SealerState → List Record → ℕ → List Item → ProgressState → Type 0) → Type 0
+    (SealerState → List Record → ℕ → List Item → ℕ → ProgressState → Type 0) → Type 0
 OfProgress Claim =
     (sealer : SealerState) (records : List Record) (session : ℕ) (shard : List Item)
-    (happenings : List Happening)
+    (next done : ℕ) (happenings : List Happening)
     → All (IsTruthful sealer records session shard) happenings
-    → Claim sealer records session shard (after_all (new_progress sealer.next) happenings)
+    → Claim sealer records session shard done (after_all (resumed next done 0) happenings)
 
 -- each frame that counts stands after the one before
 abbrev pub CountedStandInTurn : Type 0
@@ -97,18 +100,21 @@ CountedStandInTurn = OfProgress StandInTurn
 -- none of them beyond the shard
 abbrev pub CountedStandInside : Type 0
 CountedStandInside =
-    OfProgress (λ sealer records session shard progress. progress.at ≤ length shard)
+    OfProgress (λ sealer records session shard done progress. progress.at ≤ length shard)
 
 -- ---- receivers that read a shard on from the stored offset
 
--- it holds of what any history of readings leaves, if the stored offset is past the last frame that
--- counts as carried
+-- It holds of what any history of readings leaves, if the stored offset is past the last frame that
+-- counts as carried. The shard is read from its beginning. The session is a new one, or any attempts
+-- at it came before, and all below `done` took effect then.
 abbrev pub OfReadings : (SealerState → List Record → ProgressState → Stored → Type 0) → Type 0
-OfReadings Claim = OfProgress (λ sealer records session shard progress.
-    (readings : List Reading) (stored : StoredShard)
+OfReadings Claim = OfProgress (λ sealer records session shard done progress.
+    (attempts : List Attempt) (then : Stored) (readings : List Reading) (stored : StoredShard)
     → AreRecords records → FitLimits records
+    → All (IsAttempt sealer records) attempts → Leads (new_session sealer) attempts then
+    → IsReceipt then done
     → All (IsReading sealer records session shard) readings
-    → LeadsReading (new_shard sealer) readings stored
+    → LeadsReading (record { offset = 0; session = then }) readings stored
     → progress.at ≤ stored.offset → Claim sealer records progress stored.session)
 
 -- each frame that counts was accepted
@@ -140,6 +146,47 @@ ReadingsAreAttempts =
     → LeadsReading (new_shard sealer) readings stored
     → let attempts = map (λ (reading : Reading). reading.attempt) readings in
     All (IsAttempt sealer records) attempts × Leads (new_session sealer) attempts stored.session
+
+-- ---- receipts
+
+-- a receipt stays true, whatever attempts come
+abbrev pub ReceiptsStayTrue : Type 0
+ReceiptsStayTrue =
+    (attempts : List Attempt) (old new : Stored) (number : ℕ)
+    → Leads old attempts new → IsReceipt old number → IsReceipt new number
+
+-- ---- places
+
+-- It holds of any history of a session of a shard that is read, refused and read again. Any attempts
+-- came before, and all below `done` took effect then.
+abbrev pub OfPlaces : ((sealer : SealerState) (records : List Record) (session : ℕ)
+    (shard : List Item) (done : ℕ) (progress : ProgressState)
+    → StandInTurn sealer records session shard done progress → PlacedShard → Type 0) → Type 0
+OfPlaces Claim =
+    (sealer : SealerState) (records : List Record) (session : ℕ) (shard : List Item) (done : ℕ)
+    (progress : ProgressState) (turn : StandInTurn sealer records session shard done progress)
+    (attempts : List Attempt) (then : Stored) (steps : List Step) (placed : PlacedShard)
+    → AreRecords records → FitLimits records
+    → All (IsAttempt sealer records) attempts → Leads (new_session sealer) attempts then
+    → IsReceipt then done → LeadsPlaced sealer records session shard (unread then) steps placed
+    → Claim sealer records session shard done progress turn placed
+
+-- a frame that counts as carried, and whose record wasn't accepted, stands after the place
+abbrev pub NothingIsPassedBy : Type 0
+NothingIsPassedBy = OfPlaces (λ sealer records session shard done progress turn placed.
+    (k : ℕ) → IsCounted sealer done progress k → placed.session.demand.expected ≤ sealer.next + k
+    → placed.place.at ≤ turn.place k)
+
+-- so all texts took effect once all frames count as carried, and receivers that agree have read the
+-- shard on, from the place or before it, past the last frame
+abbrev pub AllTakesEffectFromThePlace : Type 0
+AllTakesEffectFromThePlace = OfPlaces (λ sealer records session shard done progress turn placed.
+    (from : ℕ) (readings : List Reading) (stored : StoredShard)
+    → from ≤ placed.place.at → All (IsReading sealer records session shard) readings
+    → LeadsReading (record { offset = from; session = placed.session }) readings stored
+    → progress.at ≤ stored.offset → progress.carried ≡ sealer.next + length records
+    → (stored.session.effects ≡ texts_of_all records)
+    × DemandsAfter sealer records (length records) stored.session.demand)
 
 -- ---- an outbox from which any number of processes seal
 
@@ -209,6 +256,23 @@ OfDeliveries Claim = OfOutboxes (λ sealer outbox.
 -- the last one; and the close was accepted if it was put in
 abbrev pub EachTakesEffectOnce : Type 0
 EachTakesEffectOnce = OfDeliveries (λ outbox progress stored.
+    outbox.waiting ≡ [] → progress.carried ≡ outbox.next → progress.at ≤ stored.offset
+    → (stored.session.effects ≡ texts_put outbox.inserted)
+    × (stored.session.demand.closed ≡ has_close_put outbox.inserted))
+
+-- And each exactly once, whatever carriers lost before, and whatever they confirmed: if some shard
+-- keeps what comes from now on, and its sender begins with the first frame of which it has no
+-- receipt. What took effect until then did so by any attempts, at whatever carriers brought.
+abbrev pub EachTakesEffectOnceByReceipts : Type 0
+EachTakesEffectOnceByReceipts = OfOutboxes (λ sealer outbox.
+    (attempts : List Attempt) (then : Stored) (session : ℕ) (shard : List Item) (next done : ℕ)
+    (happenings : List Happening) (readings : List Reading) (stored : StoredShard)
+    → All (IsAttempt sealer (stored_records outbox)) attempts
+    → Leads (new_session sealer) attempts then → IsReceipt then done
+    → All (IsTruthful sealer (stored_records outbox) session shard) happenings
+    → All (IsReading sealer (stored_records outbox) session shard) readings
+    → LeadsReading (record { offset = 0; session = then }) readings stored
+    → let progress = after_all (resumed next done 0) happenings in
     outbox.waiting ≡ [] → progress.carried ≡ outbox.next → progress.at ≤ stored.offset
     → (stored.session.effects ≡ texts_put outbox.inserted)
     × (stored.session.demand.closed ≡ has_close_put outbox.inserted))

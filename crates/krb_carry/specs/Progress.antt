@@ -1,5 +1,5 @@
 -- The rule of carried frames: which copies count.
-use Rattle.std.specs.Prelude.{◌≡◌, ℕ, suc, ◌+◌, ◌<◌, ◌==◌, nat_lt, ◌&&◌, max, Bool, List, [], ◌∷◌}
+use Rattle.std.specs.Prelude.{◌≡◌, ℕ, suc, ◌+◌, ◌<◌, ◌≤◌, ◌==◌, nat_lt, ◌&&◌, max, Bool, List, [], ◌∷◌}
 use Rattle.std.specs.Prelude.{if◌then◌else◌}
 use Rattle.krb_record.specs.declared.record.Record.{Record}
 use Rattle.krb_seal.specs.Sealer.{SealerState}
@@ -73,11 +73,17 @@ IsTruthful sealer records session shard (Confirm number offset) =
 
 -- ---- what is claimed of it
 
--- of the frames that count as carried, each stands in the shard after the one before, up to `at`
+-- record k has a number from `done` on, and its frame counts as carried
+abbrev pub IsCounted : SealerState → ℕ → ProgressState → ℕ → Type 0
+IsCounted sealer done progress k = (done ≤ sealer.next + k) × (sealer.next + k < progress.carried)
+
+-- of the frames from `done` on that count as carried, each stands in the shard after the one before,
+-- up to `at`
 pub record StandInTurn (sealer : SealerState) (records : List Record) (session : ℕ)
-    (shard : List Item) (progress : ProgressState) : Type 0 where
+    (shard : List Item) (done : ℕ) (progress : ProgressState) : Type 0 where
   pub place : ℕ → ℕ
-  pub stands : (k : ℕ) → sealer.next + k < progress.carried
+  pub stands : (k : ℕ) → IsCounted sealer done progress k
       → StandsAt sealer records session shard k (place k)
-  pub rises : (k : ℕ) → sealer.next + suc k < progress.carried → place k < place (suc k)
-  pub within : (k : ℕ) → sealer.next + k < progress.carried → place k < progress.at
+  pub rises : (k : ℕ) → IsCounted sealer done progress k → IsCounted sealer done progress (suc k)
+      → place k < place (suc k)
+  pub within : (k : ℕ) → IsCounted sealer done progress k → place k < progress.at

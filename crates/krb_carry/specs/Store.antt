@@ -1,5 +1,5 @@
 -- What a store has of a session, and what receivers do to it.
-use Rattle.std.specs.Prelude.{◌≡◌, ◌⊎◌, ℕ, List, [], ◌∷◌, ◌++◌, take}
+use Rattle.std.specs.Prelude.{◌≡◌, ◌⊎◌, ◌≤◌, ℕ, List, [], ◌∷◌, ◌++◌, take}
 use Rattle.krb_record.specs.declared.record.Record.{Record}
 use Rattle.krb_seal.specs.Sealer.{SealerState}
 use Rattle.krb_peers.specs.Attempt.{Attempt, begins_at, ends_at, DemandsAfter}
@@ -49,3 +49,7 @@ pub record IsAfter (sealer : SealerState) (records : List Record) (count : ℕ)
 -- for some count
 abbrev pub HasFirst : SealerState → List Record → Stored → Type 0
 HasFirst sealer records stored = (count : ℕ) × IsAfter sealer records count stored
+
+-- a receipt for this number: all records below it took effect
+abbrev pub IsReceipt : Stored → ℕ → Type 0
+IsReceipt stored number = number ≤ stored.demand.expected

@@ -19,9 +19,11 @@
 #![tactic(auto)]
 
 mod outbox;
+mod place;
 mod progress;
 mod store;
 
 pub use outbox::{delivery_laws, outbox_laws};
+pub use place::{Missed, Outcome, Place, place_laws};
 pub use progress::{Progress, progress_laws};
 pub use store::store_laws;

@@ -1,7 +1,7 @@
 //! What is claimed of a session from an application's outbox on, over the definitions alone.
 
 ghost use Rattle.krb_carry.specs.Laws.{StoredIsSealed, EachTextIsSealedOnce, OneFrameForEachNumber, BlindSealingsClash};
-ghost use Rattle.krb_carry.specs.Laws.{EachTakesEffectAtMostOnce, EachTakesEffectOnce, DeliveriesHappen};
+ghost use Rattle.krb_carry.specs.Laws.{EachTakesEffectAtMostOnce, EachTakesEffectOnce, EachTakesEffectOnceByReceipts, DeliveriesHappen};
 
 /// What leaves an outbox, by compare-and-set.
 ///
@@ -33,11 +33,19 @@ pub fn outbox_laws()
 /// the outbox, all frames count as carried, and the stored offset is past the last one (`once`). For
 /// this it is assumed too that confirmations are true, that receivers take all that the shard has
 /// from the stored offset on, that they agree with the senders on mode and addresses, and that a
-/// frame that is demanded is taken within the skew. That all this comes to pass, since processes are
+/// frame that is demanded is taken within the skew.
+///
+/// What a carrier confirmed it may lose: all of it, at any moment and any number of times. A sender
+/// that keeps its frames until a receipt says that all below a number took effect begins again with
+/// the first frame of which it has no receipt. If one carrier keeps what comes from then on, each text
+/// takes effect exactly once (`receipts`), whatever others confirmed and lost before.
+///
+/// That all this comes to pass, since processes are
 /// started again, is assumed and not claimed. That it can, all at once, is proved: of whatever is
 /// sealed there is such a delivery, with a receiver that can take it (`happens`).
 pub fn delivery_laws()
     ensures at_most_once { EachTakesEffectAtMostOnce }
     ensures once { EachTakesEffectOnce }
+    ensures receipts { EachTakesEffectOnceByReceipts }
     ensures happens { DeliveriesHappen }
 {}

@@ -3,7 +3,7 @@
 ghost use Rattle.std.specs.Prelude.{◌≡◌, ◌↔◌, ◌+◌, ◌<◌, ◌≤◌, ◌^◌, IsTrue, IsSome, IfSome};
 ghost use Rattle.krb_carry.specs.Progress.{Counts, after, progress_of, resumed};
 ghost use Rattle.krb_carry.specs.Progress.{Store, Publish, Rewind, Confirm};
-ghost use Rattle.krb_carry.specs.Laws.{CountedStandInTurn, CountedStandInside, CarriedIsAccepted, CarriedTakesEffect, ComparingLessIsEnough, ReadingsAreAttempts};
+ghost use Rattle.krb_carry.specs.Laws.{CountedStandInTurn, CountedStandInside, CarriedIsAccepted, CarriedTakesEffect, ComparingLessIsEnough, ReadingsAreAttempts, ReceiptsStayTrue};
 
 use std::marker::Model;
 
@@ -154,6 +154,10 @@ impl Progress {
 /// slow, or came twice, wherever they stopped, and whatever they passed by. They agree with the
 /// sender on mode and addresses, and take a frame that they demand within the skew.
 ///
+/// A shard may be another one than before, since its carrier lost all or was replaced. It is read from
+/// its beginning, whatever attempts came before. Then the sender begins with the first frame of which
+/// it has no receipt, and none below counts (a receipt once true stays true: `receipts`).
+///
 /// It is enough to compare the offset, and the number where something was accepted, if receivers
 /// read the offset first, and then the demand (`less`). The other way round it isn't: a frame could
 /// be passed by, since a number before it was demanded, and its offset be stored.
@@ -167,6 +171,7 @@ pub fn progress_laws()
     ensures whole { CarriedTakesEffect }
     ensures less { ComparingLessIsEnough }
     ensures attempts { ReadingsAreAttempts }
+    ensures receipts { ReceiptsStayTrue }
 {}
 
 #[cfg(test)]
