@@ -240,6 +240,39 @@ struct krbrelay_progress {
     uint64_t sent;                      /* the frames below this number were published */
 };
 
+/* What was passed by after a session's place. */
+enum krbrelay_missed {
+    KRBRELAY_MISSED_NOTHING = 0,
+    KRBRELAY_MISSED_EARLY = 1,          /* a frame that came before its turn */
+    KRBRELAY_MISSED_UNSETTLED = 2       /* one that was refused for a reason of this receiver's, maybe */
+};
+
+/* The place of a session in a list that a carrier keeps (krbrelay_place_take). A new one is zeros. */
+struct krbrelay_place {
+    uint64_t at;                        /* all up to this offset took effect, or never will */
+    uint32_t missed;                    /* KRBRELAY_MISSED_*: what was passed by after it */
+    uint32_t known;                     /* 1: a frame opened under this receiver's key */
+};
+
+/* A frame that a receiver took, and what is known of it. */
+struct krbrelay_taken {
+    uint64_t demanded;                  /* of krbrelay_receiver_state, before the frame */
+    uint64_t opened;                    /* the number under which a refused frame opens, */
+    uint32_t closed;                    /* of krbrelay_receiver_state, before the frame */
+    uint32_t accepted;                  /* 1: krbrelay_receiver_take answered KRBRELAY_OK */
+    uint32_t has_opened;                /* if nothing is demanded of it; 0: it doesn't open */
+    uint32_t reserved;
+};
+
+/* What a frame is taken for. */
+enum krbrelay_outcome {
+    KRBRELAY_OUTCOME_ACCEPTED = 0,
+    KRBRELAY_OUTCOME_REPEAT = 1,        /* it took its effect before, or comes after the close */
+    KRBRELAY_OUTCOME_EARLY = 2,         /* it has to come again, after the demanded one */
+    KRBRELAY_OUTCOME_UNKNOWN = 3,       /* it doesn't open under a key that opened others */
+    KRBRELAY_OUTCOME_UNSETTLED = 4      /* the reason may be this receiver's: it is to be read again */
+};
+
 /* ---- Sealing */
 
 /* Makes a sealer: encryption type 17 takes a key of 16 bytes, 18 one of 32. The caller's bytes of
@@ -443,6 +476,25 @@ enum krbrelay_answer krbrelay_progress_confirm(struct krbrelay_progress *progres
  * as carried. */
 enum krbrelay_answer krbrelay_progress_rewind(struct krbrelay_progress *progress, uint64_t *again)
     KRBRELAY_NONNULL(1, 2) KRBRELAY_CHECKED;
+
+/* ---- Places: where a receiver reads a session's frames again, so that it passes none by for good. A
+ * receiver reads a list on, and refuses frames of a session: repeats, early ones, and others for a reason
+ * that may be its own (its clock, the skew, addresses, the mode, the key). Store the place with the
+ * session, and read the list again from there while something is missed. Each call answers KRBRELAY_OK,
+ * or KRBRELAY_ARGUMENT, which changes nothing: if and only if .missed is none of KRBRELAY_MISSED_*, or
+ * .reserved isn't 0. */
+
+/* The receiver took the frame at this offset: tells what for, one of KRBRELAY_OUTCOME_*, and moves the
+ * place. An accepted frame moves it to the offset, unless something isn't settled. Of a refused one
+ * say by krbrelay_opener_open, with no demands, whether it opens, and under which number. Where the
+ * outcome is REPEAT or UNKNOWN, nothing of the session is to be stored. */
+enum krbrelay_answer krbrelay_place_take(struct krbrelay_place *place, uint64_t offset,
+                                         const struct krbrelay_taken *taken, uint32_t *outcome)
+    KRBRELAY_NONNULL(1, 3, 4) KRBRELAY_CHECKED;
+
+/* The list is read again from the place, or from before it: nothing is missed. */
+enum krbrelay_answer krbrelay_place_read_again(struct krbrelay_place *place)
+    KRBRELAY_NONNULL(1) KRBRELAY_CHECKED;
 
 /* ---- Messages, answers and the version */
 

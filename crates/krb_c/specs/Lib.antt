@@ -3,3 +3,4 @@ pub mod Faults
 pub mod Handles
 pub mod Held
 pub mod Progress
+pub mod Place

@@ -4,7 +4,8 @@
 //! A handle is a struct of the caller's, made of zeros, which then holds a sealer, an opener or a
 //! receiver on the heap. Each export says of the handle what the function of `krb_structs` says, and
 //! each of its answers comes only where the reason of that answer holds. The progress of a session's
-//! frames ([`krb_carry::Progress`]) has no handle: it is four numbers of the caller's.
+//! frames ([`krb_carry::Progress`]) and the place of a session ([`krb_carry::Place`]) have no handle:
+//! they are numbers of the caller's.
 #![tactic(auto)]
 
 mod handle;
@@ -13,6 +14,8 @@ mod message_calls;
 mod opener_calls;
 mod opener_handle;
 mod parts;
+mod place;
+mod place_calls;
 mod progress;
 mod progress_calls;
 mod receiver_calls;

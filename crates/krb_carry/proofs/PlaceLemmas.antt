@@ -1,24 +1,20 @@
 -- No frame that counts and wasn't accepted stands before its session's place.
-use Rattle.std.proofs.Common.{◌≡◌, ◌≢◌, ℕ, zero, suc, ◌+◌, ◌<◌, ◌≤◌, nat_lt, if◌then◌else◌, Bool, true, false, List, [], ◌∷◌, length, take, slice_get, Option, Some, None, Ok, Err, refl, sym, ap, subst, ◌∙◌, arith, inl, inr}
+use Rattle.std.proofs.Common.{◌≡◌, ◌≢◌, ℕ, zero, suc, ◌+◌, ◌<◌, ◌≤◌, nat_lt, ◌||◌, if◌then◌else◌, is_ok, is_some, Bool, true, false, List, [], ◌∷◌, length, take, slice_get, Option, Some, None, Ok, Err, refl, sym, ap, subst, ◌∙◌, arith, inl, inr}
 use Rattle.std.specs.List.{list_any}
-use Rattle.std.proofs.lemmas.Bool.{cases_lt, lt-ltb, le-ltb}
+use Rattle.std.proofs.lemmas.Bool.{cases_lt, le-ltb}
 use Rattle.std.proofs.lemmas.Option.{slice_get_within}
 use Rattle.krb_record.specs.declared.record.Record.{Record}
 use Rattle.krb_record.specs.Record.{is_close}
 use Rattle.krb_seal.specs.Sealer.{SealerState}
-use Rattle.krb_seal.specs.declared.refusal.Refusal.{Refusal}
-use Rattle.krb_peers.specs.declared.delivery.Delivery.{Delivery}
-use Rattle.krb_peers.specs.Attempt.{Attempt}
 use Rattle.krb_peers.specs.Demand.{Demand}
-use Rattle.krb_peers.specs.Session.{AreRecords, Sealed, IsSealed}
+use Rattle.krb_peers.specs.Session.{AreRecords}
 use Rattle.krb_peers.specs.Verdicts.{Verdict, records_of}
 use Rattle.krb_peers.proofs.FrameLemmas.{quiet_before}
 use Rattle.krb_carry.specs.declared.place.Missed.{Missed}
 use Rattle.krb_carry.specs.declared.place.Missed.TheVariants as misses
 use Rattle.krb_carry.specs.declared.place.Outcome.{Outcome}
 use Rattle.krb_carry.specs.declared.place.Outcome.TheVariants as outcomes
-use Rattle.krb_carry.specs.declared.place.Place.{Place}
-use Rattle.krb_carry.specs.Place.{by_number, refused_as, missed_too, settled, moved, Taking, attempt_of, by_verdict, outcome_of, IsTaking, PlacedShard, unread, Step, Pass, Take, Again, Back, Steps, LeadsPlaced}
+use Rattle.krb_carry.specs.Place.{by_number, missed_too, settled, placed, moved, Taking, attempt_of, taken_of, IsTaking, PlacedShard, unread, Step, Pass, Take, Again, Back, Begin, Steps, LeadsPlaced}
 use Rattle.krb_carry.specs.ProgressState.{ProgressState}
 use Rattle.krb_carry.specs.Progress.{IsCounted, StandInTurn}
 use Rattle.krb_carry.specs.Shard.{Item}
@@ -28,29 +24,26 @@ use Rattle.krb_carry.proofs.StoreLemmas.{after_more, number_is}
 
 -- ---- a refused frame
 
-not_accepted : (demand : Demand) (opened : Option ℕ) (known : Bool) → refused_as demand opened known ≢ outcomes.Accepted
-not_accepted demand opened known is = by_test demand.closed is
+-- what is demanded isn't settled
+its_number : (number : ℕ) (known : Bool) → by_number number (Some number) known ≡ outcomes.Unsettled
+its_number number known = rw (le-ltb number number (omega arith)) refl
+
+abbrev refused_as : Bool → ℕ → Option ℕ → Bool → Outcome
+refused_as closed demanded opened known = if closed then outcomes.Repeat else by_number demanded opened known
+
+not_accepted : (closed : Bool) (demanded : ℕ) (opened : Option ℕ) (known : Bool) → refused_as closed demanded opened known ≢ outcomes.Accepted
+not_accepted true demanded opened known e = let f = e in cc
+not_accepted false demanded (Some number) known e = below (nat_lt number demanded) (nat_lt demanded number) e
   where
     below : (a b : Bool) → (if a then outcomes.Repeat else (if b then outcomes.Early else outcomes.Unsettled)) ≢ outcomes.Accepted
     below true b e = let f = e in cc
     below false true e = let f = e in cc
     below false false e = let f = e in cc
-
+not_accepted false demanded None known e = unopened known e
+  where
     unopened : (b : Bool) → (if b then outcomes.Unknown else outcomes.Unsettled) ≢ outcomes.Accepted
     unopened true e = let f = e in cc
     unopened false e = let f = e in cc
-
-    numbered : (opened : Option ℕ) → by_number demand.expected opened known ≢ outcomes.Accepted
-    numbered (Some number) e = below (nat_lt number demand.expected) (nat_lt demand.expected number) e
-    numbered None e = unopened known e
-
-    by_test : (b : Bool) → (if b then outcomes.Repeat else by_number demand.expected opened known) ≢ outcomes.Accepted
-    by_test true e = let f = e in cc
-    by_test false e = numbered opened e
-
--- what is demanded isn't settled
-its_number : (number : ℕ) (known : Bool) → by_number number (Some number) known ≡ outcomes.Unsettled
-its_number number known = rw (le-ltb number number (omega arith)) refl
 
 module _ (sealer : SealerState) (records : List Record) (are : AreRecords records) (session : ℕ) (shard : List Item) (done : ℕ) (p : ProgressState) (turn : StandInTurn sealer records session shard done p) where
   -- so far as it was read, and wherever its place is, each frame that counts was accepted
@@ -131,11 +124,24 @@ module _ (sealer : SealerState) (records : List Record) (are : AreRecords record
       read = λ settled k counted lt. h.read settled k counted (omega (arith, lt, le));
     }
 
+    holds_begin : Holds (record s { place = record s.place { known = false } })
+    holds_begin = record {
+      count = h.count;
+      after = h.after;
+      known = h.known;
+      before = h.before;
+      read = h.read;
+    }
+
     -- ---- a frame is taken
 
-    module _ (taking : Taking) (is : IsTaking sealer records session shard s.offset taking) (began : s.session.demand ≡ taking.receiver.demand) where
+    module _ (taking : Taking) (is : IsTaking sealer records session shard s.offset s.place.known taking) (began : s.session.demand ≡ taking.receiver.demand) where
+      -- what it is taken for, if it is refused
+      abbrev refused : Outcome
+      refused = refused_as taking.receiver.demand.closed taking.receiver.demand.expected taking.opened s.place.known
+
       -- the frame that is demanded isn't settled
-      demanded : (k : ℕ) → IsCounted sealer done p k → turn.place k ≡ s.offset → k ≡ h.count → refused_as taking.receiver.demand taking.opened taking.known ≡ outcomes.Unsettled
+      demanded : (k : ℕ) → IsCounted sealer done p k → turn.place k ≡ s.offset → k ≡ h.count → refused ≡ outcomes.Unsettled
       demanded k counted at same =
           let stands = turn.stands k counted in
           let its : Some (item_of session stands.it.frame) ≡ Some (item_of session taking.frame) = sym stands.there ∙ (ap (λ n. slice_get shard n) at ∙ is.there) in
@@ -145,14 +151,15 @@ module _ (sealer : SealerState) (records : List Record) (are : AreRecords record
           let start : s.session.demand.closed ≡ list_any is_close (take h.count records) = ap (λ (d : Demand). d.closed) ((h.after).demands).is in
           let quiet : list_any is_close (take h.count records) ≡ false = quiet_before records are.close_last h.count (omega (arith, lt, same)) in
           let open_ : taking.receiver.demand.closed ≡ false = ap (λ (d : Demand). d.closed) (sym began) ∙ (start ∙ quiet) in
-          let number : taking.receiver.demand.expected ≡ sealer.next + k = ap (λ (d : Demand). d.expected) (sym began) ∙ omega (arith, number_is sealer records are h.count s.session h.after, same) in
+          let expected : s.session.demand.expected ≡ sealer.next + k = omega (arith, number_is sealer records are h.count s.session h.after, same) in
+          let number : taking.receiver.demand.expected ≡ sealer.next + k = ap (λ (d : Demand). d.expected) (sym began) ∙ expected in
           elim (is.opens k stands.it stands.sealed frame) [
-            | inl opened ↦ rw (open_, opened, number) (its_number (sealer.next + k) taking.known)
+            | inl opened ↦ rw (open_, opened, number) (its_number (sealer.next + k) s.place.known)
             | inr unopened ↦ rw (open_, unopened.0, unopened.1) refl
           ]
 
       -- so whatever else is read on, each frame that counts was accepted
-      still_read : (o : Outcome) → refused_as taking.receiver.demand taking.opened taking.known ≡ o → o ≢ outcomes.Unsettled → s.place.missed ≢ misses.Unsettled
+      still_read : (o : Outcome) → refused ≡ o → o ≢ outcomes.Unsettled → s.place.missed ≢ misses.Unsettled
           → (k : ℕ) → IsCounted sealer done p k → turn.place k < s.offset + 1 → k < h.count
       still_read o is_o other settled k counted lt =
           elim (cases_lt (turn.place k) s.offset) [
@@ -175,40 +182,45 @@ module _ (sealer : SealerState) (records : List Record) (are : AreRecords record
       after_it : IsAfter sealer records count_after session_after
       after_it = after_more sealer records are h.count s.session (attempt_of taking) h.after is.attempt began
 
-      abbrev placed : Place → PlacedShard
-      placed place = record { offset = s.offset + 1; place = place; session = session_after }
+      -- after it, with this outcome
+      abbrev shard_after : Outcome → Bool → PlacedShard
+      shard_after outcome known = record {
+        offset = s.offset + 1;
+        place = record (placed s.place (s.offset + 1) outcome) { known = known };
+        session = session_after;
+      }
 
-      holds_accepted : count_after ≡ h.count + 1 → Holds (placed (moved s.place (s.offset + 1) outcomes.Accepted))
-      holds_accepted more = by_missed s.place.missed refl
+      holds_accepted : (known : Bool) → count_after ≡ h.count + 1 → Holds (shard_after outcomes.Accepted known)
+      holds_accepted known more = by_missed s.place.missed refl
         where
-          known : done ≤ sealer.next + count_after
-          known = omega (arith, more, h.known)
+          its : done ≤ sealer.next + count_after
+          its = omega (arith, more, h.known)
 
-          moved_on : s.place.missed ≢ misses.Unsettled → Holds (placed (record { at = s.offset + 1; missed = misses.Nothing }))
+          moved_on : s.place.missed ≢ misses.Unsettled → Holds (record { offset = s.offset + 1; place = record s.place { at = s.offset + 1; missed = misses.Nothing; known = known }; session = session_after })
           moved_on settled = record {
             count = count_after;
             after = after_it;
-            known = known;
+            known = its;
             before = λ k counted lt. let accepted = up_to settled k counted lt in omega (arith, accepted, more);
             read = λ still k counted lt. let accepted = up_to settled k counted lt in omega (arith, accepted, more);
           }
 
-          by_missed : (m : Missed) → s.place.missed ≡ m → Holds (placed (settled s.place m (s.offset + 1)))
+          by_missed : (m : Missed) → s.place.missed ≡ m → Holds (record { offset = s.offset + 1; place = record (settled s.place m (s.offset + 1)) { known = known }; session = session_after })
           by_missed misses.Unsettled is_m = record {
             count = count_after;
             after = after_it;
-            known = known;
+            known = its;
             before = λ k counted lt. let accepted = h.before k counted lt in omega (arith, accepted, more);
             read = λ still. absurd (still is_m);
           }
           by_missed misses.Early is_m = moved_on (λ e. let f = sym is_m ∙ e in cc)
           by_missed misses.Nothing is_m = moved_on (λ e. let f = sym is_m ∙ e in cc)
 
-      holds_refused : count_after ≡ h.count → (o : Outcome) → refused_as taking.receiver.demand taking.opened taking.known ≡ o → Holds (placed (moved s.place (s.offset + 1) o))
-      holds_refused same o is_o = by_outcome o is_o
+      holds_refused : (known : Bool) → count_after ≡ h.count → (o : Outcome) → refused ≡ o → Holds (shard_after o known)
+      holds_refused known same o is_o = by_outcome o is_o
         where
           kept : (missed : Missed) → (missed ≢ misses.Unsettled → (k : ℕ) → IsCounted sealer done p k → turn.place k < s.offset + 1 → k < h.count)
-              → Holds (placed (record s.place { missed = missed }))
+              → Holds (record { offset = s.offset + 1; place = record s.place { missed = missed; known = known }; session = session_after })
           kept missed read = record {
             count = count_after;
             after = after_it;
@@ -217,20 +229,23 @@ module _ (sealer : SealerState) (records : List Record) (are : AreRecords record
             read = λ settled k counted lt. let accepted = read settled k counted lt in omega (arith, accepted, same);
           }
 
-          by_outcome : (o : Outcome) → refused_as taking.receiver.demand taking.opened taking.known ≡ o → Holds (placed (moved s.place (s.offset + 1) o))
-          by_outcome outcomes.Accepted is = absurd (not_accepted taking.receiver.demand taking.opened taking.known is)
-          by_outcome outcomes.Repeat is = kept s.place.missed (λ settled. still_read outcomes.Repeat is (λ e. let f = e in cc) settled)
-          by_outcome outcomes.Early is = kept (missed_too s.place.missed) (λ settled. still_read outcomes.Early is (λ e. let f = e in cc) (λ e. settled (ap missed_too e)))
-          by_outcome outcomes.Unknown is = kept s.place.missed (λ settled. still_read outcomes.Unknown is (λ e. let f = e in cc) settled)
-          by_outcome outcomes.Unsettled is = kept misses.Unsettled (λ settled. absurd (settled refl))
+          by_outcome : (o : Outcome) → refused ≡ o → Holds (shard_after o known)
+          by_outcome outcomes.Accepted is_o = absurd (not_accepted taking.receiver.demand.closed taking.receiver.demand.expected taking.opened s.place.known is_o)
+          by_outcome outcomes.Repeat is_o = kept s.place.missed (λ settled. still_read outcomes.Repeat is_o (λ e. let f = e in cc) settled)
+          by_outcome outcomes.Early is_o = kept (missed_too s.place.missed) (λ settled. still_read outcomes.Early is_o (λ e. let f = e in cc) (λ e. settled (ap missed_too e)))
+          by_outcome outcomes.Unknown is_o = kept s.place.missed (λ settled. still_read outcomes.Unknown is_o (λ e. let f = e in cc) settled)
+          by_outcome outcomes.Unsettled is_o = kept misses.Unsettled (λ settled. absurd (settled refl))
 
-      pub holds_take : Holds (placed (moved s.place (s.offset + 1) (outcome_of taking)))
+      abbrev known_after : Bool
+      known_after = s.place.known || is_ok taking.verdict || is_some taking.opened
+
+      pub holds_take : Holds (record { offset = s.offset + 1; place = moved s.place (s.offset + 1) (taken_of taking); session = session_after })
       holds_take = by_test taking.verdict refl
         where
-          by_test : (v : Verdict) → taking.verdict ≡ v → Holds (placed (moved s.place (s.offset + 1) (by_verdict taking v)))
-          by_test (Ok delivery) is_v = holds_accepted (ap (λ v. h.count + length (records_of (v ∷ []))) is_v)
+          by_test : (v : Verdict) → taking.verdict ≡ v → Holds (shard_after (if is_ok v then outcomes.Accepted else refused) known_after)
+          by_test (Ok delivery) is_v = holds_accepted known_after (ap (λ v. h.count + length (records_of (v ∷ []))) is_v)
           by_test (Err refusal) is_v =
-              holds_refused (ap (λ v. h.count + length (records_of (v ∷ []))) is_v ∙ omega arith) (refused_as taking.receiver.demand taking.opened taking.known) refl
+              holds_refused known_after (ap (λ v. h.count + length (records_of (v ∷ []))) is_v ∙ omega arith) refused refl
 
   -- ---- any steps
 
@@ -239,6 +254,7 @@ module _ (sealer : SealerState) (records : List Record) (are : AreRecords record
   holds_step old (Take taking) new h is = subst Holds (sym is.2) (holds_take old h taking is.0 is.1)
   holds_step old (Again to) new h is = subst Holds (sym is.1) (holds_again old h to is.0)
   holds_step old (Back to) new h is = subst Holds (sym is.1) (holds_back old h to is.0)
+  holds_step old Begin new h is = subst Holds (sym is) (holds_begin old h)
 
   pub holds_all : (old : PlacedShard) (steps : List Step) (new : PlacedShard) → Holds old → LeadsPlaced sealer records session shard old steps new → Holds new
   holds_all old [] new h same = subst Holds (sym same) h

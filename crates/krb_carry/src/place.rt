@@ -1,7 +1,7 @@
 //! Where a receiver reads a session's frames again, so that it passes none by for good.
 
 ghost use Rattle.std.specs.Prelude.{◌≡◌};
-ghost use Rattle.krb_carry.specs.Place.{moved, refused_as};
+ghost use Rattle.krb_carry.specs.Place.{moved, outcome_of};
 ghost use Rattle.krb_carry.specs.declared.place.Missed.TheVariants as misses;
 ghost use Rattle.krb_carry.specs.Laws.{NothingIsPassedBy, AllTakesEffectFromThePlace};
 
@@ -16,7 +16,7 @@ pub enum Missed {
     Unsettled,
 }
 
-/// What a frame was taken for.
+/// What a frame is taken for.
 #[derive(Clone, Copy, Debug, PartialEq, Eq)]
 pub enum Outcome {
     /// It was accepted.
@@ -27,8 +27,22 @@ pub enum Outcome {
     Early,
     /// It is no frame of the session: it doesn't open under a key that opened others.
     Unknown,
-    /// Its reason may be this receiver's own: its clock, the skew, addresses, the mode, the key.
+    /// The reason may be this receiver's own: its clock, the skew, addresses, the mode, the key.
     Unsettled,
+}
+
+/// A frame that a receiver took, and what is known of it.
+#[derive(Clone, Copy, Debug, PartialEq, Eq)]
+pub struct Taken {
+    /// The number that was demanded before it.
+    pub demanded: u64,
+    /// Whether the close was accepted before it.
+    pub closed: bool,
+    /// Whether it was accepted.
+    pub accepted: bool,
+    /// If it was refused: the number under which it opens if nothing is demanded of its number, time
+    /// and addresses.
+    pub opened: Option<u64>,
 }
 
 /// The place of a session in a shard.
@@ -38,32 +52,18 @@ pub struct Place {
     pub at: u64,
     /// What was passed by after it.
     pub missed: Missed,
-}
-
-impl Outcome {
-    /// What a refused frame is taken for. `opened` is the number under which it opens if nothing is
-    /// demanded of its number, time and addresses; `known` says that a frame opened before under
-    /// this key.
-    pub fn of_refused(demanded: u64, closed: bool, opened: Option<u64>, known: bool) -> Outcome
-        ensures { result ≡ refused_as (record { expected = demanded; closed = closed }) opened known }
-    {
-        if closed {
-            return Outcome::Repeat;
-        }
-        match opened {
-            Some(number) if number < demanded => Outcome::Repeat,
-            Some(number) if number > demanded => Outcome::Early,
-            None if known => Outcome::Unknown,
-            _ => Outcome::Unsettled,
-        }
-    }
+    /// A frame opened under this receiver's key, so that is the session's.
+    pub known: bool,
 }
 
 impl Place {
-    /// The frame at this offset was taken: the place after it.
-    pub fn take(&mut self, offset: u64, outcome: Outcome)
-        ensures { self.new ≡ moved self.old offset outcome }
+    /// A frame at this offset was taken: what for, and the place after it.
+    pub fn take(&mut self, offset: u64, taken: Taken) -> Outcome
+        ensures outcome { result ≡ outcome_of self.old taken }
+        ensures moved { self.new ≡ moved self.old offset taken }
     {
+        let outcome = self.outcome(taken);
+        self.known = self.known || taken.accepted || taken.opened.is_some();
         match outcome {
             Outcome::Accepted if self.missed != Missed::Unsettled => {
                 self.at = offset;
@@ -73,12 +73,29 @@ impl Place {
             Outcome::Unsettled => self.missed = Missed::Unsettled,
             _ => {}
         }
+        outcome
+    }
+
+    fn outcome(&self, taken: Taken) -> Outcome
+        ensures { result ≡ outcome_of self.now taken }
+    {
+        if taken.accepted {
+            return Outcome::Accepted;
+        }
+        if taken.closed {
+            return Outcome::Repeat;
+        }
+        match taken.opened {
+            Some(number) if number < taken.demanded => Outcome::Repeat,
+            Some(number) if number > taken.demanded => Outcome::Early,
+            None if self.known => Outcome::Unknown,
+            _ => Outcome::Unsettled,
+        }
     }
 
     /// The shard is read again, from the place or before it.
     pub fn read_again(&mut self)
-        ensures at { self.new.at ≡ self.old.at }
-        ensures missed { self.new.missed ≡ misses.Nothing }
+        ensures { self.new ≡ record self.old { missed = misses.Nothing } }
     {
         self.missed = Missed::Nothing;
     }
@@ -89,17 +106,64 @@ impl Place {
 /// A receiver refuses frames, and reads on: those of other senders, repeats, and also frames of this
 /// session, for a reason of its own (its clock, the skew, its addresses, its mode or its key) or
 /// since they come early. It keeps a place for each session ([`Place::take`]), and reads the shard
-/// again from there or from before it, whenever it likes, while others take the shard as well.
+/// again from there or from before it, whenever it likes, while other receivers take the shard too.
 ///
 /// Then no frame that counts as carried and wasn't accepted stands before the place (`before`),
-/// whatever was refused and why. So once the reason is gone, and receivers read the shard on from
-/// the place, in agreement with the sender, past the last frame that counts, each frame that counts
-/// was accepted, and if all count, all texts took effect (`all`).
+/// whatever was refused and why. So once the reason is gone, and receivers read the shard on from the
+/// place, in agreement with the sender, past the last frame that counts, all texts took effect if all
+/// frames count (`all`).
 ///
 /// It is assumed that a frame which is sealed of one of the records opens under its number, unless
-/// no other opened before under this key. Where the carrier's offsets aren't what they were, the
-/// shard is read again from its beginning: that is [`progress_laws`](crate::progress_laws).
+/// nothing opened yet under this receiver's key. Where the carrier's offsets aren't what they were,
+/// the shard is read again from its beginning: that is [`progress_laws`](crate::progress_laws).
 pub fn place_laws()
     ensures before { NothingIsPassedBy }
     ensures all { AllTakesEffectFromThePlace }
 {}
+
+#[cfg(test)]
+mod tests {
+    use super::*;
+
+    fn refused(demanded: u64, opened: Option<u64>) -> Taken {
+        Taken {
+            demanded,
+            closed: false,
+            accepted: false,
+            opened,
+        }
+    }
+
+    fn accepted(demanded: u64) -> Taken {
+        Taken {
+            demanded,
+            closed: false,
+            accepted: true,
+            opened: None,
+        }
+    }
+
+    // Frame 8 is refused for its time and frame 9 comes early: the place stays before both, and goes
+    // on once the shard is read again.
+    #[test]
+    fn stays_before_what_is_not_settled(rt: HostRuntime) {
+        let mut place = Place {
+            at: 0,
+            missed: Missed::Nothing,
+            known: false,
+        };
+        assert_eq!(rt; place.take(1, accepted(7)), Outcome::Accepted);
+        assert_eq!(rt; place.take(2, refused(8, Some(8))), Outcome::Unsettled);
+        assert_eq!(rt; place.take(3, refused(8, Some(9))), Outcome::Early);
+        assert_eq!(rt; place.take(4, accepted(8)), Outcome::Accepted);
+        assert_eq!(rt; place.at, 1);
+        assert_eq!(rt; place.missed, Missed::Unsettled);
+        place.read_again();
+        assert_eq!(rt; place.take(2, refused(9, Some(8))), Outcome::Repeat);
+        assert_eq!(rt; place.take(3, accepted(9)), Outcome::Accepted);
+        assert_eq!(rt; place.at, 3);
+        assert_eq!(rt; place.missed, Missed::Nothing);
+        assert_eq!(rt; place.take(5, refused(10, None)), Outcome::Unknown);
+        assert_eq!(rt; place.at, 3);
+    }
+}

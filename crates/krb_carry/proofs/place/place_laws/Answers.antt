@@ -1,7 +1,7 @@
 use Rattle.std.proofs.Common.{arith}
 use Rattle.krb_carry.specs.Place.{unread}
 use Rattle.krb_carry.specs.Reading.{StoredShard}
-use Rattle.krb_carry.proofs.PlaceLemmas.{Holds, holds_unread, holds_all, stands_after}
+use Rattle.krb_carry.proofs.PlaceLemmas.{holds_unread, holds_all, stands_after}
 use Rattle.krb_carry.proofs.ReadingLemmas.{HasRead, read_all, all_accepted, after_whole}
 use Rattle.krb_carry.proofs.StoreLemmas.{first_take_effect}
 use Rattle.krb_carry.proofs.place.place_laws.Goals as goal
