@@ -72,6 +72,7 @@ class Part:
     command: str
     minutes: int    # its limit
     needs: tuple = ()
+    after: str = ""     # the part that has to have ended before it begins
 
     def name(self):
         return self.command.replace(" ", "_").replace("/", "_")
@@ -88,12 +89,11 @@ class Part:
 FIRST = Part("tools/wrong_bodies", 2, ("rt",))
 GATE = Part("rt ci", 174, ("rt",))
 BUILD = Part("tools/krbrelay --prove", 60, ("rt",))
-# The first builds the C library, which Python's tests and the carrier take then.
-ALONE = [
-    Part("tools/c_library --core", 30, ("rt", COMPILER, CRYPTOGRAPHY, MAKE, SQLITE)),
-    Part("tools/python", 20, (COMPILER, CRYPTOGRAPHY)),
-]
+# The first builds the C library, which those after it take then.
+LIBRARY = Part("tools/c_library --core", 30, ("rt", COMPILER, CRYPTOGRAPHY, MAKE, SQLITE))
 PARTS = [
+    LIBRARY,
+    Part("tools/python", 20, (COMPILER, CRYPTOGRAPHY), LIBRARY.command),
     Part("tools/quotes", 1),
     Part("tools/reference --check", 1),
     Part("tools/test_reference", 1),
@@ -112,11 +112,11 @@ PARTS = [
     Part("tools/residue --program", 5, (PROGRAM, COMPILER, CRYPTOGRAPHY)),
     Part("tools/residue --relays", 10, ("rt", COMPILER, CRYPTOGRAPHY)),
     Part("tools/redelivery", 5, (PROGRAM, CRYPTOGRAPHY)),
-    Part("tools/carrier", 30, (PROGRAM, "rt", COMPILER, MAKE, SQLITE)),
+    Part("tools/carrier", 30, (PROGRAM, "rt", COMPILER, MAKE, SQLITE), LIBRARY.command),
     Part("tools/fuzz 2000", 5, (PROGRAM, CRYPTOGRAPHY)),
     Part("tools/test_bench", 30, ("rt",)),
     Part("tools/secret_places", 60, ("rt", COMPILER, "valgrind")),
-    Part("tools/secret_places --library", 20, ("rt", COMPILER, MAKE, "valgrind")),
+    Part("tools/secret_places --library", 20, ("rt", COMPILER, MAKE, "valgrind"), LIBRARY.command),
 ]
 MORE = [
     Part("tools/quotes --typed", 10, (PROGRAM, "rt", COMPILER, MAKE, PKG_CONFIG)),
@@ -166,7 +166,7 @@ def of_tool(name, parts):
 
 def belongs(name):
     """Which form of tools/test runs a tool."""
-    forms = ("test", [FIRST, *ALONE, *PARTS]), ("--all", MORE), ("--without-proofs", [BUILD])
+    forms = ("test", [FIRST, *PARTS]), ("--all", MORE), ("--without-proofs", [BUILD])
     for form, parts in forms:
         if of_tool(name, parts):
             return form
@@ -175,7 +175,7 @@ def belongs(name):
 
 def needs_of(name):
     """What a tool needs: as its first part here, or as it says itself."""
-    found = of_tool(name, [FIRST, *PARTS, *MORE, *ALONE])
+    found = of_tool(name, [FIRST, *PARTS, *MORE])
     return ", ".join(found[0].needs) or "Python" if found else scripts.needs(name)
 
 

@@ -11,7 +11,7 @@ import shutil
 import subprocess
 import tempfile
 
-from lib.build import building, kit_compiler, static_library
+from lib.build import building, kit_compiler, over_gate
 
 CRATE = "krb_c"
 OWN = "x86_64"                     # what the kit builds for
@@ -32,7 +32,7 @@ def run(words, **how):
 def prove_and_keep(architecture, folder):
     """Has the prover build the library for an architecture, over the libraries that are built. What
     it gave the compiler is in `folder` then."""
-    words = static_library.words_for(CRATE, static_library.MOST_JOBS, kit_compiler.keeping(folder),
+    words = over_gate.words_for(CRATE, over_gate.MOST_JOBS, kit_compiler.keeping(folder),
                                      os.path.join(folder, f"lib{CRATE}.a"))
     run([*words, "--target", f"{architecture}-unknown-linux-gnu", "--incremental",
          os.path.join("out", "incremental")], cwd=building.folder_of(CRATE))

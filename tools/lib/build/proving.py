@@ -12,7 +12,7 @@ import subprocess
 import sys
 import time
 
-from lib.build import building, static_library
+from lib.build import building, over_gate
 
 LOGS = os.path.join(building.TOP, "out", "proving")
 TREES = os.path.join(LOGS, "trees")
@@ -289,7 +289,7 @@ def prove_over_gate(top):
     """Proves and builds a static library over the libraries that `rt ci` has built."""
     say(f"{top} is being proved, over the libraries that rt ci has built: the prover's output is"
         f" {os.path.relpath(log_of(top))}")
-    if not static_library.build(top, cores(), log_of(top)):
+    if not over_gate.build(top, cores(), log_of(top)):
         raise NotProved(top)
 
 
@@ -310,7 +310,7 @@ def ensure(top):
         say(f"{top} can't be proved: there is no command rt, which is the kit's")
         return 1
     os.makedirs(LOGS, exist_ok=True)
-    is_over_gate = not building.has_program(top) and static_library.can_build(top)
+    is_over_gate = not building.has_program(top) and over_gate.can_build(top)
     try:
         (prove_over_gate if is_over_gate else prove)(top)
         return 0
