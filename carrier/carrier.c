@@ -1,6 +1,7 @@
 /* Which carrier it is. */
 #include "carrier.h"
 #include "log.h"
+#include "text.h"
 #include "words.h"
 
 #include <stdio.h>
@@ -25,12 +26,10 @@ int carrier_option(const char *program, struct carrier_options *o, int letter, c
     return 1;
 }
 
-int carrier_options_fit(const char *program, const struct carrier_options *o)
+void carrier_check_options(const char *program, const struct carrier_options *o)
 {
-    if ((o->tls_cert == NULL) == (o->tls_key == NULL))
-        return 1;
-    fprintf(stderr, "%s: --tls-cert and --tls-key: name both\n", program);
-    return 0;
+    if ((o->tls_cert == NULL) != (o->tls_key == NULL))
+        end_with(2, "%s: --tls-cert and --tls-key: name both\n", program);
 }
 
 static int is_nats(const char *where)
@@ -54,7 +53,7 @@ struct carrier *carrier_open(const struct carrier_options *options)
 #endif
     }
     /* What follows the first ':' may be a password. */
-    snprintf(kind, sizeof kind, "%.*s", (int)strcspn(where, ":"), where);
+    write_cut(kind, sizeof kind, "%.*s", (int)strcspn(where, ":"), where);
     log_fact(LEVEL_ERROR, "carrier_unknown", field_text("carrier", kind),
              field_text("text", "this is no carrier: name nats://HOST:PORT or sqlite:FILE"));
     return NULL;

@@ -80,8 +80,8 @@ enum { CARRIER_WHERE = 256, CARRIER_REPLICAS, CARRIER_CREDENTIALS, CARRIER_TLS_C
 int carrier_option(const char *program, struct carrier_options *options, int letter,
                    const char *word);
 
-/* Whether the options that were taken go together; if not, that is said. */
-int carrier_options_fit(const char *program, const struct carrier_options *options);
+/* Ends the program with status 2 and a message unless the options that were taken go together. */
+void carrier_check_options(const char *program, const struct carrier_options *options);
 
 /* Opens it; the options stay. NULL, with a line of the log, if it can't be opened. */
 struct carrier *carrier_open(const struct carrier_options *options);

@@ -1,6 +1,8 @@
 #include "database.h"
+#include "clock.h"
 #include "ending.h"
 #include "log.h"
+#include "text.h"
 
 #include <stdio.h>
 #include <string.h>
@@ -35,7 +37,7 @@ static int set_journal(sqlite3 *db)
     for (tries = 0; tries < PATIENCE / RETRY && answer == SQLITE_BUSY && !is_ending(); tries++) {
         answer = sqlite3_exec(db, sql, NULL, NULL, NULL);
         if (answer == SQLITE_BUSY)
-            sqlite3_sleep(RETRY);
+            pause_milliseconds(RETRY);
     }
     return answer == SQLITE_OK ? 0 : report(db, sql);
 }
@@ -47,7 +49,7 @@ static int make_tables(sqlite3 *db, const char *tables)
         return -1;
     if (run(db, tables) == 0 && run(db, "COMMIT") == 0)
         return 0;
-    run(db, "ROLLBACK");
+    roll_back(db);
     return -1;
 }
 
@@ -57,7 +59,7 @@ static int wait_for_others(void *given, int tries)
     (void)given;
     if (is_ending() || tries >= PATIENCE / RETRY)
         return 0;
-    sqlite3_sleep(RETRY);
+    pause_milliseconds(RETRY);
     return 1;
 }
 
@@ -68,30 +70,29 @@ sqlite3 *open_database(const char *path, const char *tables)
         log_fact(LEVEL_ERROR, "database_unopened", field_text("file", path),
                  field_text("fault", db != NULL ? sqlite3_errmsg(db) : "out of memory"),
                  field_text("text", "is there such a folder, and may this user write there?"));
-        sqlite3_close(db);
+        close_database(db);
         return NULL;
     }
     if (sqlite3_busy_handler(db, wait_for_others, NULL) == SQLITE_OK && set_journal(db) == 0
         && make_tables(db, tables) == 0)
         return db;
-    sqlite3_close(db);
+    close_database(db);
     return NULL;
 }
 
 static int add_column(sqlite3 *db, const char *table, const char *column)
 {
     char sql[256];
-    sqlite3_stmt *select;
+    struct statement select = { NULL, 0 };
     int len = (int)strcspn(column, " "), has = -1;
-    snprintf(sql, sizeof sql, "SELECT 1 FROM pragma_table_info('%s') WHERE name = '%.*s'", table,
-             len, column);
-    select = prepare(db, sql);
-    if (select != NULL)
-        has = step_row(select);
-    sqlite3_finalize(select);
+    write_whole(sql, sizeof sql, "SELECT 1 FROM pragma_table_info('%s') WHERE name = '%.*s'",
+                table, len, column);
+    if (prepare(db, &select, sql) == 0)
+        has = step_row(&select);
+    finalize(&select, 1);
     if (has != 0)
         return has > 0 ? 0 : -1;
-    snprintf(sql, sizeof sql, "ALTER TABLE %s ADD COLUMN %s", table, column);
+    write_whole(sql, sizeof sql, "ALTER TABLE %s ADD COLUMN %s", table, column);
     return run(db, sql);
 }
 
@@ -114,37 +115,97 @@ int begin_writing(sqlite3 *db)
     return run(db, "BEGIN IMMEDIATE");
 }
 
-sqlite3_stmt *prepare(sqlite3 *db, const char *sql)
+void roll_back(sqlite3 *db)
 {
-    sqlite3_stmt *statement = NULL;
-    if (sqlite3_prepare_v2(db, sql, -1, &statement, NULL) != SQLITE_OK)
-        report(db, sql);
-    return statement;
+    if (!sqlite3_get_autocommit(db))
+        (void)run(db, "ROLLBACK"); /* a fault is logged; the next BEGIN fails then */
 }
 
-int prepare_all(sqlite3 *db, sqlite3_stmt **statements, const char *const *sql, int count)
+/* ---- Statements */
+
+int prepare(sqlite3 *db, struct statement *statement, const char *sql)
+{
+    statement->is_unbound = 0;
+    return sqlite3_prepare_v2(db, sql, -1, &statement->at, NULL) == SQLITE_OK ? 0 : report(db, sql);
+}
+
+int prepare_all(sqlite3 *db, struct statement *statements, const char *const *sql, int count)
 {
     int i;
     for (i = 0; i < count; i++)
-        if ((statements[i] = prepare(db, sql[i])) == NULL)
+        if (prepare(db, &statements[i], sql[i]) != 0)
             return -1;
     return 0;
 }
 
-int step_once(sqlite3_stmt *statement)
+/* What a call that gives a place its value answered. */
+static void note_bound(struct statement *statement, int answer)
 {
-    int answer = sqlite3_step(statement);
-    sqlite3_reset(statement);
-    if (answer == SQLITE_DONE || answer == SQLITE_ROW)
-        return 0;
-    return report(sqlite3_db_handle(statement), sqlite3_sql(statement));
+    statement->is_unbound |= answer != SQLITE_OK;
 }
 
-int step_row(sqlite3_stmt *statement)
+void bind_number(struct statement *statement, int place, sqlite3_int64 number)
 {
-    int answer = sqlite3_step(statement);
+    note_bound(statement, sqlite3_bind_int64(statement->at, place, number));
+}
+
+void bind_text(struct statement *statement, int place, const char *text)
+{
+    note_bound(statement, sqlite3_bind_text(statement->at, place, text, -1, SQLITE_STATIC));
+}
+
+void bind_letters(struct statement *statement, int place, const char *text, size_t len)
+{
+    note_bound(statement, sqlite3_bind_text64(statement->at, place, text, len, SQLITE_STATIC,
+                                              SQLITE_UTF8));
+}
+
+/* No bytes are a blob of none, wherever they stand. */
+void bind_bytes(struct statement *statement, int place, const void *bytes, size_t len)
+{
+    int answer = len == 0 ? sqlite3_bind_zeroblob(statement->at, place, 0)
+                          : sqlite3_bind_blob64(statement->at, place, bytes, len, SQLITE_STATIC);
+    note_bound(statement, answer);
+}
+
+static int report_statement(const struct statement *statement)
+{
+    return report(sqlite3_db_handle(statement->at), sqlite3_sql(statement->at));
+}
+
+int step_row(struct statement *statement)
+{
+    int answer;
+    if (statement->is_unbound)
+        return report_statement(statement);
+    answer = sqlite3_step(statement->at);
     if (answer == SQLITE_ROW)
         return 1;
-    return answer == SQLITE_DONE ? 0
-                                 : report(sqlite3_db_handle(statement), sqlite3_sql(statement));
+    return answer == SQLITE_DONE ? 0 : report_statement(statement);
+}
+
+int step_once(struct statement *statement)
+{
+    int answer = step_row(statement);
+    end_rows(statement);
+    return answer >= 0 ? 0 : -1;
+}
+
+void end_rows(struct statement *statement)
+{
+    (void)sqlite3_reset(statement->at); /* it says once more what the last step did */
+    statement->is_unbound = 0;
+}
+
+void finalize(struct statement *statements, int count)
+{
+    int i;
+    for (i = 0; i < count; i++)
+        (void)sqlite3_finalize(statements[i].at); /* it says once more what the last step did */
+}
+
+void close_database(sqlite3 *db)
+{
+    if (sqlite3_close(db) != SQLITE_OK)
+        log_fact(LEVEL_ERROR, "database_unclosed", field_text("text", sqlite3_errmsg(db)));
 }

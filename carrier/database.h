@@ -22,15 +22,32 @@ int run(sqlite3 *db, const char *sql);
  * what to do if they have the file locked for longer. */
 int begin_writing(sqlite3 *db);
 
-sqlite3_stmt *prepare(sqlite3 *db, const char *sql);
+/* Ends it without effect, if one is open. */
+void roll_back(sqlite3 *db);
 
-/* Prepares a list of statements; 0 if all were. */
-int prepare_all(sqlite3 *db, sqlite3_stmt **statements, const char *const *sql, int count);
+/* A statement, and whether a value of a place couldn't be given since it was run last: then it isn't
+ * run, as after any other fault. Its values stay as they are until it was run. */
+struct statement { sqlite3_stmt *at; int is_unbound; };
+
+/* Prepares it, or a list of them: 0, or -1 after a fault. */
+int prepare(sqlite3 *db, struct statement *statement, const char *sql);
+int prepare_all(sqlite3 *db, struct statement *statements, const char *const *sql, int count);
+
+/* Gives a place of it a value. */
+void bind_number(struct statement *statement, int place, sqlite3_int64 number);
+void bind_text(struct statement *statement, int place, const char *text);
+void bind_letters(struct statement *statement, int place, const char *text, size_t len);
+void bind_bytes(struct statement *statement, int place, const void *bytes, size_t len);
 
 /* Runs a statement that gives no rows, and makes it ready for the next time; 0 if it was run. */
-int step_once(sqlite3_stmt *statement);
+int step_once(struct statement *statement);
 
-/* Whether the statement gives a row; the caller resets it. -1 after a fault. */
-int step_row(sqlite3_stmt *statement);
+/* Whether the statement gives a row; the caller ends them. -1 after a fault. */
+int step_row(struct statement *statement);
+void end_rows(struct statement *statement);
+
+/* Ends statements, prepared or not, and a database, opened or not. */
+void finalize(struct statement *statements, int count);
+void close_database(sqlite3 *db);
 
 #endif

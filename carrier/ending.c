@@ -2,6 +2,7 @@
 
 #include <signal.h>
 #include <stddef.h>
+#include <stdio.h>
 #include <unistd.h>
 
 enum { PATIENCE = 4 }; /* seconds for an end in order */
@@ -11,7 +12,7 @@ static int ending, status; /* of a handler and of threads: all is read and writt
 static void end_in_time(void)
 {
     if (!__atomic_exchange_n(&ending, 1, __ATOMIC_SEQ_CST))
-        alarm(PATIENCE);
+        (void)alarm(PATIENCE); /* what was left of another: there is none */
 }
 
 static void note(int number)
@@ -47,4 +48,11 @@ void end_now(void)
 {
     __atomic_store_n(&status, 1, __ATOMIC_SEQ_CST);
     end_in_time();
+}
+
+void end_at_once(const char *what)
+{
+    /* Nobody else can be told if this can't be written. */
+    (void)fprintf(stderr, "level=error event=impossible text=\"%s\"\n", what);
+    _exit(1);
 }

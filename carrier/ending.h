@@ -13,4 +13,8 @@ int is_ending(void);
 /* Asks for the end, as a signal does, since something failed. */
 void end_now(void);
 
+/* What can't be, such as a clock that doesn't answer: says so, and ends the program with status 1 at
+ * once. Whatever it was about to do is as if the process had been killed. */
+void end_at_once(const char *what);
+
 #endif

@@ -1,8 +1,9 @@
 #include "log.h"
 #include "clock.h"
+#include "locks.h"
+#include "text.h"
 
 #include <errno.h>
-#include <pthread.h>
 #include <stdio.h>
 #include <string.h>
 #include <time.h>
@@ -33,9 +34,9 @@ static void add_byte(struct line *line, unsigned char byte)
 {
     char text[8] = { (char)byte };
     if (byte == '"' || byte == '\\')
-        snprintf(text, sizeof text, "\\%c", byte);
+        write_whole(text, sizeof text, "\\%c", byte);
     else if (byte < ' ' || byte > '~')
-        snprintf(text, sizeof text, "\\x%02x", byte);
+        write_whole(text, sizeof text, "\\x%02x", byte);
     add(line, text);
 }
 
@@ -73,9 +74,9 @@ static void add_field(struct line *line, const struct field *it)
         return;
     }
     if (it->kind == FIELD_SECONDS)
-        snprintf(digits, sizeof digits, "%.3f", (double)it->number / 1e9);
+        write_whole(digits, sizeof digits, "%.3f", (double)it->number / 1e9);
     else
-        snprintf(digits, sizeof digits, "%llu", (unsigned long long)it->number);
+        write_whole(digits, sizeof digits, "%llu", (unsigned long long)it->number);
     add(line, digits);
 }
 
@@ -89,8 +90,8 @@ static void add_head(struct line *line, enum level level, const char *event)
     if (gmtime_r(&seconds, &parts) == NULL
         || strftime(date, sizeof date, "%Y-%m-%dT%H:%M:%S", &parts) == 0)
         date[0] = 0;
-    snprintf(text, sizeof text, "time=%s.%03uZ level=%s event=", date, now.microseconds / 1000,
-             levels[level]);
+    write_whole(text, sizeof text, "time=%s.%03uZ level=%s event=", date, now.microseconds / 1000,
+                levels[level]);
     add(line, text);
     add(line, event);
 }
@@ -107,7 +108,8 @@ static void print(enum level level, const char *event, const struct field *field
         add_field(&line, fields);
     line.text[line.len] = '\n';
     line.text[line.len + 1] = 0;
-    fputs(line.text, stderr); /* one write: a line isn't mixed with another process's */
+    /* One write: a line isn't mixed with another process's. Nobody else can be told if it fails. */
+    (void)fputs(line.text, stderr);
 }
 
 /* The event, which is noted when it comes first; all for which there is no room are one. */
@@ -139,7 +141,7 @@ static int is_due(struct kind *it)
 void log_fields(enum level level, const char *event, const struct field *fields)
 {
     struct kind *it;
-    pthread_mutex_lock(&lines.lock);
+    take_lock(&lines.lock);
     it = kind_of(event);
     if (is_due(it)) {
         print(level, event, fields, it->left_out);
@@ -147,14 +149,14 @@ void log_fields(enum level level, const char *event, const struct field *fields)
     } else {
         it->left_out++;
     }
-    pthread_mutex_unlock(&lines.lock);
+    give_lock(&lines.lock);
 }
 
 void log_report(const char *event, const struct field *fields)
 {
-    pthread_mutex_lock(&lines.lock);
+    take_lock(&lines.lock);
     print(LEVEL_INFO, event, fields, 0);
-    pthread_mutex_unlock(&lines.lock);
+    give_lock(&lines.lock);
 }
 
 void log_system(const char *event, const char *what)
@@ -167,7 +169,7 @@ void log_system(const char *event, const char *what)
 void log_end(void)
 {
     unsigned i;
-    pthread_mutex_lock(&lines.lock);
+    take_lock(&lines.lock);
     for (i = 0; i < lines.count; i++) {
         const struct field fields[] = { field_text("of", lines.kinds[i].event),
                                         field_number("lines", lines.kinds[i].left_out),
@@ -176,5 +178,5 @@ void log_end(void)
             print(LEVEL_INFO, "lines_left_out", fields, 0);
         lines.kinds[i].left_out = 0;
     }
-    pthread_mutex_unlock(&lines.lock);
+    give_lock(&lines.lock);
 }

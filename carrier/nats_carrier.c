@@ -3,6 +3,7 @@
 #include "log.h"
 #include "nats_carrier.h"
 #include "private.h"
+#include "text.h"
 
 #include <stdio.h>
 #include <stdlib.h>
@@ -77,7 +78,7 @@ natsStatus nats_ask_stream(struct nats_carrier *c, unsigned shard, jsStreamInfo 
     jsErrCode code = 0;
     natsStatus status = begin_to_ask(c, &options);
     *info = NULL;
-    snprintf(name, sizeof name, "KRB_%u", shard);
+    write_whole(name, sizeof name, "KRB_%u", shard);
     if (status == NATS_OK)
         status = js_GetStreamInfo(info, c->js, name, &options, &code);
     note_asked(c, status);
@@ -115,8 +116,8 @@ static int last(struct carrier *base, unsigned shard, const char *session, struc
     natsStatus status = begin_to_ask(c, &options);
     natsMsg_Destroy(c->last);
     c->last = NULL;
-    snprintf(name, sizeof name, "KRB_%u", shard);
-    snprintf(subject, sizeof subject, "krb.%u.%s", shard, session);
+    write_whole(name, sizeof name, "KRB_%u", shard);
+    write_whole(subject, sizeof subject, "krb.%u.%s", shard, session);
     if (status == NATS_OK)
         status = js_GetLastMsg(&c->last, c->js, name, subject, &options, &code);
     note_asked(c, status);
@@ -125,7 +126,7 @@ static int last(struct carrier *base, unsigned shard, const char *session, struc
     if (status != NATS_OK)
         return nats_report("the last frame of a session", status);
     last->offset = natsMsg_GetSequence(c->last);
-    snprintf(last->session, sizeof last->session, "%s", session);
+    write_whole(last->session, sizeof last->session, "%s", session);
     last->frame = (const uint8_t *)natsMsg_GetData(c->last);
     last->len = (size_t)natsMsg_GetDataLength(c->last);
     return 1;

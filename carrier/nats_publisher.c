@@ -12,6 +12,7 @@
 #include "clock.h"
 #include "log.h"
 #include "nats_carrier.h"
+#include "text.h"
 
 #include <stdio.h>
 #include <stdlib.h>
@@ -29,7 +30,7 @@ natsStatus nats_await_answers(struct nats_carrier *c)
     natsStatus status = natsInbox_Create(&c->inbox);
     if (status != NATS_OK)
         return status;
-    snprintf(subject, sizeof subject, "%s.*.*.*.*", (const char *)c->inbox);
+    write_whole(subject, sizeof subject, "%s.*.*.*.*", (const char *)c->inbox);
     status = natsConnection_SubscribeSync(&c->answers, c->connection, subject);
     if (status == NATS_OK)
         status = natsSubscription_SetPendingLimits(c->answers, -1, -1);
@@ -46,8 +47,8 @@ static natsStatus add_stream(struct nats_carrier *c, unsigned shard, jsStreamInf
     jsStreamConfig config;
     jsErrCode code = 0;
     natsStatus status = jsStreamConfig_Init(&config);
-    snprintf(name, sizeof name, "KRB_%u", shard);
-    snprintf(subject, sizeof subject, "krb.%u.*", shard);
+    write_whole(name, sizeof name, "KRB_%u", shard);
+    write_whole(subject, sizeof subject, "krb.%u.*", shard);
     config.Name = name;
     config.Subjects = subjects;
     config.SubjectsLen = 1;
@@ -108,10 +109,10 @@ int nats_publish(struct carrier *base, unsigned shard, const char *session, uint
     natsStatus status;
     if (nats_make(base, shard, &incarnation) != 0)
         return CARRIER_FAULT;
-    snprintf(subject, sizeof subject, "krb.%u.%s", shard, session);
-    snprintf(reply, sizeof reply, "%s.%llu.%u.%lu.%llu", (const char *)c->inbox,
-             (unsigned long long)incarnation, shard, (unsigned long)tag,
-             (unsigned long long)number);
+    write_whole(subject, sizeof subject, "krb.%u.%s", shard, session);
+    write_whole(reply, sizeof reply, "%s.%llu.%u.%lu.%llu", (const char *)c->inbox,
+                (unsigned long long)incarnation, shard, (unsigned long)tag,
+                (unsigned long long)number);
     status = natsConnection_PublishRequest(c->connection, subject, reply, frame, (int)len);
     if (status == NATS_OK)
         return 0;
@@ -141,8 +142,8 @@ static uint64_t number_after(natsMsg *message, const char *word)
     if (place == NULL)
         return 0;
     left = len - (size_t)(place + size - data);
-    snprintf(digits, sizeof digits, "%.*s", (int)(left < sizeof digits ? left : sizeof digits - 1),
-             place + size);
+    write_cut(digits, sizeof digits, "%.*s", (int)(left < sizeof digits ? left : sizeof digits - 1),
+              place + size);
     return strtoull(digits, NULL, 10);
 }
 
@@ -156,7 +157,7 @@ static void read_answer(struct nats_carrier *c, natsMsg *message, const struct n
     if (len <= 0 || c->unproved_count == NATS_UNPROVED)
         return;
     if (memmem(natsMsg_GetData(message), (size_t)len, error, sizeof error - 1) != NULL) {
-        snprintf(text, sizeof text, "%.*s", len, natsMsg_GetData(message));
+        write_cut(text, sizeof text, "%.*s", len, natsMsg_GetData(message));
         report_refusal(answer.shard, text);
         return;
     }
@@ -211,9 +212,9 @@ static void ask_end(struct nats_carrier *c, unsigned shard)
     int i;
     if (c->made[shard].asked != 0 && nanoseconds() - c->made[shard].asked < SECOND)
         return;
-    snprintf(subject, sizeof subject, "$JS.API.STREAM.INFO.KRB_%u", shard);
-    snprintf(reply, sizeof reply, "%s.%llu.%u.end.0", (const char *)c->inbox,
-             (unsigned long long)c->made[shard].incarnation, shard);
+    write_whole(subject, sizeof subject, "$JS.API.STREAM.INFO.KRB_%u", shard);
+    write_whole(reply, sizeof reply, "%s.%llu.%u.end.0", (const char *)c->inbox,
+                (unsigned long long)c->made[shard].incarnation, shard);
     for (i = 0; i < c->unproved_count; i++)
         c->unproved[i].is_asked |= c->unproved[i].shard == shard;
     c->made[shard].asked = nanoseconds();

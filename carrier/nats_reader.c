@@ -7,6 +7,7 @@
  * to have. */
 #include "log.h"
 #include "nats_carrier.h"
+#include "text.h"
 
 #include <stdio.h>
 #include <string.h>
@@ -22,7 +23,7 @@ static void let_go(struct nats_carrier *c)
 void nats_stop_reading(struct nats_carrier *c)
 {
     let_go(c);
-    natsSubscription_Unsubscribe(c->reader);
+    (void)natsSubscription_Unsubscribe(c->reader); /* servers forget it without, after a while */
     natsSubscription_Destroy(c->reader);
     c->reader = NULL;
 }
@@ -83,7 +84,7 @@ static natsStatus make_consumer(struct nats_carrier *c, const char *name)
         status = jsOptions_Init(&wait);
     if (status != NATS_OK)
         return status;
-    snprintf(subject, sizeof subject, "krb.%u.*", c->shard);
+    write_whole(subject, sizeof subject, "krb.%u.*", c->shard);
     wait.Wait = 2 * c->patience;
     options.Stream = name;
     options.Config.DeliverPolicy = js_DeliverByStartSequence;
@@ -103,7 +104,7 @@ static int begin_reading(struct nats_carrier *c)
     int answer = check_stream(c);
     if (answer != 0)
         return answer;
-    snprintf(name, sizeof name, "KRB_%u", c->shard);
+    write_whole(name, sizeof name, "KRB_%u", c->shard);
     status = make_consumer(c, name);
     if (status == NATS_OK)
         status = natsSubscription_SetPendingLimits(c->reader, -1, PENDING);
@@ -142,7 +143,7 @@ static int read_message(struct nats_carrier *c, natsMsg *message, struct carried
     jsMsgMetaData_Destroy(meta);
     if (!is_next)
         return 0;
-    snprintf(it->session, sizeof it->session, "%s", name != NULL ? name + 1 : "");
+    write_cut(it->session, sizeof it->session, "%s", name != NULL ? name + 1 : "");
     it->frame = (const uint8_t *)natsMsg_GetData(message);
     it->len = (size_t)natsMsg_GetDataLength(message);
     if (it->frame == NULL)
@@ -175,7 +176,7 @@ static void leave(struct nats_carrier *c, natsStatus status)
 {
     natsSubscription *reader = c->reader;
     c->reader = NULL;
-    natsSubscription_Unsubscribe(reader);
+    (void)natsSubscription_Unsubscribe(reader); /* servers forget it without, after a while */
     natsSubscription_Destroy(reader);
     nats_report("a reader begins again after what it had", status);
 }

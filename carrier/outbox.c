@@ -1,5 +1,4 @@
 #include "outbox.h"
-#include "database.h"
 
 #include <stdio.h>
 #include <string.h>
@@ -58,9 +57,9 @@ static const char *const sql[OUTBOX_STATEMENTS] = {
 
 static sqlite3_int64 owner(struct outbox *o)
 {
-    sqlite3_stmt *select = o->statements[SELECT_OWNER];
-    sqlite3_int64 turn = step_row(select) == 1 ? sqlite3_column_int64(select, 0) : -1;
-    sqlite3_reset(select);
+    struct statement *select = &o->statements[SELECT_OWNER];
+    sqlite3_int64 turn = step_row(select) == 1 ? sqlite3_column_int64(select->at, 0) : -1;
+    end_rows(select);
     return turn;
 }
 
@@ -91,57 +90,55 @@ int outbox_open(struct outbox *o, const char *path)
 
 void outbox_close(struct outbox *o)
 {
-    int i;
-    for (i = 0; i < OUTBOX_STATEMENTS; i++)
-        sqlite3_finalize(o->statements[i]);
-    sqlite3_close(o->db);
+    finalize(o->statements, OUTBOX_STATEMENTS);
+    close_database(o->db);
 }
 
 int outbox_load(struct outbox *o, const struct session *session, struct outbox_progress *it)
 {
-    sqlite3_stmt *select = o->statements[LOAD_SESSION];
+    struct statement *select = &o->statements[LOAD_SESSION];
     int row;
-    sqlite3_bind_text(select, 1, session->name, -1, SQLITE_STATIC);
+    bind_text(select, 1, session->name);
     row = step_row(select);
     *it = (struct outbox_progress){ session->first, session->first, 0, 0, (int32_t)session->shard };
     if (row == 1) {
-        it->next = (uint64_t)sqlite3_column_int64(select, 0);
-        it->carried = (uint64_t)sqlite3_column_int64(select, 1);
-        it->at = (uint64_t)sqlite3_column_int64(select, 2);
-        it->incarnation = (uint64_t)sqlite3_column_int64(select, 3);
-        it->shard = sqlite3_column_int(select, 4);
+        it->next = (uint64_t)sqlite3_column_int64(select->at, 0);
+        it->carried = (uint64_t)sqlite3_column_int64(select->at, 1);
+        it->at = (uint64_t)sqlite3_column_int64(select->at, 2);
+        it->incarnation = (uint64_t)sqlite3_column_int64(select->at, 3);
+        it->shard = sqlite3_column_int(select->at, 4);
     }
-    sqlite3_reset(select);
+    end_rows(select);
     return row >= 0 ? 0 : -1;
 }
 
 int outbox_sessions(struct outbox *o, outbox_take *take, void *given)
 {
-    sqlite3_stmt *select = o->statements[SELECT_SENDING];
+    struct statement *select = &o->statements[SELECT_SENDING];
     int row, answer = 0;
     while (answer == 0 && (row = step_row(select)) != 0) {
-        const char *name = row == 1 ? (const char *)sqlite3_column_text(select, 0) : NULL;
+        const char *name = row == 1 ? (const char *)sqlite3_column_text(select->at, 0) : NULL;
         answer = name == NULL || take(given, name) != 0 ? -1 : 0;
     }
-    sqlite3_reset(select);
+    end_rows(select);
     return answer;
 }
 
 int outbox_has_text(struct outbox *o, sqlite3_int64 after)
 {
     int row;
-    sqlite3_bind_int64(o->statements[HAS_TEXT], 1, after);
-    row = step_row(o->statements[HAS_TEXT]) == 1;
-    sqlite3_reset(o->statements[HAS_TEXT]);
+    bind_number(&o->statements[HAS_TEXT], 1, after);
+    row = step_row(&o->statements[HAS_TEXT]) == 1;
+    end_rows(&o->statements[HAS_TEXT]);
     return row;
 }
 
 /* The number that a question has for its answer; 0 if there is none. */
 static uint64_t number_of(struct outbox *o, enum outbox_statement question)
 {
-    sqlite3_stmt *select = o->statements[question];
-    sqlite3_int64 number = step_row(select) == 1 ? sqlite3_column_int64(select, 0) : 0;
-    sqlite3_reset(select);
+    struct statement *select = &o->statements[question];
+    sqlite3_int64 number = step_row(select) == 1 ? sqlite3_column_int64(select->at, 0) : 0;
+    end_rows(select);
     return (uint64_t)number;
 }
 
@@ -174,82 +171,82 @@ enum outbox_answer outbox_begin(struct outbox *o)
 
 void outbox_select_texts(struct outbox *o, sqlite3_int64 after, sqlite3_int64 to, size_t limit)
 {
-    sqlite3_bind_int64(o->statements[SELECT_TEXTS], 1, after);
-    sqlite3_bind_int64(o->statements[SELECT_TEXTS], 2, to);
-    sqlite3_bind_int64(o->statements[SELECT_TEXTS], 3, (sqlite3_int64)limit);
+    bind_number(&o->statements[SELECT_TEXTS], 1, after);
+    bind_number(&o->statements[SELECT_TEXTS], 2, to);
+    bind_number(&o->statements[SELECT_TEXTS], 3, (sqlite3_int64)limit);
 }
 
 int outbox_next_text(struct outbox *o, struct waiting_text *text)
 {
-    sqlite3_stmt *select = o->statements[SELECT_TEXTS];
+    struct statement *select = &o->statements[SELECT_TEXTS];
     int row = step_row(select);
     if (row != 1)
         return row;
-    text->id = sqlite3_column_int64(select, 0);
-    text->session = (const char *)sqlite3_column_text(select, 1);
-    text->body = sqlite3_column_blob(select, 2);
-    text->len = (size_t)sqlite3_column_bytes(select, 2);
-    if (text->body == NULL && sqlite3_column_type(select, 2) != SQLITE_NULL)
+    text->id = sqlite3_column_int64(select->at, 0);
+    text->session = (const char *)sqlite3_column_text(select->at, 1);
+    text->body = sqlite3_column_blob(select->at, 2);
+    text->len = (size_t)sqlite3_column_bytes(select->at, 2);
+    if (text->body == NULL && sqlite3_column_type(select->at, 2) != SQLITE_NULL)
         text->body = (const uint8_t *)""; /* a text of no bytes isn't the close */
     return text->session != NULL ? 1 : -1;
 }
 
 void outbox_end_texts(struct outbox *o)
 {
-    sqlite3_reset(o->statements[SELECT_TEXTS]);
+    end_rows(&o->statements[SELECT_TEXTS]);
 }
 
 int outbox_drop_texts(struct outbox *o, sqlite3_int64 first, sqlite3_int64 last)
 {
-    sqlite3_bind_int64(o->statements[DROP_TEXTS], 1, first);
-    sqlite3_bind_int64(o->statements[DROP_TEXTS], 2, last);
-    return step_once(o->statements[DROP_TEXTS]);
+    bind_number(&o->statements[DROP_TEXTS], 1, first);
+    bind_number(&o->statements[DROP_TEXTS], 2, last);
+    return step_once(&o->statements[DROP_TEXTS]);
 }
 
 int outbox_add_frame(struct outbox *o, const char *session, uint64_t number, const uint8_t *frame,
                      size_t len)
 {
-    sqlite3_stmt *add = o->statements[ADD_FRAME];
-    sqlite3_bind_text(add, 1, session, -1, SQLITE_STATIC);
-    sqlite3_bind_int64(add, 2, (sqlite3_int64)number);
-    sqlite3_bind_blob64(add, 3, frame, len, SQLITE_STATIC);
+    struct statement *add = &o->statements[ADD_FRAME];
+    bind_text(add, 1, session);
+    bind_number(add, 2, (sqlite3_int64)number);
+    bind_bytes(add, 3, frame, len);
     return step_once(add);
 }
 
 int outbox_set_next(struct outbox *o, const struct session *session, uint64_t from, uint64_t to)
 {
-    sqlite3_stmt *set = o->statements[SET_NEXT];
-    sqlite3_bind_int64(set, 1, (sqlite3_int64)to);
-    sqlite3_bind_text(set, 2, session->name, -1, SQLITE_STATIC);
-    sqlite3_bind_int64(set, 3, (sqlite3_int64)from);
-    sqlite3_bind_int64(set, 4, session->shard);
+    struct statement *set = &o->statements[SET_NEXT];
+    bind_number(set, 1, (sqlite3_int64)to);
+    bind_text(set, 2, session->name);
+    bind_number(set, 3, (sqlite3_int64)from);
+    bind_number(set, 4, session->shard);
     return step_once(set) == 0 && sqlite3_changes(o->db) == 1 ? 0 : -1;
 }
 
 int outbox_set_carried(struct outbox *o, const char *session, const struct outbox_progress *it)
 {
-    sqlite3_stmt *set = o->statements[SET_CARRIED], *drop = o->statements[DROP_FRAMES];
-    sqlite3_bind_int64(set, 1, (sqlite3_int64)it->carried);
-    sqlite3_bind_int64(set, 2, (sqlite3_int64)it->at);
-    sqlite3_bind_int64(set, 3, (sqlite3_int64)it->incarnation);
-    sqlite3_bind_int64(set, 4, it->shard);
-    sqlite3_bind_text(set, 5, session, -1, SQLITE_STATIC);
-    sqlite3_bind_text(drop, 1, session, -1, SQLITE_STATIC);
-    sqlite3_bind_int64(drop, 2, (sqlite3_int64)it->carried);
+    struct statement *set = &o->statements[SET_CARRIED], *drop = &o->statements[DROP_FRAMES];
+    bind_number(set, 1, (sqlite3_int64)it->carried);
+    bind_number(set, 2, (sqlite3_int64)it->at);
+    bind_number(set, 3, (sqlite3_int64)it->incarnation);
+    bind_number(set, 4, it->shard);
+    bind_text(set, 5, session);
+    bind_text(drop, 1, session);
+    bind_number(drop, 2, (sqlite3_int64)it->carried);
     return step_once(set) == 0 && step_once(drop) == 0 ? 0 : -1;
 }
 
 int outbox_add_stopped(struct outbox *o, const char *session, const char *reason)
 {
-    sqlite3_stmt *add = o->statements[ADD_STOPPED];
-    sqlite3_bind_text(add, 1, session, -1, SQLITE_TRANSIENT);
-    sqlite3_bind_text(add, 2, reason, -1, SQLITE_TRANSIENT);
+    struct statement *add = &o->statements[ADD_STOPPED];
+    bind_text(add, 1, session);
+    bind_text(add, 2, reason);
     return step_once(add);
 }
 
 int outbox_drop_stopped(struct outbox *o)
 {
-    return step_once(o->statements[DROP_STOPPED]);
+    return step_once(&o->statements[DROP_STOPPED]);
 }
 
 int outbox_commit(struct outbox *o)
@@ -259,8 +256,7 @@ int outbox_commit(struct outbox *o)
 
 void outbox_rollback(struct outbox *o)
 {
-    if (!sqlite3_get_autocommit(o->db))
-        run(o->db, "ROLLBACK");
+    roll_back(o->db);
 }
 
 /* ---- Frames */
@@ -268,25 +264,25 @@ void outbox_rollback(struct outbox *o)
 void outbox_select_frames(struct outbox *o, const char *session, uint64_t from,
                           unsigned limit)
 {
-    sqlite3_stmt *select = o->statements[SELECT_FRAMES];
-    sqlite3_bind_text(select, 1, session, -1, SQLITE_STATIC);
-    sqlite3_bind_int64(select, 2, (sqlite3_int64)from);
-    sqlite3_bind_int64(select, 3, limit);
+    struct statement *select = &o->statements[SELECT_FRAMES];
+    bind_text(select, 1, session);
+    bind_number(select, 2, (sqlite3_int64)from);
+    bind_number(select, 3, limit);
 }
 
 int outbox_next_frame(struct outbox *o, uint64_t *number, const uint8_t **frame, size_t *len)
 {
-    sqlite3_stmt *select = o->statements[SELECT_FRAMES];
+    struct statement *select = &o->statements[SELECT_FRAMES];
     int row = step_row(select);
     if (row != 1)
         return row;
-    *number = (uint64_t)sqlite3_column_int64(select, 0);
-    *frame = sqlite3_column_blob(select, 1);
-    *len = (size_t)sqlite3_column_bytes(select, 1);
-    return 1;
+    *number = (uint64_t)sqlite3_column_int64(select->at, 0);
+    *frame = sqlite3_column_blob(select->at, 1);
+    *len = (size_t)sqlite3_column_bytes(select->at, 1);
+    return *frame != NULL ? 1 : -1;
 }
 
 void outbox_end_frames(struct outbox *o)
 {
-    sqlite3_reset(o->statements[SELECT_FRAMES]);
+    end_rows(&o->statements[SELECT_FRAMES]);
 }

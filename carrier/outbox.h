@@ -16,10 +16,9 @@
 #ifndef OUTBOX_H
 #define OUTBOX_H
 
+#include "database.h"
 #include "progress.h"
 #include "sessions.h"
-
-#include <sqlite3.h>
 
 enum outbox_statement {
     LOAD_SESSION, SELECT_TEXTS, HAS_TEXT, DROP_TEXTS, ADD_FRAME, SELECT_FRAMES, DROP_FRAMES,
@@ -29,7 +28,7 @@ enum outbox_statement {
 
 struct outbox {
     sqlite3 *db;
-    sqlite3_stmt *statements[OUTBOX_STATEMENTS];
+    struct statement statements[OUTBOX_STATEMENTS];
     sqlite3_int64 turn; /* those who opened this outbox are counted: this is the turn'th */
 };
 

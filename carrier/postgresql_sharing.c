@@ -3,6 +3,7 @@
 #include "log.h"
 #include "postgresql.h"
 #include "sharing.h"
+#include "text.h"
 
 #include <stdio.h>
 #include <stdlib.h>
@@ -15,6 +16,17 @@ struct postgresql_sharing {
     char class[16];
 };
 
+/* Copies a value of the one row of a result: 1, or 0 and "" if there is none, or it is too long. */
+static int read_value(const PGresult *result, int column, char *text, size_t room)
+{
+    text[0] = 0;
+    if (PQresultStatus(result) != PGRES_TUPLES_OK || PQntuples(result) != 1
+        || (size_t)PQgetlength(result, 0, column) >= room)
+        return 0;
+    strcpy(text, PQgetvalue(result, 0, column));
+    return 1;
+}
+
 /* The first value of the first row of a statement with one or two values, as a text; "" after a
  * fault, after which the connection isn't used any more. */
 static const char *ask(struct postgresql_sharing *s, const char *sql, unsigned shard, char text[32])
@@ -22,12 +34,9 @@ static const char *ask(struct postgresql_sharing *s, const char *sql, unsigned s
     char number[16];
     const char *const values[] = { s->class, number };
     PGresult *result;
-    text[0] = 0;
-    snprintf(number, sizeof number, "%u", shard);
+    write_whole(number, sizeof number, "%u", shard);
     result = PQexecParams(s->db, sql, 2, NULL, values, NULL, NULL, 0);
-    if (PQresultStatus(result) == PGRES_TUPLES_OK && PQntuples(result) == 1)
-        snprintf(text, 32, "%s", PQgetvalue(result, 0, 0));
-    else
+    if (!read_value(result, 0, text, 32))
         postgresql_report(s->db, "locks of shards");
     PQclear(result);
     if (text[0] == 0) {
@@ -45,6 +54,7 @@ static const char first[] =
 static int be_there(struct postgresql_sharing *s)
 {
     PGresult *result;
+    char is_counted[2];
     int is_fine = 0;
     s->db = postgresql_connect(s->where);
     if (s->db == NULL)
@@ -52,11 +62,9 @@ static int be_there(struct postgresql_sharing *s)
     if (postgresql_is_done(s->db, PQexec(s->db, "SET idle_session_timeout = '10s';"
                                                 " SET statement_timeout = '3s'"), "timeouts")) {
         result = PQexec(s->db, first);
-        is_fine = PQresultStatus(result) == PGRES_TUPLES_OK && PQntuples(result) == 1
-                  && strcmp(PQgetvalue(result, 0, 1), "t") == 0;
-        if (is_fine)
-            snprintf(s->class, sizeof s->class, "%s", PQgetvalue(result, 0, 0));
-        else
+        is_fine = read_value(result, 1, is_counted, sizeof is_counted) && *is_counted == 't'
+                  && read_value(result, 0, s->class, sizeof s->class);
+        if (!is_fine)
             postgresql_report(s->db, "locks of shards");
         PQclear(result);
     }
@@ -93,7 +101,7 @@ static int come_again(struct postgresql_sharing *s)
         return 0;
     for (shard = 0; shard < CARRIER_SHARDS && s->db != NULL; shard++)
         if (s->base.has[shard])
-            sharing_take(&s->base, shard);
+            (void)sharing_take(&s->base, shard); /* `has` says whether it is taken */
     return s->db != NULL;
 }
 

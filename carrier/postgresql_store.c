@@ -10,6 +10,7 @@
 #include "log.h"
 #include "postgresql.h"
 #include "store.h"
+#include "text.h"
 
 #include <stdio.h>
 #include <stdlib.h>
@@ -126,7 +127,7 @@ struct values { unsigned count; char texts[10][24]; const char *at[11]; };
 static void add_number(struct values *v, unsigned long long number)
 {
     char *text = v->texts[v->count - 1];
-    snprintf(text, sizeof v->texts[0], "%llu", number);
+    write_whole(text, sizeof v->texts[0], "%llu", number);
     v->at[v->count++] = text;
 }
 
@@ -136,7 +137,7 @@ static void add_demand(struct values *v, const struct demand *it)
     add_number(v, it->closed);
     add_number(v, it->missed);
     add_number(v, it->at);
-    snprintf(v->texts[v->count - 1], sizeof v->texts[0], "%d", it->shard);
+    write_whole(v->texts[v->count - 1], sizeof v->texts[0], "%d", it->shard);
     v->at[v->count] = v->texts[v->count - 1];
     v->count++;
 }
@@ -153,7 +154,7 @@ static int begin(struct store *base, unsigned shard, const struct reached *from,
     struct postgresql_store *s = (struct postgresql_store *)base;
     char text[24];
     struct values v = { .count = 1, .at = { text } };
-    snprintf(text, sizeof text, "%u", shard);
+    write_whole(text, sizeof text, "%u", shard);
     add_number(&v, from->incarnation);
     add_number(&v, from->offset);
     add_number(&v, to->incarnation);
@@ -205,7 +206,7 @@ static void rollback(struct store *base)
         return;
     s->is_open = 0;
     if (read_answers(s) >= 0 && ask(s, "rollback", 0, NULL, NULL, NULL, ANY_ROWS) == 0)
-        read_answers(s);
+        (void)read_answers(s); /* after a fault the next transaction has one too */
 }
 
 static int commit(struct store *base)
@@ -235,7 +236,7 @@ static const char *prepared(struct postgresql_store *s, const char *sql, char na
         log_fact(LEVEL_ERROR, "effects_too_many", field_number("most", EFFECTS));
         return NULL;
     }
-    snprintf(name, 32, "effect%u", i);
+    write_whole(name, 32, "effect%u", i);
     if (s->effects[i] == sql)
         return name;
     if (expect(s, ANY_ROWS) != 0 || !PQsendPrepare(s->db, name, sql, 0, NULL))
@@ -261,7 +262,8 @@ static int run_effect(struct store *base, const char *sql, const struct value *v
                    : values[i].len == 0           ? ""
                                                   : values[i].at;
         if (values[i].kind == VALUE_NUMBER)
-            snprintf(digits[i], sizeof digits[i], "%llu", (unsigned long long)values[i].number);
+            write_whole(digits[i], sizeof digits[i], "%llu",
+                        (unsigned long long)values[i].number);
     }
     return ask(s, name, (int)count, texts, lengths, formats, ANY_ROWS);
 }
@@ -293,7 +295,7 @@ static int reached(struct store *base, unsigned shard, struct reached *reached)
 {
     char text[24];
     PGresult *result;
-    snprintf(text, sizeof text, "%u", shard);
+    write_whole(text, sizeof text, "%u", shard);
     result = query((struct postgresql_store *)base,
                    "SELECT incarnation, at FROM shard WHERE shard = $1", text);
     if (result == NULL)
@@ -362,7 +364,7 @@ static int sessions(struct store *base, const char *const *names, size_t count, 
 static int standing(struct store *base, unsigned shard, store_take *take, void *given)
 {
     char text[24];
-    snprintf(text, sizeof text, "%u", shard);
+    write_whole(text, sizeof text, "%u", shard);
     return take_rows(query((struct postgresql_store *)base,
                            "SELECT next, closed, missed, at, shard, name FROM session"
                            " WHERE shard = $1 AND missed <> 0", text), take, given);
@@ -373,7 +375,7 @@ static int passed(struct store *base, unsigned shard, store_note *take, void *gi
     char text[24];
     PGresult *result;
     int row, answer = 0;
-    snprintf(text, sizeof text, "%u", shard);
+    write_whole(text, sizeof text, "%u", shard);
     result = query((struct postgresql_store *)base,
                    "SELECT at, session FROM passed WHERE shard = $1", text);
     if (result == NULL)

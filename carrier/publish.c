@@ -3,6 +3,7 @@
 #include "clock.h"
 #include "log.h"
 #include "sender.h"
+#include "text.h"
 
 #include <stdio.h>
 
@@ -44,8 +45,8 @@ static int put_off(struct sender *s, struct sending *it, int answer, uint64_t nu
     it->stopped_at = 1;
     /* Its frames don't keep the window of its shard from the others. */
     s->lanes[it->lane].backlog -= (size_t)(it->progress.next - it->progress.carried);
-    snprintf(it->reason, sizeof it->reason, "the carrier doesn't take frame %llu: is it longer than"
-             " its Maximum Payload?", (unsigned long long)number);
+    write_cut(it->reason, sizeof it->reason, "the carrier doesn't take frame %llu: is it longer"
+              " than its Maximum Payload?", (unsigned long long)number);
     return sender_stop(s, it->of.name, it->reason) == OUTBOX_OK ? 0 : -1;
 }
 

@@ -244,9 +244,8 @@ static void read_shards(struct options *o, const char *text)
     o->has_shards = is_auto || o->shard_count > 0;
     if (o->has_shards)
         return;
-    fprintf(stderr, "receiver: --shards '%s': name shards below %d, such as 0-3,7, or auto\n", text,
-            CARRIER_SHARDS);
-    exit(2);
+    end_with(2, "receiver: --shards '%s': name shards below %d, such as 0-3,7, or auto\n", text,
+             CARRIER_SHARDS);
 }
 
 static int read_option(struct options *o, int letter)
@@ -259,8 +258,8 @@ static int read_option(struct options *o, int letter)
     case 'k': o->shard.skew = option_number("receiver", "skew", optarg, 0, UINT32_MAX); break;
     case 'm': o->metrics = optarg; break;
     case 'u': o->shard.until_closed = 1; break;
-    case 'h': fputs(usage, stdout); exit(0);
-    case 'v': print_version("receiver"); exit(0);
+    case 'h': end_with(0, "%s", usage);
+    case 'v': end_with_version("receiver");
     default: return carrier_option("receiver", &o->shard.carrier, letter, optarg);
     }
     return 1;
@@ -273,7 +272,7 @@ static int read_options(struct options *o, int count, char **words)
         if (!read_option(o, letter))
             return 0;
     return optind == count && o->sessions && o->shard.store && o->shard.carrier.where
-           && o->has_shards && carrier_options_fit("receiver", &o->shard.carrier);
+           && o->has_shards;
 }
 
 int main(int count, char **words)
@@ -281,10 +280,9 @@ int main(int count, char **words)
     int status;
     options.shard = (struct shard_options){ .carrier = { .replicas = 1 }, .batch = 1024,
                                             .skew = 86400 };
-    if (!read_options(&options, count, words)) {
-        fputs(usage, stderr);
-        return 2;
-    }
+    if (!read_options(&options, count, words))
+        end_with(2, "%s", usage);
+    carrier_check_options("receiver", &options.shard.carrier);
     umask(077); /* databases have texts and frames: they are for their owner alone */
     end_by_signals();
     srand((unsigned)nanoseconds());

@@ -1,5 +1,6 @@
 #include "seal.h"
 #include "clock.h"
+#include "text.h"
 
 #include <stdio.h>
 #include <stdlib.h>
@@ -25,7 +26,7 @@ static int draw(uint8_t confounder[16])
 static enum seal_answer stop(struct sending *it, sqlite3_int64 at, const char *reason)
 {
     it->stopped_at = at;
-    snprintf(it->reason, sizeof it->reason, "%s", reason);
+    write_cut(it->reason, sizeof it->reason, "%s", reason);
     return SEAL_STOP;
 }
 
@@ -128,8 +129,8 @@ enum seal_answer seal_text(struct sealing *s, struct sending *it, const struct w
     if (text->body == NULL)
         return seal_close(s, it, text->id);
     if (text->len > TEXT_BYTES) {
-        snprintf(reason, sizeof reason, "a text has %zu bytes: the most are %d", text->len,
-                 TEXT_BYTES);
+        write_cut(reason, sizeof reason, "a text has %zu bytes: the most are %d", text->len,
+                  TEXT_BYTES);
         return stop(it, text->id, reason);
     }
     if (it->texts > 0 && it->size + text->len > BATCH_BYTES)

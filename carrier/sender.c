@@ -360,8 +360,8 @@ static int read_option(struct options *o, int letter)
     case 't': o->retry = option_number("sender", "retry", optarg, 1, 86400000); break;
     case 'm': o->metrics = optarg; break;
     case 'd': o->drain = 1; break;
-    case 'h': fputs(usage, stdout); exit(0);
-    case 'v': print_version("sender"); exit(0);
+    case 'h': end_with(0, "%s", usage);
+    case 'v': end_with_version("sender");
     default: return carrier_option("sender", &o->carrier, letter, optarg);
     }
     return 1;
@@ -373,8 +373,7 @@ static int read_options(struct options *o, int count, char **words)
     while ((letter = getopt_long(count, words, "", words_of_options, NULL)) != -1)
         if (!read_option(o, letter))
             return 0;
-    return optind == count && o->sessions && o->outbox && o->carrier.where
-           && carrier_options_fit("sender", &o->carrier);
+    return optind == count && o->sessions && o->outbox && o->carrier.where;
 }
 
 int main(int count, char **words)
@@ -382,10 +381,9 @@ int main(int count, char **words)
     static struct sender sender;
     sender.options.carrier.replicas = sender.options.batch = 1;
     sender.options.retry = 2000;
-    if (!read_options(&sender.options, count, words)) {
-        fputs(usage, stderr);
-        return 2;
-    }
+    if (!read_options(&sender.options, count, words))
+        end_with(2, "%s", usage);
+    carrier_check_options("sender", &sender.options.carrier);
     umask(077); /* databases have texts and frames: they are for their owner alone */
     end_by_signals();
     return work(&sender);

@@ -2,6 +2,7 @@
 #include "clock.h"
 #include "sender.h"
 #include "service.h"
+#include "text.h"
 
 #include <math.h>
 #include <stdio.h>
@@ -40,7 +41,7 @@ static void show_lane(const struct lane *lane, unsigned part)
     for (i = 0; i + 1 < METRICS; i++)
         values[i] = NAN;
     values[METRICS - 1] = (double)lane->backlog;
-    snprintf(labels, sizeof labels, "shard=\"%u\"", lane->shard);
+    write_whole(labels, sizeof labels, "shard=\"%u\"", lane->shard);
     service_alive(part, 1, labels, values);
 }
 

@@ -64,7 +64,7 @@ static struct sending *add(struct sender *s, const struct session *of)
         s->all.at[s->all.count++] = it;
         return it;
     }
-    tdelete(it, &s->by_name, by_name);
+    (void)tdelete(it, &s->by_name, by_name); /* NULL if it isn't there */
     free_sending(it);
     return NULL;
 }

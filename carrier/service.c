@@ -1,10 +1,11 @@
 #include "service.h"
 #include "carrier.h"
 #include "clock.h"
+#include "locks.h"
 #include "log.h"
+#include "text.h"
 
 #include <math.h>
-#include <pthread.h>
 #include <stdio.h>
 #include <stdlib.h>
 #include <string.h>
@@ -57,40 +58,40 @@ static struct part *expect(unsigned part)
 
 void service_expect(unsigned part)
 {
-    pthread_mutex_lock(&service.lock);
-    expect(part);
-    pthread_mutex_unlock(&service.lock);
+    take_lock(&service.lock);
+    (void)expect(part); /* the part: nothing more is said of it */
+    give_lock(&service.lock);
 }
 
 void service_leave(unsigned part)
 {
-    pthread_mutex_lock(&service.lock);
+    take_lock(&service.lock);
     service.parts[part] = (struct part){ 0 };
-    pthread_mutex_unlock(&service.lock);
+    give_lock(&service.lock);
 }
 
 void service_alive(unsigned part, int does_work, const char *labels, const double *values)
 {
     struct part *it;
-    pthread_mutex_lock(&service.lock);
+    take_lock(&service.lock);
     it = expect(part);
     it->alive = nanoseconds();
     if (does_work)
         it->working = it->alive;
-    snprintf(it->labels, sizeof it->labels, "%s", labels);
+    write_whole(it->labels, sizeof it->labels, "%s", labels);
     memcpy(it->values, values, service.count * sizeof *values);
-    pthread_mutex_unlock(&service.lock);
+    give_lock(&service.lock);
 }
 
 void service_name(unsigned part, const char *const *names, size_t count)
 {
     struct part *it = &service.parts[part];
     size_t i;
-    pthread_mutex_lock(&service.lock);
+    take_lock(&service.lock);
     it->name_count = count < SERVICE_NAMES ? count : SERVICE_NAMES;
     for (i = 0; i < it->name_count; i++)
-        snprintf(it->names[i], sizeof it->names[i], "%s", names[i]);
-    pthread_mutex_unlock(&service.lock);
+        write_whole(it->names[i], sizeof it->names[i], "%s", names[i]);
+    give_lock(&service.lock);
 }
 
 static int is_recent(uint64_t moment)
@@ -103,12 +104,12 @@ static void ask_all(int *are_alive, int *do_work)
 {
     unsigned i;
     *are_alive = *do_work = 1;
-    pthread_mutex_lock(&service.lock);
+    take_lock(&service.lock);
     for (i = 0; i < service.part_count; i++) {
         *are_alive &= !service.parts[i].is_expected || is_recent(service.parts[i].alive);
         *do_work &= !service.parts[i].is_expected || is_recent(service.parts[i].working);
     }
-    pthread_mutex_unlock(&service.lock);
+    give_lock(&service.lock);
 }
 
 /* ---- To the supervisor */
@@ -146,7 +147,8 @@ void service_tell_end(void)
 #ifdef WITH_METRICS
 static void print_head(FILE *page, const struct metric *it)
 {
-    fprintf(page, "# HELP %s %s\n# TYPE %s %s\n", it->name, it->help, it->name, it->type);
+    /* print_all asks whether all was written. */
+    (void)fprintf(page, "# HELP %s %s\n# TYPE %s %s\n", it->name, it->help, it->name, it->type);
 }
 
 static void print_metric(FILE *page, unsigned metric)
@@ -159,8 +161,9 @@ static void print_metric(FILE *page, unsigned metric)
         const struct part *part = &service.parts[i];
         const char *comma = *part->labels != 0 && it->label != NULL ? "," : "";
         if (part->alive != 0 && !isnan(part->values[metric]))
-            fprintf(page, "%s{%s%s%s} %.17g\n", it->name, part->labels, comma,
-                    it->label != NULL ? it->label : "", part->values[metric]);
+            (void)fprintf(page, "%s{%s%s%s} %.17g\n", it->name, part->labels, comma,
+                          it->label != NULL ? it->label : "",
+                          part->values[metric]); /* as in print_head */
     }
 }
 
@@ -171,8 +174,9 @@ static void print_sessions(FILE *page)
     print_head(page, service.sessions);
     for (i = 0; i < service.part_count; i++)
         for (name = 0; name < service.parts[i].name_count; name++)
-            fprintf(page, "%s{%s,session=\"%s\"} 1\n", service.sessions->name,
-                    service.parts[i].labels, service.parts[i].names[name]);
+            (void)fprintf(page, "%s{%s,session=\"%s\"} 1\n", service.sessions->name,
+                          service.parts[i].labels,
+                          service.parts[i].names[name]); /* as in print_head */
 }
 
 /* All numbers; the caller frees the text. */
@@ -181,15 +185,17 @@ static char *print_all(size_t *size)
     char *text = NULL;
     FILE *page = open_memstream(&text, size);
     unsigned i;
+    int is_whole;
     if (page == NULL)
         return NULL;
-    pthread_mutex_lock(&service.lock);
+    take_lock(&service.lock);
     for (i = 0; i < service.count; i++)
         print_metric(page, i);
     if (service.sessions != NULL)
         print_sessions(page);
-    pthread_mutex_unlock(&service.lock);
-    if (fclose(page) == 0)
+    give_lock(&service.lock);
+    is_whole = !ferror(page);
+    if (fclose(page) == 0 && is_whole)
         return text;
     free(text);
     return NULL;
@@ -256,7 +262,8 @@ static struct addrinfo *address_of(const char *where)
     int is_long = *where == '[' && port != NULL && port > where + 1 && port[-1] == ']';
     if (port == NULL || (size_t)(port - where) >= sizeof address)
         return NULL;
-    snprintf(address, sizeof address, "%.*s", (int)(port - where) - 2 * is_long, where + is_long);
+    write_whole(address, sizeof address, "%.*s", (int)(port - where) - 2 * is_long,
+                where + is_long);
     return getaddrinfo(address, port + 1, &hints, &found) == 0 ? found : NULL;
 }
 

@@ -1,6 +1,7 @@
 #include "serving.h"
 #include "clock.h"
 #include "ending.h"
+#include "locks.h"
 #include "log.h"
 #include "service.h"
 
@@ -45,10 +46,10 @@ static int is_set(const int *flag)
 /* Has a shard use the file's sessions, unless it does. */
 static void use_sessions(struct shard *shard)
 {
-    pthread_mutex_lock(&serving.lock);
+    take_lock(&serving.lock);
     if (shard->sessions != serving.sessions)
         shard_use(shard, serving.sessions);
-    pthread_mutex_unlock(&serving.lock);
+    give_lock(&serving.lock);
 }
 
 static int has_to_end(const struct thread *it)
@@ -150,10 +151,10 @@ int serving_begin(const struct shard_options *options, struct sessions *sessions
 
 void serving_use(struct sessions *sessions)
 {
-    pthread_mutex_lock(&serving.lock);
+    take_lock(&serving.lock);
     sessions_forget(serving.sessions);
     serving.sessions = sessions_share(sessions);
-    pthread_mutex_unlock(&serving.lock);
+    give_lock(&serving.lock);
 }
 
 int serving_start(unsigned shard)

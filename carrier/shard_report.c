@@ -2,6 +2,7 @@
 #include "log.h"
 #include "service.h"
 #include "shard.h"
+#include "text.h"
 
 #include <math.h>
 #include <stdio.h>
@@ -101,7 +102,7 @@ void shard_show(struct shard *s, unsigned part)
     };
     for (i = 0; i < REFUSALS; i++)
         values[shard_metrics_count - REFUSALS + i] = (double)c->refused[i];
-    snprintf(labels, sizeof labels, "shard=\"%u\"", s->number);
+    write_whole(labels, sizeof labels, "shard=\"%u\"", s->number);
     service_alive(part, s->is_loaded, labels, values);
     name_standing(s, part);
 }

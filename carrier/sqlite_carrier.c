@@ -1,8 +1,10 @@
 /* A carrier of one SQLite file, which needs no server: for one machine, and to begin with. All its
  * shards have one incarnation, which is drawn when the file is made. */
 #include "carrier.h"
+#include "clock.h"
 #include "database.h"
 #include "log.h"
+#include "text.h"
 
 #include <stdio.h>
 #include <stdlib.h>
@@ -14,7 +16,7 @@ enum { INSERT, SELECT, SELECT_LAST, SELECT_END, COUNT, STATEMENTS };
 struct sqlite_carrier {
     struct carrier base;
     sqlite3 *db;
-    sqlite3_stmt *statements[STATEMENTS];
+    struct statement statements[STATEMENTS];
     uint64_t incarnation;
     /* What was published since the last confirmations, in one transaction. */
     struct confirmed pending[PENDING];
@@ -73,14 +75,14 @@ static int publish(struct carrier *base, unsigned shard, const char *session, ui
                    uint64_t number, const uint8_t *frame, size_t len)
 {
     struct sqlite_carrier *c = (struct sqlite_carrier *)base;
-    sqlite3_stmt *insert = c->statements[INSERT];
+    struct statement *insert = &c->statements[INSERT];
     if (begin_publishing(c) != 0)
         return -1;
-    sqlite3_bind_int64(insert, 1, shard);
-    sqlite3_bind_text(insert, 2, session, -1, SQLITE_STATIC);
-    sqlite3_bind_blob64(insert, 3, frame, len, SQLITE_STATIC);
+    bind_number(insert, 1, shard);
+    bind_text(insert, 2, session);
+    bind_bytes(insert, 3, frame, len);
     if (step_once(insert) != 0) {
-        run(c->db, "ROLLBACK");
+        roll_back(c->db);
         c->stored = 0;
         return -1;
     }
@@ -97,7 +99,7 @@ static int confirmed(struct carrier *base, struct confirmed *list, size_t room, 
     (void)milliseconds;
     if (!c->is_committed && c->stored > 0) {
         if (run(c->db, "COMMIT") != 0) {
-            run(c->db, "ROLLBACK");
+            roll_back(c->db);
             c->stored = 0;
             return -1;
         }
@@ -122,13 +124,15 @@ static void seek(struct carrier *base, unsigned shard, uint64_t offset)
  * from a copy. What it has now is read from the beginning then: repeats are refused. */
 static int check_end(struct sqlite_carrier *c)
 {
-    sqlite3_stmt *select = c->statements[SELECT_END];
+    struct statement *select = &c->statements[SELECT_END];
     uint64_t end;
-    sqlite3_bind_int64(select, 1, c->shard);
-    if (step_row(select) != 1)
+    int has_row;
+    bind_number(select, 1, c->shard);
+    has_row = step_row(select) == 1;
+    end = has_row ? (uint64_t)sqlite3_column_int64(select->at, 0) : 0;
+    end_rows(select);
+    if (!has_row)
         return -1;
-    end = (uint64_t)sqlite3_column_int64(select, 0);
-    sqlite3_reset(select);
     if (end < c->after) {
         log_fact(LEVEL_WARNING, "shard_lost_frames", field_number("shard", c->shard),
                  field_number("end", end), field_number("offset", c->after),
@@ -141,11 +145,12 @@ static int check_end(struct sqlite_carrier *c)
 
 /* Copies the frame of a row after the first `used` bytes; -1 where there is no room. A fetch's
  * first frame has room unless memory is out. */
-static int copy_row(struct sqlite_carrier *c, sqlite3_stmt *select, struct carried *it, size_t used)
+static int copy_row(struct sqlite_carrier *c, const struct statement *select, struct carried *it,
+                    size_t used)
 {
-    const void *frame = sqlite3_column_blob(select, 2);
-    const unsigned char *session = sqlite3_column_text(select, 1);
-    it->len = (size_t)sqlite3_column_bytes(select, 2);
+    const void *frame = sqlite3_column_blob(select->at, 2);
+    const unsigned char *session = sqlite3_column_text(select->at, 1);
+    it->len = (size_t)sqlite3_column_bytes(select->at, 2);
     if (it->len > c->room - used) {
         uint8_t *more = used > 0 ? NULL : realloc(c->frames, it->len);
         if (more == NULL)
@@ -153,8 +158,8 @@ static int copy_row(struct sqlite_carrier *c, sqlite3_stmt *select, struct carri
         c->frames = more;
         c->room = it->len;
     }
-    it->offset = (uint64_t)sqlite3_column_int64(select, 0);
-    snprintf(it->session, sizeof it->session, "%s", session != NULL ? (const char *)session : "");
+    it->offset = (uint64_t)sqlite3_column_int64(select->at, 0);
+    write_cut(it->session, sizeof it->session, "%s", session != NULL ? (const char *)session : "");
     it->frame = c->frames + used;
     if (it->len > 0)
         memcpy(c->frames + used, frame, it->len);
@@ -164,18 +169,18 @@ static int copy_row(struct sqlite_carrier *c, sqlite3_stmt *select, struct carri
 /* What stands after the reader now. */
 static int fetch_now(struct sqlite_carrier *c, struct carried *list, size_t limit)
 {
-    sqlite3_stmt *select = c->statements[SELECT];
+    struct statement *select = &c->statements[SELECT];
     size_t used = 0;
     int count = 0, row = 0;
-    sqlite3_bind_int64(select, 1, c->shard);
-    sqlite3_bind_int64(select, 2, (sqlite3_int64)c->after);
-    sqlite3_bind_int64(select, 3, (sqlite3_int64)limit);
+    bind_number(select, 1, c->shard);
+    bind_number(select, 2, (sqlite3_int64)c->after);
+    bind_number(select, 3, (sqlite3_int64)limit);
     while ((size_t)count < limit && (row = step_row(select)) == 1) {
         if (copy_row(c, select, &list[count], used) != 0)
             break; /* the rest comes with the next fetch */
         used += list[count++].len;
     }
-    sqlite3_reset(select);
+    end_rows(select);
     if (count > 0)
         c->after = list[count - 1].offset;
     return count > 0 || row >= 0 ? count : -1;
@@ -189,7 +194,7 @@ static int fetch(struct carrier *base, struct carried *list, size_t room, int mi
         return -1;
     count = fetch_now(c, list, room);
     while (count == 0 && milliseconds > 0) {
-        sqlite3_sleep(POLL);
+        pause_milliseconds(POLL);
         milliseconds -= POLL;
         count = fetch_now(c, list, room);
     }
@@ -199,28 +204,28 @@ static int fetch(struct carrier *base, struct carried *list, size_t room, int mi
 static int last(struct carrier *base, unsigned shard, const char *session, struct carried *last)
 {
     struct sqlite_carrier *c = (struct sqlite_carrier *)base;
-    sqlite3_stmt *select = c->statements[SELECT_LAST];
+    struct statement *select = &c->statements[SELECT_LAST];
     int row;
-    sqlite3_bind_int64(select, 1, shard);
-    sqlite3_bind_text(select, 2, session, -1, SQLITE_STATIC);
+    bind_number(select, 1, shard);
+    bind_text(select, 2, session);
     row = step_row(select);
     if (row == 1 && copy_row(c, select, last, 0) != 0)
         row = -1;
-    sqlite3_reset(select);
+    end_rows(select);
     return row;
 }
 
 static int behind(struct carrier *base, uint64_t *frames)
 {
     struct sqlite_carrier *c = (struct sqlite_carrier *)base;
-    sqlite3_stmt *count = c->statements[COUNT];
+    struct statement *count = &c->statements[COUNT];
     int row;
-    sqlite3_bind_int64(count, 1, c->shard);
-    sqlite3_bind_int64(count, 2, (sqlite3_int64)c->after);
+    bind_number(count, 1, c->shard);
+    bind_number(count, 2, (sqlite3_int64)c->after);
     row = step_row(count);
     if (row == 1)
-        *frames = (uint64_t)sqlite3_column_int64(count, 0);
-    sqlite3_reset(count);
+        *frames = (uint64_t)sqlite3_column_int64(count->at, 0);
+    end_rows(count);
     return row == 1 ? 0 : -1;
 }
 
@@ -229,27 +234,24 @@ static int behind(struct carrier *base, uint64_t *frames)
 static void close_it(struct carrier *base)
 {
     struct sqlite_carrier *c = (struct sqlite_carrier *)base;
-    int i;
-    for (i = 0; i < STATEMENTS; i++)
-        sqlite3_finalize(c->statements[i]);
-    sqlite3_close(c->db);
+    finalize(c->statements, STATEMENTS);
+    close_database(c->db);
     free(c->frames);
     free(c);
 }
 
 static int open_it(struct sqlite_carrier *c, const char *path)
 {
-    sqlite3_stmt *select;
+    struct statement select = { NULL, 0 };
     c->room = 1 << 20;
     c->frames = malloc(c->room);
     c->db = open_database(path, tables);
     if (c->frames == NULL || c->db == NULL
         || prepare_all(c->db, c->statements, sql, STATEMENTS) != 0)
         return -1;
-    select = prepare(c->db, "SELECT number FROM incarnation");
-    if (select != NULL && step_row(select) == 1)
-        c->incarnation = (uint64_t)sqlite3_column_int64(select, 0);
-    sqlite3_finalize(select);
+    if (prepare(c->db, &select, "SELECT number FROM incarnation") == 0 && step_row(&select) == 1)
+        c->incarnation = (uint64_t)sqlite3_column_int64(select.at, 0);
+    finalize(&select, 1);
     return c->incarnation > 0 ? 0 : -1;
 }
 

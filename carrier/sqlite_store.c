@@ -17,9 +17,9 @@ enum { EFFECTS = 16 }; /* the most statements of effects */
 struct sqlite_store {
     struct store base;
     sqlite3 *db;
-    sqlite3_stmt *statements[STATEMENTS];
+    struct statement statements[STATEMENTS];
     const char *effects[EFFECTS]; /* the statements of effects, and what they are prepared as */
-    sqlite3_stmt *prepared[EFFECTS];
+    struct statement prepared[EFFECTS];
     int is_fenced;                /* something that this transaction moves stood elsewhere */
 };
 
@@ -69,49 +69,49 @@ static const char *const own_sql[STATEMENTS] = {
 static int reached(struct store *base, unsigned shard, struct reached *reached)
 {
     struct sqlite_store *s = (struct sqlite_store *)base;
-    sqlite3_stmt *select = s->statements[SELECT_REACHED];
+    struct statement *select = &s->statements[SELECT_REACHED];
     int row;
-    sqlite3_bind_int64(select, 1, shard);
+    bind_number(select, 1, shard);
     row = step_row(select);
-    reached->incarnation = row == 1 ? (uint64_t)sqlite3_column_int64(select, 0) : 0;
-    reached->offset = row == 1 ? (uint64_t)sqlite3_column_int64(select, 1) : 0;
-    sqlite3_reset(select);
+    reached->incarnation = row == 1 ? (uint64_t)sqlite3_column_int64(select->at, 0) : 0;
+    reached->offset = row == 1 ? (uint64_t)sqlite3_column_int64(select->at, 1) : 0;
+    end_rows(select);
     return row < 0 ? -1 : 0;
 }
 
-static void read_demand(sqlite3_stmt *select, struct demand *demand)
+static void read_demand(struct statement *select, struct demand *demand)
 {
-    demand->next = (uint64_t)sqlite3_column_int64(select, 0);
-    demand->closed = (uint32_t)sqlite3_column_int(select, 1);
-    demand->missed = (uint32_t)sqlite3_column_int(select, 2);
-    demand->at = (uint64_t)sqlite3_column_int64(select, 3);
-    demand->shard = sqlite3_column_int(select, 4);
+    demand->next = (uint64_t)sqlite3_column_int64(select->at, 0);
+    demand->closed = (uint32_t)sqlite3_column_int(select->at, 1);
+    demand->missed = (uint32_t)sqlite3_column_int(select->at, 2);
+    demand->at = (uint64_t)sqlite3_column_int64(select->at, 3);
+    demand->shard = sqlite3_column_int(select->at, 4);
     demand->is_stored = 1;
 }
 
 /* Passes all rows of sessions that a statement gives. */
-static int take_rows(sqlite3_stmt *select, store_take *take, void *given)
+static int take_rows(struct statement *select, store_take *take, void *given)
 {
     int row, answer = 0;
     while (answer == 0 && (row = step_row(select)) != 0) {
-        const char *name = row == 1 ? (const char *)sqlite3_column_text(select, 5) : NULL;
+        const char *name = row == 1 ? (const char *)sqlite3_column_text(select->at, 5) : NULL;
         struct demand demand;
         if (row == 1)
             read_demand(select, &demand);
         answer = name == NULL || take(given, name, &demand) != 0 ? -1 : 0;
     }
-    sqlite3_reset(select);
+    end_rows(select);
     return answer;
 }
 
 static int sessions(struct store *base, const char *const *names, size_t count, store_take *take,
                     void *given)
 {
-    sqlite3_stmt *select = ((struct sqlite_store *)base)->statements[SELECT_SESSION];
+    struct statement *select = &((struct sqlite_store *)base)->statements[SELECT_SESSION];
     size_t i;
     int answer = 0;
     for (i = 0; i < count && answer == 0; i++) {
-        sqlite3_bind_text(select, 1, names[i], -1, SQLITE_STATIC);
+        bind_text(select, 1, names[i]);
         answer = take_rows(select, take, given);
     }
     return answer;
@@ -119,27 +119,27 @@ static int sessions(struct store *base, const char *const *names, size_t count, 
 
 static int standing(struct store *base, unsigned shard, store_take *take, void *given)
 {
-    sqlite3_stmt *select = ((struct sqlite_store *)base)->statements[SELECT_STANDING];
-    sqlite3_bind_int64(select, 1, shard);
+    struct statement *select = &((struct sqlite_store *)base)->statements[SELECT_STANDING];
+    bind_number(select, 1, shard);
     return take_rows(select, take, given);
 }
 
 static int passed(struct store *base, unsigned shard, store_note *take, void *given)
 {
-    sqlite3_stmt *select = ((struct sqlite_store *)base)->statements[SELECT_PASSED];
+    struct statement *select = &((struct sqlite_store *)base)->statements[SELECT_PASSED];
     int row, answer = 0;
-    sqlite3_bind_int64(select, 1, shard);
+    bind_number(select, 1, shard);
     while (answer == 0 && (row = step_row(select)) != 0) {
-        const char *name = row == 1 ? (const char *)sqlite3_column_text(select, 1) : NULL;
-        uint64_t at = row == 1 ? (uint64_t)sqlite3_column_int64(select, 0) : 0;
+        const char *name = row == 1 ? (const char *)sqlite3_column_text(select->at, 1) : NULL;
+        uint64_t at = row == 1 ? (uint64_t)sqlite3_column_int64(select->at, 0) : 0;
         answer = name == NULL || take(given, name, at) != 0 ? -1 : 0;
     }
-    sqlite3_reset(select);
+    end_rows(select);
     return answer;
 }
 
 /* Runs a statement that moves one row, if it stood where it was said. */
-static int move(struct sqlite_store *s, sqlite3_stmt *statement)
+static int move(struct sqlite_store *s, struct statement *statement)
 {
     if (step_once(statement) != 0)
         return -1;
@@ -150,46 +150,46 @@ static int move(struct sqlite_store *s, sqlite3_stmt *statement)
 /* The shard is another list than before. */
 static int reset_sessions(struct sqlite_store *s, unsigned shard)
 {
-    sqlite3_bind_int64(s->statements[RESET_SESSIONS], 1, shard);
-    sqlite3_bind_int64(s->statements[FIND_ALL], 1, shard);
-    return step_once(s->statements[RESET_SESSIONS]) == 0 && step_once(s->statements[FIND_ALL]) == 0
-               ? 0 : -1;
+    struct statement *reset = &s->statements[RESET_SESSIONS], *find = &s->statements[FIND_ALL];
+    bind_number(reset, 1, shard);
+    bind_number(find, 1, shard);
+    return step_once(reset) == 0 && step_once(find) == 0 ? 0 : -1;
 }
 
 static int begin(struct store *base, unsigned shard, const struct reached *from,
                  const struct reached *to)
 {
     struct sqlite_store *s = (struct sqlite_store *)base;
-    sqlite3_stmt *statement = s->statements[MOVE_SHARD];
+    struct statement *statement = &s->statements[MOVE_SHARD];
     s->is_fenced = 0;
     if (begin_writing(s->db) != 0)
         return -1;
-    sqlite3_bind_int64(statement, 1, shard);
-    sqlite3_bind_int64(statement, 2, (sqlite3_int64)from->incarnation);
-    sqlite3_bind_int64(statement, 3, (sqlite3_int64)from->offset);
-    sqlite3_bind_int64(statement, 4, (sqlite3_int64)to->incarnation);
-    sqlite3_bind_int64(statement, 5, (sqlite3_int64)to->offset);
+    bind_number(statement, 1, shard);
+    bind_number(statement, 2, (sqlite3_int64)from->incarnation);
+    bind_number(statement, 3, (sqlite3_int64)from->offset);
+    bind_number(statement, 4, (sqlite3_int64)to->incarnation);
+    bind_number(statement, 5, (sqlite3_int64)to->offset);
     if (move(s, statement) != 0)
         return -1;
     return store_is_other(from, to) ? reset_sessions(s, shard) : 0;
 }
 
 /* Binds five places of a statement, from this one on. */
-static void bind_demand(sqlite3_stmt *statement, int place, const struct demand *it)
+static void bind_demand(struct statement *statement, int place, const struct demand *it)
 {
-    sqlite3_bind_int64(statement, place, (sqlite3_int64)it->next);
-    sqlite3_bind_int64(statement, place + 1, it->closed);
-    sqlite3_bind_int64(statement, place + 2, it->missed);
-    sqlite3_bind_int64(statement, place + 3, (sqlite3_int64)it->at);
-    sqlite3_bind_int64(statement, place + 4, it->shard);
+    bind_number(statement, place, (sqlite3_int64)it->next);
+    bind_number(statement, place + 1, it->closed);
+    bind_number(statement, place + 2, it->missed);
+    bind_number(statement, place + 3, (sqlite3_int64)it->at);
+    bind_number(statement, place + 4, it->shard);
 }
 
 static int advance(struct store *base, const char *session, const struct demand *from,
                    const struct demand *to)
 {
     struct sqlite_store *s = (struct sqlite_store *)base;
-    sqlite3_stmt *statement = s->statements[from->is_stored ? MOVE_SESSION : ADD_SESSION];
-    sqlite3_bind_text(statement, 1, session, -1, SQLITE_STATIC);
+    struct statement *statement = &s->statements[from->is_stored ? MOVE_SESSION : ADD_SESSION];
+    bind_text(statement, 1, session);
     bind_demand(statement, 2, to);
     if (from->is_stored)
         bind_demand(statement, 7, from);
@@ -198,27 +198,26 @@ static int advance(struct store *base, const char *session, const struct demand 
 
 static int pass(struct store *base, unsigned shard, const char *session, uint64_t offset)
 {
-    sqlite3_stmt *statement = ((struct sqlite_store *)base)->statements[PASS_SESSION];
-    sqlite3_bind_int64(statement, 1, shard);
-    sqlite3_bind_text(statement, 2, session, -1, SQLITE_STATIC);
-    sqlite3_bind_int64(statement, 3, (sqlite3_int64)offset);
-    sqlite3_bind_int64(statement, 4, STORE_NOTED);
+    struct statement *statement = &((struct sqlite_store *)base)->statements[PASS_SESSION];
+    bind_number(statement, 1, shard);
+    bind_text(statement, 2, session);
+    bind_number(statement, 3, (sqlite3_int64)offset);
+    bind_number(statement, 4, STORE_NOTED);
     return step_once(statement);
 }
 
 static int find(struct store *base, unsigned shard, const char *session)
 {
-    sqlite3_stmt *statement = ((struct sqlite_store *)base)->statements[FIND_SESSION];
-    sqlite3_bind_int64(statement, 1, shard);
-    sqlite3_bind_text(statement, 2, session, -1, SQLITE_STATIC);
+    struct statement *statement = &((struct sqlite_store *)base)->statements[FIND_SESSION];
+    bind_number(statement, 1, shard);
+    bind_text(statement, 2, session);
     return step_once(statement);
 }
 
 static void rollback(struct store *base)
 {
     struct sqlite_store *s = (struct sqlite_store *)base;
-    if (!sqlite3_get_autocommit(s->db))
-        run(s->db, "ROLLBACK");
+    roll_back(s->db);
 }
 
 static int commit(struct store *base)
@@ -237,7 +236,7 @@ static int commit(struct store *base)
 /* ---- Effects */
 
 /* The statement, which is prepared when it is first met. */
-static sqlite3_stmt *prepared(struct sqlite_store *s, const char *sql)
+static struct statement *prepared(struct sqlite_store *s, const char *sql)
 {
     unsigned i = 0;
     while (i < EFFECTS && s->effects[i] != NULL && s->effects[i] != sql)
@@ -246,27 +245,25 @@ static sqlite3_stmt *prepared(struct sqlite_store *s, const char *sql)
         log_fact(LEVEL_ERROR, "effects_too_many", field_number("most", EFFECTS));
         return NULL;
     }
-    if (s->effects[i] == NULL && (s->prepared[i] = prepare(s->db, sql)) != NULL)
+    if (s->effects[i] == NULL && prepare(s->db, &s->prepared[i], sql) == 0)
         s->effects[i] = sql;
-    return s->prepared[i];
+    return s->effects[i] != NULL ? &s->prepared[i] : NULL;
 }
 
-static void bind(sqlite3_stmt *statement, int place, const struct value *value)
+static void bind(struct statement *statement, int place, const struct value *value)
 {
     if (value->kind == VALUE_NUMBER)
-        sqlite3_bind_int64(statement, place, (sqlite3_int64)value->number);
+        bind_number(statement, place, (sqlite3_int64)value->number);
     else if (value->kind == VALUE_TEXT)
-        sqlite3_bind_text(statement, place, value->at, (int)value->len, SQLITE_STATIC);
-    else if (value->len == 0)
-        sqlite3_bind_zeroblob(statement, place, 0);
+        bind_letters(statement, place, value->at, value->len);
     else
-        sqlite3_bind_blob64(statement, place, value->at, value->len, SQLITE_STATIC);
+        bind_bytes(statement, place, value->at, value->len);
 }
 
 static int run_effect(struct store *base, const char *sql, const struct value *values,
                       unsigned count)
 {
-    sqlite3_stmt *statement = prepared((struct sqlite_store *)base, sql);
+    struct statement *statement = prepared((struct sqlite_store *)base, sql);
     unsigned i;
     if (statement == NULL)
         return -1;
@@ -280,12 +277,9 @@ static int run_effect(struct store *base, const char *sql, const struct value *v
 static void close_it(struct store *base)
 {
     struct sqlite_store *s = (struct sqlite_store *)base;
-    int i;
-    for (i = 0; i < STATEMENTS; i++)
-        sqlite3_finalize(s->statements[i]);
-    for (i = 0; i < EFFECTS; i++)
-        sqlite3_finalize(s->prepared[i]);
-    sqlite3_close(s->db);
+    finalize(s->statements, STATEMENTS);
+    finalize(s->prepared, EFFECTS);
+    close_database(s->db);
     free(s);
 }
 
@@ -312,7 +306,7 @@ static int complete(sqlite3 *db)
         && run(db, effect_tables_sqlite) == 0
         && run(db, "COMMIT") == 0)
         return 0;
-    run(db, "ROLLBACK");
+    roll_back(db);
     return -1;
 }
 

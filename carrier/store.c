@@ -1,6 +1,7 @@
 /* Which store it is. */
 #include "store.h"
 #include "log.h"
+#include "text.h"
 
 #include <stdio.h>
 #include <string.h>
@@ -20,7 +21,7 @@ struct store *store_open(const char *where, unsigned shard)
 #endif
     }
     /* What follows the first ':' may be a password. */
-    snprintf(kind, sizeof kind, "%.*s", (int)strcspn(where, ":"), where);
+    write_cut(kind, sizeof kind, "%.*s", (int)strcspn(where, ":"), where);
     log_fact(LEVEL_ERROR, "store_unknown", field_text("store", kind), field_text("text",
              "this is no store: name sqlite:FILE or postgresql://USER@HOST/DATABASE"));
     return NULL;

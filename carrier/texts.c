@@ -6,6 +6,7 @@
  * room. */
 #include "clock.h"
 #include "sender.h"
+#include "text.h"
 
 #include <stdio.h>
 #include <string.h>
@@ -49,9 +50,9 @@ static int check(struct sender *s, struct sending *it)
         return -1;
     if (found == 0 || !number_of(s, &it->of, &last, &number) || number < it->progress.next)
         return 1;
-    snprintf(it->reason, sizeof it->reason, "this outbox is older than what has left: it goes on at"
-             " number %llu, and frame %llu is in the carrier: the session needs a new key",
-             (unsigned long long)it->progress.next, (unsigned long long)number);
+    write_cut(it->reason, sizeof it->reason, "this outbox is older than what has left: it goes on"
+              " at number %llu, and frame %llu is in the carrier: the session needs a new key",
+              (unsigned long long)it->progress.next, (unsigned long long)number);
     it->stopped_at = 1;
     return 0;
 }
@@ -109,7 +110,7 @@ static int tell_unknown(struct sender *s, const char *session)
 {
     if (strncmp(s->unknown, session, sizeof s->unknown - 1) == 0)
         return 0;
-    snprintf(s->unknown, sizeof s->unknown, "%s", session);
+    write_cut(s->unknown, sizeof s->unknown, "%s", session);
     return sender_tell_stopped(s, session, "it has texts, and no line among the sessions");
 }
 

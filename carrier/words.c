@@ -1,6 +1,7 @@
 #include "words.h"
 
 #include <krbrelay.h>
+#include <stdarg.h>
 #include <stdio.h>
 #include <stdlib.h>
 #include <string.h>
@@ -33,16 +34,26 @@ unsigned option_number(const char *program, const char *option, const char *word
     uint64_t number = 0;
     if (read_number(word, low, high, &number))
         return (unsigned)number;
-    fprintf(stderr, "%s: --%s '%s': name a number from %llu to %llu\n", program, option, word,
-            (unsigned long long)low, (unsigned long long)high);
-    exit(2);
+    end_with(2, "%s: --%s '%s': name a number from %llu to %llu\n", program, option, word,
+             (unsigned long long)low, (unsigned long long)high);
 }
 
-void print_version(const char *program)
+void end_with(int status, const char *format, ...)
+{
+    FILE *to = status == 0 ? stdout : stderr;
+    va_list values;
+    int is_printed;
+    va_start(values, format);
+    is_printed = vfprintf(to, format, values) >= 0 && fflush(to) == 0;
+    va_end(values);
+    exit(is_printed ? status : 1);
+}
+
+void end_with_version(const char *program)
 {
     uint32_t version = krbrelay_version();
-    printf("%s of krbrelay %u.%u.%u\n", program, version >> 16, version >> 8 & 0xff,
-           version & 0xff);
+    end_with(0, "%s of krbrelay %u.%u.%u\n", program, version >> 16, version >> 8 & 0xff,
+             version & 0xff);
 }
 
 /* Reads N or N-M, and answers how many that are. */

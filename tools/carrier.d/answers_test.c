@@ -1,0 +1,98 @@
+/* What is done about answers that no caller looks at: a statement isn't run with a value that it
+ * wasn't given, and what can't be ends the program. */
+#include "check.h"
+#include "database.h"
+#include "locks.h"
+#include "text.h"
+
+#include <string.h>
+#include <sys/wait.h>
+#include <unistd.h>
+
+static sqlite3_int64 count_of(sqlite3 *db, const char *sql)
+{
+    struct statement count;
+    sqlite3_int64 rows;
+    check(prepare(db, &count, sql) == 0, "a question is prepared");
+    check(step_row(&count) == 1, "it has a row");
+    rows = sqlite3_column_int64(count.at, 0);
+    end_rows(&count);
+    finalize(&count, 1);
+    return rows;
+}
+
+static void test_values(void)
+{
+    static const char *const sql[] = { "INSERT INTO it VALUES (?, ?, ?)" };
+    sqlite3 *db = open_database(":memory:", "CREATE TABLE it (number INTEGER, text TEXT, bytes BLOB)");
+    struct statement insert[1];
+    check(db != NULL && prepare_all(db, insert, sql, 1) == 0, "a statement is prepared");
+    bind_number(insert, 4, 7);
+    check(step_once(insert) == -1, "a place that it doesn't have: it isn't run");
+    check(count_of(db, "SELECT count(*) FROM it") == 0, "and has no effect");
+    bind_number(insert, 1, 7);
+    bind_letters(insert, 2, "ab", 1);
+    bind_bytes(insert, 3, NULL, 0);
+    check(step_once(insert) == 0, "the next time it is");
+    check(count_of(db, "SELECT count(*) FROM it WHERE number = 7 AND text = 'a'"
+                       " AND typeof(bytes) = 'blob' AND length(bytes) = 0") == 1, "with its values");
+    check(step_row(insert) == 0, "a row that is open");
+    bind_text(insert, 4, "none");
+    check(step_row(insert) == -1, "a text without a place");
+    end_rows(insert);
+    check(step_once(insert) == 0, "after the end of its rows it is run again");
+    finalize(insert, 1);
+    close_database(db);
+}
+
+/* The status with which a process ends that does this. */
+static int status_of(void (*what)(void))
+{
+    pid_t child = fork();
+    int status = -1;
+    check(child >= 0, "fork");
+    if (child == 0) {
+        what();
+        _exit(0);
+    }
+    check(waitpid(child, &status, 0) == child, "waitpid");
+    return WIFEXITED(status) ? WEXITSTATUS(status) : -1;
+}
+
+static void write_too_much(void)
+{
+    char text[4];
+    write_whole(text, sizeof text, "%d", 1234);
+}
+
+static void write_enough(void)
+{
+    char text[4];
+    write_whole(text, sizeof text, "%d", 123);
+    check(strcmp(text, "123") == 0, "all of it");
+    write_cut(text, sizeof text, "%d", 12345);
+    check(strcmp(text, "123") == 0, "what has room");
+}
+
+static void lock_twice(void)
+{
+    pthread_mutexattr_t kind;
+    pthread_mutex_t lock;
+    check(pthread_mutexattr_init(&kind) == 0
+          && pthread_mutexattr_settype(&kind, PTHREAD_MUTEX_ERRORCHECK) == 0
+          && pthread_mutex_init(&lock, &kind) == 0, "a lock");
+    take_lock(&lock);
+    give_lock(&lock);
+    take_lock(&lock);
+    take_lock(&lock);
+}
+
+int main(void)
+{
+    test_values();
+    check(status_of(write_enough) == 0, "a text that has room");
+    check(status_of(write_too_much) == 1, "a name that is cut ends the program");
+    check(status_of(lock_twice) == 1, "so does a lock that can't be taken");
+    puts("passed");
+    return 0;
+}
