@@ -32,29 +32,38 @@ static int look(struct shard *s, struct receiving *of, const struct carried *it,
     return carried.has_number ? 0 : -1;
 }
 
-/* The session keeps its place: what it misses stands after it. */
-static void miss(struct shard *s, struct receiving *of, uint32_t missed)
+/* The session's place after a frame (krbrelay_place_take), which was refused by this answer or wasn't:
+ * tells what it is taken for. 0, or -1 if the place is none. */
+static int take_place(struct shard *s, struct receiving *of, uint64_t offset,
+                      const struct krbrelay_taken *taken, enum krbrelay_answer answer,
+                      uint32_t *outcome)
 {
-    if (missed_kind(of->now.missed) < missed_kind(missed))
-        of->now.missed = missed;
-    shard_stands(s, of);
-    shard_note_changed(s, of);
+    struct krbrelay_place place = { of->now.at, missed_kind(of->now.missed),
+                                    (uint32_t)of->has_opened };
+    if (krbrelay_place_take(&place, offset, taken, outcome) != KRBRELAY_OK)
+        return -1;
+    of->has_opened = place.known != 0;
+    of->now.at = place.at;
+    if (missed_kind(of->now.missed) != place.missed)
+        of->now.missed = *outcome == KRBRELAY_OUTCOME_UNSETTLED ? missed_by(answer) : place.missed;
+    if (*outcome == KRBRELAY_OUTCOME_EARLY || *outcome == KRBRELAY_OUTCOME_UNSETTLED)
+        shard_stands(s, of);
+    if (*outcome != KRBRELAY_OUTCOME_REPEAT && *outcome != KRBRELAY_OUTCOME_UNKNOWN)
+        shard_note_changed(s, of);
+    return 0;
 }
 
-static void take_early(struct shard *s, struct receiving *of, const struct carried *it,
-                       uint64_t number, uint64_t demanded)
+static void tell_early(struct shard *s, const struct carried *it,
+                       const struct krbrelay_taken *taken)
 {
     s->counts.early++;
     log_fact(LEVEL_WARNING, "frame_early", field_text("session", it->session),
              field_number("shard", s->number), field_number("offset", it->offset),
-             field_number("number", number), field_number("demanded", demanded),
+             field_number("number", taken->opened), field_number("demanded", taken->demanded),
              field_text("text", "it has to come again after the demanded one"));
-    miss(s, of, MISSED_EARLY);
 }
 
-/* A frame that doesn't open under a key that opened others is nobody's. */
-static void take_refused(struct shard *s, struct receiving *of, const struct carried *it,
-                         enum krbrelay_answer answer, int is_nobodys)
+static void tell_refused(struct shard *s, const struct carried *it, enum krbrelay_answer answer)
 {
     char text[KRBRELAY_TEXT_SIZE];
     shard_count_refused(&s->counts, answer);
@@ -67,27 +76,28 @@ static void take_refused(struct shard *s, struct receiving *of, const struct car
                  field_number("shard", s->number),
                  field_text("text", "until a frame comes in time: are the clocks right, and is"
                                     " --skew above the time that the carrier keeps frames?"));
-    if (!is_nobodys)
-        miss(s, of, missed_by(answer));
 }
 
-/* Decides what a refused frame is. Out of memory and the like is no refusal: -1. */
+/* A frame was refused. Out of memory and the like is no refusal: -1. */
 static int take_refusal(struct shard *s, struct receiving *of, const struct carried *it,
                         uint64_t demanded, enum krbrelay_answer answer)
 {
-    uint64_t number = 0;
-    int is_open;
+    struct krbrelay_taken taken = { .demanded = demanded,
+                                    .closed = answer == KRBRELAY_AFTER_CLOSE };
+    uint32_t outcome = 0;
     if (!krbrelay_is_refusal(answer)) {
         report_answer("frame_unopened", it->session, demanded, answer);
         return -1;
     }
-    is_open = answer != KRBRELAY_AFTER_CLOSE && look(s, of, it, &number) == 0;
-    if (answer == KRBRELAY_AFTER_CLOSE || (is_open && number < demanded))
+    taken.has_opened = !taken.closed && look(s, of, it, &taken.opened) == 0;
+    if (take_place(s, of, it->offset, &taken, answer, &outcome) != 0)
+        return -1;
+    if (outcome == KRBRELAY_OUTCOME_REPEAT)
         s->counts.repeats++;
-    else if (is_open && answer == KRBRELAY_BADORDER)
-        take_early(s, of, it, number, demanded);
+    else if (outcome == KRBRELAY_OUTCOME_EARLY)
+        tell_early(s, it, &taken);
     else
-        take_refused(s, of, it, answer, !is_open && of->has_opened);
+        tell_refused(s, it, answer);
     return 0;
 }
 
@@ -134,16 +144,14 @@ static int take_effects(struct shard *s, const char *name, uint64_t number, uint
     return answer;
 }
 
-/* All frames of the session up to this one are settled, unless one was refused before. */
-static void move_place(struct shard *s, struct receiving *it, uint64_t offset)
+static int take_accepted(struct shard *s, struct receiving *of, const struct carried *it,
+                         uint64_t demanded)
 {
-    it->has_opened = 1;
-    it->tries = 0;
-    if (missed_kind(it->now.missed) != MISSED_REFUSED) {
-        it->now.missed = MISSED_NOTHING;
-        it->now.at = offset;
-    }
-    shard_note_changed(s, it);
+    const struct krbrelay_taken taken = { .demanded = demanded, .accepted = 1 };
+    uint32_t outcome;
+    of->tries = 0;
+    s->counts.accepted++;
+    return take_place(s, of, it->offset, &taken, KRBRELAY_OK, &outcome);
 }
 
 /* The session's receiver, at what is stored, unless it is made. */
@@ -185,8 +193,8 @@ static int take(struct shard *s, struct receiving *of, const struct carried *it)
         return done;
     }
     s->counts.opening += nanoseconds() - began;
-    move_place(s, of, it->offset);
-    s->counts.accepted++;
+    if (take_accepted(s, of, it, demanded) != 0)
+        return -1;
     s->open -= kind == KRBRELAY_CLOSE && s->open > 0;
     began = nanoseconds();
     done = take_effects(s, it->session, demanded, kind, size);
@@ -204,7 +212,7 @@ static int advance(struct shard *s, struct receiving *it)
         && krbrelay_receiver_state(&it->receiver, &now->next, &now->closed) != KRBRELAY_OK)
         return -1;
     if (now->closed)
-        now->missed = MISSED_NOTHING;
+        now->missed = KRBRELAY_MISSED_NOTHING;
     if (store_advance(s->store, it->of.name, &it->stored, now) != 0)
         return -1;
     if (it->passed > 0 && store_find(s->store, s->number, it->of.name) != 0)

@@ -48,7 +48,7 @@ static uint64_t least_start(struct shard *s, int all_at_once)
     size_t i, kept = 0;
     for (i = 0; i < s->standing.count; i++) {
         struct receiving *it = s->standing.at[i];
-        it->is_standing = it->now.missed != MISSED_NOTHING;
+        it->is_standing = it->now.missed != KRBRELAY_MISSED_NOTHING;
         if (!it->is_standing)
             continue;
         s->standing.at[kept++] = it;
@@ -57,6 +57,16 @@ static uint64_t least_start(struct shard *s, int all_at_once)
     }
     s->standing.count = kept;
     return least;
+}
+
+/* From its place on, or from before it, the session's frames are read again. */
+static int read_again(struct receiving *it)
+{
+    struct krbrelay_place place = { it->now.at, missed_kind(it->now.missed), 0 };
+    if (krbrelay_place_read_again(&place) != KRBRELAY_OK)
+        return -1;
+    it->now.missed = place.missed;
+    return 0;
 }
 
 void shard_go_back(struct shard *s, int all_at_once)
@@ -71,7 +81,8 @@ void shard_go_back(struct shard *s, int all_at_once)
         struct receiving *it = s->standing.at[i];
         if (it->now.at < start)
             continue; /* its turn comes later */
-        it->now.missed = MISSED_NOTHING;
+        if (read_again(it) != 0)
+            continue;
         it->tries += !all_at_once;
         shard_note_changed(s, it);
         count++;

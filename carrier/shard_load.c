@@ -115,7 +115,7 @@ static void ask(struct shard *s, struct receiving *it)
 static void reset(struct demand *stored)
 {
     stored->at = 0;
-    stored->missed = MISSED_NOTHING;
+    stored->missed = KRBRELAY_MISSED_NOTHING;
 }
 
 static int note_stored(void *given, const char *name, const struct demand *demand)
@@ -140,7 +140,7 @@ static void place_session(const struct shard *s, struct receiving *it, uint64_t 
     if (!it->stored.is_stored || it->stored.shard != (int32_t)s->number) {
         it->now.at = offset;
         it->now.shard = (int32_t)s->number;
-        it->now.missed = MISSED_NOTHING;
+        it->now.missed = KRBRELAY_MISSED_NOTHING;
     }
     if (it->now.next != before)
         it->tries = 0;
@@ -191,7 +191,7 @@ static void begin_turn(struct shard *s)
         s->changed.at[i]->is_changed = 0;
     s->changed.count = 0;
     for (i = 0; i < s->standing.count; i++) /* until the store says that they still do */
-        s->standing.at[i]->now.missed = MISSED_NOTHING;
+        s->standing.at[i]->now.missed = KRBRELAY_MISSED_NOTHING;
 }
 
 static int note_standing(void *given, const char *name, const struct demand *demand)

@@ -81,7 +81,7 @@ static void name_standing(struct shard *s, unsigned part)
     const char *names[SERVICE_NAMES];
     size_t i, count = 0;
     for (i = 0; i < s->standing.count && count < SERVICE_NAMES; i++)
-        if (s->standing.at[i]->now.missed != MISSED_NOTHING)
+        if (s->standing.at[i]->now.missed != KRBRELAY_MISSED_NOTHING)
             names[count++] = s->standing.at[i]->of.name;
     service_name(part, names, count);
 }

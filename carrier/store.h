@@ -12,6 +12,8 @@
 #ifndef STORE_H
 #define STORE_H
 
+#include <krbrelay.h>
+
 #include <stddef.h>
 #include <stdint.h>
 
@@ -21,23 +23,15 @@ struct store;
  * All zeros: nothing was read. */
 struct reached { uint64_t incarnation, offset; };
 
-/* Whether something that names a session stands after its place and may have to be read again. */
-enum missed {
-    MISSED_NOTHING = 0,
-    MISSED_EARLY = 1,   /* a frame came early: the one before it is missing */
-    MISSED_REFUSED = 2  /* a frame was refused for a reason that may be this receiver's own */
-};
+/* What a frame that isn't settled is stored as: with libkrbrelay's answer, or 0 if it had no line. */
+#define missed_by(answer) (KRBRELAY_MISSED_UNSETTLED + ((uint32_t)(answer) << 8))
+#define missed_kind(stored) ((stored) & 0xff)
 
-/* What a refusal is stored as: with libkrbrelay's answer, or 0 if it had no line. */
-#define missed_by(answer) (MISSED_REFUSED + ((uint32_t)(answer) << 8))
-#define missed_kind(stored) ((enum missed)((stored) & 0xff))
-
-/* A session: what it demands next, whether its close was accepted, and its place. All frames of it
- * up to the offset `at` of this shard took effect, or never will. */
+/* A session: what it demands next, whether its close was accepted, and its place (krbrelay_place). */
 struct demand {
     uint64_t next;
     uint32_t closed;
-    uint32_t missed;    /* an enum missed, or missed_by an answer */
+    uint32_t missed;    /* KRBRELAY_MISSED_*, or missed_by an answer */
     uint64_t at;
     int32_t shard;      /* -1: it was stored before places were */
     uint32_t is_stored; /* 0: the store doesn't know the session */

@@ -30,7 +30,7 @@ static struct reached at(uint64_t offset)
 /* A session that demands this number, with its place. */
 static struct demand demands(uint64_t number, uint64_t place)
 {
-    return (struct demand){ number, 0, MISSED_NOTHING, place, SHARD, number != FIRST };
+    return (struct demand){ number, 0, KRBRELAY_MISSED_NOTHING, place, SHARD, number != FIRST };
 }
 
 /* One whole transaction with one text. */
@@ -106,7 +106,7 @@ static void test_compared(struct store *one)
     for (i = 0; i < 4; i++) {
         struct demand before = demands(9, 12), after = demands(10, 13);
         before.closed = i == 0;
-        before.missed = i == 1 ? MISSED_EARLY : MISSED_NOTHING;
+        before.missed = i == 1 ? KRBRELAY_MISSED_EARLY : KRBRELAY_MISSED_NOTHING;
         before.at += i == 2;
         before.shard += i == 3;
         check(store_begin(one, SHARD, &from, &to) == 0, "begin");
@@ -191,13 +191,13 @@ static void test_standing(struct store *one, struct store *other)
     const struct reached from = at(12);
     const struct demand fine = demands(9, 12);
     struct demand missed = fine, found = { 0 };
-    missed.missed = MISSED_REFUSED;
+    missed.missed = KRBRELAY_MISSED_UNSETTLED;
     check(store_standing(other, SHARD, note, &found) == 0 && !found.is_stored, "none stands");
     check(store_begin(one, SHARD, &from, &from) == 0 && store_advance(one, name, &fine, &missed) == 0
               && store_commit(one) == 0, "it misses something");
     check(store_standing(other, SHARD + 1, note, &found) == 0 && !found.is_stored, "no other's");
     check(store_standing(other, SHARD, note, &found) == 0, "read");
-    check(found.is_stored && found.missed == MISSED_REFUSED && found.next == 9, "it stands");
+    check(found.is_stored && found.missed == KRBRELAY_MISSED_UNSETTLED && found.next == 9, "it stands");
     check(store_begin(one, SHARD, &from, &from) == 0 && store_advance(one, name, &missed, &fine) == 0
               && store_commit(one) == 0, "it misses nothing");
 }
@@ -206,7 +206,7 @@ static void test_standing(struct store *one, struct store *other)
 static void test_other_list(struct store *one, struct store *other)
 {
     const struct reached from = at(12), to = { LIST + 1, 3 };
-    const struct demand fine = demands(9, 12), after = { 9, 0, MISSED_REFUSED, 12, SHARD, 1 };
+    const struct demand fine = demands(9, 12), after = { 9, 0, KRBRELAY_MISSED_UNSETTLED, 12, SHARD, 1 };
     struct demand found = { 0 }, reset = after;
     struct reached reached;
     reset.at = reset.missed = 0;
@@ -216,7 +216,7 @@ static void test_other_list(struct store *one, struct store *other)
     check(store_begin(one, SHARD, &from, &to) == 0 && store_commit(one) == 0, "another list");
     check(store_reached(other, SHARD, &reached) == 0 && read_session(other, &found) == 0, "read");
     check(reached.incarnation == LIST + 1 && reached.offset == 3, "it is stored");
-    check(found.at == 0 && found.missed == MISSED_NOTHING && found.next == 9, "its place");
+    check(found.at == 0 && found.missed == KRBRELAY_MISSED_NOTHING && found.next == 9, "its place");
     check(notes_of(other, SHARD).count == 0, "no notes");
     check(store_begin(one, SHARD, &to, &from) == 0 && store_advance(one, name, &reset, &fine) == 0
               && store_commit(one) == 0, "back again");
@@ -281,7 +281,7 @@ static void test_lost(const char *where)
 
 int main(int count, char **words)
 {
-    const struct demand end = { 11, 1, MISSED_NOTHING, 16, SHARD, 1 };
+    const struct demand end = { 11, 1, KRBRELAY_MISSED_NOTHING, 16, SHARD, 1 };
     struct reached from, to = at(16);
     struct demand before;
     struct store *one, *other;
