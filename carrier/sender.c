@@ -116,7 +116,10 @@ static void note_kept(struct sender *s)
     for (i = 0; i < s->touched.count; i++) {
         struct sending *it = s->touched.at[i];
         s->lanes[it->lane].backlog += (size_t)(it->sealed - it->progress.next);
-        it->kept.next = it->progress.next = it->sealed;
+        if (progress_store(&it->progress, it->sealed) != 0)
+            log_fact(LEVEL_ERROR, "progress_unknown", field_text("session", it->of.name),
+                     field_number("next", it->progress.next), field_number("sealed", it->sealed));
+        it->kept.next = it->progress.next;
         it->is_touched = 0;
         sender_activate(s, it);
     }

@@ -75,8 +75,12 @@ int sender_load(struct sender *s, struct sending *it)
     if (outbox_load(&s->outbox, &it->of, &it->kept) != 0)
         return -1;
     lane->backlog -= (size_t)(it->progress.next - it->progress.carried);
-    it->progress = (struct progress){ .next = it->kept.next, .carried = it->kept.carried,
-                                      .at = it->kept.at, .sent = it->kept.carried };
+    if (progress_begin(&it->progress, it->kept.next, it->kept.carried, it->kept.at) != 0) {
+        log_fact(LEVEL_ERROR, "progress_unknown", field_text("session", it->of.name),
+                 field_number("next", it->kept.next), field_number("carried", it->kept.carried),
+                 field_text("text", "the outbox has these numbers, which are no progress"));
+        return -1;
+    }
     lane->backlog += (size_t)(it->progress.next - it->progress.carried);
     seal_reset(it);
     if (it->progress.carried < it->progress.next)
