@@ -1,5 +1,7 @@
 /* The sessions of a sender that are loaded. */
+#include "log.h"
 #include "sender.h"
+
 
 #include <search.h>
 #include <stdlib.h>
