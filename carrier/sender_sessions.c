@@ -2,7 +2,6 @@
 #include "log.h"
 #include "sender.h"
 
-
 #include <search.h>
 #include <stdlib.h>
 #include <string.h>
