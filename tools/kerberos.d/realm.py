@@ -109,8 +109,8 @@ class Realm:
             env.update(LD_PRELOAD=library, KRBRELAY_LOG=log)
         return env
 
-    def run(self, words, given="", limit=60, **how):
-        return subprocess.run(words, input=given, env=self.environment(**how), text=True,
+    def run(self, words, given="", limit=60, cwd=None, **how):
+        return subprocess.run(words, input=given, env=self.environment(**how), text=True, cwd=cwd,
                               check=False, timeout=limit, stdout=subprocess.PIPE,
                               stderr=subprocess.STDOUT, errors="replace")
 

@@ -119,7 +119,7 @@ PARTS = [
     Part("tools/secret_places --library", 20, ("rt", COMPILER, MAKE, "valgrind"), LIBRARY.command),
 ]
 MORE = [
-    Part("tools/quotes --typed", 10, (PROGRAM, "rt", COMPILER, MAKE, PKG_CONFIG)),
+    Part("tools/quotes --typed", 10, (PROGRAM, "rt", COMPILER, MAKE, PKG_CONFIG, SQLITE)),
     Part("tools/wrong_bodies --try", 170, ("rt",)),
     Part("tools/fuzz 20000 2", 60, (PROGRAM, CRYPTOGRAPHY)),
     Part("tools/interop", 20, (PROGRAM, COMPILER, MIT, HEIMDAL)),

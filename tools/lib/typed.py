@@ -1,7 +1,7 @@
 """The lines of documents that a user types: a command after $, and what it prints below it.
 
-In a block that is indented by four spaces, a line with $ is a command, and the lines up to the next
-one are what it prints. There `..` at the end of a line stands for the rest of the line, and a line
+In a block that is indented by four spaces, a line with $ is a command, which goes on in the next line
+after a backslash, and the lines up to the next command are what it prints. There `..` at the end of a line stands for the rest of the line, and a line
 of `..` alone for any number of lines.
 """
 import dataclasses
@@ -29,6 +29,8 @@ def lines_of(path):
         elif line.startswith(INDENT + "$ "):
             inside = True
             found.append(Typed(number, line.removeprefix(INDENT + "$ "), []))
+        elif inside and found[-1].command.endswith("\\"):
+            found[-1].command = found[-1].command[:-1] + line.strip()
         elif inside:
             found[-1].printed.append(line.removeprefix(INDENT))
     return found
@@ -47,8 +49,9 @@ def pattern(lines):
 
 
 def are_printed(wanted, got):
-    """Whether a command printed what a document says, and nothing else."""
-    return re.fullmatch(pattern(wanted), "".join(f"{line}\n" for line in got)) is not None
+    """Whether a command printed what a document says, but for spaces at the ends of lines, and
+    nothing else."""
+    return re.fullmatch(pattern(wanted), "".join(f"{line.rstrip()}\n" for line in got)) is not None
 
 
 def words(command):
