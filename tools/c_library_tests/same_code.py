@@ -4,7 +4,9 @@
 Compared are, section by section in their order, all bytes that a program loads, but for unwind tables
 and for no-operations between instructions, of which assemblers have several; and each relocation, by
 the function or the place that it names. Two kinds of calls are alike, which linkers don't tell apart.
-Needs objdump. Prints what was compared, or the first difference, and ends with 1 then.
+A jump has a short form and a long one. Where an assembler took the other, all that follows lies
+elsewhere: then the section's instructions are compared, and each jump by the instruction that it
+goes to. Needs objdump. Prints what was compared, or the first difference, and ends with 1 then.
 """
 import re
 import struct
@@ -16,6 +18,8 @@ SYMBOLS, RELOCATIONS, NO_BITS = 2, 4, 8
 CALLS = {2: "call or near", 4: "call or near"}
 IDLE = re.compile(r"\s*([0-9a-f]+):\t((?:[0-9a-f]{2} )+)\s*\t?"
                   r"(?:data16 |cs |xchg +%ax,%ax|nop)")
+CODE = re.compile(r"\s*([0-9a-f]+):\t(?:[0-9a-f]{2} )+\s*\t([^#<]*)")
+JUMP = re.compile(r"(j\w+ +|call +)([0-9a-f]+) *")
 
 
 class Object:
@@ -30,7 +34,7 @@ class Object:
         loaded = [it for it, header in enumerate(self.headers) if header[2] & ALLOCATED
                   and header[1] != NO_BITS and header[5] and self.name(it) != ".eh_frame"]
         self.places = {it: place for place, it in enumerate(loaded)}
-        self.idle = idle_of(path)
+        self.idle, self.code = read_code(path)
         self.sections = [self.bytes_of(it) for it in loaded]
         self.relocations = sorted(self.all_relocations())
 
@@ -52,6 +56,26 @@ class Object:
             found[at:at + length] = bytes(length)
         return bytes(found)
 
+    def instructions(self, place):
+        """Each instruction of a section: a jump with the number of the one that it goes to."""
+        section = next(it for it, at in self.places.items() if at == place)
+        lines = self.code.get(self.name(section), [])
+        numbers = {at: number for number, (at, _) in enumerate(lines)}
+
+        def words(text):
+            jump = JUMP.fullmatch(text)
+            if jump is None:
+                return text
+            goes = min((at for at in numbers if at >= int(jump[2], 16)), default=-1)
+            return f"{jump[1]}to {numbers.get(goes)}"
+        return [words(text.strip()) for _, text in lines]
+
+    def place_in(self, place, offset):
+        """The number of the instruction that a byte of a section belongs to, and which of its."""
+        section = next(it for it, at in self.places.items() if at == place)
+        before = [at for at, _ in self.code[self.name(section)] if at <= offset]
+        return len(before), offset - before[-1]
+
     def target(self, table, number, addend):
         """What a symbol names: a function elsewhere, or a place in a section."""
         name, _, _, section, value, _ = self.numbers("<IBBHQQ", self.headers[table][4] + 24 * number)
@@ -70,27 +94,42 @@ class Object:
                        *self.target(header[6], info >> 32, addend))
 
 
-def idle_of(path):
-    """Where each section has no-operations, and how long they are."""
+def read_code(path):
+    """Where each section has no-operations, with their lengths, and its other instructions."""
     told = subprocess.run(["objdump", "-d", "-w", path], check=True, stdout=subprocess.PIPE,
                           text=True).stdout
-    found, section = {}, ""
+    idle, code, section = {}, {}, ""
     for line in told.splitlines():
         if line.startswith("Disassembly of section "):
             section = line.removeprefix("Disassembly of section ").rstrip(":")
-        idle = IDLE.match(line)
-        if idle:
-            found.setdefault(section, []).append((int(idle[1], 16), len(idle[2].split())))
-    return found
+        nothing, something = IDLE.match(line), CODE.match(line)
+        if nothing:
+            idle.setdefault(section, []).append((int(nothing[1], 16), len(nothing[2].split())))
+        elif something:
+            code.setdefault(section, []).append((int(something[1], 16), something[2]))
+    return idle, code
+
+
+def moved_sections(one, other):
+    """The sections whose bytes differ, and whether each has the same instructions."""
+    return {place: bool(one.instructions(place)) and one.instructions(place) == other.instructions(place)
+            for place, pair in enumerate(zip(one.sections, other.sections)) if pair[0] != pair[1]}
+
+
+def relocations_of(it, moved):
+    """Its relocations: those of moved sections by the instruction that they are in."""
+    return [(place, it.place_in(place, offset) if place in moved else offset, *rest)
+            for place, offset, *rest in it.relocations]
 
 
 def difference(one, other):
     if len(one.sections) != len(other.sections):
         return f"{len(one.sections)} and {len(other.sections)} sections"
-    for place, pair in enumerate(zip(one.sections, other.sections)):
-        if pair[0] != pair[1]:
+    moved = moved_sections(one, other)
+    for place, same in moved.items():
+        if not same:
             return f"section {place} differs"
-    for pair in zip(one.relocations, other.relocations):
+    for pair in zip(relocations_of(one, moved), relocations_of(other, moved)):
         if pair[0] != pair[1]:
             return f"relocations differ: {pair[0]}, {pair[1]}"
     if len(one.relocations) != len(other.relocations):
