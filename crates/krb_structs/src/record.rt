@@ -1,10 +1,9 @@
 //! Records as C sees them: the number of one's kind, and its bytes after the first.
 
-ghost use Rattle.std.specs.Prelude.{◌≡◌, ◌<◌, ◌∷◌, length, IfErr, IfOk, OnOk};
+ghost use Rattle.std.specs.Prelude.{◌≡◌, ◌<◌, ◌∷◌, length, IfOk, OnOk};
 ghost use Rattle.krb_base.specs.Limits.{user_data_limit};
 ghost use Rattle.krb_record.specs.declared.record.Record.{Record as RecordValue};
-ghost use Rattle.krb_record.specs.Record.{first_byte_of, kind_of, number_of};
-ghost use Rattle.krb_peers.specs.Verdicts.{IsNoRecord};
+ghost use Rattle.krb_record.specs.Record.{first_byte_of};
 ghost use Rattle.krb_structs.specs.Fault.{IsDone, Needs, answer_of};
 ghost use Rattle.krb_structs.specs.Reasons.{HasRecord};
 ghost use Rattle.krb_structs.specs.Record.{IsRecordOf};
@@ -13,23 +12,7 @@ use crate::fault::Fault;
 use krb_base::Secret;
 use krb_peers::RecordKind;
 use krb_record::record_laws;
-use krb_seal::Refusal;
 use std::alloc::{AllocError, Global};
-
-/// The kind of the record that the bytes are, and what follows their first. Nothing is allocated.
-pub fn record_kind(bytes: &[u8]) -> Result<(RecordKind, &[u8]), Refusal>
-    ensures ok { IfOk result (λ found. (r : RecordValue) × (found.0 ≡ kind_of r)
-        × IsRecordOf (number_of found.0) found.1.now r bytes.now) }
-    ensures why { IfErr result (λ e. (e ≡ Refusal.BadRecord) × IsNoRecord bytes.now) }
-{
-    let Some(kind) = RecordKind::of(bytes) else {
-        return Err(Refusal::BadRecord);
-    };
-    let Some((_, body)) = bytes.split_first() else {
-        return Err(Refusal::BadRecord);
-    };
-    Ok((kind, body))
-}
 
 /// The kind with this number, if a record of it has these bytes after its first. Nothing is allocated.
 pub fn kind_with(number: u32, body: &[u8]) -> Result<RecordKind, Fault>
