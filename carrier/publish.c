@@ -50,6 +50,19 @@ static int put_off(struct sender *s, struct sending *it, int answer, uint64_t nu
     return sender_stop(s, it->of.name, it->reason) == OUTBOX_OK ? 0 : -1;
 }
 
+/* Publishes a session's opening, which is made anew each time. */
+static int publish_opening(struct sender *s, struct sending *it)
+{
+    size_t len = 0;
+    int answer = tickets_make_opening(s->tickets, s->kerberos, &it->begun->opened, s->opening,
+                                      OPENING, &len);
+    if (answer == 0)
+        answer = carrier_publish(s->carrier, it->of.shard, it->of.name, it->tag, 0, s->opening, len);
+    if (answer == 0 && progress_publish(&it->progress) == 0)
+        s->published++;
+    return answer;
+}
+
 /* Publishes the frames of a session that weren't. */
 static int publish(struct sender *s, struct sending *it)
 {
@@ -60,6 +73,10 @@ static int publish(struct sender *s, struct sending *it)
     int answer = 0, is_there = 1;
     if (progress->sent == progress->carried)
         progress->moved = nanoseconds();
+    if (it->begun != NULL && progress->sent == 0)
+        answer = publish_opening(s, it);
+    if (answer != 0)
+        return put_off(s, it, answer, number);
     outbox_select_frames(&s->outbox, it->of.name, progress->sent, WINDOW);
     while (answer == 0 && progress->sent < progress->next
            && outbox_next_frame(&s->outbox, &number, &frame, &len) == 1) {
@@ -83,10 +100,28 @@ static int is_active(const struct sending *it)
     return it->progress.carried < it->progress.next || it->kept.carried != it->progress.carried;
 }
 
+/* Whether a session's opening can't leave now: there is no ticket, or the session of its stream before
+ * it isn't carried, whose close has to come before. What waits so doesn't take the window of its
+ * shard from the others. Nothing of a session whose row isn't stored leaves. */
+static int hold(struct sender *s, struct sending *it)
+{
+    size_t *backlog = &s->lanes[it->lane].backlog;
+    size_t frames = (size_t)(it->progress.next - it->progress.carried);
+    int is_held = it->progress.sent == 0
+                  && (!tickets_have(s->tickets) || sender_is_after(s, it));
+    if (is_held && !it->is_held)
+        *backlog -= frames;
+    else if (!is_held && it->is_held)
+        *backlog += frames;
+    it->is_held = is_held;
+    return is_held || !it->is_stored;
+}
+
 static void publish_one(struct sender *s, struct sending *it)
 {
     uint64_t patience = s->options.retry * UINT64_C(1000000), now = nanoseconds();
-    if (it->is_blocked || now < it->moment || !find_list(s, it))
+    if (it->is_blocked || now < it->moment || (it->begun != NULL && hold(s, it))
+        || !find_list(s, it))
         return;
     s->again += progress_rewind(&it->progress, now, patience);
     if (it->progress.sent < it->progress.next && publish(s, it) != 0)
@@ -138,7 +173,7 @@ size_t publish_count_carried(struct sender *s, int milliseconds)
         if (it == NULL
             || !progress_confirm(&it->progress, list[i].number, list[i].offset, nanoseconds()))
             continue;
-        s->lanes[it->lane].backlog -= !it->is_blocked;
+        s->lanes[it->lane].backlog -= !it->is_blocked && !it->is_held;
         rose++;
     }
     return count == COUNTED ? rose + publish_count_carried(s, 0) : rose;
@@ -149,8 +184,16 @@ size_t publish_backlog(const struct sender *s)
     size_t i, frames = 0;
     for (i = 0; i < s->active.count; i++) {
         const struct sending *it = s->active.at[i];
-        if (!it->is_blocked)
+        if (!it->is_blocked && !it->is_held)
             frames += (size_t)(it->progress.next - it->progress.carried);
     }
     return frames;
+}
+
+size_t publish_count_held(const struct sender *s)
+{
+    size_t i, count = 0;
+    for (i = 0; i < s->active.count; i++)
+        count += s->active.at[i]->is_held != 0;
+    return count;
 }

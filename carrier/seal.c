@@ -115,7 +115,7 @@ enum seal_answer seal_rest(struct sealing *s, struct sending *it)
     return answer;
 }
 
-static enum seal_answer seal_close(struct sealing *s, struct sending *it, sqlite3_int64 id)
+enum seal_answer seal_close(struct sealing *s, struct sending *it, sqlite3_int64 id)
 {
     enum seal_answer answer = seal_rest(s, it);
     it->begin = id;

@@ -247,15 +247,22 @@ static int sort_lines(struct sessions *s)
 
 /* ---- The file */
 
-struct sessions *sessions_read(const char *path)
+struct sessions *sessions_empty(void)
 {
     struct sessions *s = calloc(1, sizeof *s);
-    if (s == NULL) {
+    if (s != NULL)
+        s->users = 1;
+    else
         log_system("out_of_memory", "sessions");
+    return s;
+}
+
+struct sessions *sessions_read(const char *path)
+{
+    struct sessions *s = sessions_empty();
+    if (s == NULL)
         return NULL;
-    }
     s->path = path;
-    s->users = 1;
     s->text = private_read(path, &s->size, &s->read);
     if (s->text != NULL && sort_lines(s)) {
         if (s->count > 0)
@@ -279,7 +286,7 @@ struct sessions *sessions_read_again(struct sessions *s)
     struct stat is;
     struct sessions *again;
     int has_settled;
-    if (stat(s->path, &is) != 0 || is_same(&is, &s->read))
+    if (s->path == NULL || stat(s->path, &is) != 0 || is_same(&is, &s->read))
         return NULL;
     has_settled = is_same(&is, &s->seen);
     s->seen = is;
@@ -297,8 +304,10 @@ int sessions_find(const struct sessions *s, const char *name, struct session *it
 {
     const struct place wanted = { hash_of(name, strlen(name)), 0 };
     const struct place *end = s->places + s->count,
-                       *at = bsearch(&wanted, s->places, s->count, sizeof *at, by_hash);
+                       *at = NULL;
     memset(it, 0, sizeof *it);
+    if (s->count > 0)
+        at = bsearch(&wanted, s->places, s->count, sizeof *at, by_hash);
     while (at != NULL && at > s->places && at[-1].hash == wanted.hash)
         at--;
     for (; at != NULL && at < end && at->hash == wanted.hash; at++)

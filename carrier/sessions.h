@@ -25,11 +25,15 @@ struct session {
     uint8_t key[32];
     size_t key_len;
     uint32_t first; /* the first sequence number */
+    uint32_t has_opening; /* 1: before it stands an opening (opening.h); or 0 */
     struct krbrelay_address from, to;
 };
 
 /* The file as it was read. Threads may share it: nothing of it changes. */
 struct sessions;
+
+/* One that has no line, and no path. NULL, with a line of the log, if there is no memory. */
+struct sessions *sessions_empty(void);
 
 /* Reads it. The path stays valid. NULL, with a line of the log, if it can't be read, isn't of that
  * form, or may be read or written by others than its owner. */

@@ -1,6 +1,7 @@
 #include "shard.h"
 #include "clock.h"
 #include "effect.h"
+#include "kept.h"
 #include "log.h"
 
 #include <stdio.h>
@@ -52,6 +53,17 @@ static void take_early(struct shard *s, struct receiving *of, const struct carri
     miss(s, of, MISSED_EARLY);
 }
 
+/* A frame of a session whose stream's session before isn't closed. */
+static void take_before_turn(struct shard *s, struct receiving *of, const struct carried *it)
+{
+    s->counts.early++;
+    log_fact(LEVEL_WARNING, "frame_early", field_text("session", it->session),
+             field_number("shard", s->number), field_number("offset", it->offset),
+             field_text("before", of->opened->before),
+             field_text("text", "it has to come again after the close of the session before"));
+    miss(s, of, MISSED_EARLY);
+}
+
 /* A frame that doesn't open under a key that opened others is nobody's. */
 static void take_refused(struct shard *s, struct receiving *of, const struct carried *it,
                          enum krbrelay_answer answer, int is_nobodys)
@@ -98,6 +110,8 @@ static int take_unknown(struct shard *s, const struct carried *it)
     int is_elsewhere = sessions_find(s->sessions, it->session, &of);
     unsigned shard = of.shard;
     explicit_bzero(&of, sizeof of);
+    if (s->kerberos != NULL && !is_elsewhere && opening_is(it->frame, it->len))
+        return store_pass(s->store, s->number, it->session, it->offset); /* it was counted */
     shard_count_refused(&s->counts, 0);
     if (is_elsewhere)
         log_fact(LEVEL_WARNING, "frame_misplaced", field_text("session", it->session),
@@ -116,10 +130,11 @@ static int take_unknown(struct shard *s, const struct carried *it)
 /* ---- A frame that is accepted */
 
 /* The effects of the texts of a record. */
-static int take_effects(struct shard *s, const char *name, uint64_t number, uint32_t kind,
+static int take_effects(struct shard *s, const struct receiving *of, uint64_t number, uint32_t kind,
                         size_t size)
 {
-    struct arrived it = { name, number, 0, s->bytes, size };
+    struct arrived it = { of->of.name, of->opened != NULL ? of->opened->client : "",
+                          of->opened != NULL ? of->opened->stream : "", number, 0, s->bytes, size };
     size_t at = 0;
     int answer = 0;
     if (kind == KRBRELAY_TEXT)
@@ -164,6 +179,24 @@ static int make_receiver(const struct shard *s, struct receiving *it)
     return it->is_made ? 0 : -1;
 }
 
+/* An opening that came under the name of its session; another one of it is a repeat. */
+static int take_opening(struct shard *s, struct receiving *of, const struct carried *it)
+{
+    if (it->offset != of->opened_at) {
+        s->counts.repeats++;
+        return 0;
+    }
+    s->counts.opened++;
+    s->counts.accepted++;
+    move_place(s, of, it->offset);
+    of->passed = it->offset; /* if one before it was passed by, that note ends */
+    s->unopened.tries = 0;
+    log_fact(LEVEL_INFO, "session_opened", field_text("session", of->of.name),
+             field_number("shard", s->number), field_text("client", of->opened->client),
+             field_text("stream", of->opened->stream), field_text("before", of->opened->before));
+    return 0;
+}
+
 /* Takes one frame of a session, within a transaction. */
 static int take(struct shard *s, struct receiving *of, const struct carried *it)
 {
@@ -173,9 +206,15 @@ static int take(struct shard *s, struct receiving *of, const struct carried *it)
     uint32_t kind = 0, closed = 0;
     size_t size = 0;
     int done;
+    if (of->opened != NULL && opening_is(it->frame, it->len))
+        return take_opening(s, of, it);
     if (make_receiver(s, of) != 0)
         return -1;
     answer = krbrelay_receiver_state(&of->receiver, &demanded, &closed);
+    if (answer == KRBRELAY_OK && demanded == of->of.first && !shard_has_turn(s, of)) {
+        take_before_turn(s, of, it);
+        return 0;
+    }
     if (answer == KRBRELAY_OK)
         answer = krbrelay_receiver_take(&of->receiver, it->frame, it->len, &now, &kind, s->bytes,
                                         KRBRELAY_FRAME_LIMIT, &size);
@@ -189,7 +228,7 @@ static int take(struct shard *s, struct receiving *of, const struct carried *it)
     s->counts.accepted++;
     s->open -= kind == KRBRELAY_CLOSE && s->open > 0;
     began = nanoseconds();
-    done = take_effects(s, it->session, demanded, kind, size);
+    done = take_effects(s, of, demanded, kind, size);
     s->counts.storing += nanoseconds() - began;
     return done;
 }
@@ -209,6 +248,9 @@ static int advance(struct shard *s, struct receiving *it)
         return -1;
     if (it->passed > 0 && store_find(s->store, s->number, it->of.name) != 0)
         return -1;
+    if (it->opened_at > 0 && kept_add(s->store, s->kerberos, s->number, it->opened) != 0)
+        return -1;
+    it->opened_at = 0;
     now->is_stored = 1;
     it->stored = *now;
     it->is_changed = 0;
@@ -251,8 +293,10 @@ static int take_all(struct shard *s, int count)
     s->counts.commits += answer == 0;
     if (answer == 0) {
         s->stored = s->now = to;
-        s->least = 0;
+        s->least = s->news.count = 0;
     }
+    if (s->news.count > 0) /* what the openings brought isn't stored */
+        shard_forget(s);
     return answer;
 }
 
@@ -315,6 +359,10 @@ int shard_start(struct shard *s)
     s->store = store_open(s->options->store, s->number);
     if (s->store == NULL)
         return -1;
+    if (s->options->kerberos.keytab != NULL
+        && (s->kerberos = kerberos_open(&s->options->kerberos,
+                                        s->options->kerberos.service)) == NULL)
+        return -1;
     s->carrier = carrier_open(&s->options->carrier);
     s->frames = calloc(s->options->batch, sizeof *s->frames);
     s->of_frames = calloc(s->options->batch, sizeof *s->of_frames);
@@ -337,6 +385,8 @@ void shard_stop(struct shard *s)
     close_store(s);
     if (s->carrier != NULL)
         carrier_close(s->carrier);
+    if (s->kerberos != NULL)
+        kerberos_close(s->kerberos);
     if (s->bytes != NULL)
         explicit_bzero(s->bytes, KRBRELAY_FRAME_LIMIT);
     free(s->bytes);

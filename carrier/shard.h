@@ -32,6 +32,7 @@
 #define SHARD_H
 
 #include "carrier.h"
+#include "opening.h"
 #include "service.h"
 #include "sessions.h"
 #include "store.h"
@@ -41,6 +42,7 @@ enum { MOST_FRAMES = 4096 }; /* of one transaction */
 struct shard_options {
     const char *store;
     struct carrier_options carrier;
+    struct kerberos_options kerberos;
     unsigned batch;
     uint32_t skew;
     int until_closed;
@@ -49,6 +51,8 @@ struct shard_options {
 /* One session of the shard, from its first frame on. */
 struct receiving {
     struct session of;             /* the first member: it is found by its name */
+    struct opened *opened;         /* how it began by a ticket; NULL: it has a line */
+    uint64_t opened_at;            /* the offset of its opening, which this transaction takes; or 0 */
     struct krbrelay_receiver receiver; /* made with the first frame after loading */
     struct krbrelay_opener opener; /* looks at what was refused; made when it is first needed */
     struct demand stored, now;     /* what the store has, and what it shall have, */
@@ -62,14 +66,18 @@ struct receiving {
     unsigned tries;                /* and so often the shard was read again for it */
 };
 
-enum { REFUSALS = 14 }; /* reasons for which a frame is refused (shard_report.c) */
+enum { REFUSALS = 25 }; /* reasons for which a frame is refused (shard_report.c) */
 
 struct shard_counts {
-    unsigned long frames, texts, accepted, repeats, early, fenced, commits, back;
+    unsigned long frames, texts, accepted, repeats, early, fenced, commits, back, opened;
     unsigned long refused[REFUSALS]; /* neither as repeats nor as early */
     unsigned long long bytes;
     uint64_t opening, fetching, storing; /* nanoseconds */
 };
+
+/* An opening that wasn't taken is tried again, which may help: the shard is read again from the first
+ * one on after some seconds, and when it is begun. */
+struct unopened { uint64_t at, since; unsigned tries; }; /* at an offset, or 0: there is none */
 
 /* Some of a shard's sessions. */
 struct receivings { struct receiving **at; size_t count; };
@@ -77,6 +85,7 @@ struct receivings { struct receiving **at; size_t count; };
 struct shard {
     const struct shard_options *options;
     struct sessions *sessions;     /* the file, of which this is a user */
+    struct kerberos *kerberos;     /* NULL: no session begins by a ticket */
     unsigned number;
     struct store *store;           /* NULL: it has to be opened (again) */
     struct carrier *carrier;
@@ -89,6 +98,10 @@ struct shard {
     struct carried *frames;
     struct receiving **of_frames;  /* of each frame the session, or NULL */
     struct reached stored, now;    /* how far the store says that it was read, and where it is */
+    int has_wrapped;               /* keys that are stored are wrapped under the newest one */
+    struct unopened unopened;      /* openings that weren't taken */
+    struct receivings news;        /* those whose openings this transaction takes */
+    char unknown[CARRIER_NAME];    /* the last name that the store was asked for in vain */
     uint64_t least;                /* of a note of other names: from there on all is read again; 0:
                                     * there is none */
     uint64_t highest, heard;       /* the greatest offset of a frame, and when that one came */
@@ -103,7 +116,7 @@ struct shard {
 /* Opens store and carrier. 0, or -1 after a fault. */
 int shard_start(struct shard *shard);
 
-/* From now on these are its sessions, of which it becomes a user. What it knew of others ends. */
+/* From now on these are its sessions of the file, of which it becomes a user. What it knew of others ends. */
 void shard_use(struct shard *shard, struct sessions *sessions);
 
 /* Fetches frames, and takes them in one transaction. Answers how many there were, or -1 after a
@@ -117,8 +130,10 @@ void shard_stop(struct shard *shard);
 extern const struct metric shard_metrics[], shard_stands_metric;
 extern const unsigned shard_metrics_count;
 
-/* Counts a frame that was refused with libkrbrelay's answer, or 0 if its name has no line. */
+/* Counts a frame that was refused with libkrbrelay's answer, or 0 if its name has no line; an opening
+ * that wasn't taken. */
 void shard_count_refused(struct shard_counts *counts, uint32_t answer);
+void shard_count_unopened(struct shard_counts *counts, enum opening_answer answer);
 
 /* Work took so many nanoseconds so far. */
 void shard_report(const struct shard *shard, const char *event, uint64_t took);
@@ -133,7 +148,32 @@ int shard_load(struct shard *shard);
 /* Loads the sessions of the first `count` frames. 0, or -1 after a fault. */
 int shard_load_frames(struct shard *shard, int count);
 
+/* The session of this name: 1, 0 and NULL if none is loaded and none has a line, -1 if there is no
+ * memory. */
+int shard_find(struct shard *shard, const char *name, struct receiving **found);
+
+/* Adds a session of which nothing is known. NULL if there is no memory. */
+struct receiving *shard_add(struct shard *shard, const struct session *of);
+
 void shard_forget(struct shard *shard);
+
+/* ---- shard_open.c: sessions that begin by tickets. */
+
+/* Finds the session of a frame whose name has no line, in the store or by its opening: 1, 0, or -1
+ * after a fault. */
+int shard_find_opened(struct shard *shard, const struct carried *it, struct receiving **found);
+
+/* Those that stand, or of which a frame was passed by. 0, or -1 after a fault. */
+int shard_find_standing(struct shard *shard);
+
+/* Finds the session of the stream before this one, if it is stored. 0, or -1 after a fault. */
+int shard_find_before(struct shard *shard, const struct receiving *of, struct receiving **found);
+
+/* Whether a session's first record may be taken: the session before it is closed. */
+int shard_has_turn(struct shard *shard, const struct receiving *of);
+
+/* The opening at this offset is to be read again. */
+void shard_note_unopened(struct shard *shard, uint64_t offset);
 
 /* ---- shard_back.c: how a shard is read again. */
 
