@@ -71,6 +71,21 @@ int opening_draw(struct kerberos *k, struct opened *it)
     return code == 0 ? 0 : kerberos_report(k, "key_undrawn", code);
 }
 
+int opening_back(struct kerberos *k, const struct opened *it, uint8_t back[SESSION_KEY])
+{
+    char label[] = "krbrelay receipts";
+    krb5_data in = { KV5M_DATA, sizeof label - 1, label };
+    krb5_keyblock key = { KV5M_KEYBLOCK, it->etype, (unsigned)it->key_len, (uint8_t *)it->key };
+    krb5_keyblock *derived = NULL;
+    krb5_error_code code = krb5_c_derive_prfplus(k->context, &key, &in, it->etype, &derived);
+    if (code == 0 && derived->length != it->key_len)
+        code = KRB5_CRYPTO_INTERNAL;
+    if (code == 0)
+        memcpy(back, derived->contents, derived->length);
+    krb5_free_keyblock(k->context, derived);
+    return code == 0 ? 0 : kerberos_report(k, "key_underived", code);
+}
+
 /* ---- The text */
 
 void opening_text(const struct opened *it, char text[OPENING_TEXT])

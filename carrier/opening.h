@@ -56,6 +56,9 @@ int opening_is(const uint8_t *frame, size_t len);
 /* Draws the key of a session, and makes the name that follows from it. 0, or -1 with a report. */
 int opening_draw(struct kerberos *kerberos, struct opened *it);
 
+/* The key of the way back, which follows from the session's key. 0, or -1 with a report. */
+int opening_back(struct kerberos *kerberos, const struct opened *it, uint8_t back[SESSION_KEY]);
+
 /* Takes an opening that came under this name. It doesn't look for other sessions of the stream. The
  * caller overwrites the key. */
 enum opening_answer opening_take(struct kerberos *kerberos, const char *name, const uint8_t *frame,

@@ -33,6 +33,7 @@ static const char tables[] =
 static const char *const columns[][2] = {
     { "session", "shard INTEGER NOT NULL DEFAULT -1" },
     { "session", "incarnation INTEGER NOT NULL DEFAULT 0" },
+    { "session", "done INTEGER NOT NULL DEFAULT -1" },
     { "text", "since INTEGER NOT NULL DEFAULT 0" },
     { "owner", "renewed INTEGER NOT NULL DEFAULT 0" },
 };
@@ -40,7 +41,8 @@ static const char *const columns[][2] = {
 #define OPENED "name, stream, before, etype, turn, since, shard, closed, kvno, wrapping, key"
 
 static const char *const sql[OUTBOX_STATEMENTS] = {
-    [LOAD_SESSION] = "SELECT next, carried, at, incarnation, shard FROM session WHERE name = ?",
+    [LOAD_SESSION] = ("SELECT next, carried, at, incarnation, shard, iif(done < 0, carried, done)"
+                      " FROM session WHERE name = ?"),
     [SELECT_TEXTS] = ("SELECT id, session, body FROM text WHERE id > ? AND id <= ? ORDER BY id"
                       " LIMIT ?"),
     [HAS_TEXT] = "SELECT 1 FROM text WHERE id > ? LIMIT 1",
@@ -49,10 +51,11 @@ static const char *const sql[OUTBOX_STATEMENTS] = {
     [SELECT_FRAMES] = ("SELECT number, frame FROM frame WHERE session = ? AND number >= ?"
                        " ORDER BY number LIMIT ?"),
     [DROP_FRAMES] = "DELETE FROM frame WHERE session = ? AND number < ?",
-    [SET_NEXT] = ("INSERT INTO session (name, next, carried, at, shard) VALUES (?2, ?1, ?5, 0, ?4)"
+    [SET_NEXT] = ("INSERT INTO session (name, next, carried, at, shard, done)"
+                  " VALUES (?2, ?1, ?5, 0, ?4, ?5)"
                   " ON CONFLICT (name) DO UPDATE SET next = ?1 WHERE next = ?3"),
-    [SET_CARRIED] = ("UPDATE session SET carried = ?1, at = ?2, incarnation = ?3, shard = ?4"
-                     " WHERE name = ?5 AND carried <= ?1"),
+    [SET_CARRIED] = ("UPDATE session SET carried = ?1, at = ?2, incarnation = ?3, shard = ?4, done = ?6"
+                     " WHERE name = ?5"),
     [SELECT_OWNER] = "SELECT turn FROM owner",
     [SELECT_SENDING] = "SELECT DISTINCT session FROM frame",
     [DROP_STOPPED] = "DELETE FROM stopped",
@@ -119,6 +122,7 @@ int outbox_load(struct outbox *o, const struct session *session, struct outbox_p
     bind_text(select, 1, session->name);
     row = step_row(select);
     *it = (struct outbox_progress){ session->first, session->first - session->has_opening, 0, 0,
+                                    session->first - session->has_opening,
                                     (int32_t)session->shard };
     if (row == 1) {
         it->next = (uint64_t)sqlite3_column_int64(select->at, 0);
@@ -126,6 +130,7 @@ int outbox_load(struct outbox *o, const struct session *session, struct outbox_p
         it->at = (uint64_t)sqlite3_column_int64(select->at, 2);
         it->incarnation = (uint64_t)sqlite3_column_int64(select->at, 3);
         it->shard = sqlite3_column_int(select->at, 4);
+        it->done = (uint64_t)sqlite3_column_int64(select->at, 5);
     }
     end_rows(select);
     return row >= 0 ? 0 : -1;
@@ -268,8 +273,9 @@ int outbox_set_carried(struct outbox *o, const char *session, const struct outbo
     bind_number(set, 3, (sqlite3_int64)it->incarnation);
     bind_number(set, 4, it->shard);
     bind_text(set, 5, session);
+    bind_number(set, 6, (sqlite3_int64)it->done);
     bind_text(drop, 1, session);
-    bind_number(drop, 2, (sqlite3_int64)it->carried);
+    bind_number(drop, 2, (sqlite3_int64)it->done);
     return step_once(set) == 0 && step_once(drop) == 0 ? 0 : -1;
 }
 

@@ -42,8 +42,8 @@ struct waiting_text { sqlite3_int64 id; const char *session; const uint8_t *body
 
 /* How far a session is: next, carried and at as in progress.h; `at` is an offset of the list of
  * this shard with this incarnation (carrier.h); a shard of -1, an incarnation of 0: it isn't
- * known. */
-struct outbox_progress { uint64_t next, carried, at, incarnation; int32_t shard; };
+ * known. All below `done` took effect, as receipts say, or, without receipts, is carried. */
+struct outbox_progress { uint64_t next, carried, at, incarnation, done; int32_t shard; };
 
 /* Opens it, makes its tables, and becomes its owner. 0, or -1 after a fault. */
 int outbox_open(struct outbox *outbox, const char *path);
@@ -85,7 +85,7 @@ int outbox_add_frame(struct outbox *outbox, const char *session, uint64_t number
 int outbox_set_next(struct outbox *outbox, const struct session *session, uint64_t from,
                     uint64_t to);
 
-/* Stores how far a session is carried, and deletes the frames below. `next` stays. */
+/* Stores how far a session is carried and done, and deletes the frames that are. `next` stays. */
 int outbox_set_carried(struct outbox *outbox, const char *session,
                        const struct outbox_progress *it);
 

@@ -33,6 +33,9 @@ struct progress {
  * changes nothing then. */
 int progress_begin_again(struct progress *it);
 
+/* The same, after all below `done` took effect: what isn't done counts as not carried. */
+int progress_restart(struct progress *it, uint64_t done);
+
 /* One frame more was published. Also -1 if none is left. */
 int progress_publish(struct progress *it);
 

@@ -11,6 +11,50 @@ enum { COUNTED = 512 };
 
 #define MOMENT UINT64_C(100000000) /* nanoseconds until a session that failed is tried again */
 
+/* ---- What of a session doesn't wait for the carrier */
+
+/* Whether its frames are counted in its shard's backlog. */
+static int counts(const struct sending *it)
+{
+    return !it->is_blocked && !it->is_held;
+}
+
+static size_t backlog_of(const struct sending *it)
+{
+    return (size_t)(it->progress.next - it->progress.carried);
+}
+
+void publish_block(struct sender *s, struct sending *it)
+{
+    /* Its frames don't keep the window of its shard from the others. */
+    s->lanes[it->lane].backlog -= counts(it) ? backlog_of(it) : 0;
+    it->is_blocked = 1;
+}
+
+void publish_restart(struct sender *s, struct sending *it)
+{
+    size_t before = backlog_of(it);
+    if (progress_restart(&it->progress, it->done) != 0)
+        return; /* never: what is done isn't beyond what was sealed */
+    it->kept.carried = UINT64_MAX; /* so that it is stored */
+    s->lanes[it->lane].backlog += counts(it) ? backlog_of(it) - before : 0;
+}
+
+void publish_note_done(struct sender *s, struct sending *it)
+{
+    struct progress *progress = &it->progress;
+    size_t before = backlog_of(it);
+    sender_activate(s, it); /* so that it is stored */
+    if (it->done <= progress->carried)
+        return;
+    progress->carried = it->done;
+    progress->sent = progress->sent > it->done ? progress->sent : it->done;
+    progress->moved = nanoseconds();
+    s->lanes[it->lane].backlog -= counts(it) ? before - backlog_of(it) : 0;
+}
+
+/* ---- Publishing */
+
 /* The shard's list, unless the carrier has none now. If it isn't the one in which the session's
  * frames were counted, all offsets begin anew, and what isn't carried is published again. */
 static int find_list(struct sender *s, struct sending *it)
@@ -26,7 +70,9 @@ static int find_list(struct sender *s, struct sending *it)
                  field_number("shard", it->of.shard),
                  field_text("text", "its shard is another list than before: what isn't carried is"
                                     " published there"));
-        if (progress_begin_again(&it->progress) != 0)
+        if (it->of.has_back) /* what it confirmed may be lost with it */
+            publish_restart(s, it);
+        else if (progress_begin_again(&it->progress) != 0)
             return 0;
         it->kept.carried = UINT64_MAX; /* so that it is stored */
     }
@@ -41,10 +87,8 @@ static int put_off(struct sender *s, struct sending *it, int answer, uint64_t nu
     it->moment = nanoseconds() + MOMENT;
     if (answer != CARRIER_REFUSED)
         return -1;
-    it->is_blocked = 1;
+    publish_block(s, it);
     it->stopped_at = 1;
-    /* Its frames don't keep the window of its shard from the others. */
-    s->lanes[it->lane].backlog -= (size_t)(it->progress.next - it->progress.carried);
     write_cut(it->reason, sizeof it->reason, "the carrier doesn't take frame %llu: is it longer"
               " than its Maximum Payload?", (unsigned long long)number);
     return sender_stop(s, it->of.name, it->reason) == OUTBOX_OK ? 0 : -1;
@@ -94,10 +138,18 @@ static int publish(struct sender *s, struct sending *it)
     return is_there ? 0 : sender_load(s, it);
 }
 
+/* Whether frames of a session are carried and wait for a receipt. */
+static int waits(const struct sending *it)
+{
+    return it->of.has_back && it->done < it->progress.carried;
+}
+
 /* Whether the session still has something to be carried or stored. */
 static int is_active(const struct sending *it)
 {
-    return it->progress.carried < it->progress.next || it->kept.carried != it->progress.carried;
+    return waits(it) || (it->of.has_back && it->kept.done != it->done)
+           || it->progress.carried < it->progress.next
+           || it->kept.carried != it->progress.carried;
 }
 
 /* Whether a session's opening can't leave now: there is no ticket, or the session of its stream before
@@ -106,7 +158,7 @@ static int is_active(const struct sending *it)
 static int hold(struct sender *s, struct sending *it)
 {
     size_t *backlog = &s->lanes[it->lane].backlog;
-    size_t frames = (size_t)(it->progress.next - it->progress.carried);
+    size_t frames = backlog_of(it);
     int is_held = it->progress.sent == 0
                   && (!tickets_have(s->tickets) || sender_is_after(s, it));
     if (is_held && !it->is_held)
@@ -120,6 +172,8 @@ static int hold(struct sender *s, struct sending *it)
 static void publish_one(struct sender *s, struct sending *it)
 {
     uint64_t patience = s->options.retry * UINT64_C(1000000), now = nanoseconds();
+    if (!it->is_blocked)
+        receipts_look(s, it);
     if (it->is_blocked || now < it->moment || (it->begun != NULL && hold(s, it))
         || !find_list(s, it))
         return;
@@ -129,13 +183,17 @@ static void publish_one(struct sender *s, struct sending *it)
                  field_number("shard", it->of.shard), field_text("text", "tried again"));
 }
 
-/* Which list each shard is, of those that have frames. */
+/* Which list each shard is, of those that have frames, or sessions that wait for receipts. */
 static void find_lists(struct sender *s)
 {
     size_t i;
+    for (i = 0; i < s->lane_count; i++)
+        s->lanes[i].has_waiting = 0;
+    for (i = 0; i < s->active.count; i++)
+        s->lanes[s->active.at[i]->lane].has_waiting |= waits(s->active.at[i]);
     for (i = 0; i < s->lane_count; i++) {
         struct lane *lane = &s->lanes[i];
-        if (lane->backlog > 0
+        if ((lane->backlog > 0 || lane->has_waiting)
             && carrier_make(s->carrier, lane->shard, &lane->incarnation) != 0)
             lane->incarnation = 0;
     }
@@ -173,7 +231,7 @@ size_t publish_count_carried(struct sender *s, int milliseconds)
         if (it == NULL
             || !progress_confirm(&it->progress, list[i].number, list[i].offset, nanoseconds()))
             continue;
-        s->lanes[it->lane].backlog -= !it->is_blocked && !it->is_held;
+        s->lanes[it->lane].backlog -= counts(it) ? 1 : 0;
         rose++;
     }
     return count == COUNTED ? rose + publish_count_carried(s, 0) : rose;
@@ -184,8 +242,8 @@ size_t publish_backlog(const struct sender *s)
     size_t i, frames = 0;
     for (i = 0; i < s->active.count; i++) {
         const struct sending *it = s->active.at[i];
-        if (!it->is_blocked && !it->is_held)
-            frames += (size_t)(it->progress.next - it->progress.carried);
+        if (counts(it))
+            frames += backlog_of(it);
     }
     return frames;
 }

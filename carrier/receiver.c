@@ -22,7 +22,7 @@ enum { WAIT = 50, SECOND_OF_WAITS = 20 };
 
 static const char usage[] =
     "receiver [--sessions FILE] --store WHERE --carrier WHERE --shards LIST|auto [OPTION..]\n"
-    "  --sessions FILE  a line for each session: NAME SHARD ETYPE MODE KEY FIRST FROM TO\n"
+    "  --sessions FILE  a line for each session: NAME SHARD ETYPE MODE KEY FIRST FROM TO [BACK]\n"
     "  --store WHERE    sqlite:FILE, in whose name '%' is the shard, or\n"
     "                   postgresql://USER@HOST/DATABASE\n"
     CARRIER_USAGE

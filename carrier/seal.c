@@ -158,6 +158,7 @@ void seal_reset(struct sending *it)
 void seal_free(struct sending *it)
 {
     krbrelay_sealer_free(&it->sealer);
+    krbrelay_opener_free(&it->receipts);
     if (it->batch != NULL)
         explicit_bzero(it->batch, it->room);
     free(it->batch);

@@ -27,13 +27,15 @@ enum {
 
 static const char usage[] =
     "sender [--sessions FILE] --outbox FILE --carrier WHERE [OPTION..]\n"
-    "  --sessions FILE  a line for each session: NAME SHARD ETYPE MODE KEY FIRST FROM TO\n"
+    "  --sessions FILE  a line for each session: NAME SHARD ETYPE MODE KEY FIRST FROM TO [BACK]\n"
     "  --outbox FILE    SQLite's, in whose table `text` an application puts texts\n"
     CARRIER_USAGE
     "  --replicas N     so many replicas has a stream that is made; one with fewer isn't used (1)\n"
     "  --batch N        so many texts go into a frame at most (1)\n"
     "  --retry MILLISECONDS  what isn't carried by then is published again (2000): more than the\n"
     "                   time in which the carrier confirms\n"
+    "  --patience SECONDS  of sessions with receipts, what has none by then is published again (30);\n"
+    "                   then after twice as long each time, up to 32 times\n"
     "  --metrics ADDRESS:PORT  answers GET /metrics (Prometheus's text) and GET /healthz\n"
     "  --drain          ends once all is carried that can be\n"
     KERBEROS_USAGE
@@ -113,7 +115,8 @@ static enum seal_answer keep_carried(struct sender *s)
         struct outbox_progress now = it->kept;
         now.carried = it->progress.carried;
         now.at = it->progress.at;
-        if (it->kept.carried != it->progress.carried
+        now.done = it->of.has_back ? it->done : it->progress.carried;
+        if ((it->kept.carried != it->progress.carried || it->kept.done != now.done)
             && outbox_set_carried(&s->outbox, it->of.name, &now) != 0)
             return SEAL_FAULT;
     }
@@ -128,6 +131,7 @@ static void note_kept(struct sender *s)
         struct sending *it = s->active.at[i];
         it->kept.carried = it->progress.carried;
         it->kept.at = it->progress.at;
+        it->kept.done = it->of.has_back ? it->done : it->progress.carried;
     }
     for (i = 0; i < s->touched.count; i++) {
         struct sending *it = s->touched.at[i];
@@ -305,6 +309,7 @@ static int step(struct sender *s, struct looked *before, size_t *rose, enum outb
     backlog = publish_backlog(s);
     *rose = publish_count_carried(s, backlog > 0 && !(texts && backlog < WINDOW / 2) ? IDLE : 0);
     report_silence(s, *rose);
+    *rose += receipts_hear(s);
     if (!texts && *rose == 0)
         pause_milliseconds(1);
     s->carrying += nanoseconds() - began;
@@ -420,7 +425,7 @@ static const struct option words_of_options[] = {
     CARRIER_WORDS, KERBEROS_WORDS,
     { "client", required_argument, NULL, KERBEROS_CLIENT },
     { "etype", required_argument, NULL, KERBEROS_ETYPE },
-    { "life", required_argument, NULL, 'l' },
+    { "life", required_argument, NULL, 'l' },     { "patience", required_argument, NULL, 'p' },
     { "sessions", required_argument, NULL, 's' }, { "outbox", required_argument, NULL, 'o' },
     { "batch", required_argument, NULL, 'b' },    { "retry", required_argument, NULL, 't' },
     { "metrics", required_argument, NULL, 'm' },  { "drain", no_argument, NULL, 'd' },
@@ -439,6 +444,7 @@ static int read_option(struct options *o, int letter)
     case 'd': o->drain = 1; break;
     case 'h': end_with(0, "%s", usage);
     case 'v': end_with_version("sender");
+    case 'p': o->patience = option_number("sender", "patience", optarg, 1, 86400); break;
     case 'l': o->life = option_number("sender", "life", optarg, 1, UINT32_MAX); break;
     default:
         return carrier_option("sender", &o->carrier, letter, optarg)
@@ -464,6 +470,7 @@ int main(int count, char **words)
     sender.options.kerberos.etype = 18;
     sender.options.kerberos.shards = 1;
     sender.options.life = 86400;
+    sender.options.patience = 30;
     if (!read_options(&sender.options, count, words))
         end_with(2, "%s", usage);
     carrier_check_options("sender", &sender.options.carrier);

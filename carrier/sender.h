@@ -22,6 +22,7 @@ enum {
 struct options {
     struct carrier_options carrier;
     struct kerberos_options kerberos;
+    uint64_t patience; /* seconds after which what has no receipt is published again */
     uint64_t life; /* seconds after which a stream's next text begins another session */
     const char *sessions, *outbox, *metrics;
     unsigned batch, retry;
@@ -35,6 +36,7 @@ struct lane {
     sqlite3_int64 deferred; /* its texts from this one on wait, up to those looked at; 0: none */
     size_t waiting;         /* so many of its sessions are to be checked, */
     uint64_t moment;        /* not before this moment */
+    int has_waiting;        /* a session's frames wait for a receipt */
     uint64_t incarnation;   /* of the list to which frames are published; 0: it isn't there now */
 };
 
@@ -74,7 +76,9 @@ struct sender {
     unsigned long stopped;      /* so many stops were reported */
     char unknown[CARRIER_NAME]; /* the last session without a line that was reported */
     uint8_t *bytes;             /* of a frame that is opened */
-    unsigned long published, again;
+    unsigned long published, again, receipts;
+    uint32_t has_receipts;      /* a session has them, */
+    uint64_t heard;             /* and it was looked for some at this moment */
     uint64_t storing, carrying; /* nanoseconds */
     uint64_t rose;              /* when a frame was carried last, or there was none to be carried */
     uint64_t looked;            /* when it was looked whether the outbox is this process's */
@@ -151,6 +155,19 @@ size_t publish_count_carried(struct sender *s, int milliseconds);
 /* How many frames wait that may be carried; how many sessions are held (seal.h). */
 size_t publish_backlog(const struct sender *s);
 size_t publish_count_held(const struct sender *s);
+
+/* The session's publishing ends; begins again after what is done; what is done counts as carried. */
+void publish_block(struct sender *s, struct sending *it);
+void publish_restart(struct sender *s, struct sending *it);
+void publish_note_done(struct sender *s, struct sending *it);
+
+/* ---- sender_receipts.c */
+
+/* Takes the receipts that came, and answers how many counted. */
+size_t receipts_hear(struct sender *s);
+
+/* Looks whether a session has waited for too long for one. */
+void receipts_look(struct sender *s, struct sending *it);
 
 /* ---- sender_report.c: the sender is the first part of service.h, its shards are the others. */
 

@@ -79,9 +79,12 @@ int sender_load(struct sender *s, struct sending *it)
     lane->backlog -= (size_t)(it->progress.next - it->progress.carried);
     it->progress = (struct progress){ .next = it->kept.next, .carried = it->kept.carried,
                                       .at = it->kept.at, .sent = it->kept.carried };
+    it->done = it->kept.done;
+    s->has_receipts |= it->of.has_back;
     lane->backlog += (size_t)(it->progress.next - it->progress.carried);
     seal_reset(it);
-    if (it->progress.carried < it->progress.next)
+    if (it->progress.carried < it->progress.next
+        || (it->of.has_back && it->done < it->progress.carried))
         sender_activate(s, it);
     return 0;
 }

@@ -23,7 +23,7 @@ static struct krbrelay_address end_of(uint8_t which)
     return (struct krbrelay_address){ .kind = 3, .len = 4, .bytes = { 0, 0, 0, which } };
 }
 
-static void make_session(const struct begun *it, struct session *of)
+static int make_session(const struct sender *s, const struct begun *it, struct session *of)
 {
     memset(of, 0, sizeof *of);
     memcpy(of->name, it->opened.name, sizeof of->name);
@@ -32,9 +32,10 @@ static void make_session(const struct begun *it, struct session *of)
     of->mode = KRBRELAY_PRIV;
     memcpy(of->key, it->opened.key, it->opened.key_len);
     of->key_len = it->opened.key_len;
-    of->first = of->has_opening = 1;
+    of->first = of->has_opening = of->has_back = 1;
     of->from = end_of(0);
     of->to = end_of(1);
+    return opening_back(s->kerberos, &it->opened, of->back);
 }
 
 /* Adds a session. NULL after a fault of the outbox, or out of memory. */
@@ -46,8 +47,8 @@ static struct sending *add(struct sender *s, struct stream *stream, const struct
     struct session of;
     if (copy != NULL) {
         *copy = *it;
-        make_session(it, &of);
-        added = sender_add(s, &of);
+        if (make_session(s, it, &of) == 0)
+            added = sender_add(s, &of);
         explicit_bzero(&of, sizeof of);
     }
     if (added == NULL) {

@@ -50,6 +50,7 @@ static void take_early(struct shard *s, struct receiving *of, const struct carri
              field_number("shard", s->number), field_number("offset", it->offset),
              field_number("number", number), field_number("demanded", demanded),
              field_text("text", "it has to come again after the demanded one"));
+    shard_owe(s, of);
     miss(s, of, MISSED_EARLY);
 }
 
@@ -83,6 +84,13 @@ static void take_refused(struct shard *s, struct receiving *of, const struct car
         miss(s, of, missed_by(answer));
 }
 
+/* The receipt for it may have been lost. */
+static void take_repeat(struct shard *s, struct receiving *of)
+{
+    s->counts.repeats++;
+    shard_owe(s, of);
+}
+
 /* Decides what a refused frame is. Out of memory and the like is no refusal: -1. */
 static int take_refusal(struct shard *s, struct receiving *of, const struct carried *it,
                         uint64_t demanded, enum krbrelay_answer answer)
@@ -95,7 +103,7 @@ static int take_refusal(struct shard *s, struct receiving *of, const struct carr
     }
     is_open = answer != KRBRELAY_AFTER_CLOSE && look(s, of, it, &number) == 0;
     if (answer == KRBRELAY_AFTER_CLOSE || (is_open && number < demanded))
-        s->counts.repeats++;
+        take_repeat(s, of);
     else if (is_open && answer == KRBRELAY_BADORDER)
         take_early(s, of, it, number, demanded);
     else
@@ -183,7 +191,7 @@ static int make_receiver(const struct shard *s, struct receiving *it)
 static int take_opening(struct shard *s, struct receiving *of, const struct carried *it)
 {
     if (it->offset != of->opened_at) {
-        s->counts.repeats++;
+        take_repeat(s, of);
         return 0;
     }
     s->counts.opened++;
@@ -251,6 +259,7 @@ static int advance(struct shard *s, struct receiving *it)
     if (it->opened_at > 0 && kept_add(s->store, s->kerberos, s->number, it->opened) != 0)
         return -1;
     it->opened_at = 0;
+    shard_owe(s, it);
     now->is_stored = 1;
     it->stored = *now;
     it->is_changed = 0;
@@ -328,6 +337,7 @@ int shard_step(struct shard *s, int milliseconds)
     int count, answer = be_loaded(s, milliseconds);
     if (answer != 1)
         return answer;
+    shard_pay(s);
     shard_go_back(s, 0);
     shard_look_back(s);
     began = nanoseconds();
@@ -341,8 +351,10 @@ int shard_step(struct shard *s, int milliseconds)
     if (s->frames[count - 1].offset > s->highest)
         shard_hear(s, s->frames[count - 1].offset);
     answer = take_all(s, count);
-    if (answer == 0)
+    if (answer == 0) {
+        shard_pay(s);
         return count;
+    }
     /* Another receiver was faster, or a fault: continue at what is stored, after a drawn while. */
     s->is_loaded = 0;
     s->counts.fenced += answer == 1;

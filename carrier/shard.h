@@ -61,6 +61,8 @@ struct receiving {
     int is_changed;
     uint64_t passed;               /* the offset of a frame that was passed by (store_pass), or 0 */
     int has_opened;                /* a frame opened: the key is right */
+    int owes;                      /* a receipt, */
+    uint64_t receipted;            /* of which the last was sealed at this moment */
     int is_standing;               /* it is in the list of those that stand: */
     uint64_t since;                /* since this moment, */
     unsigned tries;                /* and so often the shard was read again for it */
@@ -69,7 +71,8 @@ struct receiving {
 enum { REFUSALS = 25 }; /* reasons for which a frame is refused (shard_report.c) */
 
 struct shard_counts {
-    unsigned long frames, texts, accepted, repeats, early, fenced, commits, back, opened;
+    unsigned long frames, texts, accepted, repeats, early, fenced, commits, back, opened,
+        receipts;
     unsigned long refused[REFUSALS]; /* neither as repeats nor as early */
     unsigned long long bytes;
     uint64_t opening, fetching, storing; /* nanoseconds */
@@ -92,6 +95,7 @@ struct shard {
     void *receivings;              /* tsearch's tree of a struct receiving for each session */
     size_t count, room;            /* so many there are, and those below have room in these: */
     struct receivings changed;     /* those that this transaction moves */
+    struct receivings owing;       /* those that owe a receipt */
     struct receivings standing;    /* those that stand, or did a moment ago */
     struct receivings asked;       /* those of which the store is asked */
     const char **names;            /* of those */
@@ -174,6 +178,12 @@ int shard_has_turn(struct shard *shard, const struct receiving *of);
 
 /* The opening at this offset is to be read again. */
 void shard_note_unopened(struct shard *shard, uint64_t offset);
+
+/* ---- shard_receipts.c */
+
+/* The session owes a receipt; all receipts that are due are sealed and published. */
+void shard_owe(struct shard *shard, struct receiving *it);
+void shard_pay(struct shard *shard);
 
 /* ---- shard_back.c: how a shard is read again. */
 

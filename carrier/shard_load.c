@@ -46,6 +46,7 @@ static int grow(struct shard *s)
         return 1;
     if (!grow_list(&s->changed, room) || !grow_list(&s->standing, room)
         || !grow_list(&s->asked, room) || !grow_list(&s->news, room)
+        || !grow_list(&s->owing, room)
         || (names = realloc(s->names, room * sizeof *names)) == NULL)
         return 0;
     s->names = names;
@@ -93,8 +94,9 @@ void shard_forget(struct shard *s)
     free(s->standing.at);
     free(s->asked.at);
     free(s->news.at);
+    free(s->owing.at);
     free(s->names);
-    s->changed = s->standing = s->asked = s->news = (struct receivings){ NULL, 0 };
+    s->changed = s->standing = s->asked = s->news = s->owing = (struct receivings){ NULL, 0 };
     s->names = NULL;
     s->count = s->room = 0;
 }
@@ -211,6 +213,9 @@ static void begin_turn(struct shard *s)
     for (i = 0; i < s->changed.count; i++)
         s->changed.at[i]->is_changed = 0;
     s->changed.count = 0;
+    for (i = 0; i < s->owing.count; i++)
+        s->owing.at[i]->owes = 0;
+    s->owing.count = 0;
     for (i = 0; i < s->standing.count; i++) /* until the store says that they still do */
         s->standing.at[i]->now.missed = MISSED_NOTHING;
 }

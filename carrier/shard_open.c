@@ -16,7 +16,7 @@ static struct krbrelay_address end_of(uint8_t which)
 }
 
 /* The session as those of the file are. */
-static void make_session(const struct shard *s, const struct opened *it, struct session *of)
+static int make_session(const struct shard *s, const struct opened *it, struct session *of)
 {
     memset(of, 0, sizeof *of);
     memcpy(of->name, it->name, sizeof of->name);
@@ -25,9 +25,10 @@ static void make_session(const struct shard *s, const struct opened *it, struct 
     of->mode = KRBRELAY_PRIV;
     memcpy(of->key, it->key, it->key_len);
     of->key_len = it->key_len;
-    of->first = 1;
+    of->first = of->has_opening = of->has_back = 1;
     of->from = end_of(0);
     of->to = end_of(1);
+    return opening_back(s->kerberos, it, of->back);
 }
 
 /* Adds a session that began by a ticket. NULL if there is no memory. */
@@ -38,8 +39,8 @@ static struct receiving *add(struct shard *s, const struct opened *it)
     struct session of;
     if (copy != NULL) {
         *copy = *it;
-        make_session(s, it, &of);
-        added = shard_add(s, &of);
+        if (make_session(s, it, &of) == 0)
+            added = shard_add(s, &of);
         explicit_bzero(&of, sizeof of);
     }
     if (added != NULL) {

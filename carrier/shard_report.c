@@ -18,6 +18,7 @@ const struct metric shard_metrics[] = {
     { NAME "text_bytes_total", "counter", "Bytes of them", NULL },
     { NAME "accepted_frames_total", "counter", "Frames that were accepted", NULL },
     { NAME "opened_sessions_total", "counter", "Sessions that began by a ticket", NULL },
+    { NAME "receipts_total", "counter", "Receipts that were published", NULL },
     { NAME "repeated_frames_total", "counter", "Frames that had been accepted before", NULL },
     { NAME "early_frames_total", "counter", "Frames that came before one that is missing", NULL },
     { NAME "transactions_total", "counter", "Transactions that were committed", NULL },
@@ -80,6 +81,7 @@ void shard_report(const struct shard *s, const char *event, uint64_t took)
     const struct shard_counts *c = &s->counts;
     log_numbers(event, field_number("shard", s->number), field_number("texts", c->texts),
                 field_number("frames", c->accepted), field_number("opened", c->opened),
+                field_number("receipts", c->receipts),
                 field_number("repeats", c->repeats),
                 field_number("early", c->early), field_number("refused", count_refused(c)),
                 field_number("commits", c->commits), field_number("fenced", c->fenced),
@@ -107,6 +109,7 @@ void shard_show(struct shard *s, unsigned part)
     int is_known = s->is_loaded && carrier_behind(s->carrier, &behind) == 0;
     double values[sizeof shard_metrics / sizeof *shard_metrics] = {
         (double)c->texts, (double)c->bytes, (double)c->accepted, (double)c->opened,
+        (double)c->receipts,
         (double)c->repeats,
         (double)c->early, (double)c->commits, (double)c->fenced,
         (double)c->back, (double)c->opening / 1e9, (double)c->fetching / 1e9,
