@@ -27,8 +27,13 @@ int progress_begin(struct progress *it, uint64_t next, uint64_t carried, uint64_
 
 int progress_begin_again(struct progress *it)
 {
+    return progress_restart(it, it->carried);
+}
+
+int progress_restart(struct progress *it, uint64_t done)
+{
     struct krbrelay_progress now = given(it);
-    if (krbrelay_progress_new(&now, it->next, it->carried, 0) != KRBRELAY_OK)
+    if (krbrelay_progress_new(&now, it->next, done, 0) != KRBRELAY_OK)
         return -1;
     take(it, &now);
     return 0;

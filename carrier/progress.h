@@ -37,6 +37,9 @@ int progress_begin(struct progress *it, uint64_t next, uint64_t carried, uint64_
  * begin anew. */
 int progress_begin_again(struct progress *it);
 
+/* The same, after all below `done` took effect: what isn't done counts as not carried. */
+int progress_restart(struct progress *it, uint64_t done);
+
 /* The frames below this number are stored. Also -1 if more were. */
 int progress_store(struct progress *it, uint64_t next);
 
