@@ -101,6 +101,23 @@ int carrier_behind(struct carrier *carrier, uint64_t *frames)
     return carrier->behind(carrier, frames);
 }
 
+int carrier_acknowledge(struct carrier *carrier, unsigned shard, const struct carried *list,
+                        size_t count)
+{
+    return carrier->acknowledge(carrier, shard, list, count);
+}
+
+int carrier_receipts(struct carrier *carrier, carrier_receipt *take, void *given)
+{
+    return carrier->receipts(carrier, take, given);
+}
+
+int carrier_last_receipt(struct carrier *carrier, unsigned shard, const char *session,
+                         carrier_receipt *take, void *given)
+{
+    return carrier->last_receipt(carrier, shard, session, take, given);
+}
+
 void carrier_close(struct carrier *carrier)
 {
     carrier->close(carrier);

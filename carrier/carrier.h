@@ -120,6 +120,21 @@ int carrier_fetch(struct carrier *carrier, struct carried *list, size_t room, in
 /* How many frames stand after the last that was fetched: about, and as far as that is known. */
 int carrier_behind(struct carrier *carrier, uint64_t *frames);
 
+/* ---- Receipts (receipts.h), of which the last one of each session is kept, beside the shards. Each may
+ * be lost, or given again. */
+
+/* Takes receipts of a shard's sessions: offsets don't matter. */
+int carrier_acknowledge(struct carrier *carrier, unsigned shard, const struct carried *list,
+                        size_t count);
+
+/* Passes those that came since the last call to a function. */
+typedef void carrier_receipt(void *given, const char *session, const uint8_t *receipt, size_t len);
+int carrier_receipts(struct carrier *carrier, carrier_receipt *take, void *given);
+
+/* The same of the last one of a session, if there is one. */
+int carrier_last_receipt(struct carrier *carrier, unsigned shard, const char *session,
+                         carrier_receipt *take, void *given);
+
 void carrier_close(struct carrier *carrier);
 
 /* ---- For those who write a carrier: its first member is a struct carrier. */
@@ -134,6 +149,9 @@ struct carrier {
     int (*confirmed)(struct carrier *, struct confirmed *, size_t, int);
     int (*fetch)(struct carrier *, struct carried *, size_t, int);
     int (*behind)(struct carrier *, uint64_t *);
+    int (*acknowledge)(struct carrier *, unsigned, const struct carried *, size_t);
+    int (*receipts)(struct carrier *, carrier_receipt *, void *);
+    int (*last_receipt)(struct carrier *, unsigned, const char *, carrier_receipt *, void *);
     void (*close)(struct carrier *);
 };
 

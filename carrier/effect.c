@@ -5,11 +5,21 @@
 
 const char effect_tables_sqlite[] =
     "CREATE TABLE IF NOT EXISTS effect (id INTEGER PRIMARY KEY AUTOINCREMENT,"
-    " session TEXT NOT NULL, number INTEGER NOT NULL, part INTEGER NOT NULL, text BLOB NOT NULL);";
+    " session TEXT NOT NULL, number INTEGER NOT NULL, part INTEGER NOT NULL, text BLOB NOT NULL,"
+    " client TEXT NOT NULL DEFAULT '', stream TEXT NOT NULL DEFAULT '');";
 
 const char effect_tables_postgresql[] =
     "CREATE TABLE IF NOT EXISTS effect (id bigserial PRIMARY KEY,"
-    " session text NOT NULL, number bigint NOT NULL, part int NOT NULL, text bytea NOT NULL);";
+    " session text NOT NULL, number bigint NOT NULL, part int NOT NULL, text bytea NOT NULL,"
+    " client text NOT NULL DEFAULT '', stream text NOT NULL DEFAULT '');"
+    "ALTER TABLE effect ADD COLUMN IF NOT EXISTS client text NOT NULL DEFAULT '',"
+    " ADD COLUMN IF NOT EXISTS stream text NOT NULL DEFAULT '';";
+
+const char *const effect_columns[][2] = {
+    { "effect", "client TEXT NOT NULL DEFAULT ''" },
+    { "effect", "stream TEXT NOT NULL DEFAULT ''" },
+};
+const size_t effect_column_count = sizeof effect_columns / sizeof *effect_columns;
 
 int take_effect(struct store *store, const struct arrived *it)
 {
@@ -18,7 +28,9 @@ int take_effect(struct store *store, const struct arrived *it)
         { VALUE_NUMBER, it->number, NULL, 0 },
         { VALUE_NUMBER, it->part, NULL, 0 },
         { VALUE_BYTES, 0, it->text, it->len },
+        { VALUE_TEXT, 0, it->client, strlen(it->client) },
+        { VALUE_TEXT, 0, it->stream, strlen(it->stream) },
     };
-    return store_run(store, "INSERT INTO effect (session, number, part, text)"
-                            " VALUES ($1, $2, $3, $4)", values, 4);
+    return store_run(store, "INSERT INTO effect (session, number, part, text, client, stream)"
+                            " VALUES ($1, $2, $3, $4, $5, $6)", values, 6);
 }

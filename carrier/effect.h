@@ -7,6 +7,7 @@
 /* A text of a session that arrived: the part'th of the frame with this number. */
 struct arrived {
     const char *session;
+    const char *client, *stream; /* who began the session by a ticket, and of which stream; or "" */
     uint64_t number;
     unsigned part;
     const uint8_t *text;
@@ -21,5 +22,9 @@ int take_effect(struct store *store, const struct arrived *it);
 
 /* Its tables, unless they exist. */
 extern const char effect_tables_sqlite[], effect_tables_postgresql[];
+
+/* Columns that tables of SQLite of an older version don't have (database.h). */
+extern const char *const effect_columns[][2];
+extern const size_t effect_column_count;
 
 #endif

@@ -7,7 +7,8 @@
 
 enum { PATIENCE = 4 }; /* seconds for an end in order */
 
-static int ending, status; /* of a handler and of threads: all is read and written atomically */
+/* Of handlers and of threads: all is read and written atomically. */
+static int ending, status, hung_up;
 
 static void end_in_time(void)
 {
@@ -37,6 +38,24 @@ void end_by_signals(void)
         if (sigaction(numbers[i], &action, NULL) != 0)
             end_now(); /* never: all may be caught */
     }
+}
+
+static void note_hangup(int number)
+{
+    (void)number;
+    __atomic_store_n(&hung_up, 1, __ATOMIC_SEQ_CST);
+}
+
+void note_hangups(void)
+{
+    struct sigaction action = { .sa_handler = note_hangup };
+    if (sigaction(SIGHUP, &action, NULL) != 0)
+        end_now(); /* never: it may be caught */
+}
+
+int has_hung_up(void)
+{
+    return __atomic_exchange_n(&hung_up, 0, __ATOMIC_SEQ_CST);
 }
 
 int is_ending(void)

@@ -10,6 +10,10 @@ void end_by_signals(void);
 
 int is_ending(void);
 
+/* From now on SIGHUP is noted. Whether one came since the last call. */
+void note_hangups(void);
+int has_hung_up(void);
+
 /* Asks for the end, as a signal does, since something failed. */
 void end_now(void);
 

@@ -41,7 +41,7 @@ static const char *fault_of(const struct nats_carrier *c, const jsStreamConfig *
 }
 
 /* The options of a question about a stream. */
-static natsStatus begin_to_ask(struct nats_carrier *c, jsOptions *options)
+natsStatus nats_begin_to_ask(struct nats_carrier *c, jsOptions *options)
 {
     natsStatus status = jsOptions_Init(options);
     if (c->patience < SHORTEST)
@@ -58,7 +58,7 @@ static int between(int64_t number, int low, int high)
 
 /* The next question is waited for twice as long as this one took; after one in vain twice as long
  * as this one, but, where answers were fast, not much longer: then it isn't the distance. */
-static void note_asked(struct nats_carrier *c, natsStatus status)
+void nats_note_asked(struct nats_carrier *c, natsStatus status)
 {
     int64_t took = (int64_t)(nanoseconds() - c->asked) / 1000000;
     int limit = c->answered == 0 ? LONGEST : between(8 * c->answered, 2 * SHORTEST, LONGEST);
@@ -76,12 +76,12 @@ natsStatus nats_ask_stream(struct nats_carrier *c, unsigned shard, jsStreamInfo 
     const char *fault;
     jsOptions options;
     jsErrCode code = 0;
-    natsStatus status = begin_to_ask(c, &options);
+    natsStatus status = nats_begin_to_ask(c, &options);
     *info = NULL;
     write_whole(name, sizeof name, "KRB_%u", shard);
     if (status == NATS_OK)
         status = js_GetStreamInfo(info, c->js, name, &options, &code);
-    note_asked(c, status);
+    nats_note_asked(c, status);
     if (status != NATS_OK)
         return status;
     fault = fault_of(c, (*info)->Config);
@@ -113,14 +113,14 @@ static int last(struct carrier *base, unsigned shard, const char *session, struc
     char name[32], subject[64];
     jsOptions options;
     jsErrCode code = 0;
-    natsStatus status = begin_to_ask(c, &options);
+    natsStatus status = nats_begin_to_ask(c, &options);
     natsMsg_Destroy(c->last);
     c->last = NULL;
     write_whole(name, sizeof name, "KRB_%u", shard);
     write_whole(subject, sizeof subject, "krb.%u.%s", shard, session);
     if (status == NATS_OK)
         status = js_GetLastMsg(&c->last, c->js, name, subject, &options, &code);
-    note_asked(c, status);
+    nats_note_asked(c, status);
     if (status == NATS_NOT_FOUND || code == JSStreamNotFoundErr)
         return 0;
     if (status != NATS_OK)
@@ -140,6 +140,7 @@ static void close_it(struct carrier *base)
     nats_stop_reading(c);
     natsMsg_Destroy(c->last);
     natsSubscription_Destroy(c->answers);
+    natsSubscription_Destroy(c->receipts);
     natsInbox_Destroy(c->inbox);
     jsCtx_Destroy(c->js);
     natsConnection_Destroy(c->connection);
@@ -283,6 +284,9 @@ struct carrier *nats_carrier_open(const struct carrier_options *options)
     c->base.seek = nats_seek;
     c->base.fetch = nats_fetch;
     c->base.behind = nats_behind;
+    c->base.acknowledge = nats_acknowledge;
+    c->base.receipts = nats_receipts;
+    c->base.last_receipt = nats_last_receipt;
     c->base.close = close_it;
     c->replicas = options->replicas;
     status = natsOptions_Create(&c->options);

@@ -46,6 +46,9 @@ struct nats_carrier {
     natsMsg *held[NATS_HELD];
     int held_count;
     int is_silent;                      /* 1: the consumer's heartbeats are missed */
+    natsSubscription *receipts;         /* all that are published, from the first look on */
+    int has_receipts;                   /* their stream is known to be there */
+    uint64_t receipts_moment;           /* it isn't asked for again before this moment */
 };
 
 /* Logs a fault of a call; CARRIER_FAULT. */
@@ -67,5 +70,16 @@ void nats_seek(struct carrier *base, unsigned shard, uint64_t offset);
 int nats_fetch(struct carrier *base, struct carried *list, size_t room, int milliseconds);
 int nats_behind(struct carrier *base, uint64_t *frames);
 void nats_stop_reading(struct nats_carrier *c);
+
+/* nats_receipts.c */
+int nats_acknowledge(struct carrier *base, unsigned shard, const struct carried *list,
+                     size_t count);
+int nats_receipts(struct carrier *base, carrier_receipt *take, void *given);
+int nats_last_receipt(struct carrier *base, unsigned shard, const char *session,
+                      carrier_receipt *take, void *given);
+
+/* The options of a question about a stream, and what its answer was: nats_carrier.c. */
+natsStatus nats_begin_to_ask(struct nats_carrier *c, jsOptions *options);
+void nats_note_asked(struct nats_carrier *c, natsStatus status);
 
 #endif

@@ -21,19 +21,28 @@ static const char tables[] =
     " since INTEGER NOT NULL) WITHOUT ROWID;"
     "CREATE TABLE IF NOT EXISTS frame (session TEXT NOT NULL, number INTEGER NOT NULL,"
     " frame BLOB NOT NULL, PRIMARY KEY (session, number));"
+    "CREATE TABLE IF NOT EXISTS opened (name TEXT PRIMARY KEY, stream TEXT NOT NULL,"
+    " turn INTEGER NOT NULL, before TEXT NOT NULL, shard INTEGER NOT NULL, since INTEGER NOT NULL,"
+    " closed INTEGER NOT NULL, etype INTEGER NOT NULL, kvno INTEGER NOT NULL,"
+    " wrapping INTEGER NOT NULL, key BLOB NOT NULL, UNIQUE (stream, turn)) WITHOUT ROWID;"
     "CREATE TABLE IF NOT EXISTS owner (one INTEGER PRIMARY KEY CHECK (one = 1),"
     " turn INTEGER NOT NULL);"
-    "INSERT OR IGNORE INTO owner VALUES (1, 0)";
+    "INSERT OR IGNORE INTO owner (one, turn) VALUES (1, 0)";
 
 /* Columns that files of an older version don't have. */
 static const char *const columns[][2] = {
     { "session", "shard INTEGER NOT NULL DEFAULT -1" },
     { "session", "incarnation INTEGER NOT NULL DEFAULT 0" },
+    { "session", "done INTEGER NOT NULL DEFAULT -1" },
     { "text", "since INTEGER NOT NULL DEFAULT 0" },
+    { "owner", "renewed INTEGER NOT NULL DEFAULT 0" },
 };
 
+#define OPENED "name, stream, before, etype, turn, since, shard, closed, kvno, wrapping, key"
+
 static const char *const sql[OUTBOX_STATEMENTS] = {
-    [LOAD_SESSION] = "SELECT next, carried, at, incarnation, shard FROM session WHERE name = ?",
+    [LOAD_SESSION] = ("SELECT next, carried, at, incarnation, shard, iif(done < 0, carried, done)"
+                      " FROM session WHERE name = ?"),
     [SELECT_TEXTS] = ("SELECT id, session, body FROM text WHERE id > ? AND id <= ? ORDER BY id"
                       " LIMIT ?"),
     [HAS_TEXT] = "SELECT 1 FROM text WHERE id > ? LIMIT 1",
@@ -42,10 +51,11 @@ static const char *const sql[OUTBOX_STATEMENTS] = {
     [SELECT_FRAMES] = ("SELECT number, frame FROM frame WHERE session = ? AND number >= ?"
                        " ORDER BY number LIMIT ?"),
     [DROP_FRAMES] = "DELETE FROM frame WHERE session = ? AND number < ?",
-    [SET_NEXT] = ("INSERT INTO session (name, next, carried, at, shard) VALUES (?2, ?1, ?3, 0, ?4)"
+    [SET_NEXT] = ("INSERT INTO session (name, next, carried, at, shard, done)"
+                  " VALUES (?2, ?1, ?5, 0, ?4, ?5)"
                   " ON CONFLICT (name) DO UPDATE SET next = ?1 WHERE next = ?3"),
-    [SET_CARRIED] = ("UPDATE session SET carried = ?1, at = ?2, incarnation = ?3, shard = ?4"
-                     " WHERE name = ?5 AND carried <= ?1"),
+    [SET_CARRIED] = ("UPDATE session SET carried = ?1, at = ?2, incarnation = ?3, shard = ?4, done = ?6"
+                     " WHERE name = ?5"),
     [SELECT_OWNER] = "SELECT turn FROM owner",
     [SELECT_SENDING] = "SELECT DISTINCT session FROM frame",
     [DROP_STOPPED] = "DELETE FROM stopped",
@@ -53,6 +63,17 @@ static const char *const sql[OUTBOX_STATEMENTS] = {
                      " ON CONFLICT (session) DO UPDATE SET reason = ?2"),
     [COUNT_TEXTS] = "SELECT count(*) FROM (SELECT 1 FROM text LIMIT 100000)",
     [OLDEST_TEXT] = "SELECT since FROM text ORDER BY id LIMIT 1",
+    [ADD_OPENED] = ("INSERT OR REPLACE INTO opened (name, stream, before, etype, turn, since, shard,"
+                    " closed, kvno, wrapping, key) VALUES (?, ?, ?, ?, ?, ?, ?, ?, ?, ?, ?)"),
+    [SELECT_OPENED] = "SELECT " OPENED " FROM opened WHERE name = ?",
+    [SELECT_STREAM] = "SELECT " OPENED " FROM opened WHERE stream = ? ORDER BY turn DESC LIMIT 1",
+    [SELECT_WRAPPED] = ("SELECT " OPENED " FROM opened WHERE kvno != ?1 AND name > ?2"
+                        " ORDER BY name LIMIT 1"),
+    [SET_RENEWED] = "UPDATE owner SET renewed = ?",
+    [SELECT_RENEWED] = "SELECT renewed FROM owner",
+    [CLOSE_OPENED] = "UPDATE opened SET closed = 1 WHERE name = ?",
+    [DROP_OPENED] = ("DELETE FROM opened WHERE stream = ?1 AND turn < ?2 AND NOT EXISTS"
+                     " (SELECT 1 FROM frame WHERE session = opened.name)"),
 };
 
 static sqlite3_int64 owner(struct outbox *o)
@@ -100,13 +121,16 @@ int outbox_load(struct outbox *o, const struct session *session, struct outbox_p
     int row;
     bind_text(select, 1, session->name);
     row = step_row(select);
-    *it = (struct outbox_progress){ session->first, session->first, 0, 0, (int32_t)session->shard };
+    *it = (struct outbox_progress){ session->first, session->first - session->has_opening, 0, 0,
+                                    session->first - session->has_opening,
+                                    (int32_t)session->shard };
     if (row == 1) {
         it->next = (uint64_t)sqlite3_column_int64(select->at, 0);
         it->carried = (uint64_t)sqlite3_column_int64(select->at, 1);
         it->at = (uint64_t)sqlite3_column_int64(select->at, 2);
         it->incarnation = (uint64_t)sqlite3_column_int64(select->at, 3);
         it->shard = sqlite3_column_int(select->at, 4);
+        it->done = (uint64_t)sqlite3_column_int64(select->at, 5);
     }
     end_rows(select);
     return row >= 0 ? 0 : -1;
@@ -152,6 +176,11 @@ uint64_t outbox_oldest_text(struct outbox *o)
     return number_of(o, OLDEST_TEXT);
 }
 
+uint64_t outbox_renewed(struct outbox *o)
+{
+    return number_of(o, SELECT_RENEWED);
+}
+
 int outbox_is_owned(struct outbox *o)
 {
     return owner(o) == o->turn;
@@ -167,6 +196,18 @@ enum outbox_answer outbox_begin(struct outbox *o)
         return OUTBOX_OK;
     outbox_rollback(o);
     return OUTBOX_TAKEN;
+}
+
+enum outbox_answer outbox_set_renewed(struct outbox *o, uint64_t second)
+{
+    enum outbox_answer begun = outbox_begin(o);
+    if (begun != OUTBOX_OK)
+        return begun;
+    bind_number(&o->statements[SET_RENEWED], 1, (sqlite3_int64)second);
+    if (step_once(&o->statements[SET_RENEWED]) == 0 && outbox_commit(o) == 0)
+        return OUTBOX_OK;
+    outbox_rollback(o);
+    return OUTBOX_AGAIN;
 }
 
 void outbox_select_texts(struct outbox *o, sqlite3_int64 after, sqlite3_int64 to, size_t limit)
@@ -220,6 +261,7 @@ int outbox_set_next(struct outbox *o, const struct session *session, uint64_t fr
     bind_text(set, 2, session->name);
     bind_number(set, 3, (sqlite3_int64)from);
     bind_number(set, 4, session->shard);
+    bind_number(set, 5, session->first - session->has_opening);
     return step_once(set) == 0 && sqlite3_changes(o->db) == 1 ? 0 : -1;
 }
 
@@ -231,8 +273,9 @@ int outbox_set_carried(struct outbox *o, const char *session, const struct outbo
     bind_number(set, 3, (sqlite3_int64)it->incarnation);
     bind_number(set, 4, it->shard);
     bind_text(set, 5, session);
+    bind_number(set, 6, (sqlite3_int64)it->done);
     bind_text(drop, 1, session);
-    bind_number(drop, 2, (sqlite3_int64)it->carried);
+    bind_number(drop, 2, (sqlite3_int64)it->done);
     return step_once(set) == 0 && step_once(drop) == 0 ? 0 : -1;
 }
 

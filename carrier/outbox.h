@@ -16,14 +16,17 @@
 #ifndef OUTBOX_H
 #define OUTBOX_H
 
+#include "at_rest.h"
 #include "database.h"
+#include "opening.h"
 #include "progress.h"
 #include "sessions.h"
 
 enum outbox_statement {
     LOAD_SESSION, SELECT_TEXTS, HAS_TEXT, DROP_TEXTS, ADD_FRAME, SELECT_FRAMES, DROP_FRAMES,
     SET_NEXT, SET_CARRIED, SELECT_OWNER, SELECT_SENDING, ADD_STOPPED, DROP_STOPPED, COUNT_TEXTS,
-    OLDEST_TEXT, OUTBOX_STATEMENTS
+    OLDEST_TEXT, ADD_OPENED, SELECT_OPENED, SELECT_STREAM, CLOSE_OPENED, DROP_OPENED,
+    SELECT_WRAPPED, SET_RENEWED, SELECT_RENEWED, OUTBOX_STATEMENTS
 };
 
 struct outbox {
@@ -39,8 +42,8 @@ struct waiting_text { sqlite3_int64 id; const char *session; const uint8_t *body
 
 /* How far a session is: next, carried and at as in progress.h; `at` is an offset of the list of
  * this shard with this incarnation (carrier.h); a shard of -1, an incarnation of 0: it isn't
- * known. */
-struct outbox_progress { uint64_t next, carried, at, incarnation; int32_t shard; };
+ * known. All below `done` took effect, as receipts say, or, without receipts, is carried. */
+struct outbox_progress { uint64_t next, carried, at, incarnation, done; int32_t shard; };
 
 /* Opens it, makes its tables, and becomes its owner. 0, or -1 after a fault. */
 int outbox_open(struct outbox *outbox, const char *path);
@@ -82,13 +85,45 @@ int outbox_add_frame(struct outbox *outbox, const char *session, uint64_t number
 int outbox_set_next(struct outbox *outbox, const struct session *session, uint64_t from,
                     uint64_t to);
 
-/* Stores how far a session is carried, and deletes the frames below. `next` stays. */
+/* Stores how far a session is carried and done, and deletes the frames that are. `next` stays. */
 int outbox_set_carried(struct outbox *outbox, const char *session,
                        const struct outbox_progress *it);
 
 /* Says that a session is stopped, and why; that none is. */
 int outbox_add_stopped(struct outbox *outbox, const char *session, const char *reason);
 int outbox_drop_stopped(struct outbox *outbox);
+
+/* ---- Sessions that begin by tickets (opening.h), whose keys are wrapped (at_rest.h). */
+
+/* Such a session, which is the turn'th of its stream; what `opened` says of a client is nothing. */
+struct begun {
+    struct opened opened;
+    uint64_t turn, since; /* begun in this second */
+    unsigned shard;
+    int is_closed;
+};
+
+/* The session of this name; the last one of a stream: 1, 0 if there is none, -1 after a fault, as
+ * where its key can't be read. The caller overwrites the key. */
+int outbox_find_begun(struct outbox *outbox, struct kerberos *kerberos, const char *name,
+                      struct begun *it);
+int outbox_find_stream(struct outbox *outbox, struct kerberos *kerberos, const char *stream,
+                       struct begun *it);
+
+/* In a transaction: adds it, or notes that it is closed; drops those of its stream before it of which
+ * no frame is left. */
+int outbox_add_begun(struct outbox *outbox, struct kerberos *kerberos, const struct begun *it);
+int outbox_close_begun(struct outbox *outbox, const struct begun *it);
+
+/* The second up to which sessions that were begun are old; in a transaction of its own: it is this
+ * one. */
+uint64_t outbox_renewed(struct outbox *outbox);
+enum outbox_answer outbox_set_renewed(struct outbox *outbox, uint64_t second);
+
+/* The same: wraps keys that aren't wrapped under the newest key. */
+int outbox_wrap_anew(struct outbox *outbox, struct kerberos *kerberos);
+
+/* ---- */
 
 int outbox_commit(struct outbox *outbox);
 void outbox_rollback(struct outbox *outbox);

@@ -17,7 +17,7 @@
 #include <string.h>
 
 enum {
-    EFFECTS = 16,     /* the most statements of effects */
+    EFFECTS = 32,     /* the most statements of effects, and others that callers give */
     SYNCED = 32 << 10 /* bytes, less than libpq keeps before it sends them */
 };
 enum expected { ANY_ROWS, ONE_ROW, COMMITTED, SYNC }; /* what an answer has to say */
@@ -245,45 +245,67 @@ static const char *prepared(struct postgresql_store *s, const char *sql, char na
     return name;
 }
 
+/* Values as libpq has them. */
+struct given {
+    char digits[STORE_VALUES][24];
+    const char *texts[STORE_VALUES];
+    int lengths[STORE_VALUES], formats[STORE_VALUES];
+};
+
+static void give(struct given *g, const struct value *values, unsigned count)
+{
+    unsigned i;
+    for (i = 0; i < count; i++) {
+        g->lengths[i] = (int)values[i].len;
+        g->formats[i] = values[i].kind != VALUE_NUMBER; /* 1: its bytes as they are */
+        g->texts[i] = values[i].kind == VALUE_NUMBER ? g->digits[i]
+                      : values[i].len == 0           ? ""
+                                                     : values[i].at;
+        if (values[i].kind == VALUE_NUMBER)
+            write_whole(g->digits[i], sizeof g->digits[i], "%llu",
+                        (unsigned long long)values[i].number);
+    }
+}
+
 static int run_effect(struct store *base, const char *sql, const struct value *values,
                       unsigned count)
 {
     struct postgresql_store *s = (struct postgresql_store *)base;
-    char name[32], digits[STORE_VALUES][24];
-    const char *texts[STORE_VALUES];
-    int lengths[STORE_VALUES], formats[STORE_VALUES];
-    unsigned i;
+    struct given g;
+    char name[32];
     if (count > STORE_VALUES || prepared(s, sql, name) == NULL)
         return -1;
-    for (i = 0; i < count; i++) {
-        lengths[i] = (int)values[i].len;
-        formats[i] = values[i].kind != VALUE_NUMBER; /* 1: its bytes as they are */
-        texts[i] = values[i].kind == VALUE_NUMBER ? digits[i]
-                   : values[i].len == 0           ? ""
-                                                  : values[i].at;
-        if (values[i].kind == VALUE_NUMBER)
-            write_whole(digits[i], sizeof digits[i], "%llu",
-                        (unsigned long long)values[i].number);
-    }
-    return ask(s, name, (int)count, texts, lengths, formats, ANY_ROWS);
+    give(&g, values, count);
+    return ask(s, name, (int)count, g.texts, g.lengths, g.formats, ANY_ROWS);
+}
+
+static int settle(struct store *base)
+{
+    return read_answers((struct postgresql_store *)base) == 0 ? 0 : -1;
 }
 
 /* ---- What is asked and waited for */
 
-/* The first row of a query of one value, or NULL with a report; the caller clears it. */
-static PGresult *query(struct postgresql_store *s, const char *sql, const char *value)
+/* The rows of a query with values that are texts, or NULL with a report; the caller clears them. */
+static PGresult *query_values(struct postgresql_store *s, const char *sql, int count,
+                              const char *const *values)
 {
     PGresult *result;
     if (!PQexitPipelineMode(s->db)) {
         report(s, "the connection is lost, or answers are left");
         return NULL;
     }
-    result = PQexecParams(s->db, sql, 1, NULL, &value, NULL, NULL, 0);
+    result = PQexecParams(s->db, sql, count, NULL, values, NULL, NULL, 0);
     if (PQresultStatus(result) == PGRES_TUPLES_OK && PQenterPipelineMode(s->db))
         return result;
     report(s, "is the server there? query");
     PQclear(result);
     return NULL;
+}
+
+static PGresult *query(struct postgresql_store *s, const char *sql, const char *value)
+{
+    return query_values(s, sql, 1, &value);
 }
 
 static uint64_t number_at(const PGresult *result, int row, int column)
@@ -386,6 +408,31 @@ static int passed(struct store *base, unsigned shard, store_note *take, void *gi
     return answer;
 }
 
+static int take_columns(const PGresult *result, int row, store_row *take, void *given)
+{
+    const char *columns[STORE_COLUMNS];
+    int i;
+    for (i = 0; i < PQnfields(result); i++)
+        columns[i] = PQgetisnull(result, row, i) ? NULL : PQgetvalue(result, row, i);
+    return take(given, columns);
+}
+
+static int ask_rows(struct store *base, const char *sql, const struct value *values, unsigned count,
+                    store_row *take, void *given)
+{
+    struct given g;
+    PGresult *result;
+    int row, answer = 0;
+    give(&g, values, count);
+    result = query_values((struct postgresql_store *)base, sql, (int)count, g.texts);
+    if (result == NULL)
+        return -1;
+    for (row = 0; answer == 0 && row < PQntuples(result); row++)
+        answer = take_columns(result, row, take, given) == 0 ? 0 : -1;
+    PQclear(result);
+    return answer;
+}
+
 /* ---- */
 
 static void close_it(struct store *base)
@@ -418,7 +465,7 @@ static const char tables[] =
 /* A role that may not make tables may use those that are there. */
 static int make_tables(struct postgresql_store *s)
 {
-    const char *const steps[] = { tables, effect_tables_postgresql, "COMMIT" };
+    const char *const steps[] = { tables, effect_tables_postgresql, kept_tables, "COMMIT" };
     unsigned i;
     for (i = 0; i < sizeof steps / sizeof *steps; i++) {
         PGresult *result = PQexec(s->db, steps[i]);
@@ -488,6 +535,8 @@ struct store *postgresql_store_open(const char *where)
     s->base.rollback = rollback;
     s->base.close = close_it;
     s->base.run = run_effect;
+    s->base.settle = settle;
+    s->base.ask = ask_rows;
     s->db = postgresql_connect(where);
     if (s->db != NULL && make_tables(s) && prepare_all(s) && PQenterPipelineMode(s->db))
         return &s->base;

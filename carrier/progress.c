@@ -15,10 +15,34 @@ static void take(struct progress *it, const struct krbrelay_progress *now)
     it->sent = now->sent;
 }
 
+int progress_begin(struct progress *it, uint64_t next, uint64_t carried, uint64_t at)
+{
+    struct krbrelay_progress now;
+    if (krbrelay_progress_new(&now, next, carried, at) != KRBRELAY_OK)
+        return -1;
+    take(it, &now);
+    it->moved = 0;
+    return 0;
+}
+
 int progress_begin_again(struct progress *it)
 {
+    return progress_restart(it, it->carried);
+}
+
+int progress_restart(struct progress *it, uint64_t done)
+{
     struct krbrelay_progress now = given(it);
-    if (krbrelay_progress_new(&now, it->next, it->carried, 0) != KRBRELAY_OK)
+    if (krbrelay_progress_new(&now, it->next, done, 0) != KRBRELAY_OK)
+        return -1;
+    take(it, &now);
+    return 0;
+}
+
+int progress_store(struct progress *it, uint64_t next)
+{
+    struct krbrelay_progress now = given(it);
+    if (next < it->next || krbrelay_progress_store(&now, next - it->next) != KRBRELAY_OK)
         return -1;
     take(it, &now);
     return 0;

@@ -28,10 +28,20 @@ struct progress {
     uint64_t moved;   /* when `carried` last rose, or all that isn't carried was published again */
 };
 
+/* Each answers 0, or -1 if these are no numbers of a progress, and changes nothing then.
+ *
+ * The session continues where so much was stored: what isn't carried counts as not published. */
+int progress_begin(struct progress *it, uint64_t next, uint64_t carried, uint64_t at);
+
 /* The shard is another list than before: what isn't carried counts as not published, and offsets
- * begin anew. Like progress_publish it answers 0, or -1 if these are no numbers of a progress, and
- * changes nothing then. */
+ * begin anew. */
 int progress_begin_again(struct progress *it);
+
+/* The same, after all below `done` took effect: what isn't done counts as not carried. */
+int progress_restart(struct progress *it, uint64_t done);
+
+/* The frames below this number are stored. Also -1 if more were. */
+int progress_store(struct progress *it, uint64_t next);
 
 /* One frame more was published. Also -1 if none is left. */
 int progress_publish(struct progress *it);

@@ -11,6 +11,50 @@ enum { COUNTED = 512 };
 
 #define MOMENT UINT64_C(100000000) /* nanoseconds until a session that failed is tried again */
 
+/* ---- What of a session doesn't wait for the carrier */
+
+/* Whether its frames are counted in its shard's backlog. */
+static int counts(const struct sending *it)
+{
+    return !it->is_blocked && !it->is_held;
+}
+
+static size_t backlog_of(const struct sending *it)
+{
+    return (size_t)(it->progress.next - it->progress.carried);
+}
+
+void publish_block(struct sender *s, struct sending *it)
+{
+    /* Its frames don't keep the window of its shard from the others. */
+    s->lanes[it->lane].backlog -= counts(it) ? backlog_of(it) : 0;
+    it->is_blocked = 1;
+}
+
+void publish_restart(struct sender *s, struct sending *it)
+{
+    size_t before = backlog_of(it);
+    if (progress_restart(&it->progress, it->done) != 0)
+        return; /* never: what is done isn't beyond what was sealed */
+    it->kept.carried = UINT64_MAX; /* so that it is stored */
+    s->lanes[it->lane].backlog += counts(it) ? backlog_of(it) - before : 0;
+}
+
+void publish_note_done(struct sender *s, struct sending *it)
+{
+    struct progress *progress = &it->progress;
+    size_t before = backlog_of(it);
+    sender_activate(s, it); /* so that it is stored */
+    if (it->done <= progress->carried)
+        return;
+    progress->carried = it->done;
+    progress->sent = progress->sent > it->done ? progress->sent : it->done;
+    progress->moved = nanoseconds();
+    s->lanes[it->lane].backlog -= counts(it) ? before - backlog_of(it) : 0;
+}
+
+/* ---- Publishing */
+
 /* The shard's list, unless the carrier has none now. If it isn't the one in which the session's
  * frames were counted, all offsets begin anew, and what isn't carried is published again. */
 static int find_list(struct sender *s, struct sending *it)
@@ -26,7 +70,9 @@ static int find_list(struct sender *s, struct sending *it)
                  field_number("shard", it->of.shard),
                  field_text("text", "its shard is another list than before: what isn't carried is"
                                     " published there"));
-        if (progress_begin_again(&it->progress) != 0)
+        if (it->of.has_back) /* what it confirmed may be lost with it */
+            publish_restart(s, it);
+        else if (progress_begin_again(&it->progress) != 0)
             return 0;
         it->kept.carried = UINT64_MAX; /* so that it is stored */
     }
@@ -41,13 +87,24 @@ static int put_off(struct sender *s, struct sending *it, int answer, uint64_t nu
     it->moment = nanoseconds() + MOMENT;
     if (answer != CARRIER_REFUSED)
         return -1;
-    it->is_blocked = 1;
+    publish_block(s, it);
     it->stopped_at = 1;
-    /* Its frames don't keep the window of its shard from the others. */
-    s->lanes[it->lane].backlog -= (size_t)(it->progress.next - it->progress.carried);
     write_cut(it->reason, sizeof it->reason, "the carrier doesn't take frame %llu: is it longer"
               " than its Maximum Payload?", (unsigned long long)number);
     return sender_stop(s, it->of.name, it->reason) == OUTBOX_OK ? 0 : -1;
+}
+
+/* Publishes a session's opening, which is made anew each time. */
+static int publish_opening(struct sender *s, struct sending *it)
+{
+    size_t len = 0;
+    int answer = tickets_make_opening(s->tickets, s->kerberos, &it->begun->opened, s->opening,
+                                      OPENING, &len);
+    if (answer == 0)
+        answer = carrier_publish(s->carrier, it->of.shard, it->of.name, it->tag, 0, s->opening, len);
+    if (answer == 0 && progress_publish(&it->progress) == 0)
+        s->published++;
+    return answer;
 }
 
 /* Publishes the frames of a session that weren't. */
@@ -60,6 +117,10 @@ static int publish(struct sender *s, struct sending *it)
     int answer = 0, is_there = 1;
     if (progress->sent == progress->carried)
         progress->moved = nanoseconds();
+    if (it->begun != NULL && progress->sent == 0)
+        answer = publish_opening(s, it);
+    if (answer != 0)
+        return put_off(s, it, answer, number);
     outbox_select_frames(&s->outbox, it->of.name, progress->sent, WINDOW);
     while (answer == 0 && progress->sent < progress->next
            && outbox_next_frame(&s->outbox, &number, &frame, &len) == 1) {
@@ -77,16 +138,44 @@ static int publish(struct sender *s, struct sending *it)
     return is_there ? 0 : sender_load(s, it);
 }
 
+/* Whether frames of a session are carried and wait for a receipt. */
+static int waits(const struct sending *it)
+{
+    return it->of.has_back && it->done < it->progress.carried;
+}
+
 /* Whether the session still has something to be carried or stored. */
 static int is_active(const struct sending *it)
 {
-    return it->progress.carried < it->progress.next || it->kept.carried != it->progress.carried;
+    return waits(it) || (it->of.has_back && it->kept.done != it->done)
+           || it->progress.carried < it->progress.next
+           || it->kept.carried != it->progress.carried;
+}
+
+/* Whether a session's opening can't leave now: there is no ticket, or the session of its stream before
+ * it isn't carried, whose close has to come before. What waits so doesn't take the window of its
+ * shard from the others. Nothing of a session whose row isn't stored leaves. */
+static int hold(struct sender *s, struct sending *it)
+{
+    size_t *backlog = &s->lanes[it->lane].backlog;
+    size_t frames = backlog_of(it);
+    int is_held = it->progress.sent == 0
+                  && (!tickets_have(s->tickets) || sender_is_after(s, it));
+    if (is_held && !it->is_held)
+        *backlog -= frames;
+    else if (!is_held && it->is_held)
+        *backlog += frames;
+    it->is_held = is_held;
+    return is_held || !it->is_stored;
 }
 
 static void publish_one(struct sender *s, struct sending *it)
 {
     uint64_t patience = s->options.retry * UINT64_C(1000000), now = nanoseconds();
-    if (it->is_blocked || now < it->moment || !find_list(s, it))
+    if (!it->is_blocked)
+        receipts_look(s, it);
+    if (it->is_blocked || now < it->moment || (it->begun != NULL && hold(s, it))
+        || !find_list(s, it))
         return;
     s->again += progress_rewind(&it->progress, now, patience);
     if (it->progress.sent < it->progress.next && publish(s, it) != 0)
@@ -94,13 +183,17 @@ static void publish_one(struct sender *s, struct sending *it)
                  field_number("shard", it->of.shard), field_text("text", "tried again"));
 }
 
-/* Which list each shard is, of those that have frames. */
+/* Which list each shard is, of those that have frames, or sessions that wait for receipts. */
 static void find_lists(struct sender *s)
 {
     size_t i;
+    for (i = 0; i < s->lane_count; i++)
+        s->lanes[i].has_waiting = 0;
+    for (i = 0; i < s->active.count; i++)
+        s->lanes[s->active.at[i]->lane].has_waiting |= waits(s->active.at[i]);
     for (i = 0; i < s->lane_count; i++) {
         struct lane *lane = &s->lanes[i];
-        if (lane->backlog > 0
+        if ((lane->backlog > 0 || lane->has_waiting)
             && carrier_make(s->carrier, lane->shard, &lane->incarnation) != 0)
             lane->incarnation = 0;
     }
@@ -138,7 +231,7 @@ size_t publish_count_carried(struct sender *s, int milliseconds)
         if (it == NULL
             || !progress_confirm(&it->progress, list[i].number, list[i].offset, nanoseconds()))
             continue;
-        s->lanes[it->lane].backlog -= !it->is_blocked;
+        s->lanes[it->lane].backlog -= counts(it) ? 1 : 0;
         rose++;
     }
     return count == COUNTED ? rose + publish_count_carried(s, 0) : rose;
@@ -149,8 +242,16 @@ size_t publish_backlog(const struct sender *s)
     size_t i, frames = 0;
     for (i = 0; i < s->active.count; i++) {
         const struct sending *it = s->active.at[i];
-        if (!it->is_blocked)
-            frames += (size_t)(it->progress.next - it->progress.carried);
+        if (counts(it))
+            frames += backlog_of(it);
     }
     return frames;
+}
+
+size_t publish_count_held(const struct sender *s)
+{
+    size_t i, count = 0;
+    for (i = 0; i < s->active.count; i++)
+        count += s->active.at[i]->is_held != 0;
+    return count;
 }

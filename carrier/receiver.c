@@ -21,8 +21,8 @@
 enum { WAIT = 50, SECOND_OF_WAITS = 20 };
 
 static const char usage[] =
-    "receiver --sessions FILE --store WHERE --carrier WHERE --shards LIST|auto [OPTION..]\n"
-    "  --sessions FILE  a line for each session: NAME SHARD ETYPE MODE KEY FIRST FROM TO\n"
+    "receiver [--sessions FILE] --store WHERE --carrier WHERE --shards LIST|auto [OPTION..]\n"
+    "  --sessions FILE  a line for each session: NAME SHARD ETYPE MODE KEY FIRST FROM TO [BACK]\n"
     "  --store WHERE    sqlite:FILE, in whose name '%' is the shard, or\n"
     "                   postgresql://USER@HOST/DATABASE\n"
     CARRIER_USAGE
@@ -34,6 +34,8 @@ static const char usage[] =
     "                   which the carrier keeps frames, or their session stands still\n"
     "  --metrics ADDRESS:PORT  answers GET /metrics (Prometheus's text) and GET /healthz\n"
     "  --until-closed   ends once all sessions are closed\n"
+    KERBEROS_USAGE
+    "  --allow FILE     the clients that may begin sessions: a principal each line\n"
     "  --help, --version\n"
     "It ends by SIGTERM. Status: 0; 1 after a fault at the start; 2 for a wrong option.\n";
 
@@ -55,7 +57,9 @@ static unsigned char is_closed[CARRIER_SHARDS]; /* with --until-closed: all its 
 
 static int is_wanted(unsigned shard)
 {
-    return sessions_have_shard(sessions, shard) && !is_closed[shard];
+    int has_tickets = options.shard.kerberos.keytab != NULL
+                      && shard < options.shard.kerberos.shards;
+    return (has_tickets || sessions_have_shard(sessions, shard)) && !is_closed[shard];
 }
 
 /* How many shards have to be served by somebody. */
@@ -228,7 +232,8 @@ static int work(void)
 /* ---- Options */
 
 static const struct option words_of_options[] = {
-    CARRIER_WORDS,
+    CARRIER_WORDS, KERBEROS_WORDS,
+    { "allow", required_argument, NULL, KERBEROS_ALLOW },
     { "sessions", required_argument, NULL, 's' }, { "store", required_argument, NULL, 'S' },
     { "shards", required_argument, NULL, 'n' },   { "batch", required_argument, NULL, 'b' },
     { "skew", required_argument, NULL, 'k' },     { "metrics", required_argument, NULL, 'm' },
@@ -260,7 +265,9 @@ static int read_option(struct options *o, int letter)
     case 'u': o->shard.until_closed = 1; break;
     case 'h': end_with(0, "%s", usage);
     case 'v': end_with_version("receiver");
-    default: return carrier_option("receiver", &o->shard.carrier, letter, optarg);
+    default:
+        return carrier_option("receiver", &o->shard.carrier, letter, optarg)
+               || kerberos_option("receiver", &o->shard.kerberos, letter, optarg);
     }
     return 1;
 }
@@ -271,7 +278,7 @@ static int read_options(struct options *o, int count, char **words)
     while ((letter = getopt_long(count, words, "", words_of_options, NULL)) != -1)
         if (!read_option(o, letter))
             return 0;
-    return optind == count && o->sessions && o->shard.store && o->shard.carrier.where
+    return optind == count && (o->sessions || o->shard.kerberos.keytab) && o->shard.store && o->shard.carrier.where
            && o->has_shards;
 }
 
@@ -279,14 +286,18 @@ int main(int count, char **words)
 {
     int status;
     options.shard = (struct shard_options){ .carrier = { .replicas = 1 }, .batch = 1024,
-                                            .skew = 86400 };
+                                            .kerberos = { .shards = 1 }, .skew = 86400 };
     if (!read_options(&options, count, words))
         end_with(2, "%s", usage);
     carrier_check_options("receiver", &options.shard.carrier);
+    kerberos_check_options("receiver", &options.shard.kerberos, "--allow",
+                           options.shard.kerberos.allowed);
+    if (options.shard.until_closed && options.shard.kerberos.keytab != NULL)
+        end_with(2, "receiver: --until-closed is for sessions of a file alone\n");
     umask(077); /* databases have texts and frames: they are for their owner alone */
     end_by_signals();
     srand((unsigned)nanoseconds());
-    sessions = sessions_read(options.sessions);
+    sessions = options.sessions != NULL ? sessions_read(options.sessions) : sessions_empty();
     if (sessions == NULL)
         return 1;
     status = work();

@@ -115,7 +115,7 @@ enum seal_answer seal_rest(struct sealing *s, struct sending *it)
     return answer;
 }
 
-static enum seal_answer seal_close(struct sealing *s, struct sending *it, sqlite3_int64 id)
+enum seal_answer seal_close(struct sealing *s, struct sending *it, sqlite3_int64 id)
 {
     enum seal_answer answer = seal_rest(s, it);
     it->begin = id;
@@ -158,6 +158,7 @@ void seal_reset(struct sending *it)
 void seal_free(struct sending *it)
 {
     krbrelay_sealer_free(&it->sealer);
+    krbrelay_opener_free(&it->receipts);
     if (it->batch != NULL)
         explicit_bzero(it->batch, it->room);
     free(it->batch);

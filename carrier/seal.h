@@ -15,6 +15,11 @@ enum seal_answer { SEAL_OK = 0, SEAL_STOP = 1, SEAL_FAULT = -1 };
 /* One session of a sender, from its first text or frame on. */
 struct sending {
     struct session of;          /* the first member: it is found by its name */
+    struct begun *begun;        /* how it begins by a ticket; NULL: it has a line */
+    struct stream *stream;      /* whose session it is then, */
+    int is_stored;              /* the outbox has its row: its opening may leave, */
+    int is_held;                /* but waits for a ticket, or for the session before, */
+    int is_closing;             /* and this transaction closes it, since it is old */
     uint32_t tag;               /* of its frames' confirmations */
     size_t lane;                /* its shard's place */
     struct krbrelay_sealer sealer; /* made with the first text */
@@ -30,6 +35,11 @@ struct sending {
     int is_checked, is_wanted;  /* texts.c: the carrier has no frame of a later number; is asked */
     int is_touched, is_active;  /* it is in the lists of sender.h */
     int is_blocked;             /* publish.c: the carrier won't have its next frame */
+    uint64_t done;              /* all below took effect, as receipts say (sender_receipts.c) */
+    uint64_t waited;            /* frames have waited for a receipt since this moment, */
+    unsigned waits;             /* and were published again so often since the last one */
+    int has_asked;              /* the carrier was asked for the last one */
+    struct krbrelay_opener receipts; /* made with the first one */
     uint64_t moment;            /* publish.c: nothing is published before it */
 };
 
@@ -43,6 +53,9 @@ struct sealing {
 
 /* Takes one text, or the close if its body is NULL. */
 enum seal_answer seal_text(struct sealing *s, struct sending *it, const struct waiting_text *text);
+
+/* Seals the texts that wait, and then the close. */
+enum seal_answer seal_close(struct sealing *s, struct sending *it, sqlite3_int64 id);
 
 /* Seals the texts that wait. */
 enum seal_answer seal_rest(struct sealing *s, struct sending *it);

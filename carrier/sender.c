@@ -26,20 +26,28 @@ enum {
 #define SILENCE (10 * SECOND)
 
 static const char usage[] =
-    "sender --sessions FILE --outbox FILE --carrier WHERE [OPTION..]\n"
-    "  --sessions FILE  a line for each session: NAME SHARD ETYPE MODE KEY FIRST FROM TO\n"
+    "sender [--sessions FILE] --outbox FILE --carrier WHERE [OPTION..]\n"
+    "  --sessions FILE  a line for each session: NAME SHARD ETYPE MODE KEY FIRST FROM TO [BACK]\n"
     "  --outbox FILE    SQLite's, in whose table `text` an application puts texts\n"
     CARRIER_USAGE
     "  --replicas N     so many replicas has a stream that is made; one with fewer isn't used (1)\n"
     "  --batch N        so many texts go into a frame at most (1)\n"
     "  --retry MILLISECONDS  what isn't carried by then is published again (2000): more than the\n"
     "                   time in which the carrier confirms\n"
+    "  --patience SECONDS  of sessions with receipts, what has none by then is published again (30);\n"
+    "                   then after twice as long each time, up to 32 times\n"
     "  --metrics ADDRESS:PORT  answers GET /metrics (Prometheus's text) and GET /healthz\n"
     "  --drain          ends once all is carried that can be\n"
+    KERBEROS_USAGE
+    "  --client NAME    the principal of this program: a name of a text that no line has is a\n"
+    "                   stream of it\n"
+    "  --etype N        of the keys of sessions: 17 or 18 (18)\n"
+    "  --life SECONDS   after so long a stream's next text begins a session with a new key (86400);\n"
+    "                   SIGHUP has all streams begin one\n"
     "  --help, --version\n"
     "It ends by SIGTERM. Status: 0; 1 after a fault; 2 for a wrong option; 3 if another sender\n"
     "has taken the outbox over; 4 after --drain if a session is stopped, as the outbox's table\n"
-    "`stopped` says.\n";
+    "`stopped` says, or if there is no ticket.\n";
 
 /* ---- Sessions */
 
@@ -71,6 +79,14 @@ void sender_activate(struct sender *s, struct sending *it)
 
 /* ---- What is stored, in one transaction */
 
+/* Stores a session that begins by a ticket, and that it is closed. */
+static int keep_begun(struct sender *s, const struct sending *it)
+{
+    if (!it->is_stored && outbox_add_begun(&s->outbox, s->kerberos, it->begun) != 0)
+        return -1;
+    return it->is_closing ? outbox_close_begun(&s->outbox, it->begun) : 0;
+}
+
 /* Stores what was sealed. */
 static enum seal_answer keep_sealed(struct sender *s, struct sending **stopped)
 {
@@ -81,6 +97,8 @@ static enum seal_answer keep_sealed(struct sender *s, struct sending **stopped)
         *stopped = it;
         if (answer != SEAL_OK)
             return answer;
+        if (it->begun != NULL && keep_begun(s, it) != 0)
+            return SEAL_FAULT;
         if (it->sealed > it->progress.next
             && outbox_set_next(&s->outbox, &it->of, it->progress.next, it->sealed) != 0)
             return SEAL_FAULT;
@@ -97,7 +115,8 @@ static enum seal_answer keep_carried(struct sender *s)
         struct outbox_progress now = it->kept;
         now.carried = it->progress.carried;
         now.at = it->progress.at;
-        if (it->kept.carried != it->progress.carried
+        now.done = it->of.has_back ? it->done : it->progress.carried;
+        if ((it->kept.carried != it->progress.carried || it->kept.done != now.done)
             && outbox_set_carried(&s->outbox, it->of.name, &now) != 0)
             return SEAL_FAULT;
     }
@@ -112,12 +131,19 @@ static void note_kept(struct sender *s)
         struct sending *it = s->active.at[i];
         it->kept.carried = it->progress.carried;
         it->kept.at = it->progress.at;
+        it->kept.done = it->of.has_back ? it->done : it->progress.carried;
     }
     for (i = 0; i < s->touched.count; i++) {
         struct sending *it = s->touched.at[i];
-        s->lanes[it->lane].backlog += (size_t)(it->sealed - it->progress.next);
-        it->kept.next = it->progress.next = it->sealed;
+        if (!it->is_held)
+            s->lanes[it->lane].backlog += (size_t)(it->sealed - it->progress.next);
+        if (progress_store(&it->progress, it->sealed) != 0)
+            log_fact(LEVEL_ERROR, "progress_unknown", field_text("session", it->of.name),
+                     field_number("next", it->progress.next), field_number("sealed", it->sealed));
+        it->kept.next = it->progress.next;
         it->is_touched = 0;
+        it->is_stored = 1;
+        sender_note_renewed(it, 1);
         sender_activate(s, it);
     }
     s->touched.count = 0;
@@ -143,6 +169,7 @@ static void give_up(struct sender *s, const struct looked *before)
         s->lanes[i].deferred = before->deferred[i];
     for (i = 0; i < s->touched.count; i++) {
         seal_reset(s->touched.at[i]);
+        sender_note_renewed(s->touched.at[i], 0);
         s->touched.at[i]->is_touched = 0;
     }
     s->touched.count = 0;
@@ -213,6 +240,25 @@ static enum outbox_answer look_at_sessions(struct sender *s)
     return sender_begin(s) == 0 ? OUTBOX_OK : OUTBOX_FAULT;
 }
 
+/* After a SIGHUP the sessions that were begun so far are old. */
+static enum outbox_answer look_at_hangups(struct sender *s)
+{
+    uint64_t now = read_clock().seconds;
+    enum outbox_answer answer;
+    if (has_hung_up())
+        s->is_hung_up = 1;
+    if (!s->is_hung_up)
+        return OUTBOX_OK;
+    answer = outbox_set_renewed(&s->outbox, now);
+    if (answer != OUTBOX_OK)
+        return answer;
+    s->renew = now;
+    s->is_hung_up = 0;
+    log_fact(LEVEL_INFO, "streams_renewed", field_number("up_to", now),
+             field_text("text", "each stream's next text begins a session with a new key"));
+    return OUTBOX_OK;
+}
+
 /* Each second: shows how it stands, looks whether the outbox is still this process's, also where
  * nothing is stored, and whether the file of sessions is another one. */
 static enum outbox_answer look(struct sender *s)
@@ -226,7 +272,18 @@ static enum outbox_answer look(struct sender *s)
     if (!outbox_is_owned(&s->outbox))
         return OUTBOX_TAKEN;
     answer = look_at_sessions(s);
+    if (answer == OUTBOX_OK && s->kerberos != NULL)
+        answer = look_at_hangups(s);
     return answer == OUTBOX_AGAIN ? OUTBOX_OK : answer; /* then in a second */
+}
+
+/* Whether sessions that are held may leave now, or in a moment. */
+static int may_get_tickets(struct sender *s)
+{
+    if (s->tickets == NULL)
+        return 0;
+    return !tickets_have_tried(s->tickets)
+           || (publish_count_held(s) > 0 && tickets_have(s->tickets));
 }
 
 /* One round; *rose is how many frames were carried in the last. 1 if all is done that can be. */
@@ -246,7 +303,8 @@ static int step(struct sender *s, struct looked *before, size_t *rose, enum outb
         *answer = store(s, texts, before);
     if (*answer < 0)
         return 1;
-    if (s->options.drain && !texts && backlog == 0 && *rose == 0 && s->wanted.count == 0)
+    if (s->options.drain && !texts && backlog == 0 && *rose == 0 && s->wanted.count == 0
+        && !may_get_tickets(s))
         return 1;
     s->storing += nanoseconds() - began - (s->sealing.nanoseconds - sealing);
     began = nanoseconds();
@@ -254,6 +312,7 @@ static int step(struct sender *s, struct looked *before, size_t *rose, enum outb
     backlog = publish_backlog(s);
     *rose = publish_count_carried(s, backlog > 0 && !(texts && backlog < WINDOW / 2) ? IDLE : 0);
     report_silence(s, *rose);
+    *rose += receipts_hear(s);
     if (!texts && *rose == 0)
         pause_milliseconds(1);
     s->carrying += nanoseconds() - began;
@@ -285,21 +344,37 @@ static int make_memory(struct sender *s)
     s->sealing.batch = s->options.batch;
     s->sealing.frame = malloc(KRBRELAY_FRAME_LIMIT);
     s->bytes = malloc(KRBRELAY_FRAME_LIMIT);
-    if (s->sealing.frame != NULL && s->bytes != NULL)
+    s->opening = malloc(OPENING);
+    if (s->sealing.frame != NULL && s->bytes != NULL && s->opening != NULL)
         return 0;
     log_system("out_of_memory", "sender");
     return -1;
 }
 
+static int open_kerberos(struct sender *s)
+{
+    s->kerberos = kerberos_open(&s->options.kerberos, s->options.kerberos.client);
+    s->tickets = s->kerberos != NULL ? tickets_open(&s->options.kerberos) : NULL;
+    return s->tickets != NULL ? 0 : -1;
+}
+
 static int start(struct sender *s)
 {
-    s->sessions = sessions_read(s->options.sessions);
+    s->sessions = s->options.sessions != NULL ? sessions_read(s->options.sessions)
+                                              : sessions_empty();
     if (s->sessions == NULL || make_memory(s) != 0)
         return -1;
     s->carrier = carrier_open(&s->options.carrier);
     if (s->carrier == NULL) /* the outbox stays with whoever has it */
         return -1;
-    if (outbox_open(&s->outbox, s->options.outbox) != 0 || sender_begin(s) != 0)
+    if (s->options.kerberos.keytab != NULL && open_kerberos(s) != 0)
+        return -1;
+    if (outbox_open(&s->outbox, s->options.outbox) != 0)
+        return -1;
+    if (s->kerberos != NULL && outbox_wrap_anew(&s->outbox, s->kerberos) != 0)
+        return -1;
+    s->renew = outbox_renewed(&s->outbox);
+    if (sender_begin(s) != 0)
         return -1;
     if (sender_begin_showing() != 0)
         return -1;
@@ -311,6 +386,11 @@ static void stop(struct sender *s)
     service_end();
     sender_forget(s);
     outbox_close(&s->outbox);
+    if (s->tickets != NULL)
+        tickets_close(s->tickets);
+    if (s->kerberos != NULL)
+        kerberos_close(s->kerberos);
+    free(s->opening);
     if (s->carrier != NULL)
         carrier_close(s->carrier);
     sessions_forget(s->sessions);
@@ -324,6 +404,7 @@ static void stop(struct sender *s)
 static int work(struct sender *s)
 {
     uint64_t began = nanoseconds();
+    size_t held;
     enum outbox_answer answer = start(s) == 0 ? serve(s) : OUTBOX_FAULT;
     log_fact(LEVEL_INFO, "sender_ended", field_number("frames", s->sealing.frames),
              field_number("published", s->published), field_number("again", s->again),
@@ -333,17 +414,21 @@ static int work(struct sender *s)
     if (answer == OUTBOX_TAKEN)
         log_fact(LEVEL_ERROR, "outbox_taken", field_text("file", s->options.outbox),
                  field_text("text", "another sender has taken it over: this one ends"));
+    held = publish_count_held(s);
     stop(s);
     log_end();
     if (answer < 0)
         return answer == OUTBOX_TAKEN ? 3 : !is_ending();
-    return s->options.drain && !is_ending() && s->stopped > 0 ? 4 : 0;
+    return s->options.drain && !is_ending() && s->stopped + held > 0 ? 4 : 0;
 }
 
 /* ---- Options */
 
 static const struct option words_of_options[] = {
-    CARRIER_WORDS,
+    CARRIER_WORDS, KERBEROS_WORDS,
+    { "client", required_argument, NULL, KERBEROS_CLIENT },
+    { "etype", required_argument, NULL, KERBEROS_ETYPE },
+    { "life", required_argument, NULL, 'l' },     { "patience", required_argument, NULL, 'p' },
     { "sessions", required_argument, NULL, 's' }, { "outbox", required_argument, NULL, 'o' },
     { "batch", required_argument, NULL, 'b' },    { "retry", required_argument, NULL, 't' },
     { "metrics", required_argument, NULL, 'm' },  { "drain", no_argument, NULL, 'd' },
@@ -362,7 +447,11 @@ static int read_option(struct options *o, int letter)
     case 'd': o->drain = 1; break;
     case 'h': end_with(0, "%s", usage);
     case 'v': end_with_version("sender");
-    default: return carrier_option("sender", &o->carrier, letter, optarg);
+    case 'p': o->patience = option_number("sender", "patience", optarg, 1, 86400); break;
+    case 'l': o->life = option_number("sender", "life", optarg, 1, UINT32_MAX); break;
+    default:
+        return carrier_option("sender", &o->carrier, letter, optarg)
+               || kerberos_option("sender", &o->kerberos, letter, optarg);
     }
     return 1;
 }
@@ -373,7 +462,7 @@ static int read_options(struct options *o, int count, char **words)
     while ((letter = getopt_long(count, words, "", words_of_options, NULL)) != -1)
         if (!read_option(o, letter))
             return 0;
-    return optind == count && o->sessions && o->outbox && o->carrier.where;
+    return optind == count && (o->sessions || o->kerberos.keytab) && o->outbox && o->carrier.where;
 }
 
 int main(int count, char **words)
@@ -381,10 +470,18 @@ int main(int count, char **words)
     static struct sender sender;
     sender.options.carrier.replicas = sender.options.batch = 1;
     sender.options.retry = 2000;
+    sender.options.kerberos.etype = 18;
+    sender.options.kerberos.shards = 1;
+    sender.options.life = 86400;
+    sender.options.patience = 30;
     if (!read_options(&sender.options, count, words))
         end_with(2, "%s", usage);
     carrier_check_options("sender", &sender.options.carrier);
+    kerberos_check_options("sender", &sender.options.kerberos, "--client",
+                           sender.options.kerberos.client);
     umask(077); /* databases have texts and frames: they are for their owner alone */
     end_by_signals();
+    if (sender.options.kerberos.keytab != NULL)
+        note_hangups();
     return work(&sender);
 }

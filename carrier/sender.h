@@ -12,6 +12,7 @@
 #define SENDER_H
 
 #include "seal.h"
+#include "tickets.h"
 
 enum {
     WINDOW = 2048, /* frames of a shard that are sealed and not yet carried */
@@ -20,6 +21,9 @@ enum {
 
 struct options {
     struct carrier_options carrier;
+    struct kerberos_options kerberos;
+    uint64_t patience; /* seconds after which what has no receipt is published again */
+    uint64_t life; /* seconds after which a stream's next text begins another session */
     const char *sessions, *outbox, *metrics;
     unsigned batch, retry;
     int drain;
@@ -32,14 +36,28 @@ struct lane {
     sqlite3_int64 deferred; /* its texts from this one on wait, up to those looked at; 0: none */
     size_t waiting;         /* so many of its sessions are to be checked, */
     uint64_t moment;        /* not before this moment */
+    int has_waiting;        /* a session's frames wait for a receipt */
     uint64_t incarnation;   /* of the list to which frames are published; 0: it isn't there now */
 };
 
 /* Sessions; each is once in it. */
 struct list { struct sending **at; size_t count; };
 
+/* What an application calls a stream. */
+struct stream {
+    char name[CARRIER_NAME];     /* the first member: it is found by it */
+    struct sending *now, *next;  /* its session, and the one that is to come after it; or NULL */
+    int is_renewed;              /* this transaction closes `now`: texts are the next one's */
+};
+
 struct sender {
     struct options options;
+    struct kerberos *kerberos;  /* NULL: no session begins by a ticket */
+    struct tickets *tickets;
+    void *streams;              /* tsearch's tree of the streams of which texts came */
+    uint64_t renew;             /* sessions that were begun up to this second are old */
+    int is_hung_up;             /* SIGHUP came, and the outbox isn't told yet */
+    uint8_t *opening;           /* OPENING bytes */
     struct outbox outbox;
     struct carrier *carrier;
     struct sessions *sessions;  /* the file, */
@@ -58,7 +76,9 @@ struct sender {
     unsigned long stopped;      /* so many stops were reported */
     char unknown[CARRIER_NAME]; /* the last session without a line that was reported */
     uint8_t *bytes;             /* of a frame that is opened */
-    unsigned long published, again;
+    unsigned long published, again, receipts;
+    uint32_t has_receipts;      /* a session has them, */
+    uint64_t heard;             /* and it was looked for some at this moment */
     uint64_t storing, carrying; /* nanoseconds */
     uint64_t rose;              /* when a frame was carried last, or there was none to be carried */
     uint64_t looked;            /* when it was looked whether the outbox is this process's */
@@ -75,7 +95,11 @@ void sender_activate(struct sender *s, struct sending *it);
 
 /* ---- sender_sessions.c */
 
-/* The session of this name: 1, 0 if it has no line, -1 after a fault. */
+/* Adds a session, as the outbox has it. NULL after a fault of the outbox, or out of memory. */
+struct sending *sender_add(struct sender *s, const struct session *of);
+
+/* The session that takes the texts of this name: 1, 0 if there is none, -1 after a fault. In a
+ * transaction. */
 int sender_find(struct sender *s, const char *name, struct sending **it);
 
 /* Makes a session what the outbox has. */
@@ -84,6 +108,26 @@ int sender_load(struct sender *s, struct sending *it);
 /* Loads the sessions that have frames; forgets all. */
 int sender_begin(struct sender *s);
 void sender_forget(struct sender *s);
+
+/* ---- sender_streams.c: sessions that begin by tickets. */
+
+/* The session of this name, if the outbox has it; that of this stream, which is begun if there is
+ * none: 1, 0 if there is none, or its key can't be read, -1 after a fault. */
+int sender_find_begun(struct sender *s, const char *name, struct sending **it);
+int sender_find_stream(struct sender *s, const char *name, struct sending **it);
+
+/* Whether the session's next text is to be the first one of the stream's next session. */
+int sender_is_old(const struct sender *s, const struct sending *it);
+
+/* Whether frames of the session before it in its stream aren't carried. */
+int sender_is_after(const struct sender *s, const struct sending *it);
+
+/* Closes it, and gives the next one. `id` is the text's. Within a transaction, after which
+ * sender_note_renewed is called of each session from which something was sealed. */
+enum seal_answer sender_renew(struct sender *s, struct sending **it, sqlite3_int64 id);
+void sender_note_renewed(struct sending *it, int is_kept);
+
+void sender_forget_streams(struct sender *s);
 
 /* ---- texts.c */
 
@@ -108,8 +152,22 @@ void publish_all(struct sender *s);
 /* Counts the frames that are carried now, and answers how many. */
 size_t publish_count_carried(struct sender *s, int milliseconds);
 
-/* How many frames wait that may be carried. */
+/* How many frames wait that may be carried; how many sessions are held (seal.h). */
 size_t publish_backlog(const struct sender *s);
+size_t publish_count_held(const struct sender *s);
+
+/* The session's publishing ends; begins again after what is done; what is done counts as carried. */
+void publish_block(struct sender *s, struct sending *it);
+void publish_restart(struct sender *s, struct sending *it);
+void publish_note_done(struct sender *s, struct sending *it);
+
+/* ---- sender_receipts.c */
+
+/* Takes the receipts that came, and answers how many counted. */
+size_t receipts_hear(struct sender *s);
+
+/* Looks whether a session has waited for too long for one. */
+void receipts_look(struct sender *s, struct sending *it);
 
 /* ---- sender_report.c: the sender is the first part of service.h, its shards are the others. */
 

@@ -1,4 +1,5 @@
 /* The sessions of a sender that are loaded. */
+#include "log.h"
 #include "sender.h"
 
 #include <search.h>
@@ -47,12 +48,14 @@ static size_t lane_of(struct sender *s, unsigned shard)
 static void free_sending(struct sending *it)
 {
     seal_free(it);
+    if (it->begun != NULL)
+        explicit_bzero(it->begun, sizeof *it->begun);
+    free(it->begun);
     explicit_bzero(it, sizeof *it);
     free(it);
 }
 
-/* Adds a session, as the outbox has it. NULL after a fault of the outbox, or out of memory. */
-static struct sending *add(struct sender *s, const struct session *of)
+struct sending *sender_add(struct sender *s, const struct session *of)
 {
     struct sending *it = grow(s) ? calloc(1, sizeof *it) : NULL;
     if (it == NULL)
@@ -75,11 +78,18 @@ int sender_load(struct sender *s, struct sending *it)
     if (outbox_load(&s->outbox, &it->of, &it->kept) != 0)
         return -1;
     lane->backlog -= (size_t)(it->progress.next - it->progress.carried);
-    it->progress = (struct progress){ .next = it->kept.next, .carried = it->kept.carried,
-                                      .at = it->kept.at, .sent = it->kept.carried };
+    if (progress_begin(&it->progress, it->kept.next, it->kept.carried, it->kept.at) != 0) {
+        log_fact(LEVEL_ERROR, "progress_unknown", field_text("session", it->of.name),
+                 field_number("next", it->kept.next), field_number("carried", it->kept.carried),
+                 field_text("text", "the outbox has these numbers, which are no progress"));
+        return -1;
+    }
+    it->done = it->kept.done;
+    s->has_receipts |= it->of.has_back;
     lane->backlog += (size_t)(it->progress.next - it->progress.carried);
     seal_reset(it);
-    if (it->progress.carried < it->progress.next)
+    if (it->progress.carried < it->progress.next
+        || (it->of.has_back && it->done < it->progress.carried))
         sender_activate(s, it);
     return 0;
 }
@@ -90,19 +100,27 @@ int sender_find(struct sender *s, const char *name, struct sending **it)
     struct session of;
     int is_there;
     *it = found != NULL ? *(struct sending **)found : NULL;
-    if (*it != NULL)
+    if (*it != NULL && (*it)->begun == NULL)
         return 1;
     is_there = sessions_find(s->sessions, name, &of);
     if (is_there)
-        *it = add(s, &of);
+        *it = sender_add(s, &of);
     explicit_bzero(&of, sizeof of);
-    return is_there && *it == NULL ? -1 : is_there;
+    if (is_there)
+        return *it != NULL ? 1 : -1;
+    return s->kerberos != NULL ? sender_find_stream(s, name, it) : 0;
 }
 
 static int load_named(void *given, const char *name)
 {
+    struct sender *s = given;
     struct sending *it;
-    return sender_find(given, name, &it) < 0 ? -1 : 0;
+    struct session of;
+    int has_line = sessions_find(s->sessions, name, &of);
+    explicit_bzero(&of, sizeof of);
+    if (has_line || s->kerberos == NULL)
+        return sender_find(s, name, &it) < 0 ? -1 : 0;
+    return sender_find_begun(s, name, &it) < 0 ? -1 : 0;
 }
 
 int sender_begin(struct sender *s)
@@ -118,6 +136,7 @@ static void keep(void *given)
 void sender_forget(struct sender *s)
 {
     size_t i;
+    sender_forget_streams(s);
     tdestroy(s->by_name, keep);
     s->by_name = NULL;
     for (i = 0; i < s->all.count; i++)

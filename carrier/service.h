@@ -14,7 +14,7 @@
  */
 struct metric { const char *name, *type, *help, *label; };
 
-enum { SERVICE_METRICS = 40, SERVICE_NAMES = 32 };
+enum { SERVICE_METRICS = 64, SERVICE_NAMES = 32 };
 
 /* So many parts at most, of which none is expected. `sessions`, if it isn't NULL, is the kind of
  * number that is 1 for each session that a part names. 0, or -1 if there is no memory. */

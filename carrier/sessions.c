@@ -8,7 +8,7 @@
 #include <string.h>
 #include <sys/stat.h>
 
-enum { WORDS = 8, LINE = 256 };
+enum { WORDS = 9, LINE = 320 }; /* the last word may be left out */
 
 /* A line of the text, with the hash of its name, or of its key. */
 struct place { uint64_t hash; size_t at; };
@@ -36,7 +36,7 @@ static unsigned value_of(char digit, unsigned *are_bad)
     return (number & is_number) | ((letter + 10) & is_letter);
 }
 
-static int read_key(const char *digits, struct session *it)
+static int read_key(const char *digits, struct session *it, uint8_t key[32])
 {
     unsigned are_bad = 0;
     size_t i;
@@ -44,7 +44,7 @@ static int read_key(const char *digits, struct session *it)
     if (strlen(digits) != 2 * it->key_len)
         return 0;
     for (i = 0; i < it->key_len; i++)
-        it->key[i] = (uint8_t)(value_of(digits[2 * i], &are_bad) << 4
+        key[i] = (uint8_t)(value_of(digits[2 * i], &are_bad) << 4
                                | value_of(digits[2 * i + 1], &are_bad));
     return !are_bad;
 }
@@ -90,7 +90,8 @@ static int is_space(char it)
     return it == ' ' || it == '\t' || it == '\r';
 }
 
-/* The words of a line, each of which ends by a zero then. */
+/* The words of a line, each of which ends by a zero then, and how many there are; 0 if that are too
+ * many. */
 static int split(char *line, char *words[WORDS])
 {
     int count = 0;
@@ -98,7 +99,7 @@ static int split(char *line, char *words[WORDS])
         while (is_space(*line))
             *line++ = 0;
         if (*line == 0)
-            return count == WORDS;
+            return count;
         if (count == WORDS)
             return 0;
         words[count++] = line;
@@ -107,19 +108,21 @@ static int split(char *line, char *words[WORDS])
     }
 }
 
-static int read_words(char *const words[WORDS], struct session *it)
+static int read_words(char *const words[WORDS], int count, struct session *it)
 {
     uint64_t shard, etype, first;
-    if (!read_number(words[1], 0, CARRIER_SHARDS - 1, &shard)
+    if (count < WORDS - 1 || !read_number(words[1], 0, CARRIER_SHARDS - 1, &shard)
         || !read_number(words[2], 17, 18, &etype)
         || !read_number(words[5], 0, UINT32_MAX, &first))
         return 0;
+    it->has_back = count == WORDS ? 1 : 0;
     it->shard = (unsigned)shard;
     it->etype = (int32_t)etype;
     it->first = (uint32_t)first;
     return read_name(words[0], it->name) && read_mode(words[3], &it->mode)
-           && read_key(words[4], it) && read_address(words[6], &it->from)
-           && read_address(words[7], &it->to);
+           && read_key(words[4], it, it->key) && read_address(words[6], &it->from)
+           && read_address(words[7], &it->to)
+           && (!it->has_back || read_key(words[8], it, it->back));
 }
 
 /* Reads the line that stands at a place of the text. */
@@ -134,7 +137,7 @@ static int read_line(const struct sessions *s, size_t at, struct session *it)
         return 0;
     memcpy(line, s->text + at, len);
     line[len] = 0;
-    is_fine = split(line, words) && read_words(words, it);
+    is_fine = read_words(words, split(line, words), it);
     explicit_bzero(line, sizeof line);
     return is_fine;
 }
@@ -156,11 +159,21 @@ static int by_hash(const void *a, const void *b)
     return (one > other) - (one < other);
 }
 
-static int has_same(const struct session *one, const struct session *other, int is_key)
+static int is_same_key(const struct session *one, const uint8_t *key, const struct session *other,
+                       const uint8_t *others)
 {
-    if (is_key)
-        return one->key_len == other->key_len && memcmp(one->key, other->key, one->key_len) == 0;
-    return strcmp(one->name, other->name) == 0;
+    return one->key_len == other->key_len && memcmp(key, others, one->key_len) == 0;
+}
+
+/* Whether two lines have a key in common, or one has the same one twice. */
+static int have_same_key(const struct session *one, const struct session *other, int is_one_line)
+{
+    if (is_one_line)
+        return one->has_back && is_same_key(one, one->key, one, one->back);
+    return is_same_key(one, one->key, other, other->key)
+           || (one->has_back && is_same_key(one, one->back, other, other->key))
+           || (other->has_back && is_same_key(one, one->key, other, other->back))
+           || (one->has_back && other->has_back && is_same_key(one, one->back, other, other->back));
 }
 
 static size_t line_of(const struct sessions *s, size_t at)
@@ -186,7 +199,8 @@ static int is_repeated(const struct sessions *s, const struct place *one,
 {
     struct session a, b;
     int is_same = read_line(s, one->at, &a) && read_line(s, other->at, &b)
-                  && has_same(&a, &b, is_key);
+                  && (is_key ? have_same_key(&a, &b, one->at == other->at)
+                             : strcmp(a.name, b.name) == 0);
     explicit_bzero(&a, sizeof a);
     explicit_bzero(&b, sizeof b);
     if (is_same)
@@ -195,12 +209,12 @@ static int is_repeated(const struct sessions *s, const struct place *one,
 }
 
 /* Sorts places by their hashes, unless two lines have the same name, or key. */
-static int sort(const struct sessions *s, struct place *places, int is_key)
+static int sort(const struct sessions *s, struct place *places, size_t count, int is_key)
 {
     size_t i, other;
-    qsort(places, s->count, sizeof *places, by_hash);
-    for (i = 0; i < s->count; i++)
-        for (other = i + 1; other < s->count && places[other].hash == places[i].hash; other++)
+    qsort(places, count, sizeof *places, by_hash);
+    for (i = 0; i < count; i++)
+        for (other = i + 1; other < count && places[other].hash == places[i].hash; other++)
             if (is_repeated(s, &places[i], &places[other], is_key))
                 return 0;
     return 1;
@@ -210,12 +224,12 @@ static int is_malformed(const struct sessions *s, size_t at)
 {
     log_fact(LEVEL_ERROR, "session_malformed", field_text("file", s->path),
              field_number("line", line_of(s, at)),
-             field_text("text", "a line is NAME SHARD ETYPE MODE KEY FIRST FROM TO"));
+             field_text("text", "a line is NAME SHARD ETYPE MODE KEY FIRST FROM TO [BACK]"));
     return 0;
 }
 
-/* Checks each line, and notes its name and its key. */
-static int read_lines(struct sessions *s, struct place *keys)
+/* Checks each line, and notes its name and its keys, of which *count is how many there are. */
+static int read_lines(struct sessions *s, struct place *keys, size_t *count)
 {
     struct session it;
     size_t at = 0;
@@ -224,7 +238,10 @@ static int read_lines(struct sessions *s, struct place *keys)
         is_fine = read_line(s, at, &it) || is_malformed(s, at);
         s->places[s->count] = (struct place){ hash_of(it.name, strlen(it.name)), at };
         s->has_shard[it.shard] = 1;
-        keys[s->count++] = (struct place){ hash_of(it.key, it.key_len), at };
+        s->count++;
+        keys[(*count)++] = (struct place){ hash_of(it.key, it.key_len), at };
+        if (it.has_back)
+            keys[(*count)++] = (struct place){ hash_of(it.back, it.key_len), at };
         at = (size_t)((char *)memchr(s->text + at, '\n', s->size - at) - s->text) + 1;
     }
     explicit_bzero(&it, sizeof it);
@@ -233,29 +250,36 @@ static int read_lines(struct sessions *s, struct place *keys)
 
 static int sort_lines(struct sessions *s)
 {
-    size_t lines = line_of(s, s->size);
-    struct place *keys = calloc(lines, sizeof *keys);
+    size_t lines = line_of(s, s->size), count = 0;
+    struct place *keys = calloc(2 * lines, sizeof *keys);
     int is_fine;
     s->places = calloc(lines, sizeof *s->places);
-    is_fine = keys != NULL && s->places != NULL && read_lines(s, keys) && sort(s, keys, 1)
-              && sort(s, s->places, 0);
+    is_fine = keys != NULL && s->places != NULL && read_lines(s, keys, &count)
+              && sort(s, keys, count, 1) && sort(s, s->places, s->count, 0);
     if (keys != NULL) /* they say something of keys */
-        explicit_bzero(keys, lines * sizeof *keys);
+        explicit_bzero(keys, 2 * lines * sizeof *keys);
     free(keys);
     return is_fine;
 }
 
 /* ---- The file */
 
-struct sessions *sessions_read(const char *path)
+struct sessions *sessions_empty(void)
 {
     struct sessions *s = calloc(1, sizeof *s);
-    if (s == NULL) {
+    if (s != NULL)
+        s->users = 1;
+    else
         log_system("out_of_memory", "sessions");
+    return s;
+}
+
+struct sessions *sessions_read(const char *path)
+{
+    struct sessions *s = sessions_empty();
+    if (s == NULL)
         return NULL;
-    }
     s->path = path;
-    s->users = 1;
     s->text = private_read(path, &s->size, &s->read);
     if (s->text != NULL && sort_lines(s)) {
         if (s->count > 0)
@@ -279,7 +303,7 @@ struct sessions *sessions_read_again(struct sessions *s)
     struct stat is;
     struct sessions *again;
     int has_settled;
-    if (stat(s->path, &is) != 0 || is_same(&is, &s->read))
+    if (s->path == NULL || stat(s->path, &is) != 0 || is_same(&is, &s->read))
         return NULL;
     has_settled = is_same(&is, &s->seen);
     s->seen = is;
@@ -297,8 +321,10 @@ int sessions_find(const struct sessions *s, const char *name, struct session *it
 {
     const struct place wanted = { hash_of(name, strlen(name)), 0 };
     const struct place *end = s->places + s->count,
-                       *at = bsearch(&wanted, s->places, s->count, sizeof *at, by_hash);
+                       *at = NULL;
     memset(it, 0, sizeof *it);
+    if (s->count > 0)
+        at = bsearch(&wanted, s->places, s->count, sizeof *at, by_hash);
     while (at != NULL && at > s->places && at[-1].hash == wanted.hash)
         at--;
     for (; at != NULL && at < end && at->hash == wanted.hash; at++)

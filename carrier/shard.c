@@ -1,6 +1,7 @@
 #include "shard.h"
 #include "clock.h"
 #include "effect.h"
+#include "kept.h"
 #include "log.h"
 
 #include <stdio.h>
@@ -53,14 +54,30 @@ static int take_place(struct shard *s, struct receiving *of, uint64_t offset,
     return 0;
 }
 
-static void tell_early(struct shard *s, const struct carried *it,
+static void tell_early(struct shard *s, struct receiving *of, const struct carried *it,
                        const struct krbrelay_taken *taken)
 {
     s->counts.early++;
+    shard_owe(s, of);
     log_fact(LEVEL_WARNING, "frame_early", field_text("session", it->session),
              field_number("shard", s->number), field_number("offset", it->offset),
              field_number("number", taken->opened), field_number("demanded", taken->demanded),
              field_text("text", "it has to come again after the demanded one"));
+}
+
+/* A frame of a session whose stream's session before isn't closed: it isn't settled. */
+static int take_before_turn(struct shard *s, struct receiving *of, const struct carried *it,
+                            uint64_t demanded)
+{
+    const struct krbrelay_taken taken = { .demanded = demanded, .has_opened = 1,
+                                          .opened = demanded };
+    uint32_t outcome;
+    s->counts.early++;
+    log_fact(LEVEL_WARNING, "frame_early", field_text("session", it->session),
+             field_number("shard", s->number), field_number("offset", it->offset),
+             field_text("before", of->opened->before),
+             field_text("text", "it is read again after the close of the session before"));
+    return take_place(s, of, it->offset, &taken, KRBRELAY_OK, &outcome);
 }
 
 static void tell_refused(struct shard *s, const struct carried *it, enum krbrelay_answer answer)
@@ -78,6 +95,13 @@ static void tell_refused(struct shard *s, const struct carried *it, enum krbrela
                                     " --skew above the time that the carrier keeps frames?"));
 }
 
+/* The receipt for it may have been lost. */
+static void take_repeat(struct shard *s, struct receiving *of)
+{
+    s->counts.repeats++;
+    shard_owe(s, of);
+}
+
 /* A frame was refused. Out of memory and the like is no refusal: -1. */
 static int take_refusal(struct shard *s, struct receiving *of, const struct carried *it,
                         uint64_t demanded, enum krbrelay_answer answer)
@@ -93,9 +117,9 @@ static int take_refusal(struct shard *s, struct receiving *of, const struct carr
     if (take_place(s, of, it->offset, &taken, answer, &outcome) != 0)
         return -1;
     if (outcome == KRBRELAY_OUTCOME_REPEAT)
-        s->counts.repeats++;
+        take_repeat(s, of);
     else if (outcome == KRBRELAY_OUTCOME_EARLY)
-        tell_early(s, it, &taken);
+        tell_early(s, of, it, &taken);
     else
         tell_refused(s, it, answer);
     return 0;
@@ -108,6 +132,8 @@ static int take_unknown(struct shard *s, const struct carried *it)
     int is_elsewhere = sessions_find(s->sessions, it->session, &of);
     unsigned shard = of.shard;
     explicit_bzero(&of, sizeof of);
+    if (s->kerberos != NULL && !is_elsewhere && opening_is(it->frame, it->len))
+        return store_pass(s->store, s->number, it->session, it->offset); /* it was counted */
     shard_count_refused(&s->counts, 0);
     if (is_elsewhere)
         log_fact(LEVEL_WARNING, "frame_misplaced", field_text("session", it->session),
@@ -126,10 +152,11 @@ static int take_unknown(struct shard *s, const struct carried *it)
 /* ---- A frame that is accepted */
 
 /* The effects of the texts of a record. */
-static int take_effects(struct shard *s, const char *name, uint64_t number, uint32_t kind,
+static int take_effects(struct shard *s, const struct receiving *of, uint64_t number, uint32_t kind,
                         size_t size)
 {
-    struct arrived it = { name, number, 0, s->bytes, size };
+    struct arrived it = { of->of.name, of->opened != NULL ? of->opened->client : "",
+                          of->opened != NULL ? of->opened->stream : "", number, 0, s->bytes, size };
     size_t at = 0;
     int answer = 0;
     if (kind == KRBRELAY_TEXT)
@@ -172,6 +199,24 @@ static int make_receiver(const struct shard *s, struct receiving *it)
     return it->is_made ? 0 : -1;
 }
 
+/* An opening that came under the name of its session; another one of it is a repeat. */
+static int take_opening(struct shard *s, struct receiving *of, const struct carried *it)
+{
+    if (it->offset != of->opened_at) {
+        take_repeat(s, of);
+        return 0;
+    }
+    s->counts.opened++;
+    if (take_accepted(s, of, it, of->of.first) != 0)
+        return -1;
+    of->passed = it->offset; /* if one before it was passed by, that note ends */
+    s->unopened.tries = 0;
+    log_fact(LEVEL_INFO, "session_opened", field_text("session", of->of.name),
+             field_number("shard", s->number), field_text("client", of->opened->client),
+             field_text("stream", of->opened->stream), field_text("before", of->opened->before));
+    return 0;
+}
+
 /* Takes one frame of a session, within a transaction. */
 static int take(struct shard *s, struct receiving *of, const struct carried *it)
 {
@@ -181,9 +226,14 @@ static int take(struct shard *s, struct receiving *of, const struct carried *it)
     uint32_t kind = 0, closed = 0;
     size_t size = 0;
     int done;
+    if (of->opened != NULL && opening_is(it->frame, it->len))
+        return take_opening(s, of, it);
     if (make_receiver(s, of) != 0)
         return -1;
     answer = krbrelay_receiver_state(&of->receiver, &demanded, &closed);
+    if (answer == KRBRELAY_OK && demanded == of->of.first && !shard_has_turn(s, of)) {
+        return take_before_turn(s, of, it, demanded);
+    }
     if (answer == KRBRELAY_OK)
         answer = krbrelay_receiver_take(&of->receiver, it->frame, it->len, &now, &kind, s->bytes,
                                         KRBRELAY_FRAME_LIMIT, &size);
@@ -197,7 +247,7 @@ static int take(struct shard *s, struct receiving *of, const struct carried *it)
         return -1;
     s->open -= kind == KRBRELAY_CLOSE && s->open > 0;
     began = nanoseconds();
-    done = take_effects(s, it->session, demanded, kind, size);
+    done = take_effects(s, of, demanded, kind, size);
     s->counts.storing += nanoseconds() - began;
     return done;
 }
@@ -217,6 +267,10 @@ static int advance(struct shard *s, struct receiving *it)
         return -1;
     if (it->passed > 0 && store_find(s->store, s->number, it->of.name) != 0)
         return -1;
+    if (it->opened_at > 0 && kept_add(s->store, s->kerberos, s->number, it->opened) != 0)
+        return -1;
+    it->opened_at = 0;
+    shard_owe(s, it);
     now->is_stored = 1;
     it->stored = *now;
     it->is_changed = 0;
@@ -259,8 +313,10 @@ static int take_all(struct shard *s, int count)
     s->counts.commits += answer == 0;
     if (answer == 0) {
         s->stored = s->now = to;
-        s->least = 0;
+        s->least = s->news.count = 0;
     }
+    if (s->news.count > 0) /* what the openings brought isn't stored */
+        shard_forget(s);
     return answer;
 }
 
@@ -292,6 +348,7 @@ int shard_step(struct shard *s, int milliseconds)
     int count, answer = be_loaded(s, milliseconds);
     if (answer != 1)
         return answer;
+    shard_pay(s);
     shard_go_back(s, 0);
     shard_look_back(s);
     began = nanoseconds();
@@ -305,8 +362,10 @@ int shard_step(struct shard *s, int milliseconds)
     if (s->frames[count - 1].offset > s->highest)
         shard_hear(s, s->frames[count - 1].offset);
     answer = take_all(s, count);
-    if (answer == 0)
+    if (answer == 0) {
+        shard_pay(s);
         return count;
+    }
     /* Another receiver was faster, or a fault: continue at what is stored, after a drawn while. */
     s->is_loaded = 0;
     s->counts.fenced += answer == 1;
@@ -322,6 +381,10 @@ int shard_start(struct shard *s)
 {
     s->store = store_open(s->options->store, s->number);
     if (s->store == NULL)
+        return -1;
+    if (s->options->kerberos.keytab != NULL
+        && (s->kerberos = kerberos_open(&s->options->kerberos,
+                                        s->options->kerberos.service)) == NULL)
         return -1;
     s->carrier = carrier_open(&s->options->carrier);
     s->frames = calloc(s->options->batch, sizeof *s->frames);
@@ -345,6 +408,8 @@ void shard_stop(struct shard *s)
     close_store(s);
     if (s->carrier != NULL)
         carrier_close(s->carrier);
+    if (s->kerberos != NULL)
+        kerberos_close(s->kerberos);
     if (s->bytes != NULL)
         explicit_bzero(s->bytes, KRBRELAY_FRAME_LIMIT);
     free(s->bytes);

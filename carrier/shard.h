@@ -32,6 +32,7 @@
 #define SHARD_H
 
 #include "carrier.h"
+#include "opening.h"
 #include "service.h"
 #include "sessions.h"
 #include "store.h"
@@ -41,6 +42,7 @@ enum { MOST_FRAMES = 4096 }; /* of one transaction */
 struct shard_options {
     const char *store;
     struct carrier_options carrier;
+    struct kerberos_options kerberos;
     unsigned batch;
     uint32_t skew;
     int until_closed;
@@ -49,6 +51,8 @@ struct shard_options {
 /* One session of the shard, from its first frame on. */
 struct receiving {
     struct session of;             /* the first member: it is found by its name */
+    struct opened *opened;         /* how it began by a ticket; NULL: it has a line */
+    uint64_t opened_at;            /* the offset of its opening, which this transaction takes; or 0 */
     struct krbrelay_receiver receiver; /* made with the first frame after loading */
     struct krbrelay_opener opener; /* looks at what was refused; made when it is first needed */
     struct demand stored, now;     /* what the store has, and what it shall have, */
@@ -57,19 +61,26 @@ struct receiving {
     int is_changed;
     uint64_t passed;               /* the offset of a frame that was passed by (store_pass), or 0 */
     int has_opened;                /* a frame opened: the key is right */
+    int owes;                      /* a receipt, */
+    uint64_t receipted;            /* of which the last was sealed at this moment */
     int is_standing;               /* it is in the list of those that stand: */
     uint64_t since;                /* since this moment, */
     unsigned tries;                /* and so often the shard was read again for it */
 };
 
-enum { REFUSALS = 14 }; /* reasons for which a frame is refused (shard_report.c) */
+enum { REFUSALS = 25 }; /* reasons for which a frame is refused (shard_report.c) */
 
 struct shard_counts {
-    unsigned long frames, texts, accepted, repeats, early, fenced, commits, back;
+    unsigned long frames, texts, accepted, repeats, early, fenced, commits, back, opened,
+        receipts;
     unsigned long refused[REFUSALS]; /* neither as repeats nor as early */
     unsigned long long bytes;
     uint64_t opening, fetching, storing; /* nanoseconds */
 };
+
+/* An opening that wasn't taken is tried again, which may help: the shard is read again from the first
+ * one on after some seconds, and when it is begun. */
+struct unopened { uint64_t at, since; unsigned tries; }; /* at an offset, or 0: there is none */
 
 /* Some of a shard's sessions. */
 struct receivings { struct receiving **at; size_t count; };
@@ -77,18 +88,24 @@ struct receivings { struct receiving **at; size_t count; };
 struct shard {
     const struct shard_options *options;
     struct sessions *sessions;     /* the file, of which this is a user */
+    struct kerberos *kerberos;     /* NULL: no session begins by a ticket */
     unsigned number;
     struct store *store;           /* NULL: it has to be opened (again) */
     struct carrier *carrier;
     void *receivings;              /* tsearch's tree of a struct receiving for each session */
     size_t count, room;            /* so many there are, and those below have room in these: */
     struct receivings changed;     /* those that this transaction moves */
+    struct receivings owing;       /* those that owe a receipt */
     struct receivings standing;    /* those that stand, or did a moment ago */
     struct receivings asked;       /* those of which the store is asked */
     const char **names;            /* of those */
     struct carried *frames;
     struct receiving **of_frames;  /* of each frame the session, or NULL */
     struct reached stored, now;    /* how far the store says that it was read, and where it is */
+    int has_wrapped;               /* keys that are stored are wrapped under the newest one */
+    struct unopened unopened;      /* openings that weren't taken */
+    struct receivings news;        /* those whose openings this transaction takes */
+    char unknown[CARRIER_NAME];    /* the last name that the store was asked for in vain */
     uint64_t least;                /* of a note of other names: from there on all is read again; 0:
                                     * there is none */
     uint64_t highest, heard;       /* the greatest offset of a frame, and when that one came */
@@ -103,7 +120,7 @@ struct shard {
 /* Opens store and carrier. 0, or -1 after a fault. */
 int shard_start(struct shard *shard);
 
-/* From now on these are its sessions, of which it becomes a user. What it knew of others ends. */
+/* From now on these are its sessions of the file, of which it becomes a user. What it knew of others ends. */
 void shard_use(struct shard *shard, struct sessions *sessions);
 
 /* Fetches frames, and takes them in one transaction. Answers how many there were, or -1 after a
@@ -117,8 +134,10 @@ void shard_stop(struct shard *shard);
 extern const struct metric shard_metrics[], shard_stands_metric;
 extern const unsigned shard_metrics_count;
 
-/* Counts a frame that was refused with libkrbrelay's answer, or 0 if its name has no line. */
+/* Counts a frame that was refused with libkrbrelay's answer, or 0 if its name has no line; an opening
+ * that wasn't taken. */
 void shard_count_refused(struct shard_counts *counts, uint32_t answer);
+void shard_count_unopened(struct shard_counts *counts, enum opening_answer answer);
 
 /* Work took so many nanoseconds so far. */
 void shard_report(const struct shard *shard, const char *event, uint64_t took);
@@ -133,7 +152,38 @@ int shard_load(struct shard *shard);
 /* Loads the sessions of the first `count` frames. 0, or -1 after a fault. */
 int shard_load_frames(struct shard *shard, int count);
 
+/* The session of this name: 1, 0 and NULL if none is loaded and none has a line, -1 if there is no
+ * memory. */
+int shard_find(struct shard *shard, const char *name, struct receiving **found);
+
+/* Adds a session of which nothing is known. NULL if there is no memory. */
+struct receiving *shard_add(struct shard *shard, const struct session *of);
+
 void shard_forget(struct shard *shard);
+
+/* ---- shard_open.c: sessions that begin by tickets. */
+
+/* Finds the session of a frame whose name has no line, in the store or by its opening: 1, 0, or -1
+ * after a fault. */
+int shard_find_opened(struct shard *shard, const struct carried *it, struct receiving **found);
+
+/* Those that stand, or of which a frame was passed by. 0, or -1 after a fault. */
+int shard_find_standing(struct shard *shard);
+
+/* Finds the session of the stream before this one, if it is stored. 0, or -1 after a fault. */
+int shard_find_before(struct shard *shard, const struct receiving *of, struct receiving **found);
+
+/* Whether a session's first record may be taken: the session before it is closed. */
+int shard_has_turn(struct shard *shard, const struct receiving *of);
+
+/* The opening at this offset is to be read again. */
+void shard_note_unopened(struct shard *shard, uint64_t offset);
+
+/* ---- shard_receipts.c */
+
+/* The session owes a receipt; all receipts that are due are sealed and published. */
+void shard_owe(struct shard *shard, struct receiving *it);
+void shard_pay(struct shard *shard);
 
 /* ---- shard_back.c: how a shard is read again. */
 

@@ -31,6 +31,13 @@ static int is_due(const struct receiving *it)
     return nanoseconds() - it->since > PATIENCE << tries;
 }
 
+/* The same of openings that weren't taken. */
+static int is_unopened_due(const struct unopened *it, int all_at_once)
+{
+    unsigned tries = it->tries < LONGEST ? it->tries : LONGEST;
+    return it->at > 0 && (all_at_once || nanoseconds() - it->since > PATIENCE << tries);
+}
+
 /* Where the shard is read again for a session: at its place, and the next times before it, since
  * offsets may have moved. */
 static uint64_t start_of(const struct receiving *it)
@@ -75,6 +82,12 @@ void shard_go_back(struct shard *s, int all_at_once)
     size_t i, count = 0;
     if (s->least > 0 && s->least <= start)
         start = s->least - 1;
+    if (is_unopened_due(&s->unopened, all_at_once) && s->unopened.at <= start)
+        start = s->unopened.at - 1;
+    if (s->unopened.at > start) { /* it is read now */
+        s->unopened.at = 0;
+        s->unopened.tries += !all_at_once;
+    }
     if (start == UINT64_MAX)
         return;
     for (i = 0; i < s->standing.count; i++) {

@@ -1,3 +1,4 @@
+#include "kept.h"
 #include "log.h"
 #include "shard.h"
 
@@ -20,6 +21,9 @@ static void free_receiving(void *given)
     struct receiving *it = given;
     krbrelay_receiver_free(&it->receiver);
     krbrelay_opener_free(&it->opener);
+    if (it->opened != NULL)
+        explicit_bzero(it->opened, sizeof *it->opened);
+    free(it->opened);
     explicit_bzero(it, sizeof *it);
     free(it);
 }
@@ -41,7 +45,8 @@ static int grow(struct shard *s)
     if (s->count < s->room)
         return 1;
     if (!grow_list(&s->changed, room) || !grow_list(&s->standing, room)
-        || !grow_list(&s->asked, room)
+        || !grow_list(&s->asked, room) || !grow_list(&s->news, room)
+        || !grow_list(&s->owing, room)
         || (names = realloc(s->names, room * sizeof *names)) == NULL)
         return 0;
     s->names = names;
@@ -49,8 +54,7 @@ static int grow(struct shard *s)
     return 1;
 }
 
-/* Adds a session of which nothing is known. NULL if there is no memory. */
-static struct receiving *add(struct shard *s, const struct session *of)
+struct receiving *shard_add(struct shard *s, const struct session *of)
 {
     struct receiving *it = grow(s) ? calloc(1, sizeof *it) : NULL;
     if (it == NULL)
@@ -64,8 +68,7 @@ static struct receiving *add(struct shard *s, const struct session *of)
     return it;
 }
 
-/* The session of this name: 1, 0 and NULL if the shard has none, -1 if there is no memory. */
-static int find(struct shard *s, const char *name, struct receiving **it)
+int shard_find(struct shard *s, const char *name, struct receiving **it)
 {
     void *found = tfind(name, &s->receivings, by_name);
     struct session of;
@@ -75,7 +78,7 @@ static int find(struct shard *s, const char *name, struct receiving **it)
         return 1;
     is_there = sessions_find(s->sessions, name, &of) && of.shard == s->number;
     if (is_there)
-        *it = add(s, &of);
+        *it = shard_add(s, &of);
     explicit_bzero(&of, sizeof of);
     if (!is_there || *it != NULL)
         return is_there;
@@ -90,8 +93,10 @@ void shard_forget(struct shard *s)
     free(s->changed.at);
     free(s->standing.at);
     free(s->asked.at);
+    free(s->news.at);
+    free(s->owing.at);
     free(s->names);
-    s->changed = s->standing = s->asked = (struct receivings){ NULL, 0 };
+    s->changed = s->standing = s->asked = s->news = s->owing = (struct receivings){ NULL, 0 };
     s->names = NULL;
     s->count = s->room = 0;
 }
@@ -111,6 +116,19 @@ static void ask(struct shard *s, struct receiving *it)
     s->asked.at[s->asked.count++] = it;
 }
 
+/* The same of the session of its stream before it. */
+static int ask_before(struct shard *s, const struct receiving *it, uint64_t offset)
+{
+    struct receiving *before;
+    if (it->opened == NULL || shard_find_before(s, it, &before) != 0)
+        return it->opened == NULL ? 0 : -1;
+    if (before == NULL || before->turn == s->turn)
+        return 0;
+    ask(s, before);
+    before->now.at = offset;
+    return 0;
+}
+
 /* Makes it what the next transaction makes it, if that moves the shard to another list. */
 static void reset(struct demand *stored)
 {
@@ -122,7 +140,7 @@ static int note_stored(void *given, const char *name, const struct demand *deman
 {
     struct shard *s = given;
     struct receiving *it;
-    int found = find(s, name, &it);
+    int found = shard_find(s, name, &it);
     if (found != 1)
         return found;
     it->stored = *demand;
@@ -163,14 +181,19 @@ int shard_load_frames(struct shard *s, int count)
     int i;
     size_t each;
     s->asked.count = 0;
+    s->unknown[0] = 0;
     for (i = 0; i < count; i++) {
-        int found = find(s, s->frames[i].session, &s->of_frames[i]);
+        int found = shard_find(s, s->frames[i].session, &s->of_frames[i]);
+        if (found == 0 && s->kerberos != NULL)
+            found = shard_find_opened(s, &s->frames[i], &s->of_frames[i]);
         if (found < 0)
             return -1;
         if (found == 0 || s->of_frames[i]->turn == s->turn)
             continue;
         ask(s, s->of_frames[i]);
         s->of_frames[i]->now.at = s->frames[i].offset - 1; /* until it is placed */
+        if (ask_before(s, s->of_frames[i], s->frames[i].offset - 1) != 0)
+            return -1;
     }
     if (ask_store(s) != 0)
         return -1;
@@ -190,6 +213,9 @@ static void begin_turn(struct shard *s)
     for (i = 0; i < s->changed.count; i++)
         s->changed.at[i]->is_changed = 0;
     s->changed.count = 0;
+    for (i = 0; i < s->owing.count; i++)
+        s->owing.at[i]->owes = 0;
+    s->owing.count = 0;
     for (i = 0; i < s->standing.count; i++) /* until the store says that they still do */
         s->standing.at[i]->now.missed = KRBRELAY_MISSED_NOTHING;
 }
@@ -198,7 +224,7 @@ static int note_standing(void *given, const char *name, const struct demand *dem
 {
     struct shard *s = given;
     struct receiving *it;
-    int found = find(s, name, &it);
+    int found = shard_find(s, name, &it);
     if (found != 1)
         return found;
     s->asked.count = 0;
@@ -218,7 +244,9 @@ static int note_passed(void *given, const char *name, uint64_t offset)
     if (*name == 0)
         s->least = offset;
     else
-        found = find(s, name, &it);
+        found = shard_find(s, name, &it);
+    if (found == 0 && s->kerberos != NULL && *name != 0)
+        shard_note_unopened(s, offset);
     if (found != 1)
         return found;
     if (it->turn != s->turn) {
@@ -259,6 +287,8 @@ static int load_stored(struct shard *s)
     if (store_reached(s->store, s->number, &s->stored) != 0)
         return -1;
     s->now = s->stored;
+    if (s->kerberos != NULL && shard_find_standing(s) != 0)
+        return -1;
     if (store_standing(s->store, s->number, note_standing, s) != 0)
         return -1;
     return load_passed(s);
@@ -310,7 +340,7 @@ static void begin_anew(struct shard *s)
     size_t i;
     log_fact(LEVEL_WARNING, "shard_made_anew", field_number("shard", s->number),
              field_text("text", "it is read from its beginning"));
-    s->now.offset = s->least = 0;
+    s->now.offset = s->least = s->unopened.at = 0;
     shard_hear(s, 0);
     for (i = 0; i < s->standing.count; i++)
         begin_session_anew(s->standing.at[i]);
@@ -328,6 +358,8 @@ int shard_load(struct shard *s)
     if (carrier_incarnation(s->carrier, s->number, &incarnation) != 0 || incarnation == 0)
         return 1;
     s->now = (struct reached){ incarnation, s->stored.offset };
+    if (s->kerberos != NULL && !s->has_wrapped) /* without the keytab others go on */
+        s->has_wrapped = kept_wrap_anew(s->store, s->kerberos, s->number) == 0;
     if (!s->has_begun)
         shard_hear(s, s->now.offset);
     if (s->stored.incarnation != 0 && s->stored.incarnation != incarnation)

@@ -17,6 +17,8 @@ const struct metric shard_metrics[] = {
     { NAME "texts_total", "counter", "Texts that took effect", NULL },
     { NAME "text_bytes_total", "counter", "Bytes of them", NULL },
     { NAME "accepted_frames_total", "counter", "Frames that were accepted", NULL },
+    { NAME "opened_sessions_total", "counter", "Sessions that began by a ticket", NULL },
+    { NAME "receipts_total", "counter", "Receipts that were published", NULL },
     { NAME "repeated_frames_total", "counter", "Frames that had been accepted before", NULL },
     { NAME "early_frames_total", "counter", "Frames that came before one that is missing", NULL },
     { NAME "transactions_total", "counter", "Transactions that were committed", NULL },
@@ -34,6 +36,10 @@ const struct metric shard_metrics[] = {
     REFUSED("BADADDR"), REFUSED("BADVERSION"), REFUSED("MSG_TYPE"), REFUSED("MODIFIED"),
     REFUSED("BADORDER"), REFUSED("INAPP_CKSUM"), REFUSED("FIELD_TOOLONG"), REFUSED("MALFORMED"),
     REFUSED("BAD_RECORD"), REFUSED("OTHER"),
+    REFUSED("OPENING_MALFORMED"), REFUSED("OPENING_NO_KEY"), REFUSED("OPENING_CHANGED"),
+    REFUSED("OPENING_SKEW"), REFUSED("OPENING_EXPIRED"), REFUSED("OPENING_NO_SUBKEY"),
+    REFUSED("OPENING_ETYPE"), REFUSED("OPENING_NAME"), REFUSED("OPENING_CLIENT"),
+    REFUSED("OPENING_FORKED"), REFUSED("OPENING_OTHER"),
 };
 const unsigned shard_metrics_count = sizeof shard_metrics / sizeof *shard_metrics;
 const struct metric shard_stands_metric = {
@@ -41,7 +47,8 @@ const struct metric shard_stands_metric = {
 };
 
 /* In the order of the metrics; what isn't here is another one. */
-static const uint32_t refusals[REFUSALS - 1] = {
+enum { OTHER = 13 }; /* the place of those; the openings' are after it, as they are numbered */
+static const uint32_t refusals[OTHER] = {
     0, KRBRELAY_ETYPE_NOSUPP, KRBRELAY_BAD_INTEGRITY, KRBRELAY_SKEW, KRBRELAY_BADADDR,
     KRBRELAY_BADVERSION, KRBRELAY_MSG_TYPE, KRBRELAY_MODIFIED, KRBRELAY_BADORDER,
     KRBRELAY_INAPP_CKSUM, KRBRELAY_FIELD_TOOLONG, KRBRELAY_MALFORMED, KRBRELAY_BAD_RECORD,
@@ -50,9 +57,14 @@ static const uint32_t refusals[REFUSALS - 1] = {
 void shard_count_refused(struct shard_counts *counts, uint32_t answer)
 {
     unsigned i = 0;
-    while (i < REFUSALS - 1 && refusals[i] != answer)
+    while (i < OTHER && refusals[i] != answer)
         i++;
     counts->refused[i]++;
+}
+
+void shard_count_unopened(struct shard_counts *counts, enum opening_answer answer)
+{
+    counts->refused[OTHER + answer]++;
 }
 
 static unsigned long count_refused(const struct shard_counts *counts)
@@ -68,7 +80,9 @@ void shard_report(const struct shard *s, const char *event, uint64_t took)
 {
     const struct shard_counts *c = &s->counts;
     log_numbers(event, field_number("shard", s->number), field_number("texts", c->texts),
-                field_number("frames", c->accepted), field_number("repeats", c->repeats),
+                field_number("frames", c->accepted), field_number("opened", c->opened),
+                field_number("receipts", c->receipts),
+                field_number("repeats", c->repeats),
                 field_number("early", c->early), field_number("refused", count_refused(c)),
                 field_number("commits", c->commits), field_number("fenced", c->fenced),
                 field_number("again", c->back), field_number("bytes", c->bytes),
@@ -94,7 +108,9 @@ void shard_show(struct shard *s, unsigned part)
     unsigned i;
     int is_known = s->is_loaded && carrier_behind(s->carrier, &behind) == 0;
     double values[sizeof shard_metrics / sizeof *shard_metrics] = {
-        (double)c->texts, (double)c->bytes, (double)c->accepted, (double)c->repeats,
+        (double)c->texts, (double)c->bytes, (double)c->accepted, (double)c->opened,
+        (double)c->receipts,
+        (double)c->repeats,
         (double)c->early, (double)c->commits, (double)c->fenced,
         (double)c->back, (double)c->opening / 1e9, (double)c->fetching / 1e9,
         (double)c->storing / 1e9, (double)s->now.offset, is_known ? (double)behind : NAN,

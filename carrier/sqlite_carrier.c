@@ -11,7 +11,10 @@
 #include <string.h>
 
 enum { PENDING = 4096, POLL = 5 };
-enum { INSERT, SELECT, SELECT_LAST, SELECT_END, COUNT, STATEMENTS };
+enum {
+    INSERT, SELECT, SELECT_LAST, SELECT_END, COUNT, ADD_RECEIPT, SELECT_RECEIPTS, SELECT_RECEIPT,
+    STATEMENTS
+};
 
 struct sqlite_carrier {
     struct carrier base;
@@ -26,6 +29,7 @@ struct sqlite_carrier {
     unsigned shard;
     uint64_t after;
     int is_checked; /* that the shard doesn't end before */
+    sqlite3_int64 receipt; /* the last one that was given */
     uint8_t *frames;
     size_t room;
 };
@@ -34,6 +38,9 @@ static const char tables[] =
     "CREATE TABLE IF NOT EXISTS carried (offset INTEGER PRIMARY KEY AUTOINCREMENT,"
     " shard INTEGER NOT NULL, session TEXT NOT NULL, frame BLOB NOT NULL);"
     "CREATE INDEX IF NOT EXISTS of_shard ON carried (shard, offset);"
+    "CREATE TABLE IF NOT EXISTS receipt (session TEXT PRIMARY KEY, turn INTEGER NOT NULL,"
+    " receipt BLOB NOT NULL) WITHOUT ROWID;"
+    "CREATE UNIQUE INDEX IF NOT EXISTS of_turn ON receipt (turn);"
     "CREATE TABLE IF NOT EXISTS incarnation (one INTEGER PRIMARY KEY CHECK (one = 1),"
     " number INTEGER NOT NULL);"
     "INSERT OR IGNORE INTO incarnation VALUES (1, 1 + (random() & 9007199254740991))";
@@ -46,6 +53,11 @@ static const char *const sql[STATEMENTS] = {
                     " ORDER BY offset DESC LIMIT 65536) WHERE session = ? LIMIT 1",
     [COUNT] = "SELECT count(*) FROM (SELECT 1 FROM carried WHERE shard = ? AND offset > ?"
               " LIMIT 100000)",
+    [ADD_RECEIPT] = ("INSERT INTO receipt VALUES (?1, 1 + (SELECT coalesce(max(turn), 0) FROM receipt),"
+                     " ?2) ON CONFLICT (session) DO UPDATE SET turn = excluded.turn,"
+                     " receipt = excluded.receipt"),
+    [SELECT_RECEIPTS] = "SELECT turn, session, receipt FROM receipt WHERE turn > ? ORDER BY turn",
+    [SELECT_RECEIPT] = "SELECT turn, session, receipt FROM receipt WHERE session = ?",
     [SELECT_END] = "SELECT coalesce(max(offset), 0) FROM carried WHERE shard = ?",
 };
 
@@ -229,6 +241,67 @@ static int behind(struct carrier *base, uint64_t *frames)
     return row == 1 ? 0 : -1;
 }
 
+/* ---- Receipts */
+
+static int add_receipts(struct sqlite_carrier *c, const struct carried *list, size_t count)
+{
+    struct statement *add = &c->statements[ADD_RECEIPT];
+    size_t i;
+    for (i = 0; i < count; i++) {
+        bind_text(add, 1, list[i].session);
+        bind_bytes(add, 2, list[i].frame, list[i].len);
+        if (step_once(add) != 0)
+            return -1;
+    }
+    return 0;
+}
+
+static int acknowledge(struct carrier *base, unsigned shard, const struct carried *list,
+                       size_t count)
+{
+    struct sqlite_carrier *c = (struct sqlite_carrier *)base;
+    (void)shard;
+    if (begin_writing(c->db) != 0)
+        return -1;
+    if (add_receipts(c, list, count) == 0 && run(c->db, "COMMIT") == 0)
+        return 0;
+    roll_back(c->db);
+    return -1;
+}
+
+/* Passes the receipts that a statement gives. */
+static int give_receipts(struct statement *select, sqlite3_int64 *turn, carrier_receipt *take,
+                         void *given)
+{
+    int row;
+    while ((row = step_row(select)) == 1) {
+        const char *session = (const char *)sqlite3_column_text(select->at, 1);
+        const void *receipt = sqlite3_column_blob(select->at, 2);
+        *turn = sqlite3_column_int64(select->at, 0);
+        if (session != NULL && receipt != NULL)
+            take(given, session, receipt, (size_t)sqlite3_column_bytes(select->at, 2));
+    }
+    end_rows(select);
+    return row;
+}
+
+static int receipts(struct carrier *base, carrier_receipt *take, void *given)
+{
+    struct sqlite_carrier *c = (struct sqlite_carrier *)base;
+    bind_number(&c->statements[SELECT_RECEIPTS], 1, c->receipt);
+    return give_receipts(&c->statements[SELECT_RECEIPTS], &c->receipt, take, given);
+}
+
+static int last_receipt(struct carrier *base, unsigned shard, const char *session,
+                        carrier_receipt *take, void *given)
+{
+    struct sqlite_carrier *c = (struct sqlite_carrier *)base;
+    sqlite3_int64 turn = 0;
+    (void)shard;
+    bind_text(&c->statements[SELECT_RECEIPT], 1, session);
+    return give_receipts(&c->statements[SELECT_RECEIPT], &turn, take, given);
+}
+
 /* ---- */
 
 static void close_it(struct carrier *base)
@@ -268,6 +341,9 @@ struct carrier *sqlite_carrier_open(const char *path)
     c->base.seek = seek;
     c->base.fetch = fetch;
     c->base.behind = behind;
+    c->base.acknowledge = acknowledge;
+    c->base.receipts = receipts;
+    c->base.last_receipt = last_receipt;
     c->base.close = close_it;
     if (open_it(c, path) == 0)
         return &c->base;

@@ -12,13 +12,13 @@ enum {
     SELECT_REACHED, SELECT_SESSION, SELECT_STANDING, SELECT_PASSED, MOVE_SHARD, ADD_SESSION,
     MOVE_SESSION, PASS_SESSION, FIND_SESSION, RESET_SESSIONS, FIND_ALL, STATEMENTS
 };
-enum { EFFECTS = 16 }; /* the most statements of effects */
+enum { EFFECTS = 32 }; /* the most statements of effects, and others that callers give */
 
 struct sqlite_store {
     struct store base;
     sqlite3 *db;
     struct statement statements[STATEMENTS];
-    const char *effects[EFFECTS]; /* the statements of effects, and what they are prepared as */
+    const char *effects[EFFECTS]; /* those statements, and what they are prepared as */
     struct statement prepared[EFFECTS];
     int is_fenced;                /* something that this transaction moves stood elsewhere */
 };
@@ -260,16 +260,51 @@ static void bind(struct statement *statement, int place, const struct value *val
         bind_bytes(statement, place, value->at, value->len);
 }
 
-static int run_effect(struct store *base, const char *sql, const struct value *values,
-                      unsigned count)
+/* The statement with its values, or NULL. */
+static struct statement *bound(struct store *base, const char *sql, const struct value *values,
+                               unsigned count)
 {
     struct statement *statement = prepared((struct sqlite_store *)base, sql);
     unsigned i;
-    if (statement == NULL)
-        return -1;
-    for (i = 0; i < count; i++)
+    for (i = 0; i < count && statement != NULL; i++)
         bind(statement, (int)i + 1, &values[i]);
-    return step_once(statement);
+    return statement;
+}
+
+static int run_effect(struct store *base, const char *sql, const struct value *values,
+                      unsigned count)
+{
+    struct statement *statement = bound(base, sql, values, count);
+    return statement != NULL ? step_once(statement) : -1;
+}
+
+/* What isn't within a transaction has taken effect when it was run. */
+static int settle(struct store *base)
+{
+    (void)base;
+    return 0;
+}
+
+static int take_columns(sqlite3_stmt *row, store_row *take, void *given)
+{
+    const char *texts[STORE_COLUMNS];
+    int i, count = sqlite3_column_count(row);
+    for (i = 0; i < count; i++)
+        texts[i] = (const char *)sqlite3_column_text(row, i);
+    return take(given, texts);
+}
+
+static int ask(struct store *base, const char *sql, const struct value *values, unsigned count,
+               store_row *take, void *given)
+{
+    struct statement *select = bound(base, sql, values, count);
+    int row, answer = 0;
+    if (select == NULL)
+        return -1;
+    while (answer == 0 && (row = step_row(select)) != 0)
+        answer = row == 1 ? take_columns(select->at, take, given) : -1;
+    end_rows(select);
+    return answer == 0 ? 0 : -1;
 }
 
 /* ---- */
@@ -304,6 +339,7 @@ static int complete(sqlite3 *db)
     if (add_columns(db, columns, sizeof columns / sizeof *columns) == 0
         && run(db, "CREATE INDEX IF NOT EXISTS standing ON session (shard) WHERE missed != 0") == 0
         && run(db, effect_tables_sqlite) == 0
+        && add_columns(db, effect_columns, effect_column_count) == 0 && run(db, kept_tables) == 0
         && run(db, "COMMIT") == 0)
         return 0;
     roll_back(db);
@@ -338,6 +374,8 @@ struct store *sqlite_store_open(const char *path, unsigned shard)
     s->base.rollback = rollback;
     s->base.close = close_it;
     s->base.run = run_effect;
+    s->base.settle = settle;
+    s->base.ask = ask;
     if (open_it(s, path, shard) == 0)
         return &s->base;
     close_it(&s->base);

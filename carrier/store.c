@@ -6,6 +6,12 @@
 #include <stdio.h>
 #include <string.h>
 
+const char kept_tables[] =
+    "CREATE TABLE IF NOT EXISTS opened (name text PRIMARY KEY, shard bigint NOT NULL,"
+    " client text NOT NULL, stream text NOT NULL, before text NOT NULL, etype bigint NOT NULL,"
+    " ends bigint NOT NULL, kvno bigint NOT NULL, wrapping bigint NOT NULL, key text NOT NULL,"
+    " UNIQUE (client, stream, before));";
+
 struct store *store_open(const char *where, unsigned shard)
 {
     char kind[16];
@@ -88,4 +94,15 @@ void store_close(struct store *store)
 int store_run(struct store *store, const char *sql, const struct value *values, unsigned count)
 {
     return store->run(store, sql, values, count);
+}
+
+int store_settle(struct store *store)
+{
+    return store->settle(store);
+}
+
+int store_ask(struct store *store, const char *sql, const struct value *values, unsigned count,
+              store_row *take, void *given)
+{
+    return store->ask(store, sql, values, count, take, given);
 }

@@ -93,9 +93,21 @@ void store_close(struct store *store);
 enum value_kind { VALUE_NUMBER, VALUE_TEXT, VALUE_BYTES };
 struct value { enum value_kind kind; uint64_t number; const void *at; size_t len; };
 
-enum { STORE_VALUES = 8 }; /* the most of one statement */
+enum { STORE_VALUES = 10 }; /* the most of one statement */
 
 int store_run(struct store *store, const char *sql, const struct value *values, unsigned count);
+
+/* ---- The same outside of a transaction. */
+
+/* Waits until what store_run asked has taken effect. 0, or -1 after a fault. */
+int store_settle(struct store *store);
+
+/* Passes each row of a question, whose columns are texts, to a function. What that doesn't answer 0
+ * ends it, with -1. */
+typedef int store_row(void *given, const char *const *columns);
+int store_ask(struct store *store, const char *sql, const struct value *values, unsigned count,
+              store_row *take, void *given);
+enum { STORE_COLUMNS = 16 }; /* the most of one row */
 
 /* ---- For those who write a store: its first member is a struct store. */
 
@@ -112,6 +124,8 @@ struct store {
     void (*rollback)(struct store *);
     void (*close)(struct store *);
     int (*run)(struct store *, const char *, const struct value *, unsigned);
+    int (*settle)(struct store *);
+    int (*ask)(struct store *, const char *, const struct value *, unsigned, store_row *, void *);
 };
 
 /* Whether a transaction moves a shard from one list to another. */
@@ -119,6 +133,9 @@ static inline int store_is_other(const struct reached *from, const struct reache
 {
     return from->incarnation != 0 && from->incarnation != to->incarnation;
 }
+
+/* The table of kept.h, in words of each store. */
+extern const char kept_tables[];
 
 struct store *sqlite_store_open(const char *path, unsigned shard);
 struct store *postgresql_store_open(const char *where);

@@ -3,6 +3,7 @@
 
 #include <stdarg.h>
 #include <stdio.h>
+#include <string.h>
 
 void write_cut(char *to, size_t room, const char *format, ...)
 {
@@ -22,4 +23,46 @@ void write_whole(char *to, size_t room, const char *format, ...)
     va_end(values);
     if (len < 0 || (size_t)len >= room)
         end_at_once(format);
+}
+
+int copy_text(char *to, size_t room, const char *text)
+{
+    size_t len = text != NULL ? strlen(text) : room;
+    if (len >= room)
+        return 0;
+    memcpy(to, text, len + 1);
+    return 1;
+}
+
+void write_hex(const uint8_t *bytes, size_t len, char *to)
+{
+    static const char digits[] = "0123456789abcdef";
+    size_t i;
+    for (i = 0; i < len; i++) {
+        to[2 * i] = digits[bytes[i] >> 4];
+        to[2 * i + 1] = digits[bytes[i] & 15];
+    }
+    to[2 * len] = 0;
+}
+
+static int digit_of(char it)
+{
+    if (it >= '0' && it <= '9')
+        return it - '0';
+    return it >= 'a' && it <= 'f' ? it - 'a' + 10 : -1;
+}
+
+int read_hex(const char *text, uint8_t *bytes, size_t room, size_t *len)
+{
+    size_t i, digits = text != NULL ? strlen(text) : 1;
+    *len = digits / 2;
+    if (digits % 2 != 0 || *len > room)
+        return 0;
+    for (i = 0; i < *len; i++) {
+        int high = digit_of(text[2 * i]), low = digit_of(text[2 * i + 1]);
+        if (high < 0 || low < 0)
+            return 0;
+        bytes[i] = (uint8_t)(high << 4 | low);
+    }
+    return 1;
 }

@@ -111,7 +111,10 @@ static int tell_unknown(struct sender *s, const char *session)
     if (strncmp(s->unknown, session, sizeof s->unknown - 1) == 0)
         return 0;
     write_cut(s->unknown, sizeof s->unknown, "%s", session);
-    return sender_tell_stopped(s, session, "it has texts, and no line among the sessions");
+    return sender_tell_stopped(s, session, s->kerberos == NULL
+                               ? "it has texts, and no line among the sessions"
+                               : "it has texts, and can't be a stream: has its name 1 to 31 letters,"
+                                 " digits, '-' and '_', and the keytab the key of its session?");
 }
 
 /* Looks at one text, in the pass over a lane, or over all that aren't deferred. Takes it if its
@@ -137,6 +140,12 @@ static enum seal_answer look_at(struct sender *s, const struct lane *only,
     lane->room--;
     *is_taken = 1;
     touch(s, *it);
+    if (text->body != NULL && sender_is_old(s, *it)) {
+        enum seal_answer answer = sender_renew(s, it, text->id);
+        if (answer != SEAL_OK)
+            return answer;
+        touch(s, *it);
+    }
     return seal_text(&s->sealing, *it, text);
 }
 

@@ -9,12 +9,13 @@
  * Proofs reach each function but those under "What proofs don't reach", at the end.
  *
  * Each call that answers an enum answers KRBRELAY_OK, or why it did nothing: what it would have
- * written is as it was.
+ * written is as it was. The answers that a call's comment lists are in the order in which it looks
+ * for their reasons: it gives the first whose reason holds, and KRBRELAY_OK where none does.
  *
  * What the caller owes, which nothing checks:
  *  - Each pointer is valid for its length. It may be NULL where the length is 0. Each pointer to a
  *    single value is valid, aligned and never NULL. Handles, and the structs that a call reads, have
- *    no byte unwritten, and their reserved fields are zeros.
+ *    no byte unwritten.
  *  - What a call writes (a handle, a buffer, a size) overlaps nothing else that the call is given.
  *    All that a call is given stays unchanged, but for what the call writes, until it returns.
  *  - A handle that holds something is written by these functions alone. It may be moved, by memcpy or
@@ -85,8 +86,8 @@ enum krbrelay_mode {
     KRBRELAY_PRIV = 21
 };
 
-/* What a call answers: 0, or why it did nothing. Each answer comes only where its reason holds. The
- * numbers from 14 to 61 are those of RFC 4120 section 7.5.9. */
+/* What a call answers: 0, or why it did nothing. The numbers from 14 to 61 are those of RFC 4120
+ * section 7.5.9. */
 enum krbrelay_answer {
     KRBRELAY_OK = 0,
 
@@ -117,11 +118,16 @@ enum krbrelay_answer {
     KRBRELAY_MODE = 909,         /* a mode that is neither KRBRELAY_SAFE nor KRBRELAY_PRIV */
     KRBRELAY_MOMENT = 910,       /* no moment of the years 1970 to 9999 */
     KRBRELAY_ADDRESS = 911,      /* an address has over KRBRELAY_ADDRESS_LIMIT bytes */
-    KRBRELAY_ARGUMENT = 912,     /* another argument is out of its range */
+    KRBRELAY_ARGUMENT = 912,     /* another argument is out of its range, or a field that isn't read
+                                  * isn't zeros */
     KRBRELAY_RECORD = 913,       /* no record of this kind has these bytes */
     KRBRELAY_CLOCK = 914,        /* the clock can't be read, or isn't in the years 1970 to 9999 */
     KRBRELAY_RANDOM = 915,       /* the system has no random bytes */
-    KRBRELAY_PROCESSOR = 916     /* the processor lacks instructions of the library */
+    KRBRELAY_PROCESSOR = 916,    /* the processor lacks instructions of the library */
+
+    /* Refusals of a number, by krbrelay_window_take. */
+    KRBRELAY_REPEATED = 917,     /* it was taken before */
+    KRBRELAY_TOO_OLD = 918       /* it is too far below the highest that was taken */
 };
 
 /* What a caller does about an answer. */
@@ -163,7 +169,8 @@ struct krbrelay_opener { void *at; size_t count; };
 struct krbrelay_receiver { void *at; size_t count; };
 
 /* A moment of the years 1970 to 9999: seconds since 1970-01-01T00:00:00Z, and microseconds after
- * that second, below a million. */
+ * that second, below a million. In each struct that a call reads, what is reserved is zeros: else the
+ * answer is KRBRELAY_ARGUMENT. */
 struct krbrelay_moment { uint64_t seconds; uint32_t microseconds; uint32_t reserved; };
 
 /* The first len bytes, 40 at most, in network order; the kind is one of RFC 4120 section 7.5.3, as
@@ -176,7 +183,7 @@ struct krbrelay_session {
     uint32_t first;                     /* the first sequence number */
     struct krbrelay_address sender;     /* the sender's address */
     uint32_t has_receiver;              /* 0: the messages don't tell the receiver's address */
-    struct krbrelay_address receiver;   /* not read where has_receiver is 0 */
+    struct krbrelay_address receiver;   /* zeros where has_receiver is 0, else KRBRELAY_ARGUMENT */
     uint32_t reserved[5];
 };
 
@@ -193,7 +200,8 @@ struct krbrelay_expect {
 };
 
 /* What krbrelay_opener_open demands of a message, each by an enum krbrelay_how: zeros demand
- * nothing. A message's sender is never absent. */
+ * nothing. A message's sender is never absent. It is KRBRELAY_ARGUMENT to give an address, a skew or a
+ * number whose how is KRBRELAY_IGNORE. */
 struct krbrelay_demand {
     uint32_t how_sender;                /* up to KRBRELAY_REQUIRED: sender */
     uint32_t how_receiver;              /* up to KRBRELAY_REQUIRED: receiver */
@@ -201,8 +209,8 @@ struct krbrelay_demand {
     uint32_t how_number;                /* up to KRBRELAY_ABSENT_IS_0: number */
     uint64_t number;                    /* the sequence number */
     uint32_t skew;                      /* seconds */
-    struct krbrelay_address sender;     /* its len is 40 at most also where it isn't demanded */
-    struct krbrelay_address receiver;   /* its len too */
+    struct krbrelay_address sender;
+    struct krbrelay_address receiver;
     uint32_t reserved[5];
 };
 
@@ -273,12 +281,18 @@ enum krbrelay_outcome {
     KRBRELAY_OUTCOME_UNSETTLED = 4      /* the reason may be this receiver's: it is to be read again */
 };
 
+/* Which numbers were taken (krbrelay_window_take). Zeros are a window that took none. */
+struct krbrelay_window {
+    uint64_t highest;                   /* the highest number that was taken */
+    uint64_t taken;                     /* whether it was, and the 63 below it: a bit each */
+};
+
 /* ---- Sealing */
 
 /* Makes a sealer: encryption type 17 takes a key of 16 bytes, 18 one of 32. The caller's bytes of
  * the key stay. What the handle held ends. After any answer but KRBRELAY_OK it holds nothing:
- * KRBRELAY_PROCESSOR, KRBRELAY_ETYPE, KRBRELAY_KEY_SIZE, KRBRELAY_MODE, KRBRELAY_ADDRESS,
- * KRBRELAY_MEMORY. */
+ * KRBRELAY_PROCESSOR, KRBRELAY_ETYPE, KRBRELAY_KEY_SIZE, KRBRELAY_ARGUMENT, KRBRELAY_MODE,
+ * KRBRELAY_ADDRESS, KRBRELAY_MEMORY. */
 enum krbrelay_answer krbrelay_sealer_new(struct krbrelay_sealer *handle, int32_t etype,
                                          const uint8_t *key, size_t key_len,
                                          const struct krbrelay_session *session)
@@ -288,10 +302,10 @@ enum krbrelay_answer krbrelay_sealer_new(struct krbrelay_sealer *handle, int32_t
 size_t krbrelay_frame_size(size_t len);
 
 /* Writes the frame of the user data at the next sequence number and this moment, and its size.
- * room is krbrelay_frame_size(len) at least. KRB-SAFE doesn't use the confounder.
+ * room is what krbrelay_sealer_frame_size tells, at least. KRB-SAFE doesn't use the confounder.
  * The number rises by one where the answer is KRBRELAY_OK; any other leaves sealer, buffer and size
- * as they were: KRBRELAY_WIPED, KRBRELAY_TOO_LONG, KRBRELAY_EXHAUSTED, KRBRELAY_MEMORY,
- * KRBRELAY_MOMENT, KRBRELAY_ROOM, KRBRELAY_EMPTY. */
+ * as they were: KRBRELAY_EMPTY, KRBRELAY_ARGUMENT, KRBRELAY_MOMENT, KRBRELAY_WIPED,
+ * KRBRELAY_TOO_LONG, KRBRELAY_EXHAUSTED, KRBRELAY_ROOM, KRBRELAY_MEMORY. */
 enum krbrelay_answer krbrelay_sealer_seal(struct krbrelay_sealer *handle, const uint8_t *user_data,
                                           size_t len, const struct krbrelay_moment *at,
                                           const uint8_t confounder[16],
@@ -299,9 +313,10 @@ enum krbrelay_answer krbrelay_sealer_seal(struct krbrelay_sealer *handle, const 
     KRBRELAY_NONNULL(1, 4, 5, 8) KRBRELAY_CHECKED;
 
 /* The same of a record, which a receiver takes: of a text or a batch, whose bytes are given, or of
- * the close, which has none. room is krbrelay_frame_size(len + 1) at least. It also answers
- * KRBRELAY_RECORD: the kind is none, a text has over 1,000,000 bytes, a batch isn't 2 to 1,000 texts
- * as krbrelay_batch_add writes them or has over 1,000,000 bytes, or a close has bytes. */
+ * the close, which has none. The user data are its bytes and one more, and so is the room that it
+ * takes. After KRBRELAY_EMPTY it looks for KRBRELAY_RECORD: the kind is none, a text has over
+ * 1,000,000 bytes, a batch isn't 2 to 1,000 texts as krbrelay_batch_add writes them or has over
+ * 1,000,000 bytes, or a close has bytes. */
 enum krbrelay_answer krbrelay_sealer_seal_record(struct krbrelay_sealer *handle, uint32_t kind,
                                                  const uint8_t *bytes, size_t len,
                                                  const struct krbrelay_moment *at,
@@ -314,9 +329,9 @@ enum krbrelay_answer krbrelay_sealer_next(struct krbrelay_sealer *handle, uint64
     KRBRELAY_NONNULL(1, 2) KRBRELAY_CHECKED;
 
 /* Tells the exact size of the frame of len bytes of user data at the next sequence number and this
- * moment: what krbrelay_sealer_seal then writes, whose room is krbrelay_frame_size(len) all the same.
- * A record's user data are its bytes and one more. Where no number is left, it is the size that the
- * last number's frame has. Nothing is sealed. KRBRELAY_TOO_LONG, KRBRELAY_MOMENT, KRBRELAY_EMPTY. */
+ * moment: what krbrelay_sealer_seal then writes, and the room that it needs. A record's user data are
+ * its bytes and one more. Where no number is left, it is the size that the last number's frame has.
+ * Nothing is sealed. KRBRELAY_EMPTY, KRBRELAY_ARGUMENT, KRBRELAY_MOMENT, KRBRELAY_TOO_LONG. */
 enum krbrelay_answer krbrelay_sealer_frame_size(struct krbrelay_sealer *handle, size_t len,
                                                 const struct krbrelay_moment *at, size_t *size)
     KRBRELAY_NONNULL(1, 3, 4) KRBRELAY_CHECKED;
@@ -342,8 +357,9 @@ enum krbrelay_answer krbrelay_opener_new(struct krbrelay_opener *handle, int32_t
 
 /* Writes the user data of a frame that has this sequence number, at this moment, and their size.
  * They are fewer than the frame's bytes. Any answer but KRBRELAY_OK leaves buffer and size as they
- * were: KRBRELAY_WIPED, a refusal, KRBRELAY_MEMORY, KRBRELAY_MOMENT, KRBRELAY_ROOM, KRBRELAY_EMPTY.
- * The opener keeps no number: the caller demands each one. */
+ * were: KRBRELAY_EMPTY, KRBRELAY_WIPED, KRBRELAY_ARGUMENT, KRBRELAY_MOMENT, a refusal, KRBRELAY_ROOM,
+ * and KRBRELAY_MEMORY of a frame of at most KRBRELAY_FRAME_LIMIT bytes. The opener keeps no number:
+ * the caller demands each one. */
 enum krbrelay_answer krbrelay_opener_unseal(struct krbrelay_opener *handle, const uint8_t *frame,
                                             size_t len, uint64_t number,
                                             const struct krbrelay_moment *at,
@@ -360,8 +376,8 @@ enum krbrelay_answer krbrelay_opener_unseal_in_place(struct krbrelay_opener *han
 /* Opens a frame with the caller's demands: first what makes it authentic is checked, and then that
  * its addresses have at most 40 bytes, and the demands in the order of addresses, time and number.
  * Writes its user data and their size, and what else it carried. Any answer but KRBRELAY_OK leaves
- * these as they were: KRBRELAY_WIPED, a refusal, KRBRELAY_MEMORY, KRBRELAY_MOMENT, KRBRELAY_ROOM,
- * KRBRELAY_EMPTY, and KRBRELAY_ARGUMENT of a demand that there isn't. */
+ * these as they were, and those are krbrelay_opener_unseal's. KRBRELAY_ARGUMENT is also of a demand
+ * that there isn't. */
 enum krbrelay_answer krbrelay_opener_open(struct krbrelay_opener *handle, const uint8_t *frame,
                                           size_t len, const struct krbrelay_demand *demand,
                                           const struct krbrelay_moment *at,
@@ -378,7 +394,8 @@ void krbrelay_opener_free(struct krbrelay_opener *handle) KRBRELAY_NONNULL(1);
 /* ---- Receiving */
 
 /* Makes a receiver, as krbrelay_opener_new makes an opener. It demands the number `expected` next,
- * 4294967296 at most, else KRBRELAY_ARGUMENT; with `closed` not 0 it begins as after a close. */
+ * 4294967296 at most, else KRBRELAY_ARGUMENT, which comes before KRBRELAY_ETYPE; with `closed` not 0
+ * it begins as after a close. */
 enum krbrelay_answer krbrelay_receiver_new(struct krbrelay_receiver *handle, int32_t etype,
                                            const uint8_t *key, size_t key_len,
                                            const struct krbrelay_expect *expect,
@@ -388,8 +405,9 @@ enum krbrelay_answer krbrelay_receiver_new(struct krbrelay_receiver *handle, int
 /* Takes a frame at this moment: tells the kind of the record that it carries, an enum
  * krbrelay_record, and writes the record's bytes, those of a text or a batch, and their size. They
  * are fewer than the frame's. The next number is demanded then, and nothing after a close. Any other
- * answer leaves receiver, buffer, kind and size as they were: a refusal, KRBRELAY_MEMORY,
- * KRBRELAY_MOMENT, KRBRELAY_ROOM, KRBRELAY_EMPTY. */
+ * answer leaves receiver, buffer, kind and size as they were: KRBRELAY_EMPTY, KRBRELAY_ARGUMENT,
+ * KRBRELAY_MOMENT, KRBRELAY_AFTER_CLOSE, another refusal, KRBRELAY_BAD_RECORD, KRBRELAY_ROOM, and
+ * KRBRELAY_MEMORY after no close, of a frame of at most KRBRELAY_FRAME_LIMIT bytes. */
 enum krbrelay_answer krbrelay_receiver_take(struct krbrelay_receiver *handle, const uint8_t *frame,
                                             size_t len, const struct krbrelay_moment *at,
                                             uint32_t *kind,
@@ -494,6 +512,20 @@ enum krbrelay_answer krbrelay_place_take(struct krbrelay_place *place, uint64_t 
 
 /* The list is read again from the place, or from before it: nothing is missed. */
 enum krbrelay_answer krbrelay_place_read_again(struct krbrelay_place *place)
+    KRBRELAY_NONNULL(1) KRBRELAY_CHECKED;
+
+/* ---- Windows: which numbers of messages were taken, for a transport that brings them in any order.
+ * A window takes each number once: the highest so far, and up to 63 below it. It is two numbers of the
+ * caller's, without a handle. Take the number of a message after the message was opened, with its
+ * number ignored (krbrelay_opener_open): so it is authentic. One window belongs to one direction of one
+ * key. */
+
+/* Makes a window that takes the numbers from first on, and none below. */
+void krbrelay_window_new(struct krbrelay_window *window, uint64_t first) KRBRELAY_NONNULL(1);
+
+/* Takes a number. KRBRELAY_REPEATED: it was taken before. KRBRELAY_TOO_OLD: it is 64 or more below the
+ * highest that was taken. Neither changes the window. */
+enum krbrelay_answer krbrelay_window_take(struct krbrelay_window *window, uint64_t number)
     KRBRELAY_NONNULL(1) KRBRELAY_CHECKED;
 
 /* ---- Messages, answers and the version */

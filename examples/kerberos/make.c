@@ -41,8 +41,10 @@ static enum krbrelay_answer seal(struct message *m, const struct end *end,
     session.mode = mode_of(m->call);
     session.first = end->number;
     session.sender = end->local;
-    session.has_receiver = end->has_remote != 0;
-    session.receiver = end->remote;
+    if (end->has_remote) {
+        session.has_receiver = 1;
+        session.receiver = end->remote;
+    }
     m->out->data = malloc(room);
     kept = m->out->data != NULL ? kept_take(m->ac) : NULL;
     if (kept == NULL)

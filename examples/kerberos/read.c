@@ -29,13 +29,18 @@ static const char *passes_on(const struct message *m, const struct end *end)
 static void demand_of(struct krbrelay_demand *demand, const struct end *end, int numbered)
 {
     memset(demand, 0, sizeof *demand);
-    demand->how_sender = end->has_remote ? KRBRELAY_REQUIRED : KRBRELAY_IGNORE;
-    demand->sender = end->remote;
-    demand->how_receiver = end->has_local ? KRBRELAY_IF_PRESENT : KRBRELAY_IGNORE;
-    demand->receiver = end->local;
-    if (numbered)
+    if (end->has_remote) {
+        demand->how_sender = KRBRELAY_REQUIRED;
+        demand->sender = end->remote;
+    }
+    if (end->has_local) {
+        demand->how_receiver = KRBRELAY_IF_PRESENT;
+        demand->receiver = end->local;
+    }
+    if (numbered) {
         demand->how_number = KRBRELAY_ABSENT_IS_0;
-    demand->number = end->number;
+        demand->number = end->number;
+    }
 }
 
 static enum krbrelay_answer open_frame(struct message *m, const struct end *end, int numbered,

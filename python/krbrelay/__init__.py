@@ -18,12 +18,13 @@ from krbrelay.receiver import Receiver, State
 from krbrelay.sealer import Sealer
 from krbrelay.values import (
     Address, Batch, Body, Closed, Demand, Header, How, Mode, Moment, Record, Text)
+from krbrelay.window import Taken, Window
 
 __version__ = "1.0.0"
 
 __all__ = [
     "ADDRESS_LIMIT", "Address", "Batch", "Body", "Closed", "Code", "Demand", "Error", "Exhausted",
     "FRAME_LIMIT", "Freed", "Header", "How", "LibraryError", "Mode", "Moment", "Opener", "Receiver",
-    "Record", "Refusal", "Sealer", "State", "Text", "USER_DATA_LIMIT", "Wiped", "answer_name",
-    "answer_text", "library_version", "message_header",
+    "Record", "Refusal", "Sealer", "State", "Taken", "Text", "USER_DATA_LIMIT", "Window", "Wiped",
+    "answer_name", "answer_text", "library_version", "message_header",
 ]

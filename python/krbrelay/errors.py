@@ -38,6 +38,10 @@ class Code(enum.IntEnum):
     """Of receivers: the user data are no record."""
     AFTER_CLOSE = 903
     """Of receivers: a close was accepted before."""
+    REPEATED = 917
+    """Of windows: the number was taken before."""
+    TOO_OLD = 918
+    """Of windows: the number is too far below the highest that was taken."""
 
 
 class Error(Exception):

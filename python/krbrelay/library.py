@@ -83,6 +83,11 @@ class HeaderStruct(ctypes.Structure):
                 ("key_version", c_uint32), ("reserved", c_uint32)]
 
 
+class WindowStruct(ctypes.Structure):
+    """struct krbrelay_window."""
+    _fields_ = [("highest", c_uint64), ("taken", c_uint64)]
+
+
 # ---- the calls of krbrelay.h: what each returns, and its parameters
 
 _AT = c_void_p                  # an address of what this package keeps, which is passed quickest
@@ -120,6 +125,8 @@ CALLS: Dict[str, Tuple[Any, List[Any]]] = {
         (c_uint32, [_HANDLE, *_BYTES, _MOMENT, POINTER(c_uint32), *_ROOM, _SIZE]),
     "krbrelay_receiver_state": (c_uint32, [_HANDLE, POINTER(c_uint64), POINTER(c_uint32)]),
     "krbrelay_receiver_free": (None, [_HANDLE]),
+    "krbrelay_window_new": (None, [POINTER(WindowStruct), c_uint64]),
+    "krbrelay_window_take": (c_uint32, [POINTER(WindowStruct), c_uint64]),
     "krbrelay_message_header": (c_uint32, [*_BYTES, POINTER(HeaderStruct)]),
     "krbrelay_answer_name": (c_uint32, [c_uint32, *_ROOM, _SIZE]),
     "krbrelay_answer_text": (c_uint32, [c_uint32, *_ROOM, _SIZE]),

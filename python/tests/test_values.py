@@ -41,17 +41,18 @@ class Answers(unittest.TestCase):
     def test_names_of_refusals(self):
         for code in Code:
             self.assertEqual(krbrelay.answer_name(code), code.name)
-        self.assertEqual({int(code): code.name for code in Code}, opener.NAMES)
+        of_windows = {917: "REPEATED", 918: "TOO_OLD"}
+        self.assertEqual({int(code): code.name for code in Code}, {**opener.NAMES, **of_windows})
 
     def test_texts(self):
         self.assertEqual(krbrelay.answer_text(42), "the sequence number isn't the expected one")
         self.assertEqual(krbrelay.answer_name(0), "OK")
         self.assertEqual(krbrelay.answer_name(904), "MEMORY")
-        for answer in [0, 1, 2, 3, *range(904, 917), *Code]:
+        for answer in [0, 1, 2, 3, *range(904, 919), *Code]:
             self.assertGreater(len(krbrelay.answer_text(answer)), 3)
 
     def test_no_answers(self):
-        for answer in (-1, 4, 917, 2**32, 2**32 + 42):
+        for answer in (-1, 4, 919, 2**32, 2**32 + 42):
             for call in (krbrelay.answer_name, krbrelay.answer_text):
                 with self.assertRaises(ValueError):
                     call(answer)

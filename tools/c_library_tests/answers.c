@@ -15,6 +15,7 @@ _Static_assert(sizeof(struct krbrelay_session) == 128, "a session has no padding
 _Static_assert(sizeof(struct krbrelay_expect) == 128, "an expectation has no padding");
 _Static_assert(sizeof(struct krbrelay_demand) == 144, "a demand has no padding");
 _Static_assert(sizeof(struct krbrelay_carried) == 152, "what is carried has no padding");
+_Static_assert(sizeof(struct krbrelay_window) == 16, "a window has no padding");
 
 static uint8_t frame[KRBRELAY_FRAME_LIMIT + 1], text[KRBRELAY_FRAME_LIMIT];
 static const uint8_t zeros[16];
@@ -106,9 +107,12 @@ static void round_trips(void)
                 struct krbrelay_sealer s = { 0 };
                 struct krbrelay_opener o = { 0 };
                 struct krbrelay_moment later = moment(SECS + 1, USEC);
-                session.has_receiver = expect.require_receiver = told;
-                session.receiver.len = expect.receiver.len = 40;
-                session.sender.len = expect.sender.len = 40;
+                expect.require_receiver = told;
+                session.sender.len = expect.sender.len = expect.receiver.len = 40;
+                if (told) {
+                    tell_receiver(&session);
+                    session.receiver.len = 40;
+                }
                 CHECK(krbrelay_sealer_new(&s, etype, key_of(etype), key_size(etype), &session) == 0);
                 CHECK(krbrelay_opener_new(&o, etype, key_of(etype), key_size(etype), &expect) == 0);
                 for (size_t i = 0; i < sizeof sizes / sizeof sizes[0]; i++) {
@@ -136,7 +140,7 @@ static void sizes_of_frames(void)
     CHECK(krbrelay_frame_size(SIZE_MAX) == KRBRELAY_FRAME_LIMIT);
 }
 
-/* The size that a sealer tells is that of what it then seals: one case of each bit of `variant`, at
+/* The size that a sealer tells is that of what it then seals, into no more room: one case of each bit of `variant`, at
  * this number and with so many bytes of user data. */
 static void size_before_sealing(unsigned variant, uint32_t number, size_t n)
 {
@@ -145,11 +149,12 @@ static void size_before_sealing(unsigned variant, uint32_t number, size_t n)
     struct krbrelay_moment at = moment(SECS, variant >> 2 & 1 ? 999999 : 0);
     struct krbrelay_sealer s = { 0 };
     size_t told = 0, size = 1;
-    session.has_receiver = variant >> 3 & 1;
+    if (variant >> 3 & 1)
+        tell_receiver(&session);
     CHECK(krbrelay_sealer_new(&s, etype, key_of(etype), key_size(etype), &session) == KRBRELAY_OK);
     CHECK(krbrelay_sealer_frame_size(&s, n, &at, &told) == KRBRELAY_OK);
-    CHECK(krbrelay_sealer_seal(&s, text, n, &at, zeros, frame, krbrelay_frame_size(n), &size)
-          == KRBRELAY_OK);
+    CHECK(krbrelay_sealer_seal(&s, text, n, &at, zeros, frame, told - 1, &size) == KRBRELAY_ROOM);
+    CHECK(krbrelay_sealer_seal(&s, text, n, &at, zeros, frame, told, &size) == KRBRELAY_OK);
     CHECK(told == size);
     krbrelay_sealer_free(&s);
 }
@@ -201,7 +206,7 @@ static void answers_of_a_sealer(void)
     CHECK(seal(&s, "hi", 2, 1000, &size) == KRBRELAY_EMPTY && size == 99);
     CHECK(new_sealer(&s, 17, KRBRELAY_PRIV, UINT32_MAX) == KRBRELAY_OK);
     memset(frame, 0xee, sizeof frame);
-    CHECK(seal(&s, "hi", 2, krbrelay_frame_size(2) - 1, &size) == KRBRELAY_ROOM);
+    CHECK(seal(&s, "hi", 2, 8, &size) == KRBRELAY_ROOM);
     CHECK(seal(&s, text, 1000002, krbrelay_frame_size(1000002), &size) == KRBRELAY_TOO_LONG);
     CHECK(krbrelay_sealer_seal(&s, text, 2, &usec, zeros, frame, 1000, &size) == KRBRELAY_MOMENT);
     CHECK(krbrelay_sealer_seal(&s, text, 2, &year, zeros, frame, 1000, &size) == KRBRELAY_MOMENT);
@@ -250,10 +255,81 @@ static void arguments(void)
     CHECK(krbrelay_opener_new(&o, 17, keys[0], 16, &expect) == KRBRELAY_ADDRESS);
     session = session_of(KRBRELAY_SAFE, 7);
     expect = expect_of(KRBRELAY_SAFE);
-    session.has_receiver = 1;
+    tell_receiver(&session);
     session.receiver.len = expect.receiver.len = 41;
     CHECK(krbrelay_sealer_new(&s, 17, keys[0], 16, &session) == KRBRELAY_ADDRESS);
     CHECK(krbrelay_opener_new(&o, 17, keys[0], 16, &expect) == KRBRELAY_ADDRESS);
+}
+
+/* Each field that isn't read is looked at: each reserved one, and a receiver's address that the
+ * messages don't tell. */
+static void fields_that_are_not_read(void)
+{
+    struct krbrelay_sealer s = { 0 };
+    struct krbrelay_opener o = { 0 };
+    struct krbrelay_receiver r = { 0 };
+    struct krbrelay_session session = session_of(KRBRELAY_SAFE, 7);
+    struct krbrelay_expect expect = expect_of(KRBRELAY_SAFE);
+    for (size_t i = 0; i < 5; i++) {
+        session.reserved[i] = 1u << 31;
+        CHECK(krbrelay_sealer_new(&s, 17, keys[0], 16, &session) == KRBRELAY_ARGUMENT);
+        session.reserved[i] = 0;
+    }
+    for (size_t i = 0; i < 4; i++) {
+        expect.reserved[i] = 1;
+        CHECK(krbrelay_opener_new(&o, 17, keys[0], 16, &expect) == KRBRELAY_ARGUMENT);
+        CHECK(krbrelay_receiver_new(&r, 17, keys[0], 16, &expect, 7, 0) == KRBRELAY_ARGUMENT);
+        expect.reserved[i] = 0;
+    }
+    session.receiver.kind = 2;
+    CHECK(krbrelay_sealer_new(&s, 17, keys[0], 16, &session) == KRBRELAY_ARGUMENT);
+    session = session_of(KRBRELAY_SAFE, 7);
+    session.receiver.len = 4;
+    CHECK(krbrelay_sealer_new(&s, 17, keys[0], 16, &session) == KRBRELAY_ARGUMENT);
+    session = session_of(KRBRELAY_SAFE, 7);
+    session.receiver.bytes[39] = 1;
+    CHECK(krbrelay_sealer_new(&s, 17, keys[0], 16, &session) == KRBRELAY_ARGUMENT);
+    session.has_receiver = 1;
+    CHECK(krbrelay_sealer_new(&s, 17, keys[0], 16, &session) == KRBRELAY_OK);
+    krbrelay_sealer_free(&s);
+}
+
+/* A moment whose reserved field isn't 0 is an argument out of its range, before it is no moment. */
+static void moments_that_are_not(void)
+{
+    struct krbrelay_sealer s = { 0 };
+    struct krbrelay_opener o = { 0 };
+    struct krbrelay_receiver r = { 0 };
+    struct krbrelay_expect expect = expect_of(KRBRELAY_PRIV);
+    struct krbrelay_demand any = { 0 };
+    struct krbrelay_carried carried;
+    struct krbrelay_moment at = moment(SECS, 1000000);
+    enum krbrelay_answer wanted = KRBRELAY_MOMENT;
+    uint32_t kind = 99;
+    size_t size = 99;
+    CHECK(new_sealer(&s, 18, KRBRELAY_PRIV, 7) == KRBRELAY_OK);
+    CHECK(new_opener(&o, 18, KRBRELAY_PRIV) == KRBRELAY_OK);
+    CHECK(krbrelay_receiver_new(&r, 18, keys[1], 32, &expect, 7, 0) == KRBRELAY_OK);
+    for (int i = 0; i < 3; i++) {
+        CHECK(krbrelay_sealer_seal(&s, text, 2, &at, zeros, frame, 1000, &size) == wanted);
+        CHECK(krbrelay_sealer_seal_record(&s, KRBRELAY_TEXT, text, 2, &at, zeros, frame, 1000, &size)
+              == wanted);
+        CHECK(krbrelay_sealer_frame_size(&s, 2, &at, &size) == wanted);
+        CHECK(krbrelay_opener_unseal(&o, priv_18, sizeof priv_18, 7, &at, text, 9, &size) == wanted);
+        memcpy(frame, priv_18, sizeof priv_18);
+        CHECK(krbrelay_opener_unseal_in_place(&o, frame, sizeof priv_18, 7, &at, &size) == wanted);
+        CHECK(krbrelay_opener_open(&o, priv_18, sizeof priv_18, &any, &at, text, 9, &size, &carried)
+              == wanted);
+        CHECK(krbrelay_receiver_take(&r, priv_18, sizeof priv_18, &at, &kind, text, 9, &size)
+              == wanted);
+        CHECK(size == 99 && kind == 99);
+        at.reserved = 1;
+        at.microseconds = i == 0 ? 1000000 : 0;
+        wanted = KRBRELAY_ARGUMENT;
+    }
+    krbrelay_sealer_free(&s);
+    krbrelay_opener_free(&o);
+    krbrelay_receiver_free(&r);
 }
 
 /* The safe frame with one byte changed, and what its opener answers. */
@@ -384,6 +460,8 @@ static const struct named known_answers[] = {
     { KRBRELAY_CLOCK, "CLOCK", "the clock can't be read, or isn't in the years 1970 to 9999" },
     { KRBRELAY_RANDOM, "RANDOM", "the system has no random bytes" },
     { KRBRELAY_PROCESSOR, "PROCESSOR", "the processor lacks instructions of the library" },
+    { KRBRELAY_REPEATED, "REPEATED", "the number was taken before" },
+    { KRBRELAY_TOO_OLD, "TOO_OLD", "the number is too far below the highest that was taken" },
 };
 
 typedef enum krbrelay_answer written_call(uint32_t, char *, size_t, size_t *);
@@ -479,6 +557,8 @@ int main(void)
     answers_of_a_size();
     answers_of_a_sealer();
     arguments();
+    fields_that_are_not_read();
+    moments_that_are_not();
     refusals_of_safe();
     refusals_of_priv();
     headers();

@@ -152,8 +152,12 @@ static void refusals(void)
 {
     struct krbrelay_opener o = opener_from(KRBRELAY_SAFE, 17, expect_of(KRBRELAY_SAFE));
     struct krbrelay_opener p = opener_from(KRBRELAY_PRIV, 18, expect_of(KRBRELAY_PRIV));
-    struct krbrelay_demand any = { 0 }, bad[5] = { { .how_sender = 3 }, { .how_receiver = 3 },
-        { .how_time = 3 }, { .how_number = 4 }, { .sender = { .len = 41 } } };
+    struct krbrelay_demand any = { 0 }, bad[] = { { .how_sender = 3 }, { .how_receiver = 3 },
+        { .how_time = 3 }, { .how_number = 4 }, { .how_sender = 1, .sender = { .len = 41 } },
+        { .how_receiver = 1, .receiver = { .len = 41 } }, { .sender = { .kind = 2 } },
+        { .sender = { .len = 4 } }, { .sender = { .bytes = { 1 } } }, { .receiver = { .kind = 2 } },
+        { .receiver = { .len = 4 } }, { .skew = 1 }, { .number = 1 }, { .number = 1ull << 32 },
+        { .reserved = { 1 } }, { .reserved = { 0, 0, 0, 0, 1 } } };
     struct krbrelay_carried c;
     uint8_t changed[sizeof priv_18];
     size_t size;
@@ -169,7 +173,7 @@ static void refusals(void)
         changed[i] ^= 0x10;
         CHECK(open_with(&p, changed, sizeof priv_18, &any, &c) == KRBRELAY_BAD_INTEGRITY);
     }
-    for (int i = 0; i < 5; i++)
+    for (size_t i = 0; i < sizeof bad / sizeof bad[0]; i++)
         CHECK(open_with(&o, safe_17, sizeof safe_17, &bad[i], &c) == KRBRELAY_ARGUMENT);
     CHECK(krbrelay_opener_open(&o, safe_17, sizeof safe_17, &any, &now, data, 2, &size, &c)
           == KRBRELAY_ROOM);

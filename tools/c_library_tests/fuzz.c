@@ -1,10 +1,13 @@
-/* A fuzzer of the calls that read messages. Each message is given to openers of both modes and both
- * encryption types, by all calls that open: these must agree with one another, and write nothing
- * where they refuse. Messages are those of frames.h with bytes changed, cut, added and copied.
+/* A fuzzer of the calls that read messages. Each message is given to openers and receivers of both
+ * modes and both encryption types, by all calls that open: these must agree with one another, and write
+ * nothing where they refuse. Messages are those of frames.h with bytes changed, cut, added and copied, or
+ * those that are given. sequences.c tries the other calls.
  *
  *   fuzz [COUNT [SEED]]        tries so many messages
  *   fuzz lines COUNT SEED      prints each with what krbrelay_opener_unseal answers, which
  *                              fuzz_answers.py compares with opener.py of tools/lib/oracle
+ *   fuzz given                 the same of the messages on standard input, a line of hexadecimal
+ *                              digits each, as fuzz_behind.py prints them
  *
  * With -DLIBFUZZER it is a target of libFuzzer and AFL++ in place of a program. */
 #include "frames.h"
@@ -124,6 +127,47 @@ static void agree(uint32_t mode, const struct outcome *unsealed, const struct ou
         HOLDS(same(authentic, demanded));
 }
 
+/* The kind of the record that user data are, or 0. */
+static uint32_t record_kind(const uint8_t *data, size_t size)
+{
+    size_t at = 0, len = 0, texts = 0;
+    const uint8_t *text;
+    if (size > 0 && data[0] == 'D')
+        return KRBRELAY_TEXT;
+    if (size == 1 && data[0] == 'C')
+        return KRBRELAY_CLOSE;
+    if (size == 0 || data[0] != 'B')
+        return 0;
+    while (krbrelay_batch_next(data + 1, size - 1, &at, &text, &len) == KRBRELAY_OK)
+        texts++;
+    return at == size - 1 && texts >= 2 && texts <= 1000 ? KRBRELAY_BATCH : 0;
+}
+
+/* A receiver takes what unseals if it is a record, and moves on then alone. */
+static void take(uint32_t mode, int wide, const uint8_t *frame, size_t len, const struct outcome *same)
+{
+    static uint8_t bytes[LONGEST];
+    struct krbrelay_expect expect = expect_of(mode);
+    struct krbrelay_receiver r = KRBRELAY_INIT;
+    uint32_t kind = same->answer == KRBRELAY_OK ? record_kind(same->data, same->size) : 0;
+    uint32_t told = 99, closed = 99;
+    uint64_t number = 0;
+    size_t size = 12345;
+    enum krbrelay_answer answer;
+    HOLDS(krbrelay_receiver_new(&r, 17 + wide, keys[wide], wide ? 32 : 16, &expect, NUMBER, 0)
+          == KRBRELAY_OK);
+    answer = krbrelay_receiver_take(&r, frame, len, &now, &told, bytes, LONGEST, &size);
+    HOLDS(answer == (same->answer != KRBRELAY_OK || kind != 0 ? same->answer : KRBRELAY_BAD_RECORD));
+    HOLDS(krbrelay_receiver_state(&r, &number, &closed) == KRBRELAY_OK);
+    HOLDS(number == NUMBER + (answer == KRBRELAY_OK)
+          && closed == (answer == KRBRELAY_OK && kind == KRBRELAY_CLOSE));
+    if (answer == KRBRELAY_OK)
+        HOLDS(told == kind && size == same->size - 1 && memcmp(bytes, same->data + 1, size) == 0);
+    else
+        HOLDS(told == 99 && size == 12345);
+    krbrelay_receiver_free(&r);
+}
+
 static void print_line(uint32_t mode, int etype, const uint8_t *frame, size_t len,
                        const struct outcome *o)
 {
@@ -154,6 +198,7 @@ static void try_message(const uint8_t *frame, size_t len)
             open_with(o, frame, len, 0, &authentic);
             open_with(o, frame, len, 1, &demanded);
             agree(mode, &unsealed, &authentic, &demanded);
+            take(mode, wide, frame, len, &unsealed);
             HOLDS((read == KRBRELAY_MALFORMED) == (unsealed.answer == KRBRELAY_MALFORMED)
                   || unsealed.answer == KRBRELAY_MALFORMED);
             if (print_lines)
@@ -204,9 +249,39 @@ static size_t change(uint8_t *frame, size_t len)
     }
 }
 
+/* The message of a line of digits. */
+static size_t read_message(const char *line, uint8_t *message)
+{
+    size_t len = 0;
+    unsigned byte;
+    while (len < LONGEST && sscanf(line + 2 * len, "%2x", &byte) == 1)
+        message[len++] = (uint8_t)byte;
+    return len;
+}
+
+static void try_given(void)
+{
+    static char line[2 * LONGEST + 2];
+    static uint8_t message[LONGEST];
+    print_lines = 1;
+    while (fgets(line, sizeof line, stdin) != NULL)
+        try_message(message, read_message(line, message));
+}
+
+static void free_all(void)
+{
+    for (int i = 0; i < 4; i++)
+        krbrelay_opener_free(&openers[i / 2][i % 2]);
+}
+
 int main(int argc, char **argv)
 {
     int first = argc > 1 && strcmp(argv[1], "lines") == 0;
+    if (argc > 1 && strcmp(argv[1], "given") == 0) {
+        try_given();
+        free_all();
+        return 0;
+    }
     long count = argc > 1 + first ? atol(argv[1 + first]) : 20000;
     print_lines = first;
     state = argc > 2 + first ? strtoull(argv[2 + first], NULL, 10) * 2 + 1 : 88172645463325252u;
@@ -218,10 +293,9 @@ int main(int argc, char **argv)
             len = change(frame, len);
         try_message(frame, len);
     }
-    for (int i = 0; i < 4; i++)
-        krbrelay_opener_free(&openers[i / 2][i % 2]);
+    free_all();
     if (!print_lines)
-        printf("fuzz: %ld messages, to four openers each\n", count);
+        printf("fuzz: %ld messages, to four openers and receivers each\n", count);
     return 0;
 }
 #endif

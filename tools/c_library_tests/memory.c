@@ -50,7 +50,7 @@ static int session_with_refusal(uint32_t mode, int etype, long at)
     uint64_t next = 0;
     int met = refused;
     uint32_t answer;
-    session.has_receiver = 1;
+    tell_receiver(&session);
     before_refusal = at;
     if ((answer = krbrelay_sealer_new(&s, etype, key, len, &session)) != KRBRELAY_OK) {
         refused++;

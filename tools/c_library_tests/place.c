@@ -158,16 +158,17 @@ static void read_frame(struct reader *r, uint64_t offset, uint64_t number, int h
     r->demanded += taken.accepted;
 }
 
-/* A list in which each of `count` frames stands after the one before, among others and repeats. It is
- * read on, and again from the place, while frames are refused; and at last without a reason. */
+/* A list in which each of `count` frames stands after the one before, among early ones and repeats. It
+ * is read on, and again from the place, while frames are refused; and at last without a reason. Then
+ * all of these are accepted, and maybe more: an early frame that is read again may have its turn. */
 static void all_take_effect(void)
 {
     uint64_t list[LENGTH], count = 0, from;
     struct reader r = { { 0, 0, 0 }, 0 };
-    for (size_t i = 0; i < LENGTH; i++)
+    for (size_t i = 0; i < LENGTH; i++) {
         list[i] = below(3) == 0 ? below(count + 4) : count;
-    for (size_t i = 0; i < LENGTH; i++)
         count += list[i] == count;
+    }
     for (int again = 0; again < 5; again++) {
         size_t end = (size_t)below(LENGTH + 1);
         for (from = r.place.at; from < end; from++)
@@ -176,7 +177,7 @@ static void all_take_effect(void)
     }
     for (from = r.place.at; from < LENGTH; from++)
         read_frame(&r, from + 1, list[from], 0);
-    CHECK(r.demanded == count);
+    CHECK(r.demanded >= count);
 }
 
 int main(int argc, char **argv)

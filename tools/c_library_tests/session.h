@@ -24,9 +24,16 @@ static inline struct krbrelay_address host(uint8_t last)
 static inline struct krbrelay_session session_of(uint32_t mode, uint32_t first)
 {
     struct krbrelay_session s = {
-        .mode = mode, .first = first, .sender = host(1), .has_receiver = 0, .receiver = host(255)
+        .mode = mode, .first = first, .sender = host(1)
     };
     return s;
+}
+
+/* The messages of this session tell the receiver's address. */
+static inline void tell_receiver(struct krbrelay_session *s)
+{
+    s->has_receiver = 1;
+    s->receiver = host(255);
 }
 
 static inline struct krbrelay_expect expect_of(uint32_t mode)

@@ -19,6 +19,10 @@ NOTHING = {
     "natsMsg_Destroy", "natsSubscription_Destroy", "natsInbox_Destroy", "jsCtx_Destroy",
     "natsConnection_Destroy", "natsOptions_Destroy", "jsStreamInfo_Destroy",
     "jsMsgMetaData_Destroy", "nats_Sleep",
+    "krb5_free_error_message", "krb5_free_principal", "krb5_free_context", "krb5_free_ticket",
+    "krb5_free_keyblock", "krb5_free_keyblock_contents", "krb5_free_authenticator",
+    "krb5_free_unparsed_name", "krb5_free_creds", "krb5_free_cred_contents",
+    "krb5_free_data_contents",
     "__atomic_store_n", "__atomic_fetch_add",
     "log_fact", "log_numbers",      # macros of carrier/
 }

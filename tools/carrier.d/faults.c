@@ -93,6 +93,29 @@ static int behind(struct carrier *base, uint64_t *frames)
     return carrier_behind(((struct faulty *)base)->real, frames);
 }
 
+/* A receipt may be lost as a frame. */
+static int acknowledge(struct carrier *base, unsigned shard, const struct carried *list,
+                       size_t count)
+{
+    struct faulty *c = (struct faulty *)base;
+    size_t i;
+    for (i = 0; i < count; i++)
+        if (!happens(c) && carrier_acknowledge(c->real, shard, list + i, 1) != 0)
+            return -1;
+    return 0;
+}
+
+static int receipts(struct carrier *base, carrier_receipt *take, void *given)
+{
+    return carrier_receipts(((struct faulty *)base)->real, take, given);
+}
+
+static int last_receipt(struct carrier *base, unsigned shard, const char *session,
+                        carrier_receipt *take, void *given)
+{
+    return carrier_last_receipt(((struct faulty *)base)->real, shard, session, take, given);
+}
+
 static void close_it(struct carrier *base)
 {
     carrier_close(((struct faulty *)base)->real);
@@ -110,7 +133,9 @@ struct carrier *__wrap_sqlite_carrier_open(const char *path)
     }
     c->base = (struct carrier){ .incarnation = incarnation, .make = make, .last = last,
                                 .seek = seek, .publish = publish, .confirmed = confirmed,
-                                .fetch = fetch, .behind = behind, .close = close_it };
+                                .fetch = fetch, .behind = behind, .acknowledge = acknowledge,
+                                .receipts = receipts, .last_receipt = last_receipt,
+                                .close = close_it };
     c->real = real;
     c->faults = atol(faults);
     srand((unsigned)(getpid() + time(NULL)));

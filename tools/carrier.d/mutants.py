@@ -8,6 +8,8 @@ CASES = {
     "numbers before the offset": "two_reads",
     "what is passed by isn't noted": "session_later",
     "places stay those of another list": "carrier_replaced",
+    "frames go once they are carried": "receipts_before_reading",
+    "receipts aren't sealed again": "receipts_lost",
 }
 
 # What has to be said of each: that it fails for another reason isn't enough.
@@ -15,6 +17,8 @@ FOUND = {
     "numbers before the offset": "delivered {'ann': 5} of {'ann': 10}",
     "what is passed by isn't noted": "delivered {'ann': 100} of {'ann': 100, 'tom': 100}",
     "places stay those of another list": "delivered {'ann': 5000} of {'ann': 5010}",
+    "frames go once they are carried": "delivered {} of {'ann': 300}",
+    "receipts aren't sealed again": "the outbox keeps 100 frames",
     "confirmations counted singly": "not all is closed, though all counts as carried",
     "no compare-and-set": "doubled",
     "deduplication on": "not all is carried",
@@ -40,6 +44,8 @@ EDITS = {
     if (store_reached(s->store, s->number, &s->stored) != 0)
         return -1;
     s->now = s->stored;
+    if (s->kerberos != NULL && shard_find_standing(s) != 0)
+        return -1;
     if (store_standing(s->store, s->number, note_standing, s) != 0)
         return -1;
 """, """\
@@ -58,6 +64,18 @@ EDITS = {
     return store_is_other(from, to) ? reset_sessions(s, shard) : 0;
 """, """\
     return store_is_other(from, to) && from->offset == 0 ? reset_sessions(s, shard) : 0;
+"""),
+    "frames go once they are carried": ("sender.c", """\
+        now.done = it->of.has_back ? it->done : it->progress.carried;
+        if (""", """\
+        now.done = it->progress.carried;
+        if ("""),
+    "receipts aren't sealed again": ("shard.c", """\
+    s->counts.repeats++;
+    shard_owe(s, of);
+""", """\
+    s->counts.repeats++;
+    (void)of;
 """),
     "deduplication on": ("nats_publisher.c", """\
     status = natsConnection_PublishRequest(c->connection, subject, reply, frame, (int)len);

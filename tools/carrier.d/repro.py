@@ -49,7 +49,7 @@ class Place(errors.Ends):
     def __init__(self, programs, folder, case):
         super().__init__(programs, folder)
         self.case, self.faults, self.running, self.nats = case, [], [], None
-        self.began, self.told = time.monotonic(), ""
+        self.began, self.told, self.env = time.monotonic(), "", dict(os.environ)
         self.shards = case.shards
         self.write(self.sessions, case.lines)
 
@@ -78,7 +78,7 @@ class Place(errors.Ends):
 
     def start(self, name, *more, clock=0, pause=0, told=None, **other):
         path = f"{self.folder}/{name}.{len(self.running)}.log"
-        given = dict(os.environ, CLOCK_OFFSET=str(clock), STORE_PAUSE=str(pause))
+        given = dict(self.env, CLOCK_OFFSET=str(clock), STORE_PAUSE=str(pause))
         if told:
             given["NOTIFY_SOCKET"] = told
         with open(path, "wb") as log:

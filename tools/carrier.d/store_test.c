@@ -16,7 +16,7 @@ static int late_answer;
 
 static int effect(struct store *s, uint64_t number, const char *text, size_t len)
 {
-    const struct arrived it = { name, number, 0, (const uint8_t *)text, len };
+    const struct arrived it = { name, "", "", number, 0, (const uint8_t *)text, len };
     return take_effect(s, &it);
 }
 

@@ -1,6 +1,5 @@
 mod Values
 mod HeldBox
 mod Pairs
-mod Codes
+mod Told
 mod Crossing
-mod OpenerLemmas

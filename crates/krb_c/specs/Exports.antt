@@ -7,7 +7,7 @@ use Rattle.krb_peers.specs.ReceiverState.{ReceiverState}
 use Rattle.krb_structs.specs.declared.moment.KrbMoment.{KrbMoment}
 use Rattle.krb_structs.specs.Opening.{HeldOpener}
 use Rattle.krb_structs.specs.Record.{Accepts, SealsRecord}
-use Rattle.krb_structs.specs.Sealing.{CanSeal, SizesNext}
+use Rattle.krb_structs.specs.Sealing.{SizesNext}
 
 -- the handle holds a sealer, and the bytes are the frame of this data at its next number
 abbrev pub SealsTo : Option SealerState → List ℕ → ℕ → List ℕ → List ℕ → Type 0
@@ -18,11 +18,6 @@ SealsTo (Some s) user at conf frame = SealsNext s user at conf frame
 abbrev pub SealsRecordTo : Option SealerState → ℕ → List ℕ → ℕ → List ℕ → List ℕ → Type 0
 SealsRecordTo None kind body at conf frame = ⊥
 SealsRecordTo (Some s) kind body at conf frame = SealsRecord s kind body at conf frame
-
--- the handle holds a sealer, and nothing stands against it
-abbrev pub CanSealBy : Option SealerState → ℕ → KrbMoment → Type 0
-CanSealBy None n at = ⊥
-CanSealBy (Some s) n at = CanSeal s n at
 
 -- a handle with a sealer that sealed one frame more
 abbrev pub advanced_if : Option SealerState → Option SealerState

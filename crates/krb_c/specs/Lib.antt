@@ -1,5 +1,5 @@
+pub mod Answers
 pub mod Exports
-pub mod Faults
 pub mod Handles
 pub mod Held
 pub mod Progress

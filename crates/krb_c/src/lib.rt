@@ -2,10 +2,10 @@
 //! `krbrelay.h` declares what this library exports, and docs/C.md has a whole program.
 //!
 //! A handle is a struct of the caller's, made of zeros, which then holds a sealer, an opener or a
-//! receiver on the heap. Each export says of the handle what the function of `krb_structs` says, and
-//! each of its answers comes only where the reason of that answer holds. The progress of a session's
-//! frames ([`krb_carry::Progress`]) and the place of a session ([`krb_carry::Place`]) have no handle:
-//! they are numbers of the caller's.
+//! receiver on the heap. Each export says of the handle what the function of `krb_structs` says: its
+//! answer is that of the first condition that doesn't hold. The progress of a session's frames
+//! ([`krb_carry::Progress`]), the place of a session ([`krb_carry::Place`]) and a window
+//! ([`krb_window::Window`]) have no handle: they are numbers of the caller's.
 #![tactic(auto)]
 
 mod handle;
@@ -24,3 +24,4 @@ mod sealer_calls;
 mod sealer_handle;
 #[cfg(test)]
 mod tests;
+mod window_calls;

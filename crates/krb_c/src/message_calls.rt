@@ -2,9 +2,8 @@
 
 ghost use Rattle.std.specs.Prelude.{◌≡◌, ◌≤◌, length};
 ghost use Rattle.krb_structs.specs.Answers.{IsWritten, name_of, ok_name, ok_text, text_of};
-ghost use Rattle.krb_structs.specs.Fault.{FaultedBy};
 ghost use Rattle.krb_structs.specs.Header.{ReadsHeader};
-ghost use Rattle.krb_structs.specs.Reasons.{HeaderReason, TextReason};
+ghost use Rattle.krb_structs.specs.Reasons.{HeaderAnswer, TextAnswer};
 
 use krb_structs::{KrbHeader, answer, message_header, name_into, text_into};
 use std::alloc::Global;
@@ -26,7 +25,7 @@ pub extern "C" fn krbrelay_version() -> u32
 pub extern "C" fn krbrelay_message_header(alloc: Global, frame: &[u8], told: &mut KrbHeader) -> u32
     ensures read { result ≡ 0 → ReadsHeader frame.now told.new }
     ensures kept { ¬ (result ≡ 0) → told.new ≡ told.old }
-    ensures why { ¬ (result ≡ 0) → FaultedBy (HeaderReason frame.now) result }
+    ensures answer { HeaderAnswer frame.now result }
 {
     match message_header(alloc, frame) {
         Ok(found) => {
@@ -43,8 +42,7 @@ pub extern "C" fn krbrelay_answer_name(code: u32, out: &mut [u8], size: &mut usi
     ensures named { result ≡ 0 → IsWritten name_of ok_name code size.new out.new }
     ensures out_kept { ¬ (result ≡ 0) → out.new ≡ out.old }
     ensures size_kept { ¬ (result ≡ 0) → size.new ≡ size.old }
-    ensures why { ¬ (result ≡ 0)
-        → FaultedBy (TextReason name_of ok_name code (length out.old)) result }
+    ensures answer { TextAnswer name_of ok_name code (length out.old) result }
 {
     answer(size, name_into(code, out))
 }
@@ -55,8 +53,7 @@ pub extern "C" fn krbrelay_answer_text(code: u32, out: &mut [u8], size: &mut usi
     ensures told { result ≡ 0 → IsWritten text_of ok_text code size.new out.new }
     ensures out_kept { ¬ (result ≡ 0) → out.new ≡ out.old }
     ensures size_kept { ¬ (result ≡ 0) → size.new ≡ size.old }
-    ensures why { ¬ (result ≡ 0)
-        → FaultedBy (TextReason text_of ok_text code (length out.old)) result }
+    ensures answer { TextAnswer text_of ok_text code (length out.old) result }
 {
     answer(size, text_into(code, out))
 }

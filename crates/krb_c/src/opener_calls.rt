@@ -1,16 +1,13 @@
-//! What C calls of openers. Each function answers 0, or the number of a fault whose reason holds.
+//! What C calls of openers. Each function answers 0, or the number of the first fault whose condition
+//! holds.
 
-ghost use Rattle.std.specs.Prelude.{◌≡◌, ◌≤◌, drop, length, take, Ok, Err, None, Some};
+ghost use Rattle.std.specs.Prelude.{◌≡◌, ◌≤◌, drop, length, take, Ok, None, Some};
 ghost use Rattle.krb_seal.specs.Opens.{opener_of};
-ghost use Rattle.krb_seal.specs.Refusal.{code_of};
-ghost use Rattle.krb_seal.specs.declared.refusal.Refusal.{Refusal};
-ghost use Rattle.krb_seal.specs.declared.refusal.Refusal.TheVariants.{Memory};
-ghost use Rattle.krb_structs.specs.Opening.{GivesTo, OpensTo, OpensWithTo};
+ghost use Rattle.krb_structs.specs.Opening.{GivesTo, OpensTo};
 ghost use Rattle.krb_c.specs.Exports.{opener_wiped_if};
-ghost use Rattle.krb_structs.specs.Fault.{FaultedBy};
-ghost use Rattle.krb_structs.specs.Moment.{IsMoment, micros_of};
-ghost use Rattle.krb_structs.specs.Reasons.{DemandFault, NewReason, OpenFault};
-ghost use Rattle.krb_structs.specs.Session.{expect_of};
+ghost use Rattle.krb_structs.specs.Moment.{micros_of};
+ghost use Rattle.krb_structs.specs.Reasons.{DemandAnswer, NewAnswer, OpenAnswer};
+ghost use Rattle.krb_structs.specs.Session.{IsExpect, expect_of};
 
 use crate::handle::Handle;
 use crate::opener_handle::KrbOpener;
@@ -33,8 +30,8 @@ pub extern "C" fn krbrelay_opener_new(
     ensures made { result ≡ 0 → handle.new.opener
         ≡ Some (Some (opener_of etype key.now (expect_of told.now))) }
     ensures nothing { ¬ (result ≡ 0) → handle.new.opener ≡ None }
-    ensures why { ¬ (result ≡ 0) → FaultedBy (NewReason etype (length key.now) told.now.mode
-        told.now.s_addr.len told.now.r_addr.len) result }
+    ensures answer { NewAnswer etype (length key.now) (IsExpect told.now) told.now.mode
+        told.now.sender.len told.now.receiver.len result }
 {
     match WipeableOpener::new(alloc, etype, key, told) {
         Ok(opener) => {
@@ -62,17 +59,13 @@ pub extern "C" fn krbrelay_opener_unseal(
 ) -> u32
     ensures opened { result ≡ 0 → OpensTo handle.old.opener number (micros_of at.now)
         frame.now (Ok (take size.new out.new)) }
-    ensures moment { result ≡ 0 → IsMoment at.now }
     ensures size { result ≡ 0 → size.new ≤ length out.new }
     ensures behind { result ≡ 0 → drop size.new out.new ≡ drop size.new out.old }
-    ensures refused { (r : Refusal) → result ≡ code_of r → ¬ (r ≡ Memory)
-        → OpensTo handle.old.opener number (micros_of at.now) frame.now (Err r) }
 
     ensures kept { handle.new.opener ≡ handle.old.opener }
     ensures out_kept { ¬ (result ≡ 0) → out.new ≡ out.old }
     ensures size_kept { ¬ (result ≡ 0) → size.new ≡ size.old }
-    ensures why { ¬ (result ≡ 0) → FaultedBy (OpenFault handle.old.opener number at.now
-        frame.now (length out.old)) result }
+    ensures answer { OpenAnswer handle.old.opener number at.now frame.now (length out.old) result }
 {
     let Some(opener) = handle.take(alloc) else {
         return Fault::Empty.code();
@@ -95,17 +88,14 @@ pub extern "C" fn krbrelay_opener_unseal_in_place(
 ) -> u32
     ensures opened { result ≡ 0 → OpensTo handle.old.opener number (micros_of at.now)
         frame.old (Ok (take size.new frame.new)) }
-    ensures moment { result ≡ 0 → IsMoment at.now }
     ensures size { result ≡ 0 → size.new ≤ length frame.new }
     ensures behind { result ≡ 0 → drop size.new frame.new ≡ drop size.new frame.old }
-    ensures refused { (r : Refusal) → result ≡ code_of r → ¬ (r ≡ Memory)
-        → OpensTo handle.old.opener number (micros_of at.now) frame.old (Err r) }
 
     ensures kept { handle.new.opener ≡ handle.old.opener }
     ensures frame_kept { ¬ (result ≡ 0) → frame.new ≡ frame.old }
     ensures size_kept { ¬ (result ≡ 0) → size.new ≡ size.old }
-    ensures why { ¬ (result ≡ 0) → FaultedBy (OpenFault handle.old.opener number at.now
-        frame.old (length frame.old)) result }
+    ensures answer { OpenAnswer handle.old.opener number at.now frame.old (length frame.old)
+        result }
 {
     let Some(opener) = handle.take(alloc) else {
         return Fault::Empty.code();
@@ -130,18 +120,15 @@ pub extern "C" fn krbrelay_opener_open(
 ) -> u32
     ensures opened { result ≡ 0 → GivesTo handle.old.opener demand.now (micros_of at.now)
         frame.now (take size.new out.new) told.new }
-    ensures moment { result ≡ 0 → IsMoment at.now }
     ensures size { result ≡ 0 → size.new ≤ length out.new }
     ensures behind { result ≡ 0 → drop size.new out.new ≡ drop size.new out.old }
-    ensures refused { (r : Refusal) → result ≡ code_of r → ¬ (r ≡ Memory)
-        → OpensWithTo handle.old.opener demand.now (micros_of at.now) frame.now (Err r) }
 
     ensures kept { handle.new.opener ≡ handle.old.opener }
     ensures out_kept { ¬ (result ≡ 0) → out.new ≡ out.old }
     ensures size_kept { ¬ (result ≡ 0) → size.new ≡ size.old }
     ensures untold { ¬ (result ≡ 0) → told.new ≡ told.old }
-    ensures why { ¬ (result ≡ 0) → FaultedBy (DemandFault handle.old.opener demand.now at.now
-        frame.now (length out.old)) result }
+    ensures answer { DemandAnswer handle.old.opener demand.now at.now frame.now (length out.old)
+        result }
 {
     let Some(opener) = handle.take(alloc) else {
         return Fault::Empty.code();

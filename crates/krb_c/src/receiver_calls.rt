@@ -1,12 +1,12 @@
-//! What C calls of receivers. Each function answers 0, or the number of a fault whose reason holds.
+//! What C calls of receivers. Each function answers 0, or the number of the first fault whose condition
+//! holds.
 
 ghost use Rattle.std.specs.Prelude.{◌≡◌, ◌≤◌, drop, length, take, None};
 ghost use Rattle.krb_seal.specs.Opens.{opener_of};
 ghost use Rattle.krb_c.specs.Exports.{Demands, IsDemanding, AcceptsTo};
-ghost use Rattle.krb_structs.specs.Fault.{FaultedBy};
-ghost use Rattle.krb_structs.specs.Moment.{IsMoment, micros_of};
-ghost use Rattle.krb_structs.specs.Reasons.{ReceiverReason, TakeFault};
-ghost use Rattle.krb_structs.specs.Session.{expect_of, is_set};
+ghost use Rattle.krb_structs.specs.Moment.{micros_of};
+ghost use Rattle.krb_structs.specs.Reasons.{ReceiverAnswer, TakeAnswer};
+ghost use Rattle.krb_structs.specs.Session.{IsExpect, expect_of, is_set};
 
 use crate::handle::Handle;
 use crate::receiver_handle::KrbReceiver;
@@ -28,8 +28,8 @@ pub extern "C" fn krbrelay_receiver_new(
     ensures made { result ≡ 0 → Demands handle.new.receiver
         (opener_of etype key.now (expect_of told.now)) expected (is_set closed) }
     ensures nothing { ¬ (result ≡ 0) → handle.new.receiver ≡ None }
-    ensures why { ¬ (result ≡ 0) → FaultedBy (ReceiverReason etype (length key.now) told.now.mode
-        told.now.s_addr.len told.now.r_addr.len expected) result }
+    ensures answer { ReceiverAnswer expected etype (length key.now) (IsExpect told.now)
+        told.now.mode told.now.sender.len told.now.receiver.len result }
 {
     match LaneReceiver::new(alloc, etype, key, told, expected, closed != 0) {
         Ok(receiver) => {
@@ -58,7 +58,6 @@ pub extern "C" fn krbrelay_receiver_take(
 ) -> u32
     ensures accepted { result ≡ 0 → AcceptsTo handle.old.receiver (micros_of at.now) frame.now
         kind.new (take size.new out.new) handle.new.receiver }
-    ensures moment { result ≡ 0 → IsMoment at.now }
     ensures size { result ≡ 0 → size.new ≤ length out.new }
     ensures behind { result ≡ 0 → drop size.new out.new ≡ drop size.new out.old }
 
@@ -66,8 +65,7 @@ pub extern "C" fn krbrelay_receiver_take(
     ensures out_kept { ¬ (result ≡ 0) → out.new ≡ out.old }
     ensures size_kept { ¬ (result ≡ 0) → size.new ≡ size.old }
     ensures kind_kept { ¬ (result ≡ 0) → kind.new ≡ kind.old }
-    ensures why { ¬ (result ≡ 0) → FaultedBy (TakeFault handle.old.receiver at.now frame.now
-        (length out.old)) result }
+    ensures answer { TakeAnswer handle.old.receiver at.now frame.now (length out.old) result }
 {
     let Some(mut receiver) = handle.take(alloc) else {
         return Fault::Empty.code();

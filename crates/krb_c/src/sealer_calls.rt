@@ -1,14 +1,14 @@
-//! What C calls of sealers. Each function answers 0, or the number of a fault whose reason holds.
+//! What C calls of sealers. Each function answers 0, or the number of the first fault whose condition
+//! holds.
 
-ghost use Rattle.std.specs.Prelude.{◌≡◌, ◌≤◌, ◌+◌, drop, length, take, None, Some};
+ghost use Rattle.std.specs.Prelude.{◌≡◌, ◌≤◌, drop, length, take, None, Some};
 ghost use Rattle.krb_seal.specs.Sealer.{new_state};
-ghost use Rattle.krb_c.specs.Exports.{CanSealBy, IsNext, IsNextSize, SealsTo, advanced_if, in_mode_if, wiped_if, SealsRecordTo};
-ghost use Rattle.krb_structs.specs.Fault.{FaultedBy};
+ghost use Rattle.krb_c.specs.Answers.{ModeAnswerBy, RecordAnswerBy, SealAnswerBy, SizeAnswerBy};
+ghost use Rattle.krb_c.specs.Exports.{IsNext, IsNextSize, SealsTo, advanced_if, in_mode_if, wiped_if, SealsRecordTo};
 ghost use Rattle.krb_structs.specs.Moment.{micros_of};
-ghost use Rattle.krb_c.specs.Faults.{ModeFault, RecordFault, SealFault, SizeFault};
-ghost use Rattle.krb_structs.specs.Reasons.{NewReason};
+ghost use Rattle.krb_structs.specs.Reasons.{NewAnswer};
 ghost use Rattle.krb_structs.specs.Room.{FitsFrames, frame_room};
-ghost use Rattle.krb_structs.specs.Session.{mode_of, session_of};
+ghost use Rattle.krb_structs.specs.Session.{IsSession, mode_of, session_of};
 
 use crate::handle::Handle;
 use crate::sealer_handle::KrbSealer;
@@ -28,8 +28,8 @@ pub extern "C" fn krbrelay_sealer_new(
     ensures made { result ≡ 0 → handle.new.sealer
         ≡ Some (new_state etype key.now (session_of told.now)) }
     ensures nothing { ¬ (result ≡ 0) → handle.new.sealer ≡ None }
-    ensures why { ¬ (result ≡ 0) → FaultedBy (NewReason etype (length key.now) told.now.mode
-        told.now.s_addr.len told.now.r_addr.len) result }
+    ensures answer { NewAnswer etype (length key.now) (IsSession told.now) told.now.mode
+        told.now.sender.len told.now.receiver.len result }
 {
     match AnySealer::new(alloc, etype, key, told) {
         Ok(sealer) => {
@@ -66,7 +66,6 @@ pub extern "C" fn krbrelay_sealer_seal(
 ) -> u32
     ensures sealed { result ≡ 0 → SealsTo handle.old.sealer user.now (micros_of at.now)
         confounder.now (take size.new out.new) }
-    ensures ready { result ≡ 0 → CanSealBy handle.old.sealer (length user.now) at.now }
     ensures size { result ≡ 0 → size.new ≤ length out.new }
     ensures behind { result ≡ 0 → drop size.new out.new ≡ drop size.new out.old }
     ensures advanced { result ≡ 0 → handle.new.sealer ≡ advanced_if handle.old.sealer }
@@ -74,8 +73,8 @@ pub extern "C" fn krbrelay_sealer_seal(
     ensures unchanged { ¬ (result ≡ 0) → handle.new.sealer ≡ handle.old.sealer }
     ensures out_kept { ¬ (result ≡ 0) → out.new ≡ out.old }
     ensures size_kept { ¬ (result ≡ 0) → size.new ≡ size.old }
-    ensures why { ¬ (result ≡ 0) → FaultedBy (SealFault handle.old.sealer (length user.now)
-        at.now (length out.old)) result }
+    ensures answer { SealAnswerBy handle.old.sealer (length user.now) at.now (length out.old)
+        result }
 {
     let Some(mut sealer) = handle.take(alloc) else {
         return Fault::Empty.code();
@@ -101,7 +100,6 @@ pub extern "C" fn krbrelay_sealer_seal_record(
 ) -> u32
     ensures sealed { result ≡ 0 → SealsRecordTo handle.old.sealer kind body.now (micros_of at.now)
         confounder.now (take size.new out.new) }
-    ensures ready { result ≡ 0 → CanSealBy handle.old.sealer (1 + length body.now) at.now }
     ensures size { result ≡ 0 → size.new ≤ length out.new }
     ensures behind { result ≡ 0 → drop size.new out.new ≡ drop size.new out.old }
     ensures advanced { result ≡ 0 → handle.new.sealer ≡ advanced_if handle.old.sealer }
@@ -109,8 +107,8 @@ pub extern "C" fn krbrelay_sealer_seal_record(
     ensures unchanged { ¬ (result ≡ 0) → handle.new.sealer ≡ handle.old.sealer }
     ensures out_kept { ¬ (result ≡ 0) → out.new ≡ out.old }
     ensures size_kept { ¬ (result ≡ 0) → size.new ≡ size.old }
-    ensures why { ¬ (result ≡ 0) → FaultedBy (RecordFault handle.old.sealer kind body.now
-        at.now (length out.old)) result }
+    ensures answer { RecordAnswerBy handle.old.sealer kind body.now at.now (length out.old)
+        result }
 {
     let Some(mut sealer) = handle.take(alloc) else {
         return Fault::Empty.code();
@@ -147,7 +145,7 @@ pub extern "C" fn krbrelay_sealer_frame_size(
     size: &mut usize,
 ) -> u32
     ensures size { result ≡ 0 → IsNextSize handle.old.sealer len at.now size.new }
-    ensures why { ¬ (result ≡ 0) → FaultedBy (SizeFault handle.old.sealer len at.now) result }
+    ensures answer { SizeAnswerBy handle.old.sealer len at.now result }
     ensures untold { ¬ (result ≡ 0) → size.new ≡ size.old }
     ensures kept { handle.new.sealer ≡ handle.old.sealer }
 {
@@ -168,7 +166,7 @@ pub extern "C" fn krbrelay_sealer_set_mode(
 ) -> u32
     ensures set { result ≡ 0 → handle.new.sealer ≡ in_mode_if handle.old.sealer (mode_of number) }
     ensures unchanged { ¬ (result ≡ 0) → handle.new.sealer ≡ handle.old.sealer }
-    ensures why { ¬ (result ≡ 0) → FaultedBy (ModeFault handle.old.sealer number) result }
+    ensures answer { ModeAnswerBy handle.old.sealer number result }
 {
     let Some(mut sealer) = handle.take(alloc) else {
         return Fault::Empty.code();

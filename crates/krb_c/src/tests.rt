@@ -25,7 +25,9 @@ use crate::sealer_calls::{
     krbrelay_sealer_set_mode, krbrelay_sealer_wipe,
 };
 use crate::sealer_handle::KrbSealer;
+use crate::window_calls::{krbrelay_window_new, krbrelay_window_take};
 use krb_structs::{KrbAddress, KrbCarried, KrbDemand, KrbExpect, KrbHeader, KrbMoment, KrbSession};
+use krb_window::Window;
 use std::alloc::Global;
 use std::test::Fail;
 
@@ -69,15 +71,15 @@ const START_OF_THE_LONGEST: [u8; 45] = [
 ];
 
 const AT: KrbMoment = KrbMoment {
-    secs: SECS,
-    usec: 5,
+    seconds: SECS,
+    microseconds: 5,
     reserved: 0,
 };
 
 /// A second has no millionth microsecond.
 const NO_MOMENT: KrbMoment = KrbMoment {
-    secs: SECS,
-    usec: 1_000_000,
+    seconds: SECS,
+    microseconds: 1_000_000,
     reserved: 0,
 };
 
@@ -92,13 +94,19 @@ fn host(last: u8) -> KrbAddress {
     }
 }
 
+const NO_ADDRESS: KrbAddress = KrbAddress {
+    kind: 0,
+    len: 0,
+    bytes: [0; 40],
+};
+
 fn session(mode: u32) -> KrbSession {
     KrbSession {
         mode,
         first: 7,
-        s_addr: host(1),
-        has_r: 0,
-        r_addr: host(255),
+        sender: host(1),
+        has_receiver: 0,
+        receiver: NO_ADDRESS,
         reserved: [0; 5],
     }
 }
@@ -106,41 +114,41 @@ fn session(mode: u32) -> KrbSession {
 fn expect(mode: u32) -> KrbExpect {
     KrbExpect {
         mode,
-        s_addr: host(1),
-        r_addr: host(255),
-        require_r: 0,
-        expect_time: 1,
+        sender: host(1),
+        receiver: host(255),
+        require_receiver: 0,
+        require_time: 1,
         skew: 300,
         reserved: [0; 4],
     }
 }
 
 /// Demands of a number, and of nothing else.
-fn number_demand(number: u32, expected: u64) -> KrbDemand {
+fn number_demand(how_number: u32, number: u64) -> KrbDemand {
     KrbDemand {
-        sender: 0,
-        receiver: 0,
-        time: 0,
+        how_sender: 0,
+        how_receiver: 0,
+        how_time: 0,
+        how_number,
         number,
-        expected,
         skew: 0,
-        s_addr: host(9),
-        r_addr: host(9),
+        sender: NO_ADDRESS,
+        receiver: NO_ADDRESS,
         reserved: [0; 5],
     }
 }
 
 fn nothing_carried() -> KrbCarried {
     KrbCarried {
-        secs: 0,
-        usec: 0,
-        has_secs: 0,
-        has_usec: 0,
+        seconds: 0,
+        microseconds: 0,
+        has_seconds: 0,
+        has_microseconds: 0,
         has_number: 0,
         number: 0,
-        has_r: 0,
-        s_addr: host(0),
-        r_addr: host(0),
+        has_receiver: 0,
+        sender: NO_ADDRESS,
+        receiver: NO_ADDRESS,
         reserved: [0; 6],
     }
 }
@@ -265,11 +273,16 @@ fn a_frame_opens_in_place_and_without_demands(rt: HostRuntime) {
     let answer = krbrelay_opener_open(alloc, o, &frame, &any, &AT, &mut text, &mut size, &mut told);
     assert_eq!(rt; (answer, size, &text), (0, 3, b"Dhi\0"));
     assert_eq!(rt;
-        (told.secs, told.usec, told.number, told.has_r),
+        (
+            told.seconds,
+            told.microseconds,
+            told.number,
+            told.has_receiver
+        ),
         (SECS, 5, 7, 0)
     );
     assert_eq!(rt;
-        (told.s_addr.len, told.s_addr.bytes[0], told.s_addr.bytes[3]),
+        (told.sender.len, told.sender.bytes[0], told.sender.bytes[3]),
         (4, 10, 1)
     );
     let eight = number_demand(2, 8);
@@ -418,4 +431,24 @@ fn frames_are_carried_in_turn(rt: HostRuntime) {
         (counts, again, p.next, p.carried, p.at),
         (1, 2, 11, 10, 42)
     );
+}
+
+// A window begins at 100: 99 is as if taken. 165 is 64 over 101, which is too old then.
+#[test]
+fn a_window_takes_each_number_once(rt: HostRuntime) {
+    let mut it = Window {
+        highest: 0,
+        taken: 0,
+    };
+    let w = &mut it;
+    krbrelay_window_new(w, 100);
+    assert_eq!(rt; krbrelay_window_take(w, 99), 917);
+    assert_eq!(rt; krbrelay_window_take(w, 35), 918);
+    assert_eq!(rt; krbrelay_window_take(w, 101), 0);
+    assert_eq!(rt; krbrelay_window_take(w, 100), 0);
+    assert_eq!(rt; krbrelay_window_take(w, 101), 917);
+    assert_eq!(rt; krbrelay_window_take(w, 165), 0);
+    assert_eq!(rt; krbrelay_window_take(w, 101), 918);
+    assert_eq!(rt; krbrelay_window_take(w, 102), 0);
+    assert_eq!(rt; (w.highest, krbrelay_window_take(w, 102)), (165, 917));
 }

@@ -75,6 +75,8 @@ const char *krbrelay_strerror(uint32_t answer)
     case KRBRELAY_ADDRESS: return "an address has over 40 bytes";
     case KRBRELAY_ARGUMENT: return "an argument is out of its range";
     case KRBRELAY_RECORD: return "the texts are no record";
+    case KRBRELAY_REPEATED: return "the number was taken before";
+    case KRBRELAY_TOO_OLD: return "the number is too far below the highest that was taken";
     case KRBRELAY_CLOCK:
     case KRBRELAY_RANDOM:
     case KRBRELAY_PROCESSOR: return system_answers[answer - KRBRELAY_CLOCK].text;
@@ -100,6 +102,8 @@ enum krbrelay_class krbrelay_class_of(uint32_t answer)
     case KRBRELAY_MALFORMED:
     case KRBRELAY_BAD_RECORD:
     case KRBRELAY_AFTER_CLOSE:
+    case KRBRELAY_REPEATED:
+    case KRBRELAY_TOO_OLD:
         return KRBRELAY_CLASS_REFUSAL;
     case KRBRELAY_TOO_LONG:
     case KRBRELAY_ETYPE:

@@ -173,28 +173,3 @@ pub fn progress_laws()
     ensures attempts { ReadingsAreAttempts }
     ensures receipts { ReceiptsStayTrue }
 {}
-
-#[cfg(test)]
-mod tests {
-    use super::*;
-
-    // The carrier lost frame 7, and stored 8: that one doesn't count until it comes again.
-    #[test]
-    fn counts_in_turn(rt: HostRuntime) {
-        let mut progress = Progress::new(7, 7, 0);
-        progress.store(2);
-        progress.publish(2);
-        assert!(rt; !progress.confirm(8, 1), "7 is missing");
-        assert_eq!(rt; progress.rewind(), 2);
-        progress.publish(2);
-        assert!(rt; progress.confirm(7, 2));
-        assert!(rt; !progress.confirm(8, 1), "it stands before 7");
-        assert!(rt; progress.confirm(8, 3));
-        assert!(rt; !progress.confirm(9, 4), "no such frame");
-        assert_eq!(rt; (progress.next(), progress.carried()), (9, 9));
-        assert_eq!(rt; (progress.at(), progress.sent()), (3, 9));
-        assert_eq!(rt; progress.rewind(), 0);
-        assert!(rt; Progress::restore(9, 8, 3, 9).is_some());
-        assert!(rt; Progress::restore(9, 8, 3, 7).is_none());
-    }
-}

@@ -6,7 +6,7 @@ use Rattle.krb_seal.specs.Refusal as refusal
 use Rattle.krb_structs.specs.declared.fault.Fault.{Fault}
 use Rattle.krb_structs.specs.declared.fault.Fault.TheVariants.{Wiped, TooLong, Exhausted, Refused, Etype}
 use Rattle.krb_structs.specs.declared.fault.Fault.TheVariants.{Room, Empty, KeySize, Mode, Moment}
-use Rattle.krb_structs.specs.declared.fault.Fault.TheVariants.{Address, Argument, Record}
+use Rattle.krb_structs.specs.declared.fault.Fault.TheVariants.{Address, Argument, Record, Repeated, TooOld}
 use Rattle.krb_structs.specs.Fault.{fault_code}
 
 abbrev pub name_of : Fault → List ℕ
@@ -23,6 +23,8 @@ name_of Moment = codes "MOMENT"
 name_of Address = codes "ADDRESS"
 name_of Argument = codes "ARGUMENT"
 name_of Record = codes "RECORD"
+name_of Repeated = codes "REPEATED"
+name_of TooOld = codes "TOO_OLD"
 
 abbrev pub refusal_text : Refusal → List ℕ
 refusal_text refusals.FieldTooLong = codes "the message is longer than a message may be"
@@ -54,6 +56,8 @@ text_of Moment = codes "no moment of the years 1970 to 9999"
 text_of Address = codes "an address has over 40 bytes"
 text_of Argument = codes "an argument is out of its range"
 text_of Record = codes "the texts are no record"
+text_of Repeated = codes "the number was taken before"
+text_of TooOld = codes "the number is too far below the highest that was taken"
 
 -- the answer 0 has this text, and that of a fault its own
 abbrev pub IsTextOf : (Fault → List ℕ) → List ℕ → ℕ → List ℕ → Type 0

@@ -30,14 +30,14 @@ has_address (Some a) = 1
 
 abbrev pub carried_of : Body → KrbCarried
 carried_of b = record {
-  secs = unwrap_or b.time 0;
-  usec = unwrap_or b.usec 0;
-  has_secs = is_told b.time;
-  has_usec = is_told b.usec;
+  seconds = unwrap_or b.time 0;
+  microseconds = unwrap_or b.usec 0;
+  has_seconds = is_told b.time;
+  has_microseconds = is_told b.usec;
   has_number = is_told b.seq;
   number = unwrap_or b.seq 0;
-  has_r = has_address b.r_addr;
-  s_addr = c_address b.s_addr;
-  r_addr = told_address b.r_addr;
+  has_receiver = has_address b.r_addr;
+  sender = c_address b.s_addr;
+  receiver = told_address b.r_addr;
   reserved = replicate 6 0;
 }

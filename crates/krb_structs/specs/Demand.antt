@@ -13,16 +13,33 @@ use Rattle.krb_seal.specs.Session.{IsShortAddress}
 use Rattle.krb_seal.specs.Opens.{OpenerState, Checks, Passes, distance}
 use Rattle.krb_seal.specs.Authentic.{Authenticity, Authenticates, GivesBody}
 use Rattle.krb_structs.specs.declared.demand.KrbDemand.{KrbDemand}
-use Rattle.krb_structs.specs.Session.{address_of, address_room}
+use Rattle.krb_structs.specs.Session.{AreZeros, IsNoAddress, address_of, address_room}
 
--- the demands are ones that there are, and the addresses fit
+-- the demands are ones that there are
+pub record AreHows (d : KrbDemand) : Type 0 where
+  pub sender : d.how_sender ≤ 2
+  pub receiver : d.how_receiver ≤ 2
+  pub time : d.how_time ≤ 2
+  pub number : d.how_number ≤ 3
+
+-- the addresses fit, and are zeros where none is demanded
+pub record AreAddresses (d : KrbDemand) : Type 0 where
+  pub sender : d.sender.len ≤ address_room
+  pub receiver : d.receiver.len ≤ address_room
+  pub no_sender : d.how_sender ≡ 0 → IsNoAddress d.sender
+  pub no_receiver : d.how_receiver ≡ 0 → IsNoAddress d.receiver
+
+-- the other fields are 0 where they aren't read
+pub record AreNumbers (d : KrbDemand) : Type 0 where
+  pub no_time : d.how_time ≡ 0 → d.skew ≡ 0
+  pub no_number : d.how_number ≡ 0 → d.number ≡ 0
+  pub reserved : AreZeros d.reserved
+
+-- It is a demand: its values are ones that there are, and what isn't read is zeros.
 pub record IsDemand (d : KrbDemand) : Type 0 where
-  pub sender : d.sender ≤ 2
-  pub receiver : d.receiver ≤ 2
-  pub time : d.time ≤ 2
-  pub number : d.number ≤ 3
-  pub s_addr : d.s_addr.len ≤ address_room
-  pub r_addr : d.r_addr.len ≤ address_room
+  pub hows : AreHows d
+  pub addresses : AreAddresses d
+  pub numbers : AreNumbers d
 
 -- ---- the tests
 
@@ -38,26 +55,27 @@ abbrev pub AreShort : HostAddress → Option HostAddress → Type 0
 AreShort s r = IsShortAddress s × ForSome r IsShortAddress
 
 abbrev pub sender_meets : KrbDemand → HostAddress → Bool
-sender_meets d a = nat_eq d.sender 0 || same_address a (address_of d.s_addr)
+sender_meets d a = nat_eq d.how_sender 0 || same_address a (address_of d.sender)
 
 abbrev pub receiver_meets : KrbDemand → Option HostAddress → Bool
-receiver_meets d None = not (nat_eq d.receiver 2)
-receiver_meets d (Some a) = nat_eq d.receiver 0 || same_address a (address_of d.r_addr)
+receiver_meets d None = not (nat_eq d.how_receiver 2)
+receiver_meets d (Some a) = nat_eq d.how_receiver 0 || same_address a (address_of d.receiver)
 
 -- in whole microseconds, and both ends of the window are in it
 abbrev pub is_within : KrbDemand → ℕ → Option ℕ → Option ℕ → Bool
 is_within d now (Some secs) (Some usec) =
     nat_le (distance now (moment_of secs usec)) (micros_per_second * d.skew)
-is_within d now None None = not (nat_eq d.time 2)
+is_within d now None None = not (nat_eq d.how_time 2)
 is_within d now (Some secs) None = false
 is_within d now None (Some usec) = false
 
 abbrev pub time_meets : KrbDemand → ℕ → Body → Bool
-time_meets d now b = nat_eq d.time 0 || is_within d now b.time b.usec
+time_meets d now b = nat_eq d.how_time 0 || is_within d now b.time b.usec
 
 abbrev pub number_meets : KrbDemand → Option ℕ → Bool
-number_meets d None = not (nat_eq d.number 2) && (not (nat_eq d.number 3) || nat_eq d.expected 0)
-number_meets d (Some n) = nat_eq d.number 0 || nat_eq n d.expected
+number_meets d None =
+    not (nat_eq d.how_number 2) && (not (nat_eq d.how_number 3) || nat_eq d.number 0)
+number_meets d (Some n) = nat_eq d.how_number 0 || nat_eq n d.number
 
 -- ---- the checks, in their order
 

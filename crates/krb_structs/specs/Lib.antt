@@ -3,6 +3,7 @@ pub mod Carried
 pub mod Demand
 pub mod Fault
 pub mod Header
+pub mod Laws
 pub mod Moment
 pub mod Opening
 pub mod Reasons

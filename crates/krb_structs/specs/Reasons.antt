@@ -1,168 +1,155 @@
--- When each fault comes: only where its reason holds.
-use Rattle.std.specs.Prelude.{◌≡◌, ◌⊎◌, ℕ, ℤ, ◌+◌, ◌<◌, ◌≤◌, List, length, Option, Some, None, Ok}
-use Rattle.std.specs.Prelude.{Err, true, MatchOption}
+-- Which answer comes: of each call a row of conditions in their order, the first of which that
+-- doesn't hold gives the answer. Out of memory comes after all that need none.
+use Rattle.std.specs.Prelude.{◌≡◌, ◌⊎◌, ℕ, ℤ, ◌+◌, ◌<◌, ◌≤◌, List, length, Option, Some, None}
+use Rattle.std.specs.Prelude.{Ok, Err, false, MatchOption}
 use Rattle.krb_base.specs.Limits.{frame_limit, user_data_limit}
-use Rattle.krb_der.specs.declared.body.Body.{Body}
 use Rattle.krb_der.specs.declared.message.Message.{Message}
 use Rattle.krb_der.specs.Message.{Spells}
 use Rattle.krb_seal.specs.declared.refusal.Refusal.TheVariants as refusals
 use Rattle.krb_etype.specs.Etype.{etype_of, key_size}
-use Rattle.krb_seal.specs.Sealer.{SealerState, end_of_numbers}
-use Rattle.krb_seal.specs.Opens.{OpenerState, Opens}
-use Rattle.krb_structs.specs.declared.moment.KrbMoment.{KrbMoment}
-use Rattle.krb_structs.specs.declared.demand.KrbDemand.{KrbDemand}
-use Rattle.krb_seal.specs.declared.refusal.Refusal.{Refusal}
+use Rattle.krb_seal.specs.Sealer.{HasFrameSize, SealerState, end_of_numbers}
+use Rattle.krb_seal.specs.Opens.{Opens, Outcome}
+use Rattle.krb_seal.specs.Authentic.{Authenticity}
+use Rattle.krb_record.specs.declared.record.Record.{Record as RecordValue}
+use Rattle.krb_record.specs.Record.{bytes_of}
 use Rattle.krb_peers.specs.ReceiverState.{ReceiverState}
 use Rattle.krb_peers.specs.Receiver.{TakesMemory}
-use Rattle.krb_peers.specs.Verdicts.{IsVerdict}
-use Rattle.krb_structs.specs.Record.{Accepts, IsNoRecordOf}
-use Rattle.krb_structs.specs.Room.{frame_room}
-use Rattle.krb_structs.specs.Moment.{IsMoment, micros_of}
-use Rattle.krb_structs.specs.Session.{IsMode, address_room}
-use Rattle.krb_structs.specs.Demand.{IsDemand, OpensWith}
-use Rattle.krb_structs.specs.Fault.{fault_code}
-use Rattle.krb_structs.specs.Answers.{IsTextOf}
-use Rattle.krb_structs.specs.Sealing.{CanSeal}
+use Rattle.krb_peers.specs.Verdicts.{IsVerdict, Verdict, record_of}
 use Rattle.krb_structs.specs.declared.fault.Fault.{Fault}
+use Rattle.krb_structs.specs.declared.moment.KrbMoment.{KrbMoment}
+use Rattle.krb_structs.specs.declared.demand.KrbDemand.{KrbDemand}
+use Rattle.krb_structs.specs.Record.{IsRecordOf}
+use Rattle.krb_structs.specs.Moment.{IsMoment, micros_of}
+use Rattle.krb_structs.specs.Opening.{HeldOpener}
+use Rattle.krb_structs.specs.Session.{HaveRoom, IsMode}
+use Rattle.krb_structs.specs.Demand.{IsDemand, OpensWith}
+use Rattle.krb_structs.specs.Fault.{IsDone, Needs, OrMemory, fault_code}
+use Rattle.krb_structs.specs.Answers.{IsTextOf}
 use Rattle.krb_structs.specs.declared.fault.Fault.TheVariants.{Wiped, TooLong, Exhausted, Refused, Etype}
 use Rattle.krb_structs.specs.declared.fault.Fault.TheVariants.{Room, Empty, KeySize, Mode, Moment}
 use Rattle.krb_structs.specs.declared.fault.Fault.TheVariants.{Address, Argument, Record}
 
--- it is no moment of the years 1970 to 9999
-abbrev pub IsNoMoment : KrbMoment → Type 0
-IsNoMoment m = IsMoment m → ⊥
+-- of a moment
+abbrev pub NeedsMoment : KrbMoment → (ℕ → Type 0) → ℕ → Type 0
+NeedsMoment at Then = Needs (at.reserved ≡ 0) Argument (Needs (IsMoment at) Moment Then)
 
--- Why sealing fails. The sizes of the user data and of the buffer are n and room.
-abbrev pub SealReason : SealerState → ℕ → KrbMoment → ℕ → Fault → Type 0
-SealReason s n at room Wiped = s.wiped ≡ true
-SealReason s n at room TooLong = user_data_limit < n
-SealReason s n at room Exhausted = s.next ≡ end_of_numbers
-SealReason s n at room (Refused r) = (r ≡ refusals.Memory) × CanSeal s n at × (frame_room n ≤ room)
-SealReason s n at room Moment = IsNoMoment at
-SealReason s n at room Room = room < frame_room n
-SealReason s n at room Etype = ⊥
-SealReason s n at room Empty = ⊥
-SealReason s n at room KeySize = ⊥
-SealReason s n at room Mode = ⊥
-SealReason s n at room Address = ⊥
-SealReason s n at room Argument = ⊥
-SealReason s n at room Record = ⊥
+-- ---- sealing
 
--- why sealing a record fails: there is none of this kind with these bytes after its first, or
--- sealing its user data fails
-abbrev pub RecordReason : SealerState → ℕ → List ℕ → KrbMoment → ℕ → Fault → Type 0
-RecordReason s kind body at room f =
-    ((f ≡ Record) × IsNoRecordOf kind body)
-    ⊎ ((f ≡ Refused refusals.Memory) ⊎ SealReason s (length body + 1) at room f)
+-- Of sealing n bytes of user data at a moment into this much room: whatever frame of them the sealer
+-- makes next has this size.
+abbrev pub SealAnswer : SealerState → ℕ → KrbMoment → ℕ → ℕ → Type 0
+SealAnswer s n at room =
+    NeedsMoment at
+    (Needs (s.wiped ≡ false) Wiped
+    (Needs (n ≤ user_data_limit) TooLong
+    (Needs (¬ (s.next ≡ end_of_numbers)) Exhausted
+    (λ code. (size : ℕ) × HasFrameSize s n (micros_of at) size
+    × Needs (size ≤ room) Room (OrMemory IsDone) code))))
 
--- why a sealer reports no size of the frame of n bytes of user data
-abbrev pub SizeReason : ℕ → KrbMoment → Fault → Type 0
-SizeReason n at f = ((f ≡ Moment) × IsNoMoment at) ⊎ ((f ≡ TooLong) × (user_data_limit < n))
+-- a record of this kind has these bytes after its first
+abbrev pub HasRecord : ℕ → List ℕ → Type 0
+HasRecord kind body = (r : RecordValue) × ((user : List ℕ) × IsRecordOf kind body r user)
 
--- why opening fails
-abbrev pub OpenReason : OpenerState → ℕ → KrbMoment → List ℕ → ℕ → Fault → Type 0
-OpenReason o number at frame room (Refused r) =
-    IsMoment at × (r ≡ refusals.Memory → length frame ≤ frame_limit)
-    × ((r ≡ refusals.Memory → ⊥) → Opens o number (micros_of at) frame (Err r))
-OpenReason o number at frame room Moment = IsNoMoment at
-OpenReason o number at frame room Room =
-    (user : List ℕ) × Opens o number (micros_of at) frame (Ok user) × (room < length user)
-OpenReason o number at frame room Wiped = ⊥
-OpenReason o number at frame room TooLong = ⊥
-OpenReason o number at frame room Exhausted = ⊥
-OpenReason o number at frame room Etype = ⊥
-OpenReason o number at frame room Empty = ⊥
-OpenReason o number at frame room KeySize = ⊥
-OpenReason o number at frame room Mode = ⊥
-OpenReason o number at frame room Address = ⊥
-OpenReason o number at frame room Argument = ⊥
-OpenReason o number at frame room Record = ⊥
+-- of sealing a record
+abbrev pub RecordAnswer : SealerState → ℕ → List ℕ → KrbMoment → ℕ → ℕ → Type 0
+RecordAnswer s kind body at room =
+    Needs (HasRecord kind body) Record (SealAnswer s (1 + length body) at room)
 
--- the handle holds nothing, or an opener that was wiped, or one that fails
-abbrev pub OpenFault : Option (Option OpenerState) → ℕ → KrbMoment → List ℕ → ℕ → Fault → Type 0
-OpenFault None number at frame room f = f ≡ Empty
-OpenFault (Some None) number at frame room f = f ≡ Wiped
-OpenFault (Some (Some o)) number at frame room f = OpenReason o number at frame room f
+-- of the size of the frame of n bytes of user data
+abbrev pub SizeAnswer : ℕ → KrbMoment → ℕ → Type 0
+SizeAnswer n at = NeedsMoment at (Needs (n ≤ user_data_limit) TooLong IsDone)
 
--- why opening with demands of a caller's fails
-abbrev pub DemandReason : OpenerState → KrbDemand → KrbMoment → List ℕ → ℕ → Fault → Type 0
-DemandReason o d at frame room (Refused r) =
-    (r ≡ refusals.Memory → ⊥) → OpensWith o d (micros_of at) frame (Err r)
-DemandReason o d at frame room Moment = IsNoMoment at
-DemandReason o d at frame room Argument = IsDemand d → ⊥
-DemandReason o d at frame room Room =
-    (b : Body) × OpensWith o d (micros_of at) frame (Ok b) × (room < length b.user_data)
-DemandReason o d at frame room Wiped = ⊥
-DemandReason o d at frame room TooLong = ⊥
-DemandReason o d at frame room Exhausted = ⊥
-DemandReason o d at frame room Etype = ⊥
-DemandReason o d at frame room Empty = ⊥
-DemandReason o d at frame room KeySize = ⊥
-DemandReason o d at frame room Mode = ⊥
-DemandReason o d at frame room Address = ⊥
-DemandReason o d at frame room Record = ⊥
+-- of a mode
+abbrev pub ModeAnswer : ℕ → ℕ → Type 0
+ModeAnswer mode = Needs (IsMode mode) Mode IsDone
 
-abbrev pub DemandFault : Option (Option OpenerState) → KrbDemand → KrbMoment → List ℕ → ℕ → Fault
-    → Type 0
-DemandFault None d at frame room f = f ≡ Empty
-DemandFault (Some None) d at frame room f = f ≡ Wiped
-DemandFault (Some (Some o)) d at frame room f = DemandReason o d at frame room f
+-- ---- opening
 
--- why no address is made: it has more bytes than there is room for
-abbrev pub AddressReason : ℕ → Fault → Type 0
-AddressReason n f =
-    ((f ≡ Address) × (address_room < n)) ⊎ ((f ≡ Refused refusals.Memory) × (n ≤ address_room))
+-- of opening a frame, which had this outcome
+abbrev pub OutcomeAnswer : Outcome → ℕ → ℕ → Type 0
+OutcomeAnswer (Ok user) room = Needs (length user ≤ room) Room IsDone
+OutcomeAnswer (Err r) room = λ code. code ≡ fault_code (Refused r)
 
--- why no session is made: its mode, or an address
-abbrev pub SessionReason : ℕ → ℕ → ℕ → Fault → Type 0
-SessionReason mode s r f =
-    ((f ≡ Mode) × (IsMode mode → ⊥))
-    ⊎ (((f ≡ Address) × ((address_room < s) ⊎ (address_room < r)))
-    ⊎ (f ≡ Refused refusals.Memory))
+-- nothing is allocated for a frame over the limit
+abbrev pub MemoryWithin : List ℕ → ℕ → Type 0
+MemoryWithin frame code =
+    (code ≡ fault_code (Refused refusals.Memory)) × (length frame ≤ frame_limit)
 
--- why there is no session key of n bytes: no encryption type has the number, or its keys have
--- another size
-abbrev pub KeyReason : ℤ → ℕ → Fault → Type 0
-KeyReason etype n f =
-    MatchOption (etype_of etype) (f ≡ Etype) (λ e. (f ≡ KeySize) × (n ≡ key_size e → ⊥))
+-- of opening a frame that carries a number, at a moment, into this much room
+abbrev pub OpenAnswer : HeldOpener → ℕ → KrbMoment → List ℕ → ℕ → ℕ → Type 0
+OpenAnswer None number at frame room = λ code. code ≡ fault_code Empty
+OpenAnswer (Some None) number at frame room = λ code. code ≡ fault_code Wiped
+OpenAnswer (Some (Some o)) number at frame room =
+    NeedsMoment at (λ code. MemoryWithin frame code ⊎ ((outcome : Outcome)
+    × Opens o number (micros_of at) frame outcome × OutcomeAnswer outcome room code))
 
--- Why no sealer, opener or receiver is made: its encryption type, the size n of its key, its mode
--- or an address.
-abbrev pub NewReason : ℤ → ℕ → ℕ → ℕ → ℕ → Fault → Type 0
-NewReason etype n mode s r f = KeyReason etype n f ⊎ SessionReason mode s r f
+-- of opening a frame with demands, which had this outcome
+abbrev pub BodyAnswer : Authenticity → ℕ → ℕ → Type 0
+BodyAnswer (Ok b) room = Needs (length b.user_data ≤ room) Room IsDone
+BodyAnswer (Err r) room = λ code. code ≡ fault_code (Refused r)
 
--- Why a receiver takes no frame at a moment: the verdict on it is a refusal, or the body of its record
--- needs more room, or memory ran out, and the frame is within the limit and after no close.
-abbrev pub TakeReason : ReceiverState → ℕ → List ℕ → ℕ → Fault → Type 0
-TakeReason s now frame room f =
-    ((r : Refusal) × (f ≡ Refused r) × IsVerdict s.opener s.demand now frame (Err r))
-    ⊎ (((f ≡ Room)
-    × ((kind : ℕ)
-    × ((body : List ℕ)
-    × ((new : ReceiverState) × Accepts s now frame kind body new × (room < length body)))))
-    ⊎ ((f ≡ Refused refusals.Memory) × TakesMemory s frame))
+-- of opening a frame with demands
+abbrev pub DemandAnswer : HeldOpener → KrbDemand → KrbMoment → List ℕ → ℕ → ℕ → Type 0
+DemandAnswer None d at frame room = λ code. code ≡ fault_code Empty
+DemandAnswer (Some None) d at frame room = λ code. code ≡ fault_code Wiped
+DemandAnswer (Some (Some o)) d at frame room =
+    Needs (IsDemand d) Argument (NeedsMoment at (λ code. MemoryWithin frame code
+    ⊎ ((outcome : Authenticity) × OpensWith o d (micros_of at) frame outcome
+    × BodyAnswer outcome room code)))
 
-abbrev pub TakeFault : Option ReceiverState → KrbMoment → List ℕ → ℕ → Fault → Type 0
-TakeFault None at frame room f = f ≡ Empty
-TakeFault (Some s) at frame room f =
-    ((f ≡ Moment) × IsNoMoment at)
-    ⊎ (IsMoment at × TakeReason s (micros_of at) frame room f)
+-- ---- receiving
 
--- why no receiver is made: as no opener is, or its number is over the end of all
-abbrev pub ReceiverReason : ℤ → ℕ → ℕ → ℕ → ℕ → ℕ → Fault → Type 0
-ReceiverReason etype n mode s r expected f =
-    ((f ≡ Argument) × (end_of_numbers < expected)) ⊎ NewReason etype n mode s r f
+-- of taking a frame on which this is the verdict: the bytes of a record after its first have room
+abbrev pub VerdictAnswer : Verdict → ℕ → ℕ → Type 0
+VerdictAnswer (Ok delivery) room =
+    Needs (length (bytes_of (record_of delivery)) ≤ 1 + room) Room IsDone
+VerdictAnswer (Err r) room = λ code. code ≡ fault_code (Refused r)
 
--- why no header is read
-abbrev pub HeaderReason : List ℕ → Fault → Type 0
-HeaderReason frame f =
-    ((f ≡ Refused refusals.FieldTooLong) × (frame_limit < length frame))
-    ⊎ (((f ≡ Refused refusals.Malformed) × (length frame ≤ frame_limit)
-    × ((m : Message) → Spells m frame → ⊥))
-    ⊎ ((f ≡ Refused refusals.Memory) × (length frame ≤ frame_limit)))
+-- of taking a frame at a moment into this much room
+abbrev pub TakeAnswer : Option ReceiverState → KrbMoment → List ℕ → ℕ → ℕ → Type 0
+TakeAnswer None at frame room = λ code. code ≡ fault_code Empty
+TakeAnswer (Some s) at frame room =
+    NeedsMoment at (λ code.
+    ((code ≡ fault_code (Refused refusals.Memory)) × TakesMemory s frame)
+    ⊎ ((verdict : Verdict) × IsVerdict s.opener s.demand (micros_of at) frame verdict
+    × VerdictAnswer verdict room code))
 
--- why no name or text is written: no answer has the number, or it and a zero need more room
-abbrev pub TextReason : (Fault → List ℕ) → List ℕ → ℕ → ℕ → Fault → Type 0
-TextReason text ok code room f =
-    ((f ≡ Argument) × ((a : Fault) → code ≡ fault_code a → ⊥))
-    ⊎ ((f ≡ Room) × ((bytes : List ℕ) × IsTextOf text ok code bytes × (room ≤ length bytes)))
+-- ---- making
+
+-- of a key of n bytes
+abbrev pub NeedsKey : ℤ → ℕ → (ℕ → Type 0) → ℕ → Type 0
+NeedsKey etype n Then code =
+    MatchOption (etype_of etype) (code ≡ fault_code Etype)
+    (λ e. Needs (n ≡ key_size e) KeySize Then code)
+
+-- of what is demanded or written, whose addresses have so many bytes, and which is as it ought to be
+-- where it isn't read
+abbrev pub SessionAnswer : Type 0 → ℕ → ℕ → ℕ → ℕ → Type 0
+SessionAnswer IsWhole mode sender receiver =
+    Needs IsWhole Argument (Needs (IsMode mode) Mode
+    (Needs (HaveRoom sender receiver) Address (OrMemory IsDone)))
+
+-- of making a sealer or an opener under a key of n bytes
+abbrev pub NewAnswer : ℤ → ℕ → Type 0 → ℕ → ℕ → ℕ → ℕ → Type 0
+NewAnswer etype n IsWhole mode sender receiver =
+    NeedsKey etype n (SessionAnswer IsWhole mode sender receiver)
+
+-- of making a receiver that demands this number next
+abbrev pub ReceiverAnswer : ℕ → ℤ → ℕ → Type 0 → ℕ → ℕ → ℕ → ℕ → Type 0
+ReceiverAnswer expected etype n IsWhole mode sender receiver =
+    Needs (expected ≤ end_of_numbers) Argument (NewAnswer etype n IsWhole mode sender receiver)
+
+-- ---- without a key
+
+-- of reading a header
+abbrev pub HeaderAnswer : List ℕ → ℕ → Type 0
+HeaderAnswer frame =
+    Needs (length frame ≤ frame_limit) (Refused refusals.FieldTooLong)
+    (OrMemory (Needs ((m : Message) × Spells m frame) (Refused refusals.Malformed) IsDone))
+
+-- of writing the name or the text of an answer and a zero
+abbrev pub TextAnswer : (Fault → List ℕ) → List ℕ → ℕ → ℕ → ℕ → Type 0
+TextAnswer text ok number room code =
+    (((bytes : List ℕ) → IsTextOf text ok number bytes → ⊥) × (code ≡ fault_code Argument))
+    ⊎ ((bytes : List ℕ) × IsTextOf text ok number bytes
+    × Needs (length bytes < room) Room IsDone code)

@@ -15,10 +15,6 @@ pub record IsRecordOf (kind : ℕ) (body : List ℕ) (r : Record) (user : List �
   pub kind_is : kind ≡ number_of (kind_of r)
   pub body_is : user ≡ first_byte_of (kind_of r) ∷ body
 
--- nothing is such a record
-abbrev pub IsNoRecordOf : ℕ → List ℕ → Type 0
-IsNoRecordOf kind body = (r : Record) (user : List ℕ) → IsRecordOf kind body r user → ⊥
-
 -- the bytes seal such a record at the sealer's next number
 abbrev pub SealsRecord : SealerState → ℕ → List ℕ → ℕ → List ℕ → List ℕ → Type 0
 SealsRecord s kind body at conf frame =

@@ -1,12 +1,12 @@
 //! The answers by their numbers.
 
-ghost use Rattle.std.specs.Prelude.{◌≡◌, ◌+◌, ◌≤◌, ◌++◌, [], ◌∷◌, length, take, IfErr, IfOk, IfSome, OnErr, OnOk, None};
+ghost use Rattle.std.specs.Prelude.{◌≡◌, ◌+◌, ◌<◌, ◌++◌, [], ◌∷◌, length, take, IfOk, IfSome, OnErr, None};
 ghost use Rattle.krb_seal.specs.declared.refusal.Refusal.{Refusal as RefusalValue};
 ghost use Rattle.krb_seal.specs.Refusal.{code_of};
 ghost use Rattle.krb_structs.specs.declared.fault.Fault.{Fault as FaultValue};
-ghost use Rattle.krb_structs.specs.Fault.{fault_code};
+ghost use Rattle.krb_structs.specs.Fault.{IsDone, Needs, answer_of, fault_code};
 ghost use Rattle.krb_structs.specs.Answers.{IsWritten, name_of, ok_name, ok_text, refusal_text, text_of};
-ghost use Rattle.krb_structs.specs.Reasons.{TextReason};
+ghost use Rattle.krb_structs.specs.Reasons.{TextAnswer};
 
 use crate::buffer::put_front;
 use crate::fault::Fault;
@@ -16,7 +16,7 @@ use krb_seal::Refusal;
 pub fn name_into(code: u32, out: &mut [u8]) -> Result<usize, Fault>
     ensures named { IfOk result (λ size. IsWritten name_of ok_name code size out.new) }
     ensures kept { OnErr result (out.new ≡ out.old) }
-    ensures why { IfErr result (TextReason name_of ok_name code (length out.old)) }
+    ensures answer { TextAnswer name_of ok_name code (length out.old) (answer_of result) }
 {
     if code == 0 {
         return put_text(out, "OK");
@@ -29,7 +29,7 @@ pub fn name_into(code: u32, out: &mut [u8]) -> Result<usize, Fault>
 pub fn text_into(code: u32, out: &mut [u8]) -> Result<usize, Fault>
     ensures told { IfOk result (λ size. IsWritten text_of ok_text code size out.new) }
     ensures kept { OnErr result (out.new ≡ out.old) }
-    ensures why { IfErr result (TextReason text_of ok_text code (length out.old)) }
+    ensures answer { TextAnswer text_of ok_text code (length out.old) (answer_of result) }
 {
     if code == 0 {
         return put_text(out, "done");
@@ -43,8 +43,7 @@ fn put_text(out: &mut [u8], text: &str) -> Result<usize, Fault>
     ensures size { IfOk result (λ size. size ≡ length text.now) }
     ensures written { IfOk result (λ size. take (size + 1) out.new ≡ text.now ++ 0 ∷ []) }
     ensures kept { OnErr result (out.new ≡ out.old) }
-    ensures room { OnErr result (length out.old ≤ length text.now) }
-    ensures err { OnErr result (result ≡ Err Fault.Room) }
+    ensures answer { Needs (length text.now < length out.old) Fault.Room IsDone (answer_of result) }
 {
     let bytes = text.as_bytes();
     if out.len() <= bytes.len() {
@@ -74,6 +73,8 @@ impl Fault {
             Fault::Address => "ADDRESS",
             Fault::Argument => "ARGUMENT",
             Fault::Record => "RECORD",
+            Fault::Repeated => "REPEATED",
+            Fault::TooOld => "TOO_OLD",
         }
     }
 
@@ -95,6 +96,8 @@ impl Fault {
             Fault::Address => "an address has over 40 bytes",
             Fault::Argument => "an argument is out of its range",
             Fault::Record => "the texts are no record",
+            Fault::Repeated => "the number was taken before",
+            Fault::TooOld => "the number is too far below the highest that was taken",
         }
     }
 }
@@ -139,6 +142,8 @@ fn fault_at(code: u32) -> Option<Fault>
         911 => Fault::Address,
         912 => Fault::Argument,
         913 => Fault::Record,
+        917 => Fault::Repeated,
+        918 => Fault::TooOld,
         _ => return refusal_at(code),
     };
     Some(fault)

@@ -1,23 +1,24 @@
 //! A sealer whose frames fit.
 
 ghost use Rattle.std.specs.Prelude.{◌≡◌, ◌≤◌, ◌+◌, true, drop, length, take, IfErr, IfOk, OnOk, OnErr};
-ghost use Rattle.krb_structs.specs.Sealing.{CanSeal, SizesNext};
+ghost use Rattle.krb_structs.specs.Fault.{answer_of, fault_code};
 ghost use Rattle.krb_structs.specs.Moment.{micros_of};
-ghost use Rattle.krb_structs.specs.Reasons.{NewReason, RecordReason, SealReason, SizeReason};
+ghost use Rattle.krb_structs.specs.Reasons.{ModeAnswer, NewAnswer, RecordAnswer, SealAnswer, SizeAnswer};
 ghost use Rattle.krb_structs.specs.Record.{SealsRecord};
-ghost use Rattle.krb_structs.specs.Session.{IsMode, mode_of, session_of};
+ghost use Rattle.krb_structs.specs.Sealing.{CanPut, IsReady, SizesNext};
+ghost use Rattle.krb_structs.specs.Session.{IsSession, mode_of, session_of};
 ghost use Rattle.krb_seal.specs.Sealer.{SealsNext, advanced, end_of_numbers, in_mode, new_state, wiped_state};
 
 use crate::buffer::put_front;
 use crate::fault::Fault;
 use crate::moment::KrbMoment;
-use crate::record::record_of;
-use crate::room::frame_size;
+use crate::record::{kind_with, record_of};
 use crate::session::{KrbSession, mode, session, session_key};
 use crate::wipe::Wipe;
-use krb_base::USER_DATA_LIMIT;
+use krb_base::{LAST_NUMBER, USER_DATA_LIMIT};
+use krb_der::Moment;
 use krb_seal::{Refusal, Sealer, SessionSealer};
-use std::alloc::Global;
+use std::alloc::{AllocError, Global};
 use std::marker::Model;
 
 /// A sealer of any encryption type, whose session's addresses have at most 40 bytes each.
@@ -48,14 +49,17 @@ impl AnySealer {
     ) -> Result<Box<AnySealer>, Fault>
         ensures made { IfOk result (λ b.
             b.value ≡ new_state etype key.now (session_of told.now)) }
-        ensures why { IfErr result (NewReason etype (length key.now) told.now.mode
-            told.now.s_addr.len told.now.r_addr.len) }
+        ensures answer { NewAnswer etype (length key.now) (IsSession told.now) told.now.mode
+            told.now.sender.len told.now.receiver.len (answer_of result) }
     {
-        let session = session(alloc, told)?;
+        let key = session_key(etype, key)?;
         let sealer = AnySealer {
-            sealer: SessionSealer::new(session_key(etype, key)?, session),
+            sealer: SessionSealer::new(key, session(alloc, told)?),
         };
-        Box::new(alloc, sealer).map_err(|_| Fault::Refused(Refusal::Memory))
+        match Box::new(alloc, sealer) {
+            Ok(sealer) => Ok(sealer),
+            Err(_) => Err(Fault::Refused(Refusal::Memory)),
+        }
     }
 
     /// The next sequence number.
@@ -69,7 +73,7 @@ impl AnySealer {
     /// The size of the next frame with so many bytes of user data at a moment.
     pub fn next_size(&self, len: usize, at: &KrbMoment) -> Result<usize, Fault>
         ensures size { IfOk result (SizesNext self.now len at.now) }
-        ensures why { IfErr result (SizeReason len at.now) }
+        ensures answer { SizeAnswer len at.now (answer_of result) }
     {
         let at = at.moment()?;
         if len > USER_DATA_LIMIT {
@@ -78,8 +82,56 @@ impl AnySealer {
         Ok(self.sealer.frame_size(len, at))
     }
 
-    /// Seals into a buffer that has room for the frame of so much user data, and answers the frame's
-    /// size. What follows the frame stays, and so does the whole buffer if nothing is sealed.
+    /// Whether so much user data can be sealed at a moment into so much room, which takes no memory.
+    /// Answers the moment.
+    fn ready(&self, len: usize, at: &KrbMoment, room: usize) -> Result<Moment, Fault>
+        ensures value { IfOk result (λ m. m ≡ micros_of at.now) }
+        ensures ready { OnOk result (IsReady self.now len at.now room) }
+        ensures fails { IfErr result (λ f. SealAnswer self.now len at.now room (fault_code f)) }
+    {
+        let at = at.moment()?;
+        if self.sealer.is_wiped() {
+            return Err(Fault::Wiped);
+        }
+        if len > USER_DATA_LIMIT {
+            return Err(Fault::TooLong);
+        }
+        if self.sealer.next() > LAST_NUMBER {
+            return Err(Fault::Exhausted);
+        }
+        if self.sealer.frame_size(len, at) > room {
+            return Err(Fault::Room);
+        }
+        Ok(at)
+    }
+
+    /// Seals what is ready to be sealed: out of memory is the only fault.
+    fn put_sealed(
+        &mut self,
+        alloc: Global,
+        user: &[u8],
+        at: Moment,
+        confounder: &[u8; 16],
+        out: &mut [u8],
+    ) -> Result<usize, AllocError>
+        requires { CanPut self.old (length user.now) at (length out.old) }
+        ensures sealed { IfOk result (λ size. SealsNext self.old user.now at confounder.now
+            (take size out.new)) }
+        ensures size { IfOk result (λ size. size ≤ length out.new) }
+        ensures behind { IfOk result (λ size. drop size out.new ≡ drop size out.old) }
+        ensures advanced { OnOk result (self.new ≡ advanced self.old) }
+        ensures unchanged { OnErr result (self.new ≡ self.old) }
+        ensures kept { OnErr result (out.new ≡ out.old) }
+    {
+        let Ok(frame) = self.sealer.seal(alloc, user, at, *confounder) else {
+            return Err(AllocError);
+        };
+        put_front(out, &frame);
+        Ok(frame.len())
+    }
+
+    /// Seals into a buffer that has room for the frame, and answers its size. What follows the frame
+    /// stays, and so does the whole buffer if nothing is sealed.
     pub fn seal(
         &mut self,
         alloc: Global,
@@ -90,22 +142,16 @@ impl AnySealer {
     ) -> Result<usize, Fault>
         ensures sealed { IfOk result (λ size. SealsNext self.old user.now (micros_of at.now)
             confounder.now (take size out.new)) }
-        ensures ready { OnOk result (CanSeal self.old (length user.now) at.now) }
         ensures size { IfOk result (λ size. size ≤ length out.new) }
         ensures behind { IfOk result (λ size. drop size out.new ≡ drop size out.old) }
         ensures advanced { OnOk result (self.new ≡ advanced self.old) }
         ensures unchanged { OnErr result (self.new ≡ self.old) }
         ensures kept { OnErr result (out.new ≡ out.old) }
-        ensures why { IfErr result
-            (SealReason self.old (length user.now) at.now (length out.old)) }
+        ensures answer { SealAnswer self.old (length user.now) at.now (length out.old)
+            (answer_of result) }
     {
-        if out.len() < frame_size(user.len()) {
-            return Err(Fault::Room);
-        }
-        let at = at.moment()?;
-        let frame = self.sealer.seal(alloc, user, at, *confounder)?;
-        put_front(out, &frame);
-        Ok(frame.len())
+        let at = self.ready(user.len(), at, out.len())?;
+        Ok(self.put_sealed(alloc, user, at, confounder, out)?)
     }
 
     /// Seals the record of this kind whose bytes after the first are `body`, as [`AnySealer::seal`]
@@ -121,25 +167,25 @@ impl AnySealer {
     ) -> Result<usize, Fault>
         ensures sealed { IfOk result (λ size. SealsRecord self.old kind body.now
             (micros_of at.now) confounder.now (take size out.new)) }
-        ensures ready { OnOk result (CanSeal self.old (1 + length body.now) at.now) }
         ensures size { IfOk result (λ size. size ≤ length out.new) }
         ensures behind { IfOk result (λ size. drop size out.new ≡ drop size out.old) }
         ensures advanced { OnOk result (self.new ≡ advanced self.old) }
         ensures unchanged { OnErr result (self.new ≡ self.old) }
         ensures kept { OnErr result (out.new ≡ out.old) }
-        ensures why { IfErr result
-            (RecordReason self.old kind body.now at.now (length out.old)) }
+        ensures answer { RecordAnswer self.old kind body.now at.now (length out.old)
+            (answer_of result) }
     {
+        let kind = kind_with(kind, body)?;
+        let at = self.ready(1 + body.len(), at, out.len())?;
         let user = record_of(alloc, kind, body)?;
-        self.seal(alloc, user.as_slice(), at, confounder, out)
+        Ok(self.put_sealed(alloc, user.as_slice(), at, confounder, out)?)
     }
 
     /// Seals in the mode with this number from now on.
     pub fn set_mode(&mut self, number: u32) -> Result<(), Fault>
         ensures set { OnOk result (self.new ≡ in_mode self.old (mode_of number)) }
         ensures unchanged { OnErr result (self.new ≡ self.old) }
-        ensures none { OnErr result (¬ IsMode number) }
-        ensures err { OnErr result (result ≡ Err Fault.Mode) }
+        ensures answer { ModeAnswer number (answer_of result) }
     {
         self.sealer.set_mode(mode(number)?);
         Ok(())

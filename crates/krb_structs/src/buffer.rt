@@ -1,6 +1,6 @@
 //! Buffers that C lends.
 
-ghost use Rattle.std.specs.Prelude.{◌≡◌, ◌≤◌, ◌<◌, ◌++◌, length, take, drop, IfErr, IfOk, OnErr};
+ghost use Rattle.std.specs.Prelude.{◌≡◌, ◌≤◌, ◌<◌, ◌++◌, length, take, drop, IfErr, IfOk, OnErr, OnOk};
 
 use crate::fault::Fault;
 use krb_base::Secret;
@@ -20,6 +20,7 @@ pub fn put_within(out: &mut [u8], bytes: &[u8]) -> Result<usize, Fault>
     ensures size { IfOk result (λ size. size ≤ length out.new) }
     ensures behind { IfOk result (λ size. drop size out.new ≡ drop size out.old) }
     ensures kept { OnErr result (out.new ≡ out.old) }
+    ensures fits { OnOk result (length bytes.now ≤ length out.old) }
     ensures room { IfErr result (λ f. (f ≡ Fault.Room) × (length out.old < length bytes.now)) }
 {
     if out.len() < bytes.len() {
@@ -35,6 +36,7 @@ pub fn put_user_data(out: &mut [u8], user_data: &Secret) -> Result<usize, Fault>
     ensures size { IfOk result (λ size. size ≤ length out.new) }
     ensures behind { IfOk result (λ size. drop size out.new ≡ drop size out.old) }
     ensures kept { OnErr result (out.new ≡ out.old) }
+    ensures fits { OnOk result (length user_data.now ≤ length out.old) }
     ensures room { IfErr result (λ f. (f ≡ Fault.Room) × (length out.old < length user_data.now)) }
 {
     put_within(out, user_data.as_slice())

@@ -15,23 +15,23 @@ use krb_der::{Body, HostAddress};
 #[derive(Clone, Copy)]
 pub struct KrbCarried {
     /// The seconds of its time since 1970-01-01T00:00:00Z.
-    pub secs: u64,
+    pub seconds: u64,
     /// The microseconds of its time.
-    pub usec: u32,
-    /// Whether `secs` is present: 0 if it isn't.
-    pub has_secs: u32,
-    /// Whether `usec` is present: 0 if it isn't.
-    pub has_usec: u32,
+    pub microseconds: u32,
+    /// Whether `seconds` is present: 0 if it isn't.
+    pub has_seconds: u32,
+    /// Whether `microseconds` is present: 0 if it isn't.
+    pub has_microseconds: u32,
     /// Whether `number` is present: 0 if it isn't.
     pub has_number: u32,
     /// The sequence number.
     pub number: u32,
-    /// Whether `r_addr` is present: 0 if it isn't.
-    pub has_r: u32,
+    /// Whether `receiver` is present: 0 if it isn't.
+    pub has_receiver: u32,
     /// The sender's address.
-    pub s_addr: KrbAddress,
+    pub sender: KrbAddress,
     /// The receiver's address.
-    pub r_addr: KrbAddress,
+    pub receiver: KrbAddress,
     /// Zeros.
     pub reserved: [u32; 6],
 }
@@ -70,15 +70,15 @@ pub fn carried(body: &Body) -> KrbCarried
     ensures { result ≡ carried_of body.now }
 {
     KrbCarried {
-        secs: body.time.unwrap_or(0),
-        usec: body.usec.unwrap_or(0),
-        has_secs: u32::from(body.time.is_some()),
-        has_usec: u32::from(body.usec.is_some()),
+        seconds: body.time.unwrap_or(0),
+        microseconds: body.usec.unwrap_or(0),
+        has_seconds: u32::from(body.time.is_some()),
+        has_microseconds: u32::from(body.usec.is_some()),
         has_number: u32::from(body.seq.is_some()),
         number: body.seq.unwrap_or(0),
-        has_r: u32::from(body.r_addr.is_some()),
-        s_addr: c_address(&body.s_addr),
-        r_addr: told_address(&body.r_addr),
+        has_receiver: u32::from(body.r_addr.is_some()),
+        sender: c_address(&body.s_addr),
+        receiver: told_address(&body.r_addr),
         reserved: [0; 6],
     }
 }

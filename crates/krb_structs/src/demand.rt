@@ -1,14 +1,15 @@
 //! What a caller demands of an authentic message.
 
-ghost use Rattle.std.specs.Prelude.{◌≡◌, ◌↔◌, ◌≤◌, IsTrue, IfOk, OnOk};
+ghost use Rattle.std.specs.Prelude.{◌≡◌, ◌↔◌, ◌≤◌, length, IsTrue, IfErr, IfOk, OnOk, Err};
+ghost use Rattle.krb_base.specs.Limits.{frame_limit};
 ghost use Rattle.krb_der.specs.Body.{InRange};
 ghost use Rattle.krb_der.specs.Address.{same_address};
 ghost use Rattle.krb_seal.specs.Unseals.{first_unmet, refusal_of};
 ghost use Rattle.krb_seal.specs.Authentic.{AuthenticOrMemory};
 ghost use Rattle.krb_structs.specs.Session.{address_of, address_room};
-ghost use Rattle.krb_structs.specs.Demand.{AreShort, IsDemand, OpensWith, all_have_room, demand_checks, has_room, is_within, number_meets, receiver_meets, sender_meets, time_meets};
+ghost use Rattle.krb_structs.specs.Demand.{AreAddresses, AreHows, AreNumbers, AreShort, IsDemand, OpensWith, all_have_room, demand_checks, has_room, is_within, number_meets, receiver_meets, sender_meets, time_meets};
 
-use crate::session::{ADDRESS_ROOM, KrbAddress};
+use crate::session::{ADDRESS_ROOM, KrbAddress, are_zeros, is_no_address};
 use krb_base::Secret;
 use krb_der::{Body, HostAddress, MICROS_PER_SECOND};
 use krb_seal::{Opener, Refusal};
@@ -21,35 +22,59 @@ use std::alloc::Global;
 #[derive(Clone, Copy)]
 pub struct KrbDemand {
     /// How the sender's address is demanded.
-    pub sender: u32,
+    pub how_sender: u32,
     /// How the receiver's address is demanded.
-    pub receiver: u32,
+    pub how_receiver: u32,
     /// How the time is demanded.
-    pub time: u32,
+    pub how_time: u32,
     /// How the sequence number is demanded.
-    pub number: u32,
-    /// The sequence number, where one is demanded.
-    pub expected: u64,
-    /// How many seconds the time may be off, where one is demanded.
+    pub how_number: u32,
+    /// The sequence number, where one is demanded; else 0.
+    pub number: u64,
+    /// How many seconds the time may be off, where one is demanded; else 0.
     pub skew: u32,
-    /// The sender's address, where one is demanded.
-    pub s_addr: KrbAddress,
-    /// The receiver's address, where one is demanded.
-    pub r_addr: KrbAddress,
+    /// The sender's address, where one is demanded; else zeros.
+    pub sender: KrbAddress,
+    /// The receiver's address, where one is demanded; else zeros.
+    pub receiver: KrbAddress,
     /// Zeros.
     pub reserved: [u32; 5],
 }
 
-/// Whether the demands are ones that there are, and their addresses fit.
+/// Whether the demands are ones that there are.
+fn are_hows(demand: &KrbDemand) -> bool
+    ensures { IsTrue result ↔ AreHows demand.now }
+{
+    demand.how_sender <= 2
+        && demand.how_receiver <= 2
+        && demand.how_time <= 2
+        && demand.how_number <= 3
+}
+
+/// Whether the addresses fit, and are zeros where none is demanded.
+fn are_addresses(demand: &KrbDemand) -> bool
+    ensures { IsTrue result ↔ AreAddresses demand.now }
+{
+    demand.sender.len as usize <= ADDRESS_ROOM
+        && demand.receiver.len as usize <= ADDRESS_ROOM
+        && (demand.how_sender != 0 || is_no_address(&demand.sender))
+        && (demand.how_receiver != 0 || is_no_address(&demand.receiver))
+}
+
+/// Whether the other fields are 0 where they aren't read.
+fn are_numbers(demand: &KrbDemand) -> bool
+    ensures { IsTrue result ↔ AreNumbers demand.now }
+{
+    (demand.how_time != 0 || demand.skew == 0)
+        && (demand.how_number != 0 || demand.number == 0)
+        && are_zeros(&demand.reserved)
+}
+
+/// Whether it is a demand: its values are ones that there are, and what isn't read is zeros.
 pub fn is_demand(demand: &KrbDemand) -> bool
     ensures { IsTrue result ↔ IsDemand demand.now }
 {
-    demand.sender <= 2
-        && demand.receiver <= 2
-        && demand.time <= 2
-        && demand.number <= 3
-        && demand.s_addr.len as usize <= ADDRESS_ROOM
-        && demand.r_addr.len as usize <= ADDRESS_ROOM
+    are_hows(demand) && are_addresses(demand) && are_numbers(demand)
 }
 
 fn has_room(address: &HostAddress) -> bool
@@ -81,7 +106,7 @@ fn sender_meets(demand: &KrbDemand, sender: &HostAddress) -> bool
     requires { IsDemand demand.now }
     ensures { result ≡ sender_meets demand.now sender.now }
 {
-    demand.sender == 0 || is_address(sender, &demand.s_addr)
+    demand.how_sender == 0 || is_address(sender, &demand.sender)
 }
 
 fn receiver_meets(demand: &KrbDemand, receiver: &Option<HostAddress>) -> bool
@@ -89,8 +114,8 @@ fn receiver_meets(demand: &KrbDemand, receiver: &Option<HostAddress>) -> bool
     ensures { result ≡ receiver_meets demand.now receiver.now }
 {
     match receiver {
-        None => demand.receiver != 2,
-        Some(address) => demand.receiver == 0 || is_address(address, &demand.r_addr),
+        None => demand.how_receiver != 2,
+        Some(address) => demand.how_receiver == 0 || is_address(address, &demand.receiver),
     }
 }
 
@@ -103,7 +128,7 @@ fn is_within(demand: &KrbDemand, now: u64, body: &Body) -> bool
             let at = MICROS_PER_SECOND * secs + u64::from(usec);
             now.abs_diff(at) <= MICROS_PER_SECOND * u64::from(demand.skew)
         }
-        (None, None) => demand.time != 2,
+        (None, None) => demand.how_time != 2,
         (Some(_), None) => false,
         (None, Some(_)) => false,
     }
@@ -113,15 +138,15 @@ fn time_meets(demand: &KrbDemand, now: u64, body: &Body) -> bool
     requires { InRange body.now }
     ensures { result ≡ time_meets demand.now now body.now }
 {
-    demand.time == 0 || is_within(demand, now, body)
+    demand.how_time == 0 || is_within(demand, now, body)
 }
 
 fn number_meets(demand: &KrbDemand, seq: Option<u32>) -> bool
     ensures { result ≡ number_meets demand.now seq }
 {
     match seq {
-        None => demand.number != 2 && (demand.number != 3 || demand.expected == 0),
-        Some(n) => demand.number == 0 || u64::from(n) == demand.expected,
+        None => demand.how_number != 2 && (demand.how_number != 3 || demand.number == 0),
+        Some(n) => demand.how_number == 0 || u64::from(n) == demand.number,
     }
 }
 
@@ -131,6 +156,7 @@ fn check_demand(demand: &KrbDemand, now: u64, body: &Body) -> Result<(), Refusal
     requires range { InRange body.now }
     ensures checks { first_unmet (demand_checks demand.now now body.now) ≡ refusal_of result }
     ensures short { OnOk result (AreShort body.now.s_addr body.now.r_addr) }
+    ensures memory { IfErr result (λ r. ¬ (r ≡ Refusal.Memory)) }
 {
     if !all_have_room(&body.s_addr, &body.r_addr) {
         return Err(Refusal::BadAddr);
@@ -164,6 +190,8 @@ pub fn open_body(
     requires { IsDemand demand.now }
     ensures answer { AuthenticOrMemory (OpensWith opener.now demand.now now frame.now) result }
     ensures short { IfOk result (λ b. AreShort b.s_addr b.r_addr) }
+    // A frame over the limit is refused before anything is allocated.
+    ensures memory { result ≡ Err Refusal.Memory → length frame.now ≤ frame_limit }
 {
     let body = opener.authenticate(alloc, frame)?;
     match check_demand(demand, now, &body) {

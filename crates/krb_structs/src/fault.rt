@@ -1,8 +1,7 @@
 //! What an export answers.
 
-ghost use Rattle.std.specs.Prelude.{◌≡◌, Ok, Err};
-ghost use Rattle.krb_structs.specs.declared.fault.Fault.{Fault as FaultValue};
-ghost use Rattle.krb_structs.specs.Fault.{fault_code};
+ghost use Rattle.std.specs.Prelude.{◌≡◌, Ok};
+ghost use Rattle.krb_structs.specs.Fault.{answer_of, fault_code};
 
 use krb_seal::{Refusal, SealError};
 use std::alloc::AllocError;
@@ -36,6 +35,10 @@ pub enum Fault {
     Argument,
     /// 913: the texts are no record.
     Record,
+    /// 917: the number was taken before.
+    Repeated,
+    /// 918: the number is too far below the highest that was taken.
+    TooOld,
 }
 
 impl Fault {
@@ -58,14 +61,16 @@ impl Fault {
             Fault::Address => 911,
             Fault::Argument => 912,
             Fault::Record => 913,
+            Fault::Repeated => 917,
+            Fault::TooOld => 918,
         }
     }
 }
 
 /// Tells a size and answers 0, or answers the number of the fault and tells nothing.
 pub fn answer(size: &mut usize, made: Result<usize, Fault>) -> u32
+    ensures answer { result ≡ answer_of made }
     ensures told { result ≡ 0 → made ≡ Ok size.new }
-    ensures fault { ¬ (result ≡ 0) → (f : FaultValue) × (made ≡ Err f) × (result ≡ fault_code f) }
     ensures untold { ¬ (result ≡ 0) → size.new ≡ size.old }
 {
     match made {

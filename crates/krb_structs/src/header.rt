@@ -1,8 +1,9 @@
 //! What a message says of itself before any key is chosen.
 
-ghost use Rattle.std.specs.Prelude.{◌≡◌, IfOk, IfErr};
+ghost use Rattle.std.specs.Prelude.{◌≡◌, IfOk};
 ghost use Rattle.krb_structs.specs.Header.{ReadsHeader, header_of_priv, header_of_safe};
-ghost use Rattle.krb_structs.specs.Reasons.{HeaderReason};
+ghost use Rattle.krb_structs.specs.Fault.{answer_of};
+ghost use Rattle.krb_structs.specs.Reasons.{HeaderAnswer};
 
 use crate::fault::Fault;
 use krb_der::{DerError, Message, PrivMsg, SafeMsg, decode};
@@ -64,7 +65,7 @@ fn priv_header(m: &PrivMsg) -> KrbHeader
 /// What the message that the bytes spell says of itself.
 pub fn message_header(alloc: Global, frame: &[u8]) -> Result<KrbHeader, Fault>
     ensures read { IfOk result (ReadsHeader frame.now) }
-    ensures why { IfErr result (HeaderReason frame.now) }
+    ensures answer { HeaderAnswer frame.now (answer_of result) }
 {
     match decode(alloc, frame) {
         Ok(Message::Safe(m)) => Ok(safe_header(&m)),

@@ -1,11 +1,12 @@
 //! What takes the frames of one sender, one number after another.
 
-ghost use Rattle.std.specs.Prelude.{◌≡◌, ◌≤◌, length, drop, take, IfErr, IfOk, OnErr, OnOk, Some};
+ghost use Rattle.std.specs.Prelude.{◌≡◌, ◌≤◌, length, drop, take, IfOk, OnErr, Some};
 ghost use Rattle.krb_seal.specs.Opens.{opener_of};
-ghost use Rattle.krb_structs.specs.Moment.{IsMoment, micros_of};
-ghost use Rattle.krb_structs.specs.Reasons.{ReceiverReason, TakeFault};
+ghost use Rattle.krb_structs.specs.Fault.{answer_of};
+ghost use Rattle.krb_structs.specs.Moment.{micros_of};
+ghost use Rattle.krb_structs.specs.Reasons.{ReceiverAnswer, TakeAnswer};
 ghost use Rattle.krb_structs.specs.Record.{Accepts};
-ghost use Rattle.krb_structs.specs.Session.{expect_of};
+ghost use Rattle.krb_structs.specs.Session.{IsExpect, expect_of};
 ghost use Rattle.krb_structs.specs.Wipeable.{IsWipedReceiver};
 
 use crate::buffer::put_within;
@@ -47,18 +48,21 @@ impl LaneReceiver {
             b.value.opener ≡ opener_of etype key.now (expect_of told.now)) }
         ensures expected { IfOk result (λ b. b.value.demand.expected ≡ expected) }
         ensures closed { IfOk result (λ b. b.value.demand.closed ≡ closed) }
-        ensures why { IfErr result (ReceiverReason etype (length key.now) told.now.mode
-            told.now.s_addr.len told.now.r_addr.len expected) }
+        ensures answer { ReceiverAnswer expected etype (length key.now) (IsExpect told.now)
+            told.now.mode told.now.sender.len told.now.receiver.len (answer_of result) }
     {
         if expected > LAST_NUMBER + 1 {
             return Err(Fault::Argument);
         }
-        let expect = expectation(alloc, told)?;
-        let opener = Opener::new(session_key(etype, key)?, expect);
+        let key = session_key(etype, key)?;
+        let opener = Opener::new(key, expectation(alloc, told)?);
         let receiver = LaneReceiver {
             receiver: Receiver::resume(opener, expected, closed),
         };
-        Box::new(alloc, receiver).map_err(|_| Fault::Refused(Refusal::Memory))
+        match Box::new(alloc, receiver) {
+            Ok(receiver) => Ok(receiver),
+            Err(_) => Err(Fault::Refused(Refusal::Memory)),
+        }
     }
 
     /// The number that is demanded next: at most one over the last, which no message has.
@@ -87,12 +91,12 @@ impl LaneReceiver {
     ) -> Result<(u32, usize), Fault>
         ensures accepted { IfOk result (λ taken. Accepts self.old (micros_of at.now) frame.now
             taken.0 (take taken.1 out.new) self.new) }
-        ensures moment { OnOk result (IsMoment at.now) }
         ensures size { IfOk result (λ taken. taken.1 ≤ length out.new) }
         ensures behind { IfOk result (λ taken. drop taken.1 out.new ≡ drop taken.1 out.old) }
         ensures unchanged { OnErr result (self.new ≡ self.old) }
         ensures kept { OnErr result (out.new ≡ out.old) }
-        ensures why { IfErr result (TakeFault (Some self.old) at.now frame.now (length out.old)) }
+        ensures answer { TakeAnswer (Some self.old) at.now frame.now (length out.old)
+            (answer_of result) }
     {
         let now = at.moment()?;
         let opened = self.receiver.open(alloc, frame, now)?;

@@ -1,8 +1,9 @@
 //! Moments as C writes them.
 
-ghost use Rattle.std.specs.Prelude.{◌≡◌, IfOk, OnErr, OnOk};
-ghost use Rattle.krb_structs.specs.Moment.{IsMoment, micros_of};
-ghost use Rattle.krb_structs.specs.Reasons.{IsNoMoment};
+ghost use Rattle.std.specs.Prelude.{◌≡◌, IfOk};
+ghost use Rattle.krb_structs.specs.Fault.{IsDone, answer_of};
+ghost use Rattle.krb_structs.specs.Moment.{micros_of};
+ghost use Rattle.krb_structs.specs.Reasons.{NeedsMoment};
 
 use crate::fault::Fault;
 use krb_der::Moment;
@@ -12,9 +13,9 @@ use krb_der::Moment;
 #[derive(Clone, Copy)]
 pub struct KrbMoment {
     /// The seconds since 1970-01-01T00:00:00Z.
-    pub secs: u64,
+    pub seconds: u64,
     /// The microseconds after that second, below a million.
-    pub usec: u32,
+    pub microseconds: u32,
     /// Zero.
     pub reserved: u32,
 }
@@ -23,10 +24,14 @@ impl KrbMoment {
     /// The moment in Rattle's type.
     pub fn moment(&self) -> Result<Moment, Fault>
         ensures value { IfOk result (λ m. m ≡ micros_of self.now) }
-        ensures some { OnOk result (IsMoment self.now) }
-        ensures none { OnErr result (IsNoMoment self.now) }
-        ensures err { OnErr result (result ≡ Err Fault.Moment) }
+        ensures answer { NeedsMoment self.now IsDone (answer_of result) }
     {
-        Moment::new(self.secs, self.usec).ok_or(Fault::Moment)
+        if self.reserved != 0 {
+            return Err(Fault::Argument);
+        }
+        match Moment::new(self.seconds, self.microseconds) {
+            Some(moment) => Ok(moment),
+            None => Err(Fault::Moment),
+        }
     }
 }

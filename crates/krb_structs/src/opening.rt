@@ -2,8 +2,9 @@
 
 ghost use Rattle.std.specs.Prelude.{◌≡◌, ◌≤◌, ℕ, drop, length, take, IfErr, IfOk, OnErr, OnOk, Ok, Some};
 ghost use Rattle.krb_structs.specs.Opening.{GivesTo, OpensTo};
-ghost use Rattle.krb_structs.specs.Moment.{IsMoment, micros_of};
-ghost use Rattle.krb_structs.specs.Reasons.{DemandFault, OpenFault};
+ghost use Rattle.krb_structs.specs.Fault.{answer_of, fault_code};
+ghost use Rattle.krb_structs.specs.Moment.{IsTimed, micros_of};
+ghost use Rattle.krb_structs.specs.Reasons.{DemandAnswer, OpenAnswer};
 ghost use Rattle.krb_structs.specs.Unseals.{UnsealsInto};
 
 use crate::buffer::put_user_data;
@@ -27,10 +28,10 @@ fn unsealed(
 ) -> Result<Secret, Fault>
     ensures opened { IfOk result (λ user. OpensTo (Some opener.now) number (micros_of at.now)
         frame.now (Ok user)) }
-    ensures moment { OnOk result (IsMoment at.now) }
-    // Whatever room a buffer has: it is too small in none of the reasons.
-    ensures why { (room : ℕ) → IfErr result
-        (OpenFault (Some opener.now) number at.now frame.now room) }
+    ensures ready { OnOk result (IsTimed at.now) }
+    // Whatever room a buffer has.
+    ensures fails { (room : ℕ) → IfErr result (λ f.
+        OpenAnswer (Some opener.now) number at.now frame.now room (fault_code f)) }
 {
     let opener = opener.live()?;
     let now = at.moment()?;
@@ -83,20 +84,19 @@ pub fn open_into(
 ) -> Result<usize, Fault>
     ensures opened { IfOk result (λ size. GivesTo (Some opener.now) demand.now (micros_of at.now)
         frame.now (take size out.new) told.new) }
-    ensures moment { OnOk result (IsMoment at.now) }
     ensures size { IfOk result (λ size. size ≤ length out.new) }
     ensures behind { IfOk result (λ size. drop size out.new ≡ drop size out.old) }
     ensures kept { OnErr result (out.new ≡ out.old) }
     ensures untold { OnErr result (told.new ≡ told.old) }
-    ensures why { IfErr result
-        (DemandFault (Some opener.now) demand.now at.now frame.now (length out.old)) }
+    ensures answer { DemandAnswer (Some opener.now) demand.now at.now frame.now (length out.old)
+        (answer_of result) }
 {
     let opener = opener.live()?;
-    let moment = at.moment()?;
-    let now = moment.micros();
     if !is_demand(demand) {
         return Err(Fault::Argument);
     }
+    let moment = at.moment()?;
+    let now = moment.micros();
     let body = open_body(alloc, opener, frame, demand, now)?;
     let carried = carried(&body);
     let Body { user_data, .. } = body;

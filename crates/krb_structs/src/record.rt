@@ -1,55 +1,44 @@
 //! Records as C sees them: the number of one's kind, and its bytes after the first.
 
-ghost use Rattle.std.specs.Prelude.{◌≡◌, ◌<◌, ◌⊎◌, ◌∷◌, length, IfErr, IfOk};
+ghost use Rattle.std.specs.Prelude.{◌≡◌, ◌<◌, ◌∷◌, length, IfOk, OnOk};
 ghost use Rattle.krb_base.specs.Limits.{user_data_limit};
 ghost use Rattle.krb_record.specs.declared.record.Record.{Record as RecordValue};
-ghost use Rattle.krb_record.specs.Record.{kind_of, number_of};
-ghost use Rattle.krb_peers.specs.Verdicts.{IsNoRecord};
-ghost use Rattle.krb_structs.specs.Record.{IsNoRecordOf, IsRecordOf};
+ghost use Rattle.krb_record.specs.Record.{first_byte_of};
+ghost use Rattle.krb_structs.specs.Fault.{IsDone, Needs, answer_of};
+ghost use Rattle.krb_structs.specs.Reasons.{HasRecord};
+ghost use Rattle.krb_structs.specs.Record.{IsRecordOf};
 
 use crate::fault::Fault;
-use krb_base::{Secret, USER_DATA_LIMIT};
+use krb_base::Secret;
 use krb_peers::RecordKind;
 use krb_record::record_laws;
-use krb_seal::Refusal;
 use std::alloc::{AllocError, Global};
 
-/// The kind of the record that the bytes are, and what follows their first. Nothing is allocated.
-pub fn record_kind(bytes: &[u8]) -> Result<(RecordKind, &[u8]), Refusal>
-    ensures ok { IfOk result (λ found. (r : RecordValue) × (found.0 ≡ kind_of r)
-        × IsRecordOf (number_of found.0) found.1.now r bytes.now) }
-    ensures why { IfErr result (λ e. (e ≡ Refusal.BadRecord) × IsNoRecord bytes.now) }
+/// The kind with this number, if a record of it has these bytes after its first. Nothing is allocated.
+pub fn kind_with(number: u32, body: &[u8]) -> Result<RecordKind, Fault>
+    ensures ok { IfOk result (λ kind. (r : RecordValue)
+        × IsRecordOf number body.now r (first_byte_of kind ∷ body.now)) }
+    ensures short { OnOk result (length body.now < user_data_limit) }
+    ensures answer { Needs (HasRecord number body.now) Fault.Record IsDone (answer_of result) }
 {
-    let Some(kind) = RecordKind::of(bytes) else {
-        return Err(Refusal::BadRecord);
-    };
-    let Some((_, body)) = bytes.split_first() else {
-        return Err(Refusal::BadRecord);
-    };
-    Ok((kind, body))
-}
-
-/// The user data of a record of the kind with this number, whose bytes after the first are `body`.
-/// Nothing is allocated for more bytes than a record may have. The block is overwritten before it is
-/// freed.
-pub fn record_of(alloc: Global, number: u32, body: &[u8]) -> Result<Secret, Fault>
-    ensures ok { IfOk result (λ user. (r : RecordValue)
-        × IsRecordOf number body.now r user) }
-    ensures why { IfErr result (λ f. ((f ≡ Fault.Record) × IsNoRecordOf number body.now)
-        ⊎ (f ≡ Fault.Refused Refusal.Memory)) }
-{
+    record_laws();
     let Some(kind) = RecordKind::from_number(number) else {
         return Err(Fault::Record);
     };
-    record_laws();
-    if body.len() >= USER_DATA_LIMIT {
-        return Err(Fault::Record);
+    if kind.has(body) {
+        Ok(kind)
+    } else {
+        Err(Fault::Record)
     }
-    let user = with_first(alloc, kind.first_byte(), body)?;
-    match record_kind(user.as_slice()) {
-        Ok((found, _)) if found == kind => Ok(user),
-        Ok(_) | Err(_) => Err(Fault::Record),
-    }
+}
+
+/// The user data of a record of this kind, whose bytes after the first are `body`. The block is
+/// overwritten before it is freed.
+pub fn record_of(alloc: Global, kind: RecordKind, body: &[u8]) -> Result<Secret, AllocError>
+    requires { length body.now < user_data_limit }
+    ensures { IfOk result (λ user. user ≡ first_byte_of kind ∷ body.now) }
+{
+    with_first(alloc, kind.first_byte(), body)
 }
 
 /// The bytes with this one before them, in a block of their size.

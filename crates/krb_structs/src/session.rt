@@ -1,15 +1,16 @@
 //! Sessions as C writes them.
 
-ghost use Rattle.std.specs.Prelude.{◌≡◌, length, IfErr, IfOk, OnErr};
+ghost use Rattle.std.specs.Prelude.{◌≡◌, ◌≤◌, ◌↔◌, length, IfOk, IsTrue};
 ghost use Rattle.krb_etype.specs.Etype.{number_of};
 ghost use Rattle.krb_seal.specs.Session.{HasShortAddresses, IsShortAddress};
-ghost use Rattle.krb_structs.specs.Session.{IsMode, address_of, expect_of, mode_of, session_of};
-ghost use Rattle.krb_structs.specs.Reasons.{AddressReason, KeyReason, SessionReason};
+ghost use Rattle.krb_structs.specs.Fault.{IsDone, answer_of};
+ghost use Rattle.krb_structs.specs.Session.{AreZeros, HaveRoom, IsExpect, IsNoAddress, IsSession, address_of, address_room, expect_of, mode_of, session_of};
+ghost use Rattle.krb_structs.specs.Reasons.{ModeAnswer, NeedsKey, SessionAnswer};
 
 use crate::fault::Fault;
 use krb_der::HostAddress;
 use krb_seal::{Etype, Expect, Mode, Session, SessionKey};
-use std::alloc::Global;
+use std::alloc::{AllocError, Global};
 
 /// How many bytes of an address there is room for.
 pub const ADDRESS_ROOM: usize = 40;
@@ -35,11 +36,11 @@ pub struct KrbSession {
     /// The first sequence number.
     pub first: u32,
     /// The sender's address.
-    pub s_addr: KrbAddress,
+    pub sender: KrbAddress,
     /// Whether the messages tell the receiver's address: 0 if they don't.
-    pub has_r: u32,
-    /// The receiver's address, where they do.
-    pub r_addr: KrbAddress,
+    pub has_receiver: u32,
+    /// The receiver's address, where they do; else zeros.
+    pub receiver: KrbAddress,
     /// Zeros.
     pub reserved: [u32; 5],
 }
@@ -51,37 +52,60 @@ pub struct KrbExpect {
     /// 20 for KRB-SAFE, 21 for KRB-PRIV.
     pub mode: u32,
     /// The sender's address.
-    pub s_addr: KrbAddress,
+    pub sender: KrbAddress,
     /// The receiver's address.
-    pub r_addr: KrbAddress,
+    pub receiver: KrbAddress,
     /// Whether a message must tell the receiver's address: 0 if it need not.
-    pub require_r: u32,
+    pub require_receiver: u32,
     /// Whether a message must tell its time: 0 if it need not.
-    pub expect_time: u32,
+    pub require_time: u32,
     /// How many seconds a message's time may be off.
     pub skew: u32,
     /// Zeros.
     pub reserved: [u32; 4],
 }
 
+/// Whether each number is 0.
+pub fn are_zeros(numbers: &[u32]) -> bool
+    ensures { IsTrue result ↔ AreZeros numbers.now }
+{
+    numbers.iter().all(|number| *number == 0)
+}
+
+/// Whether all of an address is zeros.
+pub fn is_no_address(address: &KrbAddress) -> bool
+    ensures { IsTrue result ↔ IsNoAddress address.now }
+{
+    address.kind == 0 && address.len == 0 && address.bytes.iter().all(|byte| *byte == 0)
+}
+
+/// Whether what isn't read of a session is zeros.
+fn is_session(session: &KrbSession) -> bool
+    ensures { IsTrue result ↔ IsSession session.now }
+{
+    are_zeros(&session.reserved) && (session.has_receiver != 0 || is_no_address(&session.receiver))
+}
+
+/// Whether both addresses have room.
+fn have_room(sender: &KrbAddress, receiver: &KrbAddress) -> bool
+    ensures { IsTrue result ↔ HaveRoom sender.now.len receiver.now.len }
+{
+    sender.len as usize <= ADDRESS_ROOM && receiver.len as usize <= ADDRESS_ROOM
+}
+
 /// The address, whose bytes are copied.
-fn host_address(alloc: Global, address: &KrbAddress) -> Result<HostAddress, Fault>
+fn host_address(alloc: Global, address: &KrbAddress) -> Result<HostAddress, AllocError>
+    requires { address.now.len ≤ address_room }
     ensures value { IfOk result (λ a. a ≡ address_of address.now) }
     ensures short { IfOk result IsShortAddress }
-    ensures why { IfErr result (AddressReason address.now.len) }
 {
-    if address.len as usize > ADDRESS_ROOM {
-        return Err(Fault::Address);
-    }
-    let bytes = &address.bytes[..address.len as usize];
-    Ok(HostAddress::new(alloc, address.kind, bytes)?)
+    HostAddress::new(alloc, address.kind, &address.bytes[..address.len as usize])
 }
 
 /// The mode with this number.
 pub fn mode(number: u32) -> Result<Mode, Fault>
     ensures value { IfOk result (λ m. m ≡ mode_of number) }
-    ensures none { OnErr result (¬ IsMode number) }
-    ensures err { OnErr result (result ≡ Err Fault.Mode) }
+    ensures answer { ModeAnswer number (answer_of result) }
 {
     match number {
         20 => Ok(Mode::Safe),
@@ -90,19 +114,25 @@ pub fn mode(number: u32) -> Result<Mode, Fault>
     }
 }
 
-/// The session that C wrote.
+/// The session that C wrote. All is checked before anything is allocated.
 pub fn session(alloc: Global, session: &KrbSession) -> Result<Session, Fault>
     ensures value { IfOk result (λ s. s ≡ session_of session.now) }
     ensures short { IfOk result HasShortAddresses }
-    ensures why { IfErr result
-        (SessionReason session.now.mode session.now.s_addr.len session.now.r_addr.len) }
+    ensures answer { SessionAnswer (IsSession session.now) session.now.mode
+        session.now.sender.len session.now.receiver.len (answer_of result) }
 {
+    if !is_session(session) {
+        return Err(Fault::Argument);
+    }
     let mode = mode(session.mode)?;
-    let s_addr = host_address(alloc, &session.s_addr)?;
-    let r_addr = if session.has_r == 0 {
+    if !have_room(&session.sender, &session.receiver) {
+        return Err(Fault::Address);
+    }
+    let s_addr = host_address(alloc, &session.sender)?;
+    let r_addr = if session.has_receiver == 0 {
         None
     } else {
-        Some(host_address(alloc, &session.r_addr)?)
+        Some(host_address(alloc, &session.receiver)?)
     };
     Ok(Session {
         mode,
@@ -112,18 +142,25 @@ pub fn session(alloc: Global, session: &KrbSession) -> Result<Session, Fault>
     })
 }
 
-/// The demands that C wrote.
+/// The demands that C wrote. All is checked before anything is allocated.
 pub fn expectation(alloc: Global, expect: &KrbExpect) -> Result<Expect, Fault>
     ensures value { IfOk result (λ x. x ≡ expect_of expect.now) }
-    ensures why { IfErr result
-        (SessionReason expect.now.mode expect.now.s_addr.len expect.now.r_addr.len) }
+    ensures answer { SessionAnswer (IsExpect expect.now) expect.now.mode
+        expect.now.sender.len expect.now.receiver.len (answer_of result) }
 {
+    if !are_zeros(&expect.reserved) {
+        return Err(Fault::Argument);
+    }
+    let mode = mode(expect.mode)?;
+    if !have_room(&expect.sender, &expect.receiver) {
+        return Err(Fault::Address);
+    }
     Ok(Expect {
-        mode: mode(expect.mode)?,
-        s_addr: host_address(alloc, &expect.s_addr)?,
-        r_addr: host_address(alloc, &expect.r_addr)?,
-        require_r: expect.require_r != 0,
-        expect_time: expect.expect_time != 0,
+        mode,
+        s_addr: host_address(alloc, &expect.sender)?,
+        r_addr: host_address(alloc, &expect.receiver)?,
+        require_r: expect.require_receiver != 0,
+        expect_time: expect.require_time != 0,
         skew: expect.skew,
     })
 }
@@ -132,8 +169,13 @@ pub fn expectation(alloc: Global, expect: &KrbExpect) -> Result<Expect, Fault>
 pub fn session_key(etype: i32, key: &[u8]) -> Result<SessionKey, Fault>
     ensures etype { IfOk result (λ k. number_of k.etype ≡ etype) }
     ensures bytes { IfOk result (λ k. k.bytes ≡ key.now) }
-    ensures why { IfErr result (KeyReason etype (length key.now)) }
+    ensures answer { NeedsKey etype (length key.now) IsDone (answer_of result) }
 {
-    let etype = Etype::from_number(etype).ok_or(Fault::Etype)?;
-    SessionKey::copy_of(etype, key).ok_or(Fault::KeySize)
+    let Some(etype) = Etype::from_number(etype) else {
+        return Err(Fault::Etype);
+    };
+    match SessionKey::copy_of(etype, key) {
+        Some(key) => Ok(key),
+        None => Err(Fault::KeySize),
+    }
 }

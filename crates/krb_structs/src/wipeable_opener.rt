@@ -1,9 +1,10 @@
 //! An opener whose keys can be overwritten where they lie.
 
-ghost use Rattle.std.specs.Prelude.{◌≡◌, length, IfErr, IfOk, OnErr, None, Some};
+ghost use Rattle.std.specs.Prelude.{◌≡◌, length, IfOk, OnErr, None, Some};
 ghost use Rattle.krb_seal.specs.Opens.{opener_of};
-ghost use Rattle.krb_structs.specs.Reasons.{NewReason};
-ghost use Rattle.krb_structs.specs.Session.{expect_of};
+ghost use Rattle.krb_structs.specs.Fault.{answer_of};
+ghost use Rattle.krb_structs.specs.Reasons.{NewAnswer};
+ghost use Rattle.krb_structs.specs.Session.{IsExpect, expect_of};
 
 use crate::fault::Fault;
 use crate::session::{KrbExpect, expectation, session_key};
@@ -43,15 +44,18 @@ impl WipeableOpener {
     ) -> Result<Box<WipeableOpener>, Fault>
         ensures made { IfOk result (λ b.
             b.value ≡ Some (opener_of etype key.now (expect_of told.now))) }
-        ensures why { IfErr result (NewReason etype (length key.now) told.now.mode
-            told.now.s_addr.len told.now.r_addr.len) }
+        ensures answer { NewAnswer etype (length key.now) (IsExpect told.now) told.now.mode
+            told.now.sender.len told.now.receiver.len (answer_of result) }
     {
-        let expect = expectation(alloc, told)?;
+        let key = session_key(etype, key)?;
         let opener = WipeableOpener {
-            opener: Opener::new(session_key(etype, key)?, expect),
+            opener: Opener::new(key, expectation(alloc, told)?),
             wiped: false,
         };
-        Box::new(alloc, opener).map_err(|_| Fault::Refused(Refusal::Memory))
+        match Box::new(alloc, opener) {
+            Ok(opener) => Ok(opener),
+            Err(_) => Err(Fault::Refused(Refusal::Memory)),
+        }
     }
 
     /// The opener, unless it was wiped.

@@ -40,8 +40,8 @@ const PRIV_18: [u8; 112] = [
 ];
 
 const AT: KrbMoment = KrbMoment {
-    secs: SECS,
-    usec: 5,
+    seconds: SECS,
+    microseconds: 5,
     reserved: 0,
 };
 
@@ -60,9 +60,9 @@ fn session(mode: u32) -> KrbSession {
     KrbSession {
         mode,
         first: 7,
-        s_addr: host(1),
-        has_r: 0,
-        r_addr: host(255),
+        sender: host(1),
+        has_receiver: 0,
+        receiver: NO_ADDRESS,
         reserved: [0; 5],
     }
 }
@@ -70,10 +70,10 @@ fn session(mode: u32) -> KrbSession {
 fn expect(mode: u32) -> KrbExpect {
     KrbExpect {
         mode,
-        s_addr: host(1),
-        r_addr: host(255),
-        require_r: 0,
-        expect_time: 1,
+        sender: host(1),
+        receiver: host(255),
+        require_receiver: 0,
+        require_time: 1,
         skew: 300,
         reserved: [0; 4],
     }
@@ -81,14 +81,14 @@ fn expect(mode: u32) -> KrbExpect {
 
 /// Demands number 7, and nothing else.
 const DEMANDS_7: KrbDemand = KrbDemand {
-    sender: 0,
-    receiver: 0,
-    time: 0,
-    number: 2,
-    expected: 7,
+    how_sender: 0,
+    how_receiver: 0,
+    how_time: 0,
+    how_number: 2,
+    number: 7,
     skew: 0,
-    s_addr: NO_ADDRESS,
-    r_addr: NO_ADDRESS,
+    sender: NO_ADDRESS,
+    receiver: NO_ADDRESS,
     reserved: [0; 5],
 };
 
@@ -100,15 +100,15 @@ const NO_ADDRESS: KrbAddress = KrbAddress {
 
 fn nothing_carried() -> KrbCarried {
     KrbCarried {
-        secs: 0,
-        usec: 0,
-        has_secs: 0,
-        has_usec: 0,
+        seconds: 0,
+        microseconds: 0,
+        has_seconds: 0,
+        has_microseconds: 0,
         has_number: 0,
         number: 0,
-        has_r: 0,
-        s_addr: NO_ADDRESS,
-        r_addr: NO_ADDRESS,
+        has_receiver: 0,
+        sender: NO_ADDRESS,
+        receiver: NO_ADDRESS,
         reserved: [0; 6],
     }
 }
@@ -131,13 +131,13 @@ fn made<T: Drop>(answered: Result<T, Fault>) -> Result<T, Fail> {
 
 #[test]
 fn a_sealer_seals_the_frame_of_another(rt: HostRuntime) -> Result<(), Fail> {
-    let (alloc, mut frame) = (rt.alloc(), [0u8; 500]);
+    let (alloc, mut frame) = (rt.alloc(), [0u8; 96]);
     let mut sealer = made(AnySealer::new(alloc, 17, &KEY_128, &session(21)))?;
     assert_eq!(rt; code_of(&sealer.set_mode(20)), 0);
     assert_eq!(rt; sealer.next_size(3, &AT).ok(), Some(96));
     let size = sealer.seal(alloc, b"Dhi", &AT, &[0; 16], &mut frame);
     assert_eq!(rt; size.ok(), Some(96));
-    assert_eq!(rt; &frame[..96], SAFE_17.as_slice());
+    assert_eq!(rt; frame.as_slice(), SAFE_17.as_slice());
     assert_eq!(rt; sealer.next(), 8);
     sealer.wipe();
     let wiped = sealer.seal(alloc, b"Dhi", &AT, &[0; 16], &mut frame);
@@ -164,7 +164,7 @@ fn an_opener_opens_the_frame_of_another(rt: HostRuntime) -> Result<(), Fail> {
     let size = open_into(
         alloc, &opener, &PRIV_18, &DEMANDS_7, &AT, &mut text, &mut told,
     );
-    assert_eq!(rt; (size.ok(), told.secs, told.number), (Some(3), SECS, 7));
+    assert_eq!(rt; (size.ok(), told.seconds, told.number), (Some(3), SECS, 7));
     let mut frame = PRIV_18;
     let size = unseal_in_place(alloc, &opener, &mut frame, 7, &AT);
     assert_eq!(rt; (size.ok(), &frame[..4]), (Some(3), b"Dhi\x6c".as_slice()));

@@ -1,14 +1,8 @@
-use Rattle.std.proofs.Common.{Option, Some, sym, ap, subst, refl, ◌∙◌}
+use Rattle.std.proofs.Common.{Option, Some, sym, ap, subst, ◌∙◌}
 use Rattle.krb_seal.specs.Sealer.{SealerState}
-use Rattle.krb_structs.specs.declared.fault.Fault.TheVariants.{Empty}
 use Rattle.krb_c.specs.Exports.{IsNextSize}
-use Rattle.krb_c.specs.Faults.{SizeFault}
-use Rattle.krb_c.proofs.Codes.{on_told}
+use Rattle.krb_c.proofs.Told.{on_told}
 use Rattle.krb_c.proofs.sealer_calls.krbrelay_sealer_frame_size.Goals as goal
-
-pub returns-in_default-clause-why : goal.returns-in_default-clause-why
-returns-in_default-clause-why c = λ _.
-    (Empty, c.code.ensures.value, subst (λ (s : Option SealerState). SizeFault s c.args.len c.args.at.now Empty) (sym c.in_default.ensures.taken) refl)
 
 pub returns-clause-size : goal.returns-clause-size
 returns-clause-size c = λ zero.

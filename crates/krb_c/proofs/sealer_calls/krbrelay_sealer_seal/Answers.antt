@@ -1,10 +1,14 @@
-use Rattle.std.proofs.Common.{Option, sym, subst, refl, length}
+use Rattle.std.proofs.Common.{ℕ, Option, sym, subst, length}
 use Rattle.krb_seal.specs.Sealer.{SealerState}
-use Rattle.krb_structs.specs.declared.fault.Fault.TheVariants.{Empty}
-use Rattle.krb_c.specs.Faults.{SealFault}
+use Rattle.krb_structs.specs.Fault.{answer_of}
+use Rattle.krb_structs.specs.Reasons.{SealAnswer}
+use Rattle.krb_c.specs.Answers.{SealAnswerBy}
 use Rattle.krb_c.proofs.sealer_calls.krbrelay_sealer_seal.Goals as goal
 
-pub returns-in_default-clause-why : goal.returns-in_default-clause-why
-returns-in_default-clause-why c = λ _.
-    let n = length c.args.user.now in let room = length c.args.out.now in
-    (Empty, c.code.ensures.value, subst (λ (s : Option SealerState). SealFault s n c.args.at.now room Empty) (sym c.in_default.ensures.taken) refl)
+pub returns-clause-answer : goal.returns-clause-answer
+returns-clause-answer c =
+    let n = length c.args.user.now in let at = c.args.at.now in let room = length c.args.out.now in
+    let code = answer_of c.seal-sealed.result in
+    let held = subst (λ (s : SealerState). SealAnswer s n at room code) c.deref_mut.ensures.value c.seal-sealed.ensures.answer in
+    let by = subst (λ (s : Option SealerState). SealAnswerBy s n at room code) (sym c.in-Some.ensures.taken) held in
+    subst (λ (k : ℕ). SealAnswerBy c.args.handle.now.sealer n at room k) (sym c.answer.ensures.answer) by

@@ -1,26 +1,39 @@
-use Rattle.std.proofs.Common.{◌∙◌, ℕ, List, Err, subst, ap, drop, length, take}
+use Rattle.std.proofs.Common.{◌∙◌, ℕ, List, Some, Err, subst, sym, ap, drop, length, take, inl, inr, refl, arith}
 use Rattle.std.proofs.lemmas.List.{take_rest}
 use Rattle.krb_record.specs.Record.{number_of}
 use Rattle.krb_peers.specs.ReceiverState.{ReceiverState}
 use Rattle.krb_peers.specs.Receiver.{IsJudgement, OpensRecord, TakesMemory}
+use Rattle.krb_structs.specs.declared.fault.Fault.TheVariants.{Room}
 use Rattle.krb_structs.specs.Moment.{micros_of}
+use Rattle.krb_structs.specs.Fault.{fault_code}
 use Rattle.krb_structs.specs.Record.{Accepts}
-use Rattle.krb_structs.proofs.ReceiverLemmas.{accepts_of, take_no_room, take_refused}
+use Rattle.krb_structs.specs.Reasons.{TakeAnswer}
+use Rattle.krb_structs.proofs.Answering.{answer_is, timed}
+use Rattle.krb_structs.proofs.ReceiverLemmas.{accepts_of, take_answer, take_refused}
 use Rattle.krb_structs.proofs.lane_receiver.LaneReceiver.take.Goals as goal
 
-pub returns-in_err-opened-clause-why : goal.returns-in_err-opened-clause-why
-returns-in_err-opened-clause-why c =
+pub returns-in_err-opened-clause-answer : goal.returns-in_err-opened-clause-answer
+returns-in_err-opened-clause-answer c =
     let now = c.in_ok-now.now in let frame = c.args.frame.now in let r = c.in_err-opened.field-0.0 in
     let judged = subst (λ (s : ReceiverState). IsJudgement s now frame (Err r)) c.self.view_is c.in_err-opened.ensures.refused in
-    take_refused c.args.self.now now c.args.at.now frame (length c.args.out.now) r c.from_residual-in_err-opened.result c.in_ok-now.ensures.some c.in_ok-now.ensures.value judged
+    take_refused c.args.self.now now c.args.at.now frame (length c.args.out.now) r c.from_residual-in_err-opened.result (timed c.args.at.now c.in_ok-now.ensures.answer) c.in_ok-now.ensures.value judged
     (λ e. subst (λ (s : ReceiverState). TakesMemory s frame) c.self.view_is (c.in_err-opened.ensures.memory (ap Err e))) c.from_residual-in_err-opened.ensures.1
 
-pub returns-in_err-size-clause-why : goal.returns-in_err-size-clause-why
-returns-in_err-size-clause-why c =
+pub returns-in_err-size-clause-answer : goal.returns-in_err-size-clause-answer
+returns-in_err-size-clause-answer c =
+    let now = c.in_ok-now.now in let frame = c.args.frame.now in let opened = c.in_ok-opened.opened in let room = length c.args.out.now in
+    let opens = subst (λ (s : ReceiverState). OpensRecord s now frame opened) c.self.view_is c.in_ok-opened.ensures.opened in
+    let short = c.in_err-size.ensures.room in
+    let is = answer_is c.from_residual-in_err-size.result c.in_err-size.field-0.0 c.from_residual-in_err-size.ensures.1 ∙ ap fault_code short.0 in
+    subst (TakeAnswer (Some c.args.self.now) c.args.at.now frame room) (sym is) (take_answer c.args.self.now now c.args.at.now frame room opened _ (fault_code Room) (timed c.args.at.now c.in_ok-now.ensures.answer)
+    c.in_ok-now.ensures.value opens (take_rest c.as_slice.result.now 1 ∙ ap (drop 1) c.as_slice.ensures) (inl (λ fits. omega arith, refl)))
+
+pub returns-clause-answer : goal.returns-clause-answer
+returns-clause-answer c =
     let now = c.in_ok-now.now in let frame = c.args.frame.now in let opened = c.in_ok-opened.opened in
     let opens = subst (λ (s : ReceiverState). OpensRecord s now frame opened) c.self.view_is c.in_ok-opened.ensures.opened in
-    take_no_room c.args.self.now now c.args.at.now frame (length c.args.out.now) opened _ c.in_err-size.field-0.0 c.from_residual-in_err-size.result c.in_ok-now.ensures.some
-    c.in_ok-now.ensures.value opens (take_rest c.as_slice.result.now 1 ∙ ap (drop 1) c.as_slice.ensures) c.in_err-size.ensures.room c.from_residual-in_err-size.ensures.1
+    take_answer c.args.self.now now c.args.at.now frame (length c.args.out.now) opened _ 0 (timed c.args.at.now c.in_ok-now.ensures.answer)
+    c.in_ok-now.ensures.value opens (take_rest c.as_slice.result.now 1 ∙ ap (drop 1) c.as_slice.ensures) (inr (c.in_ok-size.ensures.fits, refl))
 
 pub returns-clause-accepted : goal.returns-clause-accepted
 returns-clause-accepted c =

@@ -1,0 +1,199 @@
+#include "kept.h"
+#include "at_rest.h"
+#include "log.h"
+#include "text.h"
+#include "words.h"
+
+#include <stdlib.h>
+#include <string.h>
+
+#define COLUMNS "opened.name, opened.stream, opened.before, opened.client, opened.etype," \
+                " opened.ends, opened.kvno, opened.wrapping, opened.key"
+enum { NAME, STREAM, BEFORE, CLIENT, ETYPE, ENDS, KVNO, WRAPPING, KEY };
+enum { TOGETHER = 64 }; /* rows that are wrapped anew at once */
+
+/* What is wrapped with the key. */
+static void write_about(const struct opened *it, char about[AT_REST_ABOUT])
+{
+    write_whole(about, AT_REST_ABOUT, "%s %d %s %s %s", it->name, (int)it->etype, it->stream,
+                it->before[0] != 0 ? it->before : "-", it->client);
+}
+
+/* Rows that are read: so many were, and the last one's name. */
+struct reading {
+    struct kerberos *kerberos;
+    kept_take *take;
+    void *given;
+    size_t rows;
+    char last[CARRIER_NAME];
+    struct opened it;
+    struct wrapped wrapped;
+};
+
+static int read_columns(struct reading *r, const char *const *row)
+{
+    struct opened *it = &r->it;
+    uint64_t etype, kvno, wrapping;
+    int is_fine = copy_text(it->name, sizeof it->name, row[NAME])
+                  && copy_text(it->stream, sizeof it->stream, row[STREAM])
+                  && copy_text(it->before, sizeof it->before, row[BEFORE])
+                  && copy_text(it->client, sizeof it->client, row[CLIENT])
+                  && read_number(row[ETYPE], 17, 18, &etype)
+                  && read_number(row[ENDS], 0, UINT32_MAX, &it->ends)
+                  && read_number(row[KVNO], 0, UINT32_MAX, &kvno)
+                  && read_number(row[WRAPPING], 0, INT32_MAX, &wrapping)
+                  && read_hex(row[KEY], r->wrapped.bytes, sizeof r->wrapped.bytes, &r->wrapped.len);
+    if (!is_fine) {
+        log_fact(LEVEL_ERROR, "row_malformed", field_text("session", row[NAME]),
+                 field_text("text", "a row of the table opened isn't one: was it changed?"));
+        return 0;
+    }
+    it->etype = (int32_t)etype;
+    r->wrapped.kvno = (uint32_t)kvno;
+    r->wrapped.etype = (int32_t)wrapping;
+    return 1;
+}
+
+/* A row that can't be read is left out, with a report: its frames are passed by, and come again. */
+static int read_row(void *given, const char *const *row)
+{
+    struct reading *r = given;
+    char about[AT_REST_ABOUT];
+    int answer;
+    r->rows++;
+    if (!copy_text(r->last, sizeof r->last, row[NAME]) || !read_columns(r, row))
+        return 0;
+    write_about(&r->it, about);
+    if (at_rest_read(r->kerberos, AT_REST_RECEIVER, about, &r->wrapped, r->it.key,
+                     &r->it.key_len) != 0)
+        return 0;
+    answer = r->take(r->given, &r->it);
+    explicit_bzero(r->it.key, sizeof r->it.key);
+    return answer;
+}
+
+int kept_find(struct store *store, struct kerberos *kerberos, const char *name, kept_take *take,
+              void *given)
+{
+    const struct value values[] = { { VALUE_TEXT, 0, name, strlen(name) } };
+    struct reading r = { .kerberos = kerberos, .take = take, .given = given };
+    return store_ask(store, "SELECT " COLUMNS " FROM opened WHERE name = $1", values, 1, read_row,
+                     &r);
+}
+
+int kept_find_standing(struct store *store, struct kerberos *kerberos, unsigned shard,
+                       kept_take *take, void *given)
+{
+    const struct value values[] = { { VALUE_NUMBER, shard, NULL, 0 } };
+    struct reading r = { .kerberos = kerberos, .take = take, .given = given };
+    return store_ask(store, "SELECT " COLUMNS " FROM opened WHERE shard = $1 AND (name IN"
+                            " (SELECT name FROM session WHERE shard = $1 AND missed <> 0) OR name IN"
+                            " (SELECT session FROM passed WHERE shard = $1))",
+                     values, 1, read_row, &r);
+}
+
+/* A session that may be the one that is looked for. */
+struct rival { const struct opened *of; int is_other; };
+
+static int compare_row(void *given, const char *const *row)
+{
+    struct rival *rival = given;
+    const struct opened *of = rival->of;
+    rival->is_other |= strcmp(row[0], of->name) != 0 || strcmp(row[1], of->client) != 0
+                       || strcmp(row[2], of->stream) != 0 || strcmp(row[3], of->before) != 0;
+    return 0;
+}
+
+int kept_is_forked(struct store *store, const struct opened *it)
+{
+    const struct value values[] = { { VALUE_TEXT, 0, it->client, strlen(it->client) },
+                                    { VALUE_TEXT, 0, it->stream, strlen(it->stream) },
+                                    { VALUE_TEXT, 0, it->before, strlen(it->before) },
+                                    { VALUE_TEXT, 0, it->name, strlen(it->name) } };
+    struct rival rival = { it, 0 };
+    int answer = store_ask(store, "SELECT name, client, stream, before FROM opened WHERE"
+                                  " (client = $1 AND stream = $2 AND before = $3) OR name = $4",
+                           values, 4, compare_row, &rival);
+    return answer == 0 ? rival.is_other : -1;
+}
+
+/* ---- Rows that are written */
+
+static int add_row(struct store *store, unsigned shard, const struct opened *it,
+                   const struct wrapped *wrapped)
+{
+    char key[2 * AT_REST_BYTES + 1];
+    const struct value values[] = {
+        { VALUE_TEXT, 0, it->name, strlen(it->name) },
+        { VALUE_NUMBER, shard, NULL, 0 },
+        { VALUE_TEXT, 0, it->client, strlen(it->client) },
+        { VALUE_TEXT, 0, it->stream, strlen(it->stream) },
+        { VALUE_TEXT, 0, it->before, strlen(it->before) },
+        { VALUE_NUMBER, (uint64_t)it->etype, NULL, 0 },
+        { VALUE_NUMBER, it->ends, NULL, 0 },
+        { VALUE_NUMBER, wrapped->kvno, NULL, 0 },
+        { VALUE_NUMBER, (uint64_t)wrapped->etype, NULL, 0 },
+        { VALUE_TEXT, 0, key, 2 * wrapped->len },
+    };
+    write_hex(wrapped->bytes, wrapped->len, key);
+    return store_run(store, "INSERT INTO opened (name, shard, client, stream, before, etype, ends,"
+                            " kvno, wrapping, key) VALUES ($1, $2, $3, $4, $5, $6, $7, $8, $9, $10)"
+                            " ON CONFLICT (name) DO UPDATE SET ends = excluded.ends,"
+                            " kvno = excluded.kvno, wrapping = excluded.wrapping,"
+                            " key = excluded.key", values, sizeof values / sizeof *values);
+}
+
+static int wrap(struct kerberos *kerberos, const struct opened *it, struct wrapped *wrapped)
+{
+    char about[AT_REST_ABOUT];
+    write_about(it, about);
+    return at_rest_wrap(kerberos, AT_REST_RECEIVER, about, it->key, it->key_len, wrapped);
+}
+
+int kept_add(struct store *store, struct kerberos *kerberos, unsigned shard,
+             const struct opened *it)
+{
+    struct wrapped wrapped;
+    return wrap(kerberos, it, &wrapped) == 0 ? add_row(store, shard, it, &wrapped) : -1;
+}
+
+/* Some sessions whose keys are to be wrapped anew. */
+struct some { size_t count; struct opened at[TOGETHER]; };
+
+static int note_some(void *given, const struct opened *it)
+{
+    struct some *some = given;
+    some->at[some->count++] = *it;
+    return 0;
+}
+
+static int wrap_some(struct store *store, struct kerberos *kerberos, unsigned shard,
+                     const struct some *some)
+{
+    size_t i;
+    for (i = 0; i < some->count; i++)
+        if (kept_add(store, kerberos, shard, &some->at[i]) != 0)
+            return -1;
+    return store_settle(store);
+}
+
+int kept_wrap_anew(struct store *store, struct kerberos *kerberos, unsigned shard)
+{
+    struct some *some = malloc(sizeof *some);
+    struct reading r = { .kerberos = kerberos, .take = note_some, .given = some, .rows = TOGETHER };
+    uint32_t kvno;
+    int answer = some != NULL ? at_rest_newest(kerberos, &kvno) : -1;
+    while (answer == 0 && r.rows == TOGETHER) {
+        const struct value values[] = { { VALUE_NUMBER, shard, NULL, 0 },
+                                        { VALUE_NUMBER, kvno, NULL, 0 },
+                                        { VALUE_TEXT, 0, r.last, strlen(r.last) } };
+        r.rows = some->count = 0;
+        answer = store_ask(store, "SELECT " COLUMNS " FROM opened WHERE shard = $1 AND kvno <> $2"
+                                  " AND name > $3 ORDER BY name LIMIT 64", values, 3, read_row, &r);
+        if (answer == 0)
+            answer = wrap_some(store, kerberos, shard, some);
+        explicit_bzero(some, sizeof *some);
+    }
+    free(some);
+    return answer;
+}

@@ -1,0 +1,53 @@
+/* What sessions that begin by a ticket need of MIT's library: a context, a keytab, and the principal
+ * whose keys are in it. Each thread has its own. */
+#ifndef KERBEROS_H
+#define KERBEROS_H
+
+#include <stddef.h>
+#include <stdint.h>
+
+/* The room for a principal's name with its zero, for a session's key, and for an opening. */
+enum { PRINCIPAL = 256, SESSION_KEY = 32, OPENING = 65536 };
+
+struct kerberos;
+
+struct kerberos_options {
+    const char *keytab;  /* NULL: no session begins by a ticket */
+    const char *client;  /* of a sender: who it is */
+    const char *service; /* the principal of all receivers of a store */
+    const char *allowed; /* of a receiver: the file with the clients that may begin sessions */
+    int32_t etype;       /* of a sender: of the keys that it draws */
+    unsigned shards;     /* these sessions are in the shards below this one */
+};
+
+/* The words of a command line for these, what they mean, and their letters for getopt_long. */
+#define KERBEROS_USAGE \
+    "  --keytab FILE    sessions begin by tickets: the keys of this program's principal\n" \
+    "  --service NAME   the principal of all receivers of the store\n" \
+    "  --ticket-shards N  sessions by tickets are in the shards below N (1): the same at both ends\n"
+enum { KERBEROS_KEYTAB = 288, KERBEROS_SERVICE, KERBEROS_SHARDS, KERBEROS_CLIENT, KERBEROS_ETYPE,
+       KERBEROS_ALLOW };
+#define KERBEROS_WORDS \
+    { "keytab", required_argument, NULL, KERBEROS_KEYTAB }, \
+    { "service", required_argument, NULL, KERBEROS_SERVICE }, \
+    { "ticket-shards", required_argument, NULL, KERBEROS_SHARDS }
+
+/* Takes one of these options: 1, or 0 if the letter is none of theirs. A wrong number ends the
+ * program with status 2. */
+int kerberos_option(const char *program, struct kerberos_options *options, int letter,
+                    const char *word);
+
+/* Ends the program with status 2 and a message unless the options that were taken go together.
+ * `name` and `value` are the program's own one. */
+void kerberos_check_options(const char *program, const struct kerberos_options *options,
+                            const char *name, const char *value);
+
+/* Opens it for a program whose principal is this one, in the keytab. NULL, with a line of the log,
+ * if it can't be opened. */
+struct kerberos *kerberos_open(const struct kerberos_options *options, const char *principal);
+void kerberos_close(struct kerberos *kerberos);
+
+/* The shard of a stream's first session. */
+unsigned kerberos_shard(const struct kerberos_options *options, const char *stream);
+
+#endif

@@ -1,0 +1,123 @@
+/* Receipts over NATS: published at krbr.SHARD.SESSION, where senders hear them at once. The stream
+ * KRB_RECEIPTS keeps the last one of each session, for senders that weren't there. A receiver makes
+ * it. */
+#include "clock.h"
+#include "log.h"
+#include "nats_carrier.h"
+#include "text.h"
+
+#include <string.h>
+
+#define STREAM "KRB_RECEIPTS"
+#define SECOND UINT64_C(1000000000) /* nanoseconds */
+
+static natsStatus add_stream(struct nats_carrier *c)
+{
+    const char *subjects[1] = { "krbr.*.*" };
+    jsStreamInfo *info = NULL;
+    jsStreamConfig config;
+    jsErrCode code = 0;
+    natsStatus status = jsStreamConfig_Init(&config);
+    config.Name = STREAM;
+    config.Subjects = subjects;
+    config.SubjectsLen = 1;
+    config.Storage = js_FileStorage;
+    config.MaxMsgsPerSubject = 1;
+    config.Replicas = c->replicas;
+    if (status == NATS_OK)
+        status = js_AddStream(&info, c->js, &config, NULL, &code);
+    jsStreamInfo_Destroy(info);
+    return status;
+}
+
+/* Makes the stream, unless it is there. One that can't be made is asked for again after a while: what is
+ * published meanwhile is heard all the same. */
+static void make_stream(struct nats_carrier *c)
+{
+    jsStreamInfo *info = NULL;
+    jsOptions options;
+    jsErrCode code = 0;
+    natsStatus status;
+    if (c->has_receipts || nanoseconds() < c->receipts_moment)
+        return;
+    status = nats_begin_to_ask(c, &options);
+    if (status == NATS_OK)
+        status = js_GetStreamInfo(&info, c->js, STREAM, &options, &code);
+    nats_note_asked(c, status);
+    jsStreamInfo_Destroy(info);
+    if (status == NATS_NOT_FOUND)
+        status = add_stream(c);
+    c->has_receipts = status == NATS_OK;
+    c->receipts_moment = nanoseconds() + 10 * SECOND;
+    if (status != NATS_OK)
+        (void)nats_report("the stream of receipts", status); /* CARRIER_FAULT, as for each fault */
+}
+
+int nats_acknowledge(struct carrier *base, unsigned shard, const struct carried *list,
+                     size_t count)
+{
+    struct nats_carrier *c = (struct nats_carrier *)base;
+    char subject[64];
+    size_t i;
+    make_stream(c);
+    for (i = 0; i < count; i++) {
+        natsStatus status;
+        write_whole(subject, sizeof subject, "krbr.%u.%s", shard, list[i].session);
+        status = natsConnection_Publish(c->connection, subject, list[i].frame, (int)list[i].len);
+        if (status != NATS_OK)
+            return nats_report("a receipt", status);
+    }
+    return 0;
+}
+
+/* Passes a message's receipt. */
+static void give(natsMsg *message, carrier_receipt *take, void *given)
+{
+    const char *name = strrchr(natsMsg_GetSubject(message), '.');
+    const void *receipt = natsMsg_GetData(message);
+    if (name != NULL && receipt != NULL)
+        take(given, name + 1, receipt, (size_t)natsMsg_GetDataLength(message));
+}
+
+static natsStatus begin_to_hear(struct nats_carrier *c)
+{
+    natsStatus status = NATS_OK;
+    if (c->receipts == NULL)
+        status = natsConnection_SubscribeSync(&c->receipts, c->connection, "krbr.*.*");
+    return status;
+}
+
+int nats_receipts(struct carrier *base, carrier_receipt *take, void *given)
+{
+    struct nats_carrier *c = (struct nats_carrier *)base;
+    natsStatus status = begin_to_hear(c);
+    while (status == NATS_OK) {
+        natsMsg *message = NULL;
+        status = natsSubscription_NextMsg(&message, c->receipts, 0);
+        if (status == NATS_OK)
+            give(message, take, given);
+        natsMsg_Destroy(message);
+    }
+    return status == NATS_TIMEOUT ? 0 : nats_report("receipts", status);
+}
+
+int nats_last_receipt(struct carrier *base, unsigned shard, const char *session,
+                      carrier_receipt *take, void *given)
+{
+    struct nats_carrier *c = (struct nats_carrier *)base;
+    char subject[64];
+    natsMsg *message = NULL;
+    jsOptions options;
+    jsErrCode code = 0;
+    natsStatus status = nats_begin_to_ask(c, &options);
+    write_whole(subject, sizeof subject, "krbr.%u.%s", shard, session);
+    if (status == NATS_OK)
+        status = js_GetLastMsg(&message, c->js, STREAM, subject, &options, &code);
+    nats_note_asked(c, status);
+    if (status == NATS_OK)
+        give(message, take, given);
+    natsMsg_Destroy(message);
+    if (status == NATS_OK || status == NATS_NOT_FOUND || code == JSStreamNotFoundErr)
+        return 0;
+    return nats_report("the last receipt of a session", status);
+}

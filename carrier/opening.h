@@ -1,0 +1,71 @@
+/* How a session begins by a ticket: its first frame, the opening, is an AP-REQ (RFC 4120 3.2) of
+ * MIT's library, and after it the text
+ *
+ *     krbrelay session 1 NAME STREAM BEFORE
+ *
+ * which the authenticator's checksum covers. The session's key is the authenticator's subkey. The
+ * sender draws it first, so it can make an opening of the same session anew under any later ticket.
+ * NAME follows from the key (krb5_c_prf), so nobody can take another session's name, and a key
+ * has one name. STREAM is what the application calls it, BEFORE the session of the stream before
+ * this one, or '-'. The opening stands before number 1. Nothing is decided by what nobody signed:
+ * the AP-REQ's own sequence number, its options and its bytes outside of the ciphers.
+ *
+ * No replay cache is used, since a carrier repeats: another opening of a known session is a
+ * repeat. */
+#ifndef OPENING_H
+#define OPENING_H
+
+#include "carrier.h"
+#include "kerberos.h"
+
+/* A session that begins by a ticket. */
+struct opened {
+    char name[CARRIER_NAME], stream[CARRIER_NAME], before[CARRIER_NAME]; /* before: "" for none */
+    char client[PRINCIPAL]; /* who began it, as the ticket says */
+    int32_t etype;
+    uint8_t key[SESSION_KEY];
+    size_t key_len;
+    uint64_t ends;          /* when the ticket ends, in seconds since 1970 */
+};
+
+/* Why an opening isn't taken. All of these may pass: a keytab is written anew, a clock is set, a
+ * client is allowed. OPENING_FAULT is out of memory and the like. */
+enum opening_answer {
+    OPENING_FAULT = -1,
+    OPENING_OK,
+    OPENING_MALFORMED, /* it isn't an AP-REQ and the text, or the text isn't of that form */
+    OPENING_NO_KEY,    /* the keytab has no key for the ticket, or the ticket is another service's */
+    OPENING_CHANGED,   /* ticket, authenticator or checksum don't fit: changed, or another's */
+    OPENING_SKEW,      /* the authenticator's time, by krb5.conf's `clockskew` */
+    OPENING_EXPIRED,   /* the ticket has ended, or hasn't begun */
+    OPENING_NO_SUBKEY, /* the ticket's key would serve several sessions */
+    OPENING_ETYPE,     /* the subkey's is none of 17 and 18 */
+    OPENING_NAME,      /* the name isn't the key's, or the frame has another one */
+    OPENING_CLIENT,    /* the client isn't allowed */
+    OPENING_FORKED,    /* the stream has another session after BEFORE: is this an older outbox? */
+    OPENING_OTHER,     /* what else the library says */
+    OPENING_ANSWERS
+};
+
+/* The name of an answer, for logs and metrics. */
+const char *opening_name(enum opening_answer answer);
+
+/* Whether a frame is one, if it is any. */
+int opening_is(const uint8_t *frame, size_t len);
+
+/* Draws the key of a session, and makes the name that follows from it. 0, or -1 with a report. */
+int opening_draw(struct kerberos *kerberos, struct opened *it);
+
+/* The key of the way back, which follows from the session's key. 0, or -1 with a report. */
+int opening_back(struct kerberos *kerberos, const struct opened *it, uint8_t back[SESSION_KEY]);
+
+/* Takes an opening that came under this name. It doesn't look for other sessions of the stream. The
+ * caller overwrites the key. */
+enum opening_answer opening_take(struct kerberos *kerberos, const char *name, const uint8_t *frame,
+                                 size_t len, struct opened *it);
+
+/* The text of an opening. */
+enum { OPENING_TEXT = 128 };
+void opening_text(const struct opened *it, char text[OPENING_TEXT]);
+
+#endif

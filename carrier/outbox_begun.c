@@ -1,0 +1,153 @@
+/* The sessions of an outbox that begin by tickets: rows of its table `opened`. */
+#include "clock.h"
+#include "log.h"
+#include "outbox.h"
+#include "text.h"
+
+#include <string.h>
+
+enum { NAME, STREAM, BEFORE, ETYPE, TURN, SINCE, SHARD, CLOSED, KVNO, WRAPPING, KEY };
+
+/* What is wrapped with the key. */
+static void write_about(const struct opened *it, char about[AT_REST_ABOUT])
+{
+    write_whole(about, AT_REST_ABOUT, "%s %d %s %s", it->name, (int)it->etype, it->stream,
+                it->before[0] != 0 ? it->before : "-");
+}
+
+static int copy_column(sqlite3_stmt *row, int column, char to[CARRIER_NAME])
+{
+    return copy_text(to, CARRIER_NAME, (const char *)sqlite3_column_text(row, column));
+}
+
+/* A row as it is, whose key is wrapped. */
+static int read_columns(sqlite3_stmt *row, struct begun *it, struct wrapped *wrapped)
+{
+    struct opened *opened = &it->opened;
+    const void *key = sqlite3_column_blob(row, KEY);
+    size_t len = (size_t)sqlite3_column_bytes(row, KEY);
+    int is_fine = copy_column(row, NAME, opened->name) && copy_column(row, STREAM, opened->stream)
+                  && copy_column(row, BEFORE, opened->before) && key != NULL
+                  && len <= sizeof wrapped->bytes;
+    if (!is_fine) {
+        log_fact(LEVEL_ERROR, "row_malformed", field_text("session", opened->name),
+                 field_text("text", "a row of the table opened isn't one: was it changed?"));
+        return 0;
+    }
+    opened->etype = sqlite3_column_int(row, ETYPE);
+    it->turn = (uint64_t)sqlite3_column_int64(row, TURN);
+    it->since = (uint64_t)sqlite3_column_int64(row, SINCE);
+    it->shard = (unsigned)sqlite3_column_int(row, SHARD) % CARRIER_SHARDS;
+    it->is_closed = sqlite3_column_int(row, CLOSED);
+    wrapped->kvno = (uint32_t)sqlite3_column_int64(row, KVNO);
+    wrapped->etype = sqlite3_column_int(row, WRAPPING);
+    wrapped->len = len;
+    memcpy(wrapped->bytes, key, len);
+    return 1;
+}
+
+/* The first row that a statement gives: 1, 0 if there is none, -1 after a fault. */
+static int find(struct outbox *o, enum outbox_statement which, struct kerberos *kerberos,
+                struct begun *it)
+{
+    struct statement *select = &o->statements[which];
+    struct wrapped wrapped;
+    char about[AT_REST_ABOUT];
+    int row = step_row(select);
+    memset(it, 0, sizeof *it);
+    if (row == 1 && !read_columns(select->at, it, &wrapped))
+        row = -1;
+    end_rows(select);
+    if (row != 1)
+        return row;
+    write_about(&it->opened, about);
+    return at_rest_read(kerberos, AT_REST_SENDER, about, &wrapped, it->opened.key,
+                        &it->opened.key_len) == 0 ? 1 : -1;
+}
+
+int outbox_find_begun(struct outbox *o, struct kerberos *kerberos, const char *name,
+                      struct begun *it)
+{
+    bind_text(&o->statements[SELECT_OPENED], 1, name);
+    return find(o, SELECT_OPENED, kerberos, it);
+}
+
+int outbox_find_stream(struct outbox *o, struct kerberos *kerberos, const char *stream,
+                       struct begun *it)
+{
+    bind_text(&o->statements[SELECT_STREAM], 1, stream);
+    return find(o, SELECT_STREAM, kerberos, it);
+}
+
+/* Drops the sessions of the stream before the one before this, which it names. */
+static int drop_before(struct outbox *o, const struct begun *it)
+{
+    struct statement *drop = &o->statements[DROP_OPENED];
+    bind_text(drop, 1, it->opened.stream);
+    bind_number(drop, 2, (sqlite3_int64)it->turn);
+    return step_once(drop);
+}
+
+int outbox_add_begun(struct outbox *o, struct kerberos *kerberos, const struct begun *it)
+{
+    struct statement *add = &o->statements[ADD_OPENED];
+    const struct opened *opened = &it->opened;
+    struct wrapped wrapped;
+    char about[AT_REST_ABOUT];
+    write_about(opened, about);
+    if (at_rest_wrap(kerberos, AT_REST_SENDER, about, opened->key, opened->key_len, &wrapped) != 0)
+        return -1;
+    bind_text(add, 1 + NAME, opened->name);
+    bind_text(add, 1 + STREAM, opened->stream);
+    bind_text(add, 1 + BEFORE, opened->before);
+    bind_number(add, 1 + ETYPE, opened->etype);
+    bind_number(add, 1 + TURN, (sqlite3_int64)it->turn);
+    bind_number(add, 1 + SINCE, (sqlite3_int64)it->since);
+    bind_number(add, 1 + SHARD, it->shard);
+    bind_number(add, 1 + CLOSED, it->is_closed);
+    bind_number(add, 1 + KVNO, wrapped.kvno);
+    bind_number(add, 1 + WRAPPING, wrapped.etype);
+    bind_bytes(add, 1 + KEY, wrapped.bytes, wrapped.len);
+    return step_once(add) == 0 ? drop_before(o, it) : -1;
+}
+
+int outbox_close_begun(struct outbox *o, const struct begun *it)
+{
+    struct statement *set = &o->statements[CLOSE_OPENED];
+    bind_text(set, 1, it->opened.name);
+    return step_once(set);
+}
+
+/* ---- Keys that are wrapped anew */
+
+/* Wraps the next one after this name, which becomes its name: 1, 0 if there is none, -1 after a
+ * fault. */
+static int wrap_next(struct outbox *o, struct kerberos *kerberos, uint32_t kvno,
+                     char after[CARRIER_NAME])
+{
+    struct begun it;
+    int found;
+    bind_number(&o->statements[SELECT_WRAPPED], 1, kvno);
+    bind_text(&o->statements[SELECT_WRAPPED], 2, after);
+    found = find(o, SELECT_WRAPPED, kerberos, &it);
+    memcpy(after, it.opened.name, CARRIER_NAME);
+    if (found == 1 && outbox_add_begun(o, kerberos, &it) != 0)
+        found = -1;
+    explicit_bzero(&it, sizeof it);
+    return found;
+}
+
+int outbox_wrap_anew(struct outbox *o, struct kerberos *kerberos)
+{
+    char after[CARRIER_NAME] = "";
+    uint32_t kvno;
+    int found = 1;
+    if (at_rest_newest(kerberos, &kvno) != 0 || outbox_begin(o) != OUTBOX_OK)
+        return -1;
+    while (found == 1 || (found < 0 && after[0] != 0)) /* one that can't be read is passed by */
+        found = wrap_next(o, kerberos, kvno, after);
+    if (found == 0 && outbox_commit(o) == 0)
+        return 0;
+    outbox_rollback(o);
+    return -1;
+}

@@ -1,0 +1,49 @@
+#include "receipts.h"
+#include "clock.h"
+#include "log.h"
+
+#include <sys/random.h>
+
+int receipt_seal(const struct session *of, uint64_t n, uint8_t frame[RECEIPT], size_t *len)
+{
+    const struct krbrelay_session session = { .mode = KRBRELAY_PRIV, .first = (uint32_t)(n - 1),
+                                              .sender = of->to };
+    struct krbrelay_sealer sealer = { 0 };
+    struct krbrelay_moment now = read_clock();
+    uint8_t confounder[16];
+    enum krbrelay_answer answer;
+    if (getrandom(confounder, sizeof confounder, 0) != (ssize_t)sizeof confounder) {
+        log_system("nothing_drawn", "getrandom");
+        return -1;
+    }
+    answer = krbrelay_sealer_new(&sealer, of->etype, of->back, of->key_len, &session);
+    if (answer == KRBRELAY_OK)
+        answer = krbrelay_sealer_seal_record(&sealer, KRBRELAY_TEXT, (const uint8_t *)"", 0, &now,
+                                             confounder, frame, RECEIPT, len);
+    krbrelay_sealer_free(&sealer);
+    if (answer == KRBRELAY_OK)
+        return 0;
+    report_answer("receipt_unsealed", of->name, n, answer);
+    return -1;
+}
+
+int receipt_open(const struct session *of, struct krbrelay_opener *opener, const uint8_t *frame,
+                 size_t len, uint64_t *n)
+{
+    const struct krbrelay_expect expect = { .mode = KRBRELAY_PRIV };
+    const struct krbrelay_demand demand = { .how_sender = KRBRELAY_REQUIRED, .sender = of->to };
+    struct krbrelay_moment now = read_clock();
+    struct krbrelay_carried carried;
+    uint8_t text[RECEIPT];
+    size_t size;
+    if (len > RECEIPT)
+        return 0;
+    if (opener->at == NULL
+        && krbrelay_opener_new(opener, of->etype, of->back, of->key_len, &expect) != KRBRELAY_OK)
+        return 0;
+    if (krbrelay_opener_open(opener, frame, len, &demand, &now, text, sizeof text, &size, &carried)
+            != KRBRELAY_OK || !carried.has_number)
+        return 0;
+    *n = carried.number + 1;
+    return 1;
+}

@@ -1,0 +1,205 @@
+/* The streams of a sender: what an application calls a stream is sent as sessions that begin by
+ * tickets, one after the other, with a key each. */
+#include "clock.h"
+#include "sender.h"
+
+#include <search.h>
+#include <stdlib.h>
+#include <string.h>
+
+#define NUMBERS UINT64_C(2147483648) /* of one session, of 2^32 that there are */
+
+/* A name, or a struct that begins with one. */
+static int by_name(const void *one, const void *other)
+{
+    return strcmp(one, other);
+}
+
+/* ---- Sessions of streams */
+
+/* The two ends of such a session have RFC 4120's directional addresses. */
+static struct krbrelay_address end_of(uint8_t which)
+{
+    return (struct krbrelay_address){ .kind = 3, .len = 4, .bytes = { 0, 0, 0, which } };
+}
+
+static int make_session(const struct sender *s, const struct begun *it, struct session *of)
+{
+    memset(of, 0, sizeof *of);
+    memcpy(of->name, it->opened.name, sizeof of->name);
+    of->shard = it->shard;
+    of->etype = it->opened.etype;
+    of->mode = KRBRELAY_PRIV;
+    memcpy(of->key, it->opened.key, it->opened.key_len);
+    of->key_len = it->opened.key_len;
+    of->first = of->has_opening = of->has_back = 1;
+    of->from = end_of(0);
+    of->to = end_of(1);
+    return opening_back(s->kerberos, &it->opened, of->back);
+}
+
+/* Adds a session. NULL after a fault of the outbox, or out of memory. */
+static struct sending *add(struct sender *s, struct stream *stream, const struct begun *it,
+                           int is_stored)
+{
+    struct begun *copy = malloc(sizeof *copy);
+    struct sending *added = NULL;
+    struct session of;
+    if (copy != NULL) {
+        *copy = *it;
+        if (make_session(s, it, &of) == 0)
+            added = sender_add(s, &of);
+        explicit_bzero(&of, sizeof of);
+    }
+    if (added == NULL) {
+        if (copy != NULL)
+            explicit_bzero(copy, sizeof *copy);
+        free(copy);
+        return NULL;
+    }
+    added->begun = copy;
+    added->stream = stream;
+    added->is_stored = is_stored;
+    added->is_checked = !is_stored; /* nothing of a new one has left */
+    return added;
+}
+
+/* Begins the next session of a stream, after `last`, or the first one if that is NULL. */
+static struct sending *begin(struct sender *s, struct stream *stream, const struct begun *last)
+{
+    struct begun it = { 0 };
+    struct sending *added = NULL;
+    memcpy(it.opened.stream, stream->name, sizeof it.opened.stream);
+    it.turn = 1;
+    it.shard = kerberos_shard(&s->options.kerberos, stream->name);
+    it.since = read_clock().seconds;
+    if (it.since <= s->renew)
+        it.since = s->renew + 1; /* SIGHUP came in this second */
+    if (last != NULL) {
+        memcpy(it.opened.before, last->opened.name, sizeof it.opened.before);
+        it.turn = last->turn + 1;
+        it.shard = last->shard;
+    }
+    if (opening_draw(s->kerberos, &it.opened) == 0)
+        added = add(s, stream, &it, 0);
+    explicit_bzero(&it, sizeof it);
+    return added;
+}
+
+/* ---- Streams */
+
+/* Makes a stream what the outbox has of it: 1, 0 if its key can't be read, -1 after a fault. */
+static int load(struct sender *s, struct stream *stream)
+{
+    struct begun last;
+    int found = outbox_find_stream(&s->outbox, s->kerberos, stream->name, &last), answer = 1;
+    if (found < 0)
+        answer = 0;
+    else if (found == 1 && !last.is_closed)
+        answer = sender_find_begun(s, last.opened.name, &stream->now);
+    else if ((stream->now = begin(s, stream, found == 1 ? &last : NULL)) == NULL)
+        answer = -1;
+    explicit_bzero(&last, sizeof last);
+    return answer;
+}
+
+static struct stream *stream_of(struct sender *s, const char *name)
+{
+    void *found = tfind(name, &s->streams, by_name);
+    struct stream *stream = found != NULL ? *(struct stream **)found : calloc(1, sizeof *stream);
+    if (found != NULL || stream == NULL)
+        return stream;
+    memcpy(stream->name, name, strlen(name));
+    if (tsearch(stream, &s->streams, by_name) != NULL)
+        return stream;
+    free(stream);
+    return NULL;
+}
+
+int sender_find_begun(struct sender *s, const char *name, struct sending **it)
+{
+    void *found = tfind(name, &s->by_name, by_name);
+    struct stream *stream;
+    struct begun row;
+    int is_there;
+    *it = found != NULL ? *(struct sending **)found : NULL;
+    if (*it != NULL)
+        return 1;
+    is_there = outbox_find_begun(&s->outbox, s->kerberos, name, &row);
+    if (is_there < 0)
+        is_there = 0; /* which is reported: its frames stay until its key can be read */
+    stream = is_there ? stream_of(s, row.opened.stream) : NULL;
+    if (stream != NULL)
+        *it = add(s, stream, &row, 1);
+    explicit_bzero(&row, sizeof row);
+    return is_there && *it == NULL ? -1 : is_there;
+}
+
+int sender_find_stream(struct sender *s, const char *name, struct sending **it)
+{
+    struct stream *stream;
+    int answer = 1;
+    *it = NULL;
+    if (!sessions_may_have(name))
+        return 0;
+    stream = stream_of(s, name);
+    if (stream == NULL)
+        return -1;
+    if (stream->now == NULL)
+        answer = load(s, stream);
+    if (answer == 1)
+        *it = stream->is_renewed ? stream->next : stream->now;
+    return answer;
+}
+
+int sender_is_after(const struct sender *s, const struct sending *it)
+{
+    void *found = tfind(it->begun->opened.before, &s->by_name, by_name);
+    const struct sending *before = found != NULL ? *(struct sending **)found : NULL;
+    return before != NULL && before->progress.carried < before->progress.next;
+}
+
+/* ---- A new key */
+
+int sender_is_old(const struct sender *s, const struct sending *it)
+{
+    const struct begun *begun = it->begun;
+    if (begun == NULL || it->sealed == 1 || it->stream->is_renewed)
+        return 0; /* it has a line, or nothing was sealed yet, or it begins in this transaction */
+    return begun->since + s->options.life <= read_clock().seconds || begun->since <= s->renew
+           || it->sealed > NUMBERS;
+}
+
+enum seal_answer sender_renew(struct sender *s, struct sending **it, sqlite3_int64 id)
+{
+    struct sending *old = *it;
+    struct stream *stream = old->stream;
+    enum seal_answer answer;
+    if (stream->next == NULL && (stream->next = begin(s, stream, old->begun)) == NULL)
+        return SEAL_FAULT;
+    answer = seal_close(&s->sealing, old, id);
+    if (answer != SEAL_OK)
+        return answer;
+    old->is_closing = stream->is_renewed = 1;
+    *it = stream->next;
+    return SEAL_OK;
+}
+
+void sender_note_renewed(struct sending *it, int is_kept)
+{
+    struct stream *stream = it->stream;
+    if (!it->is_closing)
+        return;
+    it->is_closing = stream->is_renewed = 0;
+    if (!is_kept)
+        return;
+    it->begun->is_closed = 1;
+    stream->now = stream->next;
+    stream->next = NULL;
+}
+
+void sender_forget_streams(struct sender *s)
+{
+    tdestroy(s->streams, free);
+    s->streams = NULL;
+}

@@ -1,0 +1,193 @@
+/* The sessions of a shard that begin by tickets: from the store, or by their openings. */
+#include "clock.h"
+#include "kept.h"
+#include "log.h"
+#include "shard.h"
+
+#include <stdlib.h>
+#include <string.h>
+
+/* The two ends of such a session have RFC 4120's directional addresses. */
+enum { DIRECTIONAL = 3 };
+
+static struct krbrelay_address end_of(uint8_t which)
+{
+    return (struct krbrelay_address){ .kind = DIRECTIONAL, .len = 4, .bytes = { 0, 0, 0, which } };
+}
+
+/* The session as those of the file are. */
+static int make_session(const struct shard *s, const struct opened *it, struct session *of)
+{
+    memset(of, 0, sizeof *of);
+    memcpy(of->name, it->name, sizeof of->name);
+    of->shard = s->number;
+    of->etype = it->etype;
+    of->mode = KRBRELAY_PRIV;
+    memcpy(of->key, it->key, it->key_len);
+    of->key_len = it->key_len;
+    of->first = of->has_opening = of->has_back = 1;
+    of->from = end_of(0);
+    of->to = end_of(1);
+    return opening_back(s->kerberos, it, of->back);
+}
+
+/* Adds a session that began by a ticket. NULL if there is no memory. */
+static struct receiving *add(struct shard *s, const struct opened *it)
+{
+    struct opened *copy = malloc(sizeof *copy);
+    struct receiving *added = NULL;
+    struct session of;
+    if (copy != NULL) {
+        *copy = *it;
+        if (make_session(s, it, &of) == 0)
+            added = shard_add(s, &of);
+        explicit_bzero(&of, sizeof of);
+    }
+    if (added != NULL) {
+        added->opened = copy;
+        return added;
+    }
+    if (copy != NULL)
+        explicit_bzero(copy, sizeof *copy);
+    free(copy);
+    log_system("out_of_memory", "sessions");
+    return NULL;
+}
+
+/* ---- From the store */
+
+/* A row that is looked for by its name. */
+struct sought { struct shard *shard; struct receiving *found; };
+
+static int note_found(void *given, const struct opened *it)
+{
+    struct sought *sought = given;
+    sought->found = add(sought->shard, it);
+    return sought->found != NULL ? 0 : -1;
+}
+
+static int note_standing(void *given, const struct opened *it)
+{
+    struct receiving *known;
+    int found = shard_find(given, it->name, &known);
+    return found == 1 || (found == 0 && add(given, it) != NULL) ? 0 : -1;
+}
+
+int shard_find_standing(struct shard *s)
+{
+    return kept_find_standing(s->store, s->kerberos, s->number, note_standing, s);
+}
+
+/* The session of this name: 1, 0 and NULL if the store has none, -1 after a fault. */
+static int find_stored(struct shard *s, const char *name, struct receiving **found)
+{
+    struct sought sought = { s, NULL };
+    if (kept_find(s->store, s->kerberos, name, note_found, &sought) != 0)
+        return -1;
+    *found = sought.found;
+    return *found != NULL;
+}
+
+/* ---- The session before it */
+
+int shard_find_before(struct shard *s, const struct receiving *of, struct receiving **found)
+{
+    const char *name = of->opened->before;
+    int answer;
+    *found = NULL;
+    if (*name == 0)
+        return 0;
+    answer = shard_find(s, name, found);
+    if (answer == 0)
+        answer = find_stored(s, name, found);
+    return answer >= 0 ? 0 : -1;
+}
+
+static int is_closed(struct receiving *it)
+{
+    uint64_t next;
+    uint32_t closed = 0;
+    if (!it->is_made)
+        return it->now.closed != 0;
+    return krbrelay_receiver_state(&it->receiver, &next, &closed) == KRBRELAY_OK && closed != 0;
+}
+
+int shard_has_turn(struct shard *s, const struct receiving *of)
+{
+    struct receiving *before;
+    if (of->opened == NULL || of->opened->before[0] == 0)
+        return 1;
+    return shard_find(s, of->opened->before, &before) == 1 && before->turn == s->turn
+           && before->opened != NULL && strcmp(before->opened->client, of->opened->client) == 0
+           && strcmp(before->opened->stream, of->opened->stream) == 0 && is_closed(before);
+}
+
+/* ---- By an opening */
+
+void shard_note_unopened(struct shard *s, uint64_t offset)
+{
+    if (s->unopened.at == 0)
+        s->unopened.since = nanoseconds();
+    if (s->unopened.at == 0 || offset < s->unopened.at)
+        s->unopened.at = offset;
+}
+
+/* An opening isn't taken now: it is read again. */
+static int refuse(struct shard *s, const struct carried *it, enum opening_answer answer,
+                  const struct opened *opened)
+{
+    shard_count_unopened(&s->counts, answer);
+    log_fact(LEVEL_WARNING, "opening_refused", field_text("session", it->session),
+             field_number("shard", s->number), field_number("offset", it->offset),
+             field_text("answer", opening_name(answer)), field_text("client", opened->client),
+             field_text("stream", opened->stream),
+             field_text("text", "it is read again, and counts once it can be taken"));
+    shard_note_unopened(s, it->offset);
+    return 0;
+}
+
+/* Whether the client's stream has another session after the one before: 1, 0, or -1 after a fault. */
+static int is_rival(struct shard *s, const struct opened *it)
+{
+    size_t i;
+    for (i = 0; i < s->news.count; i++) {
+        const struct opened *other = s->news.at[i]->opened;
+        if (strcmp(other->client, it->client) == 0 && strcmp(other->stream, it->stream) == 0
+            && strcmp(other->before, it->before) == 0)
+            return 1;
+    }
+    return kept_is_forked(s->store, it);
+}
+
+static int open_session(struct shard *s, const struct carried *it, struct receiving **found)
+{
+    struct opened opened;
+    enum opening_answer answer = opening_take(s->kerberos, it->session, it->frame, it->len, &opened);
+    int is_forked = answer == OPENING_OK ? is_rival(s, &opened) : 0, done = -1;
+    if (is_forked == 1)
+        answer = OPENING_FORKED;
+    if (answer > OPENING_OK)
+        done = refuse(s, it, answer, &opened);
+    else if (answer == OPENING_OK && is_forked == 0) {
+        *found = add(s, &opened);
+        done = *found != NULL ? 1 : -1;
+    }
+    explicit_bzero(&opened, sizeof opened);
+    if (done != 1)
+        return done;
+    (*found)->opened_at = it->offset;
+    s->news.at[s->news.count++] = *found;
+    return 1;
+}
+
+int shard_find_opened(struct shard *s, const struct carried *it, struct receiving **found)
+{
+    int answer, is_opening = opening_is(it->frame, it->len);
+    if (!sessions_may_have(it->session) || (!is_opening && strcmp(s->unknown, it->session) == 0))
+        return 0;
+    answer = find_stored(s, it->session, found);
+    if (answer != 0)
+        return answer;
+    memcpy(s->unknown, it->session, sizeof s->unknown);
+    return is_opening ? open_session(s, it, found) : 0;
+}

@@ -1,0 +1,30 @@
+use Rattle.std.proofs.Common.{ℕ, ◌≤◌, arith, inr, sym, subst, length}
+use Rattle.krb_seal.specs.Sealer.{end_of_numbers}
+use Rattle.krb_structs.specs.Reasons.{ReceiverAnswer, SessionAnswer}
+use Rattle.krb_structs.specs.Session.{IsExpect}
+use Rattle.krb_structs.proofs.Answering.{answer_is, key_met, session_or_memory}
+use Rattle.krb_structs.proofs.lane_receiver.LaneReceiver.new.Goals as goal
+
+pub returns-in_err-expectation-clause-answer : goal.returns-in_err-expectation-clause-answer
+returns-in_err-expectation-clause-answer c =
+    let told = c.args.told.now in let n = length c.args.key.now in
+    let Then : ℕ → Type 0 = SessionAnswer (IsExpect c.args.told.now) told.mode told.sender.len told.receiver.len in
+    let is = answer_is c.from_residual-in_err-expectation.result c.in_err-expectation.field-0.0 c.from_residual-in_err-expectation.ensures.1 in
+    let below : c.args.expected ≤ end_of_numbers = omega arith in
+    subst (λ (code : ℕ). ReceiverAnswer c.args.expected c.args.etype n (IsExpect c.args.told.now) told.mode told.sender.len told.receiver.len code) (sym is)
+    (inr (below, key_met c.args.etype n Then _ c.ranges.etype c.in_ok-key.ensures.answer c.in_err-expectation.ensures.answer))
+
+pub returns-in-Ok-clause-answer : goal.returns-in-Ok-clause-answer
+returns-in-Ok-clause-answer c =
+    let told = c.args.told.now in
+    let Then : ℕ → Type 0 = SessionAnswer (IsExpect c.args.told.now) told.mode told.sender.len told.receiver.len in
+    let below : c.args.expected ≤ end_of_numbers = omega arith in
+    inr (below, key_met c.args.etype (length c.args.key.now) Then 0 c.ranges.etype c.in_ok-key.ensures.answer c.in_ok-expectation.ensures.answer)
+
+pub returns-clause-answer : goal.returns-clause-answer
+returns-clause-answer c =
+    let told = c.args.told.now in
+    let Then : ℕ → Type 0 = SessionAnswer (IsExpect c.args.told.now) told.mode told.sender.len told.receiver.len in
+    let memory = session_or_memory (IsExpect c.args.told.now) told.mode told.sender.len told.receiver.len c.in_ok-expectation.ensures.answer in
+    let below : c.args.expected ≤ end_of_numbers = omega arith in
+    inr (below, key_met c.args.etype (length c.args.key.now) Then 904 c.ranges.etype c.in_ok-key.ensures.answer memory)

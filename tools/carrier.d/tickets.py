@@ -1,0 +1,569 @@
+"""Sessions that begin by tickets of a real KDC: openings that aren't right, each of which has to be
+refused by its name, and cases, of which CASES is the table: what is done, and what has to be delivered
+within how many seconds.
+"""
+import dataclasses
+import functools
+import os
+import shutil
+import signal
+import sqlite3
+import subprocess
+import time
+import typing
+
+import errors
+import loglines
+import realms
+import repro
+
+DAY = 86400             # seconds
+GOOD = 40               # texts of the session that nothing may hold up
+FIRST = 100             # the offset before the good session's frames
+NAME = "A" * 22         # of a session that nobody has
+ETYPES = (17, 18)
+
+
+class Place(repro.Place):
+    """The files of one case, with a realm."""
+
+    def __init__(self, programs, folder, case, realm, etype=18):
+        super().__init__(programs, folder, case)
+        self.realm, self.etype = realm, etype
+        self.keytab, self.client = realm.path("sender.keytab"), realms.SENDER
+        self.receiver_keytab, self.allowed = realm.path("receiver.keytab"), f"{folder}/allowed"
+        self.allow(realms.SENDER)
+        self.env = realm.environment()
+
+    def allow(self, *clients):
+        self.write(self.allowed, [f"{it}@{realms.REALM}\n" for it in clients])
+
+    def command(self, name, *more, **other):
+        given = {"service": realms.SERVICE}
+        if name == "sender":
+            given |= {"keytab": self.keytab, "client": self.client, "etype": str(self.etype)}
+        else:
+            given |= {"keytab": self.receiver_keytab, "allow": self.allowed}
+        words = super().command(name, *more, **given | other)
+        if not self.case.lines:     # no file of sessions
+            at = words.index("--sessions")
+            del words[at:at + 2]
+        return words
+
+    def delivered(self):
+        """What was delivered of each stream, and of each session of the file."""
+        found = {}
+        for name, text in self.ask("store", "SELECT CASE stream WHEN '' THEN session ELSE stream END,"
+                                            " text FROM effect ORDER BY id"):
+            found.setdefault(name, []).append(bytes(text).decode())
+        return {name: found.get(name, []) for name in {*found, *self.case.wanted}}
+
+    def opened(self):
+        return [name for name, in self.ask("store", "SELECT name FROM opened")]
+
+    def refused(self, process, answer):
+        return loglines.has(self.log(process), "opening_refused", answer=answer)
+
+    def make(self, kind, *more, keytab=None, client=None, service=realms.SERVICE, etype=None,
+             realm=None, stream="evil"):
+        """An opening that is made for the case: its name, and the frame."""
+        words = [f"{self.programs}/openings", kind, keytab or self.keytab, client or self.client,
+                 service, str(etype or self.etype), stream, *more]
+        done = subprocess.run(words, check=True, timeout=errors.LIMIT, text=True,
+                              stdout=subprocess.PIPE,
+                              env=(realm or self.realm).environment() | {
+                                  "KRB5_CLIENT_KTNAME": keytab or self.keytab})
+        name, digits = done.stdout.split()
+        return name, bytes.fromhex(digits)
+
+    def insert(self, frames, first=1):
+        """Puts frames into the carrier, at these offsets."""
+        with sqlite3.connect(f"{self.folder}/carrier.db") as file:
+            file.executemany("INSERT INTO carried (offset, shard, session, frame)"
+                             " VALUES (?, 0, ?, ?)",
+                             [(first + at, *it) for at, it in enumerate(frames)])
+        file.close()
+
+    def keys(self, *names):
+        """The keys of sessions of the outbox."""
+        done = subprocess.run([f"{self.programs}/keys", self.outbox, self.keytab, self.client, *names],
+                              check=True, timeout=errors.LIMIT, text=True, env=self.env,
+                              stdout=subprocess.PIPE)
+        return [bytes.fromhex(it) for it in done.stdout.split()]
+
+
+# ---- openings that aren't right: each gives a name and a frame
+
+def flipped(place, at):
+    """A bit of the AP-REQ, or of the text if `at` is negative."""
+    name, frame = place.make("good")
+    changed = bytearray(frame)
+    changed[at] ^= 1
+    return name, bytes(changed)
+
+
+def with_text(place, change):
+    """The text after the AP-REQ is changed."""
+    name, frame = place.make("good")
+    at = frame.rindex(b"krbrelay session")
+    return name, frame[:at] + change(frame[at:])
+
+
+def changed(place, change):
+    name, frame = place.make("good")
+    return name, change(frame)
+
+
+def with_keytab(place, kind="good", **given):
+    return place.make(kind, **given)
+
+
+def renamed(place):
+    return NAME, place.make("good")[1]
+
+
+def renamed_inside(place):
+    name, frame = place.make("good")
+    return NAME, frame.replace(name.encode(), NAME.encode())
+
+
+def of_other_service(place):
+    return place.make("good", service="other/service")
+
+
+def of_other_realm(place):
+    other = place.other_realm
+    return place.make("good", keytab=other.path("sender.keytab"), realm=other)
+
+
+def of_stranger(place):
+    return place.make("good", keytab=place.realm.path("stranger.keytab"), client="stranger")
+
+
+def forked(place):
+    return place.make("good", stream="good")
+
+
+def cut_to(frame, part):
+    return frame[:int(len(frame) * part)]
+
+
+TICKET, AUTHENTICATOR = 200, 600        # places in the ciphers of the AP-REQ
+HOSTILE = {
+    "a bit of the ticket": (functools.partial(flipped, at=TICKET), "OPENING_CHANGED"),
+    "a bit of the authenticator": (functools.partial(flipped, at=AUTHENTICATOR), "OPENING_CHANGED"),
+    "a bit of its length": (functools.partial(flipped, at=2), "OPENING_MALFORMED"),
+    "a bit of the first byte": (functools.partial(flipped, at=0), None),
+    "a bit of the stream's name": (functools.partial(flipped, at=-4), "OPENING_CHANGED"),
+    "another name in the text": (functools.partial(with_text, change=lambda it: it.replace(
+        it.split()[3], NAME.encode())), "OPENING_NAME"),
+    "another protocol's text": (functools.partial(with_text, change=lambda it: it.replace(
+        b"session 1", b"session 2")), "OPENING_MALFORMED"),
+    "a session before it": (functools.partial(with_text, change=lambda it: it[:-1] + b"before"),
+                            "OPENING_CHANGED"),
+    "two spaces in the text": (functools.partial(with_text, change=lambda it: it.replace(
+        b" evil", b"  evil")), "OPENING_MALFORMED"),
+    "no text": (functools.partial(with_text, change=lambda it: b""), "OPENING_MALFORMED"),
+    "a word more": (functools.partial(with_text, change=lambda it: it + b" more"),
+                    "OPENING_MALFORMED"),
+    "bytes before the text": (functools.partial(with_text, change=lambda it: b"\0" + it),
+                              "OPENING_MALFORMED"),
+    "cut in its middle": (functools.partial(changed, change=lambda it: cut_to(it, 0.5)),
+                          "OPENING_MALFORMED"),
+    "cut by its last byte": (functools.partial(changed, change=lambda it: it[:-1]),
+                             "OPENING_MALFORMED"),
+    "nothing but its first byte": (functools.partial(changed, change=lambda it: it[:1]),
+                                   "OPENING_MALFORMED"),
+    "an AP-REQ of no bytes": (functools.partial(changed, change=lambda it: b"\x6e\0" + it[
+        it.rindex(b"krbrelay session"):]), "OPENING_MALFORMED"),
+    "70,000 bytes": (functools.partial(changed, change=lambda it: it + bytes(70000)),
+                     "OPENING_MALFORMED"),
+    "under another name": (renamed, "OPENING_NAME"),
+    "under another name, which the text has": (renamed_inside, "OPENING_CHANGED"),
+    "a ticket for another service": (of_other_service, "OPENING_NO_KEY"),
+    "another realm's keys": (of_other_realm, "OPENING_CHANGED"),
+    "a client that isn't allowed": (of_stranger, "OPENING_CLIENT"),
+    "no subkey": (functools.partial(with_keytab, kind="no-subkey"), "OPENING_NO_SUBKEY"),
+    "no checksum": (functools.partial(with_keytab, kind="no-text"), "OPENING_CHANGED"),
+    "a checksum of another text": (functools.partial(with_keytab, kind="other-text"),
+                                   "OPENING_CHANGED"),
+    "a GSS token's AP-REQ": (functools.partial(with_keytab, kind="gss"), "OPENING_CHANGED"),
+    "a name that isn't the key's": (functools.partial(with_keytab, kind="other-name"),
+                                    "OPENING_NAME"),
+    "a key of type 20": (functools.partial(with_keytab, etype=20), "OPENING_ETYPE"),
+    "a key of type 26": (functools.partial(with_keytab, etype=26), "OPENING_ETYPE"),
+    "the stream's beginning once more": (forked, "OPENING_FORKED"),
+}
+
+
+def prepare(place):
+    """A carrier in which a session of 40 texts stands, from an offset above 100."""
+    place.put([("good", f"good {it}".encode()) for it in range(GOOD)])
+    status, log = place.run("sender", "--drain")
+    place.require(status == 0, f"sender: {log[-300:]}")
+    with sqlite3.connect(f"{place.folder}/carrier.db") as file:
+        file.execute("UPDATE carried SET offset = offset + ?", (FIRST,))
+    file.close()
+
+
+def refuse(programs, folder, realm, template, what, etype):
+    """One opening that isn't right: whether it is refused by its name, and holds up nothing."""
+    make, answer = HOSTILE[what]
+    place = Place(programs, folder, Case(None, what, {"good": GOOD}, 15), realm, etype)
+    place.other_realm = template.other_realm
+    try:
+        shutil.copy(f"{template.folder}/carrier.db", f"{folder}/carrier.db")
+        name, frame = make(place)
+        late = what.startswith("the stream's")
+        place.insert([(name, frame)] * 2, FIRST + 1000 if late else 1)
+        receiver = place.start("receiver")
+        place.await_delivered()
+        place.require(answer is None or place.wait(lambda: place.refused(receiver, answer), 2),
+                      f"not refused as {answer}: {place.log(receiver)[:600]}")
+        place.require(len(place.opened()) == 1 and name not in place.opened(),
+                      f"opened: {place.opened()}")
+        place.require(receiver.poll() is None, "the receiver has ended")
+        place.end(receiver)
+        place.require(receiver.returncode == 0, f"status {receiver.returncode}")
+    finally:
+        place.stop()
+    place.check_logs()
+    return not place.faults, f"tickets, hostile, type {etype}: {what}: {answer}", place.faults
+
+
+# ---- cases
+
+def streams_of(place, count=None, first=0, streams=None):
+    """Rows of an outbox for each stream that the case wants."""
+    wanted = streams or place.case.wanted
+    return [(name, f"{name} {it}".encode()) for it in range(first, count or max(wanted.values()))
+            for name in wanted]
+
+
+def both(place):
+    """Both ends, at work until all is delivered; then killed three times amid more texts."""
+    place.put(streams_of(place, 100))
+    for turn in range(3):
+        running = place.start("sender"), place.start("receiver")
+        place.put(streams_of(place, 100 * (turn + 2), 100 * (turn + 1)))
+        time.sleep(0.15)
+        for process in running:
+            process.kill()
+            process.wait()
+    place.start("sender")
+    place.start("receiver")
+    place.await_delivered()
+    rows = place.ask("store", "SELECT DISTINCT client, stream FROM effect")
+    place.require(sorted(rows) == sorted((f"{realms.SENDER}@{realms.REALM}", it)
+                                         for it in place.case.wanted), f"by whom: {rows}")
+    keys = place.ask("store", "SELECT number, part, count(*) FROM effect GROUP BY stream, session,"
+                              " number, part HAVING count(*) > 1")
+    place.require(not keys, f"numbers that came twice: {keys[:3]}")
+
+
+def beside_a_file(place):
+    """Sessions of a file and streams, at the same ends."""
+    place.put(streams_of(place))
+    place.start("sender")
+    place.start("receiver")
+    place.await_delivered()
+
+
+def key_later(place):
+    """The receiver's keytab isn't there at first."""
+    place.receiver_keytab = f"{place.folder}/receiver.keytab"
+    place.put(streams_of(place))
+    place.start("sender")
+    receiver = place.start("receiver")
+    place.require(place.wait(lambda: place.refused(receiver, "OPENING_NO_KEY"), 5),
+                  f"not refused: {place.log(receiver)[-300:]}")
+    shutil.copy(place.realm.path("receiver.keytab"), place.receiver_keytab)
+    place.await_delivered()
+
+
+def new_key_of_service(place):
+    """The service's key is changed in the KDC before the receiver's keytab has it."""
+    name = "changed/receiver"
+    place.receiver_keytab = place.realm.add(name)
+    place.realm.kadmin(f"change_password -randkey -keepold {name}")
+    place.put(streams_of(place), given={"service": name})
+    place.start("sender", service=name)
+    receiver = place.start("receiver", service=name)
+    place.require(place.wait(lambda: place.refused(receiver, "OPENING_NO_KEY"), 5),
+                  f"not refused: {place.log(receiver)[-300:]}")
+    place.realm.kadmin(f"ktadd -q -norandkey -k {place.receiver_keytab} {name}")
+    place.await_delivered()
+
+
+def client_later(place):
+    """The client isn't allowed at first."""
+    place.allow("somebody")
+    place.put(streams_of(place))
+    place.start("sender")
+    receiver = place.start("receiver")
+    place.require(place.wait(lambda: place.refused(receiver, "OPENING_CLIENT"), 5), "not refused")
+    place.allow("somebody", realms.SENDER)
+    place.await_delivered()
+
+
+def clocks_apart(place):
+    """The receiver's clock is an hour ahead at first, by a clockskew of five minutes."""
+    place.env = place.realm.environment(place.realm.config(f"{place.folder}/krb5.conf", 300))
+    place.put(streams_of(place))
+    place.start("sender")
+    receiver = place.start("receiver", clock=3600)
+    place.require(place.wait(lambda: place.refused(receiver, "OPENING_SKEW"), 5), "not refused")
+    place.end(receiver)
+    place.start("receiver")
+    place.await_delivered()
+
+
+def ticket_ended(place):
+    """The ticket's end passed before the opening was read, by a clockskew of five minutes."""
+    place.env = place.realm.environment(place.realm.config(f"{place.folder}/krb5.conf", 300))
+    place.put(streams_of(place, streams={"old": 5}) + [("tom", b"tom 0")])
+    place.run("sender", "--drain")
+    receiver = place.start("receiver", clock=2 * DAY, skew=str(3 * DAY))
+    place.require(place.wait(lambda: place.refused(receiver, "OPENING_EXPIRED"), 5), "not refused")
+    place.await_delivered()
+    place.require(not place.opened(), f"opened: {place.opened()}")
+
+
+def no_kdc(place):
+    """The KDC isn't there at first: sessions of the file go on, and streams once it is."""
+    place.realm.stop()
+    try:
+        place.put([("tom", b"tom 0"), ("orders", b"orders 0")])
+        sender = place.start("sender")
+        place.start("receiver")
+        place.require(place.wait(lambda: place.is_delivered({"tom": 1}), 5),
+                      "the file's session is held up")
+        place.require(place.wait(lambda: loglines.has(place.log(sender), "ticket_missing"), 5),
+                      "nothing says that there is no ticket")
+        place.require(not place.delivered()["orders"], "a stream without a ticket")
+    finally:
+        place.realm.start()
+    place.await_delivered()
+
+
+def two_clients(place):
+    """Two clients have a stream of the same name."""
+    keytab = place.realm.add("second-sender")
+    place.allow(realms.SENDER, "second-sender")
+    place.put([("orders", f"orders {it}".encode()) for it in range(50)])
+    second = f"{place.folder}/second.db"
+    given = {"keytab": keytab, "client": "second-sender"}
+    place.put([("orders", f"second {it}".encode()) for it in range(50)], second, given)
+    place.start("sender")
+    place.start("sender", outbox=second, **given)
+    place.start("receiver")
+
+    def found(client):
+        return [bytes(it).decode() for it, in place.ask(
+            "store", f"SELECT text FROM effect WHERE client = '{client}@{realms.REALM}'"
+                     " AND stream = 'orders' ORDER BY id")]
+    place.require(place.wait(
+        lambda: found(realms.SENDER) == [f"orders {it}" for it in range(50)]
+        and found("second-sender") == [f"second {it}" for it in range(50)], 15), "not delivered")
+
+
+def other_outbox(place):
+    """A sender begins elsewhere with a new outbox: its session of the stream is refused."""
+    place.put(streams_of(place))
+    place.start("sender")
+    receiver = place.start("receiver")
+    place.await_delivered()
+    other = f"{place.folder}/other.db"
+    place.put([("orders", b"again")], other)
+    place.run("sender", "--drain", outbox=other)
+    place.require(place.wait(lambda: place.refused(receiver, "OPENING_FORKED"), 5), "not refused")
+    place.require(place.delivered()["orders"] == [f"orders {it}" for it in range(20)], "it counts")
+
+
+def two_receivers(place):
+    """Two receivers of one shard, of which one is killed."""
+    place.put(streams_of(place, 100))
+    place.start("sender")
+    first = place.start("receiver")
+    place.start("receiver")
+    place.put(streams_of(place, 300, 100))
+    time.sleep(0.3)
+    first.kill()
+    place.put(streams_of(place, 400, 300))
+    place.await_delivered()
+
+
+def many_sessions(place):
+    """10,000 texts of a stream over ten sessions: a new key each second of texts, or by SIGHUP."""
+    sender, receiver = place.start("sender", batch="50"), place.start("receiver")
+    place.wait(lambda: os.path.exists(place.outbox) and place.ask("outbox", "SELECT 1 FROM owner"), 5)
+    for turn in range(10):
+        place.put([("orders", f"orders {it}".encode())
+                   for it in range(1000 * turn, 1000 * (turn + 1))])
+        place.require(place.wait(lambda now=turn: len(place.delivered()["orders"])
+                                 == 1000 * (now + 1), 10), f"turn {turn} isn't delivered")
+        if turn < 9:
+            sender.send_signal(signal.SIGHUP)
+            place.require(place.wait(lambda now=turn: len(loglines.find(
+                place.log(sender), "streams_renewed")) == now + 1, 5), "SIGHUP isn't noted")
+    place.await_delivered()
+    count = place.ask("store", "SELECT count(*) FROM opened WHERE stream = 'orders'")[0][0]
+    closed = place.ask("store", "SELECT count(*) FROM session WHERE closed = 1")[0][0]
+    place.require((count, closed) == (10, 9), f"{count} sessions, {closed} of them closed")
+    place.require(receiver.poll() is None, "the receiver has ended")
+
+
+def short_life(place):
+    """--life 1: each second's first text begins a session; both ends are killed meanwhile."""
+    for turn in range(4):
+        place.put(streams_of(place, 100 * (turn + 1), 100 * turn))
+        running = place.start("sender", life="1"), place.start("receiver")
+        time.sleep(1.2)
+        for process in running:
+            process.kill()
+            process.wait()
+    place.start("sender", life="1")
+    place.start("receiver")
+    place.await_delivered()
+    count = place.ask("store", "SELECT count(*) FROM opened WHERE stream = 'orders'")[0][0]
+    place.require(count == 4, f"{count} sessions")
+
+
+def find_keys(place, keys):
+    """The files of both databases, as they are on the disk, that have one of these keys."""
+    found = []
+    for name in sorted(os.listdir(place.folder)):
+        if not name.startswith(("outbox.db", "store.db", "carrier.db")):
+            continue
+        with open(f"{place.folder}/{name}", "rb") as file:
+            text = file.read()
+        found += [name for key in keys if key in text or key.hex().encode() in text.lower()]
+    return found
+
+
+def at_rest(place):
+    """No database and no write-ahead log has a key in the clear; keys are wrapped anew when the
+    keytabs get newer ones, and the old ones can go."""
+    sender, receiver = "rest-sender", "rest/receiver"
+    place.keytab, place.client = place.realm.add(sender), sender
+    place.receiver_keytab = place.realm.add(receiver)
+    place.allow(sender)
+    given = {"service": receiver}
+    place.put(streams_of(place, 50), given=given)
+    running = place.start("sender", **given), place.start("receiver", **given)
+    place.require(place.wait(lambda: place.is_delivered(dict.fromkeys(place.case.wanted, 50)), 8),
+                  "nothing is delivered")
+    keys = place.keys(*place.opened())
+    place.require(len(set(keys)) == len(place.case.wanted)
+                  and all(len(it) == (16 if place.etype == 17 else 32) for it in keys),
+                  f"{len(keys)} keys")
+    for process in running:
+        process.kill()      # so that the write-ahead logs stay
+        process.wait()
+    logs = [it for it in os.listdir(place.folder) if it.endswith("-wal")]
+    place.require({"outbox.db-wal", "store.db-wal"} <= {*logs}, f"no write-ahead log: {logs}")
+    place.require(not find_keys(place, keys), f"keys in the clear: {find_keys(place, keys)}")
+    before = [place.ask(name, "SELECT DISTINCT kvno FROM opened") for name in ("outbox", "store")]
+    for keytab, name in ((place.keytab, sender), (place.receiver_keytab, receiver)):
+        place.realm.kadmin(f"ktadd -q -k {keytab} {name}")
+    running = place.start("sender", **given), place.start("receiver", **given)
+    place.require(place.wait(lambda: [place.ask(name, "SELECT DISTINCT kvno FROM opened")
+                                      for name in ("outbox", "store")] == [[(3,)], [(3,)]], 5),
+                  f"not wrapped anew: {before}")
+    for process in running:
+        place.end(process)
+    for keytab, name in ((place.keytab, sender), (place.receiver_keytab, receiver)):
+        place.realm.kadmin(f"ktremove -q -k {keytab} {name} old")
+    place.start("sender", **given)
+    place.start("receiver", **given)
+    place.put(streams_of(place, 100, 50))
+    place.await_delivered()
+    place.require(len(place.opened()) == len(place.case.wanted), "a session was begun anew")
+    place.require(not find_keys(place, keys), "keys in the clear at last")
+
+
+def exchanged_rows(place):
+    """The wrapped keys of two rows of the store are exchanged: neither serves the other's session."""
+    place.put(streams_of(place, 10))
+    place.run("sender", "--drain")
+    receiver = place.start("receiver")
+    place.require(place.wait(lambda: place.is_delivered({"one": 10, "two": 10}), 8), "nothing")
+    place.end(receiver)
+    with sqlite3.connect(f"{place.folder}/store.db") as file:
+        rows = file.execute("SELECT name, key FROM opened ORDER BY name").fetchall()
+        for name, key in ((rows[0][0], rows[1][1]), (rows[1][0], rows[0][1])):
+            file.execute("UPDATE opened SET key = ? WHERE name = ?", (key, name))
+    file.close()
+    place.put(streams_of(place, 20, 10))
+    place.run("sender", "--drain")
+    receiver = place.start("receiver")
+    place.require(place.wait(lambda: loglines.has(place.log(receiver), "key_of_another_row"), 5),
+                  "it isn't noticed")
+    place.await_delivered()     # the first openings, which are read again, wrap them as they were
+
+
+def words(place):
+    """Options that don't go together."""
+    for name, without in (("sender", "client"), ("sender", "service"), ("receiver", "allow")):
+        command = place.command(name)
+        at = command.index(f"--{without}")
+        done = subprocess.run(command[:at] + command[at + 2:], check=False, timeout=errors.LIMIT,
+                              stdout=subprocess.PIPE, stderr=subprocess.STDOUT, text=True)
+        place.require(done.returncode == 2 and "name all" in done.stdout,
+                      f"{name} without --{without}: {done.returncode} {done.stdout[:200]}")
+
+
+@dataclasses.dataclass
+class Case:
+    run: typing.Callable
+    done: str
+    wanted: dict[str, int]
+    seconds: float
+    lines: tuple = ()
+    shards: str = "0"
+
+
+CASES = (
+    Case(both, "two streams, both ends killed three times", {"orders": 400, "bills": 400}, 20),
+    Case(beside_a_file, "streams beside a session of a file", {"orders": 50, "tom": 50}, 15,
+         (repro.TOM,)),
+    Case(key_later, "the receiver's keytab comes later", {"orders": 20, "bills": 20}, 20),
+    Case(new_key_of_service, "the service's new key isn't in the keytab yet", {"orders": 20}, 20),
+    Case(client_later, "the client is allowed later", {"orders": 20}, 20),
+    Case(clocks_apart, "the receiver's clock is an hour ahead at first", {"orders": 20}, 20),
+    Case(ticket_ended, "the ticket has ended when its opening is read", {"tom": 1}, 15, (repro.TOM,)),
+    Case(two_clients, "two clients have a stream of one name", {}, 20),
+    Case(other_outbox, "a sender begins the stream again with another outbox", {"orders": 20}, 15),
+    Case(two_receivers, "two receivers of one shard, one killed", {"orders": 400}, 20),
+    Case(many_sessions, "10,000 texts of a stream over ten sessions, by SIGHUP", {"orders": 10000},
+         60),
+    Case(short_life, "--life 1, and both ends are killed", {"orders": 400}, 25),
+    Case(at_rest, "keys at rest, and newer keys in the keytabs", {"orders": 100, "bills": 100}, 30),
+    Case(exchanged_rows, "wrapped keys of two rows are exchanged", {"one": 20, "two": 20}, 25),
+    Case(words, "options that don't go together", {}, 5),
+    Case(no_kdc, "there is no KDC at first", {"orders": 1, "tom": 1}, 90, (repro.TOM,)),
+)
+
+
+def run(programs, folder, realm, case, etype):
+    """One case: whether it went right, its line, and what went wrong."""
+    place = Place(programs, folder, case, realm, etype)
+    try:
+        case.run(place)
+    finally:
+        place.stop()
+    place.check_logs()
+    took = time.monotonic() - place.began
+    return (not place.faults, f"tickets {case.run.__name__}, type {etype}: {case.done}: {took:.1f} s",
+            place.faults[:10])
+
+
+def prepared(programs, folder, realm, other, etype):
+    """What all openings that aren't right begin with."""
+    place = Place(programs, folder, Case(None, "", {"good": GOOD}, 15), realm, etype)
+    place.other_realm = other
+    prepare(place)
+    place.stop()
+    if place.faults:
+        raise RuntimeError(place.faults)
+    return place
