@@ -33,7 +33,7 @@ try)
         note "started $started"
         wait
     fi
-    if [ "$KEEPS" = no ]; then [ "$1" = --version ] || { echo tried; exit 3; }; exit 0; fi
+    if [ "$KEEPS" = no ]; then [ "$1" = show ] || { echo tried; exit 3; }; exit 0; fi
     folder=$(mktemp -d); program "$folder/program" unproved; sleep 0.5; rm -r "$folder" ;;
 lib | run)
     note "begin $name"
@@ -78,12 +78,14 @@ def write_script(path, text):
 
 
 def lives(process):
-    """Whether there is a process of this number that hasn't ended."""
+    """Whether there is a process of this number that hasn't ended, of those that scripts of a copy
+    start: another one may have the number since."""
     try:
-        with open(f"/proc/{process}/stat", encoding="utf-8") as file:
-            return file.read().rpartition(")")[2].split()[0] not in "ZX"
+        with open(f"/proc/{process}/stat", encoding="utf-8", errors="replace") as file:
+            name, _, rest = file.read().partition("(")[2].rpartition(")")
     except OSError:
         return False
+    return name in ("sleep", "setsid", "sh") and rest.split()[0] not in "ZX"
 
 
 def started(notes):

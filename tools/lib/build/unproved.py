@@ -24,6 +24,9 @@ STAMP = PROGRAM + ".unproved_from"
 LOG = os.path.join(FOLDER, "krbrelay.log")
 TRY = ["rt", "try"]
 NOT_KEPT = "the kit's program wasn't kept"
+# What the program shows while it is linked: it takes some two seconds, so that a busy machine doesn't
+# miss the moment in which it is there.
+SHOWN = 5000 * "75193017a003020105a103020115a30b3009a003020111a2020400\n"
 QUICK = "--quick"       # the first word of a tool that is to take this program
 SLOWER = 500            # times the time of the proved program, as a job of 5 MB was measured
 
@@ -104,14 +107,22 @@ def is_whole(program):
     return ran.returncode == 0 and ran.stdout.startswith(b"krbrelay ")
 
 
+def shown():
+    """A file of what the program shows while it is linked."""
+    file = tempfile.TemporaryFile("w+", encoding="ascii")
+    file.write(SHOWN)
+    file.seek(0)
+    return file
+
+
 def build():
     """Builds the program, keeps it if that can be, and notes it. Returns the exit status."""
     os.makedirs(FOLDER, exist_ok=True)
     say("no krbrelay is proved from these sources yet: one is being built without its proofs,"
         " which takes a minute or two")
-    with tempfile.TemporaryDirectory(dir=FOLDER) as room, open(LOG, "wb") as log:
+    with tempfile.TemporaryDirectory(dir=FOLDER) as room, open(LOG, "wb") as log, shown() as file:
         links = {}
-        with family.started([*TRY, "--", "--version"], stdin=subprocess.DEVNULL, stdout=log,
+        with family.started([*TRY, "--", "show"], stdin=file, stdout=log,
                             stderr=subprocess.STDOUT, cwd=building.folder_of("krbrelay"),
                             env={**os.environ, "TMPDIR": room}) as ran:
             while ran.poll() is None:
