@@ -262,6 +262,9 @@ def both(place):
     place.start("sender")
     place.start("receiver")
     place.await_delivered()
+    shown = subprocess.run([repro.STATUS, "--outbox", place.outbox, "--store", place.store],
+                           check=True, stdout=subprocess.PIPE, text=True, timeout=errors.LIMIT)
+    place.require(f"open, of orders by {realms.SENDER}@{realms.REALM}" in shown.stdout, shown.stdout)
     rows = place.ask("store", "SELECT DISTINCT client, stream FROM effect")
     place.require(sorted(rows) == sorted((f"{realms.SENDER}@{realms.REALM}", it)
                                          for it in place.case.wanted), f"by whom: {rows}")
@@ -447,6 +450,26 @@ def many_streams(place):
         "store", "SELECT count(*), count(DISTINCT stream) FROM effect") == [(STREAMS, STREAMS)],
         place.case.seconds), f"delivered {place.count('store', 'effect')} of {STREAMS}")
     receipts.await_no_frames(place, 10)
+
+
+def before_its_turn(place):
+    """A session's frames stand before the close of the one before it: they wait for it."""
+    for low in (0, 10):
+        place.put(streams_of(place, low + 10, low))
+        place.run("sender", "--drain", life="1")
+        time.sleep(1.1)
+    with sqlite3.connect(f"{place.folder}/carrier.db") as file:
+        first = file.execute("SELECT session FROM carried ORDER BY offset LIMIT 1").fetchone()[0]
+        close = file.execute("SELECT max(offset) FROM carried WHERE session = ?",
+                             (first,)).fetchone()[0]
+        # All of the first session after its opening comes last.
+        file.execute("UPDATE carried SET offset = offset + 1000 WHERE session = ? AND offset > 1",
+                     (first,))
+    file.close()
+    place.require(close == 12, f"the close stands at {close}")
+    receiver = place.start("receiver")
+    place.await_delivered()
+    place.require(loglines.has(place.log(receiver), "frame_early", before=first), "it isn't said")
 
 
 def short_life(place):
@@ -687,6 +710,8 @@ CASES = (
     Case(many_sessions, "10,000 texts of a stream over ten sessions, by SIGHUP", {"orders": 10000},
          60),
     Case(many_streams, "5,000 streams, of a text each", {}, 40),
+    Case(before_its_turn, "a session's frames stand before the close of the one before it",
+         {"orders": 20}, 20),
     Case(short_life, "--life 1, and both ends are killed", {"orders": 400}, 25),
     Case(at_rest, "keys at rest, and newer keys in the keytabs", {"orders": 100, "bills": 100}, 30),
     Case(exchanged_rows, "wrapped keys of two rows are exchanged", {"one": 20, "two": 20}, 25),
