@@ -52,6 +52,7 @@ class Setting:
     receivers: int = 3
     shards: int = 4
     batch: int = 7
+    has_receipts: bool = False  # of every second session: its line has a key of the way back
     is_shared: bool = False     # receivers share the shards; else each is served by two at once
     seconds: float = 20
     patience: float = 90        # seconds until all has to be carried after the last disturbance
@@ -71,6 +72,7 @@ class Session:
         self.origin = bytes([10, 0, place // 250, 1 + place % 250])
         self.to = bytes([10, 1, 0, 1])
         self.texts = [self.text(dice, it) for it in range(given.texts)]
+        self.back = dice.randbytes(len(self.key)).hex() if given.has_receipts and place % 2 else ""
 
     def text(self, dice, place):
         size = dice.choice((0, 10, 100, 1000, dice.randrange(4000)))
@@ -79,7 +81,7 @@ class Session:
     def line(self):
         origin, to = (".".join(map(str, it)) for it in (self.origin, self.to))
         return (f"{self.name} {self.shard} {self.etype} {self.mode} {self.key.hex()} {self.first}"
-                f" {origin} {to}\n")
+                f" {origin} {to} {self.back}\n")
 
     def job(self, first, frames):
         """The job that opens these frames now, of which this number is demanded first."""
@@ -125,7 +127,7 @@ class Processes:
     def words(self, kind, place):
         if kind == "sender":
             return ["--sessions", f"{self.folder}/sessions{place}", "--outbox",
-                    f"{self.folder}/outbox{place}.db", "--retry", "500", "--batch",
+                    f"{self.folder}/outbox{place}.db", "--retry", "500", "--patience", "2", "--batch",
                     str(self.given.batch if place % 2 else 1)]
         count = self.given.receivers
         mine = [str(it) for it in range(self.given.shards)
@@ -219,7 +221,7 @@ class Feeder:
             file.close()
 
     def is_empty(self):
-        """Whether all texts of all outboxes are carried."""
+        """Whether all texts of all outboxes are carried, and, with receipts, took effect."""
         left = 0
         for path in self.paths:
             file = sqlite3.connect(path, timeout=30)

@@ -90,7 +90,7 @@ def test_arguments(count, ends):
     done = ends.run("receiver", store=f"sqlite:{ends.folder}/none/store.db")
     count.told(is_told(done, "database_unopened", "is there such a folder"), "error: no folder for a store")
     done = ends.run("sender", "--all")
-    count.told(done.returncode == 2 and "sender --sessions FILE" in done.stdout,
+    count.told(done.returncode == 2 and "sender [--sessions FILE]" in done.stdout,
                "error: an unknown option")
 
 

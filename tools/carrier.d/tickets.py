@@ -5,6 +5,7 @@ within how many seconds.
 import dataclasses
 import functools
 import os
+import random
 import shutil
 import signal
 import sqlite3
@@ -12,9 +13,11 @@ import subprocess
 import time
 import typing
 
+import engines
 import errors
 import loglines
 import realms
+import receipts
 import repro
 
 DAY = 86400             # seconds
@@ -429,6 +432,117 @@ def short_life(place):
     place.require(count == 4, f"{count} sessions")
 
 
+def opening_anew(place):
+    """An opening of five seconds ago, by a clockskew of three; the sender makes it anew."""
+    place.env = place.realm.environment(place.realm.config(f"{place.folder}/krb5.conf", 3))
+    place.put(streams_of(place, 20))
+    place.run("sender", "--drain")
+    time.sleep(5)
+    receiver = place.start("receiver")
+    place.require(place.wait(lambda: place.refused(receiver, "OPENING_SKEW"), 5), "not refused")
+    place.start("sender", patience="1")
+    place.put(streams_of(place, 40, 20))
+    place.await_delivered()
+    place.require(len(place.opened()) == 1, f"{len(place.opened())} sessions")
+
+
+def lose_carrier(place, count):
+    """Both ends are killed and the carrier's file is deleted, so often, amid texts."""
+    place.put([])
+    for turn in range(count):
+        place.put(streams_of(place, 200 * (turn + 1), 200 * turn))
+        running = place.start("sender"), place.start("receiver", batch="16")
+        time.sleep(0.3)
+        for process in running:
+            process.kill()
+            process.wait()
+        receipts.lose_carrier(place)
+
+
+def carrier_lost(place):
+    lose_carrier(place, receipts.LOSSES)
+    place.start("sender")
+    place.start("receiver")
+    place.await_delivered()
+    receipts.await_no_frames(place)
+
+
+def receipts_lost_with_carrier(place):
+    place.put(streams_of(place))
+    status, _ = place.run("sender", "--drain")
+    place.require(status == 0, f"sender --drain: status {status}")
+    receipts.lose_carrier(place)
+    place.start("sender")
+    place.start("receiver")
+    place.await_delivered()
+
+
+def wait_for_rows(place, postgres):
+    """Waits until PostgreSQL has the texts of each stream in order, each once."""
+    def found():
+        rows = {name: [] for name in place.case.wanted}
+        for name, text in postgres.ask("SELECT stream, convert_from(text, 'UTF8') FROM effect"
+                                       " ORDER BY id"):
+            rows[name].append(text)
+        return rows
+    wanted = {name: [f"{name} {it}" for it in range(count)]
+              for name, count in place.case.wanted.items()}
+    place.wait(lambda: sum(map(len, found().values())) >= sum(place.case.wanted.values()), 90)
+    had = found()
+    place.require(had == wanted, "not once and in order: "
+                  + str({name: (len(texts), len(set(texts))) for name, texts in had.items()}))
+
+
+def nodes(place):
+    """Streams over three nodes to PostgreSQL: senders, receivers and nodes are killed by turns, and
+    sessions get a new key every two seconds."""
+    for name in ("nats", "postgres"):
+        os.mkdir(f"{place.folder}/{name}")
+        os.chmod(f"{place.folder}/{name}", 0o755)
+    nats = place.nats = engines.Nats(f"{place.folder}/nats", 3)
+    postgres = engines.Postgres(f"{place.folder}/postgres")
+    try:
+        place.carrier = nats.where
+        dice = random.Random(7)
+        given = {"replicas": "3", "ticket-shards": "2"}
+        running = {}
+
+        def start(name):
+            if name.startswith("sender"):
+                running[name] = place.start("sender", life="2", retry="500", patience="3", **given)
+            else:
+                running[name] = place.start("receiver", store=postgres.where, batch="50",
+                                            **given | {"shards": "0,1"})
+        start("sender")
+        start("receiver 1")
+        start("receiver 2")
+        place.require(place.wait(lambda: os.path.exists(place.outbox), 10), "no outbox")
+        for turn in range(15):
+            place.put(streams_of(place, 100 * (turn + 1), 100 * turn))
+            name = dice.choice(("sender", "receiver 1", "receiver 2", "node"))
+            if name == "node":
+                node = dice.randrange(3)
+                nats.kill(node)
+                time.sleep(0.7)
+                nats.start(node)
+            else:
+                running[name].kill()
+                running[name].wait()
+                start(name)
+            time.sleep(dice.uniform(0.2, 0.9))
+        wait_for_rows(place, postgres)
+        count = int(postgres.ask("SELECT count(*) FROM opened")[0][0])
+        place.require(count > 2 * len(place.case.wanted), f"{count} sessions")
+        keys = postgres.ask("SELECT key FROM opened")
+        place.require(all(len(key) > 100 for key, in keys), "a key that isn't wrapped")
+        receipts.await_no_frames(place, 20)
+    finally:
+        for process in running.values():
+            process.kill()
+            process.wait()
+        postgres.stop()
+
+
 def find_keys(place, keys):
     """The files of both databases, as they are on the disk, that have one of these keys."""
     found = []
@@ -541,6 +655,12 @@ CASES = (
     Case(at_rest, "keys at rest, and newer keys in the keytabs", {"orders": 100, "bills": 100}, 30),
     Case(exchanged_rows, "wrapped keys of two rows are exchanged", {"one": 20, "two": 20}, 25),
     Case(words, "options that don't go together", {}, 5),
+    Case(opening_anew, "openings are too old when they are read, and made anew", {"orders": 40}, 25),
+    Case(carrier_lost, "the carrier's file is deleted, three times", {"orders": 600, "bills": 600},
+         30),
+    Case(receipts_lost_with_carrier, "all is lost before anything was read", {"orders": 100}, 15),
+    Case(nodes, "three nodes and PostgreSQL, whose nodes and both ends are killed",
+         {"orders": 1500, "bills": 1500, "notes": 1500}, 120),
     Case(no_kdc, "there is no KDC at first", {"orders": 1, "tom": 1}, 90, (repro.TOM,)),
 )
 

@@ -22,6 +22,4 @@ mod receiver_calls;
 mod receiver_handle;
 mod sealer_calls;
 mod sealer_handle;
-#[cfg(test)]
-mod tests;
 mod window_calls;
