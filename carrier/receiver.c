@@ -278,7 +278,8 @@ static int read_options(struct options *o, int count, char **words)
     while ((letter = getopt_long(count, words, "", words_of_options, NULL)) != -1)
         if (!read_option(o, letter))
             return 0;
-    return optind == count && (o->sessions || o->shard.kerberos.keytab) && o->shard.store && o->shard.carrier.where
+    return optind == count && (o->sessions || o->shard.kerberos.keytab) && o->shard.store
+           && o->shard.carrier.where
            && o->has_shards;
 }
 
