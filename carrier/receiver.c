@@ -256,7 +256,7 @@ static void read_shards(struct options *o, const char *text)
 static int read_option(struct options *o, int letter)
 {
     switch (letter) {
-    case 's': o->sessions = optarg; break;
+    case 's': o->sessions = *optarg != 0 ? optarg : NULL; break; /* units may have no file */
     case 'S': o->shard.store = optarg; break;
     case 'n': read_shards(o, optarg); break;
     case 'b': o->shard.batch = option_number("receiver", "batch", optarg, 1, MOST_FRAMES); break;

@@ -436,7 +436,7 @@ static const struct option words_of_options[] = {
 static int read_option(struct options *o, int letter)
 {
     switch (letter) {
-    case 's': o->sessions = optarg; break;
+    case 's': o->sessions = *optarg != 0 ? optarg : NULL; break; /* units may have no file */
     case 'o': o->outbox = optarg; break;
     case 'b': o->batch = option_number("sender", "batch", optarg, 1, BATCH_TEXTS); break;
     case 't': o->retry = option_number("sender", "retry", optarg, 1, 86400000); break;

@@ -49,8 +49,10 @@ class Place(repro.Place):
         else:
             given |= {"keytab": self.receiver_keytab, "allow": self.allowed}
         words = super().command(name, *more, **given | other)
-        if not self.case.lines:     # no file of sessions
-            at = words.index("--sessions")
+        at = words.index("--sessions")
+        if not self.case.lines and name == "sender":    # no file of sessions, as units may say it
+            words[at + 1] = ""
+        elif not self.case.lines:
             del words[at:at + 2]
         return words
 
