@@ -120,8 +120,8 @@ int carrier_fetch(struct carrier *carrier, struct carried *list, size_t room, in
 /* How many frames stand after the last that was fetched: about, and as far as that is known. */
 int carrier_behind(struct carrier *carrier, uint64_t *frames);
 
-/* ---- Receipts (receipts.h), of which the last one of each session is kept, beside the shards. Each may
- * be lost, or given again. */
+/* ---- Receipts (receipts.h), of which the last one of each session is kept, beside the shards. Each
+ * may be lost, or given again. */
 
 /* Takes receipts of a shard's sessions: offsets don't matter. */
 int carrier_acknowledge(struct carrier *carrier, unsigned shard, const struct carried *list,

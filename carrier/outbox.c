@@ -54,8 +54,8 @@ static const char *const sql[OUTBOX_STATEMENTS] = {
     [SET_NEXT] = ("INSERT INTO session (name, next, carried, at, shard, done)"
                   " VALUES (?2, ?1, ?5, 0, ?4, ?5)"
                   " ON CONFLICT (name) DO UPDATE SET next = ?1 WHERE next = ?3"),
-    [SET_CARRIED] = ("UPDATE session SET carried = ?1, at = ?2, incarnation = ?3, shard = ?4, done = ?6"
-                     " WHERE name = ?5"),
+    [SET_CARRIED] = ("UPDATE session SET carried = ?1, at = ?2, incarnation = ?3, shard = ?4,"
+                     " done = ?6 WHERE name = ?5"),
     [SELECT_OWNER] = "SELECT turn FROM owner",
     [SELECT_SENDING] = "SELECT DISTINCT session FROM frame",
     [DROP_STOPPED] = "DELETE FROM stopped",

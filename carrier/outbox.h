@@ -110,8 +110,8 @@ int outbox_find_begun(struct outbox *outbox, struct kerberos *kerberos, const ch
 int outbox_find_stream(struct outbox *outbox, struct kerberos *kerberos, const char *stream,
                        struct begun *it);
 
-/* In a transaction: adds it, or notes that it is closed; drops those of its stream before it of which
- * no frame is left. */
+/* In a transaction: adds it, or notes that it is closed; drops those of its stream before it of
+ * which no frame is left. */
 int outbox_add_begun(struct outbox *outbox, struct kerberos *kerberos, const struct begun *it);
 int outbox_close_begun(struct outbox *outbox, const struct begun *it);
 

@@ -152,9 +152,9 @@ static int is_active(const struct sending *it)
            || it->kept.carried != it->progress.carried;
 }
 
-/* Whether a session's opening can't leave now: there is no ticket, or the session of its stream before
- * it isn't carried, whose close has to come before. What waits so doesn't take the window of its
- * shard from the others. Nothing of a session whose row isn't stored leaves. */
+/* Whether a session's opening can't leave now: there is no ticket, or the session of its stream
+ * before it isn't carried, whose close has to come before. What waits so doesn't take the window of
+ * its shard from the others. Nothing of a session whose row isn't stored leaves. */
 static int hold(struct sender *s, struct sending *it)
 {
     size_t *backlog = &s->lanes[it->lane].backlog;
@@ -183,19 +183,24 @@ static void publish_one(struct sender *s, struct sending *it)
                  field_number("shard", it->of.shard), field_text("text", "tried again"));
 }
 
+static void note_waiting(struct sender *s)
+{
+    size_t i;
+    for (i = 0; i < s->active.count; i++)
+        s->lanes[s->active.at[i]->lane].has_waiting |= waits(s->active.at[i]);
+}
+
 /* Which list each shard is, of those that have frames, or sessions that wait for receipts. */
 static void find_lists(struct sender *s)
 {
     size_t i;
-    for (i = 0; i < s->lane_count; i++)
-        s->lanes[i].has_waiting = 0;
-    for (i = 0; i < s->active.count; i++)
-        s->lanes[s->active.at[i]->lane].has_waiting |= waits(s->active.at[i]);
+    note_waiting(s);
     for (i = 0; i < s->lane_count; i++) {
         struct lane *lane = &s->lanes[i];
         if ((lane->backlog > 0 || lane->has_waiting)
             && carrier_make(s->carrier, lane->shard, &lane->incarnation) != 0)
             lane->incarnation = 0;
+        lane->has_waiting = 0;
     }
 }
 

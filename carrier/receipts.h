@@ -1,10 +1,10 @@
 /* Receipts: by which a sender learns that its texts took effect, whatever a carrier has confirmed or
  * lost.
  *
- * A receipt says "all below n took effect, the close too if it is below". It is a KRB-PRIV of no bytes
- * under the session's key of the way back, with the number n - 1 and the receiver's address. So any
- * number of receivers may seal it, it is sealed of what the store has alone, and a lost, repeated,
- * reordered or old one does nothing: the sender keeps the greatest n.
+ * A receipt says "all below n took effect, the close too if it is below". It is a KRB-PRIV of no
+ * bytes under the session's key of the way back, with the number n - 1 and the receiver's address. So
+ * any number of receivers may seal it, it is sealed of what the store has alone, and a lost,
+ * repeated, reordered or old one does nothing: the sender keeps the greatest n.
  *
  * The key of the way back follows from the key of a session that began by a ticket, and is the last
  * word of a line of the file of sessions. A session without one has no receipts. */

@@ -256,7 +256,7 @@ static void read_shards(struct options *o, const char *text)
 static int read_option(struct options *o, int letter)
 {
     switch (letter) {
-    case 's': o->sessions = optarg; break;
+    case 's': o->sessions = *optarg != 0 ? optarg : NULL; break; /* units may have no file */
     case 'S': o->shard.store = optarg; break;
     case 'n': read_shards(o, optarg); break;
     case 'b': o->shard.batch = option_number("receiver", "batch", optarg, 1, MOST_FRAMES); break;
@@ -278,7 +278,8 @@ static int read_options(struct options *o, int count, char **words)
     while ((letter = getopt_long(count, words, "", words_of_options, NULL)) != -1)
         if (!read_option(o, letter))
             return 0;
-    return optind == count && (o->sessions || o->shard.kerberos.keytab) && o->shard.store && o->shard.carrier.where
+    return optind == count && (o->sessions || o->shard.kerberos.keytab) && o->shard.store
+           && o->shard.carrier.where
            && o->has_shards;
 }
 

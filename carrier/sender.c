@@ -34,16 +34,16 @@ static const char usage[] =
     "  --batch N        so many texts go into a frame at most (1)\n"
     "  --retry MILLISECONDS  what isn't carried by then is published again (2000): more than the\n"
     "                   time in which the carrier confirms\n"
-    "  --patience SECONDS  of sessions with receipts, what has none by then is published again (30);\n"
-    "                   then after twice as long each time, up to 32 times\n"
+    "  --patience SECONDS  what has no receipt by then is published again (30), then after twice as\n"
+    "                   long each time, up to 32 times: of sessions with receipts\n"
     "  --metrics ADDRESS:PORT  answers GET /metrics (Prometheus's text) and GET /healthz\n"
     "  --drain          ends once all is carried that can be\n"
     KERBEROS_USAGE
     "  --client NAME    the principal of this program: a name of a text that no line has is a\n"
     "                   stream of it\n"
     "  --etype N        of the keys of sessions: 17 or 18 (18)\n"
-    "  --life SECONDS   after so long a stream's next text begins a session with a new key (86400);\n"
-    "                   SIGHUP has all streams begin one\n"
+    "  --life SECONDS   after so long a stream's next text begins a session with a new key\n"
+    "                   (86400); SIGHUP has all streams begin one\n"
     "  --help, --version\n"
     "It ends by SIGTERM. Status: 0; 1 after a fault; 2 for a wrong option; 3 if another sender\n"
     "has taken the outbox over; 4 after --drain if a session is stopped, as the outbox's table\n"
@@ -439,7 +439,7 @@ static const struct option words_of_options[] = {
 static int read_option(struct options *o, int letter)
 {
     switch (letter) {
-    case 's': o->sessions = optarg; break;
+    case 's': o->sessions = *optarg != 0 ? optarg : NULL; break; /* units may have no file */
     case 'o': o->outbox = optarg; break;
     case 'b': o->batch = option_number("sender", "batch", optarg, 1, BATCH_TEXTS); break;
     case 't': o->retry = option_number("sender", "retry", optarg, 1, 86400000); break;

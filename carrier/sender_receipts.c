@@ -1,7 +1,7 @@
-/* What a sender does about receipts (receipts.h). The frames below a receipt's n took effect, and are
- * deleted from the outbox; the carrier's word only paces publishing. If no receipt comes for a while
- * though frames are carried, the carrier has lost them: all that has no receipt is published again,
- * by the rule of carried frames from its beginning (progress.h). */
+/* What a sender does about receipts (receipts.h). The frames below a receipt's n took effect, and
+ * are deleted from the outbox; the carrier's word only paces publishing. If no receipt comes for a
+ * while though frames are carried, the carrier has lost them: all that has no receipt is published
+ * again, by the rule of carried frames from its beginning (progress.h). */
 #include "receipts.h"
 #include "clock.h"
 #include "log.h"

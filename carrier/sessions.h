@@ -4,9 +4,9 @@
  *     tom-7 3 18 priv 6b6579..(64 digits) 1 10.0.0.1 10.0.0.255
  *
  * A name has 1 to 31 letters, digits, '-' and '_', a shard is below CARRIER_SHARDS, and FIRST
- * below 2^32. BACK is the key under which receipts are sealed (receipts.h). No two sessions have a name or a key in common: under one key, what is sealed of one
- * would open as the other's. They stand there as keys stand in a keytab; where they come from is
- * up to the exchange.
+ * below 2^32. BACK is the key under which receipts are sealed (receipts.h). No two sessions have a
+ * name or a key in common: under one key, what is sealed of one would open as the other's. They
+ * stand there as keys stand in a keytab; where they come from is up to the exchange.
  *
  * The file is read once, which checks each line. A session is found in it by its name when it is
  * needed, so a million lines cost nothing else. */

@@ -52,7 +52,7 @@ struct shard_options {
 struct receiving {
     struct session of;             /* the first member: it is found by its name */
     struct opened *opened;         /* how it began by a ticket; NULL: it has a line */
-    uint64_t opened_at;            /* the offset of its opening, which this transaction takes; or 0 */
+    uint64_t opened_at;            /* where its opening is, if this transaction takes it; or 0 */
     struct krbrelay_receiver receiver; /* made with the first frame after loading */
     struct krbrelay_opener opener; /* looks at what was refused; made when it is first needed */
     struct demand stored, now;     /* what the store has, and what it shall have, */
@@ -78,8 +78,8 @@ struct shard_counts {
     uint64_t opening, fetching, storing; /* nanoseconds */
 };
 
-/* An opening that wasn't taken is tried again, which may help: the shard is read again from the first
- * one on after some seconds, and when it is begun. */
+/* An opening that wasn't taken is tried again, which may help: the shard is read again from the
+ * first one on after some seconds, and when it is begun. */
 struct unopened { uint64_t at, since; unsigned tries; }; /* at an offset, or 0: there is none */
 
 /* Some of a shard's sessions. */
@@ -120,7 +120,8 @@ struct shard {
 /* Opens store and carrier. 0, or -1 after a fault. */
 int shard_start(struct shard *shard);
 
-/* From now on these are its sessions of the file, of which it becomes a user. What it knew of others ends. */
+/* From now on these are its sessions of the file, of which it becomes a user. What it knew of others
+ * ends. */
 void shard_use(struct shard *shard, struct sessions *sessions);
 
 /* Fetches frames, and takes them in one transaction. Answers how many there were, or -1 after a
@@ -134,8 +135,8 @@ void shard_stop(struct shard *shard);
 extern const struct metric shard_metrics[], shard_stands_metric;
 extern const unsigned shard_metrics_count;
 
-/* Counts a frame that was refused with libkrbrelay's answer, or 0 if its name has no line; an opening
- * that wasn't taken. */
+/* Counts a frame that was refused with libkrbrelay's answer, or 0 if its name has no line; an
+ * opening that wasn't taken. */
 void shard_count_refused(struct shard_counts *counts, uint32_t answer);
 void shard_count_unopened(struct shard_counts *counts, enum opening_answer answer);
 
@@ -181,9 +182,10 @@ void shard_note_unopened(struct shard *shard, uint64_t offset);
 
 /* ---- shard_receipts.c */
 
-/* The session owes a receipt; all receipts that are due are sealed and published. */
+/* The session owes a receipt; all receipts that are due are sealed and published; none is owed. */
 void shard_owe(struct shard *shard, struct receiving *it);
 void shard_pay(struct shard *shard);
+void shard_owe_nothing(struct shard *shard);
 
 /* ---- shard_back.c: how a shard is read again. */
 

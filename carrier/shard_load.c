@@ -213,9 +213,7 @@ static void begin_turn(struct shard *s)
     for (i = 0; i < s->changed.count; i++)
         s->changed.at[i]->is_changed = 0;
     s->changed.count = 0;
-    for (i = 0; i < s->owing.count; i++)
-        s->owing.at[i]->owes = 0;
-    s->owing.count = 0;
+    shard_owe_nothing(s);
     for (i = 0; i < s->standing.count; i++) /* until the store says that they still do */
         s->standing.at[i]->now.missed = KRBRELAY_MISSED_NOTHING;
 }

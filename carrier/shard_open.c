@@ -146,7 +146,8 @@ static int refuse(struct shard *s, const struct carried *it, enum opening_answer
     return 0;
 }
 
-/* Whether the client's stream has another session after the one before: 1, 0, or -1 after a fault. */
+/* Whether the client's stream has another session after the one before: 1, 0, or -1 after a
+ * fault. */
 static int is_rival(struct shard *s, const struct opened *it)
 {
     size_t i;

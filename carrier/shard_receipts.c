@@ -1,6 +1,6 @@
-/* Receipts for the sessions of a shard (receipts.h): sealed after the transaction, of what is stored,
- * for each session that moved, of which a frame was repeated, so that a receipt may have been lost, or
- * came early. Of one session at most one each 200 milliseconds. */
+/* Receipts for the sessions of a shard (receipts.h): sealed after the transaction, of what is
+ * stored, for each session that moved, of which a frame was repeated, so that a receipt may have
+ * been lost, or came early. Of one session at most one each 200 milliseconds. */
 #include "clock.h"
 #include "receipts.h"
 #include "shard.h"
@@ -36,35 +36,63 @@ static int seal(struct receiving *it, struct carried *to, uint8_t frame[RECEIPT]
     return 1;
 }
 
-/* Pays some that are due. Those that can't be published are owed again. */
-static int pay_some(struct shard *s)
-{
-    struct carried list[TOGETHER];
+/* Some receipts that are sealed, and whose they are. */
+struct sealed {
+    size_t count;
     struct receiving *of[TOGETHER];
+    struct carried list[TOGETHER];
     uint8_t frames[TOGETHER][RECEIPT];
+};
+
+static void seal_some(struct shard *s, struct sealed *to)
+{
     uint64_t now = nanoseconds();
-    size_t i, kept = 0, count = 0;
-    int answer = 0;
+    size_t i, kept = 0;
+    to->count = 0;
     for (i = 0; i < s->owing.count; i++) {
         struct receiving *it = s->owing.at[i];
-        int is_due = count < TOGETHER && (it->receipted == 0 || now - it->receipted >= PAUSE);
+        int is_due = to->count < TOGETHER && (it->receipted == 0 || now - it->receipted >= PAUSE);
         if (!is_due)
             s->owing.at[kept++] = it;
-        else if (seal(it, &list[count], frames[count]))
-            of[count++] = it;
+        else if (seal(it, &to->list[to->count], to->frames[to->count]))
+            to->of[to->count++] = it;
         it->owes = !is_due;
     }
     s->owing.count = kept;
-    if (count > 0)
-        answer = carrier_acknowledge(s->carrier, s->number, list, count);
-    for (i = 0; i < count && answer != 0; i++)
-        shard_owe(s, of[i]);
-    s->counts.receipts += answer == 0 ? count : 0;
-    return answer == 0 && count == TOGETHER;
+}
+
+static void owe_again(struct shard *s, const struct sealed *it)
+{
+    size_t i;
+    for (i = 0; i < it->count; i++)
+        shard_owe(s, it->of[i]);
+}
+
+/* Pays some that are due: 1 if there may be more. */
+static int pay_some(struct shard *s)
+{
+    struct sealed some;
+    seal_some(s, &some);
+    if (some.count == 0)
+        return 0;
+    if (carrier_acknowledge(s->carrier, s->number, some.list, some.count) != 0) {
+        owe_again(s, &some);
+        return 0;
+    }
+    s->counts.receipts += some.count;
+    return some.count == TOGETHER;
 }
 
 void shard_pay(struct shard *s)
 {
     while (s->is_loaded && s->owing.count > 0 && pay_some(s))
         continue;
+}
+
+void shard_owe_nothing(struct shard *s)
+{
+    size_t i;
+    for (i = 0; i < s->owing.count; i++)
+        s->owing.at[i]->owes = 0;
+    s->owing.count = 0;
 }

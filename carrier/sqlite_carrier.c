@@ -53,8 +53,8 @@ static const char *const sql[STATEMENTS] = {
                     " ORDER BY offset DESC LIMIT 65536) WHERE session = ? LIMIT 1",
     [COUNT] = "SELECT count(*) FROM (SELECT 1 FROM carried WHERE shard = ? AND offset > ?"
               " LIMIT 100000)",
-    [ADD_RECEIPT] = ("INSERT INTO receipt VALUES (?1, 1 + (SELECT coalesce(max(turn), 0) FROM receipt),"
-                     " ?2) ON CONFLICT (session) DO UPDATE SET turn = excluded.turn,"
+    [ADD_RECEIPT] = ("INSERT INTO receipt VALUES (?1,"
+                     " 1 + (SELECT coalesce(max(turn), 0) FROM receipt), ?2) ON CONFLICT (session) DO UPDATE SET turn = excluded.turn,"
                      " receipt = excluded.receipt"),
     [SELECT_RECEIPTS] = "SELECT turn, session, receipt FROM receipt WHERE turn > ? ORDER BY turn",
     [SELECT_RECEIPT] = "SELECT turn, session, receipt FROM receipt WHERE session = ?",

@@ -24,7 +24,8 @@ static sqlite3_int64 count_of(sqlite3 *db, const char *sql)
 static void test_values(void)
 {
     static const char *const sql[] = { "INSERT INTO it VALUES (?, ?, ?)" };
-    sqlite3 *db = open_database(":memory:", "CREATE TABLE it (number INTEGER, text TEXT, bytes BLOB)");
+    sqlite3 *db = open_database(":memory:", "CREATE TABLE it (number INTEGER, text TEXT,"
+                                            " bytes BLOB)");
     struct statement insert[1];
     check(db != NULL && prepare_all(db, insert, sql, 1) == 0, "a statement is prepared");
     bind_number(insert, 4, 7);

@@ -1,5 +1,5 @@
-/* keys OUTBOX KEYTAB PRINCIPAL NAME..: prints the keys of these sessions, whose rows an outbox has, in
- * hexadecimal. */
+/* keys OUTBOX KEYTAB PRINCIPAL NAME..: prints the keys of these sessions, whose rows an outbox has,
+ * in hexadecimal. */
 #include "check.h"
 #include "outbox.h"
 #include "text.h"

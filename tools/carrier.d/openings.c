@@ -1,5 +1,6 @@
-/* openings KIND KEYTAB CLIENT SERVICE ETYPE STREAM [BEFORE]: makes an opening of a session (opening.h),
- * or one that isn't right, as its kind says, and prints its name and the frame in hexadecimal:
+/* openings KIND KEYTAB CLIENT SERVICE ETYPE STREAM [BEFORE]: makes an opening of a session
+ * (opening.h), or one that isn't right, as its kind says, and prints its name and the frame in
+ * hexadecimal:
  *     good        as it has to be
  *     no-subkey   without a subkey
  *     no-text     without a checksum of the text
