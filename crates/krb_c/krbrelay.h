@@ -313,8 +313,8 @@ enum krbrelay_answer krbrelay_sealer_seal(struct krbrelay_sealer *handle, const 
     KRBRELAY_NONNULL(1, 4, 5, 8) KRBRELAY_CHECKED;
 
 /* The same of a record, which a receiver takes: of a text or a batch, whose bytes are given, or of
- * the close, which has none. The user data are its bytes and one more, and so is the room that it
- * takes. After KRBRELAY_EMPTY it looks for KRBRELAY_RECORD: the kind is none, a text has over
+ * the close, which has none. Its user data are these bytes and one more, so the room is that of
+ * len + 1. After KRBRELAY_EMPTY it looks for KRBRELAY_RECORD: the kind is none, a text has over
  * 1,000,000 bytes, a batch isn't 2 to 1,000 texts as krbrelay_batch_add writes them or has over
  * 1,000,000 bytes, or a close has bytes. */
 enum krbrelay_answer krbrelay_sealer_seal_record(struct krbrelay_sealer *handle, uint32_t kind,
