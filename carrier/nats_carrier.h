@@ -47,8 +47,7 @@ struct nats_carrier {
     int held_count;
     int is_silent;                      /* 1: the consumer's heartbeats are missed */
     natsSubscription *receipts;         /* all that are published, from the first look on */
-    int has_receipts;                   /* their stream is known to be there */
-    uint64_t receipts_moment;           /* it isn't asked for again before this moment */
+    uint64_t receipts_moment;           /* their stream isn't asked for before this moment */
 };
 
 /* Logs a fault of a call; CARRIER_FAULT. */

@@ -30,15 +30,15 @@ static natsStatus add_stream(struct nats_carrier *c)
     return status;
 }
 
-/* Makes the stream, unless it is there. One that can't be made is asked for again after a while: what is
- * published meanwhile is heard all the same. */
+/* Makes the stream, unless it is there, and looks for it again after a while: what is published
+ * meanwhile is heard all the same. */
 static void make_stream(struct nats_carrier *c)
 {
     jsStreamInfo *info = NULL;
     jsOptions options;
     jsErrCode code = 0;
     natsStatus status;
-    if (c->has_receipts || nanoseconds() < c->receipts_moment)
+    if (nanoseconds() < c->receipts_moment)
         return;
     status = nats_begin_to_ask(c, &options);
     if (status == NATS_OK)
@@ -47,7 +47,6 @@ static void make_stream(struct nats_carrier *c)
     jsStreamInfo_Destroy(info);
     if (status == NATS_NOT_FOUND)
         status = add_stream(c);
-    c->has_receipts = status == NATS_OK;
     c->receipts_moment = nanoseconds() + 10 * SECOND;
     if (status != NATS_OK)
         (void)nats_report("the stream of receipts", status); /* CARRIER_FAULT, as for each fault */

@@ -55,6 +55,7 @@ struct sender {
     struct kerberos *kerberos;  /* NULL: no session begins by a ticket */
     struct tickets *tickets;
     void *streams;              /* tsearch's tree of the streams of which texts came */
+    size_t later;
     uint64_t renew;             /* sessions that were begun up to this second are old */
     int is_hung_up;             /* SIGHUP came, and the outbox isn't told yet */
     uint8_t *opening;           /* OPENING bytes */
@@ -98,8 +99,12 @@ void sender_activate(struct sender *s, struct sending *it);
 /* Adds a session, as the outbox has it. NULL after a fault of the outbox, or out of memory. */
 struct sending *sender_add(struct sender *s, const struct session *of);
 
+/* The place of the lane of a shard, which is made with its first session. */
+size_t sender_lane(struct sender *s, unsigned shard);
+
 /* The session that takes the texts of this name: 1, 0 if there is none, -1 after a fault. In a
- * transaction. */
+ * transaction. SENDER_LATER: it is to be begun once the lane `later` has room. */
+enum { SENDER_LATER = 2 };
 int sender_find(struct sender *s, const char *name, struct sending **it);
 
 /* Makes a session what the outbox has. */
@@ -112,7 +117,7 @@ void sender_forget(struct sender *s);
 /* ---- sender_streams.c: sessions that begin by tickets. */
 
 /* The session of this name, if the outbox has it; that of this stream, which is begun if there is
- * none: 1, 0 if there is none, or its key can't be read, -1 after a fault. */
+ * none: 1, 0 if there is none, or its key can't be read, -1 after a fault, or SENDER_LATER. */
 int sender_find_begun(struct sender *s, const char *name, struct sending **it);
 int sender_find_stream(struct sender *s, const char *name, struct sending **it);
 

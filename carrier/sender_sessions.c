@@ -34,8 +34,7 @@ static int grow(struct sender *s)
     return 1;
 }
 
-/* The lane of a shard, which is made with its first session. */
-static size_t lane_of(struct sender *s, unsigned shard)
+size_t sender_lane(struct sender *s, unsigned shard)
 {
     size_t *lane = &s->lane_of[shard];
     if (*lane == 0) {
@@ -61,7 +60,7 @@ struct sending *sender_add(struct sender *s, const struct session *of)
     if (it == NULL)
         return NULL;
     it->of = *of;
-    it->lane = lane_of(s, of->shard);
+    it->lane = sender_lane(s, of->shard);
     it->tag = s->first_tag + (uint32_t)s->all.count;
     if (tsearch(it, &s->by_name, by_name) != NULL && sender_load(s, it) == 0) {
         s->all.at[s->all.count++] = it;

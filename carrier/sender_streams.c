@@ -64,21 +64,27 @@ static struct sending *add(struct sender *s, struct stream *stream, const struct
     return added;
 }
 
-/* Begins the next session of a stream, after `last`, or the first one if that is NULL. */
+/* The shard of a stream's session after `last`, or of the first one if that is NULL. */
+static unsigned shard_of(const struct sender *s, const struct stream *stream,
+                         const struct begun *last)
+{
+    return last != NULL ? last->shard : kerberos_shard(&s->options.kerberos, stream->name);
+}
+
+/* Begins the next session of a stream. */
 static struct sending *begin(struct sender *s, struct stream *stream, const struct begun *last)
 {
     struct begun it = { 0 };
     struct sending *added = NULL;
     memcpy(it.opened.stream, stream->name, sizeof it.opened.stream);
     it.turn = 1;
-    it.shard = kerberos_shard(&s->options.kerberos, stream->name);
+    it.shard = shard_of(s, stream, last);
     it.since = read_clock().seconds;
     if (it.since <= s->renew)
         it.since = s->renew + 1; /* SIGHUP came in this second */
     if (last != NULL) {
         memcpy(it.opened.before, last->opened.name, sizeof it.opened.before);
         it.turn = last->turn + 1;
-        it.shard = last->shard;
     }
     if (opening_draw(s->kerberos, &it.opened) == 0)
         added = add(s, stream, &it, 0);
@@ -88,17 +94,28 @@ static struct sending *begin(struct sender *s, struct stream *stream, const stru
 
 /* ---- Streams */
 
-/* Makes a stream what the outbox has of it: 1, 0 if its key can't be read, -1 after a fault. */
+/* Begins a stream's next session if its text can be taken now, so that none is begun of which
+ * nothing is stored. Answers as sender_find. */
+static int begin_now(struct sender *s, struct stream *stream, const struct begun *last)
+{
+    const struct lane *lane;
+    s->later = sender_lane(s, shard_of(s, stream, last));
+    lane = &s->lanes[s->later];
+    if (lane->deferred > 0 || lane->room == 0)
+        return SENDER_LATER;
+    stream->now = begin(s, stream, last);
+    return stream->now != NULL ? 1 : -1;
+}
+
+/* Makes a stream what the outbox has of it: answers as sender_find, 0 if its key can't be read. */
 static int load(struct sender *s, struct stream *stream)
 {
     struct begun last;
-    int found = outbox_find_stream(&s->outbox, s->kerberos, stream->name, &last), answer = 1;
-    if (found < 0)
-        answer = 0;
-    else if (found == 1 && !last.is_closed)
+    int found = outbox_find_stream(&s->outbox, s->kerberos, stream->name, &last), answer = 0;
+    if (found == 1 && !last.is_closed)
         answer = sender_find_begun(s, last.opened.name, &stream->now);
-    else if ((stream->now = begin(s, stream, found == 1 ? &last : NULL)) == NULL)
-        answer = -1;
+    else if (found >= 0)
+        answer = begin_now(s, stream, found == 1 ? &last : NULL);
     explicit_bzero(&last, sizeof last);
     return answer;
 }

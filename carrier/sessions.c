@@ -320,11 +320,12 @@ struct sessions *sessions_read_again(struct sessions *s)
 int sessions_find(const struct sessions *s, const char *name, struct session *it)
 {
     const struct place wanted = { hash_of(name, strlen(name)), 0 };
-    const struct place *end = s->places + s->count,
-                       *at = NULL;
+    const struct place *end, *at;
     memset(it, 0, sizeof *it);
-    if (s->count > 0)
-        at = bsearch(&wanted, s->places, s->count, sizeof *at, by_hash);
+    if (s->count == 0)
+        return 0;
+    end = s->places + s->count;
+    at = bsearch(&wanted, s->places, s->count, sizeof *at, by_hash);
     while (at != NULL && at > s->places && at[-1].hash == wanted.hash)
         at--;
     for (; at != NULL && at < end && at->hash == wanted.hash; at++)

@@ -130,9 +130,10 @@ static int take_unknown(struct shard *s, const struct carried *it)
 {
     struct session of;
     int is_elsewhere = sessions_find(s->sessions, it->session, &of);
+    int may_be = sessions_may_have(it->session);
     unsigned shard = of.shard;
     explicit_bzero(&of, sizeof of);
-    if (s->kerberos != NULL && !is_elsewhere && opening_is(it->frame, it->len))
+    if (s->kerberos != NULL && !is_elsewhere && may_be && opening_is(it->frame, it->len))
         return store_pass(s->store, s->number, it->session, it->offset); /* it was counted */
     shard_count_refused(&s->counts, 0);
     if (is_elsewhere)
@@ -144,9 +145,7 @@ static int take_unknown(struct shard *s, const struct carried *it)
         log_fact(LEVEL_WARNING, "session_unknown", field_text("session", it->session),
                  field_number("shard", s->number), field_number("offset", it->offset),
                  field_text("text", "it has no line: its frame is read again once it has one"));
-    if (!sessions_may_have(it->session))
-        return 0;
-    return store_pass(s->store, s->number, it->session, it->offset);
+    return may_be ? store_pass(s->store, s->number, it->session, it->offset) : 0;
 }
 
 /* ---- A frame that is accepted */

@@ -117,6 +117,14 @@ static int tell_unknown(struct sender *s, const char *session)
                                  " digits, '-' and '_', and the keytab the key of its session?");
 }
 
+/* A lane's texts from this one on are looked at later, unless that is known, or the pass is over
+ * another lane. */
+static void defer(struct lane *lane, const struct lane *only, const struct waiting_text *text)
+{
+    if (lane->deferred == 0 && (only == NULL || only == lane))
+        lane->deferred = text->id;
+}
+
 /* Looks at one text, in the pass over a lane, or over all that aren't deferred. Takes it if its
  * turn is now: is_taken says so. */
 static enum seal_answer look_at(struct sender *s, const struct lane *only,
@@ -127,14 +135,18 @@ static enum seal_answer look_at(struct sender *s, const struct lane *only,
     *is_taken = 0;
     if (found < 0)
         return SEAL_FAULT;
+    if (found == SENDER_LATER) {
+        defer(&s->lanes[s->later], only, text);
+        return SEAL_OK;
+    }
     if (found == 0)
         return only != NULL || tell_unknown(s, text->session) == 0 ? SEAL_OK : SEAL_FAULT;
     lane = &s->lanes[(*it)->lane];
     if (((*it)->stopped_at > 0 && text->id >= (*it)->stopped_at) || (only != NULL && lane != only))
         return SEAL_OK;
     want(s, *it);
-    if (lane->deferred == 0 && (lane->room == 0 || !(*it)->is_checked))
-        lane->deferred = text->id;
+    if (lane->room == 0 || !(*it)->is_checked)
+        defer(lane, only, text);
     if (lane->deferred > 0)
         return SEAL_OK;
     lane->room--;

@@ -55,9 +55,15 @@ static struct krbrelay_moment read_clock(void)
  * number where MIT checks it. */
 static struct krbrelay_demand demand_of(int flags, uint64_t number)
 {
-    struct krbrelay_demand d = { .number = number, .skew = 300 };
-    d.how_time = flags & DO_TIME ? KRBRELAY_REQUIRED : KRBRELAY_IGNORE;
-    d.how_number = flags & DO_SEQUENCE ? KRBRELAY_ABSENT_IS_0 : KRBRELAY_IGNORE;
+    struct krbrelay_demand d = { 0 };
+    if (flags & DO_TIME) {
+        d.how_time = KRBRELAY_REQUIRED;
+        d.skew = 300;
+    }
+    if (flags & DO_SEQUENCE) {
+        d.how_number = KRBRELAY_ABSENT_IS_0;
+        d.number = number;
+    }
     return d;
 }
 

@@ -157,7 +157,7 @@ static void sealer_of(struct end *e, uint32_t mode)
     struct direction d = direction_of(e, krb5_auth_con_getlocalseqnumber,
                                       krb5_auth_con_getsendsubkey);
     struct krbrelay_session session = {
-        .mode = mode, .first = d.number, .sender = d.local, .receiver = d.remote
+        .mode = mode, .first = d.number, .sender = d.local
     };
     CHECK(krbrelay_sealer_new(&e->sealer, d.key->enctype, d.key->contents, d.key->length,
                          &session) == KRBRELAY_OK);

@@ -115,7 +115,7 @@ def main():
         for mode in SAFE, PRIV:
             key = os.urandom(size)
             sealer, opener = Handle(), Handle()
-            session = Session(mode, 7, here, 0, there)
+            session = Session(mode, 7, here, 0, Address())
             assert lib.krbrelay_sealer_new(sealer, etype, key, size, session) == 0
             expect = Expect(mode, here, there, 0, 1, 300)
             assert lib.krbrelay_opener_new(opener, etype, key, size, expect) == 0

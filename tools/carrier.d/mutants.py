@@ -56,7 +56,7 @@ EDITS = {
     s->now = s->stored;
 """),
     "what is passed by isn't noted": ("shard.c", """\
-    return store_pass(s->store, s->number, it->session, it->offset);
+    return may_be ? store_pass(s->store, s->number, it->session, it->offset) : 0;
 """, """\
     return 0;
 """),
@@ -93,9 +93,42 @@ EDITS = {
 }
 
 
+# The same for openings that aren't right and cases of tickets.py: which of them has to find it, and
+# what has to be said.
+TICKETS = {
+    "the checksum of the text isn't compared": ("a checksum of another text", "opened: ["),
+    "the name isn't compared with the key": ("a name that isn't the key's", "opened: ["),
+    "each client is allowed": ("a client that isn't allowed", "opened: ["),
+    "no session waits for the one before": ("before_its_turn", "delivered"),
+}
+TICKET_EDITS = {
+    "the checksum of the text isn't compared": ("opening.c", """\
+    return code == 0 && is_valid ? OPENING_OK : OPENING_CHANGED;
+""", """\
+    return code == 0 ? OPENING_OK : OPENING_CHANGED;
+"""),
+    "the name isn't compared with the key": ("opening.c", """\
+    else if (strcmp(name, it->name) != 0)
+        answer = OPENING_NAME;
+""", ""),
+    "each client is allowed": ("opening.c", """\
+    return is_found;
+""", """\
+    return is_found || client != NULL;
+"""),
+    "no session waits for the one before": ("shard_open.c", """\
+    if (of->opened == NULL || of->opened->before[0] == 0)
+        return 1;
+""", """\
+    if (of->opened != NULL)
+        return 1;
+"""),
+}
+
+
 def write(name, sources, folder):
     """Writes a copy of the sources with the bug. The text has to stand there once."""
-    path, old, new = EDITS[name]
+    path, old, new = (EDITS | TICKET_EDITS)[name]
     shutil.copytree(sources, folder, ignore=shutil.ignore_patterns("out"))
     path = os.path.join(folder, path)
     with open(path, encoding="utf-8") as file:

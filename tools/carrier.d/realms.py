@@ -38,7 +38,7 @@ class Realm:
     def environment(self, config=None):
         return dict(os.environ, KRB5_CONFIG=config or self.path("krb5.conf"),
                     KRB5_KDC_PROFILE=self.path("kdc.conf"), KRB5RCACHENAME="none:",
-                    KRB5CCNAME="MEMORY:tests", PATH=f"{os.environ['PATH']}:{FOLDERS}")
+                    KRB5CCNAME="MEMORY:tests", ASAN_OPTIONS="detect_leaks=1", PATH=f"{os.environ['PATH']}:{FOLDERS}")
 
     def must(self, words, given=""):
         return subprocess.run(words, input=given, env=self.environment(), text=True, check=True,

@@ -193,9 +193,9 @@ def receipts_same_key(place):
 def receipts_stream_deleted(place):
     """The stream of JetStream is deleted below a sender and a receiver, three times, and once that
     of the receipts."""
+    place.put([])
     place.start("sender", *QUICK)
     place.start("receiver")
-    place.wait(lambda: os.path.exists(place.outbox), 5)
     for turn in range(LOSSES):
         place.put(texts("ann", 500 * turn, 500 * (turn + 1)))
         time.sleep(0.1)

@@ -21,6 +21,7 @@ import receipts
 import repro
 
 DAY = 86400             # seconds
+STREAMS = 5000
 GOOD = 40               # texts of the session that nothing may hold up
 FIRST = 100             # the offset before the good session's frames
 NAME = "A" * 22         # of a session that nobody has
@@ -75,7 +76,8 @@ class Place(repro.Place):
         done = subprocess.run(words, check=True, timeout=errors.LIMIT, text=True,
                               stdout=subprocess.PIPE,
                               env=(realm or self.realm).environment() | {
-                                  "KRB5_CLIENT_KTNAME": keytab or self.keytab})
+                                  "KRB5_CLIENT_KTNAME": keytab or self.keytab,
+                                  "ASAN_OPTIONS": "detect_leaks=0"})  # it ends at once
         name, digits = done.stdout.split()
         return name, bytes.fromhex(digits)
 
@@ -143,6 +145,10 @@ def of_stranger(place):
     return place.make("good", keytab=place.realm.path("stranger.keytab"), client="stranger")
 
 
+def unnamed(place):
+    return "a b", place.make("good")[1]
+
+
 def forked(place):
     return place.make("good", stream="good")
 
@@ -183,6 +189,7 @@ HOSTILE = {
                      "OPENING_MALFORMED"),
     "under another name": (renamed, "OPENING_NAME"),
     "under another name, which the text has": (renamed_inside, "OPENING_CHANGED"),
+    "under a name that no session may have": (unnamed, None),
     "a ticket for another service": (of_other_service, "OPENING_NO_KEY"),
     "another realm's keys": (of_other_realm, "OPENING_CHANGED"),
     "a client that isn't allowed": (of_stranger, "OPENING_CLIENT"),
@@ -256,6 +263,9 @@ def both(place):
     place.start("sender")
     place.start("receiver")
     place.await_delivered()
+    shown = subprocess.run([repro.STATUS, "--outbox", place.outbox, "--store", place.store],
+                           check=True, stdout=subprocess.PIPE, text=True, timeout=errors.LIMIT)
+    place.require(f"open, of orders by {realms.SENDER}@{realms.REALM}" in shown.stdout, shown.stdout)
     rows = place.ask("store", "SELECT DISTINCT client, stream FROM effect")
     place.require(sorted(rows) == sorted((f"{realms.SENDER}@{realms.REALM}", it)
                                          for it in place.case.wanted), f"by whom: {rows}")
@@ -396,6 +406,22 @@ def two_receivers(place):
     place.await_delivered()
 
 
+def shared(place):
+    """Receivers that share four shards, of which one is killed."""
+    given = {"ticket-shards": "4"}
+    place.put(streams_of(place, 50), given=given)
+    place.start("sender", **given)
+    first = place.start("receiver", **given)
+    place.start("receiver", **given)
+    place.require(place.wait(lambda: place.is_delivered(dict.fromkeys(place.case.wanted, 50)), 10),
+                  "nothing is delivered")
+    first.kill()
+    place.put(streams_of(place, 100, 50))
+    place.await_delivered()
+    shards = place.ask("store", "SELECT DISTINCT shard FROM opened")
+    place.require(len(shards) > 1, f"all in one shard: {shards}")
+
+
 def many_sessions(place):
     """10,000 texts of a stream over ten sessions: a new key each second of texts, or by SIGHUP."""
     sender, receiver = place.start("sender", batch="50"), place.start("receiver")
@@ -414,6 +440,37 @@ def many_sessions(place):
     closed = place.ask("store", "SELECT count(*) FROM session WHERE closed = 1")[0][0]
     place.require((count, closed) == (10, 9), f"{count} sessions, {closed} of them closed")
     place.require(receiver.poll() is None, "the receiver has ended")
+
+
+def many_streams(place):
+    """5,000 streams, of a text each, more than a shard's window."""
+    place.put([(f"stream-{it}", b"text") for it in range(STREAMS)])
+    place.start("sender")
+    place.start("receiver")
+    place.require(place.wait(lambda: place.ask(
+        "store", "SELECT count(*), count(DISTINCT stream) FROM effect") == [(STREAMS, STREAMS)],
+        place.case.seconds), f"delivered {place.count('store', 'effect')} of {STREAMS}")
+    receipts.await_no_frames(place, 10)
+
+
+def before_its_turn(place):
+    """A session's frames stand before the close of the one before it: they wait for it."""
+    for low in (0, 10):
+        place.put(streams_of(place, low + 10, low))
+        place.run("sender", "--drain", life="1")
+        time.sleep(1.1)
+    with sqlite3.connect(f"{place.folder}/carrier.db") as file:
+        first = file.execute("SELECT session FROM carried ORDER BY offset LIMIT 1").fetchone()[0]
+        close = file.execute("SELECT max(offset) FROM carried WHERE session = ?",
+                             (first,)).fetchone()[0]
+        # All of the first session after its opening comes last.
+        file.execute("UPDATE carried SET offset = offset + 1000 WHERE session = ? AND offset > 1",
+                     (first,))
+    file.close()
+    place.require(close == 12, f"the close stands at {close}")
+    receiver = place.start("receiver")
+    place.await_delivered()
+    place.require(loglines.has(place.log(receiver), "frame_early", before=first), "it isn't said")
 
 
 def short_life(place):
@@ -513,10 +570,10 @@ def nodes(place):
             else:
                 running[name] = place.start("receiver", store=postgres.where, batch="50",
                                             **given | {"shards": "0,1"})
+        place.put([], given=given)
         start("sender")
         start("receiver 1")
         start("receiver 2")
-        place.require(place.wait(lambda: os.path.exists(place.outbox), 10), "no outbox")
         for turn in range(15):
             place.put(streams_of(place, 100 * (turn + 1), 100 * turn))
             name = dice.choice(("sender", "receiver 1", "receiver 2", "node"))
@@ -649,8 +706,13 @@ CASES = (
     Case(two_clients, "two clients have a stream of one name", {}, 20),
     Case(other_outbox, "a sender begins the stream again with another outbox", {"orders": 20}, 15),
     Case(two_receivers, "two receivers of one shard, one killed", {"orders": 400}, 20),
+    Case(shared, "receivers share four shards, and one is killed",
+         {f"stream-{it}": 100 for it in range(8)}, 30, shards="auto"),
     Case(many_sessions, "10,000 texts of a stream over ten sessions, by SIGHUP", {"orders": 10000},
          60),
+    Case(many_streams, "5,000 streams, of a text each", {}, 40),
+    Case(before_its_turn, "a session's frames stand before the close of the one before it",
+         {"orders": 20}, 20),
     Case(short_life, "--life 1, and both ends are killed", {"orders": 400}, 25),
     Case(at_rest, "keys at rest, and newer keys in the keytabs", {"orders": 100, "bills": 100}, 30),
     Case(exchanged_rows, "wrapped keys of two rows are exchanged", {"one": 20, "two": 20}, 25),

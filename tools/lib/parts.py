@@ -128,7 +128,8 @@ MORE = [
     Part("tools/debian --check", 60, (PROGRAM, "rt", COMPILER, MAKE, PACKAGING)),
     Part("tools/python --all", 20, (COMPILER, CRYPTOGRAPHY)),
     Part("tools/kerberos", 75, ("rt", COMPILER, MIT, HEIMDAL, REALM)),
-    Part("tools/carrier --all", 60, (PROGRAM, "rt", COMPILER, "clang", MAKE, SQLITE, SERVERS)),
+    Part("tools/carrier --all", 60, (PROGRAM, "rt", COMPILER, "clang", MAKE, SQLITE, SERVERS,
+                                       MIT, REALM)),
 ]
 # Those of --quick: the first builds the program that the others run, without its proofs.
 BUILD_UNPROVED = Part("tools/krbrelay --unproved", 10, ("rt",))

@@ -1,5 +1,5 @@
-//! What C calls of receivers. Each function answers 0, or the number of the first fault whose condition
-//! holds.
+//! What C calls of receivers. Each function answers 0, or the number of the fault of the first condition
+//! that doesn't hold.
 
 ghost use Rattle.std.specs.Prelude.{◌≡◌, ◌≤◌, drop, length, take, None};
 ghost use Rattle.krb_seal.specs.Opens.{opener_of};

@@ -3,8 +3,8 @@
 //!
 //! A [`KrbSession`] or a [`KrbExpect`] makes an [`AnySealer`], a [`WipeableOpener`] or a
 //! [`LaneReceiver`] on the heap. These write into the caller's buffer. A [`Fault`] says why nothing was
-//! done, and has the number that C is answered ([`Fault::code`]). Each fault comes only where its reason
-//! holds, and leaves sealer, receiver and buffer as they were.
+//! done, and has the number that C is answered ([`Fault::code`]). It is that of the first condition that
+//! doesn't hold, and leaves sealer, receiver and buffer as they were.
 #![tactic(auto)]
 
 mod answers;

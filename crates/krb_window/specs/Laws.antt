@@ -34,10 +34,12 @@ abbrev pub TakenOnce : Type 0
 TakenOnce = (old new : Window) (offers : List Offer) → AnswersAll old offers new
     → AllPairs (λ m n. m ≢ n) (taken_of offers)
 
--- Each number that a new window took is in it or is too old, and each number from the first on that is in it was taken.
+-- Each number that a new window took is in it or is too old. Of those from its first number on, each
+-- that is in it was taken, and each that is too old is 64 or more below one that was.
 abbrev pub IsExact : Type 0
 IsExact = (first : ℕ) (old new : Window) (offers : List Offer) → TakesNoneBelow first old
     → AnswersAll old offers new
     → ((n : ℕ) → Contains (taken_of offers) n → IsTaken new n ⊎ IsTooOld new n)
     × ((n : ℕ) → first ≤ n → IsTaken new n → Contains (taken_of offers) n)
-    × ((n : ℕ) → first ≤ n → IsTooOld new n → (m : ℕ) × Contains (taken_of offers) m × (n + window_size ≤ m))
+    × ((n : ℕ) → first ≤ n → IsTooOld new n
+    → (m : ℕ) × Contains (taken_of offers) m × (n + window_size ≤ m))

@@ -17,8 +17,8 @@ pub record IsTaken (w : Window) (n : ℕ) : Type 0 where
 abbrev pub IsTooOld : Window → ℕ → Type 0
 IsTooOld w n = n + window_size ≤ w.highest
 
--- A window takes a number, which it hadn't taken, and is the new one then: its numbers are this one and those from before,
--- but for what is too old now.
+-- A window takes a number, which it hadn't taken, and is the new one then: its numbers are this one and
+-- those from before, but for what is too old now.
 pub record Takes (old : Window) (number : ℕ) (new : Window) : Type 0 where
   pub fresh : ¬ IsTaken old number
   pub recent : ¬ IsTooOld old number
