@@ -44,6 +44,6 @@ int receipt_open(const struct session *of, struct krbrelay_opener *opener, const
     if (krbrelay_opener_open(opener, frame, len, &demand, &now, text, sizeof text, &size, &carried)
             != KRBRELAY_OK || !carried.has_number)
         return 0;
-    *n = carried.number + 1;
+    *n = (uint64_t)carried.number + 1; /* the last number is 2^32 - 1 */
     return 1;
 }

@@ -133,7 +133,9 @@ class Processes:
         mine = [str(it) for it in range(self.given.shards)
                 if place in (it % count, (it + 1) % count)]
         shards = "auto" if self.given.is_shared else ",".join(mine)
-        return ["--sessions", f"{self.folder}/sessions", "--store", self.store, "--until-closed",
+        # A receiver that ends with the last close seals no receipt that was lost.
+        until = [] if self.given.has_receipts else ["--until-closed"]
+        return ["--sessions", f"{self.folder}/sessions", "--store", self.store, *until,
                 "--batch", TAKEN, "--shards", shards]
 
     def start(self, name):
@@ -164,7 +166,7 @@ class Processes:
     def of_kind(self, kind):
         return [name for name in list(self.running) if name.startswith(kind)]
 
-    def have_closed(self):
+    def have_ended(self):
         """Whether all receivers have done their work."""
         return all(map(self.has_ended, self.of_kind("receiver")))
 
@@ -395,9 +397,16 @@ class Trial:
                 self.processes.start(name)
         if not wait(feeder.is_empty, self.processes, self.counts, self.given.patience):
             self.faults.append("not all is carried")
-        elif not wait(self.processes.have_closed, self.processes, self.counts, self.given.settle):
+        elif not wait(self.is_closed, self.processes, self.counts, self.given.settle):
             self.faults.append("not all is closed, though all counts as carried")
         self.processes.stop()
+
+    def is_closed(self):
+        """Whether the receivers have ended, or, if they go on for receipts, all is closed."""
+        if not self.given.has_receipts:
+            return self.processes.have_ended()
+        ends = self.rows(self.store)[1]
+        return all(ends.get(it.name, (0, 0))[1] for it in self.sessions)
 
     # ---- what became of the texts
 

@@ -12,6 +12,7 @@ from repro import Case, texts
 
 ANN = repro.ANN.rstrip("\n") + f" {'33' * 16}\n"
 TOM = repro.TOM.rstrip("\n") + f" {'55' * 32}\n"
+LAST = ANN.replace(" 1 10.0.0.1", f" {(1 << 32) - 11} 10.0.0.1")
 QUICK = ("--patience", "1", "--retry", "500")
 LOSSES = 3              # of the carrier, in one run
 
@@ -206,8 +207,19 @@ def receipts_stream_deleted(place):
     await_no_frames(place, 20)
 
 
+def receipts_last_number(place):
+    """The close has the last number, 2^32 - 1, and the receipt for it says 2^32."""
+    place.put(texts("ann", 0, 10) + repro.close("ann"))
+    place.start("sender")
+    place.start("receiver")
+    place.await_delivered()
+    await_no_frames(place)
+    place.require(done(place, "ann") == 1 << 32, f"done below {done(place, 'ann')}")
+
+
 CASES = (
     Case(receipts_free_frames, "frames are kept until their receipt", {"ann": 50}, 10, (ANN,)),
+    Case(receipts_last_number, "a session ends with the last number", {"ann": 10}, 10, (LAST,)),
     Case(receipts_carrier_lost, "the carrier's file is deleted, three times",
          {"ann": 3000, "tom": 3000}, 30, (ANN, TOM)),
     Case(receipts_before_reading, "the carrier's file is deleted before anything was read",
