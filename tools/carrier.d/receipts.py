@@ -178,6 +178,17 @@ def receipts_old_outbox(place):
         "it isn't stopped")
 
 
+def receipts_last_number(place):
+    """A session whose close has the last number there is: that all took effect can be said too."""
+    place.put(texts("ann", 0, 2) + repro.close("ann"))
+    place.start("sender")
+    receiver = place.start("receiver")
+    place.await_delivered()
+    await_no_frames(place)
+    place.require(done(place, "ann") == repro.LAST + 1, f"done below {done(place, 'ann')}")
+    place.require("receipt_unsealed" not in place.log(receiver), "a receipt can't be sealed")
+
+
 def receipts_same_key(place):
     """A key of the way back that is also another key is refused."""
     for line in (ANN.replace("33" * 16, "11" * 16), TOM.replace("55" * 32, "22" * 32)):
@@ -217,6 +228,8 @@ CASES = (
     Case(receipts_lost, "receipts are lost", {"ann": 100}, 20, (ANN,)),
     Case(receipts_forged, "receipts that aren't the session's", {"ann": 50, "tom": 50}, 20, (ANN, TOM)),
     Case(receipts_old_outbox, "an older outbox, of which a receipt is known", {"ann": 200}, 20, (ANN,)),
+    Case(receipts_last_number, "a session's close has the last number", {"ann": 2}, 15,
+         (ANN.replace(" 1 10", f" {repro.LAST - 2} 10"),)),
     Case(receipts_same_key, "keys of the way back that aren't their own", {}, 10, (ANN,)),
     Case(receipts_stream_deleted, "the stream is deleted below both ends, three times", {"ann": 1500},
          60, (ANN,), nats=""),
