@@ -18,8 +18,8 @@ int receipt_seal(const struct session *of, uint64_t n, uint8_t frame[RECEIPT], s
     }
     answer = krbrelay_sealer_new(&sealer, of->etype, of->back, of->key_len, &session);
     if (answer == KRBRELAY_OK)
-        answer = krbrelay_sealer_seal_record(&sealer, KRBRELAY_TEXT, (const uint8_t *)"", 0, &now,
-                                             confounder, frame, RECEIPT, len);
+        answer = krbrelay_sealer_seal(&sealer, (const uint8_t *)"", 0, &now, confounder, frame, RECEIPT,
+                                      len); /* no record: a text has no last number */
     krbrelay_sealer_free(&sealer);
     if (answer == KRBRELAY_OK)
         return 0;
@@ -44,6 +44,6 @@ int receipt_open(const struct session *of, struct krbrelay_opener *opener, const
     if (krbrelay_opener_open(opener, frame, len, &demand, &now, text, sizeof text, &size, &carried)
             != KRBRELAY_OK || !carried.has_number)
         return 0;
-    *n = (uint64_t)carried.number + 1; /* the last number is 2^32 - 1 */
+    *n = (uint64_t)carried.number + 1;
     return 1;
 }

@@ -107,6 +107,7 @@ static void serve(struct thread *it)
             reported = nanoseconds();
         }
     }
+    shard_pay_rest(shard);
     shard_report(shard, "shard_ended", nanoseconds() - began);
     if (is_closed(shard))
         set(&it->is_closed);

@@ -185,6 +185,7 @@ void shard_note_unopened(struct shard *shard, uint64_t offset);
 /* The session owes a receipt; all receipts that are due are sealed and published; none is owed. */
 void shard_owe(struct shard *shard, struct receiving *it);
 void shard_pay(struct shard *shard);
+void shard_pay_rest(struct shard *shard); /* before it ends: however short the time is */
 void shard_owe_nothing(struct shard *shard);
 
 /* ---- shard_back.c: how a shard is read again. */

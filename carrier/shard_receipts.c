@@ -89,6 +89,14 @@ void shard_pay(struct shard *s)
         continue;
 }
 
+void shard_pay_rest(struct shard *s)
+{
+    size_t i;
+    for (i = 0; i < s->owing.count; i++)
+        s->owing.at[i]->receipted = 0;
+    shard_pay(s);
+}
+
 void shard_owe_nothing(struct shard *s)
 {
     size_t i;

@@ -133,9 +133,7 @@ class Processes:
         mine = [str(it) for it in range(self.given.shards)
                 if place in (it % count, (it + 1) % count)]
         shards = "auto" if self.given.is_shared else ",".join(mine)
-        # A receiver that ends with the last close seals no receipt that was lost.
-        until = [] if self.given.has_receipts else ["--until-closed"]
-        return ["--sessions", f"{self.folder}/sessions", "--store", self.store, *until,
+        return ["--sessions", f"{self.folder}/sessions", "--store", self.store, "--until-closed",
                 "--batch", TAKEN, "--shards", shards]
 
     def start(self, name):
@@ -166,7 +164,7 @@ class Processes:
     def of_kind(self, kind):
         return [name for name in list(self.running) if name.startswith(kind)]
 
-    def have_ended(self):
+    def have_closed(self):
         """Whether all receivers have done their work."""
         return all(map(self.has_ended, self.of_kind("receiver")))
 
@@ -222,12 +220,21 @@ class Feeder:
         for file in files:
             file.close()
 
+    def is_carried(self):
+        """Whether all texts of all outboxes are carried."""
+        return self.has_none("text", "frame WHERE number >= (SELECT carried FROM session"
+                                     " WHERE name = frame.session)",
+                             "session WHERE carried != next")
+
     def is_empty(self):
-        """Whether all texts of all outboxes are carried, and, with receipts, took effect."""
+        """Whether no frame is kept any more: with receipts, all took effect."""
+        return self.has_none("text", "frame")
+
+    def has_none(self, *kinds):
         left = 0
         for path in self.paths:
             file = sqlite3.connect(path, timeout=30)
-            for rows in ("text", "frame", "session WHERE carried != next"):
+            for rows in kinds:
                 left += file.execute(f"SELECT count(*) FROM {rows}").fetchone()[0]
             file.close()
         return left == 0
@@ -395,18 +402,26 @@ class Trial:
         for name in self.processes.of_kind("sender"):
             if name.count("-") == 1 and self.processes.has_ended(name):
                 self.processes.start(name)
-        if not wait(feeder.is_empty, self.processes, self.counts, self.given.patience):
+        if not wait(feeder.is_carried, self.processes, self.counts, self.given.patience):
             self.faults.append("not all is carried")
-        elif not wait(self.is_closed, self.processes, self.counts, self.given.settle):
+        elif not wait(self.processes.have_closed, self.processes, self.counts, self.given.settle):
             self.faults.append("not all is closed, though all counts as carried")
+        elif not self.has_receipts(feeder):
+            self.faults.append("frames are kept, though all took effect")
         self.processes.stop()
 
-    def is_closed(self):
-        """Whether the receivers have ended, or, if they go on for receipts, all is closed."""
-        if not self.given.has_receipts:
-            return self.processes.have_ended()
-        ends = self.rows(self.store)[1]
-        return all(ends.get(it.name, (0, 0))[1] for it in self.sessions)
+    def has_receipts(self, feeder):
+        """Whether the senders learn of all effects. A receipt may be lost: so a receiver stays that
+        seals it again, as those that have ended since all is closed don't."""
+        command = [f"{self.given.programs}/receiver", "--sessions", f"{self.folder}/sessions",
+                   "--store", self.store, *self.processes.common, "--shards",
+                   ",".join(map(str, range(self.given.shards)))]
+        receiver = subprocess.Popen(command, stdout=subprocess.DEVNULL, stderr=subprocess.DEVNULL)
+        try:
+            return wait(feeder.is_empty, self.processes, self.counts, self.given.patience)
+        finally:
+            receiver.terminate()
+            receiver.wait(60)
 
     # ---- what became of the texts
 

@@ -636,6 +636,10 @@ def at_rest(place):
     running = place.start("sender", **given), place.start("receiver", **given)
     place.require(place.wait(lambda: place.is_delivered(dict.fromkeys(place.case.wanted, 50)), 8),
                   "nothing is delivered")
+    logs = [it for it in os.listdir(place.folder) if it.endswith("-wal")]
+    place.require({"outbox.db-wal", "store.db-wal"} <= {*logs}, f"no write-ahead log: {logs}")
+    place.require(not any(find_keys(place, [it]) for it in place.keys(*place.opened())),
+                  "keys in the clear while both ends run")
     keys = place.keys(*place.opened())
     place.require(len(set(keys)) == len(place.case.wanted)
                   and all(len(it) == (16 if place.etype == 17 else 32) for it in keys),
@@ -643,8 +647,6 @@ def at_rest(place):
     for process in running:
         process.kill()      # so that the write-ahead logs stay
         process.wait()
-    logs = [it for it in os.listdir(place.folder) if it.endswith("-wal")]
-    place.require({"outbox.db-wal", "store.db-wal"} <= {*logs}, f"no write-ahead log: {logs}")
     place.require(not find_keys(place, keys), f"keys in the clear: {find_keys(place, keys)}")
     before = [place.ask(name, "SELECT DISTINCT kvno FROM opened") for name in ("outbox", "store")]
     for keytab, name in ((place.keytab, sender), (place.receiver_keytab, receiver)):
