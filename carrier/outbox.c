@@ -21,6 +21,9 @@ static const char tables[] =
     " since INTEGER NOT NULL) WITHOUT ROWID;"
     "CREATE TABLE IF NOT EXISTS frame (session TEXT NOT NULL, number INTEGER NOT NULL,"
     " frame BLOB NOT NULL, PRIMARY KEY (session, number));"
+    "CREATE TABLE IF NOT EXISTS sealed (text INTEGER PRIMARY KEY, session TEXT NOT NULL,"
+    " number INTEGER NOT NULL, part INTEGER NOT NULL);"
+    "CREATE INDEX IF NOT EXISTS sealed_number ON sealed (session, number);"
     "CREATE TABLE IF NOT EXISTS opened (name TEXT PRIMARY KEY, stream TEXT NOT NULL,"
     " turn INTEGER NOT NULL, before TEXT NOT NULL, shard INTEGER NOT NULL, since INTEGER NOT NULL,"
     " closed INTEGER NOT NULL, etype INTEGER NOT NULL, kvno INTEGER NOT NULL,"
@@ -51,6 +54,8 @@ static const char *const sql[OUTBOX_STATEMENTS] = {
     [SELECT_FRAMES] = ("SELECT number, frame FROM frame WHERE session = ? AND number >= ?"
                        " ORDER BY number LIMIT ?"),
     [DROP_FRAMES] = "DELETE FROM frame WHERE session = ? AND number < ?",
+    [ADD_SEALED] = "INSERT INTO sealed VALUES (?, ?, ?, ?)",
+    [DROP_SEALED] = "DELETE FROM sealed WHERE session = ? AND number < ?",
     [SET_NEXT] = ("INSERT INTO session (name, next, carried, at, shard, done)"
                   " VALUES (?2, ?1, ?5, 0, ?4, ?5)"
                   " ON CONFLICT (name) DO UPDATE SET next = ?1 WHERE next = ?3"),
@@ -254,6 +259,17 @@ int outbox_add_frame(struct outbox *o, const char *session, uint64_t number, con
     return step_once(add);
 }
 
+int outbox_add_sealed(struct outbox *o, sqlite3_int64 text, const char *session, uint64_t number,
+                      unsigned part)
+{
+    struct statement *add = &o->statements[ADD_SEALED];
+    bind_number(add, 1, text);
+    bind_text(add, 2, session);
+    bind_number(add, 3, (sqlite3_int64)number);
+    bind_number(add, 4, part);
+    return step_once(add);
+}
+
 int outbox_set_next(struct outbox *o, const struct session *session, uint64_t from, uint64_t to)
 {
     struct statement *set = &o->statements[SET_NEXT];
@@ -265,18 +281,26 @@ int outbox_set_next(struct outbox *o, const struct session *session, uint64_t fr
     return step_once(set) == 0 && sqlite3_changes(o->db) == 1 ? 0 : -1;
 }
 
+/* Deletes what the outbox has of a session below a number. */
+static int drop_below(struct statement *drop, const char *session, uint64_t number)
+{
+    bind_text(drop, 1, session);
+    bind_number(drop, 2, (sqlite3_int64)number);
+    return step_once(drop);
+}
+
 int outbox_set_carried(struct outbox *o, const char *session, const struct outbox_progress *it)
 {
-    struct statement *set = &o->statements[SET_CARRIED], *drop = &o->statements[DROP_FRAMES];
+    struct statement *set = &o->statements[SET_CARRIED];
     bind_number(set, 1, (sqlite3_int64)it->carried);
     bind_number(set, 2, (sqlite3_int64)it->at);
     bind_number(set, 3, (sqlite3_int64)it->incarnation);
     bind_number(set, 4, it->shard);
     bind_text(set, 5, session);
     bind_number(set, 6, (sqlite3_int64)it->done);
-    bind_text(drop, 1, session);
-    bind_number(drop, 2, (sqlite3_int64)it->done);
-    return step_once(set) == 0 && step_once(drop) == 0 ? 0 : -1;
+    return step_once(set) == 0 && drop_below(&o->statements[DROP_FRAMES], session, it->done) == 0
+                   && drop_below(&o->statements[DROP_SEALED], session, it->done) == 0
+               ? 0 : -1;
 }
 
 int outbox_add_stopped(struct outbox *o, const char *session, const char *reason)

@@ -7,6 +7,10 @@
  * refused at its insertion. The table `stopped` has each session that waits for somebody to do
  * something, and the reason; a sender that starts empties it and tries again.
  *
+ * A text of a session with receipts is in the table `sealed` from then on, under the same id, with the
+ * number and the part under which it takes effect, until a receipt says that it did. So a text that is
+ * in neither table took effect.
+ *
  * One transaction takes texts, stores their frames and the sessions' next numbers, and deletes the
  * texts. (session, number) is the key of the frames, which are never replaced, and a frame leaves
  * only from there: so no frame leaves under a number under which another one left.
@@ -24,6 +28,7 @@
 
 enum outbox_statement {
     LOAD_SESSION, SELECT_TEXTS, HAS_TEXT, DROP_TEXTS, ADD_FRAME, SELECT_FRAMES, DROP_FRAMES,
+    ADD_SEALED, DROP_SEALED,
     SET_NEXT, SET_CARRIED, SELECT_OWNER, SELECT_SENDING, ADD_STOPPED, DROP_STOPPED, COUNT_TEXTS,
     OLDEST_TEXT, ADD_OPENED, SELECT_OPENED, SELECT_STREAM, CLOSE_OPENED, DROP_OPENED,
     SELECT_WRAPPED, SET_RENEWED, SELECT_RENEWED, OUTBOX_STATEMENTS
@@ -80,6 +85,10 @@ int outbox_drop_texts(struct outbox *outbox, sqlite3_int64 first, sqlite3_int64 
 
 int outbox_add_frame(struct outbox *outbox, const char *session, uint64_t number,
                      const uint8_t *frame, size_t len);
+
+/* Stores that a text is sealed under this number, as this part of the record. */
+int outbox_add_sealed(struct outbox *outbox, sqlite3_int64 text, const char *session,
+                      uint64_t number, unsigned part);
 
 /* Moves a session's next number, by compare-and-set. */
 int outbox_set_next(struct outbox *outbox, const struct session *session, uint64_t from,

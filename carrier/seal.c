@@ -115,6 +115,16 @@ enum seal_answer seal_rest(struct sealing *s, struct sending *it)
     return answer;
 }
 
+/* Of a session with receipts: the number that this text gets, as this part of its record. */
+static enum seal_answer note_sealed(struct sealing *s, const struct sending *it, sqlite3_int64 id,
+                                    unsigned part)
+{
+    if (!it->of.has_back)
+        return SEAL_OK;
+    return outbox_add_sealed(s->outbox, id, it->of.name, it->sealed, part) == 0 ? SEAL_OK
+                                                                                : SEAL_FAULT;
+}
+
 enum seal_answer seal_close(struct sealing *s, struct sending *it, sqlite3_int64 id)
 {
     enum seal_answer answer = seal_rest(s, it);
@@ -122,12 +132,21 @@ enum seal_answer seal_close(struct sealing *s, struct sending *it, sqlite3_int64
     return answer == SEAL_OK ? seal(s, it, KRBRELAY_CLOSE, NULL, 0) : answer;
 }
 
+/* The close that an application put in. */
+static enum seal_answer take_close(struct sealing *s, struct sending *it, sqlite3_int64 id)
+{
+    enum seal_answer answer = seal_rest(s, it);
+    if (answer == SEAL_OK)
+        answer = note_sealed(s, it, id, 0);
+    return answer == SEAL_OK ? seal_close(s, it, id) : answer;
+}
+
 enum seal_answer seal_text(struct sealing *s, struct sending *it, const struct waiting_text *text)
 {
     char reason[64];
     enum seal_answer answer = SEAL_OK;
     if (text->body == NULL)
-        return seal_close(s, it, text->id);
+        return take_close(s, it, text->id);
     if (text->len > TEXT_BYTES) {
         write_cut(reason, sizeof reason, "a text has %zu bytes: the most are %d", text->len,
                   TEXT_BYTES);
@@ -140,9 +159,10 @@ enum seal_answer seal_text(struct sealing *s, struct sending *it, const struct w
     if (grow(it, text->len) != 0 ||
         krbrelay_batch_add(it->batch, it->room, &it->size, text->body, text->len) != KRBRELAY_OK)
         return SEAL_FAULT;
-    if (it->texts++ == 0)
+    if (it->texts == 0)
         it->begin = text->id;
-    return it->texts >= s->batch ? seal_rest(s, it) : SEAL_OK;
+    answer = note_sealed(s, it, text->id, it->texts++);
+    return answer == SEAL_OK && it->texts >= s->batch ? seal_rest(s, it) : answer;
 }
 
 /* A sealer doesn't go back: another one is made at the number that is stored. */

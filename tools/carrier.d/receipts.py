@@ -54,6 +54,24 @@ def receipts_free_frames(place):
     place.require(done(place, "ann") == 51, f"done below {done(place, 'ann')}")
 
 
+def receipts_tell_texts(place):
+    """A text is in `text`, then in `sealed` with its number and part, and then in neither."""
+    place.put(texts("ann", 0, 20) + repro.close("ann"))
+    place.run("sender", "--drain")
+    sealed = place.ask("outbox", "SELECT text, number, part FROM sealed ORDER BY text")
+    place.require([it[0] for it in sealed] == list(range(1, 22)), f"sealed: {sealed[:3]}")
+    place.require(place.count("outbox", "text") == 0, "texts wait")
+    place.start("receiver")
+    place.await_delivered()
+    effects = place.ask("store", "SELECT text, number, part FROM effect WHERE session = 'ann'")
+    found = {text: (number, part) for text, number, part in effects}
+    wanted = {f"ann {it - 1}".encode(): (number, part) for it, number, part in sealed if it < 21}
+    place.require(found == wanted and len(set(wanted.values())) == 20, f"effects: {effects[:3]}")
+    place.start("sender")
+    await_no_frames(place)
+    place.require(place.count("outbox", "sealed") == 0, "a text isn't said to have taken effect")
+
+
 def receipts_carrier_lost(place):
     """All that the carrier has confirmed is gone, three times, at any moment."""
     place.put([])
@@ -219,6 +237,8 @@ def receipts_stream_deleted(place):
 
 CASES = (
     Case(receipts_free_frames, "frames are kept until their receipt", {"ann": 50}, 10, (ANN,)),
+    Case(receipts_tell_texts, "an application learns which of its texts took effect", {"ann": 20}, 10,
+         (ANN,)),
     Case(receipts_carrier_lost, "the carrier's file is deleted, three times",
          {"ann": 3000, "tom": 3000}, 30, (ANN, TOM)),
     Case(receipts_before_reading, "the carrier's file is deleted before anything was read",
