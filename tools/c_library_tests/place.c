@@ -5,23 +5,13 @@
  *
  *     place [SEQUENCES] [SEED] */
 #include "check.h"
+#include "draw.h"
 #include "krbrelay.h"
 
 #include <stdlib.h>
 #include <string.h>
 
 enum { EVENTS = 200, LENGTH = 60 };
-
-static uint64_t state;
-
-/* xorshift64*: any number below n. */
-static uint64_t below(uint64_t n)
-{
-    state ^= state >> 12;
-    state ^= state << 25;
-    state ^= state >> 27;
-    return state * UINT64_C(2685821657736338717) % n;
-}
 
 static int is_same(const struct krbrelay_place *one, const struct krbrelay_place *other)
 {

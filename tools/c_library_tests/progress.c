@@ -4,6 +4,7 @@
  *
  *     progress [SEQUENCES] [SEED] */
 #include "check.h"
+#include "draw.h"
 #include "krbrelay.h"
 
 #include <stdlib.h>
@@ -12,17 +13,6 @@
 enum { EVENTS = 300, MOST = 2000 };
 
 typedef unsigned __int128 wide;
-
-static uint64_t state;
-
-/* xorshift64*: any number below n. */
-static uint64_t below(uint64_t n)
-{
-    state ^= state >> 12;
-    state ^= state << 25;
-    state ^= state >> 27;
-    return state * UINT64_C(2685821657736338717) % n;
-}
 
 static int is_same(const struct krbrelay_progress *one, const struct krbrelay_progress *other)
 {

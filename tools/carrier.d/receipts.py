@@ -172,13 +172,7 @@ def receipts_forged(place):
 
 def receipts_old_outbox(place):
     """An outbox that was restored is noticed by a receipt alone."""
-    place.put(texts("ann", 0, 100))
-    place.run("sender", "--drain")
-    with sqlite3.connect(place.outbox) as file:
-        file.execute("PRAGMA wal_checkpoint(TRUNCATE)")
-    file.close()
-    shutil.copy(place.outbox, f"{place.folder}/backup.db")
-    place.put(texts("ann", 100, 200))
+    repro.put_around_a_backup(place)
     place.start("receiver")
     sender = place.start("sender")
     place.await_delivered()

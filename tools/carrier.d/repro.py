@@ -761,7 +761,8 @@ def shared_until_closed(place):
 
 # ---- numbers
 
-def restore_outbox(place):
+def put_around_a_backup(place):
+    """A hundred texts are sealed before the outbox is copied, and a hundred more put in after it."""
     place.put(texts("ann", 0, 100))
     place.run("sender", "--drain")
     with sqlite3.connect(place.outbox) as file:
@@ -769,6 +770,10 @@ def restore_outbox(place):
     file.close()
     shutil.copy(place.outbox, f"{place.folder}/backup.db")
     place.put(texts("ann", 100, 200))
+
+
+def restore_outbox(place):
+    put_around_a_backup(place)
     place.run("sender", "--drain")
     for path in glob.glob(f"{place.outbox}*"):
         os.unlink(path)
