@@ -3,7 +3,9 @@
 ghost use Rattle.std.specs.Prelude.{◌≡◌, ◌⊎◌, ◌+◌, ◌<◌, ◌≤◌, length, replicate, IsFalse, IsTrue, IfErr, IfOk, Ok, Err, OnOk, OnErr};
 ghost use Rattle.krb_base.specs.Limits.{last_number};
 ghost use Rattle.krb_record.specs.Record.{is_close, kind_of};
+ghost use Rattle.krb_seal.specs.Number.{TellsNumber};
 ghost use Rattle.krb_seal.specs.Opens.{Opens};
+ghost use Rattle.krb_seal.specs.Unseals.{untold};
 ghost use Rattle.krb_peers.specs.declared.delivery.Delivery.{Delivery as DeliveryValue};
 ghost use Rattle.krb_peers.specs.Moments.{moment_at};
 ghost use Rattle.krb_peers.specs.Verdicts.{Fails, IsVerdict, record_of};
@@ -17,7 +19,7 @@ use crate::order::Order;
 use krb_base::Secret;
 use krb_der::Moment;
 use krb_record::{RecordError, RecordKind, into_record};
-use krb_seal::{Opener, Refusal};
+use krb_seal::{Opener, Refusal, Unopened};
 use std::alloc::{AllocError, Global};
 use std::marker::Model;
 
@@ -133,16 +135,20 @@ impl Receiver {
     /// was opened: nothing is copied. Nothing changes either: [`accept`](Receiver::accept) moves on.
     ///
     /// `Memory` is returned if an allocation failed, and never for a frame after a close or over the
-    /// limit.
-    pub fn open(&self, alloc: Global, frame: &[u8], now: Moment) -> Result<Opened, Refusal>
+    /// limit. A frame that is refused by its number tells at which number it opens.
+    pub fn open(&self, alloc: Global, frame: &[u8], now: Moment) -> Result<Opened, Unopened>
         ensures opened { IfOk result (OpensRecord self.now now frame.now) }
-        ensures refused { IfErr result (λ refusal. IsJudgement self.now now frame.now (Err refusal)) }
-        ensures memory { result ≡ Err Refusal.Memory → TakesMemory self.now frame.now }
+        ensures refused { IfErr result (λ unopened.
+            IsJudgement self.now now frame.now (Err unopened.refusal)) }
+        ensures number { IfErr result (TellsNumber self.now.opener now frame.now) }
+        ensures memory { untold result ≡ Err Refusal.Memory → TakesMemory self.now frame.now }
         ensures in_range { OnOk result (self.now.demand.expected ≤ last_number) }
     {
         let bytes = Secret::new(self.unsealed(alloc, frame, now)?);
-        let kind = RecordKind::of(bytes.as_slice()).ok_or(Refusal::BadRecord)?;
-        Ok(Opened { kind, bytes })
+        match RecordKind::of(bytes.as_slice()) {
+            Some(kind) => Ok(Opened { kind, bytes }),
+            None => Err(Unopened::from(Refusal::BadRecord)),
+        }
     }
 
     /// Moves on after an opened record of this kind, as after its delivery.
@@ -241,19 +247,21 @@ impl Receiver {
     }
 
     /// The user data of a frame that carries the demanded number, unless a close was accepted.
-    fn unsealed(&self, alloc: Global, frame: &[u8], now: Moment) -> Result<Vec<u8>, Refusal>
+    fn unsealed(&self, alloc: Global, frame: &[u8], now: Moment) -> Result<Vec<u8>, Unopened>
         ensures open { OnOk result (IsFalse self.now.demand.closed) }
         ensures opened { IfOk result (λ user. Opens self.now.opener self.now.demand.expected now
             frame.now (Ok user.items)) }
-        ensures refused { IfErr result (λ refusal. (refusal ≡ Refusal.Memory)
-            ⊎ Fails self.now.opener self.now.demand now frame.now refusal) }
-        ensures memory { result ≡ Err Refusal.Memory → TakesMemory self.now frame.now }
+        ensures refused { IfErr result (λ unopened. (unopened.refusal ≡ Refusal.Memory)
+            ⊎ Fails self.now.opener self.now.demand now frame.now unopened.refusal) }
+        ensures number { IfErr result (TellsNumber self.now.opener now frame.now) }
+        ensures memory { untold result ≡ Err Refusal.Memory → TakesMemory self.now frame.now }
         ensures in_range { OnOk result (self.now.demand.expected ≤ last_number) }
     {
         if self.order.closed() {
-            return Err(Refusal::AfterClose);
+            return Err(Unopened::from(Refusal::AfterClose));
         }
-        self.opener.unseal(alloc, frame, self.order.expected(), now)
+        self.opener
+            .unseal_telling(alloc, frame, self.order.expected(), now)
     }
 
     /// Moves on after what [`judge`](Receiver::judge) delivered: the next number is demanded, and a

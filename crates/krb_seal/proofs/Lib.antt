@@ -6,3 +6,4 @@ pub mod Frames
 pub mod FrameSizes
 pub mod Checking
 pub mod Authentics
+pub mod Numbers

@@ -13,4 +13,6 @@ pub mod Body
 pub mod Checksum
 pub mod AesSealerInside
 pub mod Unseals
+pub mod Number
+pub mod NumberInside
 pub mod Laws

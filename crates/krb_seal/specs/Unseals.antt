@@ -4,11 +4,17 @@ use Rattle.std.specs.Prelude.{◌⊎◌}
 use Rattle.std.specs.Global.{Vec}
 use Rattle.krb_seal.specs.declared.refusal.Refusal.{Refusal}
 use Rattle.krb_seal.specs.declared.refusal.Refusal.TheVariants.{Memory}
+use Rattle.krb_seal.specs.declared.unopened.Unopened.{Unopened}
 use Rattle.krb_seal.specs.Opens.{Outcome, Checks}
 
 abbrev pub seen : Result (Vec ℕ) Refusal → Outcome
 seen (Ok v) = Ok v.items
 seen (Err r) = Err r
+
+-- The refusal alone of what tells a number too.
+abbrev pub untold : {A : Type 0} → Result A Unopened → Result A Refusal
+untold (Ok x) = Ok x
+untold (Err unopened) = Err unopened.refusal
 
 -- The call ran out of memory, or its result is as Gives says.
 abbrev pub OrMemory : (Outcome → Type 0) → Result (Vec ℕ) Refusal → Type 0

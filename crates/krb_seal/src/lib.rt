@@ -34,6 +34,7 @@ mod refusal;
 mod seal_error;
 mod sealer;
 mod session;
+mod unopened;
 
 pub use aes_sealer::{Aes128Sealer, Aes256Sealer, SessionSealer};
 pub use krb_etype::{Etype, SessionKey};
@@ -43,3 +44,4 @@ pub use refusal::Refusal;
 pub use seal_error::SealError;
 pub use sealer::Sealer;
 pub use session::{Expect, Mode, Session};
+pub use unopened::Unopened;

@@ -1,6 +1,6 @@
 //! The opener of a session's frames.
 
-ghost use Rattle.std.specs.Prelude.{◌≡◌, ◌≤◌, pos, true, length, replicate, Err, IfOk};
+ghost use Rattle.std.specs.Prelude.{◌≡◌, ◌≤◌, pos, true, length, replicate, Err, IfErr, IfOk};
 ghost use Rattle.krb_base.specs.Limits.{frame_limit};
 ghost use Rattle.krb_der.specs.Body.{InRange};
 ghost use Rattle.krb_etype.specs.declared.private_keys.End.TheVariants as ends;
@@ -9,11 +9,13 @@ ghost use Rattle.krb_etype.specs.HeldKeys.{fresh_keys};
 ghost use Rattle.krb_seal.specs.Mode.{purpose_of};
 ghost use Rattle.krb_seal.specs.Opens.{Opens, opener_of};
 ghost use Rattle.krb_seal.specs.Authentic.{Authenticates, AuthenticOrMemory};
-ghost use Rattle.krb_seal.specs.Unseals.{OrMemory};
+ghost use Rattle.krb_seal.specs.Number.{TellsNumber};
+ghost use Rattle.krb_seal.specs.Unseals.{OrMemory, untold};
 
 use crate::opening::Opening;
 use crate::refusal::Refusal;
 use crate::session::Expect;
+use crate::unopened::Unopened;
 use krb_der::{Body, Moment};
 use krb_etype::{End, Etype, Keys, SessionKey};
 use std::alloc::Global;
@@ -93,6 +95,23 @@ impl Opener {
         ensures answer { OrMemory (Opens self.now number now frame.now) result }
         // A frame over the limit is refused before anything is allocated.
         ensures memory { result ≡ Err Refusal.Memory → length frame.now ≤ frame_limit }
+    {
+        Ok(self.unseal_telling(alloc, frame, number, now)?)
+    }
+
+    /// As [`unseal`](Opener::unseal), and of a frame that is refused by its number it tells at which
+    /// number it opens: one below the demanded number is a repeat, one above it leaves a gap.
+    pub fn unseal_telling(
+        &self,
+        alloc: Global,
+        frame: &[u8],
+        number: u64,
+        now: Moment,
+    ) -> Result<Vec<u8>, Unopened>
+        ensures answer { OrMemory (Opens self.now number now frame.now) (untold result) }
+        ensures number { IfErr result (TellsNumber self.now now frame.now) }
+        // A frame over the limit is refused before anything is allocated.
+        ensures memory { untold result ≡ Err Refusal.Memory → length frame.now ≤ frame_limit }
     {
         if self.keys.is_wiped() {
             let zeros = self.keys_of_zeros();

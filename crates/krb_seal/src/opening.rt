@@ -1,6 +1,6 @@
 //! One opening of a frame.
 
-ghost use Rattle.std.specs.Prelude.{◌≡◌, ◌≤◌, drop, length, Err, IfOk};
+ghost use Rattle.std.specs.Prelude.{◌≡◌, ◌≤◌, drop, length, Err, IfErr, IfOk};
 ghost use Rattle.krb_base.specs.Limits.{frame_limit};
 ghost use Rattle.krb_der.specs.declared.message.Message.TheVariants as messages;
 ghost use Rattle.krb_der.specs.Body.{InRange};
@@ -10,14 +10,17 @@ ghost use Rattle.krb_etype.specs.Etype.{number_of};
 ghost use Rattle.krb_etype.specs.HeldKeys.{fresh_keys};
 ghost use Rattle.krb_etype.specs.declared.private_keys.End.TheVariants as ends;
 ghost use Rattle.krb_seal.specs.Mode.{purpose_of};
-ghost use Rattle.krb_seal.specs.Opens.{Opens, OpensMessage, Read, checksum_checks, opener_of, safe_checks};
+ghost use Rattle.krb_seal.specs.Opens.{Opens, OpensMessage, OpensPart, Read, checksum_checks, opener_of, safe_checks};
 ghost use Rattle.krb_seal.specs.Authentic.{Authenticates, AuthenticMessage, AuthenticOrMemory, GivesBody, authentic_checks};
-ghost use Rattle.krb_seal.specs.Unseals.{Checked, OrMemory, seen};
+ghost use Rattle.krb_seal.specs.Number.{TellsNumber};
+ghost use Rattle.krb_seal.specs.NumberInside.{IsAuthenticNumber, TellsOfBody, TellsOfMessage};
+ghost use Rattle.krb_seal.specs.Unseals.{Checked, OrMemory, seen, untold};
 
 use crate::checks::{check_body, check_priv_header, check_safe_header, has_checksum};
 use crate::checksum::checksum_of;
 use crate::refusal::Refusal;
 use crate::session::Expect;
+use crate::unopened::Unopened;
 use krb_base::Secret;
 use krb_der::{Body, DerError, Message, Moment, PrivMsg, SafeMsg, decode, decode_part_from};
 use krb_etype::{CONFOUNDER_SIZE, Etype, Keys};
@@ -58,25 +61,26 @@ impl<'a> Opening<'a> {
         }
     }
 
-    /// As [`Opener::unseal`](crate::Opener::unseal).
+    /// As [`Opener::unseal_telling`](crate::Opener::unseal_telling).
     pub fn unseal(
         &self,
         alloc: Global,
         frame: &[u8],
         number: u64,
         now: Moment,
-    ) -> Result<Vec<u8>, Refusal>
-        ensures answer { OrMemory (Opens self.now number now frame.now) result }
+    ) -> Result<Vec<u8>, Unopened>
+        ensures answer { OrMemory (Opens self.now number now frame.now) (untold result) }
+        ensures number { IfErr result (TellsNumber self.now now frame.now) }
         // A frame over the limit is refused before anything is allocated.
-        ensures memory { result ≡ Err Refusal.Memory → length frame.now ≤ frame_limit }
+        ensures memory { untold result ≡ Err Refusal.Memory → length frame.now ≤ frame_limit }
     {
         let now = now.micros();
         match decode(alloc, frame) {
             Ok(Message::Safe(m)) => self.open_safe(frame, m, number, now),
             Ok(Message::Priv(m)) => self.open_priv(alloc, m, number, now),
-            Err(DerError::TooLong) => Err(Refusal::FieldTooLong),
-            Err(DerError::Malformed) => Err(Refusal::Malformed),
-            Err(DerError::Memory) => Err(Refusal::Memory),
+            Err(DerError::TooLong) => Err(Unopened::from(Refusal::FieldTooLong)),
+            Err(DerError::Malformed) => Err(Unopened::from(Refusal::Malformed)),
+            Err(DerError::Memory) => Err(Unopened::from(Refusal::Memory)),
         }
     }
 
@@ -131,14 +135,42 @@ impl<'a> Opening<'a> {
     }
 
     /// What a KRB-SAFE gives.
-    fn open_safe(&self, frame: &[u8], m: SafeMsg, number: u64, now: u64) -> Result<Vec<u8>, Refusal>
+    fn open_safe(
+        &self,
+        frame: &[u8],
+        m: SafeMsg,
+        number: u64,
+        now: u64,
+    ) -> Result<Vec<u8>, Unopened>
         requires spelt { Spells (messages.Safe m) frame.now }
-        ensures { OpensMessage self.now number now (messages.Safe m) (seen result) }
+        ensures answer { OpensMessage self.now number now (messages.Safe m) (seen (untold result)) }
+        ensures number { IfErr result (TellsOfMessage self.now now (messages.Safe m)) }
     {
-        self.check_safe(frame, &m, number, now)?;
-        let SafeMsg { body, .. } = m;
-        let Body { user_data, .. } = body;
-        Ok(user_data.into_vec())
+        match self.check_safe(frame, &m, number, now) {
+            Ok(()) => {
+                let SafeMsg { body, .. } = m;
+                let Body { user_data, .. } = body;
+                Ok(user_data.into_vec())
+            }
+            Err(refusal) => Err(Unopened {
+                refusal,
+                number: self.number_of(frame, &m, refusal),
+            }),
+        }
+    }
+
+    /// The number of a KRB-SAFE that was refused by its number, if its checksum is right.
+    fn number_of(&self, frame: &[u8], m: &SafeMsg, refusal: Refusal) -> Option<u32>
+        requires spelt { Spells (messages.Safe m.now) frame.now }
+        ensures { refusal ≡ Refusal.BadOrder → IsAuthenticNumber self.now m.now result }
+    {
+        if !matches!(refusal, Refusal::BadOrder) {
+            return None;
+        }
+        match self.check_authentic(frame, m) {
+            Ok(()) => m.body.seq,
+            Err(_) => None,
+        }
     }
 
     /// The body of a KRB-SAFE that is authentic.
@@ -152,22 +184,46 @@ impl<'a> Opening<'a> {
         Ok(body)
     }
 
-    /// What a KRB-PRIV gives. If it is refused, what was deciphered is overwritten before it is freed.
+    /// What a KRB-PRIV gives.
     fn open_priv(
         &self,
         alloc: Global,
         m: PrivMsg,
         number: u64,
         now: u64,
-    ) -> Result<Vec<u8>, Refusal>
-        ensures { OrMemory (OpensMessage self.now number now (messages.Priv m)) result }
+    ) -> Result<Vec<u8>, Unopened>
+        ensures answer { OrMemory (OpensMessage self.now number now (messages.Priv m))
+            (untold result) }
+        ensures number { IfErr result (TellsOfMessage self.now now (messages.Priv m)) }
     {
-        let body = self.authentic_priv(alloc, m)?;
+        match self.authentic_priv(alloc, m) {
+            Ok(body) => self.open_body(alloc, body, number, now),
+            Err(refusal) => Err(Unopened::from(refusal)),
+        }
+    }
+
+    /// What an authentic body gives. If it is refused, its data are overwritten before they are freed.
+    fn open_body(
+        &self,
+        alloc: Global,
+        body: Body,
+        number: u64,
+        now: u64,
+    ) -> Result<Vec<u8>, Unopened>
+        requires range { InRange body }
+        ensures answer { OpensPart self.now.expect number now body (seen (untold result)) }
+        ensures number { IfErr result (TellsOfBody self.now.expect now body) }
+    {
         let checked = check_body(self.expect, number, now, &body);
-        let Body { user_data, .. } = body;
+        let Body { user_data, seq, .. } = body;
         let user_data = Secret::new(user_data.into_vec());
-        checked?;
-        Ok(user_data.into_vec(alloc))
+        match checked {
+            Ok(()) => Ok(user_data.into_vec(alloc)),
+            Err(refusal) => Err(Unopened {
+                refusal,
+                number: seq,
+            }),
+        }
     }
 
     /// The body of a KRB-PRIV that is authentic. If it is refused, what was deciphered is overwritten
