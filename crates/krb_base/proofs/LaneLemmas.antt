@@ -28,19 +28,19 @@ module _ {F : Type 0} where
   has_end-append (Frame f ∷ xs) ys off = has_end-append xs ys off
   has_end-append (End ∷ xs) ys off = cc
 
-  -- an item behind items without End
+  -- an item after items without End
   pub end_last-append : (xs : List (Item F)) (x : Item F) → has_end xs ≡ false → IsEndLast (xs ++ x ∷ [])
   end_last-append [] (Frame f) off = tt
   end_last-append [] End off = refl
   end_last-append (Frame f ∷ xs) x off = end_last-append xs x off
   end_last-append (End ∷ xs) x off = cc
 
-  -- nothing stands behind End
-  pub behind_end : (xs ys : List (Item F)) → IsEndLast (xs ++ ys) → has_end xs ≡ true → ys ≡ []
-  behind_end [] ys h on = cc
-  behind_end (Frame f ∷ xs) ys h on = behind_end xs ys h on
-  behind_end (End ∷ []) ys h on = h
-  behind_end (End ∷ x ∷ xs) ys h on = cc
+  -- nothing stands after End
+  pub after_end : (xs ys : List (Item F)) → IsEndLast (xs ++ ys) → has_end xs ≡ true → ys ≡ []
+  after_end [] ys h on = cc
+  after_end (Frame f ∷ xs) ys h on = after_end xs ys h on
+  after_end (End ∷ []) ys h on = h
+  after_end (End ∷ x ∷ xs) ys h on = cc
 
   pub after-append : (lane : Lane F) (xs ys : List (Event F)) → after lane (xs ++ ys) ≡ after (after lane xs) ys
   after-append lane [] ys = refl
@@ -125,10 +125,10 @@ module _ {F : Type 0} where
   -- where End was got, all was got
   pub state_whole : (lane : Lane F) → IsState lane → has_end lane.got ≡ true → lane.got ≡ lane.sent
   state_whole lane h on =
-      let none : lane.queue ≡ [] = behind_end lane.got lane.queue (subst (λ (l : List (Item F)). IsEndLast l) h.linked h.end_last) on in
+      let none : lane.queue ≡ [] = after_end lane.got lane.queue (subst (λ (l : List (Item F)). IsEndLast l) h.linked h.end_last) on in
       sym (h.linked ∙ (ap (λ (l : List (Item F)). lane.got ++ l) none ∙ append-nil lane.got))
 
-  -- what stands behind an End is nothing
+  -- what stands after an End is nothing
   pub end_closes : (xs ys : List (Item F)) → IsEndLast (xs ++ End ∷ ys) → ys ≡ []
   end_closes [] ys h = h
   end_closes (Frame f ∷ xs) ys h = end_closes xs ys h

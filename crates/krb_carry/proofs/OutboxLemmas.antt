@@ -195,11 +195,11 @@ outbox_sound sealer acts outbox each leads = sound_acts sealer (new_outbox seale
 
 -- ---- so what is stored is sealed, with the close last
 
-second_behind : (front : List Record) (x y : Record) (back : List Record) → slice_get (front ++ x ∷ y ∷ back) (length front + 1) ≡ Some y
-second_behind [] x y back = refl
-second_behind (f ∷ front) x y back =
+second_after : (front : List Record) (x y : Record) (back : List Record) → slice_get (front ++ x ∷ y ∷ back) (length front + 1) ≡ Some y
+second_after [] x y back = refl
+second_after (f ∷ front) x y back =
     let n : suc (length front) + 1 ≡ suc (length front + 1) = omega arith in
-    rw n (second_behind front x y back)
+    rw n (second_after front x y back)
 
 pub sealed_record : (sealed : List Sealed) (k : ℕ) (it : Sealed) → slice_get sealed k ≡ Some it → slice_get (records_in sealed) k ≡ Some it.carried
 sealed_record sealed k it at =
@@ -217,10 +217,10 @@ module _ (sealer : SealerState) (outbox : Outbox) (sound : IsSound sealer outbox
       let it = image (λ (s : Sealed). s.carried) (sealed_in outbox) k r at in
       subst FitsLimits (sym it.is) (sound.limits k it.source it.at)
 
-  none_behind : (front back : List Record) → records ≡ front ++ Close ∷ back → back ≡ []
-  none_behind front [] is = refl
-  none_behind front (r ∷ back) is =
-      let here : slice_get records (length front + 1) ≡ Some r = ap (λ l. slice_get l (length front + 1)) is ∙ second_behind front Close r back in
+  none_after : (front back : List Record) → records ≡ front ++ Close ∷ back → back ≡ []
+  none_after front [] is = refl
+  none_after front (r ∷ back) is =
+      let here : slice_get records (length front + 1) ≡ Some r = ap (λ l. slice_get l (length front + 1)) is ∙ second_after front Close r back in
       let rest = flat_map puts_of back ++ outbox.waiting in
       let whole : outbox.inserted ≡ flat_map puts_of front ++ None ∷ (puts_of r ++ rest) =
       sound.puts
@@ -231,7 +231,7 @@ module _ (sealer : SealerState) (outbox : Outbox) (sound : IsSound sealer outbox
       absurd (some_put r (sound_fit (length front + 1) r here) (none_left (puts_of r) rest (sound.last (flat_map puts_of front) (puts_of r ++ rest) whole)))
 
   pub sound_records : AreRecords records
-  sound_records = record { readable = all_readable records sound_fit; close_last = none_behind }
+  sound_records = record { readable = all_readable records sound_fit; close_last = none_after }
 
   pub sound_sealed : AreSealed sealer records (sealed_in outbox)
   sound_sealed = record {

@@ -14,7 +14,7 @@ use Rattle.krb_peers.specs.Demand.{Demand}
 use Rattle.krb_peers.specs.Order.{demand_after, first_demand}
 use Rattle.krb_peers.specs.Verdicts.{Verdict, accepted_by, delivered, records_of, AreVerdicts}
 use Rattle.krb_peers.proofs.OrderLemmas.{demand_after-nil, demand_after-append}
-use Rattle.krb_peers.proofs.VerdictLemmas.{AreVerdicts-behind}
+use Rattle.krb_peers.proofs.VerdictLemmas.{AreVerdicts-after}
 use Rattle.krb_peers.proofs.LoggedLemmas.{or_left}
 use Rattle.krb_peers.proofs.AnswerLemmas.{delivered_texts}
 use Rattle.krb_peers.specs.Attempt.{Attempt, begins_at, IsAttempt, IsAttemptAfter}
@@ -111,10 +111,10 @@ none_accepted : (opener : OpenerState) (nows : List ℕ) (start : Demand) (place
 none_accepted opener nows start place took [] are closed = refl
 none_accepted opener nows start place [] (v ∷ vs) are closed = absurd (let e = are.one_each in omega arith)
 none_accepted opener nows start place (frame ∷ took) (Ok d ∷ vs) are closed =
-    absurd (let e : start.closed ≡ false = (AreVerdicts-behind opener nows start place frame took (Ok d) vs are).0.0 in cc)
+    absurd (let e : start.closed ≡ false = (AreVerdicts-after opener nows start place frame took (Ok d) vs are).0.0 in cc)
 none_accepted opener nows start place (frame ∷ took) (Err refusal ∷ vs) are closed =
     let v : Verdict = Err refusal in
-    none_accepted opener nows (demand_after start (accepted_by v)) (place + 1) took vs (AreVerdicts-behind opener nows start place frame took v vs are).1
+    none_accepted opener nows (demand_after start (accepted_by v)) (place + 1) took vs (AreVerdicts-after opener nows start place frame took v vs are).1
     (or_left start.closed (list_any is_close (accepted_by v)) closed)
 
 module _ (sealer : SealerState) (records : List Record) where

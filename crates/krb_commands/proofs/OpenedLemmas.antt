@@ -30,7 +30,7 @@ use Rattle.krb_commands.proofs.ShowLemmas.{of_ok}
 abbrev log_of : List Event → LogState
 log_of events = record (new_log 1) { entries = entries_for 0 events }
 
--- what a receiver and a log have come to behind the first frames
+-- what a receiver and a log have come to after the first frames
 pub record HasOpened (start : ReceiverState) (nows : List ℕ) (frames : List (List ℕ)) (receiver : ReceiverState) (log : LogState) : Type 0 where
   pub holds : HoldsFrames start nows frames log
   pub logged : HasLogged start nows 0 frames log receiver holds.verdicts
@@ -102,25 +102,25 @@ module _ {A E : Type 0} (start : ReceiverState) (nows : List ℕ) (frames : List
 
   -- by the fault of their printing
   abbrev pub HasFault : Fault → Type 0
-  HasFault told =
-      ((told ≡ fault.Stopped (length log.entries)) × Appends old now (concat (map entry_line log.entries)))
-      ⊎ (IsOfPrinting told × AppendsPart old now (concat (map entry_line log.entries)))
+  HasFault reported =
+      ((reported ≡ fault.Stopped (length log.entries)) × Appends old now (concat (map entry_line log.entries)))
+      ⊎ (IsOfPrinting reported × AppendsPart old now (concat (map entry_line log.entries)))
 
-  pub prefix_by_fault : (told : Fault) → HasFault told → PrintsOpenedPrefix start nows frames old now
-  prefix_by_fault told (inl p) = entries_alone p.1
-  prefix_by_fault told (inr p) = prefix_of_entries (prefix_by_part old now (concat (map entry_line log.entries)) p.1)
+  pub prefix_by_fault : (reported : Fault) → HasFault reported → PrintsOpenedPrefix start nows frames old now
+  prefix_by_fault reported (inl p) = entries_alone p.1
+  prefix_by_fault reported (inr p) = prefix_of_entries (prefix_by_part old now (concat (map entry_line log.entries)) p.1)
 
-  stopped_by : (told : Fault) (lines : ℕ) → told ≡ fault.Stopped lines → HasFault told → PrintsFirst start nows frames lines old now
-  stopped_by told lines is (inl p) =
+  stopped_by : (reported : Fault) (lines : ℕ) → reported ≡ fault.Stopped lines → HasFault reported → PrintsFirst start nows frames lines old now
+  stopped_by reported lines is (inl p) =
       let e : fault.Stopped lines ≡ fault.Stopped (length log.entries) = sym is ∙ p.0 in
       first_printed lines (let f = e in cc) p.1
-  stopped_by told lines is (inr p) = absurd (subst IsOfPrinting is p.0)
+  stopped_by reported lines is (inr p) = absurd (subst IsOfPrinting is p.0)
 
-  pub first_by_fault : {X : Type 0} (out : Result X Fault) (told : Fault) (lines : ℕ) → IsErrAnd out (λ x. x ≡ told) → out ≡ Err (fault.Stopped lines) → HasFault told → PrintsFirst start nows frames lines old now
-  first_by_fault (Ok x) told lines same named h = absurd same
-  first_by_fault (Err x) told lines same named h =
+  pub first_by_fault : {X : Type 0} (out : Result X Fault) (reported : Fault) (lines : ℕ) → IsErrAnd out (λ x. x ≡ reported) → out ≡ Err (fault.Stopped lines) → HasFault reported → PrintsFirst start nows frames lines old now
+  first_by_fault (Ok x) reported lines same named h = absurd same
+  first_by_fault (Err x) reported lines same named h =
       let s = same in let n = named in
-      stopped_by told lines (cc) h
+      stopped_by reported lines (cc) h
 
   module _ (ok : h.0 ≡ length frames) where
     all_opened : AreJudged start nows frames h.1.verdicts

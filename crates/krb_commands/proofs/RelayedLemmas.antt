@@ -50,7 +50,7 @@ module _ (old then now : Option (List ℕ)) (sents : List Sent) (log : LogState)
 
 -- ---- what is printed of a whole relay
 
--- as much is told as there are senders
+-- as many are reported as there are senders
 pub sents_many : {S : Type 0} (state : S → SealerState) (sendings : List (Sending S)) (receivings : List Receiving) (sents : List Sent) → length sendings ≡ length receivings
     → sents ≡ sents_of (lanes_of state sendings receivings) → length sents ≡ length sendings
 sents_many {S} state sendings receivings sents same are = ap length are ∙ many sendings receivings same

@@ -78,16 +78,16 @@ module _ {S : Type 0} (state : S → SealerState) (sendings : List (Sending S)) 
       let e : true ≡ false = sym (l.reason.0) ∙ flag in
       cc
 
-none_printed : (told : Fault) (bad : BadInput) → told ≡ fault.BadInput bad → IsOfPrinting told → ⊥
-none_printed told bad is h = subst IsOfPrinting is h
+none_printed : (reported : Fault) (bad : BadInput) → reported ≡ fault.BadInput bad → IsOfPrinting reported → ⊥
+none_printed reported bad is h = subst IsOfPrinting is h
 
--- where bad input is told, it is that plan
-pub names_bad_plan : (lanes : List Ends) (log : LogState) (lane : ℕ) (cause : Cause) (told : Fault) (bad : BadInput) → StopsRelay lanes log lane cause → (lines : ℕ) (Part : Type 0) → (told ≡ of_relay cause lane lines) ⊎ (IsOfPrinting told × Part) → told ≡ fault.BadInput bad
+-- where bad input is reported, it is that plan
+pub names_bad_plan : (lanes : List Ends) (log : LogState) (lane : ℕ) (cause : Cause) (reported : Fault) (bad : BadInput) → StopsRelay lanes log lane cause → (lines : ℕ) (Part : Type 0) → (reported ≡ of_relay cause lane lines) ⊎ (IsOfPrinting reported × Part) → reported ≡ fault.BadInput bad
     → (at : ℕ) × (bad ≡ bad_plan at) × HasBadPlanFirst lanes at
-names_bad_plan lanes log lane cause told bad h lines Part (inr printing) named = absurd (none_printed told bad named printing.0)
-names_bad_plan lanes log lane Memory told bad h lines Part (inl is) named = absurd (let e : fault.Stopped lines ≡ fault.BadInput bad = sym is ∙ named in cc)
-names_bad_plan lanes log lane Spawn told bad h lines Part (inl is) named = absurd (let e : fault.Thread lines ≡ fault.BadInput bad = sym is ∙ named in cc)
-names_bad_plan lanes log lane Lost told bad h lines Part (inl is) named = absurd (let e : fault.Thread lines ≡ fault.BadInput bad = sym is ∙ named in cc)
-names_bad_plan lanes log lane BadPlan told bad h lines Part (inl is) named =
+names_bad_plan lanes log lane cause reported bad h lines Part (inr printing) named = absurd (none_printed reported bad named printing.0)
+names_bad_plan lanes log lane Memory reported bad h lines Part (inl is) named = absurd (let e : fault.Stopped lines ≡ fault.BadInput bad = sym is ∙ named in cc)
+names_bad_plan lanes log lane Spawn reported bad h lines Part (inl is) named = absurd (let e : fault.Thread lines ≡ fault.BadInput bad = sym is ∙ named in cc)
+names_bad_plan lanes log lane Lost reported bad h lines Part (inl is) named = absurd (let e : fault.Thread lines ≡ fault.BadInput bad = sym is ∙ named in cc)
+names_bad_plan lanes log lane BadPlan reported bad h lines Part (inl is) named =
     (lane, (let e : fault.BadInput (bad_plan lane) ≡ fault.BadInput bad = sym is ∙ named in let f : bad_plan lane ≡ bad = cc in sym f), first_bad_plan lanes log lane h)
-names_bad_plan lanes log lane Wiped told bad h lines Part (inl is) named = absurd (let e : fault.Memory ≡ fault.BadInput bad = sym is ∙ named in cc)
+names_bad_plan lanes log lane Wiped reported bad h lines Part (inl is) named = absurd (let e : fault.Memory ≡ fault.BadInput bad = sym is ∙ named in cc)

@@ -68,11 +68,11 @@ abbrev pub ends_in : Sender → SealerState → Option Ends
 ends_in sender sealer = option_map (ends_with sender) (source_in sender sealer)
 
 -- what the job states of a sender, and of its lane: nothing where it states no seed
-abbrev pub source_told : Sender → Option Source
-source_told sender = source_in sender (sealer_of sender)
+abbrev pub source_stated : Sender → Option Source
+source_stated sender = source_in sender (sealer_of sender)
 
-abbrev pub lane_told : Sender → Option Ends
-lane_told sender = ends_in sender (sealer_of sender)
+abbrev pub lane_stated : Sender → Option Ends
+lane_stated sender = ends_in sender (sealer_of sender)
 
 -- The ends of lanes that may begin: each sender keeps its limits and none was wiped, each receiver
 -- has a moment, and there are as many of both.

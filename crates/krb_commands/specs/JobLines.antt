@@ -53,7 +53,7 @@ ending_name LastNumber = codes "LAST_NUMBER"
 
 abbrev pub sent_text : Sent → List ℕ
 sent_text sent =
-    codes "sent " ++ decimal sent.k ++ codes " of " ++ decimal sent.n ++ codes " "
+    codes "sent " ++ decimal sent.sealed ++ codes " of " ++ decimal sent.texts ++ codes " "
     ++ ending_name sent.ending
 
 abbrev pub sent_line : Sent → List ℕ

@@ -64,9 +64,9 @@ impl Line for Sent {
     ghost text = { λ sent. lines.sent_text sent };
 
     fn line(&self, alloc: Global) -> Result<String, AllocError> {
-        let (k, n) = (self.k, self.n);
+        let (sealed, texts) = (self.sealed, self.texts);
         let ending = ending_name(self.ending);
-        format!(in alloc; "sent {k} of {n} {ending}\n")
+        format!(in alloc; "sent {sealed} of {texts} {ending}\n")
     }
 }
 
@@ -117,9 +117,9 @@ impl Line for EndLine {
 
     fn line(&self, alloc: Global) -> Result<String, AllocError> {
         let (lane, name) = (self.lane, state_name(self.status));
-        let (k, n) = (self.sent.k, self.sent.n);
+        let (sealed, texts) = (self.sent.sealed, self.sent.texts);
         let ending = ending_name(self.sent.ending);
-        format!(in alloc; "lane {lane} sent {k} of {n} {ending} {name}\n")
+        format!(in alloc; "lane {lane} sent {sealed} of {texts} {ending} {name}\n")
     }
 }
 

@@ -9,7 +9,7 @@ use Rattle.krb_core.specs.declared.turn.Turn.TheVariants.{Send, Take}
 use Rattle.krb_peers.specs.Log.{ended_at}
 use Rattle.krb_peers.specs.LogState.{LogState}
 use Rattle.krb_peers.specs.ReceiverState.{ReceiverState}
-use Rattle.krb_peers.specs.Receiver.{receiver_behind}
+use Rattle.krb_peers.specs.Receiver.{receiver_after}
 use Rattle.krb_peers.specs.Moments.{moment_at}
 use Rattle.krb_peers.specs.Ends.{Ends}
 use Rattle.krb_core.specs.Start.{AreBegun}
@@ -98,7 +98,7 @@ module _ (capacity : ℕ) (wire : List (List ℕ)) (receiver : ReceiverState) (n
   }
   takes_by s t h (inr lt) (Some frame) at =
       let range = h.in_range in
-      let r : ReceiverState = receiver_behind receiver (verdict_by receiver (moment_at nows t) frame) in
+      let r : ReceiverState = receiver_after receiver (verdict_by receiver (moment_at nows t) frame) in
       let log : LogState = noted empty_log 0 (verdict_by receiver (moment_at nows t) frame) in
       record {
         taken = t + 1;

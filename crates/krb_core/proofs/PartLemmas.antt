@@ -52,7 +52,7 @@ map-mid f (z ∷ front) back x y h = ap (λ l. f z ∷ l) (map-mid f front back 
 abbrev at_all : ℕ → List TrackState → List TrackState
 at_all n tracks = map (λ track. at_round track n) tracks
 
--- behind the lanes that went before, some more went a round on, and the rest didn't
+-- after the lanes that went before, some more went a round on, and the rest didn't
 record InRound (n k : ℕ) (front back : List TrackState) (log : LogState) (now : Relay) : Type 0 where
   pub gone : List TrackState
   pub rest : List TrackState

@@ -19,13 +19,13 @@ use Rattle.krb_peers.specs.Sender.{sealed_texts, AreFrames}
 use Rattle.krb_peers.specs.Sender as sender
 use Rattle.krb_peers.specs.Run.{IsRun}
 use Rattle.krb_peers.specs.Wire.{TakesAll}
-use Rattle.krb_core.specs.Track.{TrackState, verdict_now, log_behind}
+use Rattle.krb_core.specs.Track.{TrackState, verdict_now, log_then}
 use Rattle.krb_peers.specs.Logged.{entries_by}
 use Rattle.krb_core.specs.TrackPlaces.{items_of}
 use Rattle.krb_peers.specs.declared.sending.Sent.{Sent}
 use Rattle.krb_peers.specs.Ends.{Ends, sents_of}
 use Rattle.krb_core.specs.Start.{AreBegun}
-use Rattle.krb_core.specs.Stepped.{Relay, lane_of, event_of, track_behind, turned_at, turned, after}
+use Rattle.krb_core.specs.Stepped.{Relay, lane_of, event_of, track_after, turned_at, turned, after}
 use Rattle.krb_core.specs.Relayed.{HasBegun, HasTurned, event_at, turned_events, Taking, taking_of, taking_at, takings, entries_in, run_of, IsLane, OfEachLane, HaveHeadline, GoesOn, KeepsHeadline}
 use Rattle.krb_peers.specs.Log.{has_ended}
 use Rattle.krb_peers.proofs.ClaimLemmas.{headline_of}
@@ -60,9 +60,9 @@ pub record IsLeft (tracks : List TrackState) (lane : ℕ) (was : Lane (List ℕ)
   pub at : slice_get tracks lane ≡ Some track
   pub left : track.lane ≡ machine.after was events
 
-behind_lane : (turn : Turn) (track : TrackState) → (track_behind turn track).lane ≡ after_event track.lane (event_of turn track)
-behind_lane (Send number) track = refl
-behind_lane (Take number) track = refl
+after_lane : (turn : Turn) (track : TrackState) → (track_after turn track).lane ≡ after_event track.lane (event_of turn track)
+after_lane (Send number) track = refl
+after_lane (Take number) track = refl
 
 left_at : (relay : Relay) (turn : Turn) (found : Option TrackState) (lane : ℕ) (track : TrackState) → slice_get relay.tracks (lane_of turn) ≡ found → slice_get relay.tracks lane ≡ Some track
     → IsLeft (turned_at relay turn found).tracks lane track.lane (event_at lane turn found)
@@ -73,13 +73,13 @@ left_at relay turn (Some old) lane track at is =
           let same : Some old ≡ Some track = sym at ∙ (ap (λ k. slice_get relay.tracks k) mine.1 ∙ is) in
           let same-t : old ≡ track = cc in
           rw mine.0 (record {
-            track = track_behind turn old;
-            at = ap (λ k. slice_get (set relay.tracks (lane_of turn) (track_behind turn old)) k) (sym mine.1) ∙ get_set relay.tracks (lane_of turn) (track_behind turn old) old at;
-            left = behind_lane turn old ∙ ap (λ (l : Lane (List ℕ)). after_event l (event_of turn old)) (ap (λ (t : TrackState). t.lane) same-t);
+            track = track_after turn old;
+            at = ap (λ k. slice_get (set relay.tracks (lane_of turn) (track_after turn old)) k) (sym mine.1) ∙ get_set relay.tracks (lane_of turn) (track_after turn old) old at;
+            left = after_lane turn old ∙ ap (λ (l : Lane (List ℕ)). after_event l (event_of turn old)) (ap (λ (t : TrackState). t.lane) same-t);
           })
       | inr apart ↦ rw apart.0 (record {
         track = track;
-        at = get_set_other relay.tracks (lane_of turn) lane (track_behind turn old) apart.1 ∙ is;
+        at = get_set_other relay.tracks (lane_of turn) lane (track_after turn old) apart.1 ∙ is;
         left = refl;
       })
     ]
@@ -104,7 +104,7 @@ left_after (turn ∷ turns) relay lane track is =
 entries-append : (xs ys : List Taking) → entries_in (xs ++ ys) ≡ entries_in xs ++ entries_in ys
 entries-append xs ys = flat_map-append (λ taking. entries_by taking.lane taking.verdict) xs ys
 
-order_by : (log : LogState) (number : ℕ) (track : TrackState) (queue : List (Item (List ℕ))) → (log_behind log number track queue).entries ≡ log.entries ++ entries_in (taking_of number track queue)
+order_by : (log : LogState) (number : ℕ) (track : TrackState) (queue : List (Item (List ℕ))) → (log_then log number track queue).entries ≡ log.entries ++ entries_in (taking_of number track queue)
 order_by log number track [] = sym (append-nil log.entries)
 order_by log number track (Frame frame ∷ queue) = ap (λ l. log.entries ++ l) (sym (append-nil (entries_by number (verdict_now track frame))))
 order_by log number track (End ∷ queue) = sym (append-nil log.entries)
@@ -248,7 +248,7 @@ pub after-append : (relay : Relay) (xs ys : List Turn) → after relay (xs ++ ys
 after-append relay [] ys = refl
 after-append relay (x ∷ xs) ys = after-append (turned relay x) xs ys
 
--- these turns, behind all that were before
+-- these turns, after all that were before
 pub goes_on : (old now : Relay) (turns : List Turn) → now ≡ after old turns → GoesOn old turns now
 goes_on old now turns is lanes capacity before h = record {
   begun = h.begun;

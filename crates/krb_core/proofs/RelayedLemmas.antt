@@ -7,25 +7,25 @@ use Rattle.std.proofs.lemmas.Option.{slice_get_within}
 use Rattle.krb_base.specs.Bytes.{AreBytes}
 use Rattle.krb_base.specs.Lane.{Item, Lane, Frame, End, has_end, frames, is_possible, moved, taken}
 use Rattle.krb_base.specs.Lane as machine
-use Rattle.krb_base.proofs.LaneLemmas.{IsState, frames-append, has_end-append, behind_end, state_empty, state_event, state_moved}
+use Rattle.krb_base.proofs.LaneLemmas.{IsState, frames-append, has_end-append, after_end, state_empty, state_event, state_moved}
 use Rattle.krb_peers.specs.declared.sending.Sent.{Sent}
 use Rattle.krb_core.specs.declared.turn.Turn.{Turn}
 use Rattle.krb_core.specs.declared.turn.Turn.TheVariants.{Send, Take}
 use Rattle.krb_peers.specs.Log.{ended_at, new_log}
 use Rattle.krb_peers.specs.LogState.{LogState}
 use Rattle.krb_peers.specs.ReceiverState.{ReceiverState}
-use Rattle.krb_peers.specs.Receiver.{receiver_behind}
+use Rattle.krb_peers.specs.Receiver.{receiver_after}
 use Rattle.krb_peers.specs.Moments.{moment_at}
 use Rattle.krb_peers.specs.Order.{demand_after}
 use Rattle.krb_peers.specs.Verdicts.{Verdict, AllBytes, IsVerdict, records_of}
-use Rattle.krb_core.specs.Track.{TrackState, item_at, next_send, after_send, verdict_now, receiver_after, after_take, log_behind, log_after}
+use Rattle.krb_core.specs.Track.{TrackState, item_at, next_send, after_send, verdict_now, receiver_after, after_take, log_then, log_after}
 use Rattle.krb_peers.specs.Receiver.{verdict_by}
 use Rattle.krb_peers.specs.Logged.{noted}
 use Rattle.krb_core.specs.TrackPlaces.{items_of}
 use Rattle.krb_peers.specs.Ends.{Ends}
 use Rattle.krb_peers.specs.Wire.{IsWire}
 use Rattle.krb_core.specs.Start.{fresh, IsBegun, AreBegun}
-use Rattle.krb_core.specs.Stepped.{Relay, lane_of, track_behind, log_behind_turn, turned_at, turned, after}
+use Rattle.krb_core.specs.Stepped.{Relay, lane_of, track_after, log_then_turn, turned_at, turned, after}
 use Rattle.krb_peers.specs.Log.{has_ended}
 use Rattle.krb_core.specs.Relayed.{HasBegun, HasTurned, IsLogged}
 use Rattle.krb_peers.proofs.VerdictLemmas.{right_verdict}
@@ -85,7 +85,7 @@ got_no_end lane x rest state is = by_end (has_end lane.got) refl
     by_end : (b : Bool) → has_end lane.got ≡ b → b ≡ false
     by_end false e = refl
     by_end true e =
-        let none : lane.queue ≡ [] = behind_end lane.got lane.queue (subst (λ (l : List (Item (List ℕ))). machine.IsEndLast l) state.linked state.end_last) e in
+        let none : lane.queue ≡ [] = after_end lane.got lane.queue (subst (λ (l : List (Item (List ℕ))). machine.IsEndLast l) state.linked state.end_last) e in
         absurd (let f : [] ≡ x ∷ rest = sym none ∙ is in cc)
 
 -- a take of what is queued
@@ -127,14 +127,14 @@ module _ (ends : Ends) (lane : ℕ) (track : TrackState) (log : LogState) (h : S
       subst Q now_is (subst P (sym h.logged.receiver_is) due)
 
   frame_taken : (frame : List ℕ) (rest : List (Item (List ℕ))) → track.lane.queue ≡ Frame frame ∷ rest
-      → Stands ends lane (record track { lane = taken track.lane (Frame frame ∷ rest); receiver = receiver_behind track.receiver (verdict_now track frame) }) (noted log lane (verdict_now track frame))
+      → Stands ends lane (record track { lane = taken track.lane (Frame frame ∷ rest); receiver = receiver_after track.receiver (verdict_now track frame) }) (noted log lane (verdict_now track frame))
   frame_taken frame rest is =
       let v = verdict_now track frame in
       let got = track.lane.got in
       let took = frames got in
       let off = got_no_end track.lane (Frame frame) rest h.state is in
       let more : took ++ frame ∷ [] ≡ frames (got ++ Frame frame ∷ []) = sym (frames-append got (Frame frame ∷ [])) in
-      let P : List (List ℕ) → Type 0 = λ fs. IsLogged ends lane fs (noted log lane v) (receiver_behind track.receiver v) (h.verdicts ++ v ∷ []) in
+      let P : List (List ℕ) → Type 0 = λ fs. IsLogged ends lane fs (noted log lane v) (receiver_after track.receiver v) (h.verdicts ++ v ∷ []) in
       record {
         emits = h.emits;
         moments = h.moments;
@@ -165,7 +165,7 @@ module _ (ends : Ends) (lane : ℕ) (track : TrackState) (log : LogState) (h : S
 
   -- whatever is queued
   queue_taken : (queue : List (Item (List ℕ))) → track.lane.queue ≡ queue
-      → Stands ends lane (record track { lane = taken track.lane queue; receiver = receiver_after track queue }) (log_behind log lane track queue)
+      → Stands ends lane (record track { lane = taken track.lane queue; receiver = receiver_after track queue }) (log_then log lane track queue)
   queue_taken [] is = h
   queue_taken (Frame frame ∷ rest) is = frame_taken frame rest is
   queue_taken (End ∷ rest) is = end_taken rest is
@@ -200,7 +200,7 @@ module _ (ends : Ends) (lane : ℕ) (track : TrackState) (log : LogState) (h : S
   stands_sent : Stands ends lane (after_send track) log
   stands_sent = sent_by (is_possible track.lane (next_send track)) refl
 
-  stands_turned : (turn : Turn) → lane ≡ lane_of turn → Stands ends lane (track_behind turn track) (log_behind_turn turn track log)
+  stands_turned : (turn : Turn) → lane ≡ lane_of turn → Stands ends lane (track_after turn track) (log_then_turn turn track log)
   stands_turned (Send number) is = stands_sent
   stands_turned (Take number) is = subst (λ (n : ℕ). Stands ends lane (after_take track) (log_after log n track)) is stands_taken
 
@@ -233,12 +233,12 @@ module _ (ends : Ends) (lane : ℕ) (track : TrackState) (log : LogState) (h : S
         ended = get_or-set_other log.ended number lane true false (λ e. apart (sym e)) ∙ h.ended;
       }
 
-  beside_taken : (number : ℕ) (old : TrackState) (queue : List (Item (List ℕ))) → number ≢ lane → Stands ends lane track (log_behind log number old queue)
+  beside_taken : (number : ℕ) (old : TrackState) (queue : List (Item (List ℕ))) → number ≢ lane → Stands ends lane track (log_then log number old queue)
   beside_taken number old [] apart = h
   beside_taken number old (Frame frame ∷ queue) apart = beside_noted number (verdict_now old frame) apart
   beside_taken number old (End ∷ queue) apart = beside_ended number apart
 
-  stands_beside : (turn : Turn) (old : TrackState) → lane_of turn ≢ lane → Stands ends lane track (log_behind_turn turn old log)
+  stands_beside : (turn : Turn) (old : TrackState) → lane_of turn ≢ lane → Stands ends lane track (log_then_turn turn old log)
   stands_beside (Send number) old apart = h
   stands_beside (Take number) old apart = beside_taken number old old.lane.queue apart
 
@@ -253,11 +253,11 @@ pub record AllStand (lanes : List Ends) (relay : Relay) : Type 0 where
 stand_at : (lanes : List Ends) (relay : Relay) (turn : Turn) (found : Option TrackState) → slice_get relay.tracks (lane_of turn) ≡ found → AllStand lanes relay → AllStand lanes (turned_at relay turn found)
 stand_at lanes relay turn None at h = h
 stand_at lanes relay turn (Some old) at h = record {
-  count = length-set relay.tracks (lane_of turn) (track_behind turn old) ∙ h.count;
-  each = λ lane ends track at-e at-t. elim (read_set relay.tracks (lane_of turn) lane (track_behind turn old) track at-t) [
+  count = length-set relay.tracks (lane_of turn) (track_after turn old) ∙ h.count;
+  each = λ lane ends track at-e at-t. elim (read_set relay.tracks (lane_of turn) lane (track_after turn old) track at-t) [
     | same e f ↦
         let was : slice_get relay.tracks lane ≡ Some old = ap (λ k. slice_get relay.tracks k) e ∙ at in
-        let P : TrackState → Type 0 = λ t. Stands ends lane t (log_behind_turn turn old relay.log) in
+        let P : TrackState → Type 0 = λ t. Stands ends lane t (log_then_turn turn old relay.log) in
         subst P (sym f) (stands_turned ends lane old relay.log (h.each lane ends old at-e was) turn e)
     | other e f ↦ stands_beside ends lane track relay.log (h.each lane ends track at-e f) turn old e
   ];

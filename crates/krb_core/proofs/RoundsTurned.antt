@@ -14,7 +14,7 @@ use Rattle.krb_peers.specs.Demand.{Demand}
 use Rattle.krb_peers.specs.Log.{ended_at}
 use Rattle.krb_peers.specs.LogState.{LogState}
 use Rattle.krb_peers.specs.ReceiverState.{ReceiverState}
-use Rattle.krb_peers.specs.Receiver.{receiver_behind}
+use Rattle.krb_peers.specs.Receiver.{receiver_after}
 use Rattle.krb_peers.specs.Moments.{moment_at}
 use Rattle.krb_core.specs.Start.{fresh, AreBegun}
 use Rattle.krb_peers.specs.Ends.{Ends}
@@ -105,7 +105,7 @@ module _ (begun : TrackState) where
       verdict-at begun.receiver.opener begun.nows start 0 begun.wire k frame at
       ∙ ap (λ n. Some (verdict begun.receiver.opener (demand_after begun.receiver.demand (records_of (take k answers))) (moment_at begun.nows n) frame)) p
 
-  received-next : (k : ℕ) (v : Verdict) → slice_get answers k ≡ Some v → receiver_behind (received k) v ≡ received (k + 1)
+  received-next : (k : ℕ) (v : Verdict) → slice_get answers k ≡ Some v → receiver_after (received k) v ≡ received (k + 1)
   received-next k v at =
       ap (λ (d : Demand). let r : ReceiverState = record begun.receiver { demand = d } in r)
       (demand_after-append begun.receiver.demand (records_of (take k answers)) (accepted_by v)
@@ -132,7 +132,7 @@ module _ (begun : TrackState) where
       let after_places : ArePlaces wire (k + 1) k = record { taken_sent = omega arith; in_range = omega (arith, lt) } in
       let sent = send_moves wire capacity k k r nows places (omega (arith, lt)) (omega (arith, room)) in
       let v = verdict_by r (moment_at nows k) frame in
-      let took = take_frame wire capacity (k + 1) k r nows log (noted log number v) number frame (receiver_behind r v) after_places (omega arith) at refl refl in
+      let took = take_frame wire capacity (k + 1) k r nows log (noted log number v) number frame (receiver_after r v) after_places (omega arith) at refl refl in
       record {
         track_is = ap after_take (sym sent.after) ∙ (sym took.after ∙ ap (λ x. track_at wire capacity (k + 1) (k + 1) x nows) (received-next k v (answer-at k frame at)));
         entries_are = ap (λ t. (log_after log number t).entries) (sym sent.after) ∙ (ap (λ (l : LogState). l.entries) (sym took.log_is) ∙ ap (λ z. log.entries ++ z) (named-verdict number answers k v (answer-at k frame at)));

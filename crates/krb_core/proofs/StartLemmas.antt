@@ -91,18 +91,18 @@ is_new_log log count lanes l e d same =
     ap₂ (λ n es. let z : LogState = record { lanes = n; entries = es; ended = log.ended } in z) (l ∙ sym same) e
     ∙ ap (λ d. let z : LogState = record { lanes = lanes; entries = []; ended = d } in z) d
 
--- a lane that doesn't begin, behind those that do
-pub lane_fails : {S : Type 0} (state : S → SealerState) (capacity : ℕ) (lanes before behind : List (Sending S × Receiving)) (pair : Sending S × Receiving) (tracks : List TrackState) (sents : List Sent) (lane : ℕ) (error : StartError)
-    → lanes ≡ (before ++ pair ∷ []) ++ behind → AreBegun capacity (map (ends_of state) before) tracks sents → lane ≡ length before → IsReason (source_of state (pair.0)) lane error
+-- a lane that doesn't begin, after those that do
+pub lane_fails : {S : Type 0} (state : S → SealerState) (capacity : ℕ) (lanes before following : List (Sending S × Receiving)) (pair : Sending S × Receiving) (tracks : List TrackState) (sents : List Sent) (lane : ℕ) (error : StartError)
+    → lanes ≡ (before ++ pair ∷ []) ++ following → AreBegun capacity (map (ends_of state) before) tracks sents → lane ≡ length before → IsReason (source_of state (pair.0)) lane error
     → FailsToBegin capacity (map (ends_of state) lanes) error
-lane_fails state capacity lanes before behind pair tracks sents lane error e begun at reason =
+lane_fails state capacity lanes before following pair tracks sents lane error e begun at reason =
     let f = ends_of state in
     let place : lane ≡ length (map f before) = at ∙ sym (length-map before f) in
     inr (record {
       before = map f before;
       ends = f pair;
-      behind = map f behind;
-      lanes_are = ap (map f) (e ∙ append_assoc before (pair ∷ []) behind) ∙ map-append f before (pair ∷ behind);
+      following = map f following;
+      lanes_are = ap (map f) (e ∙ append_assoc before (pair ∷ []) following) ∙ map-append f before (pair ∷ following);
       tracks = tracks;
       sents = sents;
       begun = begun;

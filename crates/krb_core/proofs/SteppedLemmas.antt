@@ -12,25 +12,25 @@ use Rattle.krb_core.specs.declared.turn.Turn.{Turn}
 use Rattle.krb_core.specs.declared.turn.Turn.TheVariants.{Send, Take}
 use Rattle.krb_peers.specs.LogState.{LogState}
 use Rattle.krb_peers.specs.ReceiverState.{ReceiverState}
-use Rattle.krb_core.specs.Track.{TrackState, receiver_after, log_behind, verdict_now, next_send, after_send, after_take, log_after, HasFrameFirst}
+use Rattle.krb_core.specs.Track.{TrackState, receiver_after, log_then, verdict_now, next_send, after_send, after_take, log_after, HasFrameFirst}
 use Rattle.krb_peers.specs.Logged.{IsShut}
-use Rattle.krb_core.specs.Stepped.{Relay, lane_of, track_behind, turned_at, turned, after, may_move, TakesFrame, StopsAt, IsRelay}
+use Rattle.krb_core.specs.Stepped.{Relay, lane_of, track_after, turned_at, turned, after, may_move, TakesFrame, StopsAt, IsRelay}
 use Rattle.krb_peers.proofs.LoggedLemmas.{shut_same, shut_other}
 
 -- ---- closes in a log
 
 -- what is taken keeps a lane shut
-shut_behind : (log : LogState) (lane : ℕ) (track : TrackState) (queue : List (Item (List ℕ))) → IsShut log lane track.receiver → IsShut (log_behind log lane track queue) lane (receiver_after track queue)
-shut_behind log lane track [] h = h
-shut_behind log lane track (Frame f ∷ queue) h = shut_same log lane track.receiver (verdict_now track f) h
-shut_behind log lane track (End ∷ queue) h = h
+shut_after : (log : LogState) (lane : ℕ) (track : TrackState) (queue : List (Item (List ℕ))) → IsShut log lane track.receiver → IsShut (log_then log lane track queue) lane (receiver_after track queue)
+shut_after log lane track [] h = h
+shut_after log lane track (Frame f ∷ queue) h = shut_same log lane track.receiver (verdict_now track f) h
+shut_after log lane track (End ∷ queue) h = h
 
-shut_beside : (log : LogState) (number lane : ℕ) (track : TrackState) (r : ReceiverState) (queue : List (Item (List ℕ))) → number ≢ lane → IsShut log lane r → IsShut (log_behind log number track queue) lane r
+shut_beside : (log : LogState) (number lane : ℕ) (track : TrackState) (r : ReceiverState) (queue : List (Item (List ℕ))) → number ≢ lane → IsShut log lane r → IsShut (log_then log number track queue) lane r
 shut_beside log number lane track r [] other h = h
 shut_beside log number lane track r (Frame f ∷ queue) other h = shut_other log number lane r (verdict_now track f) other h
 shut_beside log number lane track r (End ∷ queue) other h = h
 
-same_lanes : (log : LogState) (number : ℕ) (track : TrackState) (queue : List (Item (List ℕ))) → (log_behind log number track queue).lanes ≡ log.lanes
+same_lanes : (log : LogState) (number : ℕ) (track : TrackState) (queue : List (Item (List ℕ))) → (log_then log number track queue).lanes ≡ log.lanes
 same_lanes log number track [] = refl
 same_lanes log number track (Frame f ∷ queue) = refl
 same_lanes log number track (End ∷ queue) = refl
@@ -70,7 +70,7 @@ relay_taken tracks log sents k old at h = record {
   lanes = length-set tracks k (after_take old) ∙ (h.lanes ∙ sym (same_lanes log k old old.lane.queue));
   sealed = h.sealed ∙ sym (length-set tracks k (after_take old));
   shut = λ lane track is. elim (read_set tracks k lane (after_take old) track is) [
-    | same e f ↦ rw (e, f) (shut_behind log k old old.lane.queue (h.shut k old at))
+    | same e f ↦ rw (e, f) (shut_after log k old old.lane.queue (h.shut k old at))
     | other e f ↦ shut_beside log k lane old track.receiver old.lane.queue e (h.shut lane track f)
   ];
 }
@@ -142,7 +142,7 @@ on_err P (Err e) h = h
 -- the lanes stay
 turned_count_at : (relay : Relay) (t : Turn) (o : Option TrackState) → length (turned_at relay t o).tracks ≡ length relay.tracks
 turned_count_at relay t None = refl
-turned_count_at relay t (Some track) = length-set relay.tracks (lane_of t) (track_behind t track)
+turned_count_at relay t (Some track) = length-set relay.tracks (lane_of t) (track_after t track)
 
 pub turned_count : (relay : Relay) (t : Turn) → length (turned relay t).tracks ≡ length relay.tracks
 turned_count relay t = turned_count_at relay t (slice_get relay.tracks (lane_of t))

@@ -9,10 +9,10 @@ use Rattle.krb_core.specs.declared.turn.Did.{Did}
 use Rattle.krb_core.specs.declared.turn.Did.TheVariants.{Moved, Waits}
 use Rattle.krb_peers.specs.LogState.{LogState}
 use Rattle.krb_peers.specs.ReceiverState.{ReceiverState}
-use Rattle.krb_peers.specs.Receiver.{receiver_behind}
+use Rattle.krb_peers.specs.Receiver.{receiver_after}
 use Rattle.krb_peers.specs.Log.{ended_at}
 use Rattle.krb_peers.specs.Moments.{moment_at}
-use Rattle.krb_core.specs.Track.{TrackState, item_of, item_at, next_send, after_send, receiver_after, after_take, log_behind, log_after, LogsFront, HasFrameFirst}
+use Rattle.krb_core.specs.Track.{TrackState, item_of, item_at, next_send, after_send, receiver_after, after_take, log_then, log_after, LogsFront, HasFrameFirst}
 use Rattle.krb_peers.proofs.ListLemmas.{there_is}
 use Rattle.krb_peers.specs.Receiver.{verdict_by}
 use Rattle.krb_peers.specs.Logged.{noted, LogsNext}
@@ -78,11 +78,11 @@ module _ (wire : List (List ℕ)) (capacity s t : ℕ) (receiver : ReceiverState
       let len : length (take s items) ≡ s = length-sent wire s h.in_range in
       let x : Item (List ℕ) = item_at wire (length (take s items)) in
       let more : take (s + 1) items ≡ take s items ++ x ∷ [] = take-item wire s left ∙ ap (λ n. take s items ++ item_at wire n ∷ []) (sym len) in
-      let behind : drop t (take (s + 1) items) ≡ drop t (take s items) ++ x ∷ [] =
+      let following : drop t (take (s + 1) items) ≡ drop t (take s items) ++ x ∷ [] =
       ap (λ l. drop t l) more ∙ drop-append-le t (take s items) (x ∷ []) (omega (arith, len)) in
       let may : is_possible lane (Send x) ≡ true = may_send lane x (omega (arith, queued h)) (no_end wire s left) in
       let lane_is : lane_at capacity wire (s + 1) t ≡ moved lane (Send x) =
-      ap₂ (λ (a b : List (Item (List ℕ))). let l : Lane (List ℕ) = record { capacity = capacity; sent = a; got = take t items; queue = b } in l) more behind in
+      ap₂ (λ (a b : List (Item (List ℕ))). let l : Lane (List ℕ) = record { capacity = capacity; sent = a; got = take t items; queue = b } in l) more following in
       let leaves : lane_at capacity wire (s + 1) t ≡ after_event lane (Send x) = lane_is ∙ sym (after_possible lane (Send x) may) in
       record {
         after = ap (λ (l : Lane (List ℕ)). let z : TrackState = record { wire = wire; lane = l; receiver = receiver; nows = nows } in z) leaves;
@@ -150,7 +150,7 @@ module _ (wire : List (List ℕ)) (capacity s t : ℕ) (receiver : ReceiverState
 
   -- a frame at the front
   pub take_frame : (log log-now : LogState) (number : ℕ) (frame : List ℕ) (receiver-now : ReceiverState) → ArePlaces wire s t → t < s → slice_get wire t ≡ Some frame
-      → receiver-now ≡ receiver_behind receiver (verdict_by receiver (moment_at nows t) frame)
+      → receiver-now ≡ receiver_after receiver (verdict_by receiver (moment_at nows t) frame)
       → log-now ≡ noted log number (verdict_by receiver (moment_at nows t) frame)
       → IsTake log number (track_at wire capacity s (t + 1) receiver-now nows) log-now Moved
   take_frame log log-now number frame receiver-now h lt at r-is l-is =
@@ -158,12 +158,12 @@ module _ (wire : List (List ℕ)) (capacity s t : ℕ) (receiver : ReceiverState
       let first = at_front (Frame frame) (ap item_of at) h lt in
       let count : t ≡ length (take t (items_of wire)) = sym (length-sent wire t (omega arith)) in
       record {
-        after = makes_track receiver-now h lt (r-is ∙ (ap (λ n. receiver_behind receiver (verdict_by receiver (moment_at nows n) frame)) count ∙ ap (λ q. receiver_after here q) (sym first)));
-        log_is = l-is ∙ (ap (λ n. noted log number (verdict_by receiver (moment_at nows n) frame)) count ∙ ap (λ q. log_behind log number here q) (sym first));
+        after = makes_track receiver-now h lt (r-is ∙ (ap (λ n. receiver_after receiver (verdict_by receiver (moment_at nows n) frame)) count ∙ ap (λ q. receiver_after here q) (sym first)));
+        log_is = l-is ∙ (ap (λ n. noted log number (verdict_by receiver (moment_at nows n) frame)) count ∙ ap (λ q. log_then log number here q) (sym first));
         waits = moves h lt;
       }
 
-  -- which a log has behind all that were taken before
+  -- which a log has after all that were taken before
   pub take_logs : (log log-now : LogState) (number : ℕ) (frame : List ℕ) (receiver-now : ReceiverState) → ArePlaces wire s t → t < s → slice_get wire t ≡ Some frame
       → LogsNext receiver log number (moment_at nows t) frame receiver-now log-now
       → LogsFront number here log (track_at wire capacity s (t + 1) receiver-now nows) log-now
@@ -188,7 +188,7 @@ module _ (wire : List (List ℕ)) (capacity s t : ℕ) (receiver : ReceiverState
       let first = at_front End (ap item_of at) h lt in
       record {
         after = makes_track receiver h lt (ap (λ q. receiver_after here q) (sym first));
-        log_is = l-is ∙ ap (λ q. log_behind log number here q) (sym first);
+        log_is = l-is ∙ ap (λ q. log_then log number here q) (sym first);
         waits = moves h lt;
       }
 
@@ -201,7 +201,7 @@ module _ (wire : List (List ℕ)) (capacity s t : ℕ) (receiver : ReceiverState
       let off : is_possible lane Take ≡ false = ap (λ q. nat_lt 0 (length q)) none in
       record {
         after = ap₂ (λ (l : Lane (List ℕ)) (r : ReceiverState). let z : TrackState = record { wire = wire; lane = l; receiver = r; nows = nows } in z) (sym (after_impossible lane Take off)) (ap (λ q. receiver_after here q) (sym none));
-        log_is = ap (λ q. log_behind log number here q) (sym none);
+        log_is = ap (λ q. log_then log number here q) (sym none);
         waits = (λ e. off, λ x. refl);
       }
 

@@ -8,14 +8,14 @@ use Rattle.krb_peers.specs.declared.sending.Sent.{Sent}
 use Rattle.krb_core.specs.declared.turn.Turn.{Turn}
 use Rattle.krb_core.specs.declared.turn.Turn.TheVariants.{Send, Take}
 use Rattle.krb_peers.specs.LogState.{LogState}
-use Rattle.krb_core.specs.Track.{TrackState, after_send, after_take, verdict_now, log_behind, log_after}
+use Rattle.krb_core.specs.Track.{TrackState, after_send, after_take, verdict_now, log_then, log_after}
 use Rattle.krb_peers.specs.Logged.{entries_by}
 use Rattle.krb_core.specs.Stepped.{Relay, lane_of, turned_at, turned, after}
 use Rattle.krb_core.specs.Finish.{round_turns, rounds_turns, finishing}
 use Rattle.krb_core.proofs.SteppedLemmas.{relay_of, turned_count}
 use Rattle.krb_core.proofs.RelayedClaims.{after-append}
 
--- ---- turns behind turns
+-- ---- turns after turns
 
 pub after_count : (relay : Relay) (turns : List Turn) → length (after relay turns).tracks ≡ length relay.tracks
 after_count relay [] = refl
@@ -74,7 +74,7 @@ module _ (sents : List Sent) where
 
 -- ---- no turn takes an entry back
 
-log_grows : (log : LogState) (lane : ℕ) (track : TrackState) (queue : List (Item (List ℕ))) → IsPrefix log.entries (log_behind log lane track queue).entries
+log_grows : (log : LogState) (lane : ℕ) (track : TrackState) (queue : List (Item (List ℕ))) → IsPrefix log.entries (log_then log lane track queue).entries
 log_grows log lane track [] = prefix_same log.entries
 log_grows log lane track (Frame frame ∷ queue) = prefix_whole log.entries (entries_by lane (verdict_now track frame))
 log_grows log lane track (End ∷ queue) = prefix_same log.entries
@@ -111,7 +111,7 @@ served_part all left begun now h = (h.done, (left, h.split), h.leaves)
 pub served_all : (all : List Turn) (begun now : Relay) → HasServed all [] begun now → now ≡ after begun all
 served_all all begun now h = h.leaves ∙ ap (λ ts. after begun ts) (sym (h.split ∙ append-nil h.done))
 
--- the next lane of a round: its send, and the take behind it
+-- the next lane of a round: its send, and the take after it
 pub served_send : (n lane : ℕ) (begun then now : Relay) → lane < n → HasServed (round_turns 0 n) (round_turns lane (n - lane)) begun then → now ≡ turned then (Send lane)
     → HasServed (round_turns 0 n) (Take lane ∷ round_turns (lane + 1) (n - (lane + 1))) begun now
 served_send n lane begun then now lt h is =

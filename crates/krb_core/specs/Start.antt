@@ -34,8 +34,8 @@ AreBegun capacity lanes tracks sents = ⊥
 pub record FailsAt (capacity : ℕ) (lanes : List Ends) (error : StartError) : Type 0 where
   pub before : List Ends
   pub ends : Ends
-  pub behind : List Ends
-  pub lanes_are : lanes ≡ before ++ ends ∷ behind
+  pub following : List Ends
+  pub lanes_are : lanes ≡ before ++ ends ∷ following
   pub tracks : List TrackState
   pub sents : List Sent
   pub begun : AreBegun capacity before tracks sents

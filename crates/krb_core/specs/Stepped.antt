@@ -27,19 +27,19 @@ event_of (turn.Send lane) track = next_send track
 event_of (turn.Take lane) track = Take
 
 -- its track and the log after the event; an impossible one changes nothing
-abbrev pub track_behind : Turn → TrackState → TrackState
-track_behind (turn.Send lane) track = after_send track
-track_behind (turn.Take lane) track = after_take track
+abbrev pub track_after : Turn → TrackState → TrackState
+track_after (turn.Send lane) track = after_send track
+track_after (turn.Take lane) track = after_take track
 
-abbrev pub log_behind_turn : Turn → TrackState → LogState → LogState
-log_behind_turn (turn.Send lane) track log = log
-log_behind_turn (turn.Take lane) track log = log_after log lane track
+abbrev pub log_then_turn : Turn → TrackState → LogState → LogState
+log_then_turn (turn.Send lane) track log = log
+log_then_turn (turn.Take lane) track log = log_after log lane track
 
 abbrev pub turned_at : Relay → Turn → Option TrackState → Relay
 turned_at relay t None = relay
 turned_at relay t (Some track) = record relay {
-  tracks = slice_set relay.tracks (lane_of t) (track_behind t track);
-  log = log_behind_turn t track relay.log;
+  tracks = slice_set relay.tracks (lane_of t) (track_after t track);
+  log = log_then_turn t track relay.log;
 }
 
 -- what one turn leaves

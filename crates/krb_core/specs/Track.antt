@@ -5,7 +5,7 @@ use Rattle.krb_peers.specs.Log.{ended_at}
 use Rattle.krb_peers.specs.LogState.{LogState}
 use Rattle.krb_peers.specs.ReceiverState.{ReceiverState}
 use Rattle.krb_peers.specs.Logged.{noted, LogsNext}
-use Rattle.krb_peers.specs.Receiver.{verdict_by, receiver_behind}
+use Rattle.krb_peers.specs.Receiver.{verdict_by, receiver_after}
 use Rattle.krb_peers.specs.Moments.{moment_at}
 use Rattle.krb_peers.specs.Verdicts.{Verdict}
 
@@ -39,7 +39,7 @@ verdict_now track frame =
 abbrev pub receiver_after : TrackState → List (Item (List ℕ)) → ReceiverState
 receiver_after track [] = track.receiver
 receiver_after track (Frame frame ∷ queue) =
-    receiver_behind track.receiver (verdict_now track frame)
+    receiver_after track.receiver (verdict_now track frame)
 receiver_after track (End ∷ queue) = track.receiver
 
 abbrev pub after_take : TrackState → TrackState
@@ -49,13 +49,13 @@ after_take track = record track {
 }
 
 -- the log after that: End adds no entry
-abbrev pub log_behind : LogState → ℕ → TrackState → List (Item (List ℕ)) → LogState
-log_behind log lane track [] = log
-log_behind log lane track (Frame frame ∷ queue) = noted log lane (verdict_now track frame)
-log_behind log lane track (End ∷ queue) = ended_at log lane
+abbrev pub log_then : LogState → ℕ → TrackState → List (Item (List ℕ)) → LogState
+log_then log lane track [] = log
+log_then log lane track (Frame frame ∷ queue) = noted log lane (verdict_now track frame)
+log_then log lane track (End ∷ queue) = ended_at log lane
 
 abbrev pub log_after : LogState → ℕ → TrackState → LogState
-log_after log lane track = log_behind log lane track track.lane.queue
+log_after log lane track = log_then log lane track track.lane.queue
 
 -- if a frame is first in the queue, a take leaves it after all that were taken before, and other
 -- lanes' entries stay

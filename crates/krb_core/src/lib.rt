@@ -9,7 +9,7 @@
 //! relay.run(&[SEND, SEND, TAKE, TAKE, SEND, TAKE, SEND, TAKE])?;
 //! assert!(rt; is_whole(relay.log()) && relay.done());
 //! let sent = relay.sent(0);
-//! assert_same(&rt, (sent.k, sent.n), (1, 1));
+//! assert_same(&rt, (sent.sealed, sent.texts), (1, 1));
 //! ```
 #![tactic(auto)]
 

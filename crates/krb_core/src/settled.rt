@@ -3,7 +3,7 @@
 ghost use Rattle.std.specs.Prelude.{◌≡◌, ◌<◌, length, IfOk, OnOk, OnErr};
 ghost use Rattle.krb_peers.specs.Logged.{noted, IsShut, LogsNext};
 ghost use Rattle.krb_peers.specs.Moments.{moment_at};
-ghost use Rattle.krb_peers.specs.Receiver.{verdict_by, receiver_behind};
+ghost use Rattle.krb_peers.specs.Receiver.{verdict_by, receiver_after};
 
 use krb_der::HostAddress;
 use krb_peers::{Log, Receiver, Receivers, Receiving};
@@ -49,7 +49,7 @@ impl Settled {
         requires lane { lane < log.old.lanes }
         requires shut { IsShut log.old lane self.old.receiver }
         requires moments { 0 < length self.old.nows.items }
-        ensures receiver { OnOk result (self.new.receiver ≡ receiver_behind self.old.receiver
+        ensures receiver { OnOk result (self.new.receiver ≡ receiver_after self.old.receiver
             (verdict_by self.old.receiver (moment_at self.old.nows.items place) frame.now)) }
         ensures log { OnOk result (log.new ≡ noted log.old lane
             (verdict_by self.old.receiver (moment_at self.old.nows.items place) frame.now)) }

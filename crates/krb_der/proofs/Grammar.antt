@@ -24,7 +24,7 @@ use Rattle.krb_der.specs.Message.{message, IsMessage, SpellsWithin, Spells, Spel
 use Rattle.krb_base.specs.Limits.{frame_limit}
 use Rattle.krb_base.specs.Steps.{◌>>=◌}
 use Rattle.krb_tlv.specs.Reading.{alone, signed, int_of, as_int32, as_below, int32_of, below_of, int32_element_of, below_element_of, octets_of, starts_with, tagged_at, Gives}
-use Rattle.krb_der.specs.Reading.{typed_of, address_of, time_element_of, behind_of, body_of, safe_of, encrypted_of, private_of, message_of, part_of, FindsSpelt}
+use Rattle.krb_der.specs.Reading.{typed_of, address_of, time_element_of, after_of, body_of, safe_of, encrypted_of, private_of, message_of, part_of, FindsSpelt}
 use Rattle.krb_base.specs.Bytes.{AreBytes}
 use Rattle.krb_time.proofs.Times.{time-found, time-again}
 use Rattle.krb_base.proofs.OptionSteps.{bind_some, provided, some_is}
@@ -157,7 +157,7 @@ micro_reads = record { found = micro-found; again = λ n h lt. below_micros.agai
 -- ---- the body
 
 pub body_reads : Reads IsBody body body_of
-unfolding body_of behind_of body
+unfolding body_of after_of body
 body_reads =
     let K1 : List ℕ → Body → Type 0 = λ u v. Unit {0} × (v.user_data ≡ u) in
     let K2 : List ℕ → Option ℕ → Body → Type 0 = λ u t v. K1 u v × (v.time ≡ t) in

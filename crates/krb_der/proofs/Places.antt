@@ -34,7 +34,7 @@ ends-alone tag last content bytes fits e inside =
     let one : EndsWith content bytes = subst (EndsWith content) (sym spelt) (rw (append-nil content, append-nil (tagged tag content)) at (ends-tagged tag content [])) in
     ends-again last content bytes (inside (content-fits tag content (subst AreBytes spelt fits))) one
 
--- the data, and what stands behind them, end the fields of a body
+-- the data, and what stands after them, end the fields of a body
 pub ends-data : (fields element user_data rest : List ℕ) → AreBytes fields → tagged_at (context 0) fields ≡ Some (element, rest) → alone octet_string_tag Some element ≡ Some user_data → EndsWith (user_data ++ rest) fields
 ends-data fields element user_data rest fits e d =
     let t = tagged-found (context 0) fields (element, rest) fits e in
@@ -43,7 +43,7 @@ ends-data fields element user_data rest fits e d =
     let inner : EndsWith (user_data ++ rest) (element ++ rest) = subst (λ (z : List ℕ). EndsWith (user_data ++ rest) (z ++ rest)) (sym spelt) (ends-tagged octet_string_tag user_data rest) in
     ends-again (user_data ++ rest) (element ++ rest) fields inner outer
 
--- so they are found by the lengths of what stands behind them
+-- so they are found by the lengths of what stands after them
 pub data-place : (bytes user_data rest : List ℕ) (size : ℕ) → size ≡ length bytes → EndsWith (user_data ++ rest) bytes
     → take ((size - length rest) - ((size - length rest) - length user_data)) (drop ((size - length rest) - length user_data) bytes) ≡ user_data
 data-place bytes user_data rest size whole (front, e) =

@@ -96,7 +96,7 @@ length-message m bytes is =
 
 pub fields_in : (m : SafeMsg) (bytes : List ℕ) (last fields : ℕ) → bytes ≡ safe m → last ≡ length (checksum_field m.cksum_type m.checksum) → fields ≡ length (before_checksum m)
     → take (length bytes - last - (length bytes - last - fields)) (drop (length bytes - last - fields) bytes) ≡ before_checksum m
-fields_in m bytes last fields is behind before =
+fields_in m bytes last fields is following before =
     let n : ℕ = length (concat (safe_fields m)) in
     let front : List ℕ = safe_headers n in
     let text : List ℕ = before_checksum m in
@@ -105,8 +105,8 @@ fields_in m bytes last fields is behind before =
     let count : ℕ = length bytes - last - start in
     let whole : bytes ≡ front ++ (text ++ field) = is ∙ sym (safe_is m n refl) in
     let long = length-message m bytes is in
-    let at : length front ≡ start = omega (arith, long, behind, before) in
-    let size : length text ≡ count = omega (arith, long, behind, before) in
+    let at : length front ≡ start = omega (arith, long, following, before) in
+    let size : length text ≡ count = omega (arith, long, following, before) in
     ap (λ (s : List ℕ). take count (drop start s)) whole
     ∙ ap (take count) (drop_at front (text ++ field) start at)
     ∙ take_at text field count size

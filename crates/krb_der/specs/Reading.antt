@@ -50,8 +50,8 @@ body_with user_data d =
     }
 
 -- the fields after the data
-unfoldable pub behind_of : List ℕ → List ℕ → Option Body
-behind_of user_data bytes = do
+unfoldable pub after_of : List ℕ → List ℕ → Option Body
+after_of user_data bytes = do
   time ← optional_at (context 1) time_element_of bytes
   usec ← optional_at (context 2) (below_element_of (last_usec + 1)) time.1
   seq ← optional_at (context 3) (below_element_of (2 ^ 32)) usec.1
@@ -72,7 +72,7 @@ body_of bytes = do
   fields ← alone sequence_tag Some bytes
   d ← tagged_at (context 0) fields
   user_data ← octets_of d.0
-  behind_of user_data d.1
+  after_of user_data d.1
 
 unfoldable pub safe_of : List ℕ → Option SafeMsg
 safe_of bytes = do

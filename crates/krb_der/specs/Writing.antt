@@ -58,8 +58,8 @@ before_data b =
     ++ (header (context 0) (length (octets b.user_data))
     ++ header octet_string_tag (length b.user_data))
 
-abbrev pub fields_behind_data : Body → List (List ℕ)
-fields_behind_data b =
+abbrev pub fields_after_data : Body → List (List ℕ)
+fields_after_data b =
     optional (context 1) time b.time
     ∷ optional (context 2) natural b.usec
     ∷ optional (context 3) natural b.seq

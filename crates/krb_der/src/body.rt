@@ -8,11 +8,11 @@ ghost use Rattle.krb_time.specs.Reading.{time_of};
 ghost use Rattle.krb_der.specs.KerberosTime;
 ghost use Rattle.krb_der.specs.Address.{host_address, IsAddress};
 ghost use Rattle.krb_der.specs.Body.{InRange, IsBody, body, body_fields};
-ghost use Rattle.krb_tlv.specs.Reading.{Fails, Gives, Takes, optional_at};
-ghost use Rattle.krb_der.specs.Reading.{EndsWith, time_element_of, address_of, behind_of, body_of, body_with};
+ghost use Rattle.krb_tlv.specs.Reading.{FailsToRead, Gives, Takes, optional_at};
+ghost use Rattle.krb_der.specs.Reading.{EndsWith, time_element_of, address_of, after_of, body_of, body_with};
 ghost use Rattle.krb_der.specs.Size.{HasAddressesWithinLimit};
 ghost use Rattle.krb_tlv.specs.Writing.{IsShort};
-ghost use Rattle.krb_der.specs.Writing.{IsShortBody, before_data, body_fields_size, body_size, fields_behind_data};
+ghost use Rattle.krb_der.specs.Writing.{IsShortBody, before_data, body_fields_size, body_size, fields_after_data};
 
 use crate::address::{HostAddress, known_address, read_address};
 use crate::tag;
@@ -134,8 +134,8 @@ impl Details {
 /// bytes.
 #[tactic(auto, unfolding(crate::specs::Reading::body_of, krb_tlv::specs::Reading::octets_of))]
 pub fn split_data(bytes: &[u8]) -> Result<(&[u8], &[u8]), DerError>
-    ensures fields { IfOk result (λ x. body_of bytes.now ≡ behind_of x.0.now x.1.now) }
-    ensures refused { IfErr result (λ e. Fails e (body_of bytes.now)) }
+    ensures fields { IfOk result (λ x. body_of bytes.now ≡ after_of x.0.now x.1.now) }
+    ensures refused { IfErr result (λ e. FailsToRead e (body_of bytes.now)) }
     ensures place { IfOk result (λ x. EndsWith (x.0.now ++ x.1.now) bytes.now) }
 {
     let mut fields = Reader::inside(tag::SEQUENCE, bytes)?;
@@ -144,9 +144,9 @@ pub fn split_data(bytes: &[u8]) -> Result<(&[u8], &[u8]), DerError>
 }
 
 /// The fields after the data.
-#[tactic(auto, unfolding(crate::specs::Reading::behind_of))]
+#[tactic(auto, unfolding(crate::specs::Reading::after_of))]
 pub fn read_details(alloc: Global, bytes: &[u8]) -> Result<Details, DerError>
-    ensures { (user_data : List ℕ) → Gives (body_with user_data) result (behind_of user_data bytes.now) }
+    ensures { (user_data : List ℕ) → Gives (body_with user_data) result (after_of user_data bytes.now) }
 {
     let mut fields = Reader::new(bytes);
     let time = read_optional_time(&mut fields, tag::FIELD_1)?;
@@ -167,9 +167,9 @@ pub fn read_details(alloc: Global, bytes: &[u8]) -> Result<Details, DerError>
 pub fn read_body(alloc: Global, bytes: &[u8]) -> Result<Body, DerError>
     ensures { Gives (λ x. x) result (body_of bytes.now) }
 {
-    let (data, behind) = split_data(bytes)?;
+    let (data, following) = split_data(bytes)?;
     let user_data = Bytes::new(Vec::from_slice(alloc, data)?);
-    Ok(read_details(alloc, behind)?.with(user_data))
+    Ok(read_details(alloc, following)?.with(user_data))
 }
 
 /// Whether the bytes are no more than a message may have.
@@ -396,10 +396,10 @@ impl<'a> BodyRef<'a> {
     }
 
     /// Adds the fields after the data.
-    pub(crate) fn write_behind_data(&self, out: &mut Writer) -> Result<(), AllocError>
+    pub(crate) fn write_after_data(&self, out: &mut Writer) -> Result<(), AllocError>
         requires short { IsShortBody self.now }
         requires time { IfSome self.now.time IsSecond }
-        ensures { OnOk result (out.new ≡ out.old ++ concat (fields_behind_data self.now)) }
+        ensures { OnOk result (out.new ≡ out.old ++ concat (fields_after_data self.now)) }
     {
         write_optional_time(out, tag::FIELD_1, self.time)?;
         write_natural_field(out, tag::FIELD_2, self.usec)?;
@@ -421,6 +421,6 @@ impl<'a> BodyRef<'a> {
     {
         self.write_before_data(out)?;
         out.put(self.user_data)?;
-        self.write_behind_data(out)
+        self.write_after_data(out)
     }
 }

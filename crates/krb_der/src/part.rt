@@ -7,8 +7,8 @@ ghost use Rattle.krb_der.specs.declared.body.Body.{Body as BodyValue};
 ghost use Rattle.krb_tlv.specs.declared.error.DerError.TheVariants.{Memory};
 ghost use Rattle.krb_der.specs.Body.{InRange, IsBody, part};
 ghost use Rattle.krb_der.specs.Message.{Decodes, Encodes, SpellsPart};
-ghost use Rattle.krb_tlv.specs.Reading.{Fails, Gives};
-ghost use Rattle.krb_der.specs.Reading.{EndsWith, behind_of, part_of};
+ghost use Rattle.krb_tlv.specs.Reading.{FailsToRead, Gives};
+ghost use Rattle.krb_der.specs.Reading.{EndsWith, after_of, part_of};
 ghost use Rattle.krb_der.specs.Size.{HasAddressesWithinLimit, HasPartSize};
 ghost use Rattle.krb_der.specs.Writing.{IsShortBody};
 
@@ -100,8 +100,8 @@ pub fn encode_part(alloc: Global, b: &Body) -> Result<Vec<u8>, DerError>
 /// are the last of the bytes.
 #[tactic(auto, unfolding(crate::specs::Reading::part_of))]
 fn split_part(bytes: &[u8]) -> Result<(&[u8], &[u8]), DerError>
-    ensures fields { IfOk result (λ x. part_of bytes.now ≡ behind_of x.0.now x.1.now) }
-    ensures refused { IfErr result (λ e. Fails e (part_of bytes.now)) }
+    ensures fields { IfOk result (λ x. part_of bytes.now ≡ after_of x.0.now x.1.now) }
+    ensures refused { IfErr result (λ e. FailsToRead e (part_of bytes.now)) }
     ensures place { IfOk result (λ x. EndsWith (x.0.now ++ x.1.now) bytes.now) }
 {
     split_data(only_element(tag::ENC_KRB_PRIV_PART, bytes)?)
@@ -136,9 +136,9 @@ fn take_part(alloc: Global, bytes: Secret, start: usize) -> Result<Body, DerErro
     requires { start ≤ length bytes }
     ensures { Gives (λ x. x) result (part_of (drop start bytes)) }
 {
-    let (data, behind) = split_part(&bytes.as_slice()[start..])?;
-    let details = read_details(alloc, behind)?;
-    let end = bytes.as_slice().len() - behind.len();
+    let (data, following) = split_part(&bytes.as_slice()[start..])?;
+    let details = read_details(alloc, following)?;
+    let end = bytes.as_slice().len() - following.len();
     let front = end - data.len();
     let data = cut_out(bytes.into_vec(alloc), front, end);
     Ok(details.with(Bytes::new(data)))

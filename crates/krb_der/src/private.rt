@@ -267,7 +267,7 @@ pub struct Draft {
 }
 
 /// The message with the bytes `before` and the part of a body in the place of its cipher, and with
-/// room for `behind` more bytes of that cipher: so a part is encrypted where it is written (RFC
+/// room for `following` more bytes of that cipher: so a part is encrypted where it is written (RFC
 /// 3961 section 5.3). The cipher of `m` itself isn't used.
 ///
 /// [`DerError::TooLong`] is returned if and only if the message would have over 1,005,000 bytes,
@@ -277,15 +277,15 @@ pub fn draft_priv(
     m: &PrivMsg,
     before: &[u8],
     b: &BodyRef<'_>,
-    behind: usize,
+    following: usize,
 ) -> Result<Draft, DerError>
     requires { InRange b.now }
     ensures { Drafts m.now before.now b.now
-        (length before.now + length (part b.now) + behind) result }
+        (length before.now + length (part b.now) + following) result }
 {
     m.known();
     let part = b.limited_part_size()?;
-    let cipher = before.len().saturating_add(part).saturating_add(behind);
+    let cipher = before.len().saturating_add(part).saturating_add(following);
     let size = m.limited_size(cipher)?;
     Ok(m.draft(alloc, before, b, cipher, size)?)
 }

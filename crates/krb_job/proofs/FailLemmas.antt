@@ -6,24 +6,24 @@ use Rattle.krb_job.specs.declared.place.KeyError.{KeyError}
 use Rattle.krb_job.specs.declared.place.KeyError.TheVariants as errors
 use Rattle.toml.specs.Data.{Data, Members}
 use Rattle.krb_base.specs.Steps.{◌>>=◌}
-use Rattle.krb_job.specs.Checks.{Fails, Gives}
+use Rattle.krb_job.specs.Checks.{RefusesAs, Gives}
 use Rattle.krb_job.specs.Keys.{at_key, needed, barred, only_if, some}
 
 -- an error that is passed on says of the checks what it said before
 pub err_gives : {X Y : Type 0} (view : X → Y) (r : Result X KeyError) (e : KeyError) (checks : Result Y Place)
-    → IsErr r × IsErrAnd r (λ x. x ≡ e) → Fails e checks → Gives view r checks
+    → IsErr r × IsErrAnd r (λ x. x ≡ e) → RefusesAs e checks → Gives view r checks
 err_gives view (Ok x) e checks same failed = absurd same.1
 err_gives view (Err x) e checks same failed = rw same.1 failed
 
 pub fails_within : {A B : Type 0} (e : KeyError) (part : Option A) (whole : Option B) (place : Place)
-    → (part ≡ None → whole ≡ None) → Fails e (ok_or part place) → Fails e (ok_or whole place)
+    → (part ≡ None → whole ≡ None) → RefusesAs e (ok_or part place) → RefusesAs e (ok_or whole place)
 fails_within (errors.Bad p) None whole place passes failed = rw (passes refl) (let same : p ≡ place = cc in rw same refl)
 fails_within (errors.Bad p) (Some x) whole place passes failed = absurd cc
 fails_within errors.Memory part whole place passes failed = tt
 
 -- what failed one reading fails the reading that contains it
 pub err_within : {X Y A : Type 0} (view : X → Y) (r : Result X KeyError) (e : KeyError) (part : Option A) (whole : Option Y) (place : Place)
-    → IsErr r × IsErrAnd r (λ x. x ≡ e) → (part ≡ None → whole ≡ None) → Fails e (ok_or part place) → Gives view r (ok_or whole place)
+    → IsErr r × IsErrAnd r (λ x. x ≡ e) → (part ≡ None → whole ≡ None) → RefusesAs e (ok_or part place) → Gives view r (ok_or whole place)
 err_within view r e part whole place same passes failed = err_gives view r e (ok_or whole place) same (fails_within e part whole place passes failed)
 
 -- what a value isn't, it isn't as `Some`
@@ -32,7 +32,7 @@ some_fails o none = rw none
 
 -- the same, of a value that is kept as `Some`
 pub err_some : {X A : Type 0} (view : X → Option A) (r : Result X KeyError) (e : KeyError) (of : Data → Option A) (d : Data) (place : Place)
-    → IsErr r × IsErrAnd r (λ x. x ≡ e) → Fails e (ok_or (of d) place) → Gives view r (ok_or (some of d) place)
+    → IsErr r × IsErrAnd r (λ x. x ≡ e) → RefusesAs e (ok_or (of d) place) → Gives view r (ok_or (some of d) place)
 err_some view r e of d place same failed = err_within view r e (of d) (some of d) place same (some_fails (of d)) failed
 
 module _ {A : Type 0} (absent : A) (place : Place) (of : Data → Option A) where
@@ -45,13 +45,13 @@ module _ {A : Type 0} (absent : A) (place : Place) (of : Data → Option A) wher
   bars (Some d) p failed = let same : place ≡ p = cc in rw same refl
 
   fails_if_allowed : (e : KeyError) (allowed : Bool) (ms : Members)
-      → Fails e (only_if allowed None place (needed place (some Some) ms) ms) → Fails e (only_if allowed absent place (needed place of ms) ms)
+      → RefusesAs e (only_if allowed None place (needed place (some Some) ms) ms) → RefusesAs e (only_if allowed absent place (needed place of ms) ms)
   fails_if_allowed (errors.Bad p) true ms failed = needs (at_key place ms) p failed
   fails_if_allowed (errors.Bad p) false ms failed = bars (at_key place ms) p failed
   fails_if_allowed errors.Memory allowed ms failed = tt
 
   -- a key that isn't allowed, or is wanting, stands for nothing
   pub err_if_allowed : {X : Type 0} (view : X → A) (r : Result X KeyError) (e : KeyError) (allowed : Bool) (ms : Members)
-      → IsErr r × IsErrAnd r (λ x. x ≡ e) → Fails e (only_if allowed None place (needed place (some Some) ms) ms)
+      → IsErr r × IsErrAnd r (λ x. x ≡ e) → RefusesAs e (only_if allowed None place (needed place (some Some) ms) ms)
       → Gives view r (only_if allowed absent place (needed place of ms) ms)
   err_if_allowed view r e allowed ms same failed = err_gives view r e (only_if allowed absent place (needed place of ms) ms) same (fails_if_allowed e allowed ms failed)

@@ -7,7 +7,7 @@ use Rattle.krb_base.proofs.OptionSteps.{bind_some}
 use Rattle.krb_job.specs.Checks.{◌>>=◌ as ◌then◌}
 use Rattle.krb_job.specs.Keys.{at_key, needed, barred}
 
--- a check behind which there is a value was passed
+-- a check after which there is a value was passed
 pub checked : {A B E : Type 0} (r : Result A E) (f : A → Result B E) (y : B) → (r then f) ≡ Ok y → (x : A) × (r ≡ Ok x) × (f x ≡ Ok y)
 checked (Err fault) f y e = absurd cc
 checked (Ok x) f y e = (x, refl, e)

@@ -13,14 +13,14 @@ use Rattle.krb_job.specs.SenderView.{sender_view, keys_of}
 use Rattle.krb_job.specs.Job.{sender_at, senders_from}
 
 -- these, and then the others
-abbrev pub behind_ok : List Sender → Result (List Sender) BadInput → Result (List Sender) BadInput
-behind_ok done (Ok xs) = Ok (done ++ xs)
-behind_ok done (Err e) = Err e
+abbrev pub after_ok : List Sender → Result (List Sender) BadInput → Result (List Sender) BadInput
+after_ok done (Ok xs) = Ok (done ++ xs)
+after_ok done (Err e) = Err e
 
-behind_ok-one : (done : List Sender) (s : Sender) (r : Result (List Sender) BadInput)
-    → behind_ok done (r >>= λ xs. Ok (s ∷ xs)) ≡ behind_ok (done ++ s ∷ []) r
-behind_ok-one done s (Ok xs) = ap Ok (sym (append_assoc done (s ∷ []) xs))
-behind_ok-one done s (Err e) = refl
+after_ok-one : (done : List Sender) (s : Sender) (r : Result (List Sender) BadInput)
+    → after_ok done (r >>= λ xs. Ok (s ∷ xs)) ≡ after_ok (done ++ s ∷ []) r
+after_ok-one done s (Ok xs) = ap Ok (sym (append_assoc done (s ∷ []) xs))
+after_ok-one done s (Err e) = refl
 
 senders_at : (command : Command) (vs : List Value) (j : ℕ) (earlier : List (List ℕ)) (v : Value) → j < length vs → get_or vs j v ≡ v
     → senders_from command j earlier (items_view (drop j vs))
@@ -39,12 +39,12 @@ views-more (x ∷ done) s = ap (λ ks. sender_view x ∷ ks) (views-more done s)
 
 pub senders_more : (command : Command) (vs : List Value) (j : ℕ) (v : Value) (done : List SenderJob) (s : SenderJob)
     → j < length vs → get_or vs j v ≡ v → sender_at command j (keys_of done) (view v) ≡ Ok (sender_view s)
-    → senders_from command 0 [] (items_view vs) ≡ behind_ok (map sender_view done) (senders_from command j (keys_of done) (items_view (drop j vs)))
-    → senders_from command 0 [] (items_view vs) ≡ behind_ok (map sender_view (done ++ s ∷ [])) (senders_from command (j + 1) (keys_of (done ++ s ∷ [])) (items_view (drop (j + 1) vs)))
+    → senders_from command 0 [] (items_view vs) ≡ after_ok (map sender_view done) (senders_from command j (keys_of done) (items_view (drop j vs)))
+    → senders_from command 0 [] (items_view vs) ≡ after_ok (map sender_view (done ++ s ∷ [])) (senders_from command (j + 1) (keys_of (done ++ s ∷ [])) (items_view (drop (j + 1) vs)))
 senders_more command vs j v done s within at is so_far =
     let step = senders_at command vs j (keys_of done) v within at ∙ ap (λ r. r >>= λ t. senders_from command (j + 1) (keys_of done ++ t.protection.key ∷ []) (items_view (drop (j + 1) vs)) >>= λ others. Ok (t ∷ others)) is in
     rw (views-more done s, keys_of-more done s)
-    (so_far ∙ ap (behind_ok (map sender_view done)) step ∙ behind_ok-one (map sender_view done) (sender_view s) (senders_from command (j + 1) (keys_of done ++ s.key ∷ []) (items_view (drop (j + 1) vs))))
+    (so_far ∙ ap (after_ok (map sender_view done)) step ∙ after_ok-one (map sender_view done) (sender_view s) (senders_from command (j + 1) (keys_of done ++ s.key ∷ []) (items_view (drop (j + 1) vs))))
 
 -- what holds of each before, and of one more
 pub All-more : {A : Type 0} (P : A → Type 0) (xs : List A) (x : A) → All P xs → P x → All P (xs ++ x ∷ [])

@@ -9,6 +9,6 @@ count_view [] = refl
 count_view (v ∷ vs) = grind (arith, count_view vs)
 
 -- these, and then the others
-abbrev pub behind : {A : Type 0} → List A → Option (List A) → Option (List A)
-behind done None = None
-behind done (Some xs) = Some (done ++ xs)
+abbrev pub joined : {A : Type 0} → List A → Option (List A) → Option (List A)
+joined done None = None
+joined done (Some xs) = Some (done ++ xs)

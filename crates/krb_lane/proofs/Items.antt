@@ -44,14 +44,14 @@ first_is_next : (k : ℕ) (x : Item) (xs : List Item) → IsNumbered k (frames (
 first_is_next k (Frame i b) xs h = (h.0, h.1)
 first_is_next k End xs h = tt
 
--- the next item behind numbered ones
+-- the next item after numbered ones
 pub numbered_next : (sent : List Item) (x : Item) → IsNumbered 0 (frames (items sent)) → IsNext (length (frames_of sent)) x → IsNumbered 0 (frames (items (sent ++ x ∷ [])))
 numbered_next sent x h next =
     let n : length (frames_of sent) ≡ 0 + length (frames (items sent)) = let e = count_frames sent in omega (arith, e) in
     subst (λ (l : List Numbered). IsNumbered 0 l) (sym (frames_items-append sent (x ∷ [])))
     (numbered-append 0 (frames (items sent)) (frames (items (x ∷ []))) h (subst (λ (k : ℕ). IsNumbered k (frames (items (x ∷ [])))) n (one_numbered (length (frames_of sent)) x next)))
 
--- the item behind those that were got
+-- the item after those that were got
 pub next_of : (got : List Item) (x : Item) (xs : List Item) → IsNumbered 0 (frames (items got) ++ frames (items (x ∷ xs))) → IsNext (length (frames_of got)) x
 next_of got x xs h =
     let n : 0 + length (frames (items got)) ≡ length (frames_of got) = let e = count_frames got in omega (arith, e) in

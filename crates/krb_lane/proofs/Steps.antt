@@ -105,9 +105,9 @@ taken_step queue views pass v x h at may =
       subst (λ (l : List Item). IsNext (length (frames_of l)) x) (sym same) (next_of h.got x queue (subst (λ (l : List Numbered). IsNumbered 0 l) linked h.numbered)),
     )
 
--- behind End nothing is queued
-pub behind_end : (queue : List Item) (views : List Hand) → IsLane (End ∷ queue) views → queue ≡ []
-behind_end queue views h = let s = state_reached (state_of h) h.state in no_items queue (end_closes (items h.got) (items queue) (subst (λ l. IsEndLast l) s.linked s.end_last))
+-- after End nothing is queued
+pub after_end : (queue : List Item) (views : List Hand) → IsLane (End ∷ queue) views → queue ≡ []
+after_end queue views h = let s = state_reached (state_of h) h.state in no_items queue (end_closes (items h.got) (items queue) (subst (λ l. IsEndLast l) s.linked s.end_last))
 
 -- a new channel's pass is cut into the sender's and the receiver's
 pub cut_step : (capacity : ℕ) (queue : List Item) (views : List Hand) (pass : ℕ) → IsLane queue views → Knows views pass uncut
@@ -185,7 +185,7 @@ pub sends : (n pass : ℕ) (v : Hand) (x : Item) → v.sends ≡ true → n ≡ 
     → Pushes IsLane n pass v x (λ w. w ≡ puts v x)
 sends n pass v x may full unended next queue views room h at = (puts v x, (sent_step queue views pass v x h at may (subst (λ (m : ℕ). length queue < m) full room) unended next).0, refl)
 
--- the same behind tries that changed nothing
+-- the same after tries that changed nothing
 pub sends_again : (n pass : ℕ) (v u : Hand) (x y : Item) → v ≡ u → x ≡ y → u.sends ≡ true → n ≡ u.capacity → has_end u.sent ≡ false
     → IsNext (length (frames_of u.sent)) y → Pushes IsLane n pass v x (λ w. w ≡ puts v x)
 sends_again n pass v u x y same item may full unended next =

@@ -80,7 +80,7 @@ accepted_whole first records offers answers all carries ends contains =
     let none = none_left accepted begins.0 ends.0 (any_from_contains accepted contains) (any_from_none ends.0 ends.1) (sym ends.2 ∙ begins.1) in
     sym (begins.1 ∙ ap (λ z. accepted ++ z) none ∙ append-nil accepted)
 
--- nothing is accepted behind a close
+-- nothing is accepted after a close
 none_later : (first : ℕ) (before : List Record) (offers : List Offer) (answers : List Answer) → AcceptedFrom first before offers answers → Contains before Close → accepted_of offers answers ≡ []
 none_later first before [] answers all closed = refl
 none_later first before (offer ∷ offers) [] all closed = refl

@@ -41,15 +41,15 @@ all_ok (Ok d ∷ vs) same zero e h = refl
 all_ok (Ok d ∷ vs) same (suc k) e h = all_ok vs (omega (arith, same)) k e (omega arith)
 all_ok (Err refusal ∷ vs) same k e h = absurd (omega (arith, same, few_accepted vs))
 
--- ---- what is demanded behind the records accepted before and here
+-- ---- what is demanded after the records accepted before and here
 
 module _ (sealer : SealerState) (all : List Record) (first : ℕ) (start : Demand) (begins : DemandsAfter sealer all first start) where
-  demanded_behind : (rs : List Record) → demand_after start rs ≡ demand_after (first_demand sealer.next) (take first all ++ rs)
-  demanded_behind rs = ap (λ d. demand_after d rs) begins.is ∙ demand_after-append (first_demand sealer.next) (take first all) rs
+  demanded_after : (rs : List Record) → demand_after start rs ≡ demand_after (first_demand sealer.next) (take first all ++ rs)
+  demanded_after rs = ap (λ d. demand_after d rs) begins.is ∙ demand_after-append (first_demand sealer.next) (take first all) rs
 
-  pub number_behind : (rs : List Record) → (demand_after start rs).expected ≡ sealer.next + (first + length rs)
-  number_behind rs =
-      let e : (demand_after start rs).expected ≡ (demand_after (first_demand sealer.next) (take first all ++ rs)).expected = ap (λ (d : Demand). d.expected) (demanded_behind rs) in
+  pub number_after : (rs : List Record) → (demand_after start rs).expected ≡ sealer.next + (first + length rs)
+  number_after rs =
+      let e : (demand_after start rs).expected ≡ (demand_after (first_demand sealer.next) (take first all ++ rs)).expected = ap (λ (d : Demand). d.expected) (demanded_after rs) in
       omega (arith, e, length-append (take first all) rs, length-take-le first all begins.within)
 
 -- ---- a frame is accepted in its turn, where both ends agree
@@ -63,10 +63,10 @@ module _ (sealer : SealerState) (all : List Record) (close_last : CloseIsLastOf 
       let start = receiver.demand in
       let seals = sealed.seals in
       let lt : k < length all = slice_get_within all k r sealed.there in
-      let closes : (demand_after start rs).closed ≡ list_any is_close (take k all) = ap (λ (d : Demand). d.closed) (demanded_behind sealer all first start begins rs) ∙ ap (λ l. list_any is_close l) before in
+      let closes : (demand_after start rs).closed ≡ list_any is_close (take k all) = ap (λ (d : Demand). d.closed) (demanded_after sealer all first start begins rs) ∙ ap (λ l. list_any is_close l) before in
       let quiet : (demand_after start rs).closed ≡ false = closes ∙ quiet_before all close_last k lt in
       let as_sealer = at_its_number sealer.etype sealer.key sealer.session opener.expect (sealer.next + k) it.at now (bytes_of r) seals.confounder it.frame seals.seals agree in
-      let its : (demand_after start rs).expected ≡ sealer.next + k = number_behind sealer all first start begins rs ∙ ap (λ n. sealer.next + n) count in
+      let its : (demand_after start rs).expected ≡ sealer.next + k = number_after sealer all first start begins rs ∙ ap (λ n. sealer.next + n) count in
       let opened : Opens opener (demand_after start rs).expected now it.frame (Ok (bytes_of r)) = rw (has_key.etype, has_key.key, its) as_sealer in
       (quiet, (bytes_of r, opened, rw (same_record r) (fits, refl)))
 
@@ -96,10 +96,10 @@ module _ (sealer : SealerState) (all : List Record) (first : ℕ) (attempt : Att
   so_far i = length (records_of (take i vs))
 
   demanded : (rs : List Record) → demand_after start rs ≡ demand_after next (take first all ++ rs)
-  demanded rs = demanded_behind sealer all first start (s.begins) rs
+  demanded rs = demanded_after sealer all first start (s.begins) rs
 
   pub number : (rs : List Record) → (demand_after start rs).expected ≡ sealer.next + (first + length rs)
-  number rs = number_behind sealer all first start (s.begins) rs
+  number rs = number_after sealer all first start (s.begins) rs
 
   -- ---- each accepted record is the one of its number
 
@@ -159,7 +159,7 @@ module _ (sealer : SealerState) (all : List Record) (first : ℕ) (attempt : Att
       let long : length (take first all ++ records_of (take p vs)) ≡ k = omega (arith, length-append (take first all) (records_of (take p vs)), length-take-le first all (s.begins).within, count) in
       front_is (take first all ++ records_of (take p vs)) rest all k whole long
 
-  -- behind it, more than k records were accepted
+  -- after it, more than k records were accepted
   pub past_it : (k p : ℕ) (it : Sealed) → IsSealed sealer all k it → FitsLimits it.carried → slice_get took p ≡ Some it.frame
       → AgreesWhereDemanded sealer attempt k p it.at → k ≤ first + so_far p → k < first + so_far (suc p)
   past_it k p it sealed fits at-f agree reached =

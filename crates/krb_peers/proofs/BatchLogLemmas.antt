@@ -21,7 +21,7 @@ places_from-append place lane (x ∷ xs) ys =
 abbrev no_places : List ℕ
 no_places = []
 
--- the places of texts of one lane are one behind the other
+-- the places of texts of one lane are one after the other
 places_of_texts : (place number lane : ℕ) (texts : List (List ℕ)) → places_from place lane (entries_for number (map Text texts)) ≡ (if number == lane then range_with_len place (length texts) else [])
 places_of_texts place number lane [] = elim (number == lane) as (λ b. no_places ≡ cond b (range_with_len place 0) no_places) [ true ↦ refl | false ↦ refl ]
 places_of_texts place number lane (t ∷ ts) =

@@ -54,7 +54,7 @@ frames_headline_of sealer all first attempt events judged same =
 -- ---- of a lane
 
 -- it follows where the log has of the lane what the verdicts of a run bring, and where the lane
--- ends only behind all that its wire carries
+-- ends only after all that its wire carries
 pub headline_of : (run : Run) (lane : ℕ) (log : LogState) → IsRun run → events_of lane log.entries ≡ events_from run.verdicts
     → (has_ended lane log ≡ true → TakesAll run.ends.source run.took) → Headline log lane run
 headline_of run lane log is entries takes_all =

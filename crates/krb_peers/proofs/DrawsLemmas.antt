@@ -34,7 +34,7 @@ after_words-add (suc n) m g =
     let e : suc n + m ≡ suc (n + m) = omega arith in
     ap (λ k. after_words k g) e ∙ after_words-add n m (after_word g)
 
--- the first confounder from where the generator stands behind 4k words is confounder k
+-- the first confounder from where the generator stands after 4k words is confounder k
 pub confounder_at-later : (g : ChaCha) (k : ℕ) → confounder_at (after_words (4 * k) g) 0 ≡ confounder_at g k
 confounder_at-later g k =
     rw (after_words-add (4 * k) 1 g, after_words-add (4 * k) 2 g, after_words-add (4 * k) 3 g) refl

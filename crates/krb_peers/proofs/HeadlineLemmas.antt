@@ -20,7 +20,7 @@ use Rattle.krb_peers.specs.Order.{demand_after}
 use Rattle.krb_peers.specs.ReceiverState.{ReceiverState}
 use Rattle.krb_peers.specs.Verdicts.{Verdict, records_of, events_from, events_by, accepted_by, delivered, IsVerdict, AreVerdicts}
 use Rattle.krb_peers.specs.Claims.{NothingAfterClose, RefusesExactly, RefusalsDeliverNothing}
-use Rattle.krb_peers.proofs.VerdictLemmas.{AreVerdicts-behind, unique_verdict}
+use Rattle.krb_peers.proofs.VerdictLemmas.{AreVerdicts-after, unique_verdict}
 use Rattle.krb_peers.proofs.AcceptedPrefix.{texts_prefix}
 use Rattle.krb_peers.proofs.AnswerLemmas.{delivered_texts}
 use Rattle.krb_peers.proofs.LoggedLemmas.{texts_in-append, has_closed-append, has_closed-texts, closed_one, or_left, or_right}
@@ -67,17 +67,17 @@ close_at (x ∷ xs) ys (y ∷ front) back h =
 refusal_quiet : (refusal : Refusal) → (texts_in (events_by (Err refusal)) ≡ []) × (has_closed (events_by (Err refusal)) ≡ false)
 refusal_quiet refusal = (refl, refl)
 
--- a verdict brings nothing behind a close
-none_behind : (v : Verdict) (front back : List Event) → events_by v ≡ front ++ events.Closed ∷ back → back ≡ []
-none_behind (Ok (Text t)) front back h = absurd (let e : false ≡ true = ap has_closed h ∙ closed_inside front back in cc)
-none_behind (Ok (Batch texts)) front back h =
+-- a verdict brings nothing after a close
+none_after : (v : Verdict) (front back : List Event) → events_by v ≡ front ++ events.Closed ∷ back → back ≡ []
+none_after (Ok (Text t)) front back h = absurd (let e : false ≡ true = ap has_closed h ∙ closed_inside front back in cc)
+none_after (Ok (Batch texts)) front back h =
     absurd (let e : false ≡ true = sym (has_closed-texts texts) ∙ (ap has_closed h ∙ closed_inside front back) in cc)
-none_behind (Ok Closed) [] back h = let e : events.Closed ∷ [] ≡ events.Closed ∷ back = h in cc
-none_behind (Ok Closed) (x ∷ front) back h =
+none_after (Ok Closed) [] back h = let e : events.Closed ∷ [] ≡ events.Closed ∷ back = h in cc
+none_after (Ok Closed) (x ∷ front) back h =
     let e : events.Closed ∷ [] ≡ x ∷ (front ++ events.Closed ∷ back) = h in
     let tail : [] ≡ front ++ events.Closed ∷ back = cc in
     absurd (let f : false ≡ true = ap has_closed tail ∙ closed_inside front back in cc)
-none_behind (Err refusal) front back h = absurd (let e : false ≡ true = ap has_closed h ∙ closed_inside front back in cc)
+none_after (Err refusal) front back h = absurd (let e : false ≡ true = ap has_closed h ∙ closed_inside front back in cc)
 
 module _ (opener : OpenerState) (nows : List ℕ) where
   quiet_closed : (start : Demand) (place : ℕ) (took : List (List ℕ)) (vs : List Verdict) → AreVerdicts opener nows start place took vs → start.closed ≡ true
@@ -85,10 +85,10 @@ module _ (opener : OpenerState) (nows : List ℕ) where
   quiet_closed start place took [] are closed = (refl, refl)
   quiet_closed start place [] (v ∷ vs) are closed = absurd (let e = are.one_each in omega arith)
   quiet_closed start place (g ∷ took) (Ok d ∷ vs) are closed =
-      absurd (let e : start.closed ≡ false = (AreVerdicts-behind opener nows start place g took (Ok d) vs are).0.0 in cc)
+      absurd (let e : start.closed ≡ false = (AreVerdicts-after opener nows start place g took (Ok d) vs are).0.0 in cc)
   quiet_closed start place (g ∷ took) (Err refusal ∷ vs) are closed =
       let v : Verdict = Err refusal in
-      let rest = (AreVerdicts-behind opener nows start place g took v vs are).1 in
+      let rest = (AreVerdicts-after opener nows start place g took v vs are).1 in
       let w = quiet_closed (demand_after start (accepted_by v)) (place + 1) took vs rest (or_left start.closed (list_any is_close (accepted_by v)) closed) in
       let own = refusal_quiet refusal in (
         texts_in-append (events_by v) (events_from vs) ∙ ap₂ (λ a b. a ++ b) own.0 w.0,
@@ -101,12 +101,12 @@ module _ (opener : OpenerState) (nows : List ℕ) where
   quiet_after start place [] (v ∷ vs) are front back h = absurd (let e = are.one_each in omega arith)
   quiet_after start place (g ∷ took) (v ∷ vs) are front back h =
       let demand = demand_after start (accepted_by v) in
-      let rest = (AreVerdicts-behind opener nows start place g took v vs are).1 in
+      let rest = (AreVerdicts-after opener nows start place g took v vs are).1 in
       elim (close_at (events_by v) (events_from vs) front back h) [
         | first between a b ↦
             let closes : list_any is_close (accepted_by v) ≡ true = sym (closed_one v) ∙ (ap has_closed a ∙ closed_inside front between) in
             let w = quiet_closed demand (place + 1) took vs rest (or_right start.closed (list_any is_close (accepted_by v)) closes) in
-            let is : back ≡ events_from vs = b ∙ ap (λ l. l ++ events_from vs) (none_behind v front between a) in
+            let is : back ≡ events_from vs = b ∙ ap (λ l. l ++ events_from vs) (none_after v front between a) in
             let P : List Event → Type 0 = λ z. (texts_in z ≡ []) × (has_closed z ≡ false) in
             subst P (sym is) w
         | second between a ↦ quiet_after demand (place + 1) took vs rest between back a

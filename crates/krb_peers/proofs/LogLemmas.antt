@@ -171,29 +171,29 @@ pub record IsTextAt (first : ℕ) (entries : List Entry) (texts : List (List ℕ
   pub holds : HoldsText first entries place text
   pub found : slice_get texts i ≡ Some text
 
-holds_behind : (first : ℕ) (x : Entry) (entries : List Entry) (place : ℕ) (text : List ℕ) → HoldsText (first + 1) entries place text → HoldsText first (x ∷ entries) place text
-holds_behind first x entries place text h = record { index = suc h.index; place_is = (let e = h.place_is in omega arith); entry = h.entry; at = h.at; event_is = h.event_is }
+holds_after : (first : ℕ) (x : Entry) (entries : List Entry) (place : ℕ) (text : List ℕ) → HoldsText (first + 1) entries place text → HoldsText first (x ∷ entries) place text
+holds_after first x entries place text h = record { index = suc h.index; place_is = (let e = h.place_is in omega arith); entry = h.entry; at = h.at; event_is = h.event_is }
 
-text_behind : (first : ℕ) (x : Entry) (entries : List Entry) (texts : List (List ℕ)) (i place : ℕ) → IsTextAt (first + 1) entries texts i place → IsTextAt first (x ∷ entries) texts i place
-text_behind first x entries texts i place h = record { text = h.text; holds = holds_behind first x entries place h.text h.holds; found = h.found }
+text_after : (first : ℕ) (x : Entry) (entries : List Entry) (texts : List (List ℕ)) (i place : ℕ) → IsTextAt (first + 1) entries texts i place → IsTextAt first (x ∷ entries) texts i place
+text_after first x entries texts i place h = record { text = h.text; holds = holds_after first x entries place h.text h.holds; found = h.found }
 
 text_here : (b : Bool) (first lane : ℕ) (x : Entry) (event : Event) (entries : List Entry) → x.event ≡ event
     → ((i place : ℕ) → slice_get (places_from (first + 1) lane entries) i ≡ Some place → IsTextAt (first + 1) entries (texts_of lane entries) i place)
     → (i place : ℕ) → slice_get (cond b (text_place first event) [] ++ places_from (first + 1) lane entries) i ≡ Some place
     → IsTextAt first (x ∷ entries) (texts_in (cond b (event ∷ events_of lane entries) (events_of lane entries))) i place
-text_here true first lane x (Text text) entries is behind zero place h =
+text_here true first lane x (Text text) entries is following zero place h =
     let e : first ≡ place = cc in
     record {
       text = text;
       holds = record { index = 0; place_is = omega arith; entry = x; at = refl; event_is = is };
       found = refl;
     }
-text_here true first lane x (Text text) entries is behind (suc i) place h =
-    let w = behind i place h in
-    record { text = w.text; holds = holds_behind first x entries place w.text w.holds; found = w.found }
-text_here true first lane x Closed entries is behind i place h = text_behind first x entries (texts_of lane entries) i place (behind i place h)
-text_here true first lane x (Refused refusal) entries is behind i place h = text_behind first x entries (texts_of lane entries) i place (behind i place h)
-text_here false first lane x event entries is behind i place h = text_behind first x entries (texts_of lane entries) i place (behind i place h)
+text_here true first lane x (Text text) entries is following (suc i) place h =
+    let w = following i place h in
+    record { text = w.text; holds = holds_after first x entries place w.text w.holds; found = w.found }
+text_here true first lane x Closed entries is following i place h = text_after first x entries (texts_of lane entries) i place (following i place h)
+text_here true first lane x (Refused refusal) entries is following i place h = text_after first x entries (texts_of lane entries) i place (following i place h)
+text_here false first lane x event entries is following i place h = text_after first x entries (texts_of lane entries) i place (following i place h)
 
 -- a place that is kept is that of the text of its number
 pub text_at : (first lane : ℕ) (entries : List Entry) (i place : ℕ) → slice_get (places_from first lane entries) i ≡ Some place → IsTextAt first entries (texts_of lane entries) i place

@@ -13,7 +13,7 @@ use Rattle.krb_record.specs.Record.{is_close}
 use Rattle.krb_peers.specs.Log.{entries_for, events_of, has_closed, texts_in}
 use Rattle.krb_peers.specs.LogState.{LogState}
 use Rattle.krb_peers.specs.ReceiverState.{ReceiverState}
-use Rattle.krb_peers.specs.Receiver.{receiver_behind}
+use Rattle.krb_peers.specs.Receiver.{receiver_after}
 use Rattle.krb_peers.specs.Moments.{moment_at}
 use Rattle.krb_peers.specs.Order.{demand_after}
 use Rattle.krb_peers.specs.Verdicts.{Verdict, IsVerdict, accepted_by, events_by, records_of}
@@ -72,7 +72,7 @@ logged_none start nows lane log none = record {
 
 pub logged_more : (start : ReceiverState) (nows : List ℕ) (lane : ℕ) (took : List (List ℕ)) (log : LogState) (receiver : ReceiverState) (vs : List Verdict) (frame : List ℕ) (v : Verdict)
     → HasLogged start nows lane took log receiver vs → IsVerdict start.opener (demand_after start.demand (records_of vs)) (moment_at nows (0 + length took)) frame v
-    → HasLogged start nows lane (took ++ frame ∷ []) (noted log lane v) (receiver_behind receiver v) (vs ++ v ∷ [])
+    → HasLogged start nows lane (took ++ frame ∷ []) (noted log lane v) (receiver_after receiver v) (vs ++ v ∷ [])
 logged_more start nows lane took log receiver vs frame v h is =
     let first = start.demand in
     let demanded : demand_after (demand_after first (records_of vs)) (accepted_by v) ≡ demand_after first (records_of (vs ++ v ∷ [])) =
@@ -83,7 +83,7 @@ logged_more start nows lane took log receiver vs frame v h is =
           events_of-append lane log.entries (entries_by lane v)
           ∙ (ap₂ (λ xs ys. xs ++ ys) h.entries (events_of-own lane (events_by v)) ∙ sym (events_of-push vs v));
       receiver_is =
-          ap (λ r. receiver_behind r v) h.receiver_is
+          ap (λ r. receiver_after r v) h.receiver_is
           ∙ ap (λ (d : Demand). let r : ReceiverState = record start { demand = d } in r) demanded;
     }
 
@@ -95,7 +95,7 @@ logged_beside start nows lane number took log receiver vs v other h =
 
 -- so a take leaves the next frame
 pub logs_next : (receiver : ReceiverState) (log : LogState) (lane now : ℕ) (frame : List ℕ) (receiver-now : ReceiverState) (log-now : LogState) → let v = verdict_by receiver now frame in
-    IsVerdict receiver.opener receiver.demand now frame v → receiver-now ≡ receiver_behind receiver v → log-now ≡ noted log lane v
+    IsVerdict receiver.opener receiver.demand now frame v → receiver-now ≡ receiver_after receiver v → log-now ≡ noted log lane v
     → LogsNext receiver log lane now frame receiver-now log-now
 logs_next receiver log lane now frame receiver-now log-now right r l =
     let v = verdict_by receiver now frame in
@@ -171,7 +171,7 @@ logged_shut start nows lane took log receiver vs h on =
     ap (λ (r : ReceiverState). r.demand.closed) h.receiver_is ∙ or_right start.demand.closed (list_any is_close (records_of vs)) accepted
 
 -- and a verdict keeps it so, whatever was taken before
-pub shut_same : (log : LogState) (lane : ℕ) (r : ReceiverState) (v : Verdict) → IsShut log lane r → IsShut (noted log lane v) lane (receiver_behind r v)
+pub shut_same : (log : LogState) (lane : ℕ) (r : ReceiverState) (v : Verdict) → IsShut log lane r → IsShut (noted log lane v) lane (receiver_after r v)
 shut_same log lane r v h on =
     let both : (has_closed (events_of lane log.entries) || has_closed (events_by v)) ≡ true =
     sym (ap has_closed (events_of-append lane log.entries (entries_by lane v) ∙ ap (λ ys. events_of lane log.entries ++ ys) (events_of-own lane (events_by v)))

@@ -93,13 +93,13 @@ demand_after-append demand xs ys =
     (omega (arith, length-append xs ys))
     (or_assoc demand.closed (list_any is_close xs) (list_any is_close ys) ∙ ap (λ b. demand.closed || b) (sym (list_any-append is_close xs ys)))
 
--- behind an answer, by the records accepted until then
+-- after an answer, by the records accepted until then
 pub demand_next : (demand : Demand) (before : List Record) (offer : Offer) (answer : Answer)
     → demand_after (demand_after demand before) (carried_by offer answer) ≡ demand_after demand (before ++ accepted_of (offer ∷ []) (answer ∷ []))
 demand_next demand before offer (Ok x) = demand_after-append demand before (offer.carried ∷ [])
 demand_next demand before offer (Err e) = demand_after-append demand before []
 
--- behind one record that is accepted, which was the close or wasn't
+-- after one record that is accepted, which was the close or wasn't
 pub demand_one : (demand : Demand) (carried : Record) → demand.closed ≡ false → next_demand demand (is_close carried) ≡ demand_after demand (carried ∷ [])
 demand_one demand carried live =
     same_demand (demand.expected + 1) (demand.expected + 1) (is_close carried) (demand.closed || (is_close carried || false)) refl (rw live (sym (or-false (is_close carried))))

@@ -6,7 +6,7 @@ use Rattle.krb_peers.specs.declared.delivery.Delivery.{Delivery}
 use Rattle.krb_peers.specs.Demand.{Demand}
 use Rattle.krb_peers.specs.LogState.{LogState}
 use Rattle.krb_peers.specs.ReceiverState.{ReceiverState}
-use Rattle.krb_peers.specs.Receiver.{verdict_by, receiver_behind, advanced}
+use Rattle.krb_peers.specs.Receiver.{verdict_by, receiver_after, advanced}
 use Rattle.krb_record.specs.Record.{is_close}
 use Rattle.krb_peers.specs.Verdicts.{Verdict, IsVerdict, record_of}
 use Rattle.krb_peers.specs.Logged.{noted}
@@ -25,14 +25,14 @@ verdict_is receiver now frame bytes = right_verdict receiver.opener receiver.dem
 
 -- what an answer leaves
 pub record IsReceived (receiver receiver-now : ReceiverState) (log log-now : LogState) (lane now : ℕ) (frame : List ℕ) : Type 0 where
-  pub receiver_is : receiver-now ≡ receiver_behind receiver (verdict_by receiver now frame)
+  pub receiver_is : receiver-now ≡ receiver_after receiver (verdict_by receiver now frame)
   pub log_is : log-now ≡ noted log lane (verdict_by receiver now frame)
 
 module _ (receiver : ReceiverState) (log : LogState) (lane now : ℕ) (frame : List ℕ) (bytes : AreBytes frame) where
-  received_by : (v : Verdict) (receiver-now : ReceiverState) (log-now : LogState) → v ≡ verdict_by receiver now frame → receiver-now ≡ receiver_behind receiver v → log-now ≡ noted log lane v
+  received_by : (v : Verdict) (receiver-now : ReceiverState) (log-now : LogState) → v ≡ verdict_by receiver now frame → receiver-now ≡ receiver_after receiver v → log-now ≡ noted log lane v
       → IsReceived receiver receiver-now log log-now lane now frame
   received_by v receiver-now log-now is r l = record {
-    receiver_is = r ∙ ap (λ w. receiver_behind receiver w) is;
+    receiver_is = r ∙ ap (λ w. receiver_after receiver w) is;
     log_is = l ∙ ap (λ w. noted log lane w) is;
   }
 
@@ -41,7 +41,7 @@ module _ (receiver : ReceiverState) (log : LogState) (lane now : ℕ) (frame : L
       → receiver-now ≡ advanced receiver close → log-now ≡ noted log lane (Ok d) → IsReceived receiver receiver-now log log-now lane now frame
   received d close receiver-now log-now h closes r l =
       let is = answer_is receiver now frame (Ok d) bytes h in
-      let next : advanced receiver close ≡ receiver_behind receiver (Ok d) =
+      let next : advanced receiver close ≡ receiver_after receiver (Ok d) =
       ap (λ b. advanced receiver b) closes ∙ ap (λ (demand : Demand). let z : ReceiverState = record receiver { demand = demand } in z) (demand_one receiver.demand (record_of d) h.0) in
       received_by (Ok d) receiver-now log-now is (r ∙ next) l
 

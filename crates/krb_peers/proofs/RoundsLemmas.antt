@@ -100,10 +100,10 @@ rounds-push front groups group back in-front h =
     let n : ℕ = suc (length groups) in
     let more : length groups ≤ n = omega arith in
     let long : length (groups ++ group ∷ []) ≤ n = omega (arith, length-append groups (group ∷ [])) in
-    let behind : NoneLonger n back = NoneLonger-more (length groups) n back more h in
-    let before : NoneLonger n (front ++ groups ∷ back) = All-append (Within n) front (groups ∷ back) in-front (All-cons (Within n) groups back more behind) in
+    let following : NoneLonger n back = NoneLonger-more (length groups) n back more h in
+    let before : NoneLonger n (front ++ groups ∷ back) = All-append (Within n) front (groups ∷ back) in-front (All-cons (Within n) groups back more following) in
     let after : NoneLonger n (front ++ (groups ++ group ∷ []) ∷ back) =
-    All-append (Within n) front ((groups ++ group ∷ []) ∷ back) in-front (All-cons (Within n) (groups ++ group ∷ []) back long behind) in
+    All-append (Within n) front ((groups ++ group ∷ []) ∷ back) in-front (All-cons (Within n) (groups ++ group ∷ []) back long following) in
     rounds-from_below n (front ++ (groups ++ group ∷ []) ∷ back) after
     ∙ (rounds_below-push front groups group back h ∙ ap (λ es. es ++ entries_for (length front) group) (sym (rounds-from_below n (front ++ groups ∷ back) before)))
 
@@ -363,8 +363,8 @@ before_itself a b (inr h) (inl g) = let e = h.0 in omega (arith, g, e)
 before_itself a b (inr h) (inr g) = let e = h.1 in let f = g.1 in omega (arith, e, f)
 
 -- what stands before all that follow is not among them
-not_behind : (x s : Spot) (xs : List Spot) → All (IsBefore x) xs → Contains xs s → x ≡ s → ⊥
-not_behind x s xs all has e =
+not_after : (x s : Spot) (xs : List Spot) → All (IsBefore x) xs → Contains xs s → x ≡ s → ⊥
+not_after x s xs all has e =
     let here : IsBefore x s = All-contains (IsBefore x) xs s all has in
     let itself : IsBefore x x = subst (IsBefore x) (sym e) here in
     before_itself x x itself itself
@@ -375,7 +375,7 @@ AreAmong xs ys = (s : Spot) → Contains xs s → Contains ys s
 tails_among : (x y : Spot) (xs ys : List Spot) → x ≡ y → All (IsBefore x) xs → AreAmong (x ∷ xs) (y ∷ ys) → AreAmong xs ys
 tails_among x y xs ys same all among s has =
     elim (contains_cases y ys s (among s (Contains-append_right (x ∷ []) xs s has))) [
-      | inl here ↦ absurd (not_behind x s xs all has (same ∙ here))
+      | inl here ↦ absurd (not_after x s xs all has (same ∙ here))
       | inr later ↦ later
     ]
 
@@ -387,9 +387,9 @@ same_spots (x ∷ xs) (y ∷ ys) p q a b =
     let same : x ≡ y =
     elim (contains_cases y ys x (a x (0, (omega arith), refl))) [
       | inl e ↦ sym e
-      | inr behind-y ↦ elim (contains_cases x xs y (b y (0, (omega arith), refl))) [
+      | inr following-y ↦ elim (contains_cases x xs y (b y (0, (omega arith), refl))) [
         | inl e ↦ e
-        | inr behind-x ↦ absurd (before_itself x y (All-contains (IsBefore x) xs y p.0 behind-x) (All-contains (IsBefore y) ys x q.0 behind-y))
+        | inr following-x ↦ absurd (before_itself x y (All-contains (IsBefore x) xs y p.0 following-x) (All-contains (IsBefore y) ys x q.0 following-y))
       ]
     ] in
     ap₂ (λ z zs. z ∷ zs) same (same_spots xs ys p.1 q.1 (tails_among x y xs ys same p.0 a) (tails_among y x ys xs (sym same) q.0 b))

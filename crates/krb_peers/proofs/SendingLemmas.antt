@@ -10,7 +10,7 @@ use Rattle.std.proofs.lemmas.List.Elements.{All-nil, All-cons, All-head, All-tak
 use Rattle.krb_base.specs.Limits.{last_number, user_data_limit, text_limit, batch_limit}
 use Rattle.krb_record.specs.Batch.{IsBatch}
 use Rattle.krb_record.specs.Groups.{IsFirstGroup, AreGroups, groups}
-use Rattle.krb_record.proofs.GroupLemmas.{groups_are, groups_behind, next_groups, joined, small_groups, first_is_small, first_is_some}
+use Rattle.krb_record.proofs.GroupLemmas.{groups_are, groups_after, next_groups, joined, small_groups, first_is_small, first_is_some}
 use Rattle.krb_seal.specs.declared.seal_error.SealError.{SealError}
 use Rattle.krb_seal.specs.declared.seal_error.SealError.TheVariants.{Wiped, TooLong, Exhausted, Memory}
 use Rattle.krb_seal.specs.Sealer.{SealerState, SealsNext, end_of_numbers}
@@ -18,9 +18,9 @@ use Rattle.krb_record.specs.declared.record.Record.{Record}
 use Rattle.krb_record.specs.declared.record.Record.TheVariants.{Close}
 use Rattle.krb_record.specs.Record.{bytes_of, FitsLimits, record_for}
 use Rattle.krb_peers.specs.Draws.{after_words, confounder_at}
-use Rattle.krb_peers.specs.Sender.{Source, IsWithinLimits, text_groups, texts_of_groups, sealed_count, sealed_groups, group_behind, texts_before, record_at, records_for, records, IsFrame, AreFrames}
+use Rattle.krb_peers.specs.Sender.{Source, IsWithinLimits, text_groups, texts_of_groups, sealed_count, sealed_groups, group_after, texts_before, record_at, records_for, records, IsFrame, AreFrames}
 use Rattle.krb_peers.specs.Moments.{moment_at}
-use Rattle.krb_peers.specs.Sending.{before, behind, HasSealed, StandsAfterSome}
+use Rattle.krb_peers.specs.Sending.{before, source_after, HasSealed, StandsAfterSome}
 use Rattle.krb_peers.proofs.DrawsLemmas.{confounder_at-later, after_words-add}
 use Rattle.krb_peers.proofs.ListLemmas.{slice_get-front, slice_get-end, lt_or_same, slice_get-take, take-below, length-take, get_or-take}
 
@@ -83,12 +83,12 @@ record_is source k r begun small at =
 -- ---- the texts that are passed
 
 module _ (source : Source) (k passed : ℕ) (stands : passed ≡ texts_before k source) where
-  -- behind the texts of k groups come the other groups
+  -- after the texts of k groups come the other groups
   pub groups_left : groups source.batch (drop passed source.texts) ≡ drop k (text_groups source)
-  groups_left = ap (λ n. groups source.batch (drop n source.texts)) stands ∙ groups_behind source.batch k source.texts
+  groups_left = ap (λ n. groups source.batch (drop n source.texts)) stands ∙ groups_after source.batch k source.texts
 
   -- group k comes next
-  pub group_is : group_behind passed source ≡ get_or (text_groups source) k []
+  pub group_is : group_after passed source ≡ get_or (text_groups source) k []
   group_is = ap (λ gs. slice_index_or gs 0 []) groups_left ∙ head_of (text_groups source) k
     where
       head_of : (gs : List (List (List ℕ))) (j : ℕ) → slice_index_or (drop j gs) 0 [] ≡ get_or gs j []
@@ -98,7 +98,7 @@ module _ (source : Source) (k passed : ℕ) (stands : passed ≡ texts_before k 
       head_of (g ∷ gs) (suc j) = head_of gs j
 
   -- with a group more, its texts are passed
-  pub passed_more : passed + length (group_behind passed source) ≡ texts_before (k + 1) source
+  pub passed_more : passed + length (group_after passed source) ≡ texts_before (k + 1) source
   passed_more =
       ap₂ (λ a b. a + length b) stands group_is ∙ texts_more (text_groups source) k
     where
@@ -209,13 +209,13 @@ AreFrames-push source k frames frame there are is =
               rw (← e, same) (is r (rw (← same) at-r))
         ]
 
-same_records : (source : Source) (k : ℕ) → records (before k (behind k source)) ≡ records source
+same_records : (source : Source) (k : ℕ) → records (before k (source_after k source)) ≡ records source
 same_records source k =
     let e : source.sealer.next + k - k ≡ source.sealer.next = omega arith in
     ap (λ n. records_for (take (sealed_count n (length (text_groups source))) (text_groups source))) e
 
-behind_more : (source : Source) (k : ℕ) → behind 1 (behind k source) ≡ behind (k + 1) source
-behind_more source k =
+after_more : (source : Source) (k : ℕ) → source_after 1 (source_after k source) ≡ source_after (k + 1) source
+after_more source k =
     let n : source.sealer.next + k + 1 ≡ source.sealer.next + (k + 1) = omega arith in
     let four : 4 * (k + 1) ≡ 4 * k + 4 = omega arith in
     let d : after_words 4 (after_words (4 * k) source.draws) ≡ after_words (4 * (k + 1)) source.draws =
@@ -225,17 +225,17 @@ behind_more source k =
 -- a frame more of a sender that has sealed some
 pub HasSealed-push : (source now next : Source) (k : ℕ) (frames : List (List ℕ)) (frame : List ℕ) → HasSealed source k frames now → k < length (records (before k now))
     → ((r : Record) → slice_get (records (before k now)) k ≡ Some r → SealsNext now.sealer (bytes_of r) (moment_at now.ats k) (confounder_at now.draws 0) frame)
-    → next ≡ behind 1 now → HasSealed source (k + 1) (frames ++ frame ∷ []) next
+    → next ≡ source_after 1 now → HasSealed source (k + 1) (frames ++ frame ∷ []) next
 HasSealed-push source now next k frames frame has there is after =
     let P : Source → Type 0 = λ n. k < length (records (before k n))
     → ((r : Record) → slice_get (records (before k n)) k ≡ Some r → SealsNext n.sealer (bytes_of r) (moment_at n.ats k) (confounder_at n.draws 0) frame)
-    → next ≡ behind 1 n → HasSealed source (k + 1) (frames ++ frame ∷ []) next in
-    let at_behind : P (behind k source) = λ there' is' after'. record {
+    → next ≡ source_after 1 n → HasSealed source (k + 1) (frames ++ frame ∷ []) next in
+    let at_after : P (source_after k source) = λ there' is' after'. record {
       sealed = AreFrames-push source k frames frame (rw same_records at there') has.sealed (λ r at-r.
           rw (← confounder_at-later source.draws k) (is' r (rw same_records at-r)));
-      state = after' ∙ behind_more source k;
+      state = after' ∙ after_more source k;
     } in
-    subst P (sym has.state) at_behind there is after
+    subst P (sym has.state) at_after there is after
 
 -- ---- where a sealer stands
 
@@ -287,16 +287,16 @@ module _ (source : Source) (passed n : ℕ) (below : passed < length source.text
   some_left : 1 ≤ length (drop passed source.texts)
   some_left = omega (arith, length-drop passed source.texts, below)
 
-  pub first_group_is : group_behind passed source ≡ take n (drop passed source.texts)
+  pub first_group_is : group_after passed source ≡ take n (drop passed source.texts)
   first_group_is =
       let some : drop passed source.texts ≢ [] = λ e. (let none : length (drop passed source.texts) ≡ 0 = ap length e in omega (arith, none, some_left)) in
       ap (λ gs. slice_index_or gs 0 []) (next_groups source.batch n (drop passed source.texts) some first)
 
-  pub first_group_length : length (group_behind passed source) ≡ n
+  pub first_group_length : length (group_after passed source) ≡ n
   first_group_length =
       let two = first_is_some source.batch n (drop passed source.texts) first some_left in
       let high = two.1 in
-      let same : length (group_behind passed source) ≡ length (take n (drop passed source.texts)) = ap length first_group_is in
+      let same : length (group_after passed source) ≡ length (take n (drop passed source.texts)) = ap length first_group_is in
       omega (arith, same, high, length-take n (drop passed source.texts))
 
 -- so is the group at a place, where there is one

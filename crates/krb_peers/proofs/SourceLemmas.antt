@@ -33,7 +33,7 @@ use Rattle.krb_peers.specs.Moments.{moment_at}
 use Rattle.krb_peers.specs.Sender as sender
 use Rattle.krb_peers.specs.Verdicts.{record_of, records_of}
 use Rattle.krb_peers.proofs.AnswerLemmas.{image}
-use Rattle.krb_peers.proofs.AttemptLemmas.{number_behind, accepted_prefix}
+use Rattle.krb_peers.proofs.AttemptLemmas.{number_after, accepted_prefix}
 use Rattle.krb_peers.proofs.FrameLemmas.{none_of_front}
 use Rattle.krb_peers.proofs.ListLemmas.{slice_get-take, all_pass, length-take, get_or-take}
 use Rattle.krb_peers.proofs.OrderLemmas.{demand_after-nil}
@@ -236,7 +236,7 @@ module _ (run : Run) (is : IsRun run) where
                   | inl mine ↦ inl mine
                   | inr right ↦ inr (λ k number.
                       let accepted = records_of (take place run.verdicts) in
-                      let its = number_behind source.sealer rs first run.ends.receiver.demand begins accepted in
+                      let its = number_after source.sealer rs first run.ends.receiver.demand begins accepted in
                       let same : first + length accepted ≡ k = omega (arith, number, its) in
                       ap (λ n. slice_get rs n) (sym same) ∙ right)
                 ]

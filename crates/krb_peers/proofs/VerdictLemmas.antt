@@ -177,9 +177,9 @@ module _ (opener : OpenerState) (nows : List ℕ) where
       }
 
   -- the verdicts demand_after the first
-  pub AreVerdicts-behind : (demand : Demand) (place : ℕ) (g : List ℕ) (frames : List (List ℕ)) (v : Verdict) (vs : List Verdict) → AreVerdicts opener nows demand place (g ∷ frames) (v ∷ vs)
+  pub AreVerdicts-after : (demand : Demand) (place : ℕ) (g : List ℕ) (frames : List (List ℕ)) (v : Verdict) (vs : List Verdict) → AreVerdicts opener nows demand place (g ∷ frames) (v ∷ vs)
       → IsVerdict opener demand (moment_at nows place) g v × AreVerdicts opener nows (demand_after demand (accepted_by v)) (place + 1) frames vs
-  AreVerdicts-behind demand place g frames v vs h =
+  AreVerdicts-after demand place g frames v vs h =
       let p : place + 0 ≡ place = omega arith in
       let first : IsVerdict opener demand (moment_at nows place) g v = rw (p, demand_after-nil demand) at (h.each 0 g v refl refl) in
       let rest : AreVerdicts opener nows (demand_after demand (accepted_by v)) (place + 1) frames vs = record {
@@ -196,7 +196,7 @@ module _ (opener : OpenerState) (nows : List ℕ) where
   follow_same demand place [] (v ∷ vs) bytes h = absurd (let e = h.one_each in omega arith)
   follow_same demand place (g ∷ frames) [] bytes h = absurd (let e = h.one_each in omega arith)
   follow_same demand place (g ∷ frames) (v ∷ vs) bytes h =
-      let both = AreVerdicts-behind demand place g frames v vs h in
+      let both = AreVerdicts-after demand place g frames v vs h in
       let head : v ≡ verdict opener demand (moment_at nows place) g = one_verdict opener demand (moment_at nows place) g v bytes.0 both.0 in
       let tail = follow_same (demand_after demand (accepted_by v)) (place + 1) frames vs bytes.1 both.1 in
       let P : Verdict → Type 0 = λ x. v ∷ vs ≡ x ∷ verdicts opener nows (demand_after demand (accepted_by x)) (place + 1) frames in

@@ -32,8 +32,8 @@ unfoldable pub verdict_by : ReceiverState → ℕ → List ℕ → Verdict
 verdict_by receiver now frame = verdict receiver.opener receiver.demand now frame
 
 -- after a verdict the next number is demanded, or the same one
-abbrev pub receiver_behind : ReceiverState → Verdict → ReceiverState
-receiver_behind receiver answer =
+abbrev pub receiver_after : ReceiverState → Verdict → ReceiverState
+receiver_after receiver answer =
     record receiver { demand = demand_after receiver.demand (accepted_by answer) }
 
 -- and after an accepted record, which was the close or wasn't

@@ -52,8 +52,8 @@ abbrev pub sealed_texts : Source → List (List ℕ)
 sealed_texts source = texts_of_groups (sealed_groups source)
 
 -- the group that comes after so many texts, if any text is left
-abbrev pub group_behind : ℕ → Source → List (List ℕ)
-group_behind passed source = slice_index_or (groups source.batch (drop passed source.texts)) 0 []
+abbrev pub group_after : ℕ → Source → List (List ℕ)
+group_after passed source = slice_index_or (groups source.batch (drop passed source.texts)) 0 []
 
 -- the texts of the first k groups are so many
 abbrev pub texts_before : ℕ → Source → ℕ

@@ -32,8 +32,8 @@ sealed_of source = length (sealed_texts source)
 -- how many texts of how many a sender seals, and why no more
 abbrev pub sent_of : Source → Sent
 sent_of source = record {
-  k = sealed_of source;
-  n = length source.texts;
+  sealed = sealed_of source;
+  texts = length source.texts;
   ending = if sealed_of source == length source.texts then Done else LastNumber;
 }
 
@@ -42,8 +42,8 @@ abbrev pub before : ℕ → Source → Source
 before k source = record source { sealer = record source.sealer { next = source.sealer.next - k } }
 
 -- and after its next k frames, under four words each
-abbrev pub behind : ℕ → Source → Source
-behind k source = record source {
+abbrev pub source_after : ℕ → Source → Source
+source_after k source = record source {
   sealer = record source.sealer { next = source.sealer.next + k };
   draws = after_words (4 * k) source.draws;
 }
@@ -63,7 +63,7 @@ pub record IsSender (source : Source) : Type 0 where
 pub record HasSealed (source : Source) (k : ℕ) (frames : List (List ℕ))
     (now : Source) : Type 0 where
   pub sealed : AreFrames source (take k (records source)) frames
-  pub state : now ≡ behind k source
+  pub state : now ≡ source_after k source
 
 -- the sender sealed its first `count` records, as these frames
 pub record HasSealedSome (source : Source) (count : ℕ) : Type 0 where
@@ -75,7 +75,7 @@ pub record HasSealedSome (source : Source) (count : ℕ) : Type 0 where
 pub record StandsAfterSome (source : Source) (sealer : SealerState) : Type 0 where
   pub count : ℕ
   pub some : HasSealedSome source count
-  pub is : sealer ≡ (behind count source).sealer
+  pub is : sealer ≡ (source_after count source).sealer
 
 -- what it is to seal all records of a sender: its frames, or why not all were sealed
 pub record SealsAll {S : Type 0} (state : S → SealerState) (old now : Sending S)
@@ -83,8 +83,8 @@ pub record SealsAll {S : Type 0} (state : S → SealerState) (old now : Sending 
   pub frames : IfOk result (λ frames. AreFrames (source_of state old)
       (records (source_of state old)) (contents frames.items))
   pub bytes : IfOk result (λ frames. AllBytes (contents frames.items))
-  pub behind : OnOk result
-      (source_of state now ≡ behind (length (records (source_of state old))) (source_of state old))
+  pub source_after : OnOk result
+      (source_of state now ≡ source_after (length (records (source_of state old))) (source_of state old))
   pub stopped : OnErr result (StandsAfterSome (source_of state old) (state now.sealer))
   pub wiped : (state old.sealer).wiped ≡ true → IsErr result
   pub errors : IfErr result (λ e.

@@ -10,7 +10,7 @@ ghost use Rattle.krb_peers.specs.declared.delivery.Delivery.{Delivery as Deliver
 ghost use Rattle.krb_peers.specs.Moments.{moment_at};
 ghost use Rattle.krb_peers.specs.Verdicts.{Fails, IsVerdict, record_of};
 ghost use Rattle.krb_peers.specs.Order.{first_demand};
-ghost use Rattle.krb_peers.specs.Receiver.{verdict_by, IsJudgement, OpensRecord, TakesMemory, receiver_behind, advanced};
+ghost use Rattle.krb_peers.specs.Receiver.{verdict_by, IsJudgement, OpensRecord, TakesMemory, receiver_after, advanced};
 ghost use Rattle.krb_peers.specs.Logged.{noted, IsShut, LogsNext};
 
 use crate::delivery::Delivery;
@@ -119,7 +119,7 @@ impl Receiver {
     pub fn take(&mut self, alloc: Global, frame: &[u8], now: Moment) -> Result<Delivery, Refusal>
         ensures verdict { IsJudgement self.old now frame.now result }
         ensures memory { result ≡ Err Refusal.Memory → TakesMemory self.old frame.now }
-        ensures behind { self.new ≡ receiver_behind self.old result }
+        ensures after { self.new ≡ receiver_after self.old result }
 
         ensures number { OnOk result (self.new.demand.expected ≡ self.old.demand.expected + 1) }
         ensures closed { IfOk result (λ carried.
@@ -156,7 +156,7 @@ impl Receiver {
         requires number { self.old.demand.expected ≤ last_number }
         requires open { IsFalse self.old.demand.closed }
         ensures { (delivery : DeliveryValue) → kind ≡ kind_of (record_of delivery)
-            → self.new ≡ receiver_behind self.old (Ok delivery) }
+            → self.new ≡ receiver_after self.old (Ok delivery) }
     {
         self.advance(matches!(kind, RecordKind::Close));
     }
@@ -179,7 +179,7 @@ impl Receiver {
         ensures verdict { OnOk result (IsVerdict self.old.opener self.old.demand now frame.now
             (verdict_by self.old now frame.now)) }
         ensures receiver { OnOk result
-            (self.new ≡ receiver_behind self.old (verdict_by self.old now frame.now)) }
+            (self.new ≡ receiver_after self.old (verdict_by self.old now frame.now)) }
         ensures log { OnOk result
             (log.new ≡ noted log.old lane (verdict_by self.old now frame.now)) }
         ensures unchanged { OnErr result (self.new ≡ self.old) }

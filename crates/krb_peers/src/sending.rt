@@ -8,9 +8,9 @@ ghost use Rattle.krb_peers.specs.Draws.{confounder_at};
 ghost use Rattle.krb_peers.specs.Plan.{contents};
 ghost use Rattle.krb_peers.specs.Sender.{Source, AreFrames, records, sealed_groups, sealed_texts};
 ghost use Rattle.krb_peers.specs.Moments.{moment_at};
-ghost use Rattle.krb_peers.specs.Sender.{group_behind, texts_before, record_at};
+ghost use Rattle.krb_peers.specs.Sender.{group_after, texts_before, record_at};
 ghost use Rattle.krb_peers.specs.Verdicts.{AllBytes};
-ghost use Rattle.krb_peers.specs.Sending.{source_of, sealed_of, sent_of, before, behind, IsSender, HasSealed, SealsAll, StandsAfterSome};
+ghost use Rattle.krb_peers.specs.Sending.{source_of, sealed_of, sent_of, before, source_after, IsSender, HasSealed, SealsAll, StandsAfterSome};
 
 use crate::confounder::draw_confounder;
 use crate::gate::{Gate, NoGate};
@@ -62,9 +62,9 @@ impl<S: Sealer> Drop for Sending<S> {
 #[derive(Clone, Copy, Debug, PartialEq, Eq)]
 pub struct Sent {
     /// How many texts are sealed.
-    pub k: usize,
+    pub sealed: usize,
     /// How many texts there are.
-    pub n: usize,
+    pub texts: usize,
     /// Why no more are sealed.
     pub ending: Ending,
 }
@@ -97,7 +97,7 @@ impl<S: Sealer> Sending<S> {
         let mut groups = 0;
         let mut passed = 0;
         while groups < left && passed < self.texts.len() {
-            passed += group_end(self.texts_behind(passed), self.batch);
+            passed += group_end(self.texts_after(passed), self.batch);
             groups += 1;
         }
         Sealed {
@@ -116,18 +116,22 @@ impl<S: Sealer> Sending<S> {
     /// How many texts of how many are sealed.
     pub fn sent(&self) -> Sent
         ensures sent { result ≡ sent_of (source_of S.state self.now) }
-        ensures sealed { result.k ≡ sealed_of (source_of S.state self.now) }
-        ensures count { result.n ≡ length (source_of S.state self.now).texts }
-        ensures done { (result.ending ≡ Ending.Done) ↔ (result.k ≡ result.n) }
+        ensures sealed { result.sealed ≡ sealed_of (source_of S.state self.now) }
+        ensures count { result.texts ≡ length (source_of S.state self.now).texts }
+        ensures done { (result.ending ≡ Ending.Done) ↔ (result.sealed ≡ result.texts) }
     {
-        let k = self.sealed().texts;
-        let n = self.texts.len();
-        let ending = if k == n {
+        let sealed = self.sealed().texts;
+        let texts = self.texts.len();
+        let ending = if sealed == texts {
             Ending::Done
         } else {
             Ending::LastNumber
         };
-        Sent { k, n, ending }
+        Sent {
+            sealed,
+            texts,
+            ending,
+        }
     }
 
     /// Seals record `k` at the sealer's next number, under the next four words of `draws`.
@@ -151,8 +155,8 @@ impl<S: Sealer> Sending<S> {
             → slice_get (records (before k (source_of S.state self.old))) k ≡ Some r
             → SealsNext (S.state self.old.sealer) (bytes_of r) (moment_at self.old.ats.items k)
             (confounder_at self.old.draws 0) frame.items) }
-        ensures behind { OnOk result
-            (source_of S.state self.new ≡ behind 1 (source_of S.state self.old)) }
+        ensures source_after { OnOk result
+            (source_of S.state self.new ≡ source_after 1 (source_of S.state self.old)) }
 
         // Whatever a sender has sealed before, its frames continue as those of its records.
         ensures frames { IfOk result (λ frame. (source : Source) (frames : List (List ℕ))
@@ -174,7 +178,7 @@ impl<S: Sealer> Sending<S> {
         ensures ats { self.new.ats ≡ self.old.ats }
         ensures plan { self.new.plan ≡ self.old.plan }
     {
-        let group = self.group_behind(*passed);
+        let group = self.group_after(*passed);
         let count = group.len();
         let bytes = self.record_at(alloc, group)?;
         let at = self.ats[k.min(self.ats.len() - 1)];
@@ -195,7 +199,7 @@ impl<S: Sealer> Sending<S> {
         ensures frames { IfOk result (λ frames. AreFrames (source_of S.state self.old)
             (records (source_of S.state self.old)) (contents frames.items)) }
         ensures bytes { IfOk result (λ frames. AllBytes (contents frames.items)) }
-        ensures behind { OnOk result (source_of S.state self.new ≡ behind
+        ensures source_after { OnOk result (source_of S.state self.new ≡ source_after
             (length (records (source_of S.state self.old))) (source_of S.state self.old)) }
         ensures stopped { OnErr result
             (StandsAfterSome (source_of S.state self.old) (S.state self.new.sealer)) }
@@ -236,11 +240,11 @@ impl<S: Sealer> Sending<S> {
     }
 
     /// The texts that go together next, after the first `passed` ones: none if none is left.
-    fn group_behind(&self, passed: usize) -> &[Bytes]
+    fn group_after(&self, passed: usize) -> &[Bytes]
         requires { passed ≤ length self.now.texts.items }
-        ensures { result.now ≡ group_behind passed (source_of S.state self.now) }
+        ensures { result.now ≡ group_after passed (source_of S.state self.now) }
     {
-        let rest = self.texts_behind(passed);
+        let rest = self.texts_after(passed);
         if rest.is_empty() {
             return rest;
         }
@@ -248,7 +252,7 @@ impl<S: Sealer> Sending<S> {
     }
 
     /// The texts after the first `passed` ones.
-    fn texts_behind(&self, passed: usize) -> &[Bytes]
+    fn texts_after(&self, passed: usize) -> &[Bytes]
         requires { passed ≤ length self.now.texts.items }
         ensures { result.now ≡ drop passed self.now.texts.items }
     {

@@ -2,7 +2,7 @@
 
 ghost use Rattle.std.specs.Prelude.{◌≡◌, length, false, Some, IfOk, IfErr, OnOk, OnErr};
 ghost use Rattle.krb_peers.specs.Sender.{records};
-ghost use Rattle.krb_peers.specs.Sending.{source_of, behind, unplanned, IsSender, StandsAfterSome};
+ghost use Rattle.krb_peers.specs.Sending.{source_of, source_after, unplanned, IsSender, StandsAfterSome};
 ghost use Rattle.krb_peers.specs.StartError.{code_of, words_of, IsReason};
 ghost use Rattle.krb_peers.specs.Wire.{IsWire};
 
@@ -93,7 +93,7 @@ pub fn emit_sealed_within<G: Gate, S: Sealer>(
     ensures ok { IfOk result (λ wire. IsWire (source_of S.state sending.old) wire) }
     ensures live { OnOk result ((S.state sending.old.sealer).wiped ≡ false) }
     ensures err { IfErr result (λ error. IsReason (source_of S.state sending.old) lane error) }
-    ensures behind { OnOk result (source_of S.state sending.new ≡ unplanned (behind
+    ensures source_after { OnOk result (source_of S.state sending.new ≡ unplanned (source_after
         (length (records (source_of S.state sending.old))) (source_of S.state sending.old))) }
     ensures stopped { OnErr result
         (StandsAfterSome (source_of S.state sending.old) (S.state sending.new.sealer)) }

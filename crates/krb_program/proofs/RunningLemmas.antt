@@ -1,4 +1,4 @@
--- A flush behind a command.
+-- A flush after a command.
 use Rattle.std.proofs.Common.{◌≡◌, ◌<◌, length, inl, inr, List, ℕ, Option, Some, None, Result, Ok, Err, IfSome, IfOk, OnErr, refl, sym, subst}
 use Rattle.std.specs.Io.KnownBytes.{Appends, Keeps}
 use Rattle.std.proofs.KnownBytes.{Keeps-trans}
@@ -12,8 +12,8 @@ use Rattle.krb_commands.specs.Show.{Shows, ShowsPrefix}
 use Rattle.krb_commands.specs.Vectors.{vectors_text}
 use Rattle.krb_program.specs.declared.command.Cmd.{Cmd}
 use Rattle.krb_program.specs.declared.command.Cmd.TheVariants.{Show, Vectors, Seal, Open, Relay}
-use Rattle.krb_program.specs.Told.{Told}
-use Rattle.krb_program.specs.Commands.{SealsTold, SealsToldPrefix, OpensTold, OpensToldFirst, OpensToldPrefix, RelaysTold, RelaysToldPrefix, StopsTold}
+use Rattle.krb_program.specs.Parsed.{Parsed}
+use Rattle.krb_program.specs.Commands.{SealsParsed, SealsParsedPrefix, OpensParsed, OpensParsedFirst, OpensParsedPrefix, RelaysParsed, RelaysParsedPrefix, StopsParsed}
 use Rattle.krb_program.specs.Reading.{PrintsNothing}
 use Rattle.krb_program.specs.Running.{Does, DoesFirst, DoesPrefix, IsBadInput, HasRun}
 
@@ -29,42 +29,42 @@ does_kept : (command : Cmd) (input old mid new : Option (List ℕ)) (status : �
 does_kept Show None old mid new status k d = tt
 does_kept Show (Some bytes) old mid new status k d = stable (λ a b. Shows bytes a b status) (λ a b p. p) (λ xs p. p.2) old mid new k d
 does_kept Vectors input old mid new status k d = stable (λ a b. Appends a b vectors_text × (status ≡ 0)) (λ a b p. p) (λ xs p. p.0) old mid new k d
-does_kept Seal input old mid new status k d = λ told is. stable (λ a b. SealsTold told a b × (status ≡ 0)) (λ a b p. p) (λ xs p. p.0.2.2.2) old mid new k (d told is)
-does_kept Open input old mid new status k d = λ told is. stable (λ a b. OpensTold told a b status) (λ a b p. p) (λ xs p. p.2.2) old mid new k (d told is)
-does_kept Relay input old mid new status k d = λ told is. stable (λ a b. RelaysTold told a b status) (λ a b p. p) (λ xs p. p.2.2.2) old mid new k (d told is)
+does_kept Seal input old mid new status k d = λ parsed is. stable (λ a b. SealsParsed parsed a b × (status ≡ 0)) (λ a b p. p) (λ xs p. p.0.2.2.2) old mid new k (d parsed is)
+does_kept Open input old mid new status k d = λ parsed is. stable (λ a b. OpensParsed parsed a b status) (λ a b p. p) (λ xs p. p.2.2) old mid new k (d parsed is)
+does_kept Relay input old mid new status k d = λ parsed is. stable (λ a b. RelaysParsed parsed a b status) (λ a b p. p) (λ xs p. p.2.2.2) old mid new k (d parsed is)
 
-no_seals : (told : Told) (xs : List ℕ) → SealsToldPrefix told (Some xs) None → ⊥
-no_seals told xs (inl p) = p
-no_seals told xs (inr (s, t, inl p)) = p
-no_seals told xs (inr (s, t, inr (source, e, inl p))) = p
-no_seals told xs (inr (s, t, inr (source, e, inr (emitted, w, p)))) = p.1
+no_seals : (parsed : Parsed) (xs : List ℕ) → SealsParsedPrefix parsed (Some xs) None → ⊥
+no_seals parsed xs (inl p) = p
+no_seals parsed xs (inr (s, t, inl p)) = p
+no_seals parsed xs (inr (s, t, inr (source, e, inl p))) = p
+no_seals parsed xs (inr (s, t, inr (source, e, inr (emitted, w, p)))) = p.1
 
-no_opens : (told : Told) (xs : List ℕ) → OpensToldPrefix told (Some xs) None → ⊥
-no_opens told xs (inl p) = p
-no_opens told xs (inr (s, t, inl (v, are, p))) = p.1
-no_opens told xs (inr (s, t, inr (n, v, are, p))) = p.1
+no_opens : (parsed : Parsed) (xs : List ℕ) → OpensParsedPrefix parsed (Some xs) None → ⊥
+no_opens parsed xs (inl p) = p
+no_opens parsed xs (inr (s, t, inl (v, are, p))) = p.1
+no_opens parsed xs (inr (s, t, inr (n, v, are, p))) = p.1
 
-no_relays : (told : Told) (xs : List ℕ) → RelaysToldPrefix told (Some xs) None → ⊥
-no_relays told xs (inl p) = p
-no_relays told xs (inr (job, e, inl p)) = p
-no_relays told xs (inr (job, e, inr (lanes, are, inl p))) = p
-no_relays told xs (inr (job, e, inr (lanes, are, inr (inl (log, w, p))))) = p.1
-no_relays told xs (inr (job, e, inr (lanes, are, inr (inr (log, w, p))))) = p.1
+no_relays : (parsed : Parsed) (xs : List ℕ) → RelaysParsedPrefix parsed (Some xs) None → ⊥
+no_relays parsed xs (inl p) = p
+no_relays parsed xs (inr (job, e, inl p)) = p
+no_relays parsed xs (inr (job, e, inr (lanes, are, inl p))) = p
+no_relays parsed xs (inr (job, e, inr (lanes, are, inr (inl (log, w, p))))) = p.1
+no_relays parsed xs (inr (job, e, inr (lanes, are, inr (inr (log, w, p))))) = p.1
 
 prefix_kept : (command : Cmd) (input old mid new : Option (List ℕ)) → Keeps mid new → DoesPrefix command input old mid → DoesPrefix command input old new
 prefix_kept Show None old mid new k d = tt
 prefix_kept Show (Some bytes) old mid new k d = stable (λ a b. ShowsPrefix bytes a b) (λ a b p. p) (λ xs p. p.2.1) old mid new k d
 prefix_kept Vectors input old mid new k d = stable (λ a b. AppendsPrefix a b vectors_text) (λ a b p. p) (λ xs p. p.1) old mid new k d
-prefix_kept Seal input old mid new k d = λ told is. stable (λ a b. SealsToldPrefix told a b) (λ a b p. p) (no_seals told) old mid new k (d told is)
-prefix_kept Open input old mid new k d = λ told is. stable (λ a b. OpensToldPrefix told a b) (λ a b p. p) (no_opens told) old mid new k (d told is)
-prefix_kept Relay input old mid new k d = λ told is. stable (λ a b. RelaysToldPrefix told a b) (λ a b p. p) (no_relays told) old mid new k (d told is)
+prefix_kept Seal input old mid new k d = λ parsed is. stable (λ a b. SealsParsedPrefix parsed a b) (λ a b p. p) (no_seals parsed) old mid new k (d parsed is)
+prefix_kept Open input old mid new k d = λ parsed is. stable (λ a b. OpensParsedPrefix parsed a b) (λ a b p. p) (no_opens parsed) old mid new k (d parsed is)
+prefix_kept Relay input old mid new k d = λ parsed is. stable (λ a b. RelaysParsedPrefix parsed a b) (λ a b p. p) (no_relays parsed) old mid new k (d parsed is)
 
 first_kept : (command : Cmd) (lines : ℕ) (input old mid new : Option (List ℕ)) → Keeps mid new → DoesFirst command lines input old mid → DoesFirst command lines input old new
 first_kept Show lines input old mid new k d = d
 first_kept Vectors lines input old mid new k d = d
 first_kept Seal lines input old mid new k d = d
-first_kept Open lines input old mid new k d = λ told is. stable (λ a b. OpensToldFirst told lines a b) (λ a b p. p) (λ xs p. p.2.4) old mid new k (d told is)
-first_kept Relay lines input old mid new k d = λ told is. stable (λ a b. StopsTold told lines a b) (λ a b p. p) (λ xs p. p.2.2.3) old mid new k (d told is)
+first_kept Open lines input old mid new k d = λ parsed is. stable (λ a b. OpensParsedFirst parsed lines a b) (λ a b p. p) (λ xs p. p.2.4) old mid new k (d parsed is)
+first_kept Relay lines input old mid new k d = λ parsed is. stable (λ a b. StopsParsed parsed lines a b) (λ a b p. p) (λ xs p. p.2.2.3) old mid new k (d parsed is)
 
 -- ---- the whole output is a prefix of itself
 
@@ -72,9 +72,9 @@ does_prefix : (command : Cmd) (input old new : Option (List ℕ)) (status : ℕ)
 does_prefix Show None old new status d = tt
 does_prefix Show (Some bytes) old new status d = (d.0, d.1, AppendsPrefix-whole old new _ d.2)
 does_prefix Vectors input old new status d = AppendsPrefix-whole old new _ d.0
-does_prefix Seal input old new status d = λ told is. let p = (d told is).0 in inr (p.0, p.1, inr (p.2.0, p.2.1, inr (p.2.2.0, p.2.2.1, AppendsPrefix-whole old new _ p.2.2.2)))
-does_prefix Open input old new status d = λ told is. let p = d told is in inr (p.0, p.1, inl (p.2.0, p.2.1, AppendsPrefix-whole old new _ p.2.2))
-does_prefix Relay input old new status d = λ told is. let p = d told is in inr (p.0, p.1, inr (p.2.0, p.2.1, inr (inl (p.2.2.0, p.2.2.1, AppendsPrefix-whole old new _ p.2.2.2))))
+does_prefix Seal input old new status d = λ parsed is. let p = (d parsed is).0 in inr (p.0, p.1, inr (p.2.0, p.2.1, inr (p.2.2.0, p.2.2.1, AppendsPrefix-whole old new _ p.2.2.2)))
+does_prefix Open input old new status d = λ parsed is. let p = d parsed is in inr (p.0, p.1, inl (p.2.0, p.2.1, AppendsPrefix-whole old new _ p.2.2))
+does_prefix Relay input old new status d = λ parsed is. let p = d parsed is in inr (p.0, p.1, inr (p.2.0, p.2.1, inr (inl (p.2.2.0, p.2.2.1, AppendsPrefix-whole old new _ p.2.2.2))))
 
 -- ---- whatever a command answered
 

@@ -12,60 +12,60 @@ use Rattle.krb_commands.specs.Sealed.{PrintsSealed, PrintsSealedPrefix}
 use Rattle.krb_commands.specs.Opened.{PrintsFirst, PrintsOpened, PrintsOpenedPrefix}
 use Rattle.krb_commands.specs.Relayed.{HasBadPlanFirst, PrintsRelayed, PrintsRelayedPrefix}
 use Rattle.krb_commands.specs.Relayed.{PrintsStopped}
-use Rattle.krb_commands.specs.Ends.{source_told, receiver_of, lane_told}
-use Rattle.krb_program.specs.Told.{Told, TellsOne}
+use Rattle.krb_commands.specs.Ends.{source_parsed, receiver_of, lane_stated}
+use Rattle.krb_program.specs.Parsed.{Parsed, HasOneSender}
 
 -- what a sender seals is printed
 abbrev pub SealsSender : Sender → Option (List ℕ) → Option (List ℕ) → Type 0
 SealsSender sender old new =
-    (source : Source) × (source_told sender ≡ Some source) × PrintsSealed source old new
+    (source : Source) × (source_parsed sender ≡ Some source) × PrintsSealed source old new
 
 -- a prefix of that, or nothing
 abbrev pub SealsSenderPrefix : Sender → Option (List ℕ) → Option (List ℕ) → Type 0
 SealsSenderPrefix sender old new =
     Keeps old new
-    ⊎ ((source : Source) × (source_told sender ≡ Some source) × PrintsSealedPrefix source old new)
+    ⊎ ((source : Source) × (source_parsed sender ≡ Some source) × PrintsSealedPrefix source old new)
 
 -- its plan is bad for its frames
 abbrev pub IsBadSender : Sender → Type 0
-IsBadSender sender = (source : Source) × (source_told sender ≡ Some source) × IsBad source
+IsBadSender sender = (source : Source) × (source_parsed sender ≡ Some source) × IsBad source
 
 -- what the one sender of the job seals is printed
-abbrev pub SealsTold : Told → Option (List ℕ) → Option (List ℕ) → Type 0
-SealsTold told old new = (sender : Sender) × TellsOne told sender × SealsSender sender old new
+abbrev pub SealsParsed : Parsed → Option (List ℕ) → Option (List ℕ) → Type 0
+SealsParsed parsed old new = (sender : Sender) × HasOneSender parsed sender × SealsSender sender old new
 
-abbrev pub SealsToldPrefix : Told → Option (List ℕ) → Option (List ℕ) → Type 0
-SealsToldPrefix told old new =
-    Keeps old new ⊎ ((sender : Sender) × TellsOne told sender × SealsSenderPrefix sender old new)
+abbrev pub SealsParsedPrefix : Parsed → Option (List ℕ) → Option (List ℕ) → Type 0
+SealsParsedPrefix parsed old new =
+    Keeps old new ⊎ ((sender : Sender) × HasOneSender parsed sender × SealsSenderPrefix sender old new)
 
 -- a check that isn't passed, or a plan that names what the frames don't have
-abbrev pub IsBadToSeal : Told → BadInput → Type 0
-IsBadToSeal told bad =
-    (told ≡ Err bad)
-    ⊎ ((bad ≡ bad_plan 0) × ((sender : Sender) × TellsOne told sender × IsBadSender sender))
+abbrev pub IsBadToSeal : Parsed → BadInput → Type 0
+IsBadToSeal parsed bad =
+    (parsed ≡ Err bad)
+    ⊎ ((bad ≡ bad_plan 0) × ((sender : Sender) × HasOneSender parsed sender × IsBadSender sender))
 
 -- the outcome of each frame of the job's one sender is printed, and this is the status
-abbrev pub OpensTold : Told → Option (List ℕ) → Option (List ℕ) → ℕ → Type 0
-OpensTold told old new status =
-    (sender : Sender) × TellsOne told sender
+abbrev pub OpensParsed : Parsed → Option (List ℕ) → Option (List ℕ) → ℕ → Type 0
+OpensParsed parsed old new status =
+    (sender : Sender) × HasOneSender parsed sender
     × PrintsOpened (receiver_of sender) sender.traffic.nows sender.traffic.frames old new status
 
 -- a prefix of that, or nothing
-abbrev pub OpensToldPrefix : Told → Option (List ℕ) → Option (List ℕ) → Type 0
-OpensToldPrefix told old new =
+abbrev pub OpensParsedPrefix : Parsed → Option (List ℕ) → Option (List ℕ) → Type 0
+OpensParsedPrefix parsed old new =
     Keeps old new
-    ⊎ ((sender : Sender) × TellsOne told sender
+    ⊎ ((sender : Sender) × HasOneSender parsed sender
     × PrintsOpenedPrefix (receiver_of sender) sender.traffic.nows sender.traffic.frames old new)
 
 -- so many lines are printed: the outcome of the first frames
-abbrev pub OpensToldFirst : Told → ℕ → Option (List ℕ) → Option (List ℕ) → Type 0
-OpensToldFirst told lines old new =
-    (sender : Sender) × TellsOne told sender
+abbrev pub OpensParsedFirst : Parsed → ℕ → Option (List ℕ) → Option (List ℕ) → Type 0
+OpensParsedFirst parsed lines old new =
+    (sender : Sender) × HasOneSender parsed sender
     × PrintsFirst (receiver_of sender) sender.traffic.nows sender.traffic.frames lines old new
 
 -- these are the lanes of the job's senders
 abbrev pub AreLanes : Job → List Ends → Type 0
-AreLanes job lanes = map Some lanes ≡ map lane_told job.senders
+AreLanes job lanes = map Some lanes ≡ map lane_stated job.senders
 
 -- what the job's senders send is relayed, what became of it is printed, and this is the status
 abbrev pub RelaysJob : Job → Option (List ℕ) → Option (List ℕ) → ℕ → Type 0
@@ -89,16 +89,16 @@ HasBadPlan job bad =
     (lanes : List Ends) × (lane : ℕ) × AreLanes job lanes × (bad ≡ bad_plan lane)
     × HasBadPlanFirst lanes lane
 
-abbrev pub RelaysTold : Told → Option (List ℕ) → Option (List ℕ) → ℕ → Type 0
-RelaysTold told old new status = (job : Job) × (told ≡ Ok job) × RelaysJob job old new status
+abbrev pub RelaysParsed : Parsed → Option (List ℕ) → Option (List ℕ) → ℕ → Type 0
+RelaysParsed parsed old new status = (job : Job) × (parsed ≡ Ok job) × RelaysJob job old new status
 
-abbrev pub RelaysToldPrefix : Told → Option (List ℕ) → Option (List ℕ) → Type 0
-RelaysToldPrefix told old new =
-    Keeps old new ⊎ ((job : Job) × (told ≡ Ok job) × RelaysJobPrefix job old new)
+abbrev pub RelaysParsedPrefix : Parsed → Option (List ℕ) → Option (List ℕ) → Type 0
+RelaysParsedPrefix parsed old new =
+    Keeps old new ⊎ ((job : Job) × (parsed ≡ Ok job) × RelaysJobPrefix job old new)
 
-abbrev pub StopsTold : Told → ℕ → Option (List ℕ) → Option (List ℕ) → Type 0
-StopsTold told lines old new = (job : Job) × (told ≡ Ok job) × StopsJob job lines old new
+abbrev pub StopsParsed : Parsed → ℕ → Option (List ℕ) → Option (List ℕ) → Type 0
+StopsParsed parsed lines old new = (job : Job) × (parsed ≡ Ok job) × StopsJob job lines old new
 
 -- a check that isn't passed, or a bad plan
-abbrev pub IsBadToRelay : Told → BadInput → Type 0
-IsBadToRelay told bad = (told ≡ Err bad) ⊎ ((job : Job) × (told ≡ Ok job) × HasBadPlan job bad)
+abbrev pub IsBadToRelay : Parsed → BadInput → Type 0
+IsBadToRelay parsed bad = (parsed ≡ Err bad) ⊎ ((job : Job) × (parsed ≡ Ok job) × HasBadPlan job bad)

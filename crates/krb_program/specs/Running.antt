@@ -12,32 +12,32 @@ use Rattle.krb_commands.specs.Show.{Shows, ShowsPrefix}
 use Rattle.krb_commands.specs.Vectors.{vectors_text}
 use Rattle.krb_program.specs.declared.command.Cmd.{Cmd}
 use Rattle.krb_program.specs.declared.command.Cmd.TheVariants.{Show, Vectors, Seal, Open, Relay}
-use Rattle.krb_program.specs.Told.{Told, IsTold}
-use Rattle.krb_program.specs.Commands.{SealsTold, SealsToldPrefix, IsBadToSeal}
-use Rattle.krb_program.specs.Commands.{OpensTold, OpensToldFirst, OpensToldPrefix}
-use Rattle.krb_program.specs.Commands.{RelaysTold, RelaysToldPrefix, StopsTold, IsBadToRelay}
+use Rattle.krb_program.specs.Parsed.{Parsed, IsParsed}
+use Rattle.krb_program.specs.Commands.{SealsParsed, SealsParsedPrefix, IsBadToSeal}
+use Rattle.krb_program.specs.Commands.{OpensParsed, OpensParsedFirst, OpensParsedPrefix}
+use Rattle.krb_program.specs.Commands.{RelaysParsed, RelaysParsedPrefix, StopsParsed, IsBadToRelay}
 
 -- all that the command is to write is written, and this is the status
 abbrev pub Does : Cmd → Option (List ℕ) → Option (List ℕ) → Option (List ℕ) → ℕ → Type 0
 Does Show input old new status = IfSome input (λ bytes. Shows bytes old new status)
 Does Vectors input old new status = Appends old new vectors_text × (status ≡ 0)
 Does Seal input old new status =
-    (told : Told) → IsTold job.Seal input told → SealsTold told old new × (status ≡ 0)
+    (parsed : Parsed) → IsParsed job.Seal input parsed → SealsParsed parsed old new × (status ≡ 0)
 Does Open input old new status =
-    (told : Told) → IsTold job.Open input told → OpensTold told old new status
+    (parsed : Parsed) → IsParsed job.Open input parsed → OpensParsed parsed old new status
 Does Relay input old new status =
-    (told : Told) → IsTold job.Relay input told → RelaysTold told old new status
+    (parsed : Parsed) → IsParsed job.Relay input parsed → RelaysParsed parsed old new status
 
 -- a prefix of it
 abbrev pub DoesPrefix : Cmd → Option (List ℕ) → Option (List ℕ) → Option (List ℕ) → Type 0
 DoesPrefix Show input old new = IfSome input (λ bytes. ShowsPrefix bytes old new)
 DoesPrefix Vectors input old new = AppendsPrefix old new vectors_text
 DoesPrefix Seal input old new =
-    (told : Told) → IsTold job.Seal input told → SealsToldPrefix told old new
+    (parsed : Parsed) → IsParsed job.Seal input parsed → SealsParsedPrefix parsed old new
 DoesPrefix Open input old new =
-    (told : Told) → IsTold job.Open input told → OpensToldPrefix told old new
+    (parsed : Parsed) → IsParsed job.Open input parsed → OpensParsedPrefix parsed old new
 DoesPrefix Relay input old new =
-    (told : Told) → IsTold job.Relay input told → RelaysToldPrefix told old new
+    (parsed : Parsed) → IsParsed job.Relay input parsed → RelaysParsedPrefix parsed old new
 
 -- the run stopped while frames were taken, and so many lines are written: their outcome until then
 abbrev pub DoesFirst : Cmd → ℕ → Option (List ℕ) → Option (List ℕ) → Option (List ℕ) → Type 0
@@ -45,17 +45,17 @@ DoesFirst Show lines input old new = ⊥
 DoesFirst Vectors lines input old new = ⊥
 DoesFirst Seal lines input old new = ⊥
 DoesFirst Open lines input old new =
-    (told : Told) → IsTold job.Open input told → OpensToldFirst told lines old new
+    (parsed : Parsed) → IsParsed job.Open input parsed → OpensParsedFirst parsed lines old new
 DoesFirst Relay lines input old new =
-    (told : Told) → IsTold job.Relay input told → StopsTold told lines old new
+    (parsed : Parsed) → IsParsed job.Relay input parsed → StopsParsed parsed lines old new
 
 -- this is what is bad in a job
 abbrev pub IsBadInput : Cmd → Option (List ℕ) → BadInput → Type 0
 IsBadInput Show input bad = ⊥
 IsBadInput Vectors input bad = ⊥
-IsBadInput Seal input bad = (told : Told) → IsTold job.Seal input told → IsBadToSeal told bad
-IsBadInput Open input bad = (told : Told) → IsTold job.Open input told → told ≡ Err bad
-IsBadInput Relay input bad = (told : Told) → IsTold job.Relay input told → IsBadToRelay told bad
+IsBadInput Seal input bad = (parsed : Parsed) → IsParsed job.Seal input parsed → IsBadToSeal parsed bad
+IsBadInput Open input bad = (parsed : Parsed) → IsParsed job.Open input parsed → parsed ≡ Err bad
+IsBadInput Relay input bad = (parsed : Parsed) → IsParsed job.Relay input parsed → IsBadToRelay parsed bad
 
 -- What a run of the command does: all, or after a fault a prefix of it, and nothing where the input
 -- can't be read or is bad.

@@ -9,13 +9,13 @@ ghost use Rattle.krb_job.specs.Job.{most_senders, job_view};
 ghost use Rattle.krb_job.specs.SenderKeys.{seals};
 ghost use Rattle.krb_job.specs.SenderView.{sender_view};
 ghost use Rattle.krb_commands.specs.Ends as ends;
-ghost use Rattle.krb_commands.specs.Ends.{AreReady, lane_told};
+ghost use Rattle.krb_commands.specs.Ends.{AreReady, lane_stated};
 ghost use Rattle.krb_commands.specs.Fault.{bad_plan, IsOfRelaying, IsOfSealing, IsOfTelling};
-ghost use Rattle.krb_program.specs.Told.{Told, IsTold, TellsOne};
+ghost use Rattle.krb_program.specs.Parsed.{Parsed, IsParsed, HasOneSender};
 ghost use Rattle.krb_program.specs.Reading.{ReadsInput, PrintsNothing, FailsCheck};
-ghost use Rattle.krb_program.specs.Commands.{SealsTold, SealsToldPrefix, SealsSender, SealsSenderPrefix, IsBadSender, IsBadToSeal};
-ghost use Rattle.krb_program.specs.Commands.{OpensTold, OpensToldFirst, OpensToldPrefix};
-ghost use Rattle.krb_program.specs.Commands.{RelaysTold, RelaysToldPrefix, RelaysJob, RelaysJobPrefix, StopsJob, StopsTold, HasBadPlan, IsBadToRelay};
+ghost use Rattle.krb_program.specs.Commands.{SealsParsed, SealsParsedPrefix, SealsSender, SealsSenderPrefix, IsBadSender, IsBadToSeal};
+ghost use Rattle.krb_program.specs.Commands.{OpensParsed, OpensParsedFirst, OpensParsedPrefix};
+ghost use Rattle.krb_program.specs.Commands.{RelaysParsed, RelaysParsedPrefix, RelaysJob, RelaysJobPrefix, StopsJob, StopsParsed, HasBadPlan, IsBadToRelay};
 
 use krb_commands::{
     Fault, open_job, push_lane, read_all, receiving_of, relay_job, seal_job, sealer_of, sending_of,
@@ -31,16 +31,16 @@ use std::thread::Threads;
 
 /// Seals the texts of the job's one sender.
 pub fn seal<R: Read, W: Write>(alloc: Global, reader: &mut R, writer: &mut W) -> Result<u8, Fault>
-    ensures printed { (told : Told) → IsTold Command.Seal (R.remaining reader.old) told
-        → OnOk result (SealsTold told (W.contents writer.old) (W.contents writer.new)) }
+    ensures printed { (parsed : Parsed) → IsParsed Command.Seal (R.remaining reader.old) parsed
+        → OnOk result (SealsParsed parsed (W.contents writer.old) (W.contents writer.new)) }
     ensures status { IfOk result (λ status. status ≡ 0) }
 
     ensures reading { ReadsInput Command.Seal (R.remaining reader.old) IsBadToSeal result }
     ensures nothing { PrintsNothing (W.contents writer.old) (W.contents writer.new) result }
     ensures never_stopped { (lines : ℕ) → ¬ (result ≡ Err (Fault.Stopped lines)) }
     ensures no_thread { (lines : ℕ) → ¬ (result ≡ Err (Fault.Thread lines)) }
-    ensures prefix { (told : Told) → IsTold Command.Seal (R.remaining reader.old) told
-        → OnErr result (SealsToldPrefix told (W.contents writer.old) (W.contents writer.new)) }
+    ensures prefix { (parsed : Parsed) → IsParsed Command.Seal (R.remaining reader.old) parsed
+        → OnErr result (SealsParsedPrefix parsed (W.contents writer.old) (W.contents writer.new)) }
 {
     let sender = one_sender(alloc, reader, Command::Seal)?;
     seal_sender(alloc, sender, writer)
@@ -94,17 +94,17 @@ fn seal_with<S: Sealer, W: Write>(
 
 /// Opens the frames of the job's one sender.
 pub fn open<R: Read, W: Write>(alloc: Global, reader: &mut R, writer: &mut W) -> Result<u8, Fault>
-    ensures printed { (told : Told) → IsTold Command.Open (R.remaining reader.old) told
-        → IfOk result (OpensTold told (W.contents writer.old) (W.contents writer.new)) }
+    ensures printed { (parsed : Parsed) → IsParsed Command.Open (R.remaining reader.old) parsed
+        → IfOk result (OpensParsed parsed (W.contents writer.old) (W.contents writer.new)) }
 
     ensures reading { ReadsInput Command.Open (R.remaining reader.old) FailsCheck result }
     ensures nothing { PrintsNothing (W.contents writer.old) (W.contents writer.new) result }
-    ensures stopped { (told : Told) → IsTold Command.Open (R.remaining reader.old) told
+    ensures stopped { (parsed : Parsed) → IsParsed Command.Open (R.remaining reader.old) parsed
         → (lines : ℕ) → result ≡ Err (Fault.Stopped lines)
-        → OpensToldFirst told lines (W.contents writer.old) (W.contents writer.new) }
+        → OpensParsedFirst parsed lines (W.contents writer.old) (W.contents writer.new) }
     ensures no_thread { (lines : ℕ) → ¬ (result ≡ Err (Fault.Thread lines)) }
-    ensures prefix { (told : Told) → IsTold Command.Open (R.remaining reader.old) told
-        → OnErr result (OpensToldPrefix told (W.contents writer.old) (W.contents writer.new)) }
+    ensures prefix { (parsed : Parsed) → IsParsed Command.Open (R.remaining reader.old) parsed
+        → OnErr result (OpensParsedPrefix parsed (W.contents writer.old) (W.contents writer.new)) }
 {
     let sender = one_sender(alloc, reader, Command::Open)?;
     let receiving = receiving_of(alloc, &sender)?;
@@ -119,21 +119,21 @@ pub fn relay<T: Threads + Wait + Sync, R: Read, W: Write, G: Gate + Sync>(
     writer: &mut W,
     gate: &G,
 ) -> Result<u8, Fault>
-    ensures printed { (told : Told) → IsTold Command.Relay (R.remaining reader.old) told
-        → IfOk result (RelaysTold told (W.contents writer.old) (W.contents writer.new)) }
+    ensures printed { (parsed : Parsed) → IsParsed Command.Relay (R.remaining reader.old) parsed
+        → IfOk result (RelaysParsed parsed (W.contents writer.old) (W.contents writer.new)) }
 
     ensures reading { ReadsInput Command.Relay (R.remaining reader.old) IsBadToRelay result }
     ensures nothing { PrintsNothing (W.contents writer.old) (W.contents writer.new) result }
-    ensures stopped { (told : Told) → IsTold Command.Relay (R.remaining reader.old) told
+    ensures stopped { (parsed : Parsed) → IsParsed Command.Relay (R.remaining reader.old) parsed
         → (lines : ℕ) → result ≡ Err (Fault.Stopped lines)
-        → StopsTold told lines (W.contents writer.old) (W.contents writer.new) }
-    ensures thread { (told : Told) → IsTold Command.Relay (R.remaining reader.old) told
+        → StopsParsed parsed lines (W.contents writer.old) (W.contents writer.new) }
+    ensures thread { (parsed : Parsed) → IsParsed Command.Relay (R.remaining reader.old) parsed
         → (lines : ℕ) → result ≡ Err (Fault.Thread lines)
-        → StopsTold told lines (W.contents writer.old) (W.contents writer.new) }
-    ensures prefix { (told : Told) → IsTold Command.Relay (R.remaining reader.old) told
-        → OnErr result (RelaysToldPrefix told (W.contents writer.old) (W.contents writer.new)) }
+        → StopsParsed parsed lines (W.contents writer.old) (W.contents writer.new) }
+    ensures prefix { (parsed : Parsed) → IsParsed Command.Relay (R.remaining reader.old) parsed
+        → OnErr result (RelaysParsedPrefix parsed (W.contents writer.old) (W.contents writer.new)) }
 {
-    let job = told_job(alloc, reader, Command::Relay)?;
+    let job = parsed_job(alloc, reader, Command::Relay)?;
     relay_senders(rt, alloc, job, writer, gate)
 }
 
@@ -166,14 +166,14 @@ fn relay_senders<T: Threads + Wait + Sync, W: Write, G: Gate + Sync>(
     let mut receivers = Receivers::with_capacity(alloc, senders.len())?;
     for sender in senders {
         let sealer: Box<dyn Sealer + Send> = Box::new(alloc, sealer_of(alloc, &sender)?)?;
-        push_told(alloc, &mut sendings, &mut receivers.items, sender, sealer)?;
+        push_parsed(alloc, &mut sendings, &mut receivers.items, sender, sealer)?;
     }
     let receivings = receivers.into_vec(alloc);
     relay_job(rt, alloc, sendings, receivings, capacity, writer, gate)
 }
 
 /// Adds a sender's lane to those of the senders before it.
-fn push_told<S: Sealer>(
+fn push_parsed<S: Sealer>(
     alloc: Global,
     sendings: &mut Vec<Sending<S>>,
     receivings: &mut Vec<Receiving>,
@@ -187,7 +187,7 @@ fn push_told<S: Sealer>(
     ensures lane { OnOk result
         (map Some (lanes_of S.state sendings.new.items receivings.new.items)
         ≡ map Some (lanes_of S.state sendings.old.items receivings.old.items)
-        ++ lane_told (sender_view sender) ∷ []) }
+        ++ lane_stated (sender_view sender) ∷ []) }
     ensures ready { OnOk result
         (AreReady S.state sendings.new.items receivings.new.items) }
     ensures count { OnOk result
@@ -198,9 +198,9 @@ fn push_told<S: Sealer>(
 }
 
 /// The job that the whole input states for a command.
-fn told_job<R: Read>(alloc: Global, reader: &mut R, command: Command) -> Result<Job, Fault>
-    ensures told { (told : Told) → IsTold command (R.remaining reader.old) told
-        → IfOk result (λ job. told ≡ Ok (job_view job)) }
+fn parsed_job<R: Read>(alloc: Global, reader: &mut R, command: Command) -> Result<Job, Fault>
+    ensures parsed { (parsed : Parsed) → IsParsed command (R.remaining reader.old) parsed
+        → IfOk result (λ job. parsed ≡ Ok (job_view job)) }
     ensures one { most_senders command ≡ 1
         → IfOk result (λ job. length job.senders.items ≡ 1) }
     ensures seeds { seals command ≡ true
@@ -216,8 +216,8 @@ fn told_job<R: Read>(alloc: Global, reader: &mut R, command: Command) -> Result<
 /// The one sender of a job for such a command.
 fn one_sender<R: Read>(alloc: Global, reader: &mut R, command: Command) -> Result<SenderJob, Fault>
     requires { most_senders command ≡ 1 }
-    ensures told { (told : Told) → IsTold command (R.remaining reader.old) told
-        → IfOk result (λ sender. TellsOne told (sender_view sender)) }
+    ensures parsed { (parsed : Parsed) → IsParsed command (R.remaining reader.old) parsed
+        → IfOk result (λ sender. HasOneSender parsed (sender_view sender)) }
     ensures seed { seals command ≡ true → IfOk result (λ sender. IsSome sender.seed) }
 
     ensures reading { ReadsInput command (R.remaining reader.old) FailsCheck result }
@@ -226,6 +226,6 @@ fn one_sender<R: Read>(alloc: Global, reader: &mut R, command: Command) -> Resul
     let Job {
         capacity: _,
         mut senders,
-    } = told_job(alloc, reader, command)?;
+    } = parsed_job(alloc, reader, command)?;
     Ok(senders.pop().unwrap())
 }

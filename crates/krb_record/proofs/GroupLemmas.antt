@@ -78,14 +78,14 @@ takes_more b group text is =
     let n = length-append group (text ∷ []) in
     record { some = omega (arith, n); fits = inl (omega (arith, n, lt), leb-true (texts_size (group ++ text ∷ [])) batch_size_limit both.1) }
 
-takes_none : (b : ℕ) (group : List (List ℕ)) (text : List ℕ) (behind : List (List ℕ)) → takes b group text ≡ false → Fits b (group ++ text ∷ behind) (length group + 1) → ⊥
-takes_none b group text behind is f =
+takes_none : (b : ℕ) (group : List (List ℕ)) (text : List ℕ) (following : List (List ℕ)) → takes b group text ≡ false → Fits b (group ++ text ∷ following) (length group + 1) → ⊥
+takes_none b group text following is f =
     let few = f.few in
     let small = f.small in
     let n = length-append group (text ∷ []) in
-    let front : take (length group + 1) (group ++ text ∷ behind) ≡ group ++ text ∷ [] =
-    ap (λ l. take (length group + 1) l) (sym (append_assoc group (text ∷ []) behind)) ∙ take_at (group ++ text ∷ []) behind (length group + 1) n in
-    let size : texts_size (take (length group + 1) (group ++ text ∷ behind)) ≡ texts_size (group ++ text ∷ []) = ap texts_size front in
+    let front : take (length group + 1) (group ++ text ∷ following) ≡ group ++ text ∷ [] =
+    ap (λ l. take (length group + 1) l) (sym (append_assoc group (text ∷ []) following)) ∙ take_at (group ++ text ∷ []) following (length group + 1) n in
+    let size : texts_size (take (length group + 1) (group ++ text ∷ following)) ≡ texts_size (group ++ text ∷ []) = ap texts_size front in
     let lt = lt-ltb (length group) b (omega (arith, few)) in
     let le = le-leb (texts_size (group ++ text ∷ [])) batch_size_limit (omega (arith, size, small)) in
     let yes : takes b group text ≡ true = rw (lt, le) refl in
@@ -93,45 +93,45 @@ takes_none b group text behind is f =
     absurd cc
 
 -- what was begun is the first group, where no more fits
-first_begun : (b : ℕ) (group behind : List (List ℕ)) → IsBegun b group → (Fits b (group ++ behind) (length group + 1) → ⊥) → IsFirstGroup b (group ++ behind) (length group)
-first_begun b group behind begun stop =
+first_begun : (b : ℕ) (group following : List (List ℕ)) → IsBegun b group → (Fits b (group ++ following) (length group + 1) → ⊥) → IsFirstGroup b (group ++ following) (length group)
+first_begun b group following begun stop =
     by_fits (cases_lt b (length group)) (cases_lt batch_size_limit (texts_size group))
   where
-    n : length (group ++ behind) ≡ length group + length behind
-    n = length-append group behind
+    n : length (group ++ following) ≡ length group + length following
+    n = length-append group following
 
-    size : texts_size (take (length group) (group ++ behind)) ≡ texts_size group
-    size = ap texts_size (take_at group behind (length group) refl)
+    size : texts_size (take (length group) (group ++ following)) ≡ texts_size group
+    size = ap texts_size (take_at group following (length group) refl)
 
-    whole : length group ≤ b → texts_size group ≤ batch_size_limit → IsFirstGroup b (group ++ behind) (length group)
+    whole : length group ≤ b → texts_size group ≤ batch_size_limit → IsFirstGroup b (group ++ following) (length group)
     whole few small =
         let some = begun.some in
-        (length group, longest_here b (group ++ behind) (length group) (record { there = omega (arith, n); few = few; small = omega (arith, size, small) }) stop, omega (arith, some))
+        (length group, longest_here b (group ++ following) (length group) (record { there = omega (arith, n); few = few; small = omega (arith, size, small) }) stop, omega (arith, some))
 
     -- one text, which doesn't fit
-    alone : length group ≡ 1 → (Fits b (group ++ behind) 1 → ⊥) → IsFirstGroup b (group ++ behind) (length group)
+    alone : length group ≡ 1 → (Fits b (group ++ following) 1 → ⊥) → IsFirstGroup b (group ++ following) (length group)
     alone one none =
-        (0, longest_here b (group ++ behind) 0 (record { there = omega arith; few = omega arith; small = omega arith }) none, omega (arith, one))
+        (0, longest_here b (group ++ following) 0 (record { there = omega arith; few = omega arith; small = omega arith }) none, omega (arith, one))
 
-    too_many : b < length group → IsFirstGroup b (group ++ behind) (length group)
+    too_many : b < length group → IsFirstGroup b (group ++ following) (length group)
     too_many lt =
         elim begun.fits [
           | inl f ↦ let few = f.0 in absurd (omega (arith, lt, few))
           | inr one ↦ alone one (λ f. let few = f.few in omega (arith, few, lt, one))
         ]
 
-    too_large : batch_size_limit < texts_size group → IsFirstGroup b (group ++ behind) (length group)
+    too_large : batch_size_limit < texts_size group → IsFirstGroup b (group ++ following) (length group)
     too_large lt =
         elim begun.fits [
           | inl f ↦ let small = f.1 in absurd (omega (arith, lt, small))
           | inr one ↦
               alone one (λ f.
               let small = f.small in
-              let same : texts_size (take (length group) (group ++ behind)) ≡ texts_size (take 1 (group ++ behind)) = ap (λ k. texts_size (take k (group ++ behind))) one in
+              let same : texts_size (take (length group) (group ++ following)) ≡ texts_size (take 1 (group ++ following)) = ap (λ k. texts_size (take k (group ++ following))) one in
               omega (arith, small, lt, same, size))
         ]
 
-    by_fits : (b < length group) ⊎ (length group ≤ b) → (batch_size_limit < texts_size group) ⊎ (texts_size group ≤ batch_size_limit) → IsFirstGroup b (group ++ behind) (length group)
+    by_fits : (b < length group) ⊎ (length group ≤ b) → (batch_size_limit < texts_size group) ⊎ (texts_size group ≤ batch_size_limit) → IsFirstGroup b (group ++ following) (length group)
     by_fits (inl lt) s = too_many lt
     by_fits (inr le) (inl lt) = too_large lt
     by_fits (inr le) (inr small) = whole le small
@@ -209,7 +209,7 @@ pub single : (texts : List (List ℕ)) → groups 1 texts ≡ map (λ text. text
 single [] = refl
 single (t ∷ ts) = single_from t ts
   where
-    single_from : (text : List ℕ) (behind : List (List ℕ)) → groups_from 1 (text ∷ []) behind ≡ (text ∷ []) ∷ map (λ x. x ∷ []) behind
+    single_from : (text : List ℕ) (following : List (List ℕ)) → groups_from 1 (text ∷ []) following ≡ (text ∷ []) ∷ map (λ x. x ∷ []) following
     single_from text [] = refl
     single_from text (x ∷ xs) = ap (λ parts. (text ∷ []) ∷ parts) (single_from x xs)
 
@@ -225,22 +225,22 @@ next_groups b n texts some first =
     one_grouping b texts (groups b texts) (take n texts ∷ groups b (drop n texts)) (groups_are b texts)
     (drop n texts, sym (take-append-drop n texts), subst (λ k. IsFirstGroup b texts k) len first, groups_are b (drop n texts))
 
--- behind the first k groups stand the groups of the texts behind them
-behind_parts : (b k : ℕ) (texts : List (List ℕ)) (parts : List (List (List ℕ))) → AreGroups b texts parts
+-- after the first k groups stand the groups of the texts after them
+after_parts : (b k : ℕ) (texts : List (List ℕ)) (parts : List (List (List ℕ))) → AreGroups b texts parts
     → AreGroups b (drop (length (flat_map (λ group. group) (take k parts))) texts) (drop k parts)
-behind_parts b zero texts parts are = are
-behind_parts b (suc k) texts [] are = are_none are
+after_parts b zero texts parts are = are
+after_parts b (suc k) texts [] are = are_none are
   where
     are_none : texts ≡ [] → drop 0 texts ≡ []
     are_none e = e
-behind_parts b (suc k) texts (g ∷ gs) are =
+after_parts b (suc k) texts (g ∷ gs) are =
     let passed : List (List ℕ) = flat_map (λ group. group) (take k gs) in
     let n : length (g ++ passed) ≡ length g + length passed = length-append g passed in
-    let behind : drop (length (g ++ passed)) texts ≡ drop (length passed) are.0 =
+    let following : drop (length (g ++ passed)) texts ≡ drop (length passed) are.0 =
     ap₂ (λ m l. drop m l) n are.1 ∙ (sym (drop-drop (length passed) (length g) (g ++ are.0)) ∙ ap (λ l. drop (length passed) l) (drop_at g are.0 (length g) refl)) in
-    subst (λ l. AreGroups b l (drop k gs)) (sym behind) (behind_parts b k are.0 gs are.3)
+    subst (λ l. AreGroups b l (drop k gs)) (sym following) (after_parts b k are.0 gs are.3)
 
-pub groups_behind : (b k : ℕ) (texts : List (List ℕ)) → groups b (drop (length (flat_map (λ group. group) (take k (groups b texts)))) texts) ≡ drop k (groups b texts)
-groups_behind b k texts =
+pub groups_after : (b k : ℕ) (texts : List (List ℕ)) → groups b (drop (length (flat_map (λ group. group) (take k (groups b texts)))) texts) ≡ drop k (groups b texts)
+groups_after b k texts =
     let rest = drop (length (flat_map (λ group. group) (take k (groups b texts)))) texts in
-    one_grouping b rest (groups b rest) (drop k (groups b texts)) (groups_are b rest) (behind_parts b k texts (groups b texts) (groups_are b texts))
+    one_grouping b rest (groups b rest) (drop k (groups b texts)) (groups_are b rest) (after_parts b k texts (groups b texts) (groups_are b texts))

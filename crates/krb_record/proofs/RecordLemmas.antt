@@ -76,7 +76,7 @@ module _ (bytes : List ℕ) (other : IsOther bytes) where
       → (answer ≡ Err BadRecord) ↔ ((texts : List (List ℕ)) → SpellsBatch texts bytes → ⊥) → IsBadExactly answer bytes
   batch_bad answer bad = (λ is. none_but (bad.0 is), λ none. bad.1 (λ texts spells. none (Batch texts) spells))
 
--- bytes of another tag, a text that is too long, and a close with more behind it are other bytes
+-- bytes of another tag, a text that is too long, and a close with more after it are other bytes
 pub other_by : (tag : ℕ) (rest : List ℕ) → (tag ≡ 0x44 → length rest ≤ text_limit → ⊥) → (tag ≡ 0x43 → rest ≡ [] → ⊥) → IsOther (tag ∷ rest)
 other_by tag rest no_text no_close = record {
   no_text = λ text short e. (

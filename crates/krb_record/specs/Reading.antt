@@ -12,9 +12,9 @@ abbrev pub texts_in : ℕ → List ℕ → List (List ℕ)
 texts_in zero bytes = []
 texts_in (suc n) [] = []
 texts_in (suc n) (b ∷ rest) =
-    let behind = drop 4 (b ∷ rest) in
+    let following = drop 4 (b ∷ rest) in
     let len = from_be_bytes w32 (take 4 (b ∷ rest)) in
-    take len behind ∷ texts_in n (drop len behind)
+    take len following ∷ texts_in n (drop len following)
 
 -- these texts can be one batch
 abbrev pub can_be_batch : List (List ℕ) → Bool

@@ -165,7 +165,7 @@ pub(crate) fn is_batch_body(body: &[u8]) -> bool
 }
 
 /// What follows the first byte, if that is a batch's.
-fn behind_tag(bytes: &[u8]) -> Option<&[u8]>
+fn after_tag(bytes: &[u8]) -> Option<&[u8]>
     ensures some { IfSome result (λ rest. bytes.now ≡ 0x42 ∷ rest.now) }
     ensures none { IfNone result ((rest : List ℕ) → ¬ (bytes.now ≡ 0x42 ∷ rest)) }
 {
@@ -182,7 +182,7 @@ fn batch_in(bytes: &[u8]) -> Option<(usize, &[u8])>
     ensures short { IfSome result (λ found. length found.1.now ≤ batch_size_limit) }
     ensures none { IfNone result ((texts : List (List ℕ)) → ¬ SpellsBatch texts bytes.now) }
 {
-    let rest = behind_tag(bytes)?;
+    let rest = after_tag(bytes)?;
     let count = texts_in_batch(rest)?;
     Some((count, rest))
 }

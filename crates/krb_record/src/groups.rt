@@ -31,7 +31,7 @@ pub fn group_end(texts: &[Bytes], batch: usize) -> usize
 /// Texts have groups (`some`), and no others (`only`). The groups joined are the texts (`joined`),
 /// and each has at least one text and at most `b` (`sizes`), so if `b` is 1 each text is a group of
 /// its own (`single`). A group of two or more texts is a batch (`batch`). After the first group
-/// come the groups of the texts after it (`next`), and likewise after the first k (`behind`).
+/// come the groups of the texts after it (`next`), and likewise after the first k (`following`).
 pub fn group_laws()
     ensures some { (b : ℕ) (texts : List (List ℕ)) → AreGroups b texts (groups b texts) }
     ensures only { (b : ℕ) (texts : List (List ℕ)) (parts : List (List (List ℕ)))
@@ -45,7 +45,7 @@ pub fn group_laws()
         → All (λ group. 2 ≤ length group → IsBatch group) (groups b texts) }
     ensures next { (b n : ℕ) (texts : List (List ℕ)) → texts ≢ [] → IsFirstGroup b texts n
         → groups b texts ≡ take n texts ∷ groups b (drop n texts) }
-    ensures behind { (b k : ℕ) (texts : List (List ℕ))
+    ensures following { (b k : ℕ) (texts : List (List ℕ))
         → let passed = length (flat_map (λ group. group) (take k (groups b texts))) in
         groups b (drop passed texts) ≡ drop k (groups b texts) }
 {}

@@ -8,7 +8,7 @@ use Rattle.krb_peers.specs.declared.start.StartError.{StartError}
 use Rattle.krb_peers.specs.declared.start.StartError.TheVariants as start
 use Rattle.krb_record.specs.declared.record.Record.{Record}
 use Rattle.krb_peers.specs.Sender.{Source, records, AreFrames}
-use Rattle.krb_peers.specs.Sending.{behind, HasSealed, HasSealedSome, StandsAfterSome}
+use Rattle.krb_peers.specs.Sending.{source_after, HasSealed, HasSealedSome, StandsAfterSome}
 use Rattle.krb_peers.specs.StartError.{IsReason}
 use Rattle.krb_relay.specs.Cause.{cause_of_start}
 use Rattle.krb_relay.specs.declared.cause.Cause.{Cause}
@@ -89,13 +89,13 @@ sends_cut source count sent (Some cause) told is h =
 -- ---- how many records were sealed
 
 -- the sealer's number has moved by as many
-pub since_behind : (source now after : Source) (k : ℕ) → now ≡ behind k source → after.sealer.next ≡ now.sealer.next → sealed_since source after ≡ k
-since_behind source now after k is same =
+pub since_after : (source now after : Source) (k : ℕ) → now ≡ source_after k source → after.sealer.next ≡ now.sealer.next → sealed_since source after ≡ k
+since_after source now after k is same =
     let moved : now.sealer.next ≡ source.sealer.next + k = ap (λ s. s.sealer.next) is in
     omega (arith, moved, same)
 
-pub later_behind : (source now after : Source) (k : ℕ) → now ≡ behind k source → after.sealer.next ≡ now.sealer.next → source.sealer.next ≤ after.sealer.next
-later_behind source now after k is same =
+pub later_after : (source now after : Source) (k : ℕ) → now ≡ source_after k source → after.sealer.next ≡ now.sealer.next → source.sealer.next ≤ after.sealer.next
+later_after source now after k is same =
     let moved : now.sealer.next ≡ source.sealer.next + k = ap (λ s. s.sealer.next) is in
     omega (arith, moved, same)
 
@@ -103,7 +103,7 @@ later_behind source now after k is same =
 pub some_stands : (source after : Source) → StandsAfterSome source after.sealer → HasSealedSome source (sealed_since source after)
 some_stands source after s =
     let P : ℕ → Type 0 = λ n. HasSealedSome source n in
-    subst P (sym (since_behind source (behind s.count source) after s.count refl (ap (λ z. z.next) s.is))) s.some
+    subst P (sym (since_after source (source_after s.count source) after s.count refl (ap (λ z. z.next) s.is))) s.some
 
 -- ---- in turn, without a plan
 
@@ -115,7 +115,7 @@ pub front_unplanned : (source now after : Source) (k : ℕ) (frames sent : List 
     → HasSealed source k frames now → k ≤ length (records source) → after.sealer.next ≡ now.sealer.next → IsFront source (sealed_since source after) sent
 front_unplanned source now after k frames sent unplanned p h few same =
     let count = sealed_since source after in
-    let is : count ≡ k = since_behind source now after k h.state same in
+    let is : count ≡ k = since_after source now after k h.state same in
     let P : List Record → Type 0 = λ carried. AreFrames source carried frames in
     let whole : wire frames source.plan ≡ frames = ap (λ plan. wire frames plan) unplanned in
     record {

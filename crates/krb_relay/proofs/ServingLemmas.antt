@@ -146,7 +146,7 @@ record Kept (lane round : ℕ) (front : List Post) (q : Post) (back : List Post)
   lanes : log-now.lanes ≡ log.lanes
 
 module _ (lane round : ℕ) (front : List Post) (p : Post) (back : List Post) (log : LogState) (number : lane ≡ length front) (level : IsLevel round p)
-    (before : All (IsShort (suc round)) front) (behind : All (IsShort round) back) (t : IsTied log lane p) (logged : log.entries ≡ rounds_heard (map heard_at (front ++ p ∷ back))) where
+    (before : All (IsShort (suc round)) front) (following : All (IsShort round) back) (t : IsTied log lane p) (logged : log.entries ≡ rounds_heard (map heard_at (front ++ p ∷ back))) where
   kept_judged : (q : Post) (log-now : LogState) → Judges lane p log q log-now → Kept lane round front q back log log-now
   kept_judged q log-now w =
       let v = verdict_next p w.frame in
@@ -155,7 +155,7 @@ module _ (lane round : ℕ) (front : List Post) (p : Post) (back : List Post) (l
       let most : length p.rx.frames ≤ round = level.most in
       let len : length gs ≡ round = length-groups (heard_at p) ∙ omega (arith, least, most) in
       let in-front : NoneLonger (suc (length gs)) (map groups_at front) = rw len (none_longer (suc round) front before) in
-      let in-back : NoneLonger (length gs) (map groups_at back) = rw len (none_longer round back behind) in
+      let in-back : NoneLonger (length gs) (map groups_at back) = rw len (none_longer round back following) in
       let n : length (map groups_at front) ≡ lane = length-map front groups_at ∙ sym number in
       let was : log.entries ≡ rounds (map groups_at front ++ gs ∷ map groups_at back) = logged ∙ rounds_at front p back in
       let now : rounds (map groups_at front ++ (gs ++ events_by v ∷ []) ∷ map groups_at back) ≡ rounds (map groups_at front ++ gs ∷ map groups_at back) ++ entries_for lane (events_by v) =
@@ -233,8 +233,8 @@ turn_step lane ps p q log log-now lt at turn in_round =
     let set_is : set ps lane q ≡ F ++ q ∷ B = set_split ps lane q lt ∙ ap (λ n. F ++ q ∷ drop n ps) (sym one) in
     let tied : IsTied log lane p = let P : Post → Type 0 = λ x. IsTied log lane x in subst P (sym at) (in_round.tied lane p lt) in
     let before : All (IsShort (suc round)) F = All-weaker (IsLevel (suc round)) (IsShort (suc round)) (λ x l. l.most) F in_round.served in
-    let behind : All (IsShort round) B = All-weaker (IsLevel round) (IsShort round) (λ x l. l.most) B (All-tail (IsLevel round) p B waiting) in
-    let k = kept lane round F p B log (sym len) (All-head (IsLevel round) p B waiting) before behind tied (in_round.logged ∙ ap (λ x. rounds_heard (map heard_at x)) split) q log-now turn in
+    let following : All (IsShort round) B = All-weaker (IsLevel round) (IsShort round) (λ x l. l.most) B (All-tail (IsLevel round) p B waiting) in
+    let k = kept lane round F p B log (sym len) (All-head (IsLevel round) p B waiting) before following tied (in_round.logged ∙ ap (λ x. rounds_heard (map heard_at x)) split) q log-now turn in
     record {
       round = round;
       served = rw (take_more_set ps lane q lt) (All-append (IsLevel (suc round)) F (q ∷ []) in_round.served (All-cons (IsLevel (suc round)) q [] k.level (All-nil (IsLevel (suc round)))));

@@ -10,7 +10,7 @@ use Rattle.krb_peers.specs.Log.{has_ended}
 use Rattle.krb_peers.specs.Log.{ended_at}
 use Rattle.krb_peers.specs.LogState.{LogState}
 use Rattle.krb_peers.specs.Logged.{HasLogged, LogsNext, noted}
-use Rattle.krb_peers.specs.Receiver.{verdict_by, receiver_behind}
+use Rattle.krb_peers.specs.Receiver.{verdict_by, receiver_after}
 use Rattle.krb_peers.specs.Moments.{moment_at}
 use Rattle.krb_peers.specs.Verdicts.{Verdict}
 use Rattle.krb_relay.specs.Gathering.{NotesTaken}
@@ -103,7 +103,7 @@ pub record Judges (lane : ℕ) (p : Post) (log : LogState) (q : Post)
   pub start_is : q.start ≡ p.start
   pub rx_is : q.rx ≡ passed p.rx frame
   pub receiver_is : q.receiving.receiver
-      ≡ receiver_behind p.receiving.receiver (verdict_next p frame)
+      ≡ receiver_after p.receiving.receiver (verdict_next p frame)
   pub nows_is : q.receiving.nows ≡ p.receiving.nows
   pub log_is : log-now ≡ noted log lane (verdict_next p frame)
   pub logs : LogsNext p.receiving.receiver log lane

@@ -1,4 +1,4 @@
--- A cipher is that of one text, with one code behind it.
+-- A cipher is that of one text, with one code after it.
 use Rattle.std.proofs.Common.{◌≡◌, ℕ, ◌+◌, List, ◌++◌, length, sym, ap, ◌∙◌, arith, length-append}
 use Rattle.krb_aes.specs.Keys.{expanded_key}
 use Rattle.krb_aes.specs.Stealing.{cts}

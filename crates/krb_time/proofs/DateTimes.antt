@@ -117,7 +117,7 @@ no_value : {A E : Type 0} (r : Result A E) → result_ok r ≡ None → IsOk r �
 no_value (Ok x) e h = absurd cc
 no_value (Err x) e h = absurd cc
 
--- what is known of a value behind Ok
+-- what is known of a value after Ok
 pub ok_value : {A E : Type 0} (P : A → Type 0) (r : Result A E) (x : A) → Some x ≡ result_ok r → IfOk r P → P x
 ok_value P (Ok y) x e h = subst P (sym (some_is x y e)) h
 ok_value P (Err y) x e h = absurd cc

@@ -11,20 +11,20 @@ use Rattle.krb_tlv.specs.Length.{big_endian}
 use Rattle.krb_tlv.specs.Integer.{complement, width}
 
 -- What a function returned, seen by view, is what reading gives, unless memory ran out.
-abbrev pub Fails : {Y : Type 0} → DerError → Option Y → Type 0
-Fails errors.TooLong read = ⊥
-Fails errors.Malformed read = read ≡ None
-Fails errors.Memory read = Unit {0}
+abbrev pub FailsToRead : {Y : Type 0} → DerError → Option Y → Type 0
+FailsToRead errors.TooLong read = ⊥
+FailsToRead errors.Malformed read = read ≡ None
+FailsToRead errors.Memory read = Unit {0}
 
 abbrev pub Gives : {X Y : Type 0} → (X → Y) → Result X DerError → Option Y → Type 0
 Gives view (Ok x) read = read ≡ Some (view x)
-Gives view (Err e) read = Fails e read
+Gives view (Err e) read = FailsToRead e read
 
 -- the same, with the rest of the bytes left in a reader
 abbrev pub Takes : {X Y : Type 0} → (X → Y) → Result X DerError → List ℕ → Option (Y × List ℕ)
     → Type 0
 Takes view (Ok x) rest read = read ≡ Some (view x, rest)
-Takes view (Err e) rest read = Fails e read
+Takes view (Err e) rest read = FailsToRead e read
 
 -- nothing is left
 abbrev pub ended : {A : Type 0} → A → List ℕ → Option A

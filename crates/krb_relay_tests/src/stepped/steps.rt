@@ -75,7 +75,7 @@ fn turn_by_turn(rt: HostRuntime) -> Result<(), Fail> {
     }
     assert!(rt; is_whole(relay.log()));
     let sent = relay.sent(0);
-    assert_same(&rt, (sent.k, sent.n), (1, 1));
+    assert_same(&rt, (sent.sealed, sent.texts), (1, 1));
     Ok(())
 }
 
@@ -85,7 +85,7 @@ fn turns_in_a_row(rt: HostRuntime) -> Result<(), Fail> {
     relay.run(&[SEND, SEND, TAKE, TAKE, SEND, TAKE, SEND, TAKE])?;
     assert!(rt; is_whole(relay.log()) && relay.done());
     let sent = relay.sent(0);
-    assert_same(&rt, (sent.k, sent.n), (1, 1));
+    assert_same(&rt, (sent.sealed, sent.texts), (1, 1));
     Ok(())
 }
 

@@ -1,7 +1,7 @@
-use Rattle.krb_program.proofs.ToldLemmas.{opened_told}
+use Rattle.krb_program.proofs.ParsedLemmas.{opened_parsed}
 use Rattle.krb_program.proofs.jobs.open.Goals as goal
 
 pub returns-clause-prefix : goal.returns-clause-prefix
-returns-clause-prefix g c = λ told is.
-    opened_told told c.in_ok-sender.sender c.as_slice.result.now c.open_job.result _ _ (c.in_ok-sender.ensures.told told is) c.as_slice.ensures.value
+returns-clause-prefix g c = λ parsed is.
+    opened_parsed parsed c.in_ok-sender.sender c.as_slice.result.now c.open_job.result _ _ (c.in_ok-sender.ensures.parsed parsed is) c.as_slice.ensures.value
     (rw (c.in_ok-receiving.ensures.receiver, c.in_ok-receiving.ensures.nows) at c.open_job.ensures.prefix)

@@ -1,10 +1,10 @@
 use Rattle.krb_program.proofs.running.command_over.Goals as goal
 
 pub returns-in-Seal-clause-bad_input : goal.returns-in-Seal-clause-bad_input
-returns-in-Seal-clause-bad_input g c = rw c.in-Seal.is (λ bad named told is. c.seal.ensures.reading.bad_input told is bad named)
+returns-in-Seal-clause-bad_input g c = rw c.in-Seal.is (λ bad named parsed is. c.seal.ensures.reading.bad_input parsed is bad named)
 
 pub returns-in-Relay-clause-bad_input : goal.returns-in-Relay-clause-bad_input
-returns-in-Relay-clause-bad_input g c = rw c.in-Relay.is (λ bad named told is. c.relay.ensures.reading.bad_input told is bad named)
+returns-in-Relay-clause-bad_input g c = rw c.in-Relay.is (λ bad named parsed is. c.relay.ensures.reading.bad_input parsed is bad named)
 
 pub returns-in-Relay-clause-stopped : goal.returns-in-Relay-clause-stopped
-returns-in-Relay-clause-stopped g c = rw c.in-Relay.is (λ lines named told is. c.relay.ensures.stopped told is lines named)
+returns-in-Relay-clause-stopped g c = rw c.in-Relay.is (λ lines named parsed is. c.relay.ensures.stopped parsed is lines named)

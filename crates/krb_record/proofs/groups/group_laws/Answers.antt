@@ -1,5 +1,5 @@
 use Rattle.krb_record.specs.Groups.{groups}
-use Rattle.krb_record.proofs.GroupLemmas.{groups_are, one_grouping, joined, sizes, single, batches, next_groups, groups_behind}
+use Rattle.krb_record.proofs.GroupLemmas.{groups_are, one_grouping, joined, sizes, single, batches, next_groups, groups_after}
 use Rattle.krb_record.proofs.groups.group_laws.Goals as goal
 
 pub returns-clause-some : goal.returns-clause-some
@@ -23,5 +23,5 @@ returns-clause-batch c b texts le = batches b texts (groups b texts) le (groups_
 pub returns-clause-next : goal.returns-clause-next
 returns-clause-next c = next_groups
 
-pub returns-clause-behind : goal.returns-clause-behind
-returns-clause-behind c = groups_behind
+pub returns-clause-following : goal.returns-clause-following
+returns-clause-following c = groups_after

@@ -4,7 +4,7 @@ use Rattle.std.proofs.lemmas.Result.{err_from_is_err_and}
 use Rattle.krb_peers.specs.Sender.{records, texts_before}
 use Rattle.krb_peers.specs.Sending.{source_of}
 use Rattle.krb_relay.specs.Sent.{sealed_since}
-use Rattle.krb_relay.proofs.SentLemmas.{front_unplanned, cut_lost, cut_sealing, later_behind}
+use Rattle.krb_relay.proofs.SentLemmas.{front_unplanned, cut_lost, cut_sealing, later_after}
 use Rattle.krb_peers.proofs.ListLemmas.{AllBytes-push}
 use Rattle.krb_relay.proofs.worker.seal_and_send.Goals as goal
 
@@ -51,4 +51,4 @@ pub returns-then-is_err-clause-later : goal.returns-then-is_err-clause-later
 returns-then-is_err-clause-later g c =
     let source = source_of g.S.Sealer.state c.args.sending.now in
     let now = source_of g.S.Sealer.state c.seal_one.new.sending in
-    later_behind source now now (c.loop-k.k + 1) (c.in_ok-frame.ensures.frames _ _ c.loop-k.invariant.sealed).state refl
+    later_after source now now (c.loop-k.k + 1) (c.in_ok-frame.ensures.frames _ _ c.loop-k.invariant.sealed).state refl

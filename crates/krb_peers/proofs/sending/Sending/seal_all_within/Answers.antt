@@ -34,7 +34,7 @@ pub returns : goal.returns
 returns g c = record {
   frames = grind (arith, common_steps);
   bytes = search rules;
-  behind = grind (arith, common_steps);
+  source_after = grind (arith, common_steps);
   stopped = search rules;
   wiped = λ wiped.
       let none = c.loop-k.invariant.none_if_wiped wiped in
@@ -55,7 +55,7 @@ returns-in_err-frame g c =
     record {
       frames = search rules;
       bytes = search rules;
-      behind = search rules;
+      source_after = search rules;
       stopped = rw p.1 (stands_after source now c.loop-k.k _ _ c.loop-k.invariant.sealed (omega (arith, c.records-count.ensures)) c.in_err-frame.ensures.unchanged);
       wiped = search rules;
       errors = search rules;
@@ -73,7 +73,7 @@ returns-in_err-map_err g c =
     record {
       frames = search rules;
       bytes = search rules;
-      behind = search rules;
+      source_after = search rules;
       stopped = rw p.1 (stands_after source now (c.loop-k.k + 1) _ _ (c.in_ok-frame.ensures.frames _ _ c.loop-k.invariant.sealed) (omega (arith, c.records-count.ensures)) refl);
       wiped = search rules;
       errors = search rules;
@@ -91,7 +91,7 @@ returns-in_err-frames g c =
     record {
       frames = search rules;
       bytes = search rules;
-      behind = search rules;
+      source_after = search rules;
       stopped = rw p.1 (stands_after source source 0 [] _ none (omega arith) refl);
       wiped = search rules;
       errors = search rules;

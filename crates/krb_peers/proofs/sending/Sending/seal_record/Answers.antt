@@ -14,14 +14,14 @@ use Rattle.krb_peers.proofs.sending.Sending.seal_record.Goals as goal
 use Rattle.krb_peers.proofs.sending.Sending.seal_record.Goals.{then-is_ok, else-is_ok}
 use Rattle.krb_peers.proofs.sending.Sending.seal_record.Given as given
 
-pub group_behind-group-requires : goal.group_behind-group-requires
-group_behind-group-requires g c =
+pub group_after-group-requires : goal.group_after-group-requires
+group_after-group-requires g c =
     passed_within (source_of g.S.Sealer.state c.args.self.now) c.args.k c.args.passed.now c.requires.passed
 
 pub record_at-requires : goal.record_at-requires
 record_at-requires g c = λ some.
     let old = source_of g.S.Sealer.state c.args.self.now in
-    let group : c.group_behind-group.result.now ≡ get_or (text_groups old) c.args.k [] = c.group_behind-group.ensures ∙ group_is old c.args.k c.args.passed.now c.requires.passed in
+    let group : c.group_after-group.result.now ≡ get_or (text_groups old) c.args.k [] = c.group_after-group.ensures ∙ group_is old c.args.k c.args.passed.now c.requires.passed in
     rw group (fits_there old c.args.k c.requires.sender.limits (rw group at some))
 
 -- what is sealed are the bytes of the record, at its moment
@@ -29,8 +29,8 @@ same_user : (g : given.Over) (c : goal.After-drop-bytes g) (r : Record) → slic
     → c.deref.result.now ≡ bytes_of r
 same_user g c r at-r =
     let old = source_of g.S.Sealer.state c.args.self.now in
-    let group : c.group_behind-group.result.now ≡ get_or (text_groups old) c.args.k [] = c.group_behind-group.ensures ∙ group_is old c.args.k c.args.passed.now c.requires.passed in
-    let which : record_at old.sealer.next c.group_behind-group.result.now ≡ r =
+    let group : c.group_after-group.result.now ≡ get_or (text_groups old) c.args.k [] = c.group_after-group.ensures ∙ group_is old c.args.k c.args.passed.now c.requires.passed in
+    let which : record_at old.sealer.next c.group_after-group.result.now ≡ r =
     ap (λ z. record_at old.sealer.next z) group ∙ sym (record_is old c.args.k r c.requires.begun c.requires.sender.next at-r) in
     c.deref.ensures.value ∙ (c.in_ok-bytes.ensures.bytes ∙ ap bytes_of which)
 
@@ -56,8 +56,8 @@ returns-clause-passed g c =
     let old = source_of g.S.Sealer.state c.args.self.now in
     elim c.if-is_ok.branch [
       | then-is_ok w ↦
-          let more : c.args.passed.now + length c.group_behind-group.result.now ≡ texts_before (c.args.k + 1) old =
-          ap (λ n. c.args.passed.now + n) (ap length c.group_behind-group.ensures) ∙ passed_more old c.args.k c.args.passed.now c.requires.passed in
+          let more : c.args.passed.now + length c.group_after-group.result.now ≡ texts_before (c.args.k + 1) old =
+          ap (λ n. c.args.passed.now + n) (ap length c.group_after-group.ensures) ∙ passed_more old c.args.k c.args.passed.now c.requires.passed in
           on_ok c.seal-sealed.result _ (w.passed-is ∙ more)
       | else-is_ok w ↦ search rules
     ]

@@ -10,26 +10,26 @@ use Rattle.krb_job.specs.declared.bad_input.BadInput.TheVariants as bad
 use Rattle.krb_job.specs.Job.{Job, job_of}
 use Rattle.krb_job.specs.SenderKeys.{Sender}
 
-abbrev pub Told : Type 0
-Told = Result Job BadInput
+abbrev pub Parsed : Type 0
+Parsed = Result Job BadInput
 
 -- by whether the bytes are UTF-8, and the document that they spell
-abbrev pub told_at : Command → Bool → Option Members → Told
-told_at command true (Some ms) = job_of command ms
-told_at command true None = Err bad.Toml
-told_at command false document = Err bad.Toml
+abbrev pub parsed_at : Command → Bool → Option Members → Parsed
+parsed_at command true (Some ms) = job_of command ms
+parsed_at command true None = Err bad.Toml
+parsed_at command false document = Err bad.Toml
 
 -- what the bytes of an input tell a command
-unfoldable pub told_of : Command → List ℕ → Told
-told_of command bytes = told_at command (is_utf8 bytes) (parse_document bytes)
+unfoldable pub parsed_of : Command → List ℕ → Parsed
+parsed_of command bytes = parsed_at command (is_utf8 bytes) (parse_document bytes)
 
 -- the same of the bytes that a reader has left, where they are known
-abbrev pub IsTold : Command → Option (List ℕ) → Told → Type 0
-IsTold command None told = ⊥
-IsTold command (Some bytes) told = told ≡ told_of command bytes
+abbrev pub IsParsed : Command → Option (List ℕ) → Parsed → Type 0
+IsParsed command None parsed = ⊥
+IsParsed command (Some bytes) parsed = parsed ≡ parsed_of command bytes
 
 -- the input is a job of one sender
-pub record TellsOne (told : Told) (sender : Sender) : Type 0 where
+pub record HasOneSender (parsed : Parsed) (sender : Sender) : Type 0 where
   pub job : Job
-  pub told_is : told ≡ Ok job
+  pub parsed_is : parsed ≡ Ok job
   pub one : job.senders ≡ sender ∷ []
