@@ -3,6 +3,7 @@ pub mod LineLemmas
 pub mod LinesLemmas
 pub mod OpenedLemmas
 pub mod OutputLemmas
+mod ParsedLemmas
 pub mod Readings
 pub mod StoppedLemmas
 pub mod RelayedLemmas

@@ -1,10 +1,13 @@
 pub mod Ends
 pub mod Fault
 pub mod Input
+pub mod JobInput
 pub mod JobLines
+pub mod Jobs
 pub mod Lines
 pub mod Opened
 pub mod Output
+pub mod Parsed
 pub mod Printed
 pub mod Reading
 pub mod Relayed

@@ -17,6 +17,7 @@ mod ends;
 mod fault;
 mod input;
 mod job_lines;
+mod jobs;
 mod line;
 mod lines;
 mod messages;
@@ -33,6 +34,7 @@ pub use ends::{
 };
 pub use fault::Fault;
 pub use input::{LIMIT, limit_law, read_all};
+pub use jobs::{open, relay, seal};
 pub use messages::{one_reading, show};
 pub use opening::open_job;
 pub use published::vectors;

@@ -12,10 +12,10 @@ use Rattle.krb_commands.specs.Show.{Shows, ShowsPrefix}
 use Rattle.krb_commands.specs.Vectors.{vectors_text}
 use Rattle.krb_program.specs.declared.command.Cmd.{Cmd}
 use Rattle.krb_program.specs.declared.command.Cmd.TheVariants.{Show, Vectors, Seal, Open, Relay}
-use Rattle.krb_program.specs.Parsed.{Parsed, IsParsed}
-use Rattle.krb_program.specs.Commands.{SealsParsed, SealsParsedPrefix, IsBadToSeal}
-use Rattle.krb_program.specs.Commands.{OpensParsed, OpensParsedFirst, OpensParsedPrefix}
-use Rattle.krb_program.specs.Commands.{RelaysParsed, RelaysParsedPrefix, StopsParsed, IsBadToRelay}
+use Rattle.krb_commands.specs.Parsed.{Parsed, IsParsed}
+use Rattle.krb_commands.specs.Jobs.{SealsParsed, SealsParsedPrefix, IsBadToSeal}
+use Rattle.krb_commands.specs.Jobs.{OpensParsed, OpensParsedFirst, OpensParsedPrefix}
+use Rattle.krb_commands.specs.Jobs.{RelaysParsed, RelaysParsedPrefix, StopsParsed, IsBadToRelay}
 
 -- all that the command is to write is written, and this is the status
 abbrev pub Does : Cmd → Option (List ℕ) → Option (List ℕ) → Option (List ℕ) → ℕ → Type 0

@@ -15,7 +15,6 @@
 mod command;
 mod ending;
 mod help;
-mod jobs;
 mod running;
 
 pub use command::{Cmd, command_of};

@@ -6,13 +6,12 @@ ghost use Rattle.clap.specs.Words.{subcommand_of, FailsBy, fault_of};
 ghost use Rattle.krb_job.specs.declared.bad_input.BadInput.{BadInput};
 ghost use Rattle.krb_commands.specs.Input.{input_limit};
 ghost use Rattle.krb_program.specs.Command.{krbrelay_app, word_of};
-ghost use Rattle.krb_program.specs.Reading.{PrintsNothing};
+ghost use Rattle.krb_commands.specs.JobInput.{PrintsNothing};
 ghost use Rattle.krb_program.specs.Running.{Does, DoesFirst, DoesPrefix, IsBadInput, HasRun};
 
 use crate::command::{Cmd, command_of};
-use crate::jobs;
 use clap::Error;
-use krb_commands::{Fault, show, vectors};
+use krb_commands::{Fault, open, relay, seal, show, vectors};
 use krb_relay::Gate;
 use std::alloc::Global;
 use std::convert::AsStr;
@@ -109,8 +108,8 @@ fn command_over<T: Threads + Wait + Sync, R: Read, W: Write, G: Gate + Sync>(
     match command {
         Cmd::Show => show(alloc, reader, writer),
         Cmd::Vectors => vectors(alloc, writer),
-        Cmd::Seal => jobs::seal(alloc, reader, writer),
-        Cmd::Open => jobs::open(alloc, reader, writer),
-        Cmd::Relay => jobs::relay(rt, alloc, reader, writer, gate),
+        Cmd::Seal => seal(alloc, reader, writer),
+        Cmd::Open => open(alloc, reader, writer),
+        Cmd::Relay => relay(rt, alloc, reader, writer, gate),
     }
 }

@@ -6,7 +6,7 @@ use Rattle.krb_job.specs.declared.bad_input.BadInput.{BadInput}
 use Rattle.krb_commands.specs.declared.fault.Fault.{Fault}
 use Rattle.krb_commands.specs.declared.fault.Fault.TheVariants as fault
 use Rattle.krb_commands.specs.Input.{input_limit}
-use Rattle.krb_program.specs.Parsed.{Parsed, IsParsed}
+use Rattle.krb_commands.specs.Parsed.{Parsed, IsParsed}
 
 -- A command answered this, of a reader that had this input left. `IsBad` says what is bad for the
 -- command in what the input tells.

@@ -1,7 +1,7 @@
 use Rattle.std.proofs.Common.{rules, arith, ◌∙◌}
 use Rattle.std.proofs.lemmas.Grind.{common_steps}
-use Rattle.krb_program.proofs.ParsedLemmas.{reads_parsed, job_parsed, bad_parsed}
-use Rattle.krb_program.proofs.jobs.parsed_job.Goals as goal
+use Rattle.krb_commands.proofs.ParsedLemmas.{reads_parsed, job_parsed, bad_parsed}
+use Rattle.krb_commands.proofs.jobs.parsed_job.Goals as goal
 
 pub returns-in_err-read_job-clause-reading : goal.returns-in_err-read_job-clause-reading
 returns-in_err-read_job-clause-reading g c = record {

@@ -1,6 +1,6 @@
 use Rattle.krb_peers.specs.Sending.{source_of}
-use Rattle.krb_program.proofs.ParsedLemmas.{source_parsed, sealed_parsed, prefix_parsed}
-use Rattle.krb_program.proofs.jobs.seal_with.Goals as goal
+use Rattle.krb_commands.proofs.ParsedLemmas.{source_parsed, sealed_parsed, prefix_parsed}
+use Rattle.krb_commands.proofs.jobs.seal_with.Goals as goal
 
 pub returns-clause-printed : goal.returns-clause-printed
 returns-clause-printed g c =

@@ -12,23 +12,23 @@ use Rattle.krb_commands.specs.Sealed.{PrintsSealed, PrintsSealedPrefix}
 use Rattle.krb_commands.specs.Opened.{PrintsFirst, PrintsOpened, PrintsOpenedPrefix}
 use Rattle.krb_commands.specs.Relayed.{HasBadPlanFirst, PrintsRelayed, PrintsRelayedPrefix}
 use Rattle.krb_commands.specs.Relayed.{PrintsStopped}
-use Rattle.krb_commands.specs.Ends.{source_parsed, receiver_of, lane_stated}
-use Rattle.krb_program.specs.Parsed.{Parsed, HasOneSender}
+use Rattle.krb_commands.specs.Ends.{source_stated, receiver_of, lane_stated}
+use Rattle.krb_commands.specs.Parsed.{Parsed, HasOneSender}
 
 -- what a sender seals is printed
 abbrev pub SealsSender : Sender → Option (List ℕ) → Option (List ℕ) → Type 0
 SealsSender sender old new =
-    (source : Source) × (source_parsed sender ≡ Some source) × PrintsSealed source old new
+    (source : Source) × (source_stated sender ≡ Some source) × PrintsSealed source old new
 
 -- a prefix of that, or nothing
 abbrev pub SealsSenderPrefix : Sender → Option (List ℕ) → Option (List ℕ) → Type 0
 SealsSenderPrefix sender old new =
     Keeps old new
-    ⊎ ((source : Source) × (source_parsed sender ≡ Some source) × PrintsSealedPrefix source old new)
+    ⊎ ((source : Source) × (source_stated sender ≡ Some source) × PrintsSealedPrefix source old new)
 
 -- its plan is bad for its frames
 abbrev pub IsBadSender : Sender → Type 0
-IsBadSender sender = (source : Source) × (source_parsed sender ≡ Some source) × IsBad source
+IsBadSender sender = (source : Source) × (source_stated sender ≡ Some source) × IsBad source
 
 -- what the one sender of the job seals is printed
 abbrev pub SealsParsed : Parsed → Option (List ℕ) → Option (List ℕ) → Type 0

@@ -1,5 +1,5 @@
-use Rattle.krb_program.proofs.ParsedLemmas.{opened_parsed}
-use Rattle.krb_program.proofs.jobs.open.Goals as goal
+use Rattle.krb_commands.proofs.ParsedLemmas.{opened_parsed}
+use Rattle.krb_commands.proofs.jobs.open.Goals as goal
 
 pub returns-clause-prefix : goal.returns-clause-prefix
 returns-clause-prefix g c = λ parsed is.

@@ -24,8 +24,8 @@ use Rattle.krb_commands.specs.Input.{ReadsAll}
 use Rattle.krb_commands.specs.Ends as ends
 use Rattle.krb_commands.specs.Sealed.{PrintsSealed, PrintsSealedPrefix}
 use Rattle.krb_commands.specs.Opened.{PrintsOpenedPrefix}
-use Rattle.krb_program.specs.Parsed.{Parsed, parsed_at, parsed_of, IsParsed, HasOneSender}
-use Rattle.krb_program.specs.Commands.{SealsSender, SealsSenderPrefix, OpensParsedPrefix}
+use Rattle.krb_commands.specs.Parsed.{Parsed, parsed_at, parsed_of, IsParsed, HasOneSender}
+use Rattle.krb_commands.specs.Jobs.{SealsSender, SealsSenderPrefix, OpensParsedPrefix}
 
 -- a reader that was read to its end gave all that it had
 parsed_read : (command : Command) (old new : Option (List ℕ)) (bytes : List ℕ) (parsed : Parsed) → ReadsAll old new bytes → IsParsed command old parsed → parsed ≡ parsed_of command bytes

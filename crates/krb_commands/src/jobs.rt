@@ -11,15 +11,18 @@ ghost use Rattle.krb_job.specs.SenderView.{sender_view};
 ghost use Rattle.krb_commands.specs.Ends as ends;
 ghost use Rattle.krb_commands.specs.Ends.{AreReady, lane_stated};
 ghost use Rattle.krb_commands.specs.Fault.{bad_plan, IsOfRelaying, IsOfSealing, IsOfTelling};
-ghost use Rattle.krb_program.specs.Parsed.{Parsed, IsParsed, HasOneSender};
-ghost use Rattle.krb_program.specs.Reading.{ReadsInput, PrintsNothing, FailsCheck};
-ghost use Rattle.krb_program.specs.Commands.{SealsParsed, SealsParsedPrefix, SealsSender, SealsSenderPrefix, IsBadSender, IsBadToSeal};
-ghost use Rattle.krb_program.specs.Commands.{OpensParsed, OpensParsedFirst, OpensParsedPrefix};
-ghost use Rattle.krb_program.specs.Commands.{RelaysParsed, RelaysParsedPrefix, RelaysJob, RelaysJobPrefix, StopsJob, StopsParsed, HasBadPlan, IsBadToRelay};
+ghost use Rattle.krb_commands.specs.Parsed.{Parsed, IsParsed, HasOneSender};
+ghost use Rattle.krb_commands.specs.JobInput.{ReadsInput, PrintsNothing, FailsCheck};
+ghost use Rattle.krb_commands.specs.Jobs.{SealsParsed, SealsParsedPrefix, SealsSender, SealsSenderPrefix, IsBadSender, IsBadToSeal};
+ghost use Rattle.krb_commands.specs.Jobs.{OpensParsed, OpensParsedFirst, OpensParsedPrefix};
+ghost use Rattle.krb_commands.specs.Jobs.{RelaysParsed, RelaysParsedPrefix, RelaysJob, RelaysJobPrefix, StopsJob, StopsParsed, HasBadPlan, IsBadToRelay};
 
-use krb_commands::{
-    Fault, open_job, push_lane, read_all, receiving_of, relay_job, seal_job, sealer_of, sending_of,
-};
+use crate::ends::{push_lane, receiving_of, sealer_of, sending_of};
+use crate::fault::Fault;
+use crate::input::read_all;
+use crate::opening::open_job;
+use crate::relaying::relay_job;
+use crate::sealing::seal_job;
 use krb_job::{Command, Job, SenderJob, read_job};
 use krb_peers::{Receivers, Receiving, Sending};
 use krb_relay::Gate;
