@@ -1,7 +1,6 @@
 //! The two ends of a lane, as a job states them.
 
 ghost use Rattle.std.specs.Prelude.{◌≡◌, ◌+◌, ◌<◌, ◌≤◌, ◌∷◌, ◌++◌, [], false, ℕ, List, length, map, IsSome, IfOk, IfErr, OnOk, Some};
-ghost use Rattle.krb_etype.specs.Etype.{number_of};
 ghost use Rattle.krb_seal.specs.Session.{HasShortAddresses};
 ghost use Rattle.krb_peers.specs.Planned.{IsPaired};
 ghost use Rattle.krb_peers.specs.Ends.{lanes_of};
@@ -15,18 +14,17 @@ use crate::fault::Fault;
 use krb_der::HostAddress;
 use krb_job::SenderJob;
 use krb_peers::{Receiver, Receiving, Sending};
-use krb_seal::{Etype, Expect, Opener, Sealer, Session, SessionKey, SessionSealer};
+use krb_seal::{Expect, Opener, Sealer, Session, SessionKey, SessionSealer};
 use rand_chacha::ChaCha20Rng;
 use rand_core::SeedableRng;
 use std::alloc::{AllocError, Global};
 
 /// The key of a sender of a job.
 pub fn key_of(sender: &SenderJob) -> SessionKey
-    ensures etype { number_of result.etype ≡ sender.now.etype }
+    ensures etype { result.etype ≡ sender.now.etype }
     ensures bytes { result.bytes ≡ sender.now.key }
 {
-    let etype = Etype::from_number(sender.etype).unwrap();
-    SessionKey::copy_of(etype, sender.key.as_slice()).unwrap()
+    SessionKey::copy_of(sender.etype, sender.key.as_slice()).unwrap()
 }
 
 /// The session that a sender of a job seals for.

@@ -22,7 +22,7 @@ parties_view p = record {
 
 abbrev pub sender_view : SenderJob → Sender
 sender_view s = record {
-  protection = record { etype = s.etype; key = s.key; mode = s.mode; first = s.first };
+  protection = record { etype = number_of s.etype; key = s.key; mode = s.mode; first = s.first };
   parties = record {
     from = s.from;
     to = s.to;

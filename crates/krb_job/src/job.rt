@@ -3,14 +3,15 @@
 ghost use Rattle.std.specs.Prelude.{◌≡◌, ◌≤◌, ◌<◌, length, IsSome};
 ghost use Rattle.std.proofs.Props.{props};
 ghost use Rattle.krb_base.specs.Limits.{skew_limit, batch_limit, capacity_limit, lane_limit};
+ghost use Rattle.krb_etype.specs.Etype.{key_size};
 ghost use Rattle.krb_seal.specs.Session.{IsShortAddress};
-ghost use Rattle.krb_job.specs.Limits.{IsKeyOf, AreShortTexts};
+ghost use Rattle.krb_job.specs.Limits.{AreShortTexts};
 ghost use Rattle.krb_job.specs.SenderKeys.{seals, opens};
 
 use krb_base::{Bytes, Secret};
 use krb_der::{HostAddress, Moment};
 use krb_peers::Emit;
-use krb_seal::Mode;
+use krb_seal::{Etype, Mode};
 
 /// The commands that read a job.
 #[derive(Clone, Copy, Debug, PartialEq, Eq)]
@@ -42,8 +43,8 @@ impl Command {
 /// One sender of a job. What the command doesn't allow is `None` or empty.
 #[derive(Debug, Drop)]
 pub struct SenderJob {
-    /// The number of the encryption type (RFC 3962 section 7).
-    pub etype: i32,
+    /// The encryption type.
+    pub etype: Etype,
     /// The key, with as many bytes as a key of the type has.
     pub key: Secret,
     /// How the texts are protected.
@@ -77,7 +78,7 @@ pub struct SenderJob {
     /// The frames that are opened.
     pub frames: Vec<Bytes>,
     // Each limit was checked when the job was read.
-    pub ghost key_fits: { IsKeyOf etype key },
+    pub ghost key_fits: { length key ≡ key_size etype },
     pub ghost from_short: { IsShortAddress from },
     pub ghost to_short: { IsShortAddress to },
     pub ghost skew_fits: { skew ≤ skew_limit },

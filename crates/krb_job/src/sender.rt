@@ -114,7 +114,7 @@ fn read_traffic(
 {
     let seals = command.seals();
     Ok(SenderJob {
-        etype: protection.etype.number(),
+        etype: protection.etype,
         key: protection.key,
         mode: protection.mode,
         first: protection.first as u32,
