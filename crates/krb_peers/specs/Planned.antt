@@ -139,7 +139,7 @@ AcceptInOrder source verdicts = IsPrefix (records_of verdicts) (records source)
 -- A receiver continues after verdicts of others, over a wire of its own. It has the sender's key,
 -- and demands the number after what was accepted, or nothing if the close was. It knows no more of
 -- the earlier receivers.
-pub record GoesOnBehind (source : Source) (before : List Verdict) (ends : Ends) : Type 0 where
+pub record GoesOnAfter (source : Source) (before : List Verdict) (ends : Ends) : Type 0 where
   pub sender : ends.source ≡ record source { plan = ends.source.plan }
   pub etype : ends.receiver.opener.etype ≡ source.sealer.etype
   pub key : ends.receiver.opener.key ≡ source.sealer.key
@@ -313,7 +313,7 @@ PairedAcceptInOrder =
 abbrev pub OfGoingOn : (Source → List Verdict → Run → Type 0) → Type 0
 OfGoingOn Claim =
     (source : Source) (before : List Verdict) (run : Run) → AcceptInOrder source before
-    → GoesOnBehind source before run.ends
+    → GoesOnAfter source before run.ends
     → AlteredAreHonestBehind (length (records_of before)) run → IsRun run → Claim source before run
 
 -- together they accept in order, whatever is repeated
