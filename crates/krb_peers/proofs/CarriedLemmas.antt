@@ -15,7 +15,7 @@ use Rattle.krb_peers.specs.Attempt.{DemandsAfter, IsAttemptAfter, TakesInTurn}
 use Rattle.krb_peers.specs.Ends.{Ends}
 use Rattle.krb_peers.specs.Order.{demand_after, first_demand}
 use Rattle.krb_peers.specs.Plan.{is_good, is_good_emission, is_planned, emission, emissions, wire, frame_at}
-use Rattle.krb_peers.specs.Planned.{attempt_of, is_altered, is_altered_one, altered_at, AlteredAreHonest, StandsAt, ComeInTurn, Carried, AcceptInOrder, GoesOnAfter, AlteredAreHonestBehind, in_order, IsInOrder, Undisturbed}
+use Rattle.krb_peers.specs.Planned.{attempt_of, is_altered, is_altered_one, altered_at, AlteredAreHonest, StandsAt, ComeInTurn, Carried, AcceptInOrder, GoesOnAfter, AlteredAreHonestAfter, in_order, IsInOrder, Undisturbed}
 use Rattle.krb_peers.specs.Planned.{DeliversPrefix, DeliversAll, DeliversWhole}
 use Rattle.krb_peers.specs.Run.{Run, IsRun}
 use Rattle.krb_peers.specs.Sender.{Source, IsWithinLimits, sealed_groups, records_for, AreFrames}
@@ -225,7 +225,7 @@ calm_whole run calm is all = (carried_whole run (undisturbed_carried run.ends ca
 -- ---- a receiver that goes on elsewhere
 
 module _ (source : Source) (before : List Verdict) (run : Run) (accepted : AcceptInOrder source before) (goes_on : GoesOnAfter source before run.ends)
-    (honest : AlteredAreHonestBehind (length (records_of before)) run) (is : IsRun run) where
+    (honest : AlteredAreHonestAfter (length (records_of before)) run) (is : IsRun run) where
   abbrev done : ℕ
   done = length (records_of before)
 

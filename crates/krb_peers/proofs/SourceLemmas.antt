@@ -24,7 +24,7 @@ use Rattle.krb_peers.specs.Demand.{Demand}
 use Rattle.krb_peers.specs.Draws.{confounder_at}
 use Rattle.krb_peers.specs.Order.{first_demand}
 use Rattle.krb_peers.specs.Plan.{is_good, is_good_emission, emission, emissions, wire}
-use Rattle.krb_peers.specs.Planned.{is_altered_one, altered_at, AlteredAreHonest, IsPaired, AlteredAreHonestBehind, attempt_of}
+use Rattle.krb_peers.specs.Planned.{is_altered_one, altered_at, AlteredAreHonest, IsPaired, AlteredAreHonestAfter, attempt_of}
 use Rattle.krb_peers.specs.Ends.{Ends}
 use Rattle.krb_peers.specs.Run.{Run, IsRun}
 use Rattle.krb_peers.specs.Session.{CloseIsLastOf, AreRecords, FitLimits, Sealed, IsSealed, IsFrameOf}
@@ -246,7 +246,7 @@ module _ (run : Run) (is : IsRun run) where
   }
 
   -- of all records that the sender is to seal
-  pub run_attempt : (first : ℕ) → HasKey source.sealer run.ends.receiver → DemandsAfter source.sealer all first run.ends.receiver.demand → AlteredAreHonestBehind first run
+  pub run_attempt : (first : ℕ) → HasKey source.sealer run.ends.receiver → DemandsAfter source.sealer all first run.ends.receiver.demand → AlteredAreHonestAfter first run
       → IsAttemptAfter source.sealer all first (attempt_of run)
   run_attempt first has_key begins honest =
       attempt_in first all (are_records source) (λ k r at. slice_get-take is.count k all r at) has_key begins

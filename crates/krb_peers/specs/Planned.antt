@@ -147,8 +147,8 @@ pub record GoesOnAfter (source : Source) (before : List Verdict) (ends : Ends) :
       ≡ demand_after (first_demand source.sealer.next) (records_of before)
 
 -- the altered-frames premise, after so many records were accepted before
-abbrev pub AlteredAreHonestBehind : ℕ → Run → Type 0
-AlteredAreHonestBehind before run =
+abbrev pub AlteredAreHonestAfter : ℕ → Run → Type 0
+AlteredAreHonestAfter before run =
     (place : ℕ) (frame : List ℕ) (d : Delivery) → altered_at run.ends.source.plan place ≡ true
     → slice_get run.took place ≡ Some frame → slice_get run.verdicts place ≡ Some (Ok d)
     → IsOwn run.ends.source frame
@@ -260,8 +260,8 @@ AcceptsFirstRecords =
     (λ run. records_of run.verdicts ≡ take (length run.took) (records run.ends.source))
 
 -- and the number after them is demanded
-abbrev pub DemandsNumberBehind : Type 0
-DemandsNumberBehind = OfUndisturbed (λ run.
+abbrev pub DemandsNumberAfter : Type 0
+DemandsNumberAfter = OfUndisturbed (λ run.
     (demand_after run.ends.receiver.demand (records_of run.verdicts)).expected
     ≡ run.ends.receiver.demand.expected + length run.took)
 
@@ -314,7 +314,7 @@ abbrev pub OfGoingOn : (Source → List Verdict → Run → Type 0) → Type 0
 OfGoingOn Claim =
     (source : Source) (before : List Verdict) (run : Run) → AcceptInOrder source before
     → GoesOnAfter source before run.ends
-    → AlteredAreHonestBehind (length (records_of before)) run → IsRun run → Claim source before run
+    → AlteredAreHonestAfter (length (records_of before)) run → IsRun run → Claim source before run
 
 -- together they accept in order, whatever is repeated
 abbrev pub GoingOnAcceptsInOrder : Type 0

@@ -5,7 +5,7 @@
 ghost use Rattle.krb_peers.specs.Laws.{VerdictsAreQuietAfterClose, VerdictsRefuseExactly, VerdictsOfRefusalsDeliverNothing};
 ghost use Rattle.krb_peers.specs.Planned.{SourcesSealRecords, RunsAreAttempts, RunsTakeInTurn};
 ghost use Rattle.krb_peers.specs.Planned.{RunsDeliverPrefix, RunsDeliverAllWhereClosed, AcceptsSealedOnly};
-ghost use Rattle.krb_peers.specs.Planned.{NoneIsRefused, AcceptsFirstRecords, DemandsNumberBehind, DeliversAllThatIsTaken};
+ghost use Rattle.krb_peers.specs.Planned.{NoneIsRefused, AcceptsFirstRecords, DemandsNumberAfter, DeliversAllThatIsTaken};
 ghost use Rattle.krb_peers.specs.Planned.{DemandsNumbersInTurn, DeliversAllThatIsCarried, UndisturbedIsCarried, UndisturbedIsHonest};
 ghost use Rattle.krb_peers.specs.Planned.{PairedAcceptInOrder, GoingOnAcceptsInOrder, InOrderDeliversPrefix, GoingOnDeliversAll};
 
@@ -53,7 +53,7 @@ pub fn headline_laws()
 pub fn undisturbed_laws()
     ensures none_refused { NoneIsRefused }
     ensures first_records { AcceptsFirstRecords }
-    ensures demands_next { DemandsNumberBehind }
+    ensures demands_next { DemandsNumberAfter }
     ensures all_texts { DeliversAllThatIsTaken }
 {}
 
