@@ -18,7 +18,7 @@ use Rattle.krb_peers.specs.Receiver.{receiver_after}
 use Rattle.krb_peers.specs.Moments.{moment_at}
 use Rattle.krb_peers.specs.Order.{demand_after}
 use Rattle.krb_peers.specs.Verdicts.{Verdict, AllBytes, IsVerdict, records_of}
-use Rattle.krb_core.specs.Track.{TrackState, item_at, next_send, after_send, verdict_now, receiver_after, after_take, log_then, log_after}
+use Rattle.krb_core.specs.Track.{TrackState, item_at, next_send, after_send, verdict_now, receiver_then, after_take, log_then, log_after}
 use Rattle.krb_peers.specs.Receiver.{verdict_by}
 use Rattle.krb_peers.specs.Logged.{noted}
 use Rattle.krb_core.specs.TrackPlaces.{items_of}
@@ -165,7 +165,7 @@ module _ (ends : Ends) (lane : ℕ) (track : TrackState) (log : LogState) (h : S
 
   -- whatever is queued
   queue_taken : (queue : List (Item (List ℕ))) → track.lane.queue ≡ queue
-      → Stands ends lane (record track { lane = taken track.lane queue; receiver = receiver_after track queue }) (log_then log lane track queue)
+      → Stands ends lane (record track { lane = taken track.lane queue; receiver = receiver_then track queue }) (log_then log lane track queue)
   queue_taken [] is = h
   queue_taken (Frame frame ∷ rest) is = frame_taken frame rest is
   queue_taken (End ∷ rest) is = end_taken rest is
@@ -173,7 +173,7 @@ module _ (ends : Ends) (lane : ℕ) (track : TrackState) (log : LogState) (h : S
   -- a take, and a send
   stands_taken : Stands ends lane (after_take track) (log_after log lane track)
   stands_taken =
-      let P : Lane (List ℕ) → Type 0 = λ l. Stands ends lane (record track { lane = l; receiver = receiver_after track track.lane.queue }) (log_after log lane track) in
+      let P : Lane (List ℕ) → Type 0 = λ l. Stands ends lane (record track { lane = l; receiver = receiver_then track track.lane.queue }) (log_after log lane track) in
       subst P (sym (take_event track.lane track.lane.queue)) (queue_taken track.lane.queue refl)
 
   sent_by : (may : Bool) → is_possible track.lane (next_send track) ≡ may → Stands ends lane (record track { lane = cond may (moved track.lane (next_send track)) track.lane }) log

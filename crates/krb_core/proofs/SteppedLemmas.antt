@@ -12,7 +12,7 @@ use Rattle.krb_core.specs.declared.turn.Turn.{Turn}
 use Rattle.krb_core.specs.declared.turn.Turn.TheVariants.{Send, Take}
 use Rattle.krb_peers.specs.LogState.{LogState}
 use Rattle.krb_peers.specs.ReceiverState.{ReceiverState}
-use Rattle.krb_core.specs.Track.{TrackState, receiver_after, log_then, verdict_now, next_send, after_send, after_take, log_after, HasFrameFirst}
+use Rattle.krb_core.specs.Track.{TrackState, receiver_then, log_then, verdict_now, next_send, after_send, after_take, log_after, HasFrameFirst}
 use Rattle.krb_peers.specs.Logged.{IsShut}
 use Rattle.krb_core.specs.Stepped.{Relay, lane_of, track_after, turned_at, turned, after, may_move, TakesFrame, StopsAt, IsRelay}
 use Rattle.krb_peers.proofs.LoggedLemmas.{shut_same, shut_other}
@@ -20,7 +20,7 @@ use Rattle.krb_peers.proofs.LoggedLemmas.{shut_same, shut_other}
 -- ---- closes in a log
 
 -- what is taken keeps a lane shut
-shut_after : (log : LogState) (lane : ℕ) (track : TrackState) (queue : List (Item (List ℕ))) → IsShut log lane track.receiver → IsShut (log_then log lane track queue) lane (receiver_after track queue)
+shut_after : (log : LogState) (lane : ℕ) (track : TrackState) (queue : List (Item (List ℕ))) → IsShut log lane track.receiver → IsShut (log_then log lane track queue) lane (receiver_then track queue)
 shut_after log lane track [] h = h
 shut_after log lane track (Frame f ∷ queue) h = shut_same log lane track.receiver (verdict_now track f) h
 shut_after log lane track (End ∷ queue) h = h

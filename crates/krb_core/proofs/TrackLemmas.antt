@@ -12,7 +12,7 @@ use Rattle.krb_peers.specs.ReceiverState.{ReceiverState}
 use Rattle.krb_peers.specs.Receiver.{receiver_after}
 use Rattle.krb_peers.specs.Log.{ended_at}
 use Rattle.krb_peers.specs.Moments.{moment_at}
-use Rattle.krb_core.specs.Track.{TrackState, item_of, item_at, next_send, after_send, receiver_after, after_take, log_then, log_after, LogsFront, HasFrameFirst}
+use Rattle.krb_core.specs.Track.{TrackState, item_of, item_at, next_send, after_send, receiver_then, after_take, log_then, log_after, LogsFront, HasFrameFirst}
 use Rattle.krb_peers.proofs.ListLemmas.{there_is}
 use Rattle.krb_peers.specs.Receiver.{verdict_by}
 use Rattle.krb_peers.specs.Logged.{noted, LogsNext}
@@ -138,7 +138,7 @@ module _ (wire : List (List ℕ)) (capacity s t : ℕ) (receiver : ReceiverState
   at_front : (x : Item (List ℕ)) → item_at wire t ≡ x → ArePlaces wire s t → t < s → drop t (take s (items_of wire)) ≡ x ∷ drop (t + 1) (take s (items_of wire))
   at_front x is h lt = front wire s t h.in_range lt ∙ ap (λ y. y ∷ drop (t + 1) (take s (items_of wire))) is
 
-  makes_track : (receiver-now : ReceiverState) → ArePlaces wire s t → t < s → receiver-now ≡ receiver_after here (drop t (take s (items_of wire))) → track_at wire capacity s (t + 1) receiver-now nows ≡ after_take here
+  makes_track : (receiver-now : ReceiverState) → ArePlaces wire s t → t < s → receiver-now ≡ receiver_then here (drop t (take s (items_of wire))) → track_at wire capacity s (t + 1) receiver-now nows ≡ after_take here
   makes_track receiver-now h lt is =
       ap₂ (λ (l : Lane (List ℕ)) (r : ReceiverState). let z : TrackState = record { wire = wire; lane = l; receiver = r; nows = nows } in z) (sym (lane_takes h lt)) is
 
@@ -158,7 +158,7 @@ module _ (wire : List (List ℕ)) (capacity s t : ℕ) (receiver : ReceiverState
       let first = at_front (Frame frame) (ap item_of at) h lt in
       let count : t ≡ length (take t (items_of wire)) = sym (length-sent wire t (omega arith)) in
       record {
-        after = makes_track receiver-now h lt (r-is ∙ (ap (λ n. receiver_after receiver (verdict_by receiver (moment_at nows n) frame)) count ∙ ap (λ q. receiver_after here q) (sym first)));
+        after = makes_track receiver-now h lt (r-is ∙ (ap (λ n. receiver_after receiver (verdict_by receiver (moment_at nows n) frame)) count ∙ ap (λ q. receiver_then here q) (sym first)));
         log_is = l-is ∙ (ap (λ n. noted log number (verdict_by receiver (moment_at nows n) frame)) count ∙ ap (λ q. log_then log number here q) (sym first));
         waits = moves h lt;
       }
@@ -187,7 +187,7 @@ module _ (wire : List (List ℕ)) (capacity s t : ℕ) (receiver : ReceiverState
   take_end log log-now number h lt at l-is =
       let first = at_front End (ap item_of at) h lt in
       record {
-        after = makes_track receiver h lt (ap (λ q. receiver_after here q) (sym first));
+        after = makes_track receiver h lt (ap (λ q. receiver_then here q) (sym first));
         log_is = l-is ∙ ap (λ q. log_then log number here q) (sym first);
         waits = moves h lt;
       }
@@ -200,7 +200,7 @@ module _ (wire : List (List ℕ)) (capacity s t : ℕ) (receiver : ReceiverState
       let lane : Lane (List ℕ) = lane_at capacity wire s t in
       let off : is_possible lane Take ≡ false = ap (λ q. nat_lt 0 (length q)) none in
       record {
-        after = ap₂ (λ (l : Lane (List ℕ)) (r : ReceiverState). let z : TrackState = record { wire = wire; lane = l; receiver = r; nows = nows } in z) (sym (after_impossible lane Take off)) (ap (λ q. receiver_after here q) (sym none));
+        after = ap₂ (λ (l : Lane (List ℕ)) (r : ReceiverState). let z : TrackState = record { wire = wire; lane = l; receiver = r; nows = nows } in z) (sym (after_impossible lane Take off)) (ap (λ q. receiver_then here q) (sym none));
         log_is = ap (λ q. log_then log number here q) (sym none);
         waits = (λ e. off, λ x. refl);
       }

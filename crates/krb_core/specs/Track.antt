@@ -36,16 +36,16 @@ verdict_now track frame =
     verdict_by track.receiver (moment_at track.nows (length track.lane.got)) frame
 
 -- the receiver after it has taken the first item of a queue
-abbrev pub receiver_after : TrackState → List (Item (List ℕ)) → ReceiverState
-receiver_after track [] = track.receiver
-receiver_after track (Frame frame ∷ queue) =
+abbrev pub receiver_then : TrackState → List (Item (List ℕ)) → ReceiverState
+receiver_then track [] = track.receiver
+receiver_then track (Frame frame ∷ queue) =
     receiver_after track.receiver (verdict_now track frame)
-receiver_after track (End ∷ queue) = track.receiver
+receiver_then track (End ∷ queue) = track.receiver
 
 abbrev pub after_take : TrackState → TrackState
 after_take track = record track {
   lane = after_event track.lane Take;
-  receiver = receiver_after track track.lane.queue;
+  receiver = receiver_then track track.lane.queue;
 }
 
 -- the log after that: End adds no entry
