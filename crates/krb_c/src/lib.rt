@@ -1,5 +1,5 @@
 //! Sealing and opening of KRB-SAFE and KRB-PRIV messages (RFC 4120) for programs in C:
-//! `krbrelay.h` declares what this library exports, and docs/C.md has a whole program.
+//! `krbrelay.h` declares what this library exports, and the page krbrelay(3) has a whole program.
 //!
 //! A handle is a struct of the caller's, made of zeros, which then holds a sealer, an opener or a
 //! receiver on the heap. Each export says of the handle what the function of `krb_structs` says: its

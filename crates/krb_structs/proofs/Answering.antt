@@ -108,10 +108,10 @@ opens_into h number now frame user buffer (Err f) is opens = tt
 pub unseals : (h : HeldOpener) (number : ℕ) (at : KrbMoment) (frame before buffer user : List ℕ) (result : Result ℕ Fault) → IsTimed at → OpensTo h number (micros_of at) frame (Ok user)
     → IfOk result (λ size. take size buffer ≡ user) → IfOk result (λ size. size ≤ length buffer) → IfOk result (λ size. drop size buffer ≡ drop size before) → OnErr result (buffer ≡ before)
     → OnOk result (length user ≤ length before) → IfErr result (λ f. (f ≡ Room) × (length before < length user)) → UnsealsInto h number at frame before buffer result
-unseals h number at frame before buffer user result timed opens written size behind kept fits short = record {
+unseals h number at frame before buffer user result timed opens written size rest kept fits short = record {
   opened = opens_into h number (micros_of at) frame user buffer result written opens;
   size = size;
-  behind = behind;
+  rest = rest;
   kept = kept;
   answer = opened_answer h number at frame user (length before) (answer_of result) timed opens (room_answer result (length user) (length before) fits short);
 }
