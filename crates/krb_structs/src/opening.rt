@@ -91,9 +91,9 @@ pub fn open_into(
     ensures answer { DemandAnswer (Some opener.now) demand.now at.now frame.now (length out.old)
         (answer_of result) }
 {
-    let mut carried = *told;
-    let size = open_telling(alloc, opener, frame, demand, at, out, &mut carried)?;
-    *told = carried;
+    let mut read = *told;
+    let size = open_telling(alloc, opener, frame, demand, at, out, &mut read)?;
+    *told = read;
     Ok(size)
 }
 
