@@ -19,8 +19,9 @@ use Rattle.krb_structs.specs.Demand.{IsDemand, OpensWith}
 use Rattle.krb_structs.specs.Fault.{IsDone, Needs, OrMemory, answer_of, fault_code}
 use Rattle.krb_structs.specs.Moment.{IsTimed, micros_of}
 use Rattle.krb_structs.specs.Opening.{HeldOpener, OpensTo}
-use Rattle.krb_structs.specs.Reasons.{DemandAnswer, NeedsKey, NeedsMoment, OpenAnswer, SealAnswer, SessionAnswer}
+use Rattle.krb_structs.specs.Reasons.{DemandAnswer, NeedsKey, NeedsMoment, NewAnswer, OpenAnswer, SealAnswer, SessionAnswer}
 use Rattle.krb_structs.specs.Sealing.{IsReady}
+use Rattle.krb_structs.specs.Session.{HaveRoom}
 use Rattle.krb_structs.specs.Unseals.{UnsealsInto}
 use Rattle.krb_structs.proofs.Refusals.{is_memory}
 
@@ -68,7 +69,51 @@ session_or_memory IsWhole mode sender receiver (inr (whole, inl (unmet, is))) = 
 session_or_memory IsWhole mode sender receiver (inr (whole, inr (is_mode, inl (unmet, is)))) = absurd (omega arith)
 session_or_memory IsWhole mode sender receiver (inr (whole, inr (is_mode, inr (have_room, h)))) = inr (whole, inr (is_mode, inr (have_room, inl refl)))
 
+made_by : (o : Option EtypeValue) (n : ℕ) (IsWhole : Type 0) (mode sender receiver : ℕ) → MatchOption o (0 ≡ fault_code Etype) (λ e. Needs (n ≡ key_size e) KeySize (SessionAnswer IsWhole mode sender receiver) 0)
+    → MatchOption o (904 ≡ fault_code Etype) (λ e. Needs (n ≡ key_size e) KeySize (SessionAnswer IsWhole mode sender receiver) 904)
+made_by None n IsWhole mode sender receiver h = absurd (omega arith)
+made_by (Some e) n IsWhole mode sender receiver (inl (unmet, is)) = absurd (omega arith)
+made_by (Some e) n IsWhole mode sender receiver (inr (fits, h)) = inr (fits, session_or_memory IsWhole mode sender receiver h)
+
+-- a sealer or an opener was made, and memory ran out later
+pub made_or_memory : (etype : ℤ) (n : ℕ) (IsWhole : Type 0) (mode sender receiver : ℕ) → NewAnswer etype n IsWhole mode sender receiver 0 → NewAnswer etype n IsWhole mode sender receiver 904
+made_or_memory etype n IsWhole mode sender receiver h = made_by (etype_of etype) n IsWhole mode sender receiver h
+
+last_of : (IsWhole : Type 0) (mode sender receiver code : ℕ) → (mode ≡ 20) ⊎ (mode ≡ 21) → IsWhole → HaveRoom sender receiver → SessionAnswer IsWhole mode sender receiver code → OrMemory IsDone code
+last_of IsWhole mode sender receiver code is_mode whole room (inl (unmet, is)) = absurd (unmet whole)
+last_of IsWhole mode sender receiver code is_mode whole room (inr (w, inl (unmet, is))) = absurd (unmet is_mode)
+last_of IsWhole mode sender receiver code is_mode whole room (inr (w, inr (m, inl (unmet, is)))) = absurd (unmet room)
+last_of IsWhole mode sender receiver code is_mode whole room (inr (w, inr (m, inr (r, h)))) = h
+
+session_after : (One Two : Type 0) (mode sender receiver sender2 receiver2 code : ℕ) → SessionAnswer One mode sender receiver 0 → Two → HaveRoom sender2 receiver2 → SessionAnswer Two mode sender2 receiver2 code
+    → SessionAnswer One mode sender receiver code
+session_after One Two mode sender receiver sender2 receiver2 code (inl (unmet, is)) two room2 h = absurd (omega arith)
+session_after One Two mode sender receiver sender2 receiver2 code (inr (one, inl (unmet, is))) two room2 h = absurd (omega arith)
+session_after One Two mode sender receiver sender2 receiver2 code (inr (one, inr (is_mode, inl (unmet, is)))) two room2 h = absurd (omega arith)
+session_after One Two mode sender receiver sender2 receiver2 code (inr (one, inr (is_mode, inr (room, done)))) two room2 h =
+    inr (one, inr (is_mode, inr (room, last_of Two mode sender2 receiver2 code is_mode two room2 h)))
+
+after_by : (o : Option EtypeValue) (n : ℕ) (One Two : Type 0) (mode sender receiver sender2 receiver2 code : ℕ) → MatchOption o (0 ≡ fault_code Etype) (λ e. Needs (n ≡ key_size e) KeySize (SessionAnswer One mode sender receiver) 0)
+    → Two → HaveRoom sender2 receiver2 → MatchOption o (code ≡ fault_code Etype) (λ e. Needs (n ≡ key_size e) KeySize (SessionAnswer Two mode sender2 receiver2) code)
+    → MatchOption o (code ≡ fault_code Etype) (λ e. Needs (n ≡ key_size e) KeySize (SessionAnswer One mode sender receiver) code)
+after_by None n One Two mode sender receiver sender2 receiver2 code first two room2 h = absurd (omega arith)
+after_by (Some e) n One Two mode sender receiver sender2 receiver2 code (inl (unmet, is)) two room2 h = absurd (omega arith)
+after_by (Some e) n One Two mode sender receiver sender2 receiver2 code (inr (fits, first)) two room2 (inl (unmet, is)) = absurd (unmet fits)
+after_by (Some e) n One Two mode sender receiver sender2 receiver2 code (inr (fits, first)) two room2 (inr (same, h)) =
+    inr (fits, session_after One Two mode sender receiver sender2 receiver2 code first two room2 h)
+
+-- a sealer was made, and then an opener under the same key and in the same mode: it lacks nothing but memory
+pub made_after : (etype : ℤ) (n : ℕ) (One Two : Type 0) (mode sender receiver sender2 receiver2 code : ℕ) → NewAnswer etype n One mode sender receiver 0 → Two → HaveRoom sender2 receiver2
+    → NewAnswer etype n Two mode sender2 receiver2 code → NewAnswer etype n One mode sender receiver code
+made_after etype n One Two mode sender receiver sender2 receiver2 code first two room2 h = after_by (etype_of etype) n One Two mode sender receiver sender2 receiver2 code first two room2 h
+
 -- ---- opening
+
+-- a moment is never refused by 42, which is BADORDER
+pub moment_is_not_42 : (at : KrbMoment) (code : ℕ) → NeedsMoment at IsDone code → ¬ (code ≡ 42)
+moment_is_not_42 at code (inl (unmet, is)) e = omega arith
+moment_is_not_42 at code (inr (unreserved, inl (unmet, is))) e = omega arith
+moment_is_not_42 at code (inr (unreserved, inr (is_moment, done))) e = omega arith
 
 -- the opener's refusal, or out of memory
 pub open_refused : (o : OpenerState) (number now : ℕ) (at : KrbMoment) (frame : List ℕ) (r : Refusal) → IsTimed at → now ≡ micros_of at

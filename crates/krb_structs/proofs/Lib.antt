@@ -1,7 +1,10 @@
 mod AnswerLemmas
 mod Answering
 mod DemandLemmas
+mod ExportLemmas
 mod LawLemmas
+mod OrderLemmas
+mod PeerLemmas
 mod ReceiverLemmas
 mod Refusals
 mod RoomLemmas

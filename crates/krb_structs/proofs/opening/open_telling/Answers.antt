@@ -4,7 +4,7 @@ use Rattle.krb_structs.specs.declared.fault.Fault.TheVariants.{Refused}
 use Rattle.krb_structs.specs.Fault.{fault_code}
 use Rattle.krb_structs.specs.Reasons.{DemandAnswer}
 use Rattle.krb_structs.proofs.Answering.{answer_is, demand_refused, timed}
-use Rattle.krb_structs.proofs.opening.open_into.Goals as goal
+use Rattle.krb_structs.proofs.opening.open_telling.Goals as goal
 
 pub returns-in_err-body-clause-answer : goal.returns-in_err-body-clause-answer
 returns-in_err-body-clause-answer c =
