@@ -1,6 +1,7 @@
 -- The number of a peer's demand.
 use Rattle.std.proofs.Common.{◌≡◌, ◌≤◌, ℕ, ◌⊎◌, Bool, true, false, List, Option, Some, None, Result, Ok, Err, refl, sym, ap, ◌∙◌, inl, inr, arith}
 use Rattle.std.specs.Prelude.{◌&&◌, ◌||◌, not, nat_eq, unwrap_or}
+use Rattle.std.proofs.lemmas.Bool.{eqb-true}
 use Rattle.krb_der.specs.declared.body.Body.{Body}
 use Rattle.krb_seal.specs.Opens.{OpenerState}
 use Rattle.krb_seal.specs.Authentic.{Authenticity, Authenticates, GivesBody}
@@ -31,7 +32,7 @@ renumbered d n is fits =
     }
 
 equal : (a b : ℕ) → nat_eq a b ≡ true → a ≡ b
-equal a b e = omega (arith, e)
+equal a b e = eqb-true a b e
 
 asked : (how : ℕ) (t : Bool) → (how ≡ 2) ⊎ (how ≡ 3) → (nat_eq how 0 || t) ≡ true → t ≡ true
 asked how t (inl e) met = let is : (nat_eq how 0 || t) ≡ t = rw e refl in sym is ∙ met

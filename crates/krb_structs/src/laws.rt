@@ -16,5 +16,4 @@ pub fn demand_laws()
 /// No bytes are the export of two pairs of numbers, so a peer goes on from those that were exported.
 pub fn export_laws()
     ensures { OneExport }
-{
-}
+{}

@@ -115,7 +115,7 @@ pub fn open_telling(
     ensures kept { OnErr result (out.new ≡ out.old) }
     ensures misordered { answer_of result ≡ 42 → MisordersTo (Some opener.now) demand.now
         (micros_of at.now) frame.now told.new }
-    ensures untold { OnErr result (¬ (answer_of result ≡ 42) → told.new ≡ told.old) }
+    ensures untold { ¬ (answer_of result ≡ 0) → ¬ (answer_of result ≡ 42) → told.new ≡ told.old }
     ensures answer { DemandAnswer (Some opener.now) demand.now at.now frame.now (length out.old)
         (answer_of result) }
 {

@@ -206,7 +206,7 @@ impl Peer {
         ensures kept { OnErr result (out.new ≡ out.old) }
         ensures misordered { answer_of result ≡ 42 → MisordersTo (Some self.old.opener)
             self.old.demand (micros_of at.now) frame.now told.new }
-        ensures untold { OnErr result (¬ (answer_of result ≡ 42) → told.new ≡ told.old) }
+        ensures untold { ¬ (answer_of result ≡ 0) → ¬ (answer_of result ≡ 42) → told.new ≡ told.old }
         ensures answer { DemandAnswer (Some self.old.opener) self.old.demand at.now frame.now
             (length out.old) (answer_of result) }
     {
