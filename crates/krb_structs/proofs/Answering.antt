@@ -75,6 +75,11 @@ made_by None n IsWhole mode sender receiver h = absurd (omega arith)
 made_by (Some e) n IsWhole mode sender receiver (inl (unmet, is)) = absurd (omega arith)
 made_by (Some e) n IsWhole mode sender receiver (inr (fits, h)) = inr (fits, session_or_memory IsWhole mode sender receiver h)
 
+-- of a number that the code cast
+pub new_answer : (etype : ℤ) (n : ℕ) (IsWhole : Type 0) (mode sender receiver code : ℕ) → SFits w32 etype → NewAnswer (to_z w32 (of_z w32 etype)) n IsWhole mode sender receiver code
+    → NewAnswer etype n IsWhole mode sender receiver code
+new_answer etype n IsWhole mode sender receiver code fits h = subst (λ (e : ℤ). NewAnswer e n IsWhole mode sender receiver code) (to_z-of_z w32 etype fits) h
+
 -- a sealer or an opener was made, and memory ran out later
 pub made_or_memory : (etype : ℤ) (n : ℕ) (IsWhole : Type 0) (mode sender receiver : ℕ) → NewAnswer etype n IsWhole mode sender receiver 0 → NewAnswer etype n IsWhole mode sender receiver 904
 made_or_memory etype n IsWhole mode sender receiver h = made_by (etype_of etype) n IsWhole mode sender receiver h

@@ -53,3 +53,6 @@ pub misorders : {A : Type 0} (o : OpenerState) (d : KrbDemand) (now : ℕ) (fram
 misorders o d now frame made b checked told (inl h) is unmet was tells = absurd (let x : Ok b ≡ Err Memory = sym is ∙ h in cc)
 misorders o d now frame made b checked told (inr h) is unmet was tells =
     (b, (subst (λ (z : Authenticity). Authenticates o frame z) is h, (but_number d now b checked unmet was, tells)))
+
+pub same_fault : (q r : Refusal) → ◌≡◌ {A = Authenticity} (Err q) (Err r) → q ≡ r
+same_fault q r e = cc

@@ -13,11 +13,11 @@ expected_of state = from_be_bytes w64 (take 8 (drop 12 state))
 
 pub read_next : (state : List ℕ) (n e : ℕ) → Exports state n e → next_of state ≡ n
 read_next state n e is =
-    ap next_of is.bytes ∙ ap (from_be_bytes w64) (take_at (to_be_bytes w64 n) (to_be_bytes w64 e) 8 refl) ∙ from_be_bytes-to_be_bytes_8 n (omega (arith, is.next))
+    ap next_of is.bytes ∙ ap (from_be_bytes w64) (take_at (to_be_bytes w64 n) (to_be_bytes w64 e) 8 refl) ∙ from_be_bytes-to_be_bytes_8 n (omega (arith, is.next_fits))
 
 pub read_expected : (state : List ℕ) (n e : ℕ) → Exports state n e → expected_of state ≡ e
 read_expected state n e is =
-    ap expected_of is.bytes ∙ ap (λ (z : List ℕ). from_be_bytes w64 (take 8 z)) (drop_at (to_be_bytes w64 n) (to_be_bytes w64 e) 8 refl) ∙ from_be_bytes-to_be_bytes_8 e (omega (arith, is.expected))
+    ap expected_of is.bytes ∙ ap (λ (z : List ℕ). from_be_bytes w64 (take 8 z)) (drop_at (to_be_bytes w64 n) (to_be_bytes w64 e) 8 refl) ∙ from_be_bytes-to_be_bytes_8 e (omega (arith, is.expected_fits))
 
 pub one_export : OneExport
 one_export state n e next expected one two =

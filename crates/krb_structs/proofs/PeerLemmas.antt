@@ -10,7 +10,9 @@ use Rattle.krb_structs.specs.declared.carried.KrbCarried.{KrbCarried}
 use Rattle.krb_structs.specs.declared.demand.KrbDemand.{KrbDemand}
 use Rattle.krb_structs.specs.Demand.{AsDemanded, demand_checks, number_meets}
 use Rattle.krb_structs.specs.Opening.{GivesTo}
-use Rattle.krb_structs.specs.Peer.{IsPeerDemand, of_number}
+use Rattle.krb_structs.specs.declared.session.KrbSession.{KrbSession}
+use Rattle.krb_structs.specs.Peer.{IsPeerDemand, of_number, peer_expect}
+use Rattle.krb_structs.specs.Session.{IsExpect}
 use Rattle.krb_structs.proofs.LawLemmas.{met_all, same_body}
 
 demanded : (how : ℕ) → (how ≡ 2) ⊎ (how ≡ 3) → how ≡ 0 → ⊥
@@ -57,3 +59,7 @@ pub opened_number : (h : Option OpenerState) (d : KrbDemand) (now : ℕ) (frame 
 opened_number None d now frame user told is gives = absurd gives
 opened_number (Some o) d now frame user told is (b, ((x, (authentic, as_demanded)), (user_is, told_is))) =
     ap (λ (z : KrbCarried). z.number) told_is ∙ came_of o d now x b is.how_number as_demanded
+
+-- its reserved fields are zeros
+pub expects_nothing : (told : KrbSession) (d : KrbDemand) → IsExpect (peer_expect told d)
+expects_nothing told d = (refl, (refl, (refl, (refl, tt))))

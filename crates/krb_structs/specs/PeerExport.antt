@@ -12,8 +12,8 @@ export_of next expected =
 -- the bytes are the export of these numbers, each of which is one over the last at most
 pub record Exports (state : List ℕ) (next expected : ℕ) : Type 0 where
   pub bytes : state ≡ export_of next expected
-  pub next : next ≤ end_of_numbers
-  pub expected : expected ≤ end_of_numbers
+  pub next_fits : next ≤ end_of_numbers
+  pub expected_fits : expected ≤ end_of_numbers
 
 -- the bytes are an export
 abbrev pub IsExport : List ℕ → Type 0
