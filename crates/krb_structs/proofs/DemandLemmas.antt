@@ -41,18 +41,18 @@ last_unmet false addresses time number e = absurd cc
 last_unmet true false time number e = absurd cc
 last_unmet true true false number e = absurd cc
 last_unmet true true true true e = absurd cc
-last_unmet true true true false e = (refl, (refl, (refl, refl)))
+last_unmet true true true false e = (refl, refl, refl, refl)
 
 but_number : {A : Type 0} (d : KrbDemand) (now : ℕ) (b : Body) (checked : Result A Refusal) → first_unmet (demand_checks d now b) ≡ refusal_of checked → checked ≡ Err BadOrder → MeetsAllButNumber d now b
 but_number d now b checked unmet was =
     let met = last_unmet (all_have_room b.s_addr b.r_addr) (sender_meets d b.s_addr && receiver_meets d b.r_addr) (time_meets d now b) (number_meets d b.seq) (unmet ∙ ap refusal_of was) in
-    record { room = met.0; addresses = met.1.0; time = met.1.1.0; number = met.1.1.1 }
+    record { room = met.0; addresses = met.1; time = met.2; number = met.3 }
 
 pub misorders : {A : Type 0} (o : OpenerState) (d : KrbDemand) (now : ℕ) (frame : List ℕ) (made : Authenticity) (b : Body) (checked : Result A Refusal) (told : KrbCarried)
     → AuthenticOrMemory (Authenticates o frame) made → made ≡ Ok b → first_unmet (demand_checks d now b) ≡ refusal_of checked → checked ≡ Err BadOrder → told ≡ carried_of b → Misorders o d now frame told
 misorders o d now frame made b checked told (inl h) is unmet was tells = absurd (let x : Ok b ≡ Err Memory = sym is ∙ h in cc)
 misorders o d now frame made b checked told (inr h) is unmet was tells =
-    (b, (subst (λ (z : Authenticity). Authenticates o frame z) is h, (but_number d now b checked unmet was, tells)))
+    (b, subst (λ (z : Authenticity). Authenticates o frame z) is h, but_number d now b checked unmet was, tells)
 
 pub same_fault : (q r : Refusal) → ◌≡◌ {A = Authenticity} (Err q) (Err r) → q ≡ r
 same_fault q r e = cc

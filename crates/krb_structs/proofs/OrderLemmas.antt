@@ -27,15 +27,15 @@ no_body b e = cc
 
 of_part : (bytes : List ℕ) → Read SpellsPart bytes GivesBody (Err BadOrder) → ⊥
 of_part bytes (inl (none, e)) = cc
-of_part bytes (inr (b, (spelt, e))) = no_body b e
+of_part bytes (inr (b, spelt, e)) = no_body b e
 
 of_message : (o : OpenerState) (frame : List ℕ) → Read Spells frame (AuthenticMessage o) (Err BadOrder) → ⊥
 of_message o frame (inl (none, e)) = cc
-of_message o frame (inr (Safe m, (spelt, p))) =
+of_message o frame (inr (Safe m, spelt, p)) =
     no_body m.body (passed (authentic_checks o m) (GivesBody m.body) BadOrder ((λ e. cc), ((λ e. cc), ((λ e. cc), ((λ e. cc), tt)))) p)
-of_message o frame (inr (Priv m, (spelt, p))) =
+of_message o frame (inr (Priv m, spelt, p)) =
     let found = passed (priv_header o.etype o.expect m) (Decrypt o.key m.cipher (AuthenticText o.key)) BadOrder ((λ e. cc), ((λ e. cc), ((λ e. cc), ((λ e. cc), tt)))) p in
-    of_part (drop confounder_size found.0) (passed (text_checks o.key found.0 found.1.0) (Read SpellsPart (drop confounder_size found.0) GivesBody) BadOrder ((λ e. cc), tt) found.1.1.1)
+    of_part (drop confounder_size found.0) (passed (text_checks o.key found.0 found.1) (Read SpellsPart (drop confounder_size found.0) GivesBody) BadOrder ((λ e. cc), tt) found.3)
 
 unauthentic : (o : OpenerState) (frame : List ℕ) → Authenticates o frame (Err BadOrder) → ⊥
 unauthentic o frame h = of_message o frame (passed (frame_checks frame) (Read Spells frame (AuthenticMessage o)) BadOrder ((λ e. cc), tt) h)

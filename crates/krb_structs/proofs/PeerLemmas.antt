@@ -2,6 +2,7 @@
 use Rattle.std.proofs.Common.{◌≡◌, ◌≤◌, ℕ, ◌⊎◌, Bool, true, false, List, Option, Some, None, Result, Ok, Err, refl, sym, ap, ◌∙◌, inl, inr, arith}
 use Rattle.std.specs.Prelude.{◌&&◌, ◌||◌, not, nat_eq, unwrap_or}
 use Rattle.std.proofs.lemmas.Bool.{eqb-true}
+use Rattle.std.proofs.lemmas.List.Elements.{All-replicate}
 use Rattle.krb_der.specs.declared.body.Body.{Body}
 use Rattle.krb_seal.specs.Opens.{OpenerState}
 use Rattle.krb_seal.specs.Authentic.{Authenticity, Authenticates, GivesBody}
@@ -57,9 +58,9 @@ came_of o d now (Ok a) b how as_demanded =
 -- what was opened carried the number that was demanded
 pub opened_number : (h : Option OpenerState) (d : KrbDemand) (now : ℕ) (frame user : List ℕ) (told : KrbCarried) → IsPeerDemand d → GivesTo (Some h) d now frame user told → told.number ≡ d.number
 opened_number None d now frame user told is gives = absurd gives
-opened_number (Some o) d now frame user told is (b, ((x, (authentic, as_demanded)), (user_is, told_is))) =
+opened_number (Some o) d now frame user told is (b, (x, authentic, as_demanded), user_is, told_is) =
     ap (λ (z : KrbCarried). z.number) told_is ∙ came_of o d now x b is.how_number as_demanded
 
 -- its reserved fields are zeros
 pub expects_nothing : (told : KrbSession) (d : KrbDemand) → IsExpect (peer_expect told d)
-expects_nothing told d = (refl, (refl, (refl, (refl, tt))))
+expects_nothing told d = All-replicate (λ (n : ℕ). n ≡ 0) 4 0 refl
