@@ -13,15 +13,16 @@ use Rattle.krb_seal.specs.Sealer.{HasFrameSize, SealerState, end_of_numbers}
 use Rattle.krb_seal.specs.Opens.{OpenerState, Opens}
 use Rattle.krb_structs.specs.declared.demand.KrbDemand.{KrbDemand}
 use Rattle.krb_structs.specs.declared.moment.KrbMoment.{KrbMoment}
+use Rattle.krb_structs.specs.declared.session.KrbSession.{KrbSession}
 use Rattle.krb_structs.specs.declared.fault.Fault.{Fault}
-use Rattle.krb_structs.specs.declared.fault.Fault.TheVariants.{Etype, KeySize, Refused, Room}
+use Rattle.krb_structs.specs.declared.fault.Fault.TheVariants.{Argument, Etype, KeySize, Refused, Room}
 use Rattle.krb_structs.specs.Demand.{IsDemand, OpensWith}
 use Rattle.krb_structs.specs.Fault.{IsDone, Needs, OrMemory, answer_of, fault_code}
 use Rattle.krb_structs.specs.Moment.{IsTimed, micros_of}
 use Rattle.krb_structs.specs.Opening.{HeldOpener, OpensTo}
 use Rattle.krb_structs.specs.Reasons.{DemandAnswer, NeedsKey, NeedsMoment, NewAnswer, OpenAnswer, SealAnswer, SessionAnswer}
 use Rattle.krb_structs.specs.Sealing.{IsReady}
-use Rattle.krb_structs.specs.Session.{HaveRoom}
+use Rattle.krb_structs.specs.Session.{HaveRoom, IsSession}
 use Rattle.krb_structs.specs.Unseals.{UnsealsInto}
 use Rattle.krb_structs.proofs.Refusals.{is_memory}
 
@@ -112,13 +113,32 @@ pub made_after : (etype : ℤ) (n : ℕ) (One Two : Type 0) (mode sender receive
     → NewAnswer etype n Two mode sender2 receiver2 code → NewAnswer etype n One mode sender receiver code
 made_after etype n One Two mode sender receiver sender2 receiver2 code first two room2 h = after_by (etype_of etype) n One Two mode sender receiver sender2 receiver2 code first two room2 h
 
--- ---- opening
+-- ---- a session that is whole in other words
 
--- a moment is never refused by 42, which is BADORDER
-pub moment_is_not_42 : (at : KrbMoment) (code : ℕ) → NeedsMoment at IsDone code → ¬ (code ≡ 42)
-moment_is_not_42 at code (inl (unmet, is)) e = omega arith
-moment_is_not_42 at code (inr (unreserved, inl (unmet, is))) e = omega arith
-moment_is_not_42 at code (inr (unreserved, inr (is_moment, done))) e = omega arith
+session_as : (One Two : Type 0) (mode sender receiver code : ℕ) → (One → Two) → (Two → One) → SessionAnswer One mode sender receiver code → SessionAnswer Two mode sender receiver code
+session_as One Two mode sender receiver code to back (inl (unmet, is)) = inl (λ two. unmet (back two), is)
+session_as One Two mode sender receiver code to back (inr (one, h)) = inr (to one, h)
+
+new_as : (o : Option EtypeValue) (n : ℕ) (One Two : Type 0) (mode sender receiver code : ℕ) → (One → Two) → (Two → One)
+    → MatchOption o (code ≡ fault_code Etype) (λ e. Needs (n ≡ key_size e) KeySize (SessionAnswer One mode sender receiver) code)
+    → MatchOption o (code ≡ fault_code Etype) (λ e. Needs (n ≡ key_size e) KeySize (SessionAnswer Two mode sender receiver) code)
+new_as None n One Two mode sender receiver code to back h = h
+new_as (Some e) n One Two mode sender receiver code to back (inl (unmet, is)) = inl (unmet, is)
+new_as (Some e) n One Two mode sender receiver code to back (inr (fits, h)) = inr (fits, session_as One Two mode sender receiver code to back h)
+
+-- whether a session is whole doesn't turn on its first number
+pub with_first : (etype : ℤ) (n : ℕ) (told : KrbSession) (first code : ℕ) → NewAnswer etype n (IsSession (record told { first = first })) told.mode told.sender.len told.receiver.len code
+    → NewAnswer etype n (IsSession told) told.mode told.sender.len told.receiver.len code
+with_first etype n told first code h =
+    new_as (etype_of etype) n (IsSession (record told { first = first })) (IsSession told) told.mode told.sender.len told.receiver.len code
+    (λ is. record { reserved = is.reserved; receiver = is.receiver }) (λ is. record { reserved = is.reserved; receiver = is.receiver }) h
+
+-- a condition held
+pub condition_met : (Condition : Type 0) → Needs Condition Argument IsDone 0 → Condition
+condition_met Condition (inl (unmet, is)) = absurd (omega arith)
+condition_met Condition (inr (met, done)) = met
+
+-- ---- opening
 
 -- the opener's refusal, or out of memory
 pub open_refused : (o : OpenerState) (number now : ℕ) (at : KrbMoment) (frame : List ℕ) (r : Refusal) → IsTimed at → now ≡ micros_of at

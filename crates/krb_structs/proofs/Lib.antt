@@ -3,7 +3,6 @@ mod Answering
 mod DemandLemmas
 mod ExportLemmas
 mod LawLemmas
-mod OrderLemmas
 mod PeerLemmas
 mod ReceiverLemmas
 mod Refusals
