@@ -4,7 +4,7 @@ use Rattle.std.specs.Prelude.{◌&&◌, IsErrAnd}
 use Rattle.krb_der.specs.declared.body.Body.{Body}
 use Rattle.krb_seal.specs.declared.refusal.Refusal.{Refusal}
 use Rattle.krb_seal.specs.declared.refusal.Refusal.TheVariants.{BadAddr, BadOrder, Memory, Skew}
-use Rattle.krb_seal.specs.Opens.{OpenerState, Checks, Passes}
+use Rattle.krb_seal.specs.Opens.{OpenerState}
 use Rattle.krb_seal.specs.Authentic.{Authenticity, Authenticates, AuthenticOrMemory, GivesBody}
 use Rattle.krb_seal.specs.Unseals.{first_unmet, refusal_of}
 use Rattle.krb_seal.proofs.Checking.{body_not_passed, all_passed}

@@ -1,12 +1,12 @@
 -- What is read of an export.
-use Rattle.std.proofs.Common.{◌≡◌, ◌<◌, ◌≤◌, ◌^◌, ℕ, Bool, true, false, List, ◌++◌, take, drop, refl, sym, ap, ◌∙◌, arith}
+use Rattle.std.proofs.Common.{◌≡◌, ℕ, Bool, true, false, List, take, drop, refl, sym, ap, ◌∙◌, arith}
 use Rattle.std.specs.Prelude.{not}
 use Rattle.std.specs.Str.{bytes_eq}
 use Rattle.std.proofs.lemmas.Slice.Eq.{bytes_eq-Decides}
 use Rattle.std.specs.Int.{w64, to_be_bytes, from_be_bytes}
 use Rattle.std.proofs.lemmas.List.{take_at, drop_at}
 use Rattle.std.proofs.lemmas.Nat.{from_be_bytes-to_be_bytes_8}
-use Rattle.krb_structs.specs.PeerExport.{Exports, OneExport, export_of}
+use Rattle.krb_structs.specs.PeerExport.{Exports, OneExport}
 
 abbrev next_of : List ℕ → ℕ
 next_of state = from_be_bytes w64 (take 8 (drop 4 state))

@@ -1,11 +1,11 @@
 -- The number of a peer's demand.
-use Rattle.std.proofs.Common.{◌≡◌, ◌≤◌, ℕ, ◌⊎◌, Bool, true, false, List, Option, Some, None, Result, Ok, Err, refl, sym, ap, ◌∙◌, inl, inr, arith}
+use Rattle.std.proofs.Common.{◌≡◌, ◌≤◌, ℕ, ◌⊎◌, Bool, true, false, List, Option, Some, None, Ok, Err, refl, sym, ap, ◌∙◌, inl, inr, arith}
 use Rattle.std.specs.Prelude.{◌&&◌, ◌||◌, not, nat_eq, unwrap_or}
 use Rattle.std.proofs.lemmas.Bool.{eqb-true}
 use Rattle.std.proofs.lemmas.List.Elements.{All-replicate}
 use Rattle.krb_der.specs.declared.body.Body.{Body}
 use Rattle.krb_seal.specs.Opens.{OpenerState}
-use Rattle.krb_seal.specs.Authentic.{Authenticity, Authenticates, GivesBody}
+use Rattle.krb_seal.specs.Authentic.{Authenticity, GivesBody}
 use Rattle.krb_seal.specs.Sealer.{end_of_numbers}
 use Rattle.krb_structs.specs.declared.carried.KrbCarried.{KrbCarried}
 use Rattle.krb_structs.specs.declared.demand.KrbDemand.{KrbDemand}

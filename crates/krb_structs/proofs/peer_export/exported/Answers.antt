@@ -1,4 +1,4 @@
-use Rattle.std.proofs.Common.{◌≡◌, List, ℕ, sym, ap₂, ◌∙◌, arith}
+use Rattle.std.proofs.Common.{◌≡◌, sym, ap₂, ◌∙◌, arith}
 use Rattle.krb_structs.specs.PeerExport.{export_of}
 use Rattle.krb_structs.proofs.ExportLemmas.{differ, read_both}
 use Rattle.krb_structs.proofs.peer_export.exported.Goals.{then-next-via-then-next, then-next-via-else-next+then-expected}
@@ -8,8 +8,8 @@ pub returns-then-next-clause-none : goal.returns-then-next-clause-none
 returns-then-next-clause-none c = λ none n e is.
     let same = read_both c.args.state.now c.number_at-next.result c.number_at-expected.result n e c.number_at-next.ensures c.number_at-expected.ensures is in
     elim c.then-next.branch [
-      then-next-via-then-next w ↦ omega (arith, w.if-next.true, same.0, is.next_fits)
-    | then-next-via-else-next+then-expected w ↦ omega (arith, w.if-expected.true, same.1, is.expected_fits)
+      | then-next-via-then-next w ↦ omega (arith, w.if-next.true, same.0, is.next_fits)
+      | then-next-via-else-next+then-expected w ↦ omega (arith, w.if-expected.true, same.1, is.expected_fits)
     ]
 
 pub returns-then-ne-clause-none : goal.returns-then-ne-clause-none

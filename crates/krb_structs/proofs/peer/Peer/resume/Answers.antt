@@ -1,7 +1,6 @@
 use Rattle.std.proofs.Common.{arith, inr, length}
 use Rattle.krb_structs.specs.Fault.{answer_of}
 use Rattle.krb_structs.specs.Peer.{CanResume}
-use Rattle.krb_structs.specs.Session.{IsSession}
 use Rattle.krb_structs.proofs.Answering.{condition_met, new_answer, with_first}
 use Rattle.krb_structs.proofs.peer.Peer.resume.Goals as goal
 
