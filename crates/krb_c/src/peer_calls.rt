@@ -9,9 +9,7 @@ ghost use Rattle.krb_structs.specs.Reasons.{PeerAnswer, ResumeAnswer};
 
 use crate::handle::Handle;
 use crate::peer_handle::KrbPeer;
-use krb_structs::{
-    EXPORT_SIZE, Fault, KrbCarried, KrbDemand, KrbMoment, KrbSession, Peer, answer,
-};
+use krb_structs::{EXPORT_SIZE, Fault, KrbCarried, KrbDemand, KrbMoment, KrbSession, Peer, answer};
 use std::alloc::Global;
 
 /// Makes a peer of encryption type 17 or 18 under a key of 16 or 32 bytes. What the handle held ends.
