@@ -7,8 +7,10 @@ use Rattle.std.specs.Coded.{coded_option}
 use Rattle.krb_seal.specs.Sealer.{SealerState}
 use Rattle.krb_seal.specs.Opens.{OpenerState}
 use Rattle.krb_peers.specs.ReceiverState.{ReceiverState}
+use Rattle.krb_structs.specs.Peer.{PeerState}
 use Rattle.krb_c.specs.Held.{owns}
 use Rattle.krb_structs.specs.contracts.lane_receiver.LaneReceiver.{the_row as receiver_row}
+use Rattle.krb_structs.specs.contracts.peer.Peer.{the_row as peer_row}
 use Rattle.krb_structs.specs.contracts.any_sealer.AnySealer.{the_row as sealer_row}
 use Rattle.krb_structs.specs.contracts.wipeable_opener.WipeableOpener.{the_row as opener_row}
 
@@ -29,3 +31,9 @@ owns_receiver = owns receiver_row
 
 abbrev pub receiver_coded : Coded (Option ReceiverState)
 receiver_coded = coded_option receiver_row.coded
+
+abbrev pub owns_peer : Ptr → ℕ → Option PeerState → Fml
+owns_peer = owns peer_row
+
+abbrev pub peer_coded : Coded (Option PeerState)
+peer_coded = coded_option peer_row.coded

@@ -4,3 +4,4 @@ pub mod Handles
 pub mod Held
 pub mod Progress
 pub mod Place
+pub mod Peers

@@ -1,8 +1,8 @@
 //! Sealing and opening of KRB-SAFE and KRB-PRIV messages (RFC 4120) for programs in C:
-//! `krbrelay.h` declares what this library exports, and docs/C.md has a whole program.
+//! `krbrelay.h` declares what this library exports, and the page krbrelay(3) has a whole program.
 //!
-//! A handle is a struct of the caller's, made of zeros, which then holds a sealer, an opener or a
-//! receiver on the heap. Each export says of the handle what the function of `krb_structs` says: its
+//! A handle is a struct of the caller's, made of zeros, which then holds a sealer, an opener, a
+//! receiver or a peer on the heap. Each export says of the handle what the function of `krb_structs` says: its
 //! answer is that of the first condition that doesn't hold. The progress of a session's frames
 //! ([`krb_carry::Progress`]), the place of a session ([`krb_carry::Place`]) and a window
 //! ([`krb_window::Window`]) have no handle: they are numbers of the caller's.
@@ -14,6 +14,8 @@ mod message_calls;
 mod opener_calls;
 mod opener_handle;
 mod parts;
+mod peer_calls;
+mod peer_handle;
 mod place;
 mod place_calls;
 mod progress;

@@ -60,7 +60,7 @@ pub extern "C" fn krbrelay_opener_unseal(
     ensures opened { result ≡ 0 → OpensTo handle.old.opener number (micros_of at.now)
         frame.now (Ok (take size.new out.new)) }
     ensures size { result ≡ 0 → size.new ≤ length out.new }
-    ensures behind { result ≡ 0 → drop size.new out.new ≡ drop size.new out.old }
+    ensures rest { result ≡ 0 → drop size.new out.new ≡ drop size.new out.old }
 
     ensures kept { handle.new.opener ≡ handle.old.opener }
     ensures out_kept { ¬ (result ≡ 0) → out.new ≡ out.old }
@@ -89,7 +89,7 @@ pub extern "C" fn krbrelay_opener_unseal_in_place(
     ensures opened { result ≡ 0 → OpensTo handle.old.opener number (micros_of at.now)
         frame.old (Ok (take size.new frame.new)) }
     ensures size { result ≡ 0 → size.new ≤ length frame.new }
-    ensures behind { result ≡ 0 → drop size.new frame.new ≡ drop size.new frame.old }
+    ensures rest { result ≡ 0 → drop size.new frame.new ≡ drop size.new frame.old }
 
     ensures kept { handle.new.opener ≡ handle.old.opener }
     ensures frame_kept { ¬ (result ≡ 0) → frame.new ≡ frame.old }
@@ -121,7 +121,7 @@ pub extern "C" fn krbrelay_opener_open(
     ensures opened { result ≡ 0 → GivesTo handle.old.opener demand.now (micros_of at.now)
         frame.now (take size.new out.new) told.new }
     ensures size { result ≡ 0 → size.new ≤ length out.new }
-    ensures behind { result ≡ 0 → drop size.new out.new ≡ drop size.new out.old }
+    ensures rest { result ≡ 0 → drop size.new out.new ≡ drop size.new out.old }
 
     ensures kept { handle.new.opener ≡ handle.old.opener }
     ensures out_kept { ¬ (result ≡ 0) → out.new ≡ out.old }

@@ -59,7 +59,7 @@ pub extern "C" fn krbrelay_receiver_take(
     ensures accepted { result ≡ 0 → AcceptsTo handle.old.receiver (micros_of at.now) frame.now
         kind.new (take size.new out.new) handle.new.receiver }
     ensures size { result ≡ 0 → size.new ≤ length out.new }
-    ensures behind { result ≡ 0 → drop size.new out.new ≡ drop size.new out.old }
+    ensures rest { result ≡ 0 → drop size.new out.new ≡ drop size.new out.old }
 
     ensures unchanged { ¬ (result ≡ 0) → handle.new.receiver ≡ handle.old.receiver }
     ensures out_kept { ¬ (result ≡ 0) → out.new ≡ out.old }

@@ -67,7 +67,7 @@ pub extern "C" fn krbrelay_sealer_seal(
     ensures sealed { result ≡ 0 → SealsTo handle.old.sealer user.now (micros_of at.now)
         confounder.now (take size.new out.new) }
     ensures size { result ≡ 0 → size.new ≤ length out.new }
-    ensures behind { result ≡ 0 → drop size.new out.new ≡ drop size.new out.old }
+    ensures rest { result ≡ 0 → drop size.new out.new ≡ drop size.new out.old }
     ensures advanced { result ≡ 0 → handle.new.sealer ≡ advanced_if handle.old.sealer }
 
     ensures unchanged { ¬ (result ≡ 0) → handle.new.sealer ≡ handle.old.sealer }
@@ -101,7 +101,7 @@ pub extern "C" fn krbrelay_sealer_seal_record(
     ensures sealed { result ≡ 0 → SealsRecordTo handle.old.sealer kind body.now (micros_of at.now)
         confounder.now (take size.new out.new) }
     ensures size { result ≡ 0 → size.new ≤ length out.new }
-    ensures behind { result ≡ 0 → drop size.new out.new ≡ drop size.new out.old }
+    ensures rest { result ≡ 0 → drop size.new out.new ≡ drop size.new out.old }
     ensures advanced { result ≡ 0 → handle.new.sealer ≡ advanced_if handle.old.sealer }
 
     ensures unchanged { ¬ (result ≡ 0) → handle.new.sealer ≡ handle.old.sealer }

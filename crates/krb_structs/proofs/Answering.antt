@@ -13,14 +13,16 @@ use Rattle.krb_seal.specs.Sealer.{HasFrameSize, SealerState, end_of_numbers}
 use Rattle.krb_seal.specs.Opens.{OpenerState, Opens}
 use Rattle.krb_structs.specs.declared.demand.KrbDemand.{KrbDemand}
 use Rattle.krb_structs.specs.declared.moment.KrbMoment.{KrbMoment}
+use Rattle.krb_structs.specs.declared.session.KrbSession.{KrbSession}
 use Rattle.krb_structs.specs.declared.fault.Fault.{Fault}
-use Rattle.krb_structs.specs.declared.fault.Fault.TheVariants.{Etype, KeySize, Refused, Room}
+use Rattle.krb_structs.specs.declared.fault.Fault.TheVariants.{Argument, Etype, KeySize, Refused, Room}
 use Rattle.krb_structs.specs.Demand.{IsDemand, OpensWith}
 use Rattle.krb_structs.specs.Fault.{IsDone, Needs, OrMemory, answer_of, fault_code}
 use Rattle.krb_structs.specs.Moment.{IsTimed, micros_of}
 use Rattle.krb_structs.specs.Opening.{HeldOpener, OpensTo}
-use Rattle.krb_structs.specs.Reasons.{DemandAnswer, NeedsKey, NeedsMoment, OpenAnswer, SealAnswer, SessionAnswer}
+use Rattle.krb_structs.specs.Reasons.{DemandAnswer, NeedsKey, NeedsMoment, NewAnswer, OpenAnswer, SealAnswer, SessionAnswer}
 use Rattle.krb_structs.specs.Sealing.{IsReady}
+use Rattle.krb_structs.specs.Session.{HaveRoom, IsSession}
 use Rattle.krb_structs.specs.Unseals.{UnsealsInto}
 use Rattle.krb_structs.proofs.Refusals.{is_memory}
 
@@ -68,6 +70,74 @@ session_or_memory IsWhole mode sender receiver (inr (whole, inl (unmet, is))) = 
 session_or_memory IsWhole mode sender receiver (inr (whole, inr (is_mode, inl (unmet, is)))) = absurd (omega arith)
 session_or_memory IsWhole mode sender receiver (inr (whole, inr (is_mode, inr (have_room, h)))) = inr (whole, inr (is_mode, inr (have_room, inl refl)))
 
+made_by : (o : Option EtypeValue) (n : ℕ) (IsWhole : Type 0) (mode sender receiver : ℕ) → MatchOption o (0 ≡ fault_code Etype) (λ e. Needs (n ≡ key_size e) KeySize (SessionAnswer IsWhole mode sender receiver) 0)
+    → MatchOption o (904 ≡ fault_code Etype) (λ e. Needs (n ≡ key_size e) KeySize (SessionAnswer IsWhole mode sender receiver) 904)
+made_by None n IsWhole mode sender receiver h = absurd (omega arith)
+made_by (Some e) n IsWhole mode sender receiver (inl (unmet, is)) = absurd (omega arith)
+made_by (Some e) n IsWhole mode sender receiver (inr (fits, h)) = inr (fits, session_or_memory IsWhole mode sender receiver h)
+
+-- of a number that the code cast
+pub new_answer : (etype : ℤ) (n : ℕ) (IsWhole : Type 0) (mode sender receiver code : ℕ) → SFits w32 etype → NewAnswer (to_z w32 (of_z w32 etype)) n IsWhole mode sender receiver code
+    → NewAnswer etype n IsWhole mode sender receiver code
+new_answer etype n IsWhole mode sender receiver code fits h = subst (λ (e : ℤ). NewAnswer e n IsWhole mode sender receiver code) (to_z-of_z w32 etype fits) h
+
+-- a sealer or an opener was made, and memory ran out later
+pub made_or_memory : (etype : ℤ) (n : ℕ) (IsWhole : Type 0) (mode sender receiver : ℕ) → NewAnswer etype n IsWhole mode sender receiver 0 → NewAnswer etype n IsWhole mode sender receiver 904
+made_or_memory etype n IsWhole mode sender receiver h = made_by (etype_of etype) n IsWhole mode sender receiver h
+
+last_of : (IsWhole : Type 0) (mode sender receiver code : ℕ) → (mode ≡ 20) ⊎ (mode ≡ 21) → IsWhole → HaveRoom sender receiver → SessionAnswer IsWhole mode sender receiver code → OrMemory IsDone code
+last_of IsWhole mode sender receiver code is_mode whole room (inl (unmet, is)) = absurd (unmet whole)
+last_of IsWhole mode sender receiver code is_mode whole room (inr (w, inl (unmet, is))) = absurd (unmet is_mode)
+last_of IsWhole mode sender receiver code is_mode whole room (inr (w, inr (m, inl (unmet, is)))) = absurd (unmet room)
+last_of IsWhole mode sender receiver code is_mode whole room (inr (w, inr (m, inr (r, h)))) = h
+
+session_after : (One Two : Type 0) (mode sender receiver sender2 receiver2 code : ℕ) → SessionAnswer One mode sender receiver 0 → Two → HaveRoom sender2 receiver2 → SessionAnswer Two mode sender2 receiver2 code
+    → SessionAnswer One mode sender receiver code
+session_after One Two mode sender receiver sender2 receiver2 code (inl (unmet, is)) two room2 h = absurd (omega arith)
+session_after One Two mode sender receiver sender2 receiver2 code (inr (one, inl (unmet, is))) two room2 h = absurd (omega arith)
+session_after One Two mode sender receiver sender2 receiver2 code (inr (one, inr (is_mode, inl (unmet, is)))) two room2 h = absurd (omega arith)
+session_after One Two mode sender receiver sender2 receiver2 code (inr (one, inr (is_mode, inr (room, done)))) two room2 h =
+    inr (one, inr (is_mode, inr (room, last_of Two mode sender2 receiver2 code is_mode two room2 h)))
+
+after_by : (o : Option EtypeValue) (n : ℕ) (One Two : Type 0) (mode sender receiver sender2 receiver2 code : ℕ) → MatchOption o (0 ≡ fault_code Etype) (λ e. Needs (n ≡ key_size e) KeySize (SessionAnswer One mode sender receiver) 0)
+    → Two → HaveRoom sender2 receiver2 → MatchOption o (code ≡ fault_code Etype) (λ e. Needs (n ≡ key_size e) KeySize (SessionAnswer Two mode sender2 receiver2) code)
+    → MatchOption o (code ≡ fault_code Etype) (λ e. Needs (n ≡ key_size e) KeySize (SessionAnswer One mode sender receiver) code)
+after_by None n One Two mode sender receiver sender2 receiver2 code first two room2 h = absurd (omega arith)
+after_by (Some e) n One Two mode sender receiver sender2 receiver2 code (inl (unmet, is)) two room2 h = absurd (omega arith)
+after_by (Some e) n One Two mode sender receiver sender2 receiver2 code (inr (fits, first)) two room2 (inl (unmet, is)) = absurd (unmet fits)
+after_by (Some e) n One Two mode sender receiver sender2 receiver2 code (inr (fits, first)) two room2 (inr (same, h)) =
+    inr (fits, session_after One Two mode sender receiver sender2 receiver2 code first two room2 h)
+
+-- a sealer was made, and then an opener under the same key and in the same mode: it lacks nothing but memory
+pub made_after : (etype : ℤ) (n : ℕ) (One Two : Type 0) (mode sender receiver sender2 receiver2 code : ℕ) → NewAnswer etype n One mode sender receiver 0 → Two → HaveRoom sender2 receiver2
+    → NewAnswer etype n Two mode sender2 receiver2 code → NewAnswer etype n One mode sender receiver code
+made_after etype n One Two mode sender receiver sender2 receiver2 code first two room2 h = after_by (etype_of etype) n One Two mode sender receiver sender2 receiver2 code first two room2 h
+
+-- ---- a session that is whole in other words
+
+session_as : (One Two : Type 0) (mode sender receiver code : ℕ) → (One → Two) → (Two → One) → SessionAnswer One mode sender receiver code → SessionAnswer Two mode sender receiver code
+session_as One Two mode sender receiver code to back (inl (unmet, is)) = inl (λ two. unmet (back two), is)
+session_as One Two mode sender receiver code to back (inr (one, h)) = inr (to one, h)
+
+new_as : (o : Option EtypeValue) (n : ℕ) (One Two : Type 0) (mode sender receiver code : ℕ) → (One → Two) → (Two → One)
+    → MatchOption o (code ≡ fault_code Etype) (λ e. Needs (n ≡ key_size e) KeySize (SessionAnswer One mode sender receiver) code)
+    → MatchOption o (code ≡ fault_code Etype) (λ e. Needs (n ≡ key_size e) KeySize (SessionAnswer Two mode sender receiver) code)
+new_as None n One Two mode sender receiver code to back h = h
+new_as (Some e) n One Two mode sender receiver code to back (inl (unmet, is)) = inl (unmet, is)
+new_as (Some e) n One Two mode sender receiver code to back (inr (fits, h)) = inr (fits, session_as One Two mode sender receiver code to back h)
+
+-- whether a session is whole doesn't turn on its first number
+pub with_first : (etype : ℤ) (n : ℕ) (told : KrbSession) (first code : ℕ) → NewAnswer etype n (IsSession (record told { first = first })) told.mode told.sender.len told.receiver.len code
+    → NewAnswer etype n (IsSession told) told.mode told.sender.len told.receiver.len code
+with_first etype n told first code h =
+    new_as (etype_of etype) n (IsSession (record told { first = first })) (IsSession told) told.mode told.sender.len told.receiver.len code
+    (λ is. record { reserved = is.reserved; receiver = is.receiver }) (λ is. record { reserved = is.reserved; receiver = is.receiver }) h
+
+-- a condition held
+pub condition_met : (Condition : Type 0) → Needs Condition Argument IsDone 0 → Condition
+condition_met Condition (inl (unmet, is)) = absurd (omega arith)
+condition_met Condition (inr (met, done)) = met
+
 -- ---- opening
 
 -- the opener's refusal, or out of memory
@@ -108,10 +178,10 @@ opens_into h number now frame user buffer (Err f) is opens = tt
 pub unseals : (h : HeldOpener) (number : ℕ) (at : KrbMoment) (frame before buffer user : List ℕ) (result : Result ℕ Fault) → IsTimed at → OpensTo h number (micros_of at) frame (Ok user)
     → IfOk result (λ size. take size buffer ≡ user) → IfOk result (λ size. size ≤ length buffer) → IfOk result (λ size. drop size buffer ≡ drop size before) → OnErr result (buffer ≡ before)
     → OnOk result (length user ≤ length before) → IfErr result (λ f. (f ≡ Room) × (length before < length user)) → UnsealsInto h number at frame before buffer result
-unseals h number at frame before buffer user result timed opens written size behind kept fits short = record {
+unseals h number at frame before buffer user result timed opens written size rest kept fits short = record {
   opened = opens_into h number (micros_of at) frame user buffer result written opens;
   size = size;
-  behind = behind;
+  rest = rest;
   kept = kept;
   answer = opened_answer h number at frame user (length before) (answer_of result) timed opens (room_answer result (length user) (length before) fits short);
 }

@@ -1,15 +1,18 @@
 -- From the checks of a demand to the outcome of opening with it.
-use Rattle.std.proofs.Common.{◌≡◌, ℕ, List, Result, Ok, Err, refl, sym, subst, ◌∙◌, inl, inr}
-use Rattle.std.specs.Prelude.{IsErrAnd}
+use Rattle.std.proofs.Common.{◌≡◌, ℕ, List, [], ◌∷◌, Bool, true, false, Result, Ok, Err, Some, refl, sym, ap, subst, ◌∙◌, inl, inr}
+use Rattle.std.specs.Prelude.{◌&&◌, IsErrAnd}
 use Rattle.krb_der.specs.declared.body.Body.{Body}
 use Rattle.krb_seal.specs.declared.refusal.Refusal.{Refusal}
-use Rattle.krb_seal.specs.declared.refusal.Refusal.TheVariants.{Memory}
+use Rattle.krb_seal.specs.declared.refusal.Refusal.TheVariants.{BadAddr, BadOrder, Memory, Skew}
 use Rattle.krb_seal.specs.Opens.{OpenerState}
 use Rattle.krb_seal.specs.Authentic.{Authenticity, Authenticates, AuthenticOrMemory, GivesBody}
 use Rattle.krb_seal.specs.Unseals.{first_unmet, refusal_of}
 use Rattle.krb_seal.proofs.Checking.{body_not_passed, all_passed}
 use Rattle.krb_structs.specs.declared.demand.KrbDemand.{KrbDemand}
-use Rattle.krb_structs.specs.Demand.{AsDemanded, OpensWith, demand_checks}
+use Rattle.krb_structs.specs.declared.carried.KrbCarried.{KrbCarried}
+use Rattle.krb_structs.specs.Carried.{carried_of}
+use Rattle.krb_structs.specs.Demand.{AsDemanded, MeetsAllButNumber, OpensWith, all_have_room, demand_checks, number_meets, receiver_meets, sender_meets, time_meets}
+use Rattle.krb_structs.specs.Opening.{Misorders}
 
 goes_on : (o : OpenerState) (d : KrbDemand) (now : ℕ) (frame : List ℕ) (made : Authenticity) (b : Body) (result : Authenticity)
     → Authenticates o frame made → made ≡ Ok b → AuthenticOrMemory (AsDemanded d now (Ok b)) result → AuthenticOrMemory (OpensWith o d now frame) result
@@ -29,3 +32,27 @@ pub demand_met : {A : Type 0} (o : OpenerState) (d : KrbDemand) (now : ℕ) (fra
 demand_met o d now frame made b checked x (inl h) is met was = absurd (let y : Ok b ≡ Err Memory = sym is ∙ h in cc)
 demand_met o d now frame made b checked x (inr h) is met was =
     goes_on o d now frame made b (Ok b) h is (all_passed (demand_checks d now b) (GivesBody b) checked x (Ok b) met was (inr refl))
+
+-- ---- refused for the number alone
+
+last_unmet : (room addresses time number : Bool) → first_unmet ((room, BadAddr) ∷ (addresses, BadAddr) ∷ (time, Skew) ∷ (number, BadOrder) ∷ []) ≡ Some BadOrder
+    → (room ≡ true) × (addresses ≡ true) × (time ≡ true) × (number ≡ false)
+last_unmet false addresses time number e = absurd cc
+last_unmet true false time number e = absurd cc
+last_unmet true true false number e = absurd cc
+last_unmet true true true true e = absurd cc
+last_unmet true true true false e = (refl, refl, refl, refl)
+
+but_number : {A : Type 0} (d : KrbDemand) (now : ℕ) (b : Body) (checked : Result A Refusal) → first_unmet (demand_checks d now b) ≡ refusal_of checked → checked ≡ Err BadOrder → MeetsAllButNumber d now b
+but_number d now b checked unmet was =
+    let met = last_unmet (all_have_room b.s_addr b.r_addr) (sender_meets d b.s_addr && receiver_meets d b.r_addr) (time_meets d now b) (number_meets d b.seq) (unmet ∙ ap refusal_of was) in
+    record { room = met.0; addresses = met.1; time = met.2; number = met.3 }
+
+pub misorders : {A : Type 0} (o : OpenerState) (d : KrbDemand) (now : ℕ) (frame : List ℕ) (made : Authenticity) (b : Body) (checked : Result A Refusal) (told : KrbCarried)
+    → AuthenticOrMemory (Authenticates o frame) made → made ≡ Ok b → first_unmet (demand_checks d now b) ≡ refusal_of checked → checked ≡ Err BadOrder → told ≡ carried_of b → Misorders o d now frame told
+misorders o d now frame made b checked told (inl h) is unmet was tells = absurd (let x : Ok b ≡ Err Memory = sym is ∙ h in cc)
+misorders o d now frame made b checked told (inr h) is unmet was tells =
+    (b, subst (λ (z : Authenticity). Authenticates o frame z) is h, but_number d now b checked unmet was, tells)
+
+pub same_fault : (q r : Refusal) → ◌≡◌ {A = Authenticity} (Err q) (Err r) → q ≡ r
+same_fault q r e = cc

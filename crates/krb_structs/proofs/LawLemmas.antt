@@ -22,11 +22,11 @@ use Rattle.krb_structs.specs.Laws.{DemandedIsUnsealed, Demands, how_of}
 
 -- ---- lists of checks
 
-abbrev AllMet : Checks → Type 0
+abbrev pub AllMet : Checks → Type 0
 AllMet [] = Unit {0}
 AllMet ((test, r) ∷ rest) = (test ≡ true) × AllMet rest
 
-met_all : {A : Type 0} (checks : Checks) (Then : Result A Refusal → Type 0) (x : A) → Passes checks Then (Ok x) → AllMet checks × Then (Ok x)
+pub met_all : {A : Type 0} (checks : Checks) (Then : Result A Refusal → Type 0) (x : A) → Passes checks Then (Ok x) → AllMet checks × Then (Ok x)
 met_all [] Then x p = (tt, p)
 met_all ((true, r) ∷ rest) Then x p = let later = met_all rest Then x p in ((refl, later.0), later.1)
 met_all ((false, r) ∷ rest) Then x p = absurd cc
@@ -36,7 +36,7 @@ passes_all [] Then x met p = p
 passes_all ((true, r) ∷ rest) Then x met p = passes_all rest Then x met.1 p
 passes_all ((false, r) ∷ rest) Then x met p = absurd (let e : false ≡ true = met.0 in cc)
 
-same_body : (a b : Body) → ◌≡◌ {A = Authenticity} (Ok a) (Ok b) → a ≡ b
+pub same_body : (a b : Body) → ◌≡◌ {A = Authenticity} (Ok a) (Ok b) → a ≡ b
 same_body a b e = cc
 
 same_data : (a b : List ℕ) → ◌≡◌ {A = Outcome} (Ok a) (Ok b) → a ≡ b

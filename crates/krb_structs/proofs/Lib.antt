@@ -1,7 +1,9 @@
 mod AnswerLemmas
 mod Answering
 mod DemandLemmas
+mod ExportLemmas
 mod LawLemmas
+mod PeerLemmas
 mod ReceiverLemmas
 mod Refusals
 mod RoomLemmas

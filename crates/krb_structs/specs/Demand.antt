@@ -1,7 +1,7 @@
 -- What a caller demands of an authentic message, each demand with a number that says how: 0
 -- nothing, 1 that what the message tells fits, 2 that the message tells it and it fits. Of the
 -- sequence number 3 says that a message without one has the number 0.
-use Rattle.std.specs.Prelude.{◌≡◌, ℕ, ◌*◌, ◌≤◌, Bool, false, not, ◌&&◌, ◌||◌, [], ◌∷◌, List, length}
+use Rattle.std.specs.Prelude.{◌≡◌, ℕ, ◌*◌, ◌≤◌, Bool, true, false, not, ◌&&◌, ◌||◌, [], ◌∷◌, List, length}
 use Rattle.std.specs.Prelude.{Option, Some, None, Ok, Err, nat_le, nat_eq}
 use Rattle.std.specs.Option.{ForSome}
 use Rattle.krb_der.specs.declared.address.HostAddress.{HostAddress}
@@ -86,6 +86,13 @@ demand_checks d now b =
     ∷ (time_meets d now b, Skew)
     ∷ (number_meets d b.seq, BadOrder)
     ∷ []
+
+-- The body meets all of a demand but its number.
+pub record MeetsAllButNumber (d : KrbDemand) (now : ℕ) (b : Body) : Type 0 where
+  pub room : all_have_room b.s_addr b.r_addr ≡ true
+  pub addresses : (sender_meets d b.s_addr && receiver_meets d b.r_addr) ≡ true
+  pub time : time_meets d now b ≡ true
+  pub number : number_meets d b.seq ≡ false
 
 -- a body goes on where it meets the demands, and a refusal stays
 abbrev pub AsDemanded : KrbDemand → ℕ → Authenticity → Authenticity → Type 0

@@ -6,6 +6,8 @@ pub mod Header
 pub mod Laws
 pub mod Moment
 pub mod Opening
+pub mod Peer
+pub mod PeerExport
 pub mod Reasons
 pub mod Record
 pub mod Room

@@ -18,10 +18,13 @@ use Rattle.krb_peers.specs.Verdicts.{IsVerdict, Verdict, record_of}
 use Rattle.krb_structs.specs.declared.fault.Fault.{Fault}
 use Rattle.krb_structs.specs.declared.moment.KrbMoment.{KrbMoment}
 use Rattle.krb_structs.specs.declared.demand.KrbDemand.{KrbDemand}
+use Rattle.krb_structs.specs.declared.session.KrbSession.{KrbSession}
 use Rattle.krb_structs.specs.Record.{IsRecordOf}
 use Rattle.krb_structs.specs.Moment.{IsMoment, micros_of}
 use Rattle.krb_structs.specs.Opening.{HeldOpener}
-use Rattle.krb_structs.specs.Session.{HaveRoom, IsMode}
+use Rattle.krb_structs.specs.Session.{HaveRoom, IsMode, IsSession}
+use Rattle.krb_structs.specs.Peer.{CanResume, IsPeerDemand}
+use Rattle.krb_structs.specs.PeerExport.{Exports}
 use Rattle.krb_structs.specs.Demand.{IsDemand, OpensWith}
 use Rattle.krb_structs.specs.Fault.{IsDone, Needs, OrMemory, fault_code}
 use Rattle.krb_structs.specs.Answers.{IsTextOf}
@@ -138,6 +141,20 @@ NewAnswer etype n IsWhole mode sender receiver =
 abbrev pub ReceiverAnswer : ℕ → ℤ → ℕ → Type 0 → ℕ → ℕ → ℕ → ℕ → Type 0
 ReceiverAnswer expected etype n IsWhole mode sender receiver =
     Needs (expected ≤ end_of_numbers) Argument (NewAnswer etype n IsWhole mode sender receiver)
+
+-- of making a peer with a key of n bytes
+abbrev pub PeerAnswer : ℤ → ℕ → KrbSession → KrbDemand → ℕ → Type 0
+PeerAnswer etype n told d =
+    Needs (IsPeerDemand d) Argument
+    (NewAnswer etype n (IsSession told) told.mode told.sender.len told.receiver.len)
+
+-- of making one that goes on from an export: it seals under the number that is next there
+abbrev pub ResumeAnswer : ℤ → ℕ → KrbSession → KrbDemand → List ℕ → ℕ → Type 0
+ResumeAnswer etype n told d state =
+    Needs (CanResume told d state) Argument
+    (λ code. (next : ℕ) × ((expected : ℕ) × Exports state next expected
+    × Needs (¬ (next ≡ end_of_numbers)) Exhausted
+    (NewAnswer etype n (IsSession told) told.mode told.sender.len told.receiver.len) code))
 
 -- ---- without a key
 

@@ -14,6 +14,6 @@ pub record UnsealsInto (opener : HeldOpener) (number : ℕ) (at : KrbMoment)
   pub opened : IfOk result
       (λ size. OpensTo opener number (micros_of at) frame (Ok (take size now)))
   pub size : IfOk result (λ size. size ≤ length now)
-  pub behind : IfOk result (λ size. drop size now ≡ drop size before)
+  pub rest : IfOk result (λ size. drop size now ≡ drop size before)
   pub kept : OnErr result (now ≡ before)
   pub answer : OpenAnswer opener number at frame (length before) (answer_of result)

@@ -40,6 +40,23 @@ impl Model for AnySealer {
 }
 
 impl AnySealer {
+    /// A sealer.
+    pub(crate) fn of(
+        alloc: Global,
+        etype: i32,
+        key: &[u8],
+        told: &KrbSession,
+    ) -> Result<AnySealer, Fault>
+        ensures made { IfOk result (λ s. s ≡ new_state etype key.now (session_of told.now)) }
+        ensures answer { NewAnswer etype (length key.now) (IsSession told.now) told.now.mode
+            told.now.sender.len told.now.receiver.len (answer_of result) }
+    {
+        let key = session_key(etype, key)?;
+        Ok(AnySealer {
+            sealer: SessionSealer::new(key, session(alloc, told)?),
+        })
+    }
+
     /// A sealer on the heap.
     pub fn new(
         alloc: Global,
@@ -52,10 +69,7 @@ impl AnySealer {
         ensures answer { NewAnswer etype (length key.now) (IsSession told.now) told.now.mode
             told.now.sender.len told.now.receiver.len (answer_of result) }
     {
-        let key = session_key(etype, key)?;
-        let sealer = AnySealer {
-            sealer: SessionSealer::new(key, session(alloc, told)?),
-        };
+        let sealer = AnySealer::of(alloc, etype, key, told)?;
         match Box::new(alloc, sealer) {
             Ok(sealer) => Ok(sealer),
             Err(_) => Err(Fault::Refused(Refusal::Memory)),
@@ -118,7 +132,7 @@ impl AnySealer {
         ensures sealed { IfOk result (λ size. SealsNext self.old user.now at confounder.now
             (take size out.new)) }
         ensures size { IfOk result (λ size. size ≤ length out.new) }
-        ensures behind { IfOk result (λ size. drop size out.new ≡ drop size out.old) }
+        ensures rest { IfOk result (λ size. drop size out.new ≡ drop size out.old) }
         ensures advanced { OnOk result (self.new ≡ advanced self.old) }
         ensures unchanged { OnErr result (self.new ≡ self.old) }
         ensures kept { OnErr result (out.new ≡ out.old) }
@@ -143,7 +157,7 @@ impl AnySealer {
         ensures sealed { IfOk result (λ size. SealsNext self.old user.now (micros_of at.now)
             confounder.now (take size out.new)) }
         ensures size { IfOk result (λ size. size ≤ length out.new) }
-        ensures behind { IfOk result (λ size. drop size out.new ≡ drop size out.old) }
+        ensures rest { IfOk result (λ size. drop size out.new ≡ drop size out.old) }
         ensures advanced { OnOk result (self.new ≡ advanced self.old) }
         ensures unchanged { OnErr result (self.new ≡ self.old) }
         ensures kept { OnErr result (out.new ≡ out.old) }
@@ -168,7 +182,7 @@ impl AnySealer {
         ensures sealed { IfOk result (λ size. SealsRecord self.old kind body.now
             (micros_of at.now) confounder.now (take size out.new)) }
         ensures size { IfOk result (λ size. size ≤ length out.new) }
-        ensures behind { IfOk result (λ size. drop size out.new ≡ drop size out.old) }
+        ensures rest { IfOk result (λ size. drop size out.new ≡ drop size out.old) }
         ensures advanced { OnOk result (self.new ≡ advanced self.old) }
         ensures unchanged { OnErr result (self.new ≡ self.old) }
         ensures kept { OnErr result (out.new ≡ out.old) }

@@ -18,7 +18,7 @@ pub fn put_front(out: &mut [u8], bytes: &[u8])
 pub fn put_within(out: &mut [u8], bytes: &[u8]) -> Result<usize, Fault>
     ensures written { IfOk result (λ size. take size out.new ≡ bytes.now) }
     ensures size { IfOk result (λ size. size ≤ length out.new) }
-    ensures behind { IfOk result (λ size. drop size out.new ≡ drop size out.old) }
+    ensures rest { IfOk result (λ size. drop size out.new ≡ drop size out.old) }
     ensures kept { OnErr result (out.new ≡ out.old) }
     ensures fits { OnOk result (length bytes.now ≤ length out.old) }
     ensures room { IfErr result (λ f. (f ≡ Fault.Room) × (length out.old < length bytes.now)) }
@@ -34,7 +34,7 @@ pub fn put_within(out: &mut [u8], bytes: &[u8]) -> Result<usize, Fault>
 pub fn put_user_data(out: &mut [u8], user_data: &Secret) -> Result<usize, Fault>
     ensures written { IfOk result (λ size. take size out.new ≡ user_data.now) }
     ensures size { IfOk result (λ size. size ≤ length out.new) }
-    ensures behind { IfOk result (λ size. drop size out.new ≡ drop size out.old) }
+    ensures rest { IfOk result (λ size. drop size out.new ≡ drop size out.old) }
     ensures kept { OnErr result (out.new ≡ out.old) }
     ensures fits { OnOk result (length user_data.now ≤ length out.old) }
     ensures room { IfErr result (λ f. (f ≡ Fault.Room) × (length out.old < length user_data.now)) }

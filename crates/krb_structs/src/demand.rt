@@ -6,9 +6,12 @@ ghost use Rattle.krb_der.specs.Body.{InRange};
 ghost use Rattle.krb_der.specs.Address.{same_address};
 ghost use Rattle.krb_seal.specs.Unseals.{first_unmet, refusal_of};
 ghost use Rattle.krb_seal.specs.Authentic.{AuthenticOrMemory};
+ghost use Rattle.krb_structs.specs.Carried.{carried_of};
+ghost use Rattle.krb_structs.specs.Opening.{Misorders};
 ghost use Rattle.krb_structs.specs.Session.{address_of, address_room};
 ghost use Rattle.krb_structs.specs.Demand.{AreAddresses, AreHows, AreNumbers, AreShort, IsDemand, OpensWith, all_have_room, demand_checks, has_room, is_within, number_meets, receiver_meets, sender_meets, time_meets};
 
+use crate::carried::{KrbCarried, carried};
 use crate::session::{ADDRESS_ROOM, KrbAddress, are_zeros, is_no_address};
 use krb_base::Secret;
 use krb_der::{Body, HostAddress, MICROS_PER_SECOND};
@@ -156,6 +159,7 @@ fn check_demand(demand: &KrbDemand, now: u64, body: &Body) -> Result<(), Refusal
     requires range { InRange body.now }
     ensures checks { first_unmet (demand_checks demand.now now body.now) ≡ refusal_of result }
     ensures short { OnOk result (AreShort body.now.s_addr body.now.r_addr) }
+    ensures short_too { result ≡ Err Refusal.BadOrder → AreShort body.now.s_addr body.now.r_addr }
     ensures memory { IfErr result (λ r. ¬ (r ≡ Refusal.Memory)) }
 {
     if !all_have_room(&body.s_addr, &body.r_addr) {
@@ -179,17 +183,22 @@ fn refuse(body: Body) {
     drop(Secret::new(user_data.into_vec()));
 }
 
-/// The authentic body of a frame, where it meets the demands.
+/// The authentic body of a frame, where it meets the demands. Where it meets all but the number, what
+/// it carried is told.
 pub fn open_body(
     alloc: Global,
     opener: &Opener,
     frame: &[u8],
     demand: &KrbDemand,
     now: u64,
+    told: &mut KrbCarried,
 ) -> Result<Body, Refusal>
     requires { IsDemand demand.now }
     ensures answer { AuthenticOrMemory (OpensWith opener.now demand.now now frame.now) result }
     ensures short { IfOk result (λ b. AreShort b.s_addr b.r_addr) }
+    ensures misordered { result ≡ Err Refusal.BadOrder
+        → Misorders opener.now demand.now now frame.now told.new }
+    ensures untold { ¬ (result ≡ Err Refusal.BadOrder) → told.new ≡ told.old }
     // A frame over the limit is refused before anything is allocated.
     ensures memory { result ≡ Err Refusal.Memory → length frame.now ≤ frame_limit }
 {
@@ -197,8 +206,20 @@ pub fn open_body(
     match check_demand(demand, now, &body) {
         Ok(()) => Ok(body),
         Err(refusal) => {
+            tell_misordered(refusal, &body, told);
             refuse(body);
             Err(refusal)
         }
+    }
+}
+
+/// Tells what a body carries that is refused for its number alone.
+fn tell_misordered(refusal: Refusal, body: &Body, told: &mut KrbCarried)
+    requires { refusal ≡ Refusal.BadOrder → AreShort body.now.s_addr body.now.r_addr }
+    ensures told { refusal ≡ Refusal.BadOrder → told.new ≡ carried_of body.now }
+    ensures untold { ¬ (refusal ≡ Refusal.BadOrder) → told.new ≡ told.old }
+{
+    if matches!(refusal, Refusal::BadOrder) {
+        *told = carried(body);
     }
 }

@@ -92,7 +92,7 @@ impl LaneReceiver {
         ensures accepted { IfOk result (λ taken. Accepts self.old (micros_of at.now) frame.now
             taken.0 (take taken.1 out.new) self.new) }
         ensures size { IfOk result (λ taken. taken.1 ≤ length out.new) }
-        ensures behind { IfOk result (λ taken. drop taken.1 out.new ≡ drop taken.1 out.old) }
+        ensures rest { IfOk result (λ taken. drop taken.1 out.new ≡ drop taken.1 out.old) }
         ensures unchanged { OnErr result (self.new ≡ self.old) }
         ensures kept { OnErr result (out.new ≡ out.old) }
         ensures answer { TakeAnswer (Some self.old) at.now frame.now (length out.old)

@@ -1,6 +1,7 @@
-//! Laws of what is demanded.
+//! Laws of what is demanded, and of exports.
 
 ghost use Rattle.krb_structs.specs.Laws.{DemandedIsUnsealed};
+ghost use Rattle.krb_structs.specs.PeerExport.{OneExport};
 
 use krb_seal::authentic_laws;
 
@@ -11,3 +12,8 @@ pub fn demand_laws()
 {
     authentic_laws();
 }
+
+/// No bytes are the export of two pairs of numbers, so a peer goes on from those that were exported.
+pub fn export_laws()
+    ensures { OneExport }
+{}

@@ -2,9 +2,9 @@
 //! caller's, as C has them: what `krb_c` exports under C's names, for programs in Rattle.
 //!
 //! A [`KrbSession`] or a [`KrbExpect`] makes an [`AnySealer`], a [`WipeableOpener`] or a
-//! [`LaneReceiver`] on the heap. These write into the caller's buffer. A [`Fault`] says why nothing was
+//! [`LaneReceiver`] on the heap, and a session with a [`KrbDemand`] a [`Peer`]. These write into the caller's buffer. A [`Fault`] says why nothing was
 //! done, and has the number that C is answered ([`Fault::code`]). It is that of the first condition that
-//! doesn't hold, and leaves sealer, receiver and buffer as they were.
+//! doesn't hold, and leaves sealer, receiver, peer and buffer as they were.
 #![tactic(auto)]
 
 mod answers;
@@ -18,6 +18,8 @@ mod lane_receiver;
 mod laws;
 mod moment;
 mod opening;
+mod peer;
+mod peer_export;
 mod record;
 mod room;
 mod session;
@@ -31,9 +33,11 @@ pub use demand::KrbDemand;
 pub use fault::{Fault, answer};
 pub use header::{KrbHeader, message_header};
 pub use lane_receiver::LaneReceiver;
-pub use laws::demand_laws;
+pub use laws::{demand_laws, export_laws};
 pub use moment::KrbMoment;
 pub use opening::{open_into, unseal_in_place, unseal_into};
+pub use peer::Peer;
+pub use peer_export::EXPORT_SIZE;
 pub use room::frame_size;
 pub use session::{ADDRESS_ROOM, KrbAddress, KrbExpect, KrbSession};
 pub use wipe::Wipe;

@@ -1,7 +1,7 @@
 //! Openers used, in Rattle's types.
 
 ghost use Rattle.std.specs.Prelude.{◌≡◌, ◌≤◌, ℕ, drop, length, take, IfErr, IfOk, OnErr, OnOk, Ok, Some};
-ghost use Rattle.krb_structs.specs.Opening.{GivesTo, OpensTo};
+ghost use Rattle.krb_structs.specs.Opening.{GivesTo, MisordersTo, OpensTo};
 ghost use Rattle.krb_structs.specs.Fault.{answer_of, fault_code};
 ghost use Rattle.krb_structs.specs.Moment.{IsTimed, micros_of};
 ghost use Rattle.krb_structs.specs.Reasons.{DemandAnswer, OpenAnswer};
@@ -85,9 +85,37 @@ pub fn open_into(
     ensures opened { IfOk result (λ size. GivesTo (Some opener.now) demand.now (micros_of at.now)
         frame.now (take size out.new) told.new) }
     ensures size { IfOk result (λ size. size ≤ length out.new) }
-    ensures behind { IfOk result (λ size. drop size out.new ≡ drop size out.old) }
+    ensures rest { IfOk result (λ size. drop size out.new ≡ drop size out.old) }
     ensures kept { OnErr result (out.new ≡ out.old) }
     ensures untold { OnErr result (told.new ≡ told.old) }
+    ensures answer { DemandAnswer (Some opener.now) demand.now at.now frame.now (length out.old)
+        (answer_of result) }
+{
+    let mut read = *told;
+    let size = open_telling(alloc, opener, frame, demand, at, out, &mut read)?;
+    *told = read;
+    Ok(size)
+}
+
+/// The same, which tells what the message carried also where the number alone is refused, with
+/// BADORDER.
+pub fn open_telling(
+    alloc: Global,
+    opener: &WipeableOpener,
+    frame: &[u8],
+    demand: &KrbDemand,
+    at: &KrbMoment,
+    out: &mut [u8],
+    told: &mut KrbCarried,
+) -> Result<usize, Fault>
+    ensures opened { IfOk result (λ size. GivesTo (Some opener.now) demand.now (micros_of at.now)
+        frame.now (take size out.new) told.new) }
+    ensures size { IfOk result (λ size. size ≤ length out.new) }
+    ensures rest { IfOk result (λ size. drop size out.new ≡ drop size out.old) }
+    ensures kept { OnErr result (out.new ≡ out.old) }
+    ensures misordered { answer_of result ≡ 42 → MisordersTo (Some opener.now) demand.now
+        (micros_of at.now) frame.now told.new }
+    ensures untold { ¬ (answer_of result ≡ 0) → ¬ (answer_of result ≡ 42) → told.new ≡ told.old }
     ensures answer { DemandAnswer (Some opener.now) demand.now at.now frame.now (length out.old)
         (answer_of result) }
 {
@@ -97,7 +125,7 @@ pub fn open_into(
     }
     let moment = at.moment()?;
     let now = moment.micros();
-    let body = open_body(alloc, opener, frame, demand, now)?;
+    let body = open_body(alloc, opener, frame, demand, now, told)?;
     let carried = carried(&body);
     let Body { user_data, .. } = body;
     let user_data = Secret::new(user_data.into_vec());

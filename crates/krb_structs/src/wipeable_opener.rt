@@ -35,6 +35,25 @@ impl Model for WipeableOpener {
 }
 
 impl WipeableOpener {
+    /// An opener.
+    pub(crate) fn of(
+        alloc: Global,
+        etype: i32,
+        key: &[u8],
+        told: &KrbExpect,
+    ) -> Result<WipeableOpener, Fault>
+        ensures made { IfOk result (λ o.
+            o ≡ Some (opener_of etype key.now (expect_of told.now))) }
+        ensures answer { NewAnswer etype (length key.now) (IsExpect told.now) told.now.mode
+            told.now.sender.len told.now.receiver.len (answer_of result) }
+    {
+        let key = session_key(etype, key)?;
+        Ok(WipeableOpener {
+            opener: Opener::new(key, expectation(alloc, told)?),
+            wiped: false,
+        })
+    }
+
     /// An opener on the heap.
     pub fn new(
         alloc: Global,
@@ -47,11 +66,7 @@ impl WipeableOpener {
         ensures answer { NewAnswer etype (length key.now) (IsExpect told.now) told.now.mode
             told.now.sender.len told.now.receiver.len (answer_of result) }
     {
-        let key = session_key(etype, key)?;
-        let opener = WipeableOpener {
-            opener: Opener::new(key, expectation(alloc, told)?),
-            wiped: false,
-        };
+        let opener = WipeableOpener::of(alloc, etype, key, told)?;
         match Box::new(alloc, opener) {
             Ok(opener) => Ok(opener),
             Err(_) => Err(Fault::Refused(Refusal::Memory)),

@@ -6,4 +6,4 @@ pub returns : goal.returns
 returns c =
     let put = c.put_user_data.ensures in
     unseals (Some c.args.opener.now) c.args.number c.args.at.now c.args.frame.now c.args.frame.now c.put_user_data.new.out c.in_ok-user_data.user_data c.put_user_data.result
-    c.in_ok-user_data.ensures.ready c.in_ok-user_data.ensures.opened put.written put.size put.behind put.kept put.fits put.room
+    c.in_ok-user_data.ensures.ready c.in_ok-user_data.ensures.opened put.written put.size put.rest put.kept put.fits put.room

@@ -1,26 +1,10 @@
-use Rattle.std.proofs.Common.{ℕ, sym, subst, length}
-use Rattle.krb_structs.specs.Reasons.{NewAnswer, SessionAnswer}
+use Rattle.std.proofs.Common.{length}
 use Rattle.krb_structs.specs.Session.{IsExpect}
-use Rattle.krb_structs.proofs.Answering.{answer_is, key_met, session_or_memory}
+use Rattle.krb_structs.proofs.Answering.{made_or_memory, new_answer}
 use Rattle.krb_structs.proofs.wipeable_opener.WipeableOpener.new.Goals as goal
-
-pub returns-in_err-expectation-clause-answer : goal.returns-in_err-expectation-clause-answer
-returns-in_err-expectation-clause-answer c =
-    let told = c.args.told.now in let n = length c.args.key.now in
-    let Then : ℕ → Type 0 = SessionAnswer (IsExpect c.args.told.now) told.mode told.sender.len told.receiver.len in
-    let is = answer_is c.from_residual-in_err-expectation.result c.in_err-expectation.field-0.0 c.from_residual-in_err-expectation.ensures.1 in
-    subst (λ (code : ℕ). NewAnswer c.args.etype n (IsExpect c.args.told.now) told.mode told.sender.len told.receiver.len code) (sym is)
-    (key_met c.args.etype n Then _ c.ranges.etype c.in_ok-key.ensures.answer c.in_err-expectation.ensures.answer)
-
-pub returns-in-Ok-clause-answer : goal.returns-in-Ok-clause-answer
-returns-in-Ok-clause-answer c =
-    let told = c.args.told.now in
-    let Then : ℕ → Type 0 = SessionAnswer (IsExpect c.args.told.now) told.mode told.sender.len told.receiver.len in
-    key_met c.args.etype (length c.args.key.now) Then 0 c.ranges.etype c.in_ok-key.ensures.answer c.in_ok-expectation.ensures.answer
 
 pub returns-clause-answer : goal.returns-clause-answer
 returns-clause-answer c =
-    let told = c.args.told.now in
-    let Then : ℕ → Type 0 = SessionAnswer (IsExpect c.args.told.now) told.mode told.sender.len told.receiver.len in
-    let memory = session_or_memory (IsExpect c.args.told.now) told.mode told.sender.len told.receiver.len c.in_ok-expectation.ensures.answer in
-    key_met c.args.etype (length c.args.key.now) Then 904 c.ranges.etype c.in_ok-key.ensures.answer memory
+    let told = c.args.told.now in let n = length c.args.key.now in
+    made_or_memory c.args.etype n (IsExpect c.args.told.now) told.mode told.sender.len told.receiver.len
+    (new_answer c.args.etype n (IsExpect c.args.told.now) told.mode told.sender.len told.receiver.len 0 c.ranges.etype c.in_ok-opener.ensures.answer)
