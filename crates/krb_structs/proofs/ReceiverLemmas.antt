@@ -8,7 +8,7 @@ use Rattle.krb_record.specs.declared.record.Record.TheVariants.{Text, Batch, Clo
 use Rattle.krb_record.specs.Record.{SpellsRecord, bytes_of, first_byte_of, kind_of, number_of}
 use Rattle.krb_peers.specs.declared.receiver.Opened.{Opened}
 use Rattle.krb_peers.specs.ReceiverState.{ReceiverState}
-use Rattle.krb_peers.specs.Receiver.{IsJudgement, OpensRecord, TakesMemory, receiver_behind}
+use Rattle.krb_peers.specs.Receiver.{IsJudgement, OpensRecord, TakesMemory, receiver_after}
 use Rattle.krb_peers.specs.Verdicts.{IsVerdict, record_of}
 use Rattle.krb_structs.specs.declared.fault.Fault.{Fault}
 use Rattle.krb_structs.specs.declared.fault.Fault.TheVariants.{Refused, Room}
@@ -37,7 +37,7 @@ first_of (Batch texts) bytes s = s.1 ∙ ap (λ (z : List ℕ). 0x42 ∷ drop 1 
 first_of Close bytes s = s.1 ∙ ap (λ (z : List ℕ). 0x43 ∷ drop 1 z) (sym s.1)
 
 pub accepts_of : (s : ReceiverState) (now : ℕ) (frame : List ℕ) (opened : Opened) (body : List ℕ) (new : ReceiverState) (o : OpensRecord s now frame opened) → body ≡ drop 1 opened.bytes
-    → new ≡ receiver_behind s (Ok o.0) → Accepts s now frame (number_of opened.kind) body new
+    → new ≡ receiver_after s (Ok o.0) → Accepts s now frame (number_of opened.kind) body new
 accepts_of s now frame opened body new o same next =
     let r : Record = record_of o.0 in
     let is : IsRecordOf (number_of opened.kind) body r opened.bytes = record {

@@ -9,6 +9,7 @@ pub mod Opening
 pub mod Peer
 pub mod PeerExport
 pub mod Reasons
+pub mod Number
 pub mod Record
 pub mod Room
 pub mod Sealing

@@ -5,7 +5,7 @@ use Rattle.krb_record.specs.declared.record.Record.{Record}
 use Rattle.krb_record.specs.Record.{SpellsRecord, kind_of, number_of, first_byte_of}
 use Rattle.krb_peers.specs.declared.delivery.Delivery.{Delivery}
 use Rattle.krb_peers.specs.ReceiverState.{ReceiverState}
-use Rattle.krb_peers.specs.Receiver.{receiver_behind}
+use Rattle.krb_peers.specs.Receiver.{receiver_after}
 use Rattle.krb_peers.specs.Verdicts.{IsVerdict, record_of}
 
 -- the user data are those of a record whose kind has this number, and the body is what follows
@@ -26,4 +26,4 @@ abbrev pub Accepts : ReceiverState → ℕ → List ℕ → ℕ → List ℕ →
 Accepts old now frame kind body new =
     (delivery : Delivery) × IsVerdict old.opener old.demand now frame (Ok delivery)
     × ((user : List ℕ) × IsRecordOf kind body (record_of delivery) user)
-    × (new ≡ receiver_behind old (Ok delivery))
+    × (new ≡ receiver_after old (Ok delivery))

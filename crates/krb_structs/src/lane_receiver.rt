@@ -1,10 +1,15 @@
 //! What takes the frames of one sender, one number after another.
 
-ghost use Rattle.std.specs.Prelude.{◌≡◌, ◌≤◌, length, drop, take, IfOk, OnErr, Some};
+ghost use Rattle.std.specs.Prelude.{◌≡◌, ◌≤◌, length, drop, take, Err, IfErr, IfOk, OnErr, OnOk, Some};
+ghost use Rattle.krb_base.specs.Limits.{last_number};
+ghost use Rattle.krb_peers.specs.Receiver.{IsJudgement, OpensRecord, TakesMemory};
+ghost use Rattle.krb_seal.specs.declared.refusal.Refusal.TheVariants.{BadOrder};
 ghost use Rattle.krb_seal.specs.Opens.{opener_of};
-ghost use Rattle.krb_structs.specs.Fault.{answer_of};
+ghost use Rattle.krb_structs.specs.declared.fault.Fault.TheVariants.{Refused};
+ghost use Rattle.krb_structs.specs.Fault.{answer_of, fault_code};
 ghost use Rattle.krb_structs.specs.Moment.{micros_of};
 ghost use Rattle.krb_structs.specs.Reasons.{ReceiverAnswer, TakeAnswer};
+ghost use Rattle.krb_structs.specs.Number.{TellsItsNumber, number_told};
 ghost use Rattle.krb_structs.specs.Record.{Accepts};
 ghost use Rattle.krb_structs.specs.Session.{IsExpect, expect_of};
 ghost use Rattle.krb_structs.specs.Wipeable.{IsWipedReceiver};
@@ -15,7 +20,8 @@ use crate::moment::KrbMoment;
 use crate::session::{KrbExpect, expectation, session_key};
 use crate::wipe::Wipe;
 use krb_base::LAST_NUMBER;
-use krb_peers::Receiver;
+use krb_der::Moment;
+use krb_peers::{Opened, Receiver};
 use krb_seal::{Opener, Refusal};
 use std::alloc::Global;
 use std::marker::Model;
@@ -98,11 +104,79 @@ impl LaneReceiver {
         ensures answer { TakeAnswer (Some self.old) at.now frame.now (length out.old)
             (answer_of result) }
     {
+        let mut number = 0;
+        self.take_numbered(alloc, frame, at, out, &mut number)
+    }
+
+    /// Takes a frame as [`LaneReceiver::take`] does, and tells its number. If its number is all that
+    /// the frame is refused by, it tells the one at which the frame opens, and `u64::MAX` if it opens
+    /// at none.
+    pub fn take_numbered(
+        &mut self,
+        alloc: Global,
+        frame: &[u8],
+        at: &KrbMoment,
+        out: &mut [u8],
+        number: &mut u64,
+    ) -> Result<(u32, usize), Fault>
+        ensures accepted { IfOk result (λ taken. Accepts self.old (micros_of at.now) frame.now
+            taken.0 (take taken.1 out.new) self.new) }
+        ensures size { IfOk result (λ taken. taken.1 ≤ length out.new) }
+        ensures rest { IfOk result (λ taken. drop taken.1 out.new ≡ drop taken.1 out.old) }
+        ensures unchanged { OnErr result (self.new ≡ self.old) }
+        ensures kept { OnErr result (out.new ≡ out.old) }
+        ensures answer { TakeAnswer (Some self.old) at.now frame.now (length out.old)
+            (answer_of result) }
+        ensures number { OnOk result (number.new ≡ self.old.demand.expected) }
+        ensures misordered { answer_of result ≡ fault_code (Refused BadOrder)
+            → TellsItsNumber self.old.opener (micros_of at.now) frame.now number.new }
+        ensures untold { IfErr result (λ fault. ¬ (fault ≡ Refused BadOrder)
+            → number.new ≡ number.old) }
+    {
         let now = at.moment()?;
-        let opened = self.receiver.open(alloc, frame, now)?;
+        let opened = self.open(alloc, frame, now, number)?;
         let size = put_within(out, &opened.bytes.as_slice()[1..])?;
+        *number = self.receiver.expected();
         self.receiver.accept(opened.kind);
         Ok((opened.kind.number(), size))
+    }
+
+    /// Opens a frame, and tells its number if that is all that it is refused by.
+    fn open(
+        &self,
+        alloc: Global,
+        frame: &[u8],
+        now: Moment,
+        number: &mut u64,
+    ) -> Result<Opened, Refusal>
+        ensures opened { IfOk result (OpensRecord self.now now frame.now) }
+        ensures refused { IfErr result (λ refusal.
+            IsJudgement self.now now frame.now (Err refusal)) }
+        ensures memory { result ≡ Err Refusal.Memory → TakesMemory self.now frame.now }
+        ensures in_range { OnOk result (self.now.demand.expected ≤ last_number) }
+        ensures misordered { result ≡ Err Refusal.BadOrder
+            → TellsItsNumber self.now.opener now frame.now number.new }
+        ensures untold { ¬ (result ≡ Err Refusal.BadOrder) → number.new ≡ number.old }
+    {
+        match self.receiver.open(alloc, frame, now) {
+            Ok(opened) => Ok(opened),
+            Err(unopened) => {
+                if matches!(unopened.refusal, Refusal::BadOrder) {
+                    *number = number_told(unopened.number);
+                }
+                Err(unopened.refusal)
+            }
+        }
+    }
+}
+
+/// A number as C is told it: the highest of 64 bits where there is none.
+fn number_told(number: Option<u32>) -> u64
+    ensures { result ≡ number_told number }
+{
+    match number {
+        Some(number) => u64::from(number),
+        None => u64::MAX,
     }
 }
 
