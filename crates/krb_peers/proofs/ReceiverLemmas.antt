@@ -5,7 +5,8 @@ use Rattle.krb_base.specs.Limits.{last_number}
 use Rattle.std.specs.Global.{Vec}
 use Rattle.krb_seal.specs.declared.refusal.Refusal.{Refusal}
 use Rattle.krb_seal.specs.declared.refusal.Refusal.TheVariants.{BadRecord, Memory}
-use Rattle.krb_seal.specs.Opens.{Outcome, Opens}
+use Rattle.krb_seal.specs.Opens.{Opens}
+use Rattle.krb_seal.specs.OpensParts.{Outcome}
 use Rattle.krb_seal.specs.Unseals.{OrMemory}
 use Rattle.krb_record.specs.declared.record.Record.{Record}
 use Rattle.krb_record.specs.declared.record.Record.TheVariants as records
@@ -14,7 +15,8 @@ use Rattle.krb_peers.specs.declared.delivery.Delivery.TheVariants.{Text, Batch, 
 use Rattle.krb_peers.specs.declared.receiver.Opened.{Opened}
 use Rattle.krb_record.specs.Record.{SpellsRecord, kind_of}
 use Rattle.krb_peers.specs.ReceiverState.{ReceiverState}
-use Rattle.krb_peers.specs.Verdicts.{Fails, IsNoRecord, record_of}
+use Rattle.krb_peers.specs.Verdicts.{Fails, record_of}
+use Rattle.krb_peers.proofs.Parts.{IsNoRecord}
 use Rattle.krb_peers.specs.Receiver.{IsJudgement, OpensRecord}
 use Rattle.krb_peers.proofs.NumberLemmas.{opens_in_range}
 

@@ -9,7 +9,8 @@ use Rattle.krb_base.specs.Limits.{text_limit}
 use Rattle.krb_record.specs.Reading.{batch_in}
 use Rattle.krb_seal.specs.declared.refusal.Refusal.{Refusal}
 use Rattle.krb_seal.specs.declared.refusal.Refusal.TheVariants as refusals
-use Rattle.krb_seal.specs.Opens.{Outcome, OpenerState, Opens}
+use Rattle.krb_seal.specs.Opens.{OpenerState, Opens}
+use Rattle.krb_seal.specs.OpensParts.{Outcome}
 use Rattle.krb_seal.specs.Opening.{opens}
 use Rattle.krb_record.specs.declared.record.Record.{Record}
 use Rattle.krb_record.specs.declared.record.Record.TheVariants as records
@@ -67,31 +68,24 @@ delivered verdicts = texts_in (events_from verdicts)
 
 -- ---- what a verdict is: on a frame that is taken at a timestamp, with this demand
 
--- the user data are those of no record
-abbrev pub IsNoRecord : List ℕ → Type 0
-IsNoRecord user = (r : Record) → ¬ SpellsRecord r user
-
 -- the frame fails a check, and this is the refusal of the first: a close was accepted before, or
 -- the opener refuses it, or its user data is no record
 abbrev pub Fails : OpenerState → Demand → ℕ → List ℕ → Refusal → Type 0
 Fails opener demand now frame refusal =
     ((demand.closed ≡ true) × (refusal ≡ refusals.AfterClose))
     ⊎ ((demand.closed ≡ false) × (Opens opener demand.expected now frame (Err refusal)
-    ⊎ ((user : List ℕ) × Opens opener demand.expected now frame (Ok user) × IsNoRecord user
-    × (refusal ≡ refusals.BadRecord))))
+    ⊎ ((user : List ℕ) × Opens opener demand.expected now frame (Ok user)
+    × ((r : Record) → ¬ SpellsRecord r user) × (refusal ≡ refusals.BadRecord))))
 
--- the frame passes all checks, and carries this delivery
-abbrev pub Carries : OpenerState → Demand → ℕ → List ℕ → Delivery → Type 0
-Carries opener demand now frame delivery =
-    (demand.closed ≡ false)
-    × ((user : List ℕ) × Opens opener demand.expected now frame (Ok user)
-    × SpellsRecord (record_of delivery) user)
-
--- the verdict on a frame: a delivery if it passes all checks, else the refusal of the first that it
--- fails
+-- the verdict on a frame: a delivery if it passes all checks and carries this delivery, else the
+-- refusal of the first that it fails
 abbrev pub IsVerdict : OpenerState → Demand → ℕ → List ℕ → Verdict → Type 0
 IsVerdict opener demand now frame verdict =
-    MatchResult verdict (Carries opener demand now frame) (Fails opener demand now frame)
+    MatchResult verdict
+    (λ delivery. (demand.closed ≡ false)
+    × ((user : List ℕ) × Opens opener demand.expected now frame (Ok user)
+    × SpellsRecord (record_of delivery) user))
+    (Fails opener demand now frame)
 
 -- one verdict for each frame, by the records accepted before it; the first frame is taken at this
 -- place, and each is opened at the timestamp of its place
