@@ -1,13 +1,13 @@
 -- What a receiver answers.
 use Rattle.std.proofs.Common.{◌≡◌, ℕ, false, List, Result, Ok, Err, refl, sym, ap, subst, ◌∙◌, inl, inr}
-use Rattle.std.specs.Prelude.{◌⊎◌, ◌≤◌, IfErr, IfOk, OnOk}
+use Rattle.std.specs.Prelude.{◌⊎◌, ◌≤◌, IfErr, IsErrAnd, OnOk}
 use Rattle.krb_base.specs.Limits.{last_number}
 use Rattle.std.specs.Global.{Vec}
 use Rattle.krb_seal.specs.declared.refusal.Refusal.{Refusal}
 use Rattle.krb_seal.specs.declared.refusal.Refusal.TheVariants.{BadRecord, Memory}
 use Rattle.krb_seal.specs.Opens.{Opens}
-use Rattle.krb_seal.specs.OpensParts.{Outcome}
-use Rattle.krb_seal.specs.Unseals.{OrMemory}
+use Rattle.krb_seal.specs.declared.unopened.Unopened.{Unopened}
+use Rattle.krb_seal.specs.Unseals.{OrMemory, untold}
 use Rattle.krb_record.specs.declared.record.Record.{Record}
 use Rattle.krb_record.specs.declared.record.Record.TheVariants as records
 use Rattle.krb_peers.specs.declared.delivery.Delivery.{Delivery}
@@ -15,28 +15,22 @@ use Rattle.krb_peers.specs.declared.delivery.Delivery.TheVariants.{Text, Batch, 
 use Rattle.krb_peers.specs.declared.receiver.Opened.{Opened}
 use Rattle.krb_record.specs.Record.{SpellsRecord, kind_of}
 use Rattle.krb_peers.specs.ReceiverState.{ReceiverState}
-use Rattle.krb_peers.specs.Verdicts.{Fails, record_of}
+use Rattle.krb_peers.specs.Verdicts.{Fails, Verdict, record_of}
 use Rattle.krb_peers.proofs.Parts.{IsNoRecord}
 use Rattle.krb_peers.specs.Receiver.{IsJudgement, OpensRecord}
 use Rattle.krb_peers.proofs.NumberLemmas.{opens_in_range}
 
--- the user data that an answer gives were opened
-pub opened_is : (Gives : Outcome → Type 0) (result : Result (Vec ℕ) Refusal) → OrMemory Gives result → IfOk result (λ user. Gives (Ok user.items))
-opened_is Gives (Ok v) (inl h) = absurd (let e = h in cc)
-opened_is Gives (Ok v) (inr h) = h
-opened_is Gives (Err r) h = tt
-
 -- a refusal of the opener's, where no close was accepted
-pub refused_is : (receiver : ReceiverState) (now : ℕ) (frame : List ℕ) (result : Result (Vec ℕ) Refusal) → receiver.demand.closed ≡ false
-    → OrMemory (Opens receiver.opener receiver.demand.expected now frame) result
-    → IfErr result (λ r. (r ≡ Memory) ⊎ Fails receiver.opener receiver.demand now frame r)
+pub refused_is : (receiver : ReceiverState) (now : ℕ) (frame : List ℕ) (result : Result (Vec ℕ) Unopened) → receiver.demand.closed ≡ false
+    → OrMemory (Opens receiver.opener receiver.demand.expected now frame) (untold result)
+    → IfErr result (λ u. (u.refusal ≡ Memory) ⊎ Fails receiver.opener receiver.demand now frame u.refusal)
 refused_is receiver now frame (Ok v) live h = tt
 refused_is receiver now frame (Err r) live (inl h) = inl (let e = h in cc)
 refused_is receiver now frame (Err r) live (inr h) = inr (inr (live, inl h))
 
 -- no frame opens at a number over the last
-pub given_in_range : (receiver : ReceiverState) (now : ℕ) (frame : List ℕ) (result : Result (Vec ℕ) Refusal)
-    → OrMemory (Opens receiver.opener receiver.demand.expected now frame) result → OnOk result (receiver.demand.expected ≤ last_number)
+pub given_in_range : (receiver : ReceiverState) (now : ℕ) (frame : List ℕ) (result : Result (Vec ℕ) Unopened)
+    → OrMemory (Opens receiver.opener receiver.demand.expected now frame) (untold result) → OnOk result (receiver.demand.expected ≤ last_number)
 given_in_range receiver now frame (Ok v) (inl h) = absurd (let e = h in cc)
 given_in_range receiver now frame (Ok v) (inr h) = opens_in_range receiver.opener receiver.demand.expected now frame v.items h
 given_in_range receiver now frame (Err r) h = tt
@@ -45,6 +39,11 @@ given_in_range receiver now frame (Err r) h = tt
 pub judged_refusal : (receiver : ReceiverState) (now : ℕ) (frame : List ℕ) (r : Refusal) → (r ≡ Memory) ⊎ Fails receiver.opener receiver.demand now frame r → IsJudgement receiver now frame (Err r)
 judged_refusal receiver now frame r (inl e) = inl (ap Err e)
 judged_refusal receiver now frame r (inr h) = inr h
+
+pub judged_by : (receiver : ReceiverState) (now : ℕ) (frame : List ℕ) (r : Refusal) (answer : Verdict) → (r ≡ Memory) ⊎ Fails receiver.opener receiver.demand now frame r
+    → IsErrAnd answer (λ e. e ≡ r) → IsJudgement receiver now frame answer
+judged_by receiver now frame r (Ok d) h is = absurd is
+judged_by receiver now frame r (Err e) h is = subst (λ (z : Refusal). IsJudgement receiver now frame (Err z)) (sym is) (judged_refusal receiver now frame r h)
 
 -- user data that are no record
 pub no_record_is : (receiver : ReceiverState) (now : ℕ) (frame user : List ℕ) → receiver.demand.closed ≡ false → Opens receiver.opener receiver.demand.expected now frame (Ok user) → IsNoRecord user

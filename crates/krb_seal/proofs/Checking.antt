@@ -17,7 +17,8 @@ use Rattle.krb_etype.specs.Keys.{tag_of, IsEncryption}
 use Rattle.krb_seal.specs.Opens.{OpenerState, Passes, Read, Decrypt, OpensText, OpensMessage, Opens, priv_header}
 use Rattle.krb_seal.specs.OpensParts.{Outcome, Checks, OpensPart, text_checks, frame_checks}
 use Rattle.krb_seal.specs.Authentic.{Authenticity, AuthenticMessage, AuthenticText, AuthenticOrMemory, GivesBody}
-use Rattle.krb_seal.specs.Unseals.{seen, OrMemory, first_unmet, refusal_of, Checked}
+use Rattle.krb_seal.specs.declared.unopened.Unopened.{Unopened}
+use Rattle.krb_seal.specs.Unseals.{seen, untold, OrMemory, first_unmet, refusal_of, Checked}
 
 -- ---- the first refusal of two lists of checks
 
@@ -187,3 +188,10 @@ priv_opened o number now m made b result (inl h) is p = absurd (let e : Ok b ≡
 priv_opened o number now m made b result (inr h) is (inl p) = inl p
 priv_opened o number now m made b result (inr h) is (inr p) =
     inr (priv_goes_on o number now m made (seen result) h (subst (λ (z : Authenticity). GoesOn z (OpensPart o.expect number now) (seen result)) (sym is) p))
+
+-- without the number, a refusal is the same
+pub refusal_alone : (Gives : Outcome → Type 0) (told : Result (Vec ℕ) Unopened) (u : Unopened) (result : Result (Vec ℕ) Refusal)
+    → OrMemory Gives (untold told) → told ≡ Err u → IsErrAnd result (λ r. r ≡ u.refusal) → OrMemory Gives result
+refusal_alone Gives told u (Ok v) h is p = absurd p
+refusal_alone Gives told u (Err r) h is p =
+    subst (λ (z : Refusal). OrMemory Gives (Err z)) (sym p) (subst (λ (z : Result (Vec ℕ) Unopened). OrMemory Gives (untold z)) is h)

@@ -1,6 +1,7 @@
 -- The number of a frame that is refused by its number.
 use Rattle.std.proofs.Common.{◌≡◌, ℕ, Bool, true, false, List, [], ◌∷◌, length, Option, Some, None, Result, Ok, Err, refl, sym, ap, subst, ◌∙◌, inl, inr}
-use Rattle.std.specs.Prelude.{◌⊎◌}
+use Rattle.std.specs.Prelude.{◌⊎◌, IfErr}
+use Rattle.std.specs.Global.{Vec}
 use Rattle.std.proofs.lemmas.Bool.{eq-eqb, le-leb}
 use Rattle.krb_base.specs.Limits.{frame_limit}
 use Rattle.krb_der.specs.declared.body.Body.{Body}
@@ -123,3 +124,7 @@ frame_tells o now at frame m u is s told e =
     let t = subst (λ (z : ℕ). TellsOfMessage o z m u) is told e in
     its_number o now frame t.0 u.number
     (all_met (frame_checks frame) (Read Spells frame (AuthenticMessage o)) t.0 (le-leb (length frame) frame_limit s.short, tt) (inr (m, s, t.1))) t.2
+
+pub frame_told : (o : OpenerState) (now at : ℕ) (frame : List ℕ) (m : Message) (result : Result (Vec ℕ) Unopened) → at ≡ now → Spells m frame → IfErr result (TellsOfMessage o at m) → IfErr result (TellsNumber o now frame)
+frame_told o now at frame m (Ok v) is s h = h
+frame_told o now at frame m (Err u) is s h = frame_tells o now at frame m u is s h

@@ -1,5 +1,5 @@
 -- One emission more.
-use Rattle.std.proofs.Common.{◌≡◌, ◌<◌, length, take, get_or, subst, arith}
+use Rattle.std.proofs.Common.{◌<◌, length, take, get_or, subst, arith}
 use Rattle.std.proofs.lemmas.List.{map_push, take_more}
 use Rattle.krb_base.specs.Bytes.{AreBytes}
 use Rattle.krb_peers.specs.declared.plan.Emit.{Emit}

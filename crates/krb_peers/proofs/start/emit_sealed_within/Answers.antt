@@ -1,9 +1,8 @@
 -- What is emitted is the wire, or the plan is bad.
-use Rattle.std.proofs.Common.{◌≡◌, Option, List, Vec, option_map, refl, ap, sym, ◌∙◌, arith}
+use Rattle.std.proofs.Common.{option_map, refl, ap, sym, ◌∙◌, arith}
 use Rattle.std.proofs.lemmas.Grind.{common_steps}
-use Rattle.krb_peers.specs.declared.plan.Emit.{Emit}
 use Rattle.krb_peers.specs.Plan.{contents}
-use Rattle.krb_peers.specs.Sending.{source_of, unplanned}
+use Rattle.krb_peers.specs.Sending.{source_of}
 use Rattle.krb_peers.specs.Sender.{AreFrames, records}
 use Rattle.krb_peers.proofs.WireLemmas.{wire_of, bad_by}
 use Rattle.krb_peers.proofs.start.emit_sealed_within.Goals as goal

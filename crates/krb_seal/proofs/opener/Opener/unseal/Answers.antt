@@ -1,9 +1,9 @@
-use Rattle.std.proofs.Common.{◌∙◌, subst}
-use Rattle.krb_seal.specs.Opens.{OpenerState, Opens}
-use Rattle.krb_seal.specs.Unseals.{OrMemory}
+use Rattle.std.proofs.Common.{◌≡◌, ℕ, List, Result, Ok, Err, subst}
+use Rattle.krb_seal.specs.Opens.{Opens}
+use Rattle.krb_seal.specs.Unseals.{OrMemory, untold}
+use Rattle.krb_seal.proofs.Checking.{refusal_alone}
 use Rattle.krb_seal.proofs.opener.Opener.unseal.Goals as goal
 
-pub returns-clause-answer : goal.returns-clause-answer
-returns-clause-answer c =
-    subst (λ (o : OpenerState). OrMemory (Opens o c.args.number c.args.now c.args.frame.now) c.unseal.result)
-    (c.new-2.ensures ∙ c.self.view_is) c.unseal.ensures.answer
+pub returns-in_err-unseal_telling-clause-answer : goal.returns-in_err-unseal_telling-clause-answer
+returns-in_err-unseal_telling-clause-answer c =
+    refusal_alone (Opens c.args.self.now c.args.number c.args.now c.args.frame.now) c.unseal_telling.result _ c.from_residual.result c.unseal_telling.ensures.answer c.in_err-unseal_telling.was c.from_residual.ensures.1
