@@ -17,7 +17,7 @@ use Rattle.krb_peers.specs.Order.{demand_after}
 use Rattle.krb_peers.specs.ReceiverState.{ReceiverState}
 use Rattle.krb_peers.specs.Moments.{moment_at}
 use Rattle.krb_peers.specs.Session.{FitLimits}
-use Rattle.krb_peers.specs.Verdicts.{Verdict, Fails, records_of, delivered}
+use Rattle.krb_peers.specs.Verdicts.{Verdict, Fails, records_of, events_from}
 
 -- ---- the claims that rest on no premise
 
@@ -39,7 +39,7 @@ RefusesExactly start nows took verdicts =
 abbrev pub RefusalsDeliverNothing : Demand → List Verdict → List Event → Type 0
 RefusalsDeliverNothing start verdicts events =
     (front back : List Verdict) (refusal : Refusal) → verdicts ≡ front ++ Err refusal ∷ back
-    → (texts_in events ≡ delivered (front ++ back))
+    → (texts_in events ≡ texts_in (events_from (front ++ back)))
     × (demand_after start (records_of verdicts) ≡ demand_after start (records_of (front ++ back)))
 
 -- ---- all of them

@@ -77,15 +77,18 @@ Fails opener demand now frame refusal =
     ⊎ ((user : List ℕ) × Opens opener demand.expected now frame (Ok user)
     × ((r : Record) → ¬ SpellsRecord r user) × (refusal ≡ refusals.BadRecord))))
 
--- the verdict on a frame: a delivery if it passes all checks and carries this delivery, else the
--- refusal of the first that it fails
+-- the frame passes all checks, and carries this delivery
+abbrev pub Carries : OpenerState → Demand → ℕ → List ℕ → Delivery → Type 0
+Carries opener demand now frame delivery =
+    (demand.closed ≡ false)
+    × ((user : List ℕ) × Opens opener demand.expected now frame (Ok user)
+    × SpellsRecord (record_of delivery) user)
+
+-- the verdict on a frame: a delivery if it passes all checks, else the refusal of the first that it
+-- fails
 abbrev pub IsVerdict : OpenerState → Demand → ℕ → List ℕ → Verdict → Type 0
 IsVerdict opener demand now frame verdict =
-    MatchResult verdict
-    (λ delivery. (demand.closed ≡ false)
-    × ((user : List ℕ) × Opens opener demand.expected now frame (Ok user)
-    × SpellsRecord (record_of delivery) user))
-    (Fails opener demand now frame)
+    MatchResult verdict (Carries opener demand now frame) (Fails opener demand now frame)
 
 -- one verdict for each frame, by the records accepted before it; the first frame is taken at this
 -- place, and each is opened at the timestamp of its place
