@@ -6,7 +6,8 @@ use Rattle.std.proofs.lemmas.Simd.{map-map}
 use lib.Bits.{xor_assoc, xor_comm, xor_shr, xor_mod, xor_lt}
 use lib.Lanes.{Each1, zip2, pick_l}
 use Rattle.krb_aes.specs.Field.{times, product, remainder}
-use Rattle.krb_aes.specs.Cipher.{sum4, cell, from_cells, add_round_key}
+use Rattle.krb_aes.specs.Cipher.{cell, from_cells, add_round_key}
+use Rattle.krb_aes.specs.InverseCipher.{sum4}
 use Rattle.krb_aes.specs.InverseCipher.{inv_affine, inv_sbox, inv_mixed}
 use Rattle.krb_base.specs.Bytes.{AreBytes}
 use Rattle.krb_aes.specs.Nibbles.{entry, first_place, second_place, inv_linear_high, inv_linear_low, inv_linear_nibbles, inv_affine_nibbles}

@@ -15,7 +15,7 @@ use Rattle.krb_record.specs.Record.{FitsLimits, texts_of, is_close}
 use Rattle.krb_seal.specs.Sealer.{SealerState}
 use Rattle.krb_peers.proofs.AnswerLemmas.{image}
 use Rattle.krb_peers.proofs.FrameLemmas.{all_readable}
-use Rattle.krb_peers.specs.Claims.{texts_of_all}
+use Rattle.krb_peers.specs.Texts.{texts_of_all}
 use Rattle.krb_peers.specs.Session.{AreRecords, FitLimits, Sealed, SealsAt, AreSealed}
 use Rattle.krb_carry.specs.Outbox.{Put, texts_put, has_close_put, puts_of, records_in, puts_in, Kept, numbered, Outbox, new_outbox, sealed_in, stored_records, MayLeave, Sealing, IsSealing, Act, Insert, Seal, IsAct, with_put, with_frames, Acts, LeadsOutbox}
 

@@ -8,8 +8,8 @@ use Rattle.std.proofs.lemmas.List.Elements.{All-head, All-tail, All-map, All-con
 use Rattle.krb_record.specs.declared.record.Record.{Record}
 use Rattle.krb_record.specs.Record.{texts_of}
 use Rattle.krb_seal.specs.Sealer.{SealerState}
-use Rattle.krb_peers.specs.Attempt.{Attempt, begins_at, IsAttempt, IsAttemptAfter, DemandsAfter}
-use Rattle.krb_peers.specs.Claims.{texts_of_all}
+use Rattle.krb_peers.specs.Attempt.{Attempt, IsAttempt, IsAttemptAfter, DemandsAfter}
+use Rattle.krb_peers.specs.Texts.{texts_of_all}
 use Rattle.krb_peers.specs.Order.{demand_after}
 use Rattle.krb_peers.specs.Session.{AreRecords, FitLimits}
 use Rattle.krb_peers.specs.Verdicts.{accepted_by, records_of}
@@ -43,7 +43,7 @@ module _ (sealer : SealerState) (records : List Record) (are : AreRecords record
 
   -- ---- a reading that took effect
 
-  module _ (old : StoredShard) (reading : Reading) (read : HasRead old) (is : IsReading sealer records session shard reading) (at : old.offset ≡ reading.from) (began : old.session.demand ≡ begins_at reading.attempt) where
+  module _ (old : StoredShard) (reading : Reading) (read : HasRead old) (is : IsReading sealer records session shard reading) (at : old.offset ≡ reading.from) (began : old.session.demand ≡ reading.attempt.receiver.demand) where
     abbrev attempt : Attempt
     attempt = reading.attempt
 
@@ -170,7 +170,7 @@ abbrev IsEarlier : StoredShard → StoredShard → Type 0
 IsEarlier old then = (then ≡ old) ⊎ (then.offset < old.offset)
 
 -- so what was stored with this offset or a later one is what is stored
-same_then : (seen : List StoredShard) (old : StoredShard) (reading : Reading) → All (IsEarlier old) (old ∷ seen) → WasRead (old ∷ seen) reading → old.offset ≡ reading.from → old.session.demand ≡ begins_at reading.attempt
+same_then : (seen : List StoredShard) (old : StoredShard) (reading : Reading) → All (IsEarlier old) (old ∷ seen) → WasRead (old ∷ seen) reading → old.offset ≡ reading.from → old.session.demand ≡ reading.attempt.receiver.demand
 same_then seen old reading earlier read at =
     let place = read.stored in
     let then_earlier : IsEarlier old read.then = subst (IsEarlier old) place.2 (earlier (place.0) read.then place.1) in
@@ -179,10 +179,10 @@ same_then seen old reading earlier read at =
       | inr before ↦ absurd (omega (arith, before, read.not_before, at))
     ]
 
-nothing_applied : (old : Stored) (attempt : Attempt) → old.demand ≡ begins_at attempt → records_of attempt.verdicts ≡ [] → old ≡ applied old attempt
+nothing_applied : (old : Stored) (attempt : Attempt) → old.demand ≡ attempt.receiver.demand → records_of attempt.verdicts ≡ [] → old ≡ applied old attempt
 nothing_applied old attempt began none =
     same_stored old (applied old attempt)
-    (began ∙ sym (ap (λ rs. demand_after (begins_at attempt) rs) none ∙ demand_after-nil (begins_at attempt)))
+    (began ∙ sym (ap (λ rs. demand_after attempt.receiver.demand rs) none ∙ demand_after-nil attempt.receiver.demand))
     (sym (ap (λ texts. old.effects ++ texts) (delivered_texts attempt.verdicts ∙ ap (λ rs. flat_map texts_of rs) none) ∙ append-nil old.effects))
 
 less_commits : (seen : List StoredShard) (old : StoredShard) (reading : Reading) (between : StoredShard) → All (IsEarlier old) (old ∷ seen) → WasRead (old ∷ seen) reading → CommitsLess old reading between → CommitsReading old reading between

@@ -17,8 +17,8 @@ use Rattle.krb_peers.proofs.OrderLemmas.{demand_after-nil, demand_after-append}
 use Rattle.krb_peers.proofs.VerdictLemmas.{AreVerdicts-after}
 use Rattle.krb_peers.proofs.LoggedLemmas.{or_left}
 use Rattle.krb_peers.proofs.AnswerLemmas.{delivered_texts}
-use Rattle.krb_peers.specs.Attempt.{Attempt, begins_at, IsAttempt, IsAttemptAfter}
-use Rattle.krb_peers.specs.Claims.{texts_of_all}
+use Rattle.krb_peers.specs.Attempt.{Attempt, IsAttempt, IsAttemptAfter}
+use Rattle.krb_peers.specs.Texts.{texts_of_all}
 use Rattle.krb_peers.specs.Session.{AreRecords}
 use Rattle.krb_carry.specs.Store.{Stored, new_session, applied, Commits, Leads, IsAfter, HasFirst, IsReceipt}
 use Rattle.krb_peers.proofs.FrameLemmas.{closed_whole}
@@ -39,14 +39,14 @@ module _ (sealer : SealerState) (records : List Record) (are : AreRecords record
 
   -- ---- an attempt that took effect
 
-  pub attempt_after : (count : ℕ) (old : Stored) (attempt : Attempt) → IsAfter sealer records count old → IsAttempt sealer records attempt → old.demand ≡ begins_at attempt → IsAttemptAfter sealer records count attempt
+  pub attempt_after : (count : ℕ) (old : Stored) (attempt : Attempt) → IsAfter sealer records count old → IsAttempt sealer records attempt → old.demand ≡ attempt.receiver.demand → IsAttemptAfter sealer records count attempt
   attempt_after count old attempt after is began = record {
     are = are;
     tries = is;
     begins = record { within = (after.demands).within; is = sym began ∙ (after.demands).is };
   }
 
-  pub after_more : (count : ℕ) (old : Stored) (attempt : Attempt) → IsAfter sealer records count old → IsAttempt sealer records attempt → old.demand ≡ begins_at attempt
+  pub after_more : (count : ℕ) (old : Stored) (attempt : Attempt) → IsAfter sealer records count old → IsAttempt sealer records attempt → old.demand ≡ attempt.receiver.demand
       → IsAfter sealer records (count + length (records_of attempt.verdicts)) (applied old attempt)
   after_more count old attempt after is began =
       let s = attempt_after count old attempt after is began in
@@ -121,7 +121,7 @@ module _ (sealer : SealerState) (records : List Record) where
   quiet_commit : (old : Stored) (attempt : Attempt) (new : Stored) → IsAttempt sealer records attempt → old.demand.closed ≡ true → Commits old attempt new → new ≡ old
   quiet_commit old attempt new is closed (inr same) = same
   quiet_commit old attempt new is closed (inl took) =
-      let start = begins_at attempt in
+      let start = attempt.receiver.demand in
       let shut : start.closed ≡ true = ap (λ (demand : Demand). demand.closed) (sym took.0) ∙ closed in
       let none = none_accepted attempt.receiver.opener attempt.nows start 0 attempt.took attempt.verdicts is.judged shut in
       took.1
@@ -140,8 +140,8 @@ module _ (sealer : SealerState) (records : List Record) where
 
 receipt_commit : (old : Stored) (attempt : Attempt) (new : Stored) (number : ℕ) → Commits old attempt new → IsReceipt old number → IsReceipt new number
 receipt_commit old attempt new number (inl took) receipt =
-    let before : old.demand.expected ≡ (begins_at attempt).expected = ap (λ (d : Demand). d.expected) took.0 in
-    let now : new.demand.expected ≡ (begins_at attempt).expected + length (records_of attempt.verdicts) = ap (λ (s : Stored). s.demand.expected) took.1 in
+    let before : old.demand.expected ≡ attempt.receiver.demand.expected = ap (λ (d : Demand). d.expected) took.0 in
+    let now : new.demand.expected ≡ attempt.receiver.demand.expected + length (records_of attempt.verdicts) = ap (λ (s : Stored). s.demand.expected) took.1 in
     omega (arith, before, now, receipt)
 receipt_commit old attempt new number (inr same) receipt = subst (λ s. IsReceipt s number) (sym same) receipt
 

@@ -5,7 +5,7 @@ use Rattle.krb_record.specs.declared.record.Record.{Record}
 use Rattle.krb_record.specs.Record.{texts_of}
 use Rattle.krb_seal.specs.Sealer.{SealerState}
 use Rattle.krb_peers.specs.Attempt.{Attempt, IsAttempt, CanTakeAll}
-use Rattle.krb_peers.specs.Claims.{texts_of_all}
+use Rattle.krb_peers.specs.Texts.{texts_of_all}
 use Rattle.krb_peers.specs.ReceiverState.{ReceiverState}
 use Rattle.krb_peers.specs.Session.{Sealed}
 use Rattle.krb_peers.proofs.AnswerLemmas.{delivered_texts}

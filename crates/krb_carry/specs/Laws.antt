@@ -5,7 +5,7 @@ use Rattle.krb_base.specs.Prefix.{IsPrefix}
 use Rattle.krb_record.specs.declared.record.Record.{Record}
 use Rattle.krb_seal.specs.Sealer.{SealerState}
 use Rattle.krb_peers.specs.Attempt.{Attempt, IsAttempt, DemandsAfter, CanTakeAll}
-use Rattle.krb_peers.specs.Claims.{texts_of_all}
+use Rattle.krb_peers.specs.Texts.{texts_of_all}
 use Rattle.krb_peers.specs.ReceiverState.{ReceiverState}
 use Rattle.krb_peers.specs.Session.{AreRecords, FitLimits, Sealed, AreSealed}
 use Rattle.krb_peers.specs.Verdicts.{delivered}

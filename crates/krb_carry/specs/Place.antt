@@ -4,7 +4,7 @@ use Rattle.std.specs.Prelude.{◌∷◌, slice_get, Option, Some, None, is_some,
 use Rattle.std.specs.Prelude.{if◌then◌else◌}
 use Rattle.krb_record.specs.declared.record.Record.{Record}
 use Rattle.krb_seal.specs.Sealer.{SealerState}
-use Rattle.krb_peers.specs.Attempt.{Attempt, begins_at, IsAttempt}
+use Rattle.krb_peers.specs.Attempt.{Attempt, IsAttempt}
 use Rattle.krb_peers.specs.ReceiverState.{ReceiverState}
 use Rattle.krb_peers.specs.Session.{Sealed, IsSealed}
 use Rattle.krb_peers.specs.Verdicts.{Verdict}
@@ -136,7 +136,7 @@ Steps sealer records session shard old Pass new =
     × (new ≡ record old { offset = old.offset + 1 })
 Steps sealer records session shard old (Take taking) new =
     IsTaking sealer records session shard old.offset old.place.known taking
-    × (old.session.demand ≡ begins_at (attempt_of taking))
+    × (old.session.demand ≡ (attempt_of taking).receiver.demand)
     × (new ≡ record {
       offset = old.offset + 1;
       place = moved old.place (old.offset + 1) (taken_of taking);

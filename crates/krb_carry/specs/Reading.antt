@@ -3,7 +3,7 @@ use Rattle.std.specs.Prelude.{◌≡◌, ◌⊎◌, ℕ, ◌+◌, ◌<◌, ◌�
 use Rattle.std.specs.List.{Contains}
 use Rattle.krb_record.specs.declared.record.Record.{Record}
 use Rattle.krb_seal.specs.Sealer.{SealerState}
-use Rattle.krb_peers.specs.Attempt.{Attempt, begins_at, IsAttempt, AgreesWhereDemanded}
+use Rattle.krb_peers.specs.Attempt.{Attempt, IsAttempt, AgreesWhereDemanded}
 use Rattle.krb_peers.specs.Session.{Sealed, IsSealed}
 use Rattle.krb_peers.specs.Verdicts.{records_of}
 use Rattle.krb_carry.specs.Shard.{Item, frames_of}
@@ -39,7 +39,7 @@ pub record IsReading (sealer : SealerState) (records : List Record) (session : �
 -- where the attempt began, or it changes nothing.
 abbrev pub CommitsReading : StoredShard → Reading → StoredShard → Type 0
 CommitsReading old reading new =
-    ((old.offset ≡ reading.from) × (old.session.demand ≡ begins_at reading.attempt)
+    ((old.offset ≡ reading.from) × (old.session.demand ≡ reading.attempt.receiver.demand)
     × (new ≡ record {
       offset = reading.from + reading.count;
       session = applied old.session reading.attempt;
@@ -60,7 +60,7 @@ pub record WasRead (seen : List StoredShard) (reading : Reading) : Type 0 where
   pub then : StoredShard
   pub stored : Contains seen then
   pub not_before : reading.from ≤ then.offset
-  pub demand : then.session.demand ≡ begins_at reading.attempt
+  pub demand : then.session.demand ≡ reading.attempt.receiver.demand
 
 -- Where nothing of a session was accepted, its transaction leaves the session alone, and compares
 -- the offset only. Else it compares the number too. It takes one item at least.
@@ -69,7 +69,7 @@ CommitsLess old reading new =
     ((old.offset ≡ reading.from) × (0 < reading.count)
     × (((records_of reading.attempt.verdicts ≡ [])
     × (new ≡ record { offset = reading.from + reading.count; session = old.session }))
-    ⊎ ((old.session.demand.expected ≡ (begins_at reading.attempt).expected)
+    ⊎ ((old.session.demand.expected ≡ reading.attempt.receiver.demand.expected)
     × (new ≡ record {
       offset = reading.from + reading.count;
       session = applied old.session reading.attempt;

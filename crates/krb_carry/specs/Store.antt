@@ -2,8 +2,8 @@
 use Rattle.std.specs.Prelude.{◌≡◌, ◌⊎◌, ◌≤◌, ℕ, List, [], ◌∷◌, ◌++◌, take}
 use Rattle.krb_record.specs.declared.record.Record.{Record}
 use Rattle.krb_seal.specs.Sealer.{SealerState}
-use Rattle.krb_peers.specs.Attempt.{Attempt, begins_at, ends_at, DemandsAfter}
-use Rattle.krb_peers.specs.Claims.{texts_of_all}
+use Rattle.krb_peers.specs.Attempt.{Attempt, ends_at, DemandsAfter}
+use Rattle.krb_peers.specs.Texts.{texts_of_all}
 use Rattle.krb_peers.specs.Demand.{Demand}
 use Rattle.krb_peers.specs.Order.{first_demand}
 use Rattle.krb_peers.specs.Verdicts.{delivered}
@@ -27,7 +27,7 @@ applied stored attempt =
 -- Compare-and-set. The transaction of an attempt takes effect, which it may only if the stored
 -- demand is that with which the attempt began, or it changes nothing.
 abbrev pub Commits : Stored → Attempt → Stored → Type 0
-Commits old attempt new = ((old.demand ≡ begins_at attempt) × (new ≡ applied old attempt))
+Commits old attempt new = ((old.demand ≡ attempt.receiver.demand) × (new ≡ applied old attempt))
     ⊎ (new ≡ old)
 
 -- a history: the transactions of these attempts, in the order in which the store serialized them,

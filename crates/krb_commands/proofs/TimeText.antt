@@ -3,14 +3,14 @@ use Rattle.std.proofs.Common.{ℕ, zero, suc, ◌/◌, ◌%◌, List, [], ◌∷
 use Rattle.std.specs.Str.{IsAscii, IsUtf8}
 use Rattle.std.proofs.lemmas.Str.{IsAscii-append, IsUtf8-from_ascii}
 use Rattle.krb_der.specs.Calendar.{year_of, month_of, day_of}
-use Rattle.krb_der.specs.Time.{kerberos_time, time_text, two_digits, four_digits}
+use Rattle.krb_der.specs.Time.{kerberos_time, time_text, digit, two_digits}
 
 two-ascii : (n : ℕ) → IsAscii (two_digits n)
 two-ascii n zero = omega arith
 two-ascii n (suc zero) = omega arith
 two-ascii n (suc (suc i)) = omega arith
 
-four-ascii : (n : ℕ) → IsAscii (four_digits n)
+four-ascii : (n : ℕ) → IsAscii (digit (n / 1000) ∷ digit (n / 100) ∷ two_digits n)
 four-ascii n zero = omega arith
 four-ascii n (suc zero) = omega arith
 four-ascii n (suc (suc i)) = two-ascii n i
@@ -26,7 +26,7 @@ text-ascii year month day hour minute second =
     let hours : List ℕ = two_digits hour ++ minutes in
     let days : List ℕ = two_digits day ++ hours in
     let months : List ℕ = two_digits month ++ days in
-    IsAscii-append (four_digits year) months (four-ascii year)
+    IsAscii-append (digit (year / 1000) ∷ digit (year / 100) ∷ two_digits year) months (four-ascii year)
     (IsAscii-append (two_digits month) days (two-ascii month)
     (IsAscii-append (two_digits day) hours (two-ascii day)
     (IsAscii-append (two_digits hour) minutes (two-ascii hour)

@@ -12,7 +12,8 @@ use Rattle.krb_der.specs.declared.private.PrivMsg.{PrivMsg}
 use Rattle.krb_der.specs.declared.private.Draft.{Draft}
 use Rattle.krb_der.specs.declared.message.Message.TheVariants.{Priv}
 use Rattle.krb_der.specs.Body.{part, IsBody}
-use Rattle.krb_der.specs.Private.{private, IsPrivate}
+use Rattle.krb_der.specs.Private.{IsPrivate}
+use Rattle.krb_der.specs.Message.{private}
 use Rattle.krb_der.specs.Message.{message, Spells, Encodes, Precedes, IsDraft, IsWithinLimit, IsOverLimit, Drafts}
 use Rattle.krb_der.specs.Writing.{private_size, private_before_cipher}
 use Rattle.krb_der.proofs.Writers.{length-private, private_is}

@@ -9,7 +9,8 @@ use Rattle.krb_der.specs.declared.body.Body.{Body}
 use Rattle.krb_der.specs.declared.message.Message.{Message}
 use Rattle.krb_der.specs.declared.message.Message.TheVariants.{Safe, Priv}
 use Rattle.krb_time.specs.Time.{kerberos_time}
-use Rattle.krb_tlv.specs.Tag.{integer_tag, octet_string_tag, generalized_time_tag, sequence_tag, context, application}
+use Rattle.krb_tlv.specs.Tag.{context, application}
+use Rattle.krb_tlv.specs.UniversalTag.{integer_tag, octet_string_tag, generalized_time_tag, sequence_tag}
 use Rattle.krb_tlv.specs.Length.{length_octets}
 use Rattle.krb_tlv.specs.Element.{header, tagged, sequence, optional, octets}
 use Rattle.krb_tlv.specs.Integer.{int_octets, integer, natural}

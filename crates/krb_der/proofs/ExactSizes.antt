@@ -4,14 +4,16 @@ use Rattle.std.specs.List.{concat}
 use Rattle.krb_der.specs.declared.body.Body.{Body}
 use Rattle.krb_der.specs.declared.safe.SafeMsg.{SafeMsg}
 use Rattle.krb_der.specs.declared.private.PrivMsg.{PrivMsg}
-use Rattle.krb_tlv.specs.Tag.{context, application, sequence_tag}
+use Rattle.krb_tlv.specs.Tag.{context, application}
+use Rattle.krb_tlv.specs.UniversalTag.{sequence_tag}
 use Rattle.krb_tlv.specs.Element.{sequence, optional}
 use Rattle.krb_tlv.specs.Integer.{integer, natural}
 use Rattle.krb_der.specs.KerberosTime.{time}
 use Rattle.krb_der.specs.Typed.{typed_fields, typed_octets}
 use Rattle.krb_der.specs.Address.{host_address}
 use Rattle.krb_der.specs.Body.{body, body_fields}
-use Rattle.krb_der.specs.Safe.{safe, safe_fields}
+use Rattle.krb_der.specs.Safe.{safe_fields}
+use Rattle.krb_der.specs.Message.{safe}
 use Rattle.krb_der.specs.Size.{HasPartSize, HasSafeSize, HasPrivateSize}
 use Rattle.krb_tlv.specs.Writing.{element_size}
 use Rattle.krb_der.specs.Writing.{typed_fields_size, typed_size, body_fields_size, body_size, safe_fields_size, encrypted_fields_size, private_size}

@@ -18,8 +18,10 @@ use Rattle.krb_der.specs.KerberosTime.{time}
 use Rattle.krb_der.specs.Typed.{typed_fields, typed_octets}
 use Rattle.krb_der.specs.Address.{host_address, IsAddress}
 use Rattle.krb_der.specs.Body.{body_fields, body, part, IsBody}
-use Rattle.krb_der.specs.Safe.{safe_fields, safe, IsSafe}
-use Rattle.krb_der.specs.Private.{encrypted_data, private_fields, private, IsPrivate}
+use Rattle.krb_der.specs.Safe.{safe_fields, IsSafe}
+use Rattle.krb_der.specs.Message.{safe}
+use Rattle.krb_der.specs.Private.{encrypted_data, private_fields, IsPrivate}
+use Rattle.krb_der.specs.Message.{private}
 use Rattle.krb_der.specs.Message.{message, IsMessage, SpellsWithin, Spells, SpellsPart, OneSpelling, UniqueSpelling, Decodes}
 use Rattle.krb_base.specs.Limits.{frame_limit}
 use Rattle.krb_base.specs.Steps.{◌>>=◌}

@@ -18,7 +18,8 @@ use Rattle.krb_der.specs.Address.{host_address}
 use Rattle.krb_der.specs.Body.{body, body_fields, part}
 use Rattle.krb_tlv.specs.Writing.{IsShort}
 use Rattle.krb_der.specs.Writing.{IsShortBody}
-use Rattle.krb_der.specs.Safe.{checksum, safe, safe_fields}
+use Rattle.krb_der.specs.Safe.{checksum, safe_fields}
+use Rattle.krb_der.specs.Message.{safe}
 use Rattle.krb_base.specs.Limits.{frame_limit}
 use Rattle.krb_tlv.proofs.Readers.{length-tagged}
 

@@ -2,7 +2,8 @@
 use Rattle.std.proofs.Common.{◌≡◌, ℕ, ◌+◌, ◌-◌, List, [], ◌∷◌, ◌++◌, length, take, drop, Some, Result, Ok, Err, refl, sym, ap, subst, ◌∙◌, arith, append_assoc}
 use Rattle.std.specs.Prelude.{IfOk}
 use Rattle.std.proofs.lemmas.List.{take_at, drop_at, take-append-drop, length-append, append-nil}
-use Rattle.krb_tlv.specs.Tag.{context, octet_string_tag}
+use Rattle.krb_tlv.specs.Tag.{context}
+use Rattle.krb_tlv.specs.UniversalTag.{octet_string_tag}
 use Rattle.krb_tlv.specs.Length.{length_octets}
 use Rattle.krb_tlv.specs.Element.{header, tagged}
 use Rattle.krb_tlv.specs.Reading.{alone, tagged_at}

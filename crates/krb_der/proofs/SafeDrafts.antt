@@ -13,7 +13,8 @@ use Rattle.krb_der.specs.declared.safe.SafeMsg.{SafeMsg}
 use Rattle.krb_der.specs.declared.safe.SafeDraft.{SafeDraft}
 use Rattle.krb_der.specs.declared.message.Message.TheVariants.{Safe}
 use Rattle.krb_der.specs.Typed.{typed_octets}
-use Rattle.krb_der.specs.Safe.{checksum, safe, safe_fields, with_checksum, before_checksum, checksum_field, IsSafe}
+use Rattle.krb_der.specs.Safe.{checksum, safe_fields, with_checksum, before_checksum, checksum_field, IsSafe}
+use Rattle.krb_der.specs.Message.{safe}
 use Rattle.krb_der.specs.Message.{Spells, IsSafeDraft, IsSafeWithinLimit, IsSafeOverLimit, DraftsSafe}
 use Rattle.krb_der.specs.Writing.{IsShortBody, before_checksum_size, safe_fields_size, safe_headers}
 use Rattle.krb_der.proofs.ExactSizes.{length-body, length-safe, length-safe_fields}

@@ -3,7 +3,8 @@ use Rattle.std.proofs.Common.{◌≡◌, ◌⊎◌, inl, inr, ℕ, ◌+◌, ◌^
 use Rattle.std.specs.List.{concat}
 use Rattle.krb_der.specs.declared.address.HostAddress.{HostAddress}
 use Rattle.krb_der.specs.declared.body.Body.{Body}
-use Rattle.krb_tlv.specs.Tag.{context, application, integer_tag, octet_string_tag, sequence_tag, generalized_time_tag}
+use Rattle.krb_tlv.specs.Tag.{context, application}
+use Rattle.krb_tlv.specs.UniversalTag.{integer_tag, octet_string_tag, sequence_tag, generalized_time_tag}
 use Rattle.krb_tlv.specs.Length.{big_endian, length_octets}
 use Rattle.krb_tlv.specs.Element.{tagged, sequence, optional, octets}
 use Rattle.krb_tlv.specs.Integer.{width, int_octets, integer, natural}

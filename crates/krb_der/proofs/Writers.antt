@@ -3,14 +3,17 @@ use Rattle.std.proofs.Common.{◌≡◌, ℕ, ◌+◌, ℤ, pos, List, [], ◌�
 use Rattle.std.specs.List.{concat}
 use Rattle.std.proofs.lemmas.List.{append-nil}
 use Rattle.krb_tlv.specs.Element.{header, tagged, sequence, optional}
-use Rattle.krb_tlv.specs.Tag.{context, application, sequence_tag}
+use Rattle.krb_tlv.specs.Tag.{context, application}
+use Rattle.krb_tlv.specs.UniversalTag.{sequence_tag}
 use Rattle.krb_tlv.specs.Length.{length_octets}
 use Rattle.krb_tlv.specs.Integer.{int_octets, integer, natural}
 use Rattle.krb_der.specs.declared.safe.SafeMsg.{SafeMsg}
 use Rattle.krb_der.specs.declared.private.PrivMsg.{PrivMsg}
 use Rattle.krb_der.specs.Typed.{typed_octets}
-use Rattle.krb_der.specs.Safe.{safe, safe_fields, before_checksum, checksum_field, without_checksum, safe_input}
-use Rattle.krb_der.specs.Private.{encrypted_fields, encrypted_data, private_fields, private}
+use Rattle.krb_der.specs.Safe.{safe_fields, before_checksum, checksum_field, without_checksum}
+use Rattle.krb_der.specs.Message.{safe, safe_input}
+use Rattle.krb_der.specs.Private.{encrypted_fields, encrypted_data, private_fields}
+use Rattle.krb_der.specs.Message.{private}
 use Rattle.krb_tlv.specs.Writing.{element_size}
 use Rattle.krb_der.specs.Writing.{safe_headers, encrypted_fields_size, encrypted_before_cipher, private_fields_size, private_size, private_before_cipher}
 use Rattle.krb_tlv.proofs.Writers.{begun, length-octets}

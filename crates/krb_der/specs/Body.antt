@@ -6,9 +6,9 @@ use Rattle.krb_time.specs.Time.{IsSecond}
 use Rattle.krb_time.specs.Moment.{IsMicroseconds}
 use Rattle.krb_tlv.specs.Tag.{context, application}
 use Rattle.krb_tlv.specs.Element.{tagged, sequence, optional, octets}
-use Rattle.krb_tlv.specs.Integer.{natural, IsUInt32}
+use Rattle.krb_tlv.specs.Integer.{natural, IsInt32, IsUInt32}
 use Rattle.krb_der.specs.KerberosTime.{time}
-use Rattle.krb_der.specs.Address.{host_address, IsAddress}
+use Rattle.krb_der.specs.Address.{host_address}
 
 -- the fields of a body, each under its explicit tag
 abbrev pub body_fields : Body → List (List ℕ)
@@ -34,8 +34,8 @@ pub record IsBody (b : Body) : Type 0 where
   pub time : IfSome b.time IsSecond
   pub usec : IfSome b.usec IsMicroseconds
   pub seq : IfSome b.seq IsUInt32
-  pub s_addr : IsAddress b.s_addr
-  pub r_addr : IfSome b.r_addr IsAddress
+  pub s_addr : IsInt32 b.s_addr.kind
+  pub r_addr : IfSome b.r_addr (λ a. IsInt32 a.kind)
 
 -- The time and the microseconds are in range. The other ranges of a body are those of its numbers'
 -- types.

@@ -10,7 +10,7 @@ use Rattle.krb_der.specs.declared.safe.SafeMsg.{SafeMsg}
 use Rattle.krb_der.specs.declared.private.PrivMsg.{PrivMsg}
 use Rattle.krb_der.specs.declared.message.Message.{Message}
 use Rattle.krb_der.specs.declared.message.Message.TheVariants.{Safe, Priv}
-use Rattle.krb_tlv.specs.Tag.{integer_tag, octet_string_tag, generalized_time_tag, sequence_tag}
+use Rattle.krb_tlv.specs.UniversalTag.{integer_tag, octet_string_tag, generalized_time_tag, sequence_tag}
 use Rattle.krb_tlv.specs.Tag.{context, application}
 use Rattle.krb_tlv.specs.Length.{big_endian}
 use Rattle.krb_tlv.specs.Integer.{int_octets}

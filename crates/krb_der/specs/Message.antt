@@ -1,6 +1,6 @@
 -- What bytes spell (the messages of RFC 4120 sections 5.6 and 5.7), and what reading and writing
 -- return.
-use Rattle.std.specs.Prelude.{◌≡◌, ℕ, ◌<◌, ◌≤◌, ℤ, List, ◌++◌, length, take, drop, Result, Ok, Err}
+use Rattle.std.specs.Prelude.{◌≡◌, ℕ, ◌<◌, ◌≤◌, ℤ, pos, List, [], ◌++◌, length, take, drop, Result, Ok, Err}
 use Rattle.std.specs.Global.{Vec}
 use Rattle.krb_base.specs.Limits.{frame_limit}
 use Rattle.krb_tlv.specs.declared.error.DerError.{DerError}
@@ -14,14 +14,28 @@ use Rattle.krb_der.specs.declared.private.PrivMsg.{PrivMsg}
 use Rattle.krb_der.specs.declared.message.Message.{Message}
 use Rattle.krb_der.specs.declared.message.Message.TheVariants.{Safe, Priv}
 use Rattle.krb_der.specs.Body.{part, IsBody}
-use Rattle.krb_der.specs.Safe.{safe, safe_input, with_checksum, before_checksum, checksum_field}
-use Rattle.krb_der.specs.Safe.{IsSafe}
-use Rattle.krb_der.specs.Private.{private, IsPrivate}
+use Rattle.krb_tlv.specs.Tag.{application}
+use Rattle.krb_tlv.specs.Element.{tagged, sequence}
+use Rattle.krb_der.specs.Safe.{safe_fields, with_checksum, before_checksum, checksum_field, IsSafe}
+use Rattle.krb_der.specs.Private.{private_fields, IsPrivate}
 
--- the spelling of a message
+-- the spelling of a message: KRB-SAFE ::= [APPLICATION 20] SEQUENCE, and
+-- KRB-PRIV ::= [APPLICATION 21] SEQUENCE
 abbrev pub message : Message → List ℕ
-message (Safe m) = safe m
-message (Priv m) = private m
+message (Safe m) = tagged (application 20) (sequence (safe_fields m))
+message (Priv m) = tagged (application 21) (sequence (private_fields m))
+
+-- the same of each kind
+abbrev pub safe : SafeMsg → List ℕ
+safe m = message (Safe m)
+
+abbrev pub private : PrivMsg → List ℕ
+private m = message (Priv m)
+
+-- the bytes under the checksum: the spelling of the message with checksum type 0 and an empty
+-- checksum (RFC 4120 section 5.6.1)
+abbrev pub safe_input : SafeMsg → List ℕ
+safe_input m = message (Safe (record m { cksum_type = pos 0; checksum = [] }))
 
 -- the numbers of a message are in the ranges of their types
 abbrev pub IsMessage : Message → Type 0

@@ -1,7 +1,7 @@
 -- KRB-PRIV (RFC 4120 section 5.7.1). There is no field [2].
 use Rattle.std.specs.Prelude.{ℕ, ℤ, List, [], ◌∷◌, Option, IfSome}
 use Rattle.krb_der.specs.declared.private.PrivMsg.{PrivMsg}
-use Rattle.krb_tlv.specs.Tag.{context, application}
+use Rattle.krb_tlv.specs.Tag.{context}
 use Rattle.krb_tlv.specs.Element.{tagged, sequence, optional, octets}
 use Rattle.krb_tlv.specs.Integer.{integer, natural, IsInt32, IsUInt32}
 
@@ -25,10 +25,6 @@ private_fields m =
     ∷ tagged (context 1) (integer m.msg_type)
     ∷ tagged (context 3) (encrypted_data m.etype m.kvno m.cipher)
     ∷ []
-
--- KRB-PRIV ::= [APPLICATION 21] SEQUENCE
-abbrev pub private : PrivMsg → List ℕ
-private m = tagged (application 21) (sequence (private_fields m))
 
 -- the numbers of a KRB-PRIV are in the ranges of their types
 pub record IsPrivate (m : PrivMsg) : Type 0 where

@@ -15,7 +15,8 @@ use Rattle.krb_der.specs.declared.safe.SafeMsg.{SafeMsg}
 use Rattle.krb_der.specs.declared.private.PrivMsg.{PrivMsg}
 use Rattle.krb_der.specs.declared.message.Message.{Message}
 use Rattle.krb_der.specs.declared.message.Message.TheVariants.{Safe, Priv}
-use Rattle.krb_tlv.specs.Tag.{generalized_time_tag, sequence_tag, context, application}
+use Rattle.krb_tlv.specs.Tag.{context, application}
+use Rattle.krb_tlv.specs.UniversalTag.{generalized_time_tag, sequence_tag}
 use Rattle.krb_tlv.specs.Reading.{ended, tagged_at, alone, field_at, starts_with, optional_at}
 use Rattle.krb_tlv.specs.Reading.{int32_element_of, below_element_of, octets_of}
 

@@ -1,28 +1,21 @@
 -- KRB-SAFE (RFC 4120 section 5.6.1).
 use Rattle.std.specs.Prelude.{ℕ, ℤ, pos, List, [], ◌∷◌, ◌++◌}
 use Rattle.krb_der.specs.declared.safe.SafeMsg.{SafeMsg}
-use Rattle.krb_tlv.specs.Tag.{context, application}
-use Rattle.krb_tlv.specs.Element.{tagged, sequence}
+use Rattle.krb_tlv.specs.Tag.{context}
+use Rattle.krb_tlv.specs.Element.{tagged}
 use Rattle.krb_tlv.specs.Integer.{integer, IsInt32}
 use Rattle.krb_der.specs.Typed.{typed_octets}
 use Rattle.krb_der.specs.Body.{body, IsBody}
 
--- Checksum (RFC 4120 section 5.2.9): SEQUENCE { cksumtype [0] Int32, checksum [1] OCTET STRING }
-abbrev pub checksum : ℤ → List ℕ → List ℕ
-checksum kind bytes = typed_octets kind bytes
-
--- the fields of KRB-SAFE
+-- the fields of KRB-SAFE. The last is a Checksum (RFC 4120 section 5.2.9): SEQUENCE { cksumtype [0]
+-- Int32, checksum [1] OCTET STRING }
 abbrev pub safe_fields : SafeMsg → List (List ℕ)
 safe_fields m =
     tagged (context 0) (integer m.pvno)
     ∷ tagged (context 1) (integer m.msg_type)
     ∷ tagged (context 2) (body m.body)
-    ∷ tagged (context 3) (checksum m.cksum_type m.checksum)
+    ∷ tagged (context 3) (typed_octets m.cksum_type m.checksum)
     ∷ []
-
--- KRB-SAFE ::= [APPLICATION 20] SEQUENCE
-abbrev pub safe : SafeMsg → List ℕ
-safe m = tagged (application 20) (sequence (safe_fields m))
 
 -- the numbers of a KRB-SAFE are in the ranges of their types
 pub record IsSafe (m : SafeMsg) : Type 0 where
@@ -35,8 +28,7 @@ pub record IsSafe (m : SafeMsg) : Type 0 where
 abbrev pub with_checksum : SafeMsg → ℤ → List ℕ → SafeMsg
 with_checksum m kind bytes = record m { cksum_type = kind; checksum = bytes }
 
--- the message with checksum type 0 and an empty checksum, whose spelling is under the checksum
--- (RFC 4120 section 5.6.1)
+-- the message with checksum type 0 and an empty checksum
 abbrev pub without_checksum : SafeMsg → SafeMsg
 without_checksum m = with_checksum m (pos 0) []
 
@@ -46,10 +38,10 @@ before_checksum m =
     tagged (context 0) (integer m.pvno)
     ++ (tagged (context 1) (integer m.msg_type) ++ tagged (context 2) (body m.body))
 
+-- a Checksum
+abbrev pub checksum : ℤ → List ℕ → List ℕ
+checksum = typed_octets
+
 -- the last field
 abbrev pub checksum_field : ℤ → List ℕ → List ℕ
 checksum_field kind bytes = tagged (context 3) (checksum kind bytes)
-
--- the bytes under the checksum (RFC 4120 section 5.6.1)
-abbrev pub safe_input : SafeMsg → List ℕ
-safe_input m = safe (without_checksum m)

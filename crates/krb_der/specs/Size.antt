@@ -6,8 +6,8 @@ use Rattle.krb_der.specs.declared.body.Body.{Body}
 use Rattle.krb_der.specs.declared.safe.SafeMsg.{SafeMsg}
 use Rattle.krb_der.specs.declared.private.PrivMsg.{PrivMsg}
 use Rattle.krb_der.specs.Body.{part}
-use Rattle.krb_der.specs.Safe.{safe, safe_input}
-use Rattle.krb_der.specs.Private.{private}
+use Rattle.krb_der.specs.Message.{safe, safe_input}
+use Rattle.krb_der.specs.Message.{private}
 
 -- the octets of an address that may be left out
 abbrev pub optional_size : Option HostAddress → ℕ

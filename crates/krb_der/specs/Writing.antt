@@ -6,7 +6,8 @@ use Rattle.std.specs.List.{concat}
 use Rattle.krb_der.specs.declared.body.Body.{Body}
 use Rattle.krb_der.specs.declared.safe.SafeMsg.{SafeMsg}
 use Rattle.krb_der.specs.declared.private.PrivMsg.{PrivMsg}
-use Rattle.krb_tlv.specs.Tag.{context, application, octet_string_tag, sequence_tag}
+use Rattle.krb_tlv.specs.Tag.{context, application}
+use Rattle.krb_tlv.specs.UniversalTag.{octet_string_tag, sequence_tag}
 use Rattle.krb_tlv.specs.Writing.{element_size, IsShort}
 use Rattle.krb_tlv.specs.Element.{header, tagged, optional, octets}
 use Rattle.krb_tlv.specs.Integer.{integer, natural}

@@ -7,7 +7,8 @@ ghost use Rattle.krb_der.specs.Writing.{IsShortBody, encrypted_fields_size, encr
 ghost use Rattle.krb_tlv.specs.Integer.{integer};
 ghost use Rattle.krb_time.specs.Time.{IsSecond};
 ghost use Rattle.krb_der.specs.Body.{InRange, part};
-ghost use Rattle.krb_der.specs.Private.{IsPrivate, private};
+ghost use Rattle.krb_der.specs.Private.{IsPrivate};
+ghost use Rattle.krb_der.specs.Message.{private};
 ghost use Rattle.krb_der.specs.Message.{Drafts, Encodes, Spells, message};
 ghost use Rattle.krb_tlv.specs.Reading.{Gives};
 ghost use Rattle.krb_der.specs.Reading.{encrypted_of, private_of};

@@ -4,7 +4,7 @@ ghost use Rattle.std.specs.Prelude.{◌≡◌, length};
 ghost use Rattle.krb_keys.specs.MacKey.{HoldsKey};
 ghost use Rattle.krb_keys.specs.Nfold.{nfold};
 ghost use Rattle.krb_keys.specs.Derivation.{constant};
-ghost use Rattle.krb_etype.specs.Keys.{checksum_key, checksum_usage, encryption_key, integrity_key, private_usage};
+ghost use Rattle.krb_etype.specs.Keys.{checksum_key, encryption_key, integrity_key};
 
 use krb_aes::{CipherKey, Schedule};
 use krb_keys::{MacKey, derive_folded};
@@ -28,9 +28,9 @@ const INTEGRITY_CONSTANT: [u8; 16] = [
 /// The law of the constants: each is the n-fold that RFC 3961 asks for, so that nobody computes it
 /// when keys are made.
 pub fn folded_constants()
-    ensures checksum { CHECKSUM_CONSTANT ≡ nfold 16 (constant checksum_usage 0x99) }
-    ensures encryption { ENCRYPTION_CONSTANT ≡ nfold 16 (constant private_usage 0xaa) }
-    ensures integrity { INTEGRITY_CONSTANT ≡ nfold 16 (constant private_usage 0x55) }
+    ensures checksum { CHECKSUM_CONSTANT ≡ nfold 16 (constant 15 0x99) }
+    ensures encryption { ENCRYPTION_CONSTANT ≡ nfold 16 (constant 13 0xaa) }
+    ensures integrity { INTEGRITY_CONSTANT ≡ nfold 16 (constant 13 0x55) }
 {}
 
 /// A derived key, ready for message codes. The key is overwritten.

@@ -1,7 +1,8 @@
 //! A session key with the keys derived from it.
 
 ghost use Rattle.std.specs.Prelude.{◌≡◌, ◌↔◌, ◌≤◌, ◌+◌, ◌++◌, IsTrue, false, length};
-ghost use Rattle.krb_aes.specs.Stealing.{cts_of};
+ghost use Rattle.krb_aes.specs.Keys.{expanded_key};
+ghost use Rattle.krb_aes.specs.Stealing.{cts};
 ghost use Rattle.krb_base.specs.Bytes.{AreBytes};
 ghost use Rattle.krb_keys.specs.Hmac.{hmac96, joined};
 ghost use Rattle.krb_etype.specs.declared.private_keys.End.TheVariants.{Sealer, Opener};
@@ -202,7 +203,7 @@ impl Keys {
         requires purpose { self.now.purpose ≡ Encryption }
         requires end { self.now.end ≡ Sealer }
         requires long { 16 ≤ length text.old }
-        ensures { text.new ≡ cts_of (encryption_key self.now.key) text.old }
+        ensures { text.new ≡ cts (expanded_key (encryption_key self.now.key)) text.old }
     {
         self.private().encipher(text);
     }
@@ -213,7 +214,7 @@ impl Keys {
         requires purpose { self.now.purpose ≡ Encryption }
         requires end { self.now.end ≡ Opener }
         requires long { 16 ≤ length text.old }
-        ensures image { cts_of (encryption_key self.now.key) text.new ≡ text.old }
+        ensures image { cts (expanded_key (encryption_key self.now.key)) text.new ≡ text.old }
         ensures size { length text.new ≡ length text.old }
         ensures bytes { AreBytes text.new }
     {

@@ -3,7 +3,8 @@
 ghost use Rattle.std.specs.Prelude.{◌≡◌, ◌≤◌, ℕ, List, length};
 ghost use Rattle.krb_base.specs.Bytes.{AreZero, AreBytes};
 ghost use Rattle.krb_aes.specs.Keys.{expanded_key};
-ghost use Rattle.krb_aes.specs.Stealing.{cts_of};
+ghost use Rattle.krb_aes.specs.Keys.{expanded_key};
+ghost use Rattle.krb_aes.specs.Stealing.{cts};
 ghost use Rattle.krb_etype.specs.Keys.{encryption_key, tag_of};
 ghost use Rattle.krb_etype.specs.PrivateKeys.{AreForgotten, AreOf, ArePrivateKeys, words_of};
 ghost use Rattle.krb_etype.specs.declared.private_keys.End.TheVariants as ends;
@@ -119,7 +120,7 @@ impl PrivateKeys {
         requires end { AreOf ends.Sealer self.now.encryption }
         requires long { 16 ≤ length text.old }
         ensures { (key : List ℕ) → words_of self.now.encryption ≡ expanded_key (encryption_key key)
-            → text.new ≡ cts_of (encryption_key key) text.old }
+            → text.new ≡ cts (expanded_key (encryption_key key)) text.old }
     {
         match &self.encryption {
             RoundKeys::Enciphering(schedule) => cts_encrypt(schedule, text),
@@ -133,7 +134,7 @@ impl PrivateKeys {
         requires long { 16 ≤ length text.old }
         ensures image { (key : List ℕ)
             → words_of self.now.encryption ≡ expanded_key (encryption_key key)
-            → cts_of (encryption_key key) text.new ≡ text.old }
+            → cts (expanded_key (encryption_key key)) text.new ≡ text.old }
         ensures size { length text.new ≡ length text.old }
         ensures bytes { AreBytes text.new }
     {

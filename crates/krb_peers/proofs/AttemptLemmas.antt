@@ -20,7 +20,8 @@ use Rattle.krb_peers.specs.Attempt.{Attempt, HasKey, DemandsAfter, IsAttemptAfte
 use Rattle.krb_peers.specs.Demand.{Demand}
 use Rattle.krb_peers.specs.ReceiverState.{ReceiverState}
 use Rattle.krb_peers.specs.Order.{demand_after, first_demand}
-use Rattle.krb_peers.specs.Session.{CloseIsLastOf, FitLimits, Sealed, IsSealed, IsFrameOf}
+use Rattle.krb_peers.specs.Session.{FitLimits, Sealed, IsSealed, IsFrameOf}
+use Rattle.krb_peers.proofs.Parts.{CloseIsLastOf}
 use Rattle.krb_peers.specs.Moments.{moment_at}
 use Rattle.krb_peers.specs.Verdicts.{Verdict, accepted_by, record_of, records_of, delivered, IsVerdict}
 use Rattle.krb_peers.proofs.OrderLemmas.{demand_after-append}

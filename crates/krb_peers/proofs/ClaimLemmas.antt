@@ -14,7 +14,8 @@ use Rattle.krb_peers.specs.Sender.{records, sealed_groups}
 use Rattle.krb_peers.specs.Verdicts.{AreJudged, events_from, records_of}
 use Rattle.krb_peers.specs.Run.{Run, IsRun}
 use Rattle.krb_peers.specs.Wire.{TakesAll}
-use Rattle.krb_peers.specs.Claims.{FramesHeadline, texts_of_all, texts_with}
+use Rattle.krb_peers.specs.Claims.{FramesHeadline, texts_with}
+use Rattle.krb_peers.specs.Texts.{texts_of_all}
 use Rattle.krb_peers.proofs.AttemptLemmas.{texts_prefix, texts_whole, accepts_rest, rest_whole, all_accepted, none_refused}
 use Rattle.krb_peers.proofs.LoggedLemmas.{closed_events, or_right}
 use Rattle.krb_peers.proofs.SourceLemmas.{texts_of_records, paired_attempt}

@@ -5,9 +5,10 @@ use Rattle.std.proofs.lemmas.List.{length-take-le, take-append-drop}
 use Rattle.std.proofs.Math.Seq.{take-append_seam}
 use Rattle.krb_record.specs.declared.record.Record.{Record}
 use Rattle.krb_record.specs.declared.record.Record.TheVariants as records
-use Rattle.krb_record.specs.Record.{bytes_of, is_close}
+use Rattle.krb_record.specs.Record.{SpellsRecord, bytes_of, is_close}
 use Rattle.krb_record.proofs.RecordLemmas.{one_record}
-use Rattle.krb_peers.specs.Session.{IsReadable, CloseIsLastOf, FitLimits}
+use Rattle.krb_peers.specs.Session.{FitLimits}
+use Rattle.krb_peers.proofs.Parts.{CloseIsLastOf}
 
 -- ---- lists
 
@@ -80,5 +81,5 @@ none_of_front (x ∷ xs) ys is = absurd (let e = is in cc)
 
 -- ---- records within their limits
 
-pub all_readable : (rs : List Record) → FitLimits rs → (k : ℕ) (r : Record) → slice_get rs k ≡ Some r → IsReadable r
+pub all_readable : (rs : List Record) → FitLimits rs → (k : ℕ) (r : Record) → slice_get rs k ≡ Some r → (other : Record) → SpellsRecord other (bytes_of r) → r ≡ other
 all_readable rs fits k r there other spelled = one_record (bytes_of r) r other (fits k r there, refl) spelled

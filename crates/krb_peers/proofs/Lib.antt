@@ -1,3 +1,4 @@
+pub mod Parts
 pub mod ListLemmas
 pub mod EmissionLemmas
 pub mod OrderLemmas

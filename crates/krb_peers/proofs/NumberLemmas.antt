@@ -6,7 +6,8 @@ use Rattle.krb_der.specs.declared.message.Message.{Message}
 use Rattle.krb_der.specs.declared.message.Message.TheVariants as messages
 use Rattle.krb_tlv.specs.Integer.{IsUInt32}
 use Rattle.krb_der.specs.Message.{IsMessage, Spells, SpellsPart}
-use Rattle.krb_seal.specs.Opens.{OpenerState, Opens, OpensMessage, OpensText, OpensPart, Decrypt, Read, frame_checks, safe_checks, priv_header, text_checks, body_checks, is_number}
+use Rattle.krb_seal.specs.Opens.{OpenerState, Opens, OpensMessage, OpensText, Decrypt, Read, safe_checks, priv_header, body_checks, is_number}
+use Rattle.krb_seal.specs.OpensParts.{OpensPart, frame_checks, text_checks}
 use Rattle.krb_seal.proofs.SealedFrames.{met_all}
 
 number_small : (number : ℕ) (seq : Option ℕ) → IfSome seq IsUInt32 → is_number number seq ≡ true → number ≤ last_number

@@ -15,7 +15,8 @@ use Rattle.krb_peers.specs.declared.delivery.Delivery.TheVariants.{Text, Batch, 
 use Rattle.krb_peers.specs.declared.receiver.Opened.{Opened}
 use Rattle.krb_record.specs.Record.{SpellsRecord, kind_of}
 use Rattle.krb_peers.specs.ReceiverState.{ReceiverState}
-use Rattle.krb_peers.specs.Verdicts.{Fails, IsNoRecord, Verdict, record_of}
+use Rattle.krb_peers.specs.Verdicts.{Fails, Verdict, record_of}
+use Rattle.krb_peers.proofs.Parts.{IsNoRecord}
 use Rattle.krb_peers.specs.Receiver.{IsJudgement, OpensRecord}
 use Rattle.krb_peers.proofs.NumberLemmas.{opens_in_range}
 

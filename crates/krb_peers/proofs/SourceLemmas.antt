@@ -27,7 +27,8 @@ use Rattle.krb_peers.specs.Plan.{is_good, is_good_emission, emission, emissions,
 use Rattle.krb_peers.specs.Planned.{is_altered_one, altered_at, AlteredAreHonest, IsPaired, AlteredAreHonestAfter, attempt_of}
 use Rattle.krb_peers.specs.Ends.{Ends}
 use Rattle.krb_peers.specs.Run.{Run, IsRun}
-use Rattle.krb_peers.specs.Session.{CloseIsLastOf, AreRecords, FitLimits, Sealed, IsSealed, IsFrameOf}
+use Rattle.krb_peers.specs.Session.{AreRecords, FitLimits, Sealed, IsSealed, IsFrameOf}
+use Rattle.krb_peers.proofs.Parts.{CloseIsLastOf}
 use Rattle.krb_peers.specs.Sender.{Source, IsWithinLimits, text_groups, texts_of_groups, sealed_count, sealed_groups, records_for, IsFrame, AreFrames}
 use Rattle.krb_peers.specs.Moments.{moment_at}
 use Rattle.krb_peers.specs.Sender as sender

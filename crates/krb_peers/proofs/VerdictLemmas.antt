@@ -12,7 +12,8 @@ use Rattle.std.specs.Prelude.{option_map}
 use Rattle.krb_seal.specs.declared.refusal.Refusal.{Refusal}
 use Rattle.krb_seal.specs.declared.refusal.Refusal.TheVariants as refusals
 use Rattle.krb_base.specs.Bytes.{AreBytes}
-use Rattle.krb_seal.specs.Opens.{OpenerState, Outcome, Opens}
+use Rattle.krb_seal.specs.Opens.{OpenerState, Opens}
+use Rattle.krb_seal.specs.OpensParts.{Outcome}
 use Rattle.krb_seal.specs.Opening.{opens}
 use Rattle.krb_seal.proofs.Openings.{one_outcome}
 use Rattle.krb_seal.proofs.Outcomes.{Unique, outcomes_unique}
@@ -23,7 +24,8 @@ use Rattle.krb_peers.specs.Demand.{Demand}
 use Rattle.krb_record.specs.Record.{SpellsRecord, is_close}
 use Rattle.krb_peers.specs.Moments.{moment_at}
 use Rattle.krb_peers.specs.Order.{demand_after}
-use Rattle.krb_peers.specs.Verdicts.{Verdict, AllBytes, record_of, accepted_by, records_of, IsNoRecord, IsVerdict, AreVerdicts, delivery_in, judged, verdict_on, verdict, verdicts}
+use Rattle.krb_peers.specs.Verdicts.{Verdict, AllBytes, record_of, accepted_by, records_of, IsVerdict, AreVerdicts, delivery_in, judged, verdict_on, verdict, verdicts}
+use Rattle.krb_peers.proofs.Parts.{IsNoRecord}
 use Rattle.krb_peers.proofs.OrderLemmas.{demand_after-nil, demand_after-append}
 use Rattle.krb_peers.proofs.ListLemmas.{slice_get-front, slice_get-end, lt_or_same}
 

@@ -4,9 +4,8 @@ use Rattle.krb_record.specs.declared.record.Record.{Record}
 use Rattle.krb_seal.specs.Laws.{Agree}
 use Rattle.krb_seal.specs.Sealer.{SealerState}
 use Rattle.krb_peers.specs.declared.delivery.Delivery.{Delivery}
-use Rattle.krb_peers.specs.Accepted.{IsNumbered}
 use Rattle.krb_peers.specs.Demand.{Demand}
-use Rattle.krb_peers.specs.Order.{demand_after, first_demand, offer}
+use Rattle.krb_peers.specs.Order.{demand_after, first_demand}
 use Rattle.krb_peers.specs.ReceiverState.{ReceiverState}
 use Rattle.krb_peers.specs.Moments.{moment_at}
 use Rattle.krb_peers.specs.Session.{AreRecords, FitLimits, Sealed, IsSealed, IsFrameOf, AreSealed}
@@ -19,23 +18,13 @@ pub record Attempt : Type 0 where
   pub took : List (List ℕ)
   pub verdicts : List Verdict
 
--- what is demanded as it begins, before the frame at a place, and at its end
-abbrev pub begins_at : Attempt → Demand
-begins_at attempt = attempt.receiver.demand
-
+-- what is demanded before the frame at a place, and at its end
 abbrev pub demand_at : Attempt → ℕ → Demand
-demand_at attempt place = demand_after (begins_at attempt) (records_of (take place attempt.verdicts))
+demand_at attempt place =
+    demand_after attempt.receiver.demand (records_of (take place attempt.verdicts))
 
 abbrev pub ends_at : Attempt → Demand
-ends_at attempt = demand_after (begins_at attempt) (records_of attempt.verdicts)
-
--- each frame that is accepted was sealed of one of the records, or carries the record of its number
-abbrev pub AcceptsNoForgery : SealerState → List Record → Attempt → Type 0
-AcceptsNoForgery sealer records attempt =
-    (place : ℕ) (frame : List ℕ) (d : Delivery) → slice_get attempt.took place ≡ Some frame
-    → slice_get attempt.verdicts place ≡ Some (Ok d)
-    → let number = (demand_at attempt place).expected in
-    IsFrameOf sealer records frame ⊎ IsNumbered sealer.next records (offer number (record_of d))
+ends_at attempt = demand_after attempt.receiver.demand (records_of attempt.verdicts)
 
 -- the receiver has the session's key
 pub record HasKey (sealer : SealerState) (receiver : ReceiverState) : Type 0 where
@@ -43,12 +32,18 @@ pub record HasKey (sealer : SealerState) (receiver : ReceiverState) : Type 0 whe
   pub key : receiver.opener.key ≡ sealer.key
 
 -- A receiver has the session's key. It begins with any demand, and takes any frames in any order.
--- What it accepts is no forgery.
+-- What it accepts is no forgery: each frame that is accepted was sealed of one of the records, or
+-- carries the record of its number.
 pub record IsAttempt (sealer : SealerState) (records : List Record)
     (attempt : Attempt) : Type 0 where
   pub has_key : HasKey sealer attempt.receiver
   pub judged : AreJudged attempt.receiver attempt.nows attempt.took attempt.verdicts
-  pub no_forgery : AcceptsNoForgery sealer records attempt
+  pub no_forgery :
+      (place : ℕ) (frame : List ℕ) (d : Delivery) → slice_get attempt.took place ≡ Some frame
+      → slice_get attempt.verdicts place ≡ Some (Ok d)
+      → IsFrameOf sealer records frame
+      ⊎ ((k : ℕ) → (demand_at attempt place).expected ≡ sealer.next + k
+      → slice_get records k ≡ Some (record_of d))
 
 -- what is demanded after the first of these records
 pub record DemandsAfter (sealer : SealerState) (records : List Record) (first : ℕ)
@@ -62,7 +57,7 @@ pub record IsAttemptAfter (sealer : SealerState) (records : List Record) (first 
     (attempt : Attempt) : Type 0 where
   pub are : AreRecords records
   pub tries : IsAttempt sealer records attempt
-  pub begins : DemandsAfter sealer records first (begins_at attempt)
+  pub begins : DemandsAfter sealer records first attempt.receiver.demand
 
 -- where record k is demanded at a place, both ends agree on mode and addresses, and what is taken
 -- there is within the skew of the timestamp at which it was sealed

@@ -10,14 +10,14 @@ use Rattle.krb_seal.specs.Sealer.{SealerState}
 use Rattle.krb_seal.specs.declared.refusal.Refusal.{Refusal}
 use Rattle.krb_peers.specs.declared.log.Event.{Event}
 use Rattle.krb_peers.specs.declared.log.Event.TheVariants.{Closed}
-use Rattle.krb_peers.specs.Attempt.{Attempt, begins_at, IsAttemptAfter, TakesInTurn}
+use Rattle.krb_peers.specs.Attempt.{Attempt, IsAttemptAfter, TakesInTurn}
 use Rattle.krb_peers.specs.Demand.{Demand}
 use Rattle.krb_peers.specs.Log.{texts_in, has_closed}
 use Rattle.krb_peers.specs.Order.{demand_after}
 use Rattle.krb_peers.specs.ReceiverState.{ReceiverState}
 use Rattle.krb_peers.specs.Moments.{moment_at}
 use Rattle.krb_peers.specs.Session.{FitLimits}
-use Rattle.krb_peers.specs.Verdicts.{Verdict, Fails, records_of, delivered}
+use Rattle.krb_peers.specs.Verdicts.{Verdict, Fails, records_of, events_from}
 
 -- ---- the claims that rest on no premise
 
@@ -39,18 +39,14 @@ RefusesExactly start nows took verdicts =
 abbrev pub RefusalsDeliverNothing : Demand → List Verdict → List Event → Type 0
 RefusalsDeliverNothing start verdicts events =
     (front back : List Verdict) (refusal : Refusal) → verdicts ≡ front ++ Err refusal ∷ back
-    → (texts_in events ≡ delivered (front ++ back))
+    → (texts_in events ≡ texts_in (events_from (front ++ back)))
     × (demand_after start (records_of verdicts) ≡ demand_after start (records_of (front ++ back)))
 
 -- ---- all of them
 
--- the texts of records, in order
-abbrev pub texts_of_all : List Record → List (List ℕ)
-texts_of_all records = flat_map texts_of records
-
 -- the texts of the first records, and after them those that events deliver
 abbrev pub texts_with : List Record → ℕ → List Event → List (List ℕ)
-texts_with records first events = texts_of_all (take first records) ++ texts_in events
+texts_with records first events = flat_map texts_of (take first records) ++ texts_in events
 
 -- The headline: the seven claims, about the events of an attempt at the records of a session. Its
 -- receiver begins after the first records, and what it delivers continues where their texts end.
@@ -59,25 +55,25 @@ pub record FramesHeadline (sealer : SealerState) (records : List Record) (first 
   -- what is delivered is a prefix of the texts: in order, and each once
   pub delivered_prefix :
       IsAttemptAfter sealer records first attempt
-      → IsPrefix (texts_with records first events) (texts_of_all records)
+      → IsPrefix (texts_with records first events) (flat_map texts_of records)
   pub nothing_after_close : NothingAfterClose events
   -- all texts are delivered if the close was accepted
   pub all_where_closed :
       IsAttemptAfter sealer records first attempt → has_closed events ≡ true
-      → texts_with records first events ≡ texts_of_all records
+      → texts_with records first events ≡ flat_map texts_of records
   -- and if the frames come in turn and nothing else comes: then none is refused
   pub all_where_undisturbed :
       IsAttemptAfter sealer records first attempt → FitLimits records
       → TakesInTurn sealer records first (length records) attempt
       → first + length attempt.took ≡ length records
-      → (texts_with records first events ≡ texts_of_all records) × All IsOk attempt.verdicts
+      → (texts_with records first events ≡ flat_map texts_of records) × All IsOk attempt.verdicts
   -- and if they come in turn, whatever else comes; and the close is accepted if there is one
   pub all_where_carried :
       IsAttemptAfter sealer records first attempt → FitLimits records
       → TakesInTurn sealer records first (length records) attempt
-      → (texts_with records first events ≡ texts_of_all records)
+      → (texts_with records first events ≡ flat_map texts_of records)
       × (has_closed events ≡ list_any is_close (drop first records))
   pub refused_exactly :
       RefusesExactly attempt.receiver attempt.nows attempt.took attempt.verdicts
   pub refusals_deliver_nothing :
-      RefusalsDeliverNothing (begins_at attempt) attempt.verdicts events
+      RefusalsDeliverNothing attempt.receiver.demand attempt.verdicts events

@@ -15,6 +15,7 @@ pub mod Receiver
 pub mod Logged
 pub mod Session
 pub mod Attempt
+pub mod Texts
 pub mod Claims
 pub mod Ends
 pub mod Wire

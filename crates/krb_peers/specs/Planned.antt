@@ -11,7 +11,7 @@ use Rattle.krb_peers.specs.declared.plan.Emit.{Emit}
 use Rattle.krb_peers.specs.declared.plan.Emit.TheVariants.{Frame, Flip, Raw}
 use Rattle.krb_peers.specs.Attempt.{Attempt, demand_at, IsAttemptAfter, TakesInTurn}
 use Rattle.krb_peers.specs.Claims.{NothingAfterClose, RefusesExactly, RefusalsDeliverNothing}
-use Rattle.krb_peers.specs.Claims.{texts_of_all}
+use Rattle.krb_peers.specs.Texts.{texts_of_all}
 use Rattle.krb_peers.specs.Ends.{Ends}
 use Rattle.krb_peers.specs.Log.{events_of, texts_in, has_closed, has_ended}
 use Rattle.krb_peers.specs.LogState.{LogState}

@@ -9,19 +9,12 @@ use Rattle.krb_seal.specs.Sealer.{SealerState}
 
 -- ---- the records
 
--- its bytes are those of no other record: so it is of each record within its limits
-abbrev pub IsReadable : Record → Type 0
-IsReadable r = (other : Record) → SpellsRecord other (bytes_of r) → r ≡ other
-
--- none of the records follows a close
-abbrev pub CloseIsLastOf : List Record → Type 0
-CloseIsLastOf records = (front back : List Record) → records ≡ front ++ Close ∷ back → back ≡ []
-
--- The records of a session, one for each number. Each can be read in one way only, and none follows
--- a close.
+-- The records of a session, one for each number. Each can be read in one way only: its bytes are
+-- those of no other record, which holds of each record within its limits. None follows a close.
 pub record AreRecords (records : List Record) : Type 0 where
-  pub readable : (k : ℕ) (r : Record) → slice_get records k ≡ Some r → IsReadable r
-  pub close_last : CloseIsLastOf records
+  pub readable : (k : ℕ) (r : Record) → slice_get records k ≡ Some r
+      → (other : Record) → SpellsRecord other (bytes_of r) → r ≡ other
+  pub close_last : (front back : List Record) → records ≡ front ++ Close ∷ back → back ≡ []
 
 -- each is within its limits
 abbrev pub FitLimits : List Record → Type 0

@@ -9,7 +9,8 @@ use Rattle.krb_base.specs.Limits.{text_limit}
 use Rattle.krb_record.specs.Reading.{batch_in}
 use Rattle.krb_seal.specs.declared.refusal.Refusal.{Refusal}
 use Rattle.krb_seal.specs.declared.refusal.Refusal.TheVariants as refusals
-use Rattle.krb_seal.specs.Opens.{Outcome, OpenerState, Opens}
+use Rattle.krb_seal.specs.Opens.{OpenerState, Opens}
+use Rattle.krb_seal.specs.OpensParts.{Outcome}
 use Rattle.krb_seal.specs.Opening.{opens}
 use Rattle.krb_record.specs.declared.record.Record.{Record}
 use Rattle.krb_record.specs.declared.record.Record.TheVariants as records
@@ -67,18 +68,14 @@ delivered verdicts = texts_in (events_from verdicts)
 
 -- ---- what a verdict is: on a frame that is taken at a timestamp, with this demand
 
--- the user data are those of no record
-abbrev pub IsNoRecord : List ℕ → Type 0
-IsNoRecord user = (r : Record) → ¬ SpellsRecord r user
-
 -- the frame fails a check, and this is the refusal of the first: a close was accepted before, or
 -- the opener refuses it, or its user data is no record
 abbrev pub Fails : OpenerState → Demand → ℕ → List ℕ → Refusal → Type 0
 Fails opener demand now frame refusal =
     ((demand.closed ≡ true) × (refusal ≡ refusals.AfterClose))
     ⊎ ((demand.closed ≡ false) × (Opens opener demand.expected now frame (Err refusal)
-    ⊎ ((user : List ℕ) × Opens opener demand.expected now frame (Ok user) × IsNoRecord user
-    × (refusal ≡ refusals.BadRecord))))
+    ⊎ ((user : List ℕ) × Opens opener demand.expected now frame (Ok user)
+    × ((r : Record) → ¬ SpellsRecord r user) × (refusal ≡ refusals.BadRecord))))
 
 -- the frame passes all checks, and carries this delivery
 abbrev pub Carries : OpenerState → Demand → ℕ → List ℕ → Delivery → Type 0

@@ -1,5 +1,5 @@
 -- The bytes of texts have one reading.
-use Rattle.std.proofs.Common.{◌≡◌, ℕ, ◌<◌, ◌≤◌, ◌^◌, List, [], ◌∷◌, ◌++◌, length, take, drop, refl, sym, ap, ap₂, subst, ◌∙◌, append_assoc, append-nil, arith, length-append}
+use Rattle.std.proofs.Common.{◌≡◌, ℕ, ◌+◌, ◌<◌, ◌≤◌, ◌^◌, List, [], ◌∷◌, ◌++◌, length, take, drop, refl, sym, ap, ap₂, subst, ◌∙◌, append_assoc, append-nil, arith, length-append}
 use Rattle.std.specs.Prelude.{All}
 use Rattle.std.specs.List.{flat_map}
 use Rattle.std.specs.Int.{w32, to_be_bytes, from_be_bytes}
@@ -8,7 +8,11 @@ use Rattle.std.proofs.lemmas.List.Elements.{All-nil, All-cons}
 use Rattle.std.proofs.lemmas.List.Sums.{sum_by-cons}
 use Rattle.std.proofs.lemmas.Nat.{from_be_bytes-to_be_bytes_4}
 use Rattle.krb_base.specs.Limits.{text_limit, user_data_limit, batch_limit, batch_size_limit}
-use Rattle.krb_record.specs.Batch.{text_size, texts_size, text_bytes, IsBatch, SpellsBatch}
+use Rattle.krb_record.specs.Batch.{texts_size, text_bytes, IsBatch, SpellsBatch}
+
+-- the bytes that a text takes in a batch
+abbrev pub text_size : List ℕ → ℕ
+text_size text = 4 + length text
 
 pub length-text : (text : List ℕ) → length (text_bytes text) ≡ text_size text
 length-text text = omega (arith, length-append (to_be_bytes w32 (length text)) text)

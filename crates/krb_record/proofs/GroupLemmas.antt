@@ -7,9 +7,9 @@ use Rattle.std.proofs.lemmas.List.{take_at, drop_at, drop-drop, take-take, lengt
 use Rattle.std.proofs.lemmas.List.Elements.{All-nil, All-cons}
 use Rattle.std.proofs.lemmas.List.Sums.{sum_by-take-le}
 use Rattle.krb_base.specs.Limits.{batch_limit, batch_size_limit}
-use Rattle.krb_record.specs.Batch.{text_size, texts_size, IsBatch}
+use Rattle.krb_record.specs.Batch.{texts_size, IsBatch}
 use Rattle.krb_record.specs.Groups.{Fits, IsLongest, IsFirstGroup, AreGroups, takes, groups_from, groups}
-use Rattle.krb_record.proofs.BatchLemmas.{same_parts}
+use Rattle.krb_record.proofs.BatchLemmas.{text_size, same_parts}
 
 by_test : (P : Bool → Type 0) (b : Bool) → (b ≡ true → P true) → (b ≡ false → P false) → P b
 by_test P true on off = on refl

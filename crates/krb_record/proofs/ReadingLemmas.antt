@@ -9,9 +9,9 @@ use Rattle.std.proofs.lemmas.List.Sums.{sum_by-cons}
 use Rattle.std.proofs.lemmas.Nat.{from_be_bytes-to_be_bytes_4}
 use Rattle.std.proofs.lemmas.Slice.Eq.{bytes_eq-Decides}
 use Rattle.krb_base.specs.Limits.{batch_limit, batch_size_limit}
-use Rattle.krb_record.specs.Batch.{text_size, texts_size, text_bytes, spelling, IsBatch, SpellsBatch}
+use Rattle.krb_record.specs.Batch.{texts_size, text_bytes, spelling, IsBatch, SpellsBatch}
 use Rattle.krb_record.specs.Reading.{texts_in, can_be_batch, if_spelt, batch_in}
-use Rattle.krb_record.proofs.BatchLemmas.{length-texts, few_texts}
+use Rattle.krb_record.proofs.BatchLemmas.{text_size, length-texts, few_texts}
 
 -- texts that are spelt are read again
 read_again : (n : ℕ) (texts : List (List ℕ)) → length texts ≤ n → texts_size texts < 2 ^ 32 → texts_in n (flat_map text_bytes texts) ≡ texts

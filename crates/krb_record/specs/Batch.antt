@@ -6,13 +6,9 @@ use Rattle.krb_base.specs.Limits.{batch_limit, batch_size_limit}
 use Rattle.krb_record.specs.declared.batch.BatchError.{BatchError}
 use Rattle.krb_record.specs.declared.batch.BatchError.TheVariants.{NoBatch, Memory}
 
--- the bytes that a text takes in a batch: four for its length, and its own
-abbrev pub text_size : List ℕ → ℕ
-text_size text = 4 + length text
-
--- the bytes that these texts take
+-- the bytes that these texts take in a batch: each takes four for its length, and its own
 abbrev pub texts_size : List (List ℕ) → ℕ
-texts_size texts = sum_by text_size texts
+texts_size texts = sum_by (λ text. 4 + length text) texts
 
 -- these texts can be one batch: they are 2 to 1,000, and take at most 1,000,000 bytes
 pub record IsBatch (texts : List (List ℕ)) : Type 0 where

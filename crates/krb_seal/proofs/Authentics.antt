@@ -20,7 +20,8 @@ use Rattle.krb_seal.specs.declared.session.Expect.{Expect}
 use Rattle.krb_etype.specs.Keys.{encryption_key, tag_of}
 use Rattle.krb_etype.specs.Etype.{number_of}
 use Rattle.krb_seal.specs.Seals.{Seals, body_of, safe_checksum, sealed_as, sealed_message, sealed_priv, sealed_safe}
-use Rattle.krb_seal.specs.Opens.{OpenerState, Read, Decrypt, OpensPart, OpensText, OpensMessage, opener_of, frame_checks, safe_checks, priv_header, text_checks, body_checks, is_safe}
+use Rattle.krb_seal.specs.Opens.{OpenerState, Read, Decrypt, OpensText, OpensMessage, opener_of, safe_checks, priv_header, body_checks, is_safe}
+use Rattle.krb_seal.specs.OpensParts.{OpensPart, frame_checks, text_checks}
 use Rattle.krb_seal.specs.Authentic.{Authenticity, GivesBody, AuthenticText, AuthenticMessage, authentic_checks}
 use Rattle.krb_seal.specs.Laws.{OpensTheAuthentic, SealedIsAuthentic}
 use Rattle.krb_etype.proofs.Etypes.{int_is, own_checksum}

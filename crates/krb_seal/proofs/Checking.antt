@@ -14,7 +14,8 @@ use Rattle.krb_der.specs.Message.{Spells, SpellsPart}
 use Rattle.krb_seal.specs.declared.refusal.Refusal.{Refusal}
 use Rattle.krb_seal.specs.declared.refusal.Refusal.TheVariants.{FieldTooLong, Malformed, BadIntegrity, Memory}
 use Rattle.krb_etype.specs.Keys.{tag_of, IsEncryption}
-use Rattle.krb_seal.specs.Opens.{OpenerState, Outcome, Checks, Passes, Read, Decrypt, OpensPart, OpensText, OpensMessage, Opens, priv_header, text_checks, frame_checks}
+use Rattle.krb_seal.specs.Opens.{OpenerState, Passes, Read, Decrypt, OpensText, OpensMessage, Opens, priv_header}
+use Rattle.krb_seal.specs.OpensParts.{Outcome, Checks, OpensPart, text_checks, frame_checks}
 use Rattle.krb_seal.specs.Authentic.{Authenticity, AuthenticMessage, AuthenticText, AuthenticOrMemory, GivesBody}
 use Rattle.krb_seal.specs.declared.unopened.Unopened.{Unopened}
 use Rattle.krb_seal.specs.Unseals.{seen, untold, OrMemory, first_unmet, refusal_of, Checked}

@@ -6,7 +6,7 @@ use Rattle.krb_keys.proofs.HmacLemmas.{length-hmac96}
 use Rattle.krb_der.specs.declared.body.Body.{Body}
 use Rattle.krb_der.specs.declared.safe.SafeMsg.{SafeMsg}
 use Rattle.krb_der.specs.Body.{part}
-use Rattle.krb_der.specs.Safe.{safe_input}
+use Rattle.krb_der.specs.Message.{safe_input}
 use Rattle.krb_der.specs.Size.{with_data, HasPartSize, HasSafeSize, HasPrivateSize}
 use Rattle.krb_der.proofs.Sizes.{small_part}
 use Rattle.krb_seal.specs.declared.session.Mode.TheVariants.{Safe, Priv}

@@ -28,7 +28,7 @@ use Rattle.krb_seal.specs.declared.session.Mode.TheVariants.{Priv}
 use Rattle.krb_etype.specs.declared.etype.Etype.{Etype}
 use Rattle.krb_etype.specs.Etype.{number_of}
 use Rattle.krb_etype.specs.Keys.{encryption_key, integrity_key, tag_of, encrypted}
-use Rattle.krb_seal.specs.Seals.{SealsBody, unenciphered, priv_of}
+use Rattle.krb_seal.specs.Seals.{SealsBody, unenciphered}
 use Rattle.krb_seal.specs.Session.{IsShortAddress, session_address_limit}
 use Rattle.krb_seal.specs.Body.{IsSmall}
 
@@ -85,7 +85,7 @@ sealed_draft etype key conf b draft frame size d is plain =
       body = d.body;
       confounder = size;
       plain = λ _. subst (λ (t : List ℕ). AreBytes t) d.text plain;
-      spelt = subst (λ (s : List ℕ). Spells (messages.Priv (priv_of etype key text)) s) (sym same) (d.front (encrypted key text) long);
+      spelt = subst (λ (s : List ℕ). Spells (messages.Priv (record (unenciphered etype) { cipher = encrypted key text })) s) (sym same) (d.front (encrypted key text) long);
     }
 
 pub seals_draft : {E : Type 0} (etype : Etype) (key conf : List ℕ) (b : Body) (draft : Draft) (r : Result (Vec ℕ) E) → length conf ≡ 16

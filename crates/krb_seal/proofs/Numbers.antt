@@ -14,7 +14,8 @@ use Rattle.krb_seal.specs.declared.session.Expect.{Expect}
 use Rattle.krb_seal.specs.declared.refusal.Refusal.{Refusal}
 use Rattle.krb_seal.specs.declared.refusal.Refusal.TheVariants.{BadVersion, MsgType, InappCksum, BadAddr, Skew, BadOrder, Modified, Memory}
 use Rattle.krb_seal.specs.declared.unopened.Unopened.{Unopened}
-use Rattle.krb_seal.specs.Opens.{OpenerState, Checks, Opens, OpensPart, Read, frame_checks, safe_checks, body_checks, is_number}
+use Rattle.krb_seal.specs.Opens.{OpenerState, Opens, Read, safe_checks, body_checks, is_number}
+use Rattle.krb_seal.specs.OpensParts.{Checks, OpensPart, frame_checks}
 use Rattle.krb_seal.specs.Authentic.{Authenticity, Authenticates, AuthenticMessage, AuthenticOrMemory, GivesBody, authentic_checks}
 use Rattle.krb_seal.specs.Number.{OpensAt, IsItsNumber, TellsNumber}
 use Rattle.krb_seal.specs.NumberInside.{FitsButForNumber, IsNumberOf, IsAuthenticNumber, TellsOfBody, TellsOfMessage}

@@ -15,17 +15,20 @@ use Rattle.krb_der.specs.declared.body.Body.{Body}
 use Rattle.krb_der.specs.declared.private.PrivMsg.{PrivMsg}
 use Rattle.krb_der.specs.declared.message.Message.{Message}
 use Rattle.krb_der.specs.declared.message.Message.TheVariants as messages
-use Rattle.krb_tlv.specs.Tag.{context, application, sequence_tag, octet_string_tag}
+use Rattle.krb_tlv.specs.Tag.{context, application}
+use Rattle.krb_tlv.specs.UniversalTag.{sequence_tag, octet_string_tag}
 use Rattle.krb_tlv.specs.Length.{length_octets}
 use Rattle.krb_tlv.specs.Element.{header, tagged, octets, optional, sequence}
 use Rattle.krb_tlv.specs.Integer.{integer, natural}
 use Rattle.krb_der.specs.Body.{part}
-use Rattle.krb_der.specs.Private.{private, private_fields, encrypted_data, encrypted_fields}
+use Rattle.krb_der.specs.Private.{private_fields, encrypted_data, encrypted_fields}
+use Rattle.krb_der.specs.Message.{private}
 use Rattle.krb_der.specs.Message.{message, Spells, SpellsPart}
 use Rattle.krb_der.specs.Reading.{message_of, part_of}
 use Rattle.krb_der.proofs.Grammar.{message_reads, part_reads}
 use Rattle.krb_etype.specs.Keys.{encryption_key, IsEncryption}
-use Rattle.krb_seal.specs.Opens.{OpenerState, Outcome, Checks, Passes, Read, Decrypt, OpensPart, OpensText, OpensMessage, Opens, frame_checks, safe_checks, priv_header, text_checks, body_checks}
+use Rattle.krb_seal.specs.Opens.{OpenerState, Passes, Read, Decrypt, OpensText, OpensMessage, Opens, safe_checks, priv_header, body_checks}
+use Rattle.krb_seal.specs.OpensParts.{Outcome, Checks, OpensPart, frame_checks, text_checks}
 use Rattle.krb_seal.specs.Opening.{passed, read, text_in, tag_in, opens_part, opens_text, opens_message, opens}
 use Rattle.krb_seal.specs.Laws.{OneOutcome}
 use Rattle.krb_seal.proofs.Outcomes.{outcomes_unique}

@@ -5,7 +5,8 @@ use Rattle.krb_der.specs.declared.message.Message.TheVariants as messages
 use Rattle.krb_der.specs.Message.{Spells, SpellsPart, UniqueSpelling}
 use Rattle.krb_der.proofs.Grammar.{messages_unique, parts_unique}
 use Rattle.krb_seal.specs.declared.refusal.Refusal.{Refusal}
-use Rattle.krb_seal.specs.Opens.{OpenerState, Checks, Passes, Read, Decrypt, OpensPart, OpensText, OpensMessage, Opens, frame_checks, safe_checks, priv_header, text_checks, body_checks}
+use Rattle.krb_seal.specs.Opens.{OpenerState, Passes, Read, Decrypt, OpensText, OpensMessage, Opens, safe_checks, priv_header, body_checks}
+use Rattle.krb_seal.specs.OpensParts.{Checks, OpensPart, frame_checks, text_checks}
 use Rattle.krb_seal.specs.Authentic.{AuthenticMessage, AuthenticText, GivesBody, authentic_checks}
 use Rattle.krb_seal.specs.Laws.{OneAuthenticity}
 use Rattle.krb_seal.proofs.CipherTexts.{one_text}

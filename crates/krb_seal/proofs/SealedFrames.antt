@@ -16,13 +16,15 @@ use Rattle.krb_der.specs.declared.body.Body.{Body}
 use Rattle.krb_der.specs.declared.private.PrivMsg.{PrivMsg}
 use Rattle.krb_der.specs.declared.message.Message.{Message}
 use Rattle.krb_der.specs.declared.message.Message.TheVariants as messages
-use Rattle.krb_tlv.specs.Tag.{context, application, sequence_tag, octet_string_tag}
+use Rattle.krb_tlv.specs.Tag.{context, application}
+use Rattle.krb_tlv.specs.UniversalTag.{sequence_tag, octet_string_tag}
 use Rattle.krb_tlv.specs.Element.{tagged, octets, optional, sequence}
 use Rattle.krb_tlv.specs.Integer.{integer, natural}
 use Rattle.krb_der.specs.Moment.{micros_per_second, moment_of, secs_of, usec_of}
 use Rattle.krb_der.specs.Address.{same_address}
 use Rattle.krb_der.specs.Body.{part}
-use Rattle.krb_der.specs.Private.{private, private_fields, encrypted_data, encrypted_fields}
+use Rattle.krb_der.specs.Private.{private_fields, encrypted_data, encrypted_fields}
+use Rattle.krb_der.specs.Message.{private}
 use Rattle.krb_der.specs.Message.{message, Spells, SpellsPart}
 use Rattle.krb_der.proofs.Grammar.{messages_unique, parts_unique}
 use Rattle.krb_tlv.proofs.Readers.{length-tagged}
@@ -35,7 +37,9 @@ use Rattle.krb_etype.specs.declared.etype.Etype.{Etype}
 use Rattle.krb_etype.specs.Keys.{encryption_key, tag_of, encrypted, IsEncryption}
 use Rattle.krb_etype.specs.Etype.{number_of}
 use Rattle.krb_seal.specs.Seals.{safe_checksum, body_of, sealed_safe, sealed_priv, sealed_as, sealed_message, sealed, Seals}
-use Rattle.krb_seal.specs.Opens.{OpenerState, Outcome, Checks, Passes, Read, Decrypt, OpensPart, OpensText, OpensMessage, opener_of, frame_checks, safe_checks, priv_header, text_checks, body_checks, receiver_fits, addresses_fit, is_current, is_number, is_safe, distance}
+use Rattle.krb_seal.specs.Opens.{OpenerState, Passes, Read, Decrypt, OpensText, OpensMessage, opener_of, safe_checks, priv_header, body_checks, receiver_fits, addresses_fit, is_current, is_number, is_safe}
+use Rattle.std.specs.Int.{abs_diff}
+use Rattle.krb_seal.specs.OpensParts.{Outcome, Checks, OpensPart, frame_checks, text_checks}
 use Rattle.krb_seal.specs.Laws.{ReceiverAgrees, Agree, OneFrame, NowhereElse, AtItsNumber}
 use Rattle.krb_etype.proofs.Etypes.{one_number, int_is, own_checksum}
 use Rattle.krb_seal.proofs.CipherTexts.{one_text}
@@ -191,7 +195,7 @@ addresses_same s x q at now user h = and_from _ _ (address_same s.s_addr x.s_add
 current_same : (s : Session) (x : Expect) (at now : ℕ) → Agree s x at now → is_current x now (Some (secs_of at)) (Some (usec_of at)) ≡ true
 current_same s x at now h =
     let back : moment_of (secs_of at) (usec_of at) ≡ at = omega arith in
-    le-leb _ _ (subst (λ (z : ℕ). distance now z ≤ micros_per_second * x.skew) (sym back) h.current)
+    le-leb _ _ (subst (λ (z : ℕ). abs_diff now z ≤ micros_per_second * x.skew) (sym back) h.current)
 
 mode_opens : (mode : Mode) (etype : ℤ) (key : List ℕ) (s : Session) (x : Expect) (q at now : ℕ) (user conf bytes : List ℕ)
     → s.mode ≡ mode → (h : Seals etype key s q user at conf bytes) → Agree s x at now

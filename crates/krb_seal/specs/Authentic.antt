@@ -10,8 +10,10 @@ use Rattle.krb_der.specs.Message.{Spells, SpellsPart}
 use Rattle.krb_seal.specs.declared.refusal.Refusal.{Refusal}
 use Rattle.krb_seal.specs.declared.refusal.Refusal.TheVariants.{Memory}
 use Rattle.krb_etype.specs.Etype.{confounder_size}
-use Rattle.krb_seal.specs.Opens.{OpenerState, Checks, Passes, Read, Decrypt, frame_checks}
-use Rattle.krb_seal.specs.Opens.{safe_header, checksum_checks, priv_header, text_checks}
+use Rattle.krb_seal.specs.Opens.{OpenerState, Passes, Read, Decrypt}
+use Rattle.krb_seal.specs.OpensParts.{Checks, frame_checks}
+use Rattle.krb_seal.specs.Opens.{safe_header, priv_header}
+use Rattle.krb_seal.specs.OpensParts.{checksum_checks, text_checks}
 
 -- The body, or a refusal.
 abbrev pub Authenticity : Type 0

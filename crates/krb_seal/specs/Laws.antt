@@ -9,7 +9,9 @@ use Rattle.krb_seal.specs.declared.session.Expect.{Expect}
 use Rattle.krb_etype.specs.declared.etype.Etype.{Etype}
 use Rattle.krb_etype.specs.Etype.{number_of}
 use Rattle.krb_seal.specs.Seals.{Seals, sealed, body_of}
-use Rattle.krb_seal.specs.Opens.{OpenerState, Outcome, Opens, OpensPart, opener_of, distance}
+use Rattle.krb_seal.specs.Opens.{OpenerState, Opens, opener_of}
+use Rattle.std.specs.Int.{abs_diff}
+use Rattle.krb_seal.specs.OpensParts.{Outcome, OpensPart}
 use Rattle.krb_seal.specs.Authentic.{Authenticity, Authenticates}
 use Rattle.krb_seal.specs.Opening.{opens}
 
@@ -36,7 +38,7 @@ pub record Agree (s : Session) (x : Expect) (at now : ℕ) : Type 0 where
   pub mode : s.mode ≡ x.mode
   pub sender : s.s_addr ≡ x.s_addr
   pub receiver : ReceiverAgrees x s.r_addr
-  pub current : distance now at ≤ micros_per_second * x.skew
+  pub current : abs_diff now at ≤ micros_per_second * x.skew
 
 -- Whatever an opener with the sealer's key expects, a sealed frame gives nothing but its data, at
 -- its own number.

@@ -5,6 +5,7 @@ pub mod Session
 pub mod Seals
 pub mod Sealer
 pub mod Opens
+pub mod OpensParts
 pub mod Authentic
 pub mod Opening
 pub mod OpeningInside

@@ -12,8 +12,10 @@ use Rattle.krb_seal.specs.declared.session.Expect.{Expect}
 use Rattle.krb_seal.specs.declared.refusal.Refusal.TheVariants.{Malformed}
 use Rattle.krb_etype.specs.Etype.{code_size, confounder_size}
 use Rattle.krb_etype.specs.Keys.{encryption_key}
-use Rattle.krb_seal.specs.Opens.{OpenerState, Outcome, Checks, frame_checks, safe_checks}
-use Rattle.krb_seal.specs.Opens.{priv_header, text_checks, body_checks}
+use Rattle.krb_seal.specs.Opens.{OpenerState, safe_checks}
+use Rattle.krb_seal.specs.OpensParts.{Outcome, Checks, frame_checks}
+use Rattle.krb_seal.specs.Opens.{priv_header, body_checks}
+use Rattle.krb_seal.specs.OpensParts.{text_checks}
 
 -- The refusal of the first test that isn't met, else what follows.
 abbrev pub passed : Checks → Outcome → Outcome

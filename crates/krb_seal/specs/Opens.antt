@@ -1,8 +1,9 @@
 -- What opening a frame gives: the user data, or the refusal of the first check that it fails
 -- (RFC 4120 sections 3.4.2 and 3.5.2; RFC 3961 section 5.3).
-use Rattle.std.specs.Prelude.{◌≡◌, ℕ, ◌+◌, ◌-◌, ◌*◌, ℤ, pos, List, [], ◌∷◌, ◌++◌, length, drop}
+use Rattle.std.specs.Prelude.{◌≡◌, ℕ, ◌+◌, ◌*◌, ℤ, pos, List, [], ◌∷◌, ◌++◌, length, drop}
 use Rattle.std.specs.Prelude.{Option, Some, None, Result, Ok, Err, Bool, true, false, not, ◌&&◌}
 use Rattle.std.specs.Prelude.{◌⊎◌, nat_le, nat_eq}
+use Rattle.std.specs.Int.{abs_diff}
 use Rattle.std.specs.Ordering.{int_eq}
 use Rattle.std.specs.Str.{bytes_eq}
 use Rattle.krb_base.specs.Limits.{frame_limit}
@@ -37,10 +38,6 @@ pub record OpenerState : Type 0 where
 abbrev pub opener_of : ℤ → List ℕ → Expect → OpenerState
 opener_of etype key x = record { etype = etype; key = key; expect = x }
 
--- The user data, or a refusal.
-abbrev pub Outcome : Type 0
-Outcome = Result (List ℕ) Refusal
-
 -- ---- the tests
 
 -- The receiver's address is the expected one, or is absent and not required.
@@ -52,15 +49,11 @@ receiver_fits x (Some a) = same_address a x.r_addr
 abbrev pub addresses_fit : Expect → Body → Bool
 addresses_fit x b = same_address b.s_addr x.s_addr && receiver_fits x b.r_addr
 
--- How far apart two numbers are.
-abbrev pub distance : ℕ → ℕ → ℕ
-distance a b = (a - b) + (b - a)
-
 -- The time is within the skew, both ends of it included, in microseconds; or it is absent and not
 -- expected.
 abbrev pub is_current : Expect → ℕ → Option ℕ → Option ℕ → Bool
 is_current x now (Some secs) (Some usec) =
-    nat_le (distance now (moment_of secs usec)) (micros_per_second * x.skew)
+    nat_le (abs_diff now (moment_of secs usec)) (micros_per_second * x.skew)
 is_current x now None None = not x.expect_time
 is_current x now (Some secs) None = false
 is_current x now None (Some usec) = false
@@ -75,18 +68,10 @@ abbrev pub is_safe : Mode → Bool
 is_safe Safe = true
 is_safe Priv = false
 
--- ---- the checks, in their order: a test, and the refusal if it isn't met
-
--- Tests in their order, each with the refusal if it isn't met.
-abbrev pub Checks : Type 0
-Checks = List (Bool × Refusal)
-
--- The check of the bytes, before they are read.
-abbrev pub frame_checks : List ℕ → Checks
-frame_checks bytes = (nat_le (length bytes) frame_limit, FieldTooLong) ∷ []
+-- ---- the checks, in their order: each a test, and the refusal if it isn't met
 
 -- The checks of KRB-SAFE before those of its body.
-abbrev pub safe_header : ℤ → Expect → SafeMsg → Checks
+abbrev pub safe_header : ℤ → Expect → SafeMsg → List (Bool × Refusal)
 safe_header etype x m =
     (int_eq m.pvno (pos 5), BadVersion)
     ∷ (is_safe x.mode && int_eq m.msg_type (pos 20), MsgType)
@@ -94,7 +79,7 @@ safe_header etype x m =
     ∷ []
 
 -- The checks of KRB-PRIV before it is deciphered.
-abbrev pub priv_header : ℤ → Expect → PrivMsg → Checks
+abbrev pub priv_header : ℤ → Expect → PrivMsg → List (Bool × Refusal)
 priv_header etype x m =
     (int_eq m.pvno (pos 5), BadVersion)
     ∷ (not (is_safe x.mode) && int_eq m.msg_type (pos 21), MsgType)
@@ -103,32 +88,25 @@ priv_header etype x m =
     ∷ []
 
 -- The checks of a body of either kind.
-abbrev pub body_checks : Expect → ℕ → ℕ → Body → Checks
+abbrev pub body_checks : Expect → ℕ → ℕ → Body → List (Bool × Refusal)
 body_checks x number now b =
     (addresses_fit x b, BadAddr)
     ∷ (is_current x now b.time b.usec, Skew)
     ∷ (is_number number b.seq, BadOrder)
     ∷ []
 
--- The check of the checksum of KRB-SAFE.
-abbrev pub checksum_checks : List ℕ → SafeMsg → Checks
-checksum_checks key m = (bytes_eq m.checksum (safe_checksum key m), Modified) ∷ []
-
 -- All checks of KRB-SAFE.
-abbrev pub safe_checks : OpenerState → ℕ → ℕ → SafeMsg → Checks
+abbrev pub safe_checks : OpenerState → ℕ → ℕ → SafeMsg → List (Bool × Refusal)
 safe_checks o number now m =
     safe_header o.etype o.expect m
     ++ body_checks o.expect number now m.body
-    ++ checksum_checks o.key m
-
--- The check of a deciphered text and the code after its cipher.
-abbrev pub text_checks : List ℕ → List ℕ → List ℕ → Checks
-text_checks key text tag = (bytes_eq tag (tag_of key text), BadIntegrity) ∷ []
+    ++ (bytes_eq m.checksum (safe_checksum o.key m), Modified) ∷ []
 
 -- ---- what an outcome is
 
 -- The refusal of the first test that isn't met, else as Then says.
-abbrev pub Passes : {A : Type 0} → Checks → (Result A Refusal → Type 0) → Result A Refusal → Type 0
+abbrev pub Passes : {A : Type 0} → List (Bool × Refusal) → (Result A Refusal → Type 0)
+    → Result A Refusal → Type 0
 Passes [] Then outcome = Then outcome
 Passes ((true, r) ∷ rest) Then outcome = Passes rest Then outcome
 Passes ((false, r) ∷ rest) Then outcome = outcome ≡ Err r
@@ -146,26 +124,25 @@ abbrev pub Decrypt : {A : Type 0} → List ℕ → List ℕ → (List ℕ → Li
 Decrypt key cipher Then outcome =
     (text : List ℕ) × (tag : List ℕ) × IsEncryption key cipher text tag × Then text tag outcome
 
--- The outcome of an authentic body.
-abbrev pub OpensPart : Expect → ℕ → ℕ → Body → Outcome → Type 0
-OpensPart x number now b outcome =
-    Passes (body_checks x number now b) (λ y. y ≡ Ok b.user_data) outcome
-
--- The outcome of a deciphered text: its confounder, and then the encrypted part.
-abbrev pub OpensText : OpenerState → ℕ → ℕ → List ℕ → List ℕ → Outcome → Type 0
+-- The outcome of a deciphered text, if the code after its cipher is its own: its confounder, and then
+-- the encrypted part.
+abbrev pub OpensText : OpenerState → ℕ → ℕ → List ℕ → List ℕ → Result (List ℕ) Refusal → Type 0
 OpensText o number now text tag outcome =
-    Passes (text_checks o.key text tag)
-    (Read SpellsPart (drop confounder_size text) (OpensPart o.expect number now)) outcome
+    Passes ((bytes_eq tag (tag_of o.key text), BadIntegrity) ∷ [])
+    (Read SpellsPart (drop confounder_size text)
+    (λ b. Passes (body_checks o.expect number now b) (λ y. y ≡ Ok b.user_data))) outcome
 
 -- The outcome of a message.
-abbrev pub OpensMessage : OpenerState → ℕ → ℕ → Message → Outcome → Type 0
+abbrev pub OpensMessage : OpenerState → ℕ → ℕ → Message → Result (List ℕ) Refusal → Type 0
 OpensMessage o number now (messages.Safe m) outcome =
     Passes (safe_checks o number now m) (λ y. y ≡ Ok m.body.user_data) outcome
 OpensMessage o number now (messages.Priv m) outcome =
     Passes (priv_header o.etype o.expect m)
     (Decrypt o.key m.cipher (OpensText o number now)) outcome
 
--- The outcome of opening bytes at a demanded number and a timestamp.
-abbrev pub Opens : OpenerState → ℕ → ℕ → List ℕ → Outcome → Type 0
+-- The outcome of opening bytes at a demanded number and a timestamp: the user data, or a refusal. The
+-- length is checked before the bytes are read.
+abbrev pub Opens : OpenerState → ℕ → ℕ → List ℕ → Result (List ℕ) Refusal → Type 0
 Opens o number now bytes outcome =
-    Passes (frame_checks bytes) (Read Spells bytes (OpensMessage o number now)) outcome
+    Passes ((nat_le (length bytes) frame_limit, FieldTooLong) ∷ [])
+    (Read Spells bytes (OpensMessage o number now)) outcome

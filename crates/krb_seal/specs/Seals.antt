@@ -9,7 +9,7 @@ use Rattle.krb_der.specs.declared.message.Message.{Message}
 use Rattle.krb_der.specs.declared.message.Message.TheVariants as messages
 use Rattle.krb_der.specs.Moment.{secs_of, usec_of}
 use Rattle.krb_der.specs.Body.{part, IsBody}
-use Rattle.krb_der.specs.Safe.{safe_input}
+use Rattle.krb_der.specs.Message.{safe_input}
 use Rattle.krb_der.specs.Message.{message, Spells}
 use Rattle.krb_seal.specs.declared.session.Mode.{Mode}
 use Rattle.krb_seal.specs.declared.session.Mode.TheVariants.{Safe, Priv}
@@ -55,13 +55,10 @@ abbrev pub unenciphered : Etype → PrivMsg
 unenciphered etype =
     record { pvno = pos 5; msg_type = pos 21; etype = number_of etype; kvno = None; cipher = [] }
 
--- KRB-PRIV of a text that is enciphered.
-abbrev pub priv_of : Etype → List ℕ → List ℕ → PrivMsg
-priv_of etype key text = record (unenciphered etype) { cipher = encrypted key text }
-
 -- KRB-PRIV of a body, under a confounder.
 abbrev pub sealed_priv : Etype → List ℕ → List ℕ → Body → PrivMsg
-sealed_priv etype key conf b = priv_of etype key (conf ++ part b)
+sealed_priv etype key conf b =
+    record (unenciphered etype) { cipher = encrypted key (conf ++ part b) }
 
 -- The message of a mode that carries a body.
 abbrev pub sealed_as : Mode → Etype → List ℕ → List ℕ → Body → Message

@@ -5,7 +5,7 @@ use Rattle.std.specs.Global.{Vec}
 use Rattle.krb_seal.specs.declared.refusal.Refusal.{Refusal}
 use Rattle.krb_seal.specs.declared.refusal.Refusal.TheVariants.{Memory}
 use Rattle.krb_seal.specs.declared.unopened.Unopened.{Unopened}
-use Rattle.krb_seal.specs.Opens.{Outcome, Checks}
+use Rattle.krb_seal.specs.OpensParts.{Outcome, Checks}
 
 abbrev pub seen : Result (Vec ℕ) Refusal → Outcome
 seen (Ok v) = Ok v.items

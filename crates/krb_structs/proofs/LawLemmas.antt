@@ -12,7 +12,9 @@ use Rattle.krb_der.specs.declared.body.Body.{Body}
 use Rattle.krb_der.specs.Address.{same_address}
 use Rattle.krb_seal.specs.declared.refusal.Refusal.{Refusal}
 use Rattle.krb_seal.specs.declared.session.Expect.{Expect}
-use Rattle.krb_seal.specs.Opens.{OpenerState, Outcome, Checks, Opens, Passes, distance, body_checks, is_current, is_number, receiver_fits}
+use Rattle.krb_seal.specs.Opens.{OpenerState, Opens, Passes, body_checks, is_current, is_number, receiver_fits}
+use Rattle.std.specs.Int.{abs_diff}
+use Rattle.krb_seal.specs.OpensParts.{Outcome, Checks}
 use Rattle.krb_seal.specs.Authentic.{Authenticity, Authenticates, GivesBody}
 use Rattle.krb_seal.specs.Laws.{OpensTheAuthentic}
 use Rattle.krb_structs.specs.declared.demand.KrbDemand.{KrbDemand}
@@ -69,7 +71,7 @@ receiver_same d x None how is = absent d.how_receiver x.require_r how
 receiver_same d x (Some a) how is = asked d.how_receiver x.require_r (same_address a (address_of d.receiver)) how ∙ ap (λ (e : HostAddress). same_address a e) is
 
 within_same : (d : KrbDemand) (x : Expect) (now : ℕ) (secs usec : Option ℕ) → d.how_time ≡ how_of x.expect_time → d.skew ≡ x.skew → is_within d now secs usec ≡ is_current x now secs usec
-within_same d x now (Some s) (Some u) how is = ap (λ (k : ℕ). nat_le (distance now (moment_of s u)) (micros_per_second * k)) is
+within_same d x now (Some s) (Some u) how is = ap (λ (k : ℕ). nat_le (abs_diff now (moment_of s u)) (micros_per_second * k)) is
 within_same d x now None None how is = absent d.how_time x.expect_time how
 within_same d x now (Some s) None how is = refl
 within_same d x now None (Some u) how is = refl

@@ -13,7 +13,7 @@ use Rattle.krb_seal.specs.declared.session.Session.{Session}
 use Rattle.krb_etype.specs.Keys.{checksum_key}
 use Rattle.krb_seal.specs.Session.{HasShortAddresses, IsShortAddress}
 use Rattle.krb_seal.specs.Seals.{SealsBody, body_of, sealed_safe, sealed_priv, unsigned}
-use Rattle.krb_der.specs.Safe.{safe_input}
+use Rattle.krb_der.specs.Message.{safe_input}
 use Rattle.krb_structs.specs.Room.{FitsFrames, frame_room}
 
 told_small : (r : Option HostAddress) → ForSome r IsShortAddress → optional_size r ≤ 40

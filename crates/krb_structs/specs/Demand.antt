@@ -10,7 +10,9 @@ use Rattle.krb_der.specs.Moment.{micros_per_second, moment_of}
 use Rattle.krb_der.specs.Address.{same_address}
 use Rattle.krb_seal.specs.declared.refusal.Refusal.TheVariants.{BadAddr, Skew, BadOrder}
 use Rattle.krb_seal.specs.Session.{IsShortAddress}
-use Rattle.krb_seal.specs.Opens.{OpenerState, Checks, Passes, distance}
+use Rattle.krb_seal.specs.Opens.{OpenerState, Passes}
+use Rattle.std.specs.Int.{abs_diff}
+use Rattle.krb_seal.specs.OpensParts.{Checks}
 use Rattle.krb_seal.specs.Authentic.{Authenticity, Authenticates, GivesBody}
 use Rattle.krb_structs.specs.declared.demand.KrbDemand.{KrbDemand}
 use Rattle.krb_structs.specs.Session.{AreZeros, IsNoAddress, address_of, address_room}
@@ -64,7 +66,7 @@ receiver_meets d (Some a) = nat_eq d.how_receiver 0 || same_address a (address_o
 -- in whole microseconds, and both ends of the window are in it
 abbrev pub is_within : KrbDemand → ℕ → Option ℕ → Option ℕ → Bool
 is_within d now (Some secs) (Some usec) =
-    nat_le (distance now (moment_of secs usec)) (micros_per_second * d.skew)
+    nat_le (abs_diff now (moment_of secs usec)) (micros_per_second * d.skew)
 is_within d now None None = not (nat_eq d.how_time 2)
 is_within d now (Some secs) None = false
 is_within d now None (Some usec) = false

@@ -1,7 +1,8 @@
 -- What opening a frame gives.
 use Rattle.std.specs.Prelude.{ℕ, ◌≡◌, List, Option, Some, None, Ok}
 use Rattle.krb_der.specs.declared.body.Body.{Body}
-use Rattle.krb_seal.specs.Opens.{OpenerState, Outcome, Opens}
+use Rattle.krb_seal.specs.Opens.{OpenerState, Opens}
+use Rattle.krb_seal.specs.OpensParts.{Outcome}
 use Rattle.krb_seal.specs.Authentic.{Authenticates, Authenticity}
 use Rattle.krb_structs.specs.declared.demand.KrbDemand.{KrbDemand}
 use Rattle.krb_structs.specs.declared.carried.KrbCarried.{KrbCarried}

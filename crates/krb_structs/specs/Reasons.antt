@@ -8,7 +8,8 @@ use Rattle.krb_der.specs.Message.{Spells}
 use Rattle.krb_seal.specs.declared.refusal.Refusal.TheVariants as refusals
 use Rattle.krb_etype.specs.Etype.{etype_of, key_size}
 use Rattle.krb_seal.specs.Sealer.{HasFrameSize, SealerState, end_of_numbers}
-use Rattle.krb_seal.specs.Opens.{Opens, Outcome}
+use Rattle.krb_seal.specs.Opens.{Opens}
+use Rattle.krb_seal.specs.OpensParts.{Outcome}
 use Rattle.krb_seal.specs.Authentic.{Authenticity}
 use Rattle.krb_record.specs.declared.record.Record.{Record as RecordValue}
 use Rattle.krb_record.specs.Record.{bytes_of}

@@ -8,8 +8,8 @@ use Rattle.jiff_core.specs.Time.{IsTime}
 use Rattle.jiff_core.proofs.CalendarLemmas.{days_in_month_bounds}
 use Rattle.jiff_core.proofs.SignedLemmas.{signed_arith}
 use Rattle.krb_time.specs.Calendar.{day_number, year_of, month_of, day_of}
-use Rattle.krb_time.specs.Time.{last_second, zulu, digit, two_digits, time_text, kerberos_time, IsKerberosTime, NamesSameTime}
-use Rattle.krb_time.specs.Reading.{pair_of, is_zulu, is_date, is_clock, second_of, time_of}
+use Rattle.krb_time.specs.Time.{last_second, digit, two_digits, time_text, kerberos_time, IsKerberosTime, NamesSameTime}
+use Rattle.krb_time.specs.Reading.{zulu, pair_of, is_zulu, is_date, is_clock, second_of, time_of}
 use Rattle.krb_base.proofs.OptionSteps.{bind_some, provided, some_is, both, together}
 use Rattle.krb_time.proofs.Calendar.{IsCommonDate, year_of-number, month_of-number, day_of-number, found_date, number-bound, days-number}
 

@@ -1,19 +1,19 @@
 -- A timestamp: a KerberosTime and its Microseconds (RFC 4120 sections 5.2.3 and 5.2.4), seen as the
 -- number of microseconds since 1970-01-01T00:00:00Z.
-use Rattle.std.specs.Prelude.{ℕ, ◌+◌, ◌*◌, ◌/◌, ◌%◌, ◌≤◌}
+use Rattle.std.specs.Prelude.{ℕ, ◌+◌, ◌-◌, ◌*◌, ◌/◌, ◌%◌, ◌≤◌}
 use Rattle.krb_time.specs.Time.{last_second}
 
--- Microseconds ::= INTEGER (0..999999)
-abbrev pub last_usec : ℕ
-last_usec = 999_999
-
--- the number is one of Microseconds
+-- the number is one of Microseconds ::= INTEGER (0..999999)
 abbrev pub IsMicroseconds : ℕ → Type 0
-IsMicroseconds n = n ≤ last_usec
+IsMicroseconds n = n ≤ 999_999
 
 -- the microseconds of a second
 abbrev pub micros_per_second : ℕ
 micros_per_second = 1_000_000
+
+-- the last of Microseconds
+abbrev pub last_usec : ℕ
+last_usec = micros_per_second - 1
 
 -- the timestamp of a second and a number of microseconds
 abbrev pub moment_of : ℕ → ℕ → ℕ

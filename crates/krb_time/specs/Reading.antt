@@ -7,7 +7,14 @@ use Rattle.std.specs.Char.{is_ascii_digit}
 use Rattle.jiff_core.specs.Calendar.{days_in_month}
 use Rattle.krb_time.specs.Calendar.{day_number}
 use Rattle.krb_base.specs.Steps.{◌>>=◌}
-use Rattle.krb_time.specs.Time.{zero_digit, zulu}
+
+-- the character '0'
+abbrev pub zero_digit : ℕ
+zero_digit = 48
+
+-- the character 'Z'
+abbrev pub zulu : ℕ
+zulu = 90
 
 -- the number that two digits write, and what follows them
 unfoldable pub pair_of : List ℕ → Option (ℕ × List ℕ)

@@ -10,31 +10,20 @@ use Rattle.krb_time.specs.Calendar.{year_of, month_of, day_of}
 abbrev pub last_second : ℕ
 last_second = 253_402_300_799
 
--- the character '0'
-abbrev pub zero_digit : ℕ
-zero_digit = 48
-
--- the character 'Z', which says that a time is in UTC
-abbrev pub zulu : ℕ
-zulu = 90
-
--- the last decimal digit of a number, as a character
+-- the last decimal digit of a number, as a character: '0' is 48
 abbrev pub digit : ℕ → ℕ
-digit n = zero_digit + n % 10
+digit n = 48 + n % 10
 
 -- the last two decimal digits
 abbrev pub two_digits : ℕ → List ℕ
 two_digits n = digit (n / 10) ∷ digit n ∷ []
 
--- the last four decimal digits
-abbrev pub four_digits : ℕ → List ℕ
-four_digits n = digit (n / 1000) ∷ digit (n / 100) ∷ two_digits n
-
--- the text YYYYMMDDHHMMSSZ of a date and a time of day
+-- the text YYYYMMDDHHMMSSZ of a date and a time of day: 'Z', which says that it is in UTC, is 90
 abbrev pub time_text : ℕ → ℕ → ℕ → ℕ → ℕ → ℕ → List ℕ
 time_text year month day hour minute second =
-    four_digits year ++ (two_digits month ++ (two_digits day
-    ++ (two_digits hour ++ (two_digits minute ++ (two_digits second ++ zulu ∷ [])))))
+    digit (year / 1000) ∷ digit (year / 100) ∷ two_digits year
+    ++ (two_digits month ++ (two_digits day
+    ++ (two_digits hour ++ (two_digits minute ++ (two_digits second ++ 90 ∷ [])))))
 
 -- the text of a second, counted from 1970-01-01T00:00:00Z
 unfoldable pub kerberos_time : ℕ → List ℕ

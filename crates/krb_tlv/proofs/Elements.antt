@@ -4,7 +4,8 @@ use Rattle.std.proofs.lemmas.Bool.{cases_lt, lt-ltb, le-ltb, ltb-true, ltb-false
 use Rattle.std.proofs.lemmas.List.{take_at, drop_at, take-append-drop, length-append, length-take-le}
 use Rattle.krb_tlv.specs.Length.{big_endian, length_octets}
 use Rattle.krb_tlv.specs.Element.{header, tagged}
-use Rattle.krb_tlv.specs.Integer.{width, complement, int_octets}
+use Rattle.krb_tlv.specs.Integer.{width, int_octets}
+use Rattle.krb_tlv.specs.Reading.{complement}
 use Rattle.krb_tlv.specs.Reading.{be_value, wide_length_at, length_at, cut_at, tagged_at, signed, int_of}
 use Rattle.krb_base.proofs.OptionSteps.{bind_some, provided, some_is}
 use Rattle.krb_base.specs.Bytes.{AreBytes}

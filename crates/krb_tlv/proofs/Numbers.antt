@@ -7,7 +7,8 @@ use Rattle.std.proofs.lemmas.List.{drop-map, length-map, get_or-drop, get_or-tak
 use Rattle.krb_base.specs.Bytes.{AreBytes}
 use Rattle.krb_tlv.specs.Length.{big_endian}
 use Rattle.krb_tlv.specs.Reading.{be_value}
-use Rattle.krb_tlv.specs.Integer.{width, complement}
+use Rattle.krb_tlv.specs.Integer.{width}
+use Rattle.krb_tlv.specs.Reading.{complement}
 
 pub AreBytes-drop : (n : ℕ) (bytes : List ℕ) → AreBytes bytes → AreBytes (drop n bytes)
 AreBytes-drop n bytes h = record { small = λ i. rw get_or-drop (h.small (n + i)) }

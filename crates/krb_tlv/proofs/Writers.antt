@@ -3,7 +3,7 @@ use Rattle.std.proofs.Common.{◌≡◌, ℕ, ◌+◌, ◌<◌, ◌≤◌, Bool,
 use Rattle.std.proofs.lemmas.Bool.{lt-ltb}
 use Rattle.krb_tlv.specs.Length.{length_octets}
 use Rattle.krb_tlv.specs.Element.{header, tagged, octets}
-use Rattle.krb_tlv.specs.Tag.{octet_string_tag}
+use Rattle.krb_tlv.specs.UniversalTag.{octet_string_tag}
 use Rattle.krb_tlv.specs.Integer.{width, int_octets, integer}
 use Rattle.krb_tlv.specs.Writing.{element_size}
 use Rattle.krb_tlv.specs.Reading.{signed}

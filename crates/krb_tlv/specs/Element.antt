@@ -1,7 +1,6 @@
 -- Elements: a tag, the length of the content, and the content (X.690 section 8.1).
 use Rattle.std.specs.Prelude.{ℕ, List, [], ◌∷◌, ◌++◌, length, Option, Some, None}
 use Rattle.std.specs.List.{concat}
-use Rattle.krb_tlv.specs.Tag.{octet_string_tag, sequence_tag}
 use Rattle.krb_tlv.specs.Length.{length_octets}
 
 -- the tag and the length, before a content of so many octets
@@ -12,15 +11,16 @@ header tag n = tag ∷ length_octets n
 unfoldable pub tagged : ℕ → List ℕ → List ℕ
 tagged tag content = header tag (length content) ++ content
 
--- SEQUENCE: its elements, one after another (X.690 section 8.9)
+-- SEQUENCE, made of elements, has tag 16 (X.680 section 8.4), and 0x20 says that it is made of them:
+-- its elements, one after another (X.690 section 8.9)
 abbrev pub sequence : List (List ℕ) → List ℕ
-sequence fields = tagged sequence_tag (concat fields)
+sequence fields = tagged 0x30 (concat fields)
 
 -- an OPTIONAL field under its tag
 abbrev pub optional : {A : Type 0} → ℕ → (A → List ℕ) → Option A → List ℕ
 optional tag spell None = []
 optional tag spell (Some x) = tagged tag (spell x)
 
--- OCTET STRING (X.690 section 8.7)
+-- OCTET STRING (X.690 section 8.7): tag 4 (X.680 section 8.4)
 abbrev pub octets : List ℕ → List ℕ
-octets bytes = tagged octet_string_tag bytes
+octets bytes = tagged 0x04 bytes

@@ -1,6 +1,5 @@
 -- INTEGER (X.690 section 8.3): two's complement in the fewest octets.
 use Rattle.std.specs.Prelude.{ℕ, ◌-◌, ◌^◌, ◌<◌, ℤ, pos, negsuc, List, map, nat_lt, if◌then◌else◌}
-use Rattle.krb_tlv.specs.Tag.{integer_tag}
 use Rattle.krb_tlv.specs.Length.{big_endian}
 use Rattle.krb_tlv.specs.Element.{tagged}
 
@@ -10,18 +9,14 @@ width n =
     if nat_lt n (2 ^ 7) then 1 else if nat_lt n (2 ^ 15) then 2
     else if nat_lt n (2 ^ 23) then 3 else if nat_lt n (2 ^ 31) then 4 else 5
 
--- the complement of each octet
-abbrev pub complement : List ℕ → List ℕ
-complement bytes = map (λ b. 255 - b) bytes
-
 -- a number in two's complement: the octets of -(n + 1) are the complement of those of n
 unfoldable pub int_octets : ℤ → List ℕ
 int_octets (pos n) = big_endian (width n) n
-int_octets (negsuc n) = complement (big_endian (width n) n)
+int_octets (negsuc n) = map (λ b. 255 - b) (big_endian (width n) n)
 
--- INTEGER
+-- INTEGER: tag 2 (X.680 section 8.4)
 abbrev pub integer : ℤ → List ℕ
-integer z = tagged integer_tag (int_octets z)
+integer z = tagged 0x02 (int_octets z)
 
 -- a natural number as an INTEGER
 abbrev pub natural : ℕ → List ℕ

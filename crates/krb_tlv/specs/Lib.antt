@@ -1,4 +1,5 @@
 pub mod Tag
+pub mod UniversalTag
 pub mod Length
 pub mod Element
 pub mod Integer

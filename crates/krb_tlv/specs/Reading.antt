@@ -2,13 +2,13 @@
 -- bytes of an element, a field or a number, if it is spelt there.
 use Rattle.std.specs.Prelude.{◌≡◌, ℕ, ◌+◌, ◌*◌, ◌^◌, Bool, true, false, ℤ, pos, negsuc, List, []}
 use Rattle.std.specs.Prelude.{◌∷◌, length, get_or, take, drop, Option, Some, None, Result, Ok, Err}
-use Rattle.std.specs.Prelude.{nat_lt, nat_eq, if◌then◌else◌}
+use Rattle.std.specs.Prelude.{nat_lt, nat_eq, map, ◌-◌, if◌then◌else◌}
 use Rattle.krb_base.specs.Steps.{◌>>=◌}
 use Rattle.krb_tlv.specs.declared.error.DerError.{DerError}
 use Rattle.krb_tlv.specs.declared.error.DerError.TheVariants as errors
-use Rattle.krb_tlv.specs.Tag.{integer_tag, octet_string_tag}
+use Rattle.krb_tlv.specs.UniversalTag.{integer_tag, octet_string_tag}
 use Rattle.krb_tlv.specs.Length.{big_endian}
-use Rattle.krb_tlv.specs.Integer.{complement, width}
+use Rattle.krb_tlv.specs.Integer.{width}
 
 -- What a function returned, seen by view, is what reading gives, unless memory ran out.
 abbrev pub FailsToRead : {Y : Type 0} → DerError → Option Y → Type 0
@@ -32,6 +32,10 @@ ended x [] = Some x
 ended x (b ∷ rest) = None
 
 -- ---- lengths, and what is under a tag
+
+-- the complement of each octet
+abbrev pub complement : List ℕ → List ℕ
+complement bytes = map (λ b. 255 - b) bytes
 
 -- the number that octets are, the most significant first
 abbrev pub be_value : List ℕ → ℕ

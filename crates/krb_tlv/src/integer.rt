@@ -2,7 +2,8 @@
 
 ghost use Rattle.std.specs.Prelude.{◌≡◌, ◌<◌, ◌≤◌, ◌^◌, ◌++◌, ◌+◌, length, IfSome, OnOk, pos};
 ghost use Rattle.krb_tlv.specs.Element.{optional, tagged};
-ghost use Rattle.krb_tlv.specs.Integer.{complement, width, integer, natural, IsInt32, IsUInt32};
+ghost use Rattle.krb_tlv.specs.Integer.{width, integer, natural, IsInt32, IsUInt32};
+ghost use Rattle.krb_tlv.specs.Reading.{complement};
 ghost use Rattle.krb_tlv.specs.Reading.{Gives, Takes, be_value, int_of, int32_of, below_of, int32_element_of, below_element_of, optional_at, field_at, signed, five_octets};
 ghost use Rattle.krb_tlv.specs.Writing.{element_size};
 

@@ -4,7 +4,7 @@ use Rattle.std.proofs.lemmas.List.{take_all}
 use Rattle.krb_record.specs.Record.{is_close}
 use Rattle.std.proofs.lemmas.List.Elements.{All-nil}
 use Rattle.krb_peers.specs.Attempt.{IsAttempt}
-use Rattle.krb_peers.specs.Claims.{texts_of_all}
+use Rattle.krb_peers.specs.Texts.{texts_of_all}
 use Rattle.krb_peers.specs.Demand.{Demand}
 use Rattle.krb_carry.specs.Outbox.{sealed_in, stored_records, texts_put}
 use Rattle.krb_carry.specs.Laws.{EachTakesEffectOnceByReceipts}

@@ -1,5 +1,5 @@
 use Rattle.std.proofs.Common.{arith}
-use Rattle.krb_tlv.specs.Tag.{sequence_tag}
+use Rattle.krb_tlv.specs.UniversalTag.{sequence_tag}
 use Rattle.krb_der.proofs.Places.{ends-alone, ends-data}
 use Rattle.krb_der.proofs.body.split_data.Goals as goal
 

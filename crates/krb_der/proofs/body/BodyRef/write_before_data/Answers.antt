@@ -1,5 +1,5 @@
 use Rattle.std.proofs.Common.{arith, append_assoc}
-use Rattle.krb_tlv.specs.Tag.{octet_string_tag}
+use Rattle.krb_tlv.specs.UniversalTag.{octet_string_tag}
 use Rattle.krb_tlv.proofs.Readers.{size-tagged}
 use Rattle.krb_der.proofs.body.BodyRef.write_before_data.Goals as goal
 

@@ -1,6 +1,7 @@
 use Rattle.std.proofs.Common.{ap, subst, sym, ◌∙◌}
 use Rattle.krb_etype.specs.Etype.{number_of}
-use Rattle.krb_seal.specs.Opens.{OpenerState, checksum_checks, safe_header}
+use Rattle.krb_seal.specs.Opens.{OpenerState, safe_header}
+use Rattle.krb_seal.specs.OpensParts.{checksum_checks}
 use Rattle.krb_seal.specs.Authentic.{authentic_checks}
 use Rattle.krb_seal.specs.Unseals.{Checked, refusal_of}
 use Rattle.krb_seal.proofs.Checking.{refused, checked_later}

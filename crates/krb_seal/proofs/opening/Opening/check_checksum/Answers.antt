@@ -1,5 +1,6 @@
 use Rattle.std.proofs.Common.{◌≡◌, Some, None, subst, sym}
-use Rattle.krb_seal.specs.Opens.{OpenerState, checksum_checks}
+use Rattle.krb_seal.specs.Opens.{OpenerState}
+use Rattle.krb_seal.specs.OpensParts.{checksum_checks}
 use Rattle.krb_seal.specs.Unseals.{first_unmet}
 use Rattle.krb_seal.specs.declared.refusal.Refusal.TheVariants.{Modified}
 use Rattle.krb_seal.specs.Seals.{safe_checksum}

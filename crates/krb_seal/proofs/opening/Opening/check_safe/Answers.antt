@@ -1,6 +1,7 @@
 use Rattle.std.proofs.Common.{ap, subst, sym, ◌∙◌, ◌++◌}
 use Rattle.krb_etype.specs.Etype.{number_of}
-use Rattle.krb_seal.specs.Opens.{OpenerState, body_checks, checksum_checks, safe_checks, safe_header}
+use Rattle.krb_seal.specs.Opens.{OpenerState, body_checks, safe_checks, safe_header}
+use Rattle.krb_seal.specs.OpensParts.{checksum_checks}
 use Rattle.krb_seal.specs.Unseals.{Checked, refusal_of}
 use Rattle.krb_seal.proofs.Checking.{refused, checked_later}
 use Rattle.krb_seal.proofs.opening.Opening.check_safe.Goals as goal
