@@ -2,15 +2,16 @@
  * (RFC 3962). docs/C.md has a whole program, and each call has a page in section 3 of the manual.
  *
  * A handle is a struct of the caller's, made of zeros: struct krbrelay_sealer s = KRBRELAY_INIT;
- * It holds nothing, or one sealer, opener or receiver on the heap. End it by its krbrelay_*_free,
- * which overwrites the keys that it holds; freeing twice is harmless. Calls leave copies of keys on
- * the stack below their caller: krbrelay_clear_stack overwrites these.
+ * It holds nothing, or one sealer, opener, receiver or peer on the heap. End it by its
+ * krbrelay_*_free, which overwrites the keys that it holds; freeing twice is harmless. Calls leave
+ * copies of keys on the stack below their caller: krbrelay_clear_stack overwrites these.
  *
  * Proofs reach each function but those under "What proofs don't reach", at the end.
  *
  * Each call that answers an enum answers KRBRELAY_OK, or why it did nothing: what it would have
- * written is as it was. The answers that a call's comment lists are in the order in which it looks
- * for their reasons: it gives the first whose reason holds, and KRBRELAY_OK where none does.
+ * written is as it was, but for what two calls tell of a KRBRELAY_BADORDER. The answers that a call's
+ * comment lists are in the order in which it looks for their reasons: it gives the first whose reason
+ * holds, and KRBRELAY_OK where none does.
  *
  * What the caller owes, which nothing checks:
  *  - Each pointer is valid for its length. It may be NULL where the length is 0. Each pointer to a
@@ -68,6 +69,9 @@ extern "C" {
 
 /* The room for the name or the text of any answer, with its zero. */
 #define KRBRELAY_TEXT_SIZE 64
+
+/* The bytes of a peer's two numbers, as krbrelay_peer_export writes them. */
+#define KRBRELAY_PEER_STATE_SIZE 20
 
 /* No call takes more bytes of stack than this, which krbrelay_clear_stack overwrites. */
 #define KRBRELAY_STACK_SIZE 16384
@@ -156,9 +160,10 @@ enum krbrelay_record {
     KRBRELAY_CLOSE = 3
 };
 
-/* The kinds of addresses that sockets have (RFC 4120 section 7.5.3). */
+/* Kinds of addresses (RFC 4120 section 7.5.3): those that sockets have, and the directional ones. */
 enum krbrelay_address_kind {
     KRBRELAY_IPV4 = 2,           /* 4 bytes */
+    KRBRELAY_DIRECTIONAL = 3,    /* 4 bytes, a number: 0 at the client's end, 1 at the server's */
     KRBRELAY_IPV6 = 24           /* 16 bytes */
 };
 
@@ -167,6 +172,7 @@ struct sockaddr;    /* of <sys/socket.h> */
 struct krbrelay_sealer { void *at; size_t count; };
 struct krbrelay_opener { void *at; size_t count; };
 struct krbrelay_receiver { void *at; size_t count; };
+struct krbrelay_peer { void *at; size_t count; };
 
 /* A moment of the years 1970 to 9999: seconds since 1970-01-01T00:00:00Z, and microseconds after
  * that second, below a million. In each struct that a call reads, what is reserved is zeros: else the
@@ -199,7 +205,7 @@ struct krbrelay_expect {
     uint32_t reserved[4];
 };
 
-/* What krbrelay_opener_open demands of a message, each by an enum krbrelay_how: zeros demand
+/* What krbrelay_opener_open and peers demand of a message, each by an enum krbrelay_how: zeros demand
  * nothing. A message's sender is never absent. It is KRBRELAY_ARGUMENT to give an address, a skew or a
  * number whose how is KRBRELAY_IGNORE. */
 struct krbrelay_demand {
@@ -414,6 +420,17 @@ enum krbrelay_answer krbrelay_receiver_take(struct krbrelay_receiver *handle, co
                                             uint8_t *bytes, size_t room, size_t *size)
     KRBRELAY_NONNULL(1, 4, 5, 8) KRBRELAY_CHECKED;
 
+/* The same, and tells the number that an authentic message carries which passes every check, or every
+ * check but the number's: then the answer is KRBRELAY_BADORDER, and a number below the demanded one is
+ * a repeat, one above it a gap. KRBRELAY_BADORDER of any other message tells UINT64_MAX. Other answers
+ * leave the number as it was. */
+enum krbrelay_answer krbrelay_receiver_take_numbered(struct krbrelay_receiver *handle,
+                                                     const uint8_t *frame, size_t len,
+                                                     const struct krbrelay_moment *at,
+                                                     uint32_t *kind, uint8_t *bytes, size_t room,
+                                                     size_t *size, uint64_t *number)
+    KRBRELAY_NONNULL(1, 4, 5, 8, 9) KRBRELAY_CHECKED;
+
 /* Tells the number that is demanded next, 4294967296 where none is left, and 1 where a close was
  * accepted, else 0. KRBRELAY_EMPTY. */
 enum krbrelay_answer krbrelay_receiver_state(struct krbrelay_receiver *handle, uint64_t *expected,
@@ -422,6 +439,65 @@ enum krbrelay_answer krbrelay_receiver_state(struct krbrelay_receiver *handle, u
 
 /* Overwrites the keys and frees the receiver. The handle holds nothing then. */
 void krbrelay_receiver_free(struct krbrelay_receiver *handle) KRBRELAY_NONNULL(1);
+
+/* ---- Peers: one end of a session of plain user data, in both directions. A peer seals under its own
+ * numbers, and opens what the other end sealed, in order (RFC 4120 sections 3.4 and 3.5). One key
+ * serves both directions: so give the ends different addresses, such as the directional ones, and
+ * demand the other end's, or a peer's own messages may come back to it. */
+
+/* Makes a peer, as krbrelay_sealer_new makes a sealer: it writes what the session says, and demands
+ * the rest of the other end's messages, which have the session's mode. .how_number is
+ * KRBRELAY_REQUIRED or KRBRELAY_ABSENT_IS_0, and .number the first number that is demanded,
+ * 4294967296 at most: else KRBRELAY_ARGUMENT, also of a demand that there isn't, before all reasons
+ * of krbrelay_sealer_new but KRBRELAY_PROCESSOR. */
+enum krbrelay_answer krbrelay_peer_new(struct krbrelay_peer *handle, int32_t etype,
+                                       const uint8_t *key, size_t key_len,
+                                       const struct krbrelay_session *session,
+                                       const struct krbrelay_demand *demand)
+    KRBRELAY_NONNULL(1, 5, 6) KRBRELAY_CHECKED;
+
+/* The same, going on from the numbers of an export: .first and .number are 0. KRBRELAY_ARGUMENT also
+ * where they aren't, where the bytes are no export, or a number of it is over 4294967296; and after
+ * it KRBRELAY_EXHAUSTED, where the export has no number left to seal under. */
+enum krbrelay_answer krbrelay_peer_resume(struct krbrelay_peer *handle, int32_t etype,
+                                          const uint8_t *key, size_t key_len,
+                                          const struct krbrelay_session *session,
+                                          const struct krbrelay_demand *demand,
+                                          const uint8_t state[KRBRELAY_PEER_STATE_SIZE])
+    KRBRELAY_NONNULL(1, 5, 6, 7) KRBRELAY_CHECKED;
+
+/* krbrelay_sealer_seal, at this end's next number. */
+enum krbrelay_answer krbrelay_peer_seal(struct krbrelay_peer *handle, const uint8_t *user_data,
+                                        size_t len, const struct krbrelay_moment *at,
+                                        const uint8_t confounder[16],
+                                        uint8_t *frame, size_t room, size_t *size)
+    KRBRELAY_NONNULL(1, 4, 5, 8) KRBRELAY_CHECKED;
+
+/* krbrelay_opener_open with the peer's demand, at the number that is expected. That is one more then.
+ * On KRBRELAY_BADORDER too it tells what the message carried, which is authentic and passes all checks
+ * but the number's: a number below the expected one is a repeat, one above it a gap. Nothing else
+ * changes then, and nothing at all on another answer: KRBRELAY_EMPTY, KRBRELAY_ARGUMENT,
+ * KRBRELAY_MOMENT, another refusal, KRBRELAY_ROOM, KRBRELAY_MEMORY. */
+enum krbrelay_answer krbrelay_peer_open(struct krbrelay_peer *handle, const uint8_t *frame, size_t len,
+                                        const struct krbrelay_moment *at,
+                                        uint8_t *user_data, size_t room, size_t *size,
+                                        struct krbrelay_carried *carried)
+    KRBRELAY_NONNULL(1, 4, 7, 8) KRBRELAY_CHECKED;
+
+/* Tells the next number that is sealed, and the one that is expected, 4294967296 where none is left.
+ * KRBRELAY_EMPTY. */
+enum krbrelay_answer krbrelay_peer_state(struct krbrelay_peer *handle, uint64_t *next,
+                                         uint64_t *expected)
+    KRBRELAY_NONNULL(1, 2, 3) KRBRELAY_CHECKED;
+
+/* Writes both numbers without a secret: the bytes 6b 72 73 01 (hexadecimal), the next number and the
+ * expected one in eight bytes each, the most significant first. KRBRELAY_EMPTY. */
+enum krbrelay_answer krbrelay_peer_export(struct krbrelay_peer *handle,
+                                          uint8_t state[KRBRELAY_PEER_STATE_SIZE])
+    KRBRELAY_NONNULL(1, 2) KRBRELAY_CHECKED;
+
+/* Overwrites the keys and frees the peer. The handle holds nothing then. */
+void krbrelay_peer_free(struct krbrelay_peer *handle) KRBRELAY_NONNULL(1);
 
 /* ---- Batches: each text is four bytes of its length, the most significant first, and its bytes */
 
@@ -552,11 +628,11 @@ uint32_t krbrelay_version(void);
 
 /* ---- What proofs don't reach: C beside the proved code, which is tested alone. The inline functions
  * of this header belong here too. So does what some calls do before their proved function is called:
- * the three krbrelay_*_new and krbrelay_message_header ask whether the processor is supported, and
- * krbrelay_answer_name and _text name the answers that only this part gives. */
+ * the four krbrelay_*_new, krbrelay_peer_resume and krbrelay_message_header ask whether the processor
+ * is supported, and krbrelay_answer_name and _text name the answers that only this part gives. */
 
 /* 1 where the processor has the instructions that the library was compiled for (x86-64-v2, and any
- * aarch64), else 0: then the four calls above answer KRBRELAY_PROCESSOR. */
+ * aarch64), else 0: then the six calls above answer KRBRELAY_PROCESSOR. */
 int krbrelay_is_supported(void);
 
 /* Reads the system's clock. KRBRELAY_CLOCK, which leaves the moment as it was. */
@@ -575,6 +651,11 @@ enum krbrelay_answer krbrelay_sealer_seal_record_now(struct krbrelay_sealer *han
                                                      const uint8_t *bytes, size_t len,
                                                      uint8_t *frame, size_t room, size_t *size)
     KRBRELAY_NONNULL(1, 7) KRBRELAY_CHECKED;
+
+/* The same of krbrelay_peer_seal. */
+enum krbrelay_answer krbrelay_peer_seal_now(struct krbrelay_peer *handle, const uint8_t *user_data,
+                                            size_t len, uint8_t *frame, size_t room, size_t *size)
+    KRBRELAY_NONNULL(1, 6) KRBRELAY_CHECKED;
 
 /* The address of a socket, without its port, in len bytes that getsockname or getpeername wrote.
  * One of IPv4 that is mapped into IPv6 is the one of IPv4. KRBRELAY_ARGUMENT, which leaves the
@@ -609,6 +690,11 @@ static inline int krbrelay_opener_is_empty(const struct krbrelay_opener *handle)
 }
 
 static inline int krbrelay_receiver_is_empty(const struct krbrelay_receiver *handle)
+{
+    return handle->count == 0;
+}
+
+static inline int krbrelay_peer_is_empty(const struct krbrelay_peer *handle)
 {
     return handle->count == 0;
 }
