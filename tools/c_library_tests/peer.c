@@ -370,8 +370,8 @@ static void exports_that_are_none(void)
     }
 }
 
-/* ---- the reasons of each answer, in their order: with all of them the first counts, and without the
- * first the second */
+/* ---- the reasons of each answer: each alone, and in their order, where with all of them the first
+ * counts, and without the first the second */
 
 struct making {
     int32_t etype;
@@ -406,12 +406,12 @@ static const struct reason reasons[] = {
 
 enum { REASONS = sizeof reasons / sizeof reasons[0] };
 
-/* A handle that holds a peer is made anew, with each reason from this one on. */
-static enum krbrelay_answer made_with(size_t from, int resumes, struct krbrelay_peer *peer)
+/* A handle that holds a peer is made anew, with each reason from this one on, up to another. */
+static enum krbrelay_answer made_with(size_t from, size_t to, int resumes, struct krbrelay_peer *peer)
 {
     struct making it = { 17, 16, session_at(KRBRELAY_PRIV, CLIENT, 0), demand_at(CLIENT, 0),
                          { { 0x6b, 0x72, 0x73, 1 } } };
-    for (size_t i = from; i < REASONS; i++)
+    for (size_t i = from; i < to; i++)
         if (reasons[i].make != NULL && (resumes || !reasons[i].of_resume))
             reasons[i].make(&it);
     *peer = peer_at(18, KRBRELAY_PRIV, CLIENT, 7, 9);
@@ -423,9 +423,10 @@ static enum krbrelay_answer made_with(size_t from, int resumes, struct krbrelay_
 static void reasons_of_makers(void)
 {
     for (size_t i = 0; i < REASONS; i++)
-        for (int resumes = reasons[i].of_resume; resumes < 2; resumes++) {
+        for (int which = 2 * reasons[i].of_resume; which < 4; which++) {
             struct krbrelay_peer peer;
-            CHECK(made_with(i, resumes, &peer) == reasons[i].answer);
+            size_t to = which & 1 ? i + 1 : REASONS;
+            CHECK(made_with(i, to, which >> 1, &peer) == reasons[i].answer);
             CHECK(krbrelay_peer_is_empty(&peer) == (reasons[i].answer != KRBRELAY_OK));
             krbrelay_peer_free(&peer);
         }
