@@ -110,7 +110,7 @@ static void use_receiver(void)
     krbrelay_receiver_free(&r);
 }
 
-/* A peer that goes on from an export, seals, and is offered its own message and the other end's. */
+/* A peer that seals, is offered its own message and the other end's, and goes on from an export. */
 static void use_peer(void)
 {
     static uint8_t other[ROOM];
@@ -124,15 +124,15 @@ static void use_peer(void)
     session.first = 3;
     demand.number = 7;
     CHECK(krbrelay_peer_new(&p, use.etype, key, key_size(use.etype), &session, &demand) == KRBRELAY_OK);
+    CHECK(krbrelay_peer_seal_now(&p, data, SIZE, other, ROOM, &n) == KRBRELAY_OK);
+    CHECK(krbrelay_peer_seal(&p, data, SIZE, &now, confounder, other, ROOM, &n) == KRBRELAY_OK);
+    CHECK(krbrelay_peer_open(&p, other, n, &now, text, ROOM, &size, &carried) == KRBRELAY_BADORDER);
+    CHECK(krbrelay_peer_open(&p, frame, frame_size, &now, text, ROOM, &size, &carried) == KRBRELAY_OK);
     CHECK(krbrelay_peer_export(&p, state) == KRBRELAY_OK);
     session.first = 0;
     demand.number = 0;
     CHECK(krbrelay_peer_resume(&p, use.etype, key, key_size(use.etype), &session, &demand, state)
           == KRBRELAY_OK);
-    CHECK(krbrelay_peer_seal_now(&p, data, SIZE, other, ROOM, &n) == KRBRELAY_OK);
-    CHECK(krbrelay_peer_seal(&p, data, SIZE, &now, confounder, other, ROOM, &n) == KRBRELAY_OK);
-    CHECK(krbrelay_peer_open(&p, other, n, &now, text, ROOM, &size, &carried) == KRBRELAY_BADORDER);
-    CHECK(krbrelay_peer_open(&p, frame, frame_size, &now, text, ROOM, &size, &carried) == KRBRELAY_OK);
     krbrelay_peer_free(&p);
 }
 
