@@ -22,7 +22,7 @@ static const struct krbrelay_moment now = { SECS, USEC, 0 };
 
 static uint8_t key[32];
 /* The block of a handle in use, and how many runs of its bytes stood in it when it was freed. */
-struct watched { const void *block; uint8_t bytes[2048]; size_t size; int freed, runs; };
+struct watched { const void *block; uint8_t bytes[4096]; size_t size; int freed, runs; };
 static struct watched watch[2];
 static int blocks_freed;
 
