@@ -26,6 +26,7 @@ __version__ = "1.0.0"
 __all__ = [
     "ADDRESS_LIMIT", "Address", "Batch", "Body", "Closed", "Code", "Demand", "Error", "Exhausted",
     "FRAME_LIMIT", "Freed", "Header", "How", "LibraryError", "Mode", "Moment", "Numbers", "Opener",
-    "Peer", "Receiver", "Record", "Refusal", "Sealer", "State", "Taken", "Text", "USER_DATA_LIMIT", "Window", "Wiped",
+    "Peer", "Receiver", "Record", "Refusal", "Sealer", "State", "Taken", "Text",
+    "USER_DATA_LIMIT", "Window", "Wiped",
     "answer_name", "answer_text", "library_version", "message_header",
 ]

@@ -1,4 +1,5 @@
-"""What sealers, openers, receivers and peers have in common: keys on the library's heap, and a lock."""
+"""What sealers, openers, receivers and peers have in common: keys on the library's heap, and a
+lock."""
 from __future__ import annotations
 
 import ctypes

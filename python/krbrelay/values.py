@@ -189,9 +189,9 @@ def body_of(user_data: bytes, carried: CarriedStruct) -> Body:
 
 @dataclasses.dataclass(frozen=True)
 class Demand:
-    """What `Opener.open` and a Peer demand of an authentic message: of each field that isn't None, that the
-    message's fits. The checks come in the order of addresses, time and number: Code.BADADDR,
-    Code.SKEW, Code.BADORDER."""
+    """What `Opener.open` and a Peer demand of an authentic message: of each field that isn't None,
+    that the message's fits. The checks come in the order of addresses, time and number:
+    Code.BADADDR, Code.SKEW, Code.BADORDER."""
     sender: Optional[Address] = None
     receiver: Optional[Address] = None
     skew: Optional[int] = None

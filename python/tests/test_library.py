@@ -116,9 +116,9 @@ class TheHeader(unittest.TestCase):
     # What Python has itself, or has no use for.
     UNUSED = {f"krbrelay_{name}" for name in (
         "opener_unseal_in_place", "now", "sealer_seal_now", "sealer_seal_record_now",
-        "peer_seal_now", "receiver_take", "address_from", "is_refusal", "is_supported", "clear_stack", "progress_new",
-        "progress_store", "progress_publish", "progress_confirm", "progress_rewind",
-        "place_take", "place_read_again")}
+        "peer_seal_now", "receiver_take", "address_from", "is_refusal", "is_supported",
+        "clear_stack", "progress_new", "progress_store", "progress_publish", "progress_confirm",
+        "progress_rewind", "place_take", "place_read_again")}
 
     def test_calls(self):
         declared = set(re.findall(r"^(?:enum \w+|\w+) (krbrelay_\w+)\(", self.text, re.M))

@@ -1,8 +1,8 @@
 import unittest
 
 from support import (
-    CONFOUNDER, KEYS, KINDS, MICROS, OTHER, PAIRS, RECEIVER, SENDER, frame_of, frames, outcome, peer_of,
-    receiver_of, sealed)
+    CONFOUNDER, KEYS, KINDS, MICROS, OTHER, PAIRS, RECEIVER, SENDER, frame_of, frames, outcome,
+    peer_of, receiver_of, sealed)
 
 import krbrelay
 from krbrelay import Body, Code, Demand, How, Mode, Numbers, Peer
@@ -96,7 +96,8 @@ class Exports(unittest.TestCase):
         with self.assertRaises(TypeError):
             peer_of(KEYS[0], Mode.PRIV, 0, 0, state="state")
         with self.assertRaises(krbrelay.Exhausted):
-            peer_of(KEYS[0], Mode.PRIV, 0, 0, state=good[:4] + (2**32).to_bytes(8, "big") + good[12:])
+            peer_of(KEYS[0], Mode.PRIV, 0, 0,
+                    state=good[:4] + (2**32).to_bytes(8, "big") + good[12:])
 
 
 class Arguments(unittest.TestCase):

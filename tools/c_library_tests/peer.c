@@ -436,9 +436,9 @@ static void reasons_of_makers(void)
 static void demands_that_are_none(void)
 {
     struct krbrelay_session session = session_at(KRBRELAY_PRIV, CLIENT, 0);
-    struct krbrelay_demand rows[13];
+    struct krbrelay_demand rows[15];
     struct krbrelay_peer peer = KRBRELAY_INIT;
-    for (size_t i = 0; i < 13; i++)
+    for (size_t i = 0; i < 15; i++)
         rows[i] = demand_at(CLIENT, NONE_LEFT);
     rows[0].how_number = KRBRELAY_IGNORE;
     rows[1].how_number = KRBRELAY_IF_PRESENT;
@@ -451,9 +451,10 @@ static void demands_that_are_none(void)
     rows[8].how_receiver = 3;
     rows[9].how_receiver = KRBRELAY_IGNORE;
     rows[10].reserved[0] = rows[11].reserved[4] = 1;
-    for (size_t i = 0; i < 12; i++)
+    rows[12].sender.len = rows[13].receiver.len = 41;
+    for (size_t i = 0; i < 14; i++)
         CHECK(krbrelay_peer_new(&peer, 17, keys[0], 16, &session, &rows[i]) == KRBRELAY_ARGUMENT);
-    CHECK(krbrelay_peer_new(&peer, 17, keys[0], 16, &session, &rows[12]) == KRBRELAY_OK);
+    CHECK(krbrelay_peer_new(&peer, 17, keys[0], 16, &session, &rows[14]) == KRBRELAY_OK);
     krbrelay_peer_free(&peer);
 }
 
