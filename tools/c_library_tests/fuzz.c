@@ -23,6 +23,8 @@ enum { LONGEST = 4096, NUMBER = 7 };
 static const struct krbrelay_moment now = { SECS + 1, USEC, 0 };
 static uint8_t keys[2][32];
 static struct krbrelay_opener openers[2][2];
+static struct krbrelay_receiver receivers[2][2];
+static struct krbrelay_peer peers[2][2];
 static int print_lines;
 
 /* What openers and peers demand where they demand all. */
@@ -35,6 +37,21 @@ static struct krbrelay_demand all;
             abort(); \
         } \
     } while (0)
+
+/* A receiver and a peer that demand the number: new ones take the place of those that took a message. */
+static void make_receiver(uint32_t mode, int wide)
+{
+    struct krbrelay_expect expect = expect_of(mode);
+    HOLDS(krbrelay_receiver_new(&receivers[mode - KRBRELAY_SAFE][wide], 17 + wide, keys[wide],
+                                wide ? 32 : 16, &expect, NUMBER, 0) == KRBRELAY_OK);
+}
+
+static void make_peer(uint32_t mode, int wide)
+{
+    struct krbrelay_session session = session_of(mode, 0);
+    HOLDS(krbrelay_peer_new(&peers[mode - KRBRELAY_SAFE][wide], 17 + wide, keys[wide], wide ? 32 : 16,
+                            &session, &all) == KRBRELAY_OK);
+}
 
 static void begin(void)
 {
@@ -49,6 +66,8 @@ static void begin(void)
             struct krbrelay_expect expect = expect_of(mode);
             HOLDS(krbrelay_opener_new(&openers[mode - KRBRELAY_SAFE][wide], 17 + wide, keys[wide],
                                       wide ? 32 : 16, &expect) == KRBRELAY_OK);
+            make_receiver(mode, wide);
+            make_peer(mode, wide);
         }
 }
 
@@ -179,17 +198,12 @@ static void take_numbered(uint32_t mode, int wide, const uint8_t *frame, size_t 
                           const struct outcome *unsealed, const struct outcome *authentic)
 {
     static uint8_t bytes[LONGEST];
-    struct krbrelay_expect expect = expect_of(mode);
-    struct krbrelay_receiver r = KRBRELAY_INIT;
     int is_told = authentic->answer == KRBRELAY_OK && authentic->carried.has_number;
     uint64_t number = 12345, expected = 12345;
     uint32_t kind = 99;
     size_t size = 12345;
-    enum krbrelay_answer answer;
-    HOLDS(krbrelay_receiver_new(&r, 17 + wide, keys[wide], wide ? 32 : 16, &expect, NUMBER, 0)
-          == KRBRELAY_OK);
-    answer = krbrelay_receiver_take_numbered(&r, frame, len, &now, &kind, bytes, LONGEST, &size,
-                                             &number);
+    enum krbrelay_answer answer = krbrelay_receiver_take_numbered(
+        &receivers[mode - KRBRELAY_SAFE][wide], frame, len, &now, &kind, bytes, LONGEST, &size, &number);
     HOLDS(answer == unsealed->answer
           || (unsealed->answer == KRBRELAY_OK && answer == KRBRELAY_BAD_RECORD));
     if (answer == KRBRELAY_OK)
@@ -197,7 +211,8 @@ static void take_numbered(uint32_t mode, int wide, const uint8_t *frame, size_t 
     else if (answer == KRBRELAY_BADORDER)
         expected = is_told ? authentic->carried.number : UINT64_MAX;
     HOLDS(number == expected);
-    krbrelay_receiver_free(&r);
+    if (answer == KRBRELAY_OK)
+        make_receiver(mode, wide);
 }
 
 /* A peer opens what an opener opens with the same demand, moves on then alone, and tells what the
@@ -206,22 +221,21 @@ static void open_by_peer(uint32_t mode, int wide, const uint8_t *frame, size_t l
                          const struct outcome *authentic, const struct outcome *demanded)
 {
     static struct outcome found;
-    struct krbrelay_session session = session_of(mode, 0);
-    struct krbrelay_peer p = KRBRELAY_INIT;
+    struct krbrelay_peer *p = &peers[mode - KRBRELAY_SAFE][wide];
     uint64_t next = 99, expected = 99;
-    HOLDS(krbrelay_peer_new(&p, 17 + wide, keys[wide], wide ? 32 : 16, &session, &all) == KRBRELAY_OK);
     clear(&found);
     memset(&found.carried, 0xee, sizeof found.carried);
-    found.answer = krbrelay_peer_open(&p, frame, len, &now, found.data, LONGEST, &found.size,
+    found.answer = krbrelay_peer_open(p, frame, len, &now, found.data, LONGEST, &found.size,
                                       &found.carried);
     HOLDS(found.answer == demanded->answer && found.size == demanded->size
           && memcmp(found.data, demanded->data, LONGEST) == 0);
     HOLDS(memcmp(&found.carried, found.answer == KRBRELAY_BADORDER ? &authentic->carried
                                                                    : &demanded->carried,
                  sizeof found.carried) == 0);
-    HOLDS(krbrelay_peer_state(&p, &next, &expected) == KRBRELAY_OK && next == 0);
+    HOLDS(krbrelay_peer_state(p, &next, &expected) == KRBRELAY_OK && next == 0);
     HOLDS(expected == NUMBER + (found.answer == KRBRELAY_OK));
-    krbrelay_peer_free(&p);
+    if (found.answer == KRBRELAY_OK)
+        make_peer(mode, wide);
 }
 
 static void print_line(uint32_t mode, int etype, const uint8_t *frame, size_t len,
@@ -328,8 +342,11 @@ static void try_given(void)
 
 static void free_all(void)
 {
-    for (int i = 0; i < 4; i++)
+    for (int i = 0; i < 4; i++) {
         krbrelay_opener_free(&openers[i / 2][i % 2]);
+        krbrelay_receiver_free(&receivers[i / 2][i % 2]);
+        krbrelay_peer_free(&peers[i / 2][i % 2]);
+    }
 }
 
 int main(int argc, char **argv)
