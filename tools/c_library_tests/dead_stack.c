@@ -229,6 +229,10 @@ static void seal_record(uint32_t mode, int etype)
     krbrelay_sealer_free(&s);
 }
 
+/* How many pieces each end leaves where it doesn't clear them: in a mode its last calls may overwrite
+ * all that the others left. */
+static size_t left[ENDS];
+
 /* What each end leaves, and what is left of it. Returns how deep its calls went. */
 static size_t end_of_session(enum end end, uint32_t mode, int etype)
 {
@@ -237,7 +241,7 @@ static size_t end_of_session(enum end end, uint32_t mode, int etype)
     run(end, mode, etype, 0);
     deep = depth();
     CHECK(deep < KRBRELAY_STACK_SIZE);
-    CHECK(end == OTHERS || found(0) > 0);   /* OTHERS ends with calls that overwrite it */
+    left[end] += found(0);
     seal_record(mode, etype);
     run(end, mode, etype, 1);
     CHECK(found(1) == 0);
@@ -263,6 +267,8 @@ int main(int argc, char **argv)
                 size_t deep = end_of_session(end, mode, etype);
                 deepest = deep > deepest ? deep : deepest;
             }
+    for (enum end end = 0; end < ENDS; end++)
+        CHECK(left[end] > 0);
     printf("dead stack: the calls go %zu bytes deep\n", deepest);
     return check_status("dead_stack");
 }
