@@ -20,7 +20,8 @@ static int by_name(const void *one, const void *other)
 /* The two ends of such a session have RFC 4120's directional addresses. */
 static struct krbrelay_address end_of(uint8_t which)
 {
-    return (struct krbrelay_address){ .kind = 3, .len = 4, .bytes = { 0, 0, 0, which } };
+    return (struct krbrelay_address){ .kind = KRBRELAY_DIRECTIONAL, .len = 4,
+                                      .bytes = { 0, 0, 0, which } };
 }
 
 static int make_session(const struct sender *s, const struct begun *it, struct session *of)

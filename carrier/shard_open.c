@@ -8,11 +8,10 @@
 #include <string.h>
 
 /* The two ends of such a session have RFC 4120's directional addresses. */
-enum { DIRECTIONAL = 3 };
-
 static struct krbrelay_address end_of(uint8_t which)
 {
-    return (struct krbrelay_address){ .kind = DIRECTIONAL, .len = 4, .bytes = { 0, 0, 0, which } };
+    return (struct krbrelay_address){ .kind = KRBRELAY_DIRECTIONAL, .len = 4,
+                                      .bytes = { 0, 0, 0, which } };
 }
 
 /* The session as those of the file are. */

@@ -1,11 +1,11 @@
 /* An echo server for many clients in one thread, by poll, and its client:
  *
  *     echo server COUNT               prints its port, and ends after so many clients
- *     echo client PORT NUMBER LINES   NUMBER (below 128) names the client's keys
+ *     echo client PORT NUMBER LINES   NUMBER (below 128) names the client's key
  *
- * A client has a key for each direction from the exchange before, and connects once. It first sends
- * its number, a byte. Records follow each way, each a frame after four bytes of its length: so texts
- * stand in a batch too, and the calls for batches write and read them. The close ends a session. */
+ * A client has a key from the exchange before, and connects once. It first sends its number, a byte.
+ * Messages follow each way, each a frame after four bytes of its length: so texts stand in a batch
+ * too, and the calls for batches write and read them. One without user data ends a session. */
 #define _GNU_SOURCE
 #include <krbrelay.h>
 
@@ -19,12 +19,16 @@
 #include <unistd.h>
 
 enum { ROOM = 4 + KRBRELAY_FRAME_SIZE(4096), MOST = 64 };
-enum end { SERVER, CLIENT };
+enum end { CLIENT, SERVER };
+
+/* The addresses of both ends (RFC 4120 section 7.1): they say which way a message goes. */
+static const struct krbrelay_address ends[] = {
+    { KRBRELAY_DIRECTIONAL, 4, { 0, 0, 0, CLIENT } }, { KRBRELAY_DIRECTIONAL, 4, { 0, 0, 0, SERVER } }
+};
 
 struct link {
     int fd, number, is_open, is_done, texts;
-    struct krbrelay_sealer sealer;
-    struct krbrelay_receiver receiver;
+    struct krbrelay_peer peer;
     uint8_t in[ROOM], out[ROOM];
     size_t in_len, out_len, out_at;
 };
@@ -35,31 +39,19 @@ static int fail(const struct link *l, const char *what, enum krbrelay_answer ans
     return -1;
 }
 
-/* Makes both handles of a session. A key for each direction keeps a frame from coming back to its
- * maker, also where both ends have one address. */
+/* One key serves both directions: an end's own message, sent back to it, has the wrong address. */
 static int open_link(struct link *l, enum end end)
 {
-    struct krbrelay_session session = { .mode = KRBRELAY_PRIV, .has_receiver = 1 };
-    struct krbrelay_expect expect = { .mode = KRBRELAY_PRIV, .require_receiver = 1,
-                                      .require_time = 1, .skew = 300 };
-    struct sockaddr_storage here = { 0 }, there = { 0 };
-    socklen_t a = sizeof here, b = sizeof there;
-    uint8_t keys[2][32];                /* what the server seals by, and what the client does */
-    enum krbrelay_answer answer = KRBRELAY_ARGUMENT;
-    memset(keys[SERVER], 2 * l->number, 32);
-    memset(keys[CLIENT], 2 * l->number + 1, 32);
-    if (getsockname(l->fd, (struct sockaddr *)&here, &a) == 0 &&
-        getpeername(l->fd, (struct sockaddr *)&there, &b) == 0)
-        answer = krbrelay_address_from(&session.sender, (struct sockaddr *)&here, a);
-    if (answer == KRBRELAY_OK)
-        answer = krbrelay_address_from(&session.receiver, (struct sockaddr *)&there, b);
-    expect.sender = session.receiver;
-    expect.receiver = session.sender;
-    if (answer == KRBRELAY_OK)
-        answer = krbrelay_sealer_new(&l->sealer, 18, keys[end], 32, &session);
-    if (answer == KRBRELAY_OK)
-        answer = krbrelay_receiver_new(&l->receiver, 18, keys[!end], 32, &expect, 0, 0);
-    explicit_bzero(keys, sizeof keys);
+    struct krbrelay_session session = { .mode = KRBRELAY_PRIV, .sender = ends[end] };
+    struct krbrelay_demand demand = {
+        .how_sender = KRBRELAY_REQUIRED, .sender = ends[end == CLIENT ? SERVER : CLIENT],
+        .how_time = KRBRELAY_REQUIRED, .skew = 300, .how_number = KRBRELAY_REQUIRED
+    };
+    uint8_t key[32];
+    enum krbrelay_answer answer;
+    memset(key, l->number, sizeof key);
+    answer = krbrelay_peer_new(&l->peer, 18, key, sizeof key, &session, &demand);
+    explicit_bzero(key, sizeof key);
     krbrelay_clear_stack();
     l->is_open = answer == KRBRELAY_OK;
     return l->is_open ? 0 : fail(l, "no session", answer);
@@ -68,27 +60,27 @@ static int open_link(struct link *l, enum end end)
 static void close_link(struct link *l)
 {
     printf("client %d: %d texts%s\n", l->number, l->texts, l->is_done ? ", closed" : "");
-    krbrelay_sealer_free(&l->sealer);
-    krbrelay_receiver_free(&l->receiver);
+    krbrelay_peer_free(&l->peer);
     krbrelay_clear_stack();
     close(l->fd);
 }
 
-/* Seals a record into what is to be sent. */
-static int give(struct link *l, uint32_t kind, const uint8_t *bytes, size_t len)
+/* Seals a message into what is to be sent. */
+static int give(struct link *l, const uint8_t *bytes, size_t len)
 {
     uint8_t frame[ROOM];
     size_t size = 0;
-    enum krbrelay_answer answer = krbrelay_sealer_seal_record_now(&l->sealer, kind, bytes, len,
-                                                                  frame, sizeof frame, &size);
+    enum krbrelay_answer answer = krbrelay_peer_seal_now(&l->peer, bytes, len, frame, sizeof frame,
+                                                         &size);
     if (answer == KRBRELAY_OK)
         answer = krbrelay_batch_add(l->out, sizeof l->out, &l->out_len, frame, size);
     return answer == KRBRELAY_OK ? 0 : fail(l, "not sealed", answer);
 }
 
 /* Takes the next frame that has come whole: 1, 0 if there is none, -1 if it is refused. */
-static int take(struct link *l, uint32_t *kind, uint8_t *bytes, size_t *size)
+static int take(struct link *l, uint8_t *bytes, size_t *size)
 {
+    struct krbrelay_carried carried;
     struct krbrelay_moment now;
     const uint8_t *frame;
     size_t at = 0, len;
@@ -97,12 +89,12 @@ static int take(struct link *l, uint32_t *kind, uint8_t *bytes, size_t *size)
         return l->in_len < sizeof l->in ? 0 : fail(l, "not read", KRBRELAY_FIELD_TOOLONG);
     answer = krbrelay_now(&now);
     if (answer == KRBRELAY_OK)
-        answer = krbrelay_receiver_take(&l->receiver, frame, len, &now, kind, bytes, ROOM, size);
+        answer = krbrelay_peer_open(&l->peer, frame, len, &now, bytes, ROOM, size, &carried);
     if (answer != KRBRELAY_OK)
         return fail(l, "refused", answer);
     memmove(l->in, l->in + at, l->in_len -= at);
-    l->texts += *kind == KRBRELAY_TEXT;
-    l->is_done = *kind == KRBRELAY_CLOSE;
+    l->texts += *size > 0;
+    l->is_done = *size == 0;
     return 1;
 }
 
@@ -120,11 +112,10 @@ static int move_bytes(struct link *l, int writes)
     return 0;
 }
 
-/* Answers the next record, if no answer waits to be sent: -1 at the session's end. */
+/* Answers the next message, if no answer waits to be sent: -1 at the session's end. */
 static int serve(struct link *l)
 {
     uint8_t bytes[ROOM];
-    uint32_t kind = 0;
     size_t size = 0;
     int taken = 0;
     if (!l->is_open && l->in_len > 0) {
@@ -134,8 +125,8 @@ static int serve(struct link *l)
         taken = l->number < 128 && is_used[l->number]++ == 0 ? open_link(l, SERVER) : -1;
     }
     if (taken == 0 && l->is_open && l->out_len == 0)
-        taken = l->is_done ? -1 : take(l, &kind, bytes, &size);
-    return taken > 0 ? give(l, kind, bytes, size) : taken;
+        taken = l->is_done ? -1 : take(l, bytes, &size);
+    return taken > 0 ? give(l, bytes, size) : taken;
 }
 
 static int server(int listener, int wanted)
@@ -166,13 +157,12 @@ static int server(int listener, int wanted)
     return 0;
 }
 
-/* Sends each line, and then the close, and waits for it to come back. */
+/* Sends each line, and then the end, and waits for it to come back. */
 static int client(int fd, int number, int lines)
 {
     static struct link l;
     uint8_t bytes[ROOM];
     char text[32];
-    uint32_t kind = 0;
     size_t size = 0;
     int i, taken = 1;
     l.fd = fd;
@@ -181,10 +171,10 @@ static int client(int fd, int number, int lines)
         return 1;
     for (i = 0; i <= lines && taken == 1; i++) {
         size_t len = i < lines ? (size_t)snprintf(text, sizeof text, "line %d", i) : 0;
-        taken = give(&l, i < lines ? KRBRELAY_TEXT : KRBRELAY_CLOSE, (uint8_t *)text, len);
+        taken = give(&l, (uint8_t *)text, len);
         while (taken == 0 && l.out_len > 0)
             taken = move_bytes(&l, 1);
-        while (taken == 0 && (taken = take(&l, &kind, bytes, &size)) == 0)
+        while (taken == 0 && (taken = take(&l, bytes, &size)) == 0)
             taken = move_bytes(&l, 0);
         if (taken == 1 && (size != len || memcmp(bytes, text, len) != 0))
             taken = -1;

@@ -91,33 +91,22 @@ static void send_all(sqlite3 *sent, uint32_t count)
     krbrelay_clear_stack();
 }
 
-/* Whether a frame has a number that was taken before: only an opener tells a number. */
-static int is_repeat(struct krbrelay_opener *opener, const uint8_t *frame, size_t len, uint64_t next)
-{
-    static const struct krbrelay_demand any;
-    const struct krbrelay_moment unused = KRBRELAY_INIT;
-    struct krbrelay_carried carried;
-    uint8_t text[ROOM];
-    size_t size;
-    return krbrelay_opener_open(opener, frame, len, &any, &unused, text, sizeof text, &size,
-                                &carried) == KRBRELAY_OK && carried.number < next;
-}
-
-static void take(sqlite3 *received, struct krbrelay_receiver *receiver,
-                 struct krbrelay_opener *opener, const uint8_t *frame, size_t len)
+/* A frame that comes again is passed by: the number that came says so. */
+static void take(sqlite3 *received, struct krbrelay_receiver *receiver, const uint8_t *frame, size_t len)
 {
     struct krbrelay_moment now;
     uint8_t text[ROOM];
-    uint64_t next = 0;
+    uint64_t next = 0, number = 0;
     uint32_t kind = 0, closed = 0;
     size_t size = 0;
     enum krbrelay_answer answer;
     answered(krbrelay_now(&now), "no time");
     answered(krbrelay_receiver_state(receiver, &next, &closed), "no state");
-    answer = krbrelay_receiver_take(receiver, frame, len, &now, &kind, text, sizeof text, &size);
+    answer = krbrelay_receiver_take_numbered(receiver, frame, len, &now, &kind, text, sizeof text,
+                                             &size, &number);
     if (answer == KRBRELAY_OK)
-        put(received, next, kind == KRBRELAY_TEXT ? text : NULL, size);
-    else if (answer != KRBRELAY_AFTER_CLOSE && !is_repeat(opener, frame, len, next))
+        put(received, number, kind == KRBRELAY_TEXT ? text : NULL, size);
+    else if (answer != KRBRELAY_AFTER_CLOSE && !(answer == KRBRELAY_BADORDER && number < next))
         answered(answer, "not taken");
 }
 
@@ -128,19 +117,16 @@ static void receive_all(sqlite3 *sent, sqlite3 *received)
     struct krbrelay_expect expect = { .mode = KRBRELAY_PRIV, .sender = alice, .receiver = bob,
                                       .require_receiver = 1, .skew = UINT32_MAX };
     struct krbrelay_receiver receiver = KRBRELAY_INIT;
-    struct krbrelay_opener opener = KRBRELAY_INIT;
     sqlite3_stmt *frames = prepare(sent, "select bytes from rows order by number");
     uint32_t next = ask(received, "select count(*) from rows");
     uint32_t closed = ask(received, "select count(*) > count(bytes) from rows");
     answered(krbrelay_receiver_new(&receiver, ETYPE, key, sizeof key, &expect, next, closed),
              "no receiver");
-    answered(krbrelay_opener_new(&opener, ETYPE, key, sizeof key, &expect), "no opener");
     while (sqlite3_step(frames) == SQLITE_ROW)
-        take(received, &receiver, &opener, sqlite3_column_blob(frames, 0),
+        take(received, &receiver, sqlite3_column_blob(frames, 0),
              (size_t)sqlite3_column_bytes(frames, 0));
     sqlite3_finalize(frames);
     krbrelay_receiver_free(&receiver);
-    krbrelay_opener_free(&opener);
     krbrelay_clear_stack();
 }
 

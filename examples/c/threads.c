@@ -1,7 +1,7 @@
-/* Threads: each of SENDERS threads has a sealer of its own, one thread receives from all through a
- * pipe, and one more sealer passes from thread to thread under a mutex. A handle belongs to one call
- * at a time, whichever thread makes it.
- *     threads RECORDS     so many from each sender */
+/* Threads: each of SENDERS threads has a peer of its own, one thread has the other ends of all and
+ * receives through a pipe, and one more peer passes from thread to thread under a mutex. A handle
+ * belongs to one call at a time, whichever thread makes it. A message without user data ends a session.
+ *     threads TEXTS       so many from each sender */
 #include <krbrelay.h>
 
 #include <pthread.h>
@@ -15,8 +15,10 @@ enum { SENDERS = 4, TEXT = 64, ROOM = KRBRELAY_FRAME_SIZE(TEXT), ETYPE = 18 };
 /* Fewer bytes than PIPE_BUF: one write puts all of them into the pipe, and one read takes them. */
 struct item { int from; size_t len; uint8_t frame[ROOM]; };
 
-static int ends[2], records;
-static struct krbrelay_sealer shared = KRBRELAY_INIT;
+static const struct krbrelay_address alice = { KRBRELAY_IPV4, 4, { 10, 0, 0, 1 } };
+static const struct krbrelay_address bob = { KRBRELAY_IPV4, 4, { 10, 0, 0, 255 } };
+static int ends[2], texts;
+static struct krbrelay_peer shared = KRBRELAY_INIT;
 static pthread_mutex_t lock = PTHREAD_MUTEX_INITIALIZER;
 
 static void must(int is_so, const char *what, const char *why)
@@ -32,18 +34,17 @@ static void answered(enum krbrelay_answer answer, const char *what)
     must(answer == KRBRELAY_OK, what, krbrelay_strerror(answer));
 }
 
-static struct krbrelay_address host(int number)
-{
-    return (struct krbrelay_address){ KRBRELAY_IPV4, 4, { 10, 0, 0, (uint8_t)number } };
-}
-
 /* A session's key comes from the exchange before: here it is the sender's number in each byte. */
-static void make_sealer(struct krbrelay_sealer *sealer, int number)
+static void make_peer(struct krbrelay_peer *peer, int number, const struct krbrelay_address *here,
+                      const struct krbrelay_address *there)
 {
-    struct krbrelay_session session = { .mode = KRBRELAY_PRIV, .sender = host(number) };
+    struct krbrelay_session session = { .mode = KRBRELAY_PRIV, .sender = *here };
+    struct krbrelay_demand demand = { .how_sender = KRBRELAY_REQUIRED, .sender = *there,
+                                      .how_time = KRBRELAY_REQUIRED, .skew = 300,
+                                      .how_number = KRBRELAY_REQUIRED };
     uint8_t key[32];
     memset(key, number, sizeof key);
-    answered(krbrelay_sealer_new(sealer, ETYPE, key, sizeof key, &session), "no sealer");
+    answered(krbrelay_peer_new(peer, ETYPE, key, sizeof key, &session, &demand), "no peer");
 }
 
 static size_t text_of(int sender, int number, char text[TEXT])
@@ -54,75 +55,68 @@ static size_t text_of(int sender, int number, char text[TEXT])
 static void *send_all(void *number)
 {
     struct item it = { .from = (int)(intptr_t)number };
-    struct krbrelay_sealer sealer = KRBRELAY_INIT;
-    make_sealer(&sealer, it.from);
-    for (int i = 0; i <= records; i++) {
+    struct krbrelay_peer peer = KRBRELAY_INIT;
+    make_peer(&peer, it.from, &alice, &bob);
+    for (int i = 0; i <= texts; i++) {
         char text[TEXT];
         uint8_t frame[ROOM];
-        size_t len = text_of(it.from, i, text), size;
-        uint32_t kind = i < records ? KRBRELAY_TEXT : KRBRELAY_CLOSE;
-        answered(krbrelay_sealer_seal_record_now(&sealer, kind, (uint8_t *)text, i < records ? len : 0,
-                                                 it.frame, sizeof it.frame, &it.len), "not sealed");
+        size_t len = i < texts ? text_of(it.from, i, text) : 0, size;
+        answered(krbrelay_peer_seal_now(&peer, (uint8_t *)text, len, it.frame, sizeof it.frame, &it.len),
+                 "not sealed");
         must(write(ends[1], &it, sizeof it) == sizeof it, "pipe", "not written");
         pthread_mutex_lock(&lock);
-        answered(krbrelay_sealer_seal_now(&shared, (uint8_t *)text, len, frame, sizeof frame, &size),
-                 "not sealed by the shared sealer");
+        answered(krbrelay_peer_seal_now(&shared, (uint8_t *)text, len, frame, sizeof frame, &size),
+                 "not sealed by the shared peer");
         pthread_mutex_unlock(&lock);
     }
-    krbrelay_sealer_free(&sealer);
+    krbrelay_peer_free(&peer);
     krbrelay_clear_stack();
     return NULL;
 }
 
 static void receive_all(void)
 {
-    struct krbrelay_receiver receivers[SENDERS] = { KRBRELAY_INIT };
-    int texts[SENDERS] = { 0 }, open = SENDERS;
-    for (int i = 0; i < SENDERS; i++) {
-        struct krbrelay_expect expect = { .mode = KRBRELAY_PRIV, .sender = host(i),
-                                          .require_time = 1, .skew = 300 };
-        uint8_t key[32];
-        memset(key, i, sizeof key);
-        answered(krbrelay_receiver_new(&receivers[i], ETYPE, key, sizeof key, &expect, 0, 0),
-                 "no receiver");
-    }
+    struct krbrelay_peer peers[SENDERS] = { KRBRELAY_INIT };
+    int taken[SENDERS] = { 0 }, open = SENDERS;
+    for (int i = 0; i < SENDERS; i++)
+        make_peer(&peers[i], i, &bob, &alice);
     while (open > 0) {
         struct item it;
         struct krbrelay_moment now;
+        struct krbrelay_carried carried;
         uint8_t bytes[ROOM];
         char text[TEXT];
-        uint32_t kind = 0;
         size_t size = 0;
         must(read(ends[0], &it, sizeof it) == sizeof it, "pipe", "not read");
         answered(krbrelay_now(&now), "no time");
-        answered(krbrelay_receiver_take(&receivers[it.from], it.frame, it.len, &now, &kind, bytes,
-                                        sizeof bytes, &size), "not taken");
-        if (kind == KRBRELAY_TEXT)
-            must(size == text_of(it.from, texts[it.from]++, text) && memcmp(bytes, text, size) == 0,
-                 "taken", "another text");
-        open -= kind == KRBRELAY_CLOSE;
+        answered(krbrelay_peer_open(&peers[it.from], it.frame, it.len, &now, bytes, sizeof bytes, &size,
+                                    &carried), "not opened");
+        if (size > 0)
+            must(size == text_of(it.from, taken[it.from]++, text) && memcmp(bytes, text, size) == 0,
+                 "opened", "another text");
+        open -= size == 0;
     }
     for (int i = 0; i < SENDERS; i++) {
-        printf("sender %d: %d texts, closed\n", i, texts[i]);
-        krbrelay_receiver_free(&receivers[i]);
+        printf("sender %d: %d texts, closed\n", i, taken[i]);
+        krbrelay_peer_free(&peers[i]);
     }
-    krbrelay_clear_stack();
 }
 
 int main(int argc, char **argv)
 {
     pthread_t threads[SENDERS];
-    uint64_t next = 0;
-    records = argc > 1 ? atoi(argv[1]) : 1000;
+    uint64_t next = 0, expected = 0;
+    texts = argc > 1 ? atoi(argv[1]) : 1000;
     must(pipe(ends) == 0, "pipe", "not made");
-    make_sealer(&shared, SENDERS);
+    make_peer(&shared, SENDERS, &alice, &bob);
     for (intptr_t i = 0; i < SENDERS; i++)
         must(pthread_create(&threads[i], NULL, send_all, (void *)i) == 0, "thread", "not started");
     receive_all();
     for (int i = 0; i < SENDERS; i++)
         must(pthread_join(threads[i], NULL) == 0, "thread", "not joined");
-    answered(krbrelay_sealer_next(&shared, &next), "no number");
-    printf("shared sealer: %llu messages\n", (unsigned long long)next);
-    krbrelay_sealer_free(&shared);
+    answered(krbrelay_peer_state(&shared, &next, &expected), "no number");
+    printf("shared peer: %llu messages\n", (unsigned long long)next);
+    krbrelay_peer_free(&shared);
+    krbrelay_clear_stack();
     return 0;
 }

@@ -14,6 +14,7 @@ from krbrelay.library import (
     ADDRESS_LIMIT, FRAME_LIMIT, USER_DATA_LIMIT, LibraryError, library_version)
 from krbrelay.message import message_header
 from krbrelay.opener import Opener
+from krbrelay.peer import Numbers, Peer
 from krbrelay.receiver import Receiver, State
 from krbrelay.sealer import Sealer
 from krbrelay.values import (
@@ -24,7 +25,8 @@ __version__ = "1.0.0"
 
 __all__ = [
     "ADDRESS_LIMIT", "Address", "Batch", "Body", "Closed", "Code", "Demand", "Error", "Exhausted",
-    "FRAME_LIMIT", "Freed", "Header", "How", "LibraryError", "Mode", "Moment", "Opener", "Receiver",
-    "Record", "Refusal", "Sealer", "State", "Taken", "Text", "USER_DATA_LIMIT", "Window", "Wiped",
+    "FRAME_LIMIT", "Freed", "Header", "How", "LibraryError", "Mode", "Moment", "Numbers", "Opener",
+    "Peer", "Receiver", "Record", "Refusal", "Sealer", "State", "Taken", "Text",
+    "USER_DATA_LIMIT", "Window", "Wiped",
     "answer_name", "answer_text", "library_version", "message_header",
 ]

@@ -3,7 +3,7 @@ from __future__ import annotations
 
 import enum
 from ctypes import c_size_t, c_uint8
-from typing import Callable
+from typing import Callable, Optional
 
 from krbrelay.library import TEXT_SIZE, library
 
@@ -55,6 +55,9 @@ class Refusal(Error):
     def __init__(self, code: Code, text: str) -> None:
         super().__init__(code, text)
         self.code = code
+        self.number: Optional[int] = None
+        """The sequence number that the message carries, where a Receiver or a Peer refuses it by
+        Code.BADORDER, and it is authentic, meets all other demands, and has one."""
 
     @property
     def name(self) -> str:

@@ -1,4 +1,5 @@
-"""What sealers, openers and receivers have in common: keys on the library's heap, and a lock."""
+"""What sealers, openers, receivers and peers have in common: keys on the library's heap, and a
+lock."""
 from __future__ import annotations
 
 import ctypes
@@ -27,6 +28,7 @@ class Handle:
     """
 
     _kind: str
+    _maker = "new"                  # the call that makes what the handle holds
     _functions: Dict[str, Callable[..., Any]]
 
     def __init__(self, etype: int, key: Key, *arguments: object) -> None:
@@ -38,7 +40,7 @@ class Handle:
         etype = ranged("the encryption type", etype, -2**31, 2**31 - 1)
         copy = _copy_of(key)
         try:
-            self._call("new", etype, copy, len(copy), *arguments)
+            self._call(self._maker, etype, copy, len(copy), *arguments)
         finally:
             ctypes.memset(copy, 0, len(copy))
 

@@ -22,6 +22,7 @@ FRAME_LIMIT = 1_005_000
 ADDRESS_LIMIT = 40
 """The most bytes of an address."""
 CONFOUNDER_SIZE = 16
+PEER_STATE_SIZE = 20
 TEXT_SIZE = 64
 
 
@@ -32,7 +33,8 @@ class LibraryError(OSError):
 # ---- the structs of krbrelay.h
 
 class HandleStruct(ctypes.Structure):
-    """struct krbrelay_sealer, krbrelay_opener and krbrelay_receiver, which are alike."""
+    """struct krbrelay_sealer, krbrelay_opener, krbrelay_receiver and krbrelay_peer, which are
+    alike."""
     _fields_ = [("at", c_void_p), ("count", c_size_t)]
 
 
@@ -97,6 +99,7 @@ _KEY = [c_int32, POINTER(c_uint8), c_size_t]     # the encryption type, the key 
 _BYTES = [c_char_p, c_size_t]                   # what is read
 _ROOM = [POINTER(c_uint8), c_size_t]             # what is written
 _SIZE = POINTER(c_size_t)
+_STATE = POINTER(c_uint8)        # PEER_STATE_SIZE bytes
 _KEPT = [_AT, c_size_t, _AT]     # what is written, and its size
 
 CALLS: Dict[str, Tuple[Any, List[Any]]] = {
@@ -121,10 +124,21 @@ CALLS: Dict[str, Tuple[Any, List[Any]]] = {
     "krbrelay_opener_free": (None, [_HANDLE]),
     "krbrelay_receiver_new":
         (c_uint32, [_HANDLE, *_KEY, POINTER(ExpectStruct), c_uint64, c_uint32]),
-    "krbrelay_receiver_take":
-        (c_uint32, [_HANDLE, *_BYTES, _MOMENT, POINTER(c_uint32), *_ROOM, _SIZE]),
+    "krbrelay_receiver_take_numbered":
+        (c_uint32, [_HANDLE, *_BYTES, _MOMENT, POINTER(c_uint32), *_ROOM, _SIZE,
+                    POINTER(c_uint64)]),
     "krbrelay_receiver_state": (c_uint32, [_HANDLE, POINTER(c_uint64), POINTER(c_uint32)]),
     "krbrelay_receiver_free": (None, [_HANDLE]),
+    "krbrelay_peer_new":
+        (c_uint32, [_HANDLE, *_KEY, POINTER(SessionStruct), POINTER(DemandStruct)]),
+    "krbrelay_peer_resume":
+        (c_uint32, [_HANDLE, *_KEY, POINTER(SessionStruct), POINTER(DemandStruct), _STATE]),
+    "krbrelay_peer_seal": (c_uint32, [_HANDLE, *_BYTES, _MOMENT, c_char_p, *_ROOM, _SIZE]),
+    "krbrelay_peer_open":
+        (c_uint32, [_HANDLE, *_BYTES, _MOMENT, *_ROOM, _SIZE, POINTER(CarriedStruct)]),
+    "krbrelay_peer_state": (c_uint32, [_HANDLE, POINTER(c_uint64), POINTER(c_uint64)]),
+    "krbrelay_peer_export": (c_uint32, [_HANDLE, _STATE]),
+    "krbrelay_peer_free": (None, [_HANDLE]),
     "krbrelay_window_new": (None, [POINTER(WindowStruct), c_uint64]),
     "krbrelay_window_take": (c_uint32, [POINTER(WindowStruct), c_uint64]),
     "krbrelay_message_header": (c_uint32, [*_BYTES, POINTER(HeaderStruct)]),

@@ -4,10 +4,11 @@ from __future__ import annotations
 from ctypes import c_uint32, c_uint64
 from typing import NamedTuple, Optional
 
+from krbrelay.errors import Code, Refusal
 from krbrelay.handle import Handle, Key
 from krbrelay.opener import expect_struct
 from krbrelay.values import (
-    Address, Bytes, Mode, Moment, Record, bytes_of, moment_struct, ranged, record_of)
+    LAST_NUMBER, Address, Bytes, Mode, Moment, Record, bytes_of, moment_struct, ranged, record_of)
 
 
 class State(NamedTuple):
@@ -44,10 +45,19 @@ class Receiver(Handle):
         number is demanded then, and nothing is accepted after Closed. `at` is the moment of
         opening, now if it isn't given. After any exception the receiver is as it was.
 
+        A Refusal with Code.BADORDER has the `number` that the message carries, if it is authentic
+        and meets all else: one below the demanded number is a repeat.
+
         Refusal, Freed, ValueError, TypeError, MemoryError.
         """
-        content, kind = bytes_of("the message", frame), c_uint32()
-        found = self._write("take", len(content), content, len(content), moment_struct(at), kind)
+        content, kind, number = bytes_of("the message", frame), c_uint32(), c_uint64()
+        try:
+            found = self._write("take_numbered", len(content), content, len(content),
+                                moment_struct(at), kind, after=(number,))
+        except Refusal as refusal:
+            if refusal.code is Code.BADORDER and number.value <= LAST_NUMBER:
+                refusal.number = number.value
+            raise
         return record_of(kind.value, found)
 
     @property

@@ -18,6 +18,17 @@ UNUSED = bytes(CONFOUNDER_SIZE)     # KRB-SAFE has no confounder
 MOST = 2**64 - 1                    # microseconds
 
 
+def session_struct(mode: Mode, sender: Address, first: int, receiver: Optional[Address]
+                   ) -> SessionStruct:
+    return SessionStruct(
+        Mode(mode),
+        ranged("the first number", first, 0, LAST_NUMBER),
+        address_struct("the sender", sender),
+        receiver is not None,
+        optional_struct("the receiver", receiver),
+    )
+
+
 class Kept:
     """What a call that seals is given beside the user data, which fit if they have at most a
     number of bytes: the moment, and room for the message and for its size."""
@@ -46,14 +57,7 @@ class Sealer(Handle):
     def __init__(self, etype: int, key: Key, *, mode: Mode, sender: Address, first: int,
                  receiver: Optional[Address] = None) -> None:
         self._draws = Mode(mode) is Mode.PRIV
-        session = SessionStruct(
-            Mode(mode),
-            ranged("the first number", first, 0, LAST_NUMBER),
-            address_struct("the sender", sender),
-            receiver is not None,
-            optional_struct("the receiver", receiver),
-        )
-        super().__init__(etype, key, session)
+        super().__init__(etype, key, session_struct(mode, sender, first, receiver))
         self._kept = Kept(self._library, KEPT_SIZE)
         self._seal, self._seal_record = self._function("seal"), self._function("seal_record")
 
@@ -80,7 +84,7 @@ class Sealer(Handle):
     def _sealed(self, call: Callable[..., int], size: int, content: bytes, at: Optional[Moment],
                 confounder: Optional[Bytes], *kind: int) -> bytes:
         """What a call seals of the content, which becomes user data of this size."""
-        given = None if confounder is None else _confounder(confounder)
+        given = None if confounder is None else confounder_of(confounder)
         micros = time_ns() // 1000 if at is None else ranged("the moment", micros_of(at), 0, MOST)
         if os.getpid() != self._process:
             raise RuntimeError(OF_A_PARENT)
@@ -116,7 +120,7 @@ class Sealer(Handle):
         self._call("wipe")
 
 
-def _confounder(given: Bytes) -> bytes:
+def confounder_of(given: Bytes) -> bytes:
     confounder = bytes_of("the confounder", given)
     if len(confounder) != CONFOUNDER_SIZE:
         raise ValueError(f"the confounder has {len(confounder)} bytes: it has to have 16")

@@ -85,6 +85,8 @@ class Address:
     data: bytes
 
     IPV4 = 2
+    DIRECTIONAL = 3
+    """Four bytes, a number: 0 at the client's end, 1 at the server's (RFC 4120 section 7.1)."""
     IPV6 = 24
 
     def __post_init__(self) -> None:
@@ -187,9 +189,9 @@ def body_of(user_data: bytes, carried: CarriedStruct) -> Body:
 
 @dataclasses.dataclass(frozen=True)
 class Demand:
-    """What `Opener.open` demands of an authentic message: of each field that isn't None, that the
-    message's fits. The checks come in the order of addresses, time and number: Code.BADADDR,
-    Code.SKEW, Code.BADORDER."""
+    """What `Opener.open` and a Peer demand of an authentic message: of each field that isn't None,
+    that the message's fits. The checks come in the order of addresses, time and number:
+    Code.BADADDR, Code.SKEW, Code.BADORDER."""
     sender: Optional[Address] = None
     receiver: Optional[Address] = None
     skew: Optional[int] = None

@@ -62,6 +62,13 @@ def receiver_of(key, mode, expected=7, sender=SENDER, **demands):
                              expected=expected, **demands)
 
 
+def peer_of(key, mode, first=7, expected=7, here=RECEIVER, there=SENDER, **named):
+    """A peer in the place of the receiver: what comes is the messages of `frame_of`."""
+    demand = krbrelay.Demand(sender=there, skew=300, number=expected)
+    return krbrelay.Peer(etype_of(key), key, mode=mode, sender=here, demand=demand, first=first,
+                         **named)
+
+
 def session_of(key, mode, **demands):
     """What the independent opener demands, as `opener_of` does."""
     names = {"require_receiver": "require_to", "require_time": "expect_time", "skew": "skew"}

@@ -8,12 +8,12 @@ import weakref
 from unittest import mock
 
 from support import (
-    KEYS, MICROS, SENDER, frame_of, opener_of, receiver_of, sealer_of)
+    KEYS, MICROS, SENDER, frame_of, opener_of, peer_of, receiver_of, sealer_of)
 
 import krbrelay
 from krbrelay import Closed, Freed, Mode, Sealer
 
-MAKE = (sealer_of, opener_of, receiver_of)
+MAKE = (sealer_of, opener_of, receiver_of, peer_of)
 FRAME = frame_of(KEYS[0], Mode.PRIV, b"Dhi")
 
 
@@ -24,6 +24,9 @@ def calls_of(handle):
                 lambda: handle.next, lambda: handle.set_mode(Mode.SAFE)]
     if isinstance(handle, krbrelay.Opener):
         return [lambda: handle.unseal(FRAME, 7, MICROS), lambda: handle.open(FRAME)]
+    if isinstance(handle, krbrelay.Peer):
+        return [lambda: handle.open(FRAME, MICROS), lambda: handle.seal(b""),
+                lambda: handle.numbers, handle.export]
     return [lambda: handle.take(FRAME, MICROS), lambda: handle.state]
 
 
@@ -37,7 +40,7 @@ class Lives(unittest.TestCase):
             handle.free()
             for call in calls_of(handle):
                 self.assertRaisesRegex(Freed, "holds nothing", call)
-            if not isinstance(handle, krbrelay.Receiver):
+            if not isinstance(handle, (krbrelay.Receiver, krbrelay.Peer)):
                 handle.wipe()
 
     def test_a_with_frees(self):

@@ -2,7 +2,8 @@ import gc
 import os
 import unittest
 
-from support import ALL, KEYS, KINDS, MICROS, opener_of, outcome, receiver_of, sealer_of
+from support import (
+    ALL, KEYS, KINDS, MICROS, RECEIVER, SENDER, opener_of, outcome, peer_of, receiver_of, sealer_of)
 
 import krbrelay
 from krbrelay import Batch, Code, Demand, Mode, Text
@@ -48,6 +49,17 @@ class Leaks(unittest.TestCase):
                     assert receiver.take(sealer.seal_record(record, MICROS), MICROS) == record
             self.assert_still(work)
 
+    def test_peers(self):
+        with peer_of(KEYS[1], Mode.PRIV) as near, \
+                peer_of(KEYS[1], Mode.PRIV, here=SENDER, there=RECEIVER) as far:
+            def work(count):
+                for _ in range(count // 3):
+                    frame = near.seal(bytes(600), MICROS)
+                    assert far.open(frame, MICROS).number + 1 == far.numbers.expected
+                    assert outcome(far.open, frame, MICROS) == Code.BADORDER
+                    far.export()
+            self.assert_still(work)
+
     def test_refusals(self):
         with sealer_of(KEYS[1], Mode.PRIV) as sealer, opener_of(KEYS[1], Mode.PRIV) as opener:
             frame = sealer.seal(bytes(600), MICROS)
@@ -66,6 +78,7 @@ class Leaks(unittest.TestCase):
                     sealer.wipe()
                 opener_of(key, mode).unseal
                 receiver_of(key, mode).free()
+                peer_of(key, mode).free()
                 try:
                     krbrelay.Sealer(17, bytes(15), mode=mode, sender=krbrelay.Address(2, b""),
                                     first=0)

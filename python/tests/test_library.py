@@ -116,9 +116,9 @@ class TheHeader(unittest.TestCase):
     # What Python has itself, or has no use for.
     UNUSED = {f"krbrelay_{name}" for name in (
         "opener_unseal_in_place", "now", "sealer_seal_now", "sealer_seal_record_now",
-        "address_from", "is_refusal", "is_supported", "clear_stack", "progress_new",
-        "progress_store", "progress_publish", "progress_confirm", "progress_rewind",
-        "place_take", "place_read_again")}
+        "peer_seal_now", "receiver_take", "address_from", "is_refusal", "is_supported",
+        "clear_stack", "progress_new", "progress_store", "progress_publish", "progress_confirm",
+        "progress_rewind", "place_take", "place_read_again")}
 
     def test_calls(self):
         declared = set(re.findall(r"^(?:enum \w+|\w+) (krbrelay_\w+)\(", self.text, re.M))
@@ -138,7 +138,8 @@ class TheHeader(unittest.TestCase):
         limits = dict(re.findall(r"^#define KRBRELAY_(\w+) (\d+)$", self.text, re.M))
         for name in ("USER_DATA_LIMIT", "FRAME_LIMIT", "ADDRESS_LIMIT"):
             self.assertEqual(str(getattr(krbrelay, name)), limits[name])
-        self.assertEqual(str(library.TEXT_SIZE), limits["TEXT_SIZE"])
+        for name in ("TEXT_SIZE", "PEER_STATE_SIZE"):
+            self.assertEqual(str(getattr(library, name)), limits[name])
         self.assertEqual(str(library.MAJOR), limits["VERSION_MAJOR"])
 
     @unittest.skipUnless(shutil.which("cc") or shutil.which("gcc"), "there is no C compiler here")
@@ -148,7 +149,8 @@ class TheHeader(unittest.TestCase):
                    "session": library.SessionStruct, "expect": library.ExpectStruct,
                    "demand": library.DemandStruct, "carried": library.CarriedStruct,
                    "header": library.HeaderStruct, "sealer": library.HandleStruct,
-                   "opener": library.HandleStruct, "receiver": library.HandleStruct}
+                   "opener": library.HandleStruct, "receiver": library.HandleStruct,
+                   "peer": library.HandleStruct}
         told = [(f"sizeof(struct krbrelay_{name})", ctypes.sizeof(struct))
                 for name, struct in structs.items()]
         told += [(f"offsetof(struct krbrelay_{name}, {field})", getattr(struct, field).offset)

@@ -166,18 +166,53 @@ static void draws_that_go_on(void)
     }
 }
 
-/* Nothing is sealed, by either call. */
+/* A peer seals so too: its frame is the one of a sealer of its session, and its number rises. */
+static void frames_of_a_peer(void)
+{
+    for (int etype = 17; etype <= 18; etype++) {
+        struct krbrelay_session session = session_of(KRBRELAY_PRIV, 7);
+        struct krbrelay_sealer s = KRBRELAY_INIT;
+        struct krbrelay_peer p = KRBRELAY_INIT;
+        uint8_t expected[sizeof frame];
+        size_t size = 0, len = 0;
+        uint64_t numbers[2] = { 0, 0 };
+        tell_receiver(&session);
+        CHECK(krbrelay_sealer_new(&s, etype, keys[etype - 17], key_size(etype), &session)
+              == KRBRELAY_OK);
+        CHECK(peer_of(&p, etype, keys[etype - 17], KRBRELAY_PRIV, 1) == KRBRELAY_OK);
+        set_system();
+        CHECK(seal_now(&s, sizeof frame, &len) == KRBRELAY_OK);
+        memcpy(expected, frame, len);
+        set_system();
+        CHECK(krbrelay_peer_seal_now(&p, (const uint8_t *)"Dhi", 3, frame, sizeof frame, &size)
+              == KRBRELAY_OK);
+        CHECK(size == len && memcmp(frame, expected, len) == 0);
+        CHECK(krbrelay_peer_state(&p, &numbers[0], &numbers[1]) == KRBRELAY_OK);
+        CHECK(numbers[0] == 8 && numbers[1] == 7);
+        krbrelay_sealer_free(&s);
+        krbrelay_peer_free(&p);
+    }
+}
+
+/* Nothing is sealed, by any of the calls. */
 static void is_not_sealed(enum krbrelay_answer expected)
 {
     struct krbrelay_sealer s = sealer_at_7(17, KRBRELAY_PRIV);
+    struct krbrelay_peer p = KRBRELAY_INIT;
     size_t size = 99;
-    uint64_t next = 0;
+    uint64_t next = 0, number = 0;
+    CHECK(peer_of(&p, 17, keys[0], KRBRELAY_PRIV, 1) == KRBRELAY_OK);
     frame[0] = 0xee;
     CHECK(seal_now(&s, sizeof frame, &size) == expected);
     drawn = 0;
     CHECK(krbrelay_sealer_seal_record_now(&s, KRBRELAY_TEXT, (const uint8_t *)"hi", 2, frame,
                                           sizeof frame, &size) == expected);
+    drawn = 0;
+    CHECK(krbrelay_peer_seal_now(&p, (const uint8_t *)"Dhi", 3, frame, sizeof frame, &size)
+          == expected);
     CHECK(size == 99 && frame[0] == 0xee);
+    CHECK(krbrelay_peer_state(&p, &next, &number) == KRBRELAY_OK && next == 7);
+    krbrelay_peer_free(&p);
     CHECK(krbrelay_sealer_next(&s, &next) == KRBRELAY_OK && next == 7);
     krbrelay_sealer_free(&s);
 }
@@ -202,8 +237,13 @@ static void faults_of_the_system(void)
 static void answers_of_sealing(void)
 {
     struct krbrelay_sealer s = sealer_at_7(17, KRBRELAY_PRIV), none = KRBRELAY_INIT;
+    struct krbrelay_peer p = KRBRELAY_INIT;
     size_t size = 99;
     set_system();
+    CHECK(krbrelay_peer_seal_now(&p, text, 3, frame, sizeof frame, &size) == KRBRELAY_EMPTY);
+    CHECK(peer_of(&p, 17, keys[0], KRBRELAY_PRIV, 1) == KRBRELAY_OK);
+    CHECK(krbrelay_peer_seal_now(&p, text, 3, frame, 3, &size) == KRBRELAY_ROOM);
+    krbrelay_peer_free(&p);
     CHECK(seal_now(&none, sizeof frame, &size) == KRBRELAY_EMPTY);
     CHECK(seal_now(&s, 3, &size) == KRBRELAY_ROOM);
     CHECK(krbrelay_sealer_seal_record_now(&s, 4, NULL, 0, frame, sizeof frame, &size)
@@ -390,6 +430,7 @@ int main(void)
     CHECK(krbrelay_is_supported() == 1);
     clocks();
     frames_of_another_sealer();
+    frames_of_a_peer();
     draws_that_go_on();
     faults_of_the_system();
     answers_of_sealing();

@@ -1,5 +1,5 @@
-/* A fuzzer of the calls that read messages. Each message is given to openers and receivers of both
- * modes and both encryption types, by all calls that open: these must agree with one another, and write
+/* A fuzzer of the calls that read messages. Each message is given to openers, receivers and peers of
+ * both modes and encryption types, by all calls that open: these must agree with one another, and write
  * nothing where they refuse. Messages are those of frames.h with bytes changed, cut, added and copied, or
  * those that are given. sequences.c tries the other calls.
  *
@@ -23,7 +23,12 @@ enum { LONGEST = 4096, NUMBER = 7 };
 static const struct krbrelay_moment now = { SECS + 1, USEC, 0 };
 static uint8_t keys[2][32];
 static struct krbrelay_opener openers[2][2];
+static struct krbrelay_receiver receivers[2][2];
+static struct krbrelay_peer peers[2][2];
 static int print_lines;
+
+/* What openers and peers demand where they demand all. */
+static struct krbrelay_demand all;
 
 #define HOLDS(fact) \
     do { \
@@ -33,6 +38,21 @@ static int print_lines;
         } \
     } while (0)
 
+/* A receiver and a peer that demand the number: new ones take the place of those that took a message. */
+static void make_receiver(uint32_t mode, int wide)
+{
+    struct krbrelay_expect expect = expect_of(mode);
+    HOLDS(krbrelay_receiver_new(&receivers[mode - KRBRELAY_SAFE][wide], 17 + wide, keys[wide],
+                                wide ? 32 : 16, &expect, NUMBER, 0) == KRBRELAY_OK);
+}
+
+static void make_peer(uint32_t mode, int wide)
+{
+    struct krbrelay_session session = session_of(mode, 0);
+    HOLDS(krbrelay_peer_new(&peers[mode - KRBRELAY_SAFE][wide], 17 + wide, keys[wide], wide ? 32 : 16,
+                            &session, &all) == KRBRELAY_OK);
+}
+
 static void begin(void)
 {
     if (openers[0][0].count != 0)
@@ -40,16 +60,24 @@ static void begin(void)
     for (int i = 0; i < 16; i++)
         keys[0][i] = (uint8_t)i;
     memset(keys[1], 0x11, 32);
+    all = demand_of(1, 255, NUMBER);
     for (uint32_t mode = KRBRELAY_SAFE; mode <= KRBRELAY_PRIV; mode++)
         for (int wide = 0; wide < 2; wide++) {
             struct krbrelay_expect expect = expect_of(mode);
             HOLDS(krbrelay_opener_new(&openers[mode - KRBRELAY_SAFE][wide], 17 + wide, keys[wide],
                                       wide ? 32 : 16, &expect) == KRBRELAY_OK);
+            make_receiver(mode, wide);
+            make_peer(mode, wide);
         }
 }
 
-/* What a call answered, and the user data that it gave. */
-struct outcome { enum krbrelay_answer answer; size_t size; uint8_t data[LONGEST]; };
+/* What a call answered, the user data that it gave, and what it told of an authentic message. */
+struct outcome {
+    enum krbrelay_answer answer;
+    size_t size;
+    uint8_t data[LONGEST];
+    struct krbrelay_carried carried;
+};
 
 static void is_whole(const struct outcome *o)
 {
@@ -93,21 +121,17 @@ static void unseal_in_place(struct krbrelay_opener *o, const uint8_t *frame, siz
 static void open_with(struct krbrelay_opener *o, const uint8_t *frame, size_t len, int strict,
                       struct outcome *to)
 {
-    struct krbrelay_demand none = { 0 }, all = {
-        .how_sender = KRBRELAY_REQUIRED, .how_receiver = KRBRELAY_IF_PRESENT,
-        .how_time = KRBRELAY_REQUIRED, .how_number = KRBRELAY_REQUIRED,
-        .number = NUMBER, .skew = 300, .sender = host(1), .receiver = host(255)
-    };
-    struct krbrelay_carried carried;
-    memset(&carried, 0xee, sizeof carried);
+    static const struct krbrelay_demand none;
+    struct krbrelay_carried *carried = &to->carried;
+    memset(carried, 0xee, sizeof *carried);
     clear(to);
     to->answer = krbrelay_opener_open(o, frame, len, strict ? &all : &none, &now, to->data, LONGEST,
-                                      &to->size, &carried);
+                                      &to->size, carried);
     is_whole(to);
     if (to->answer == KRBRELAY_OK)
-        HOLDS(carried.sender.len <= 40 && carried.receiver.len <= 40 && carried.reserved[5] == 0);
+        HOLDS(carried->sender.len <= 40 && carried->receiver.len <= 40 && carried->reserved[5] == 0);
     else
-        HOLDS(carried.number == 0xeeeeeeee);
+        HOLDS(carried->number == 0xeeeeeeee);
 }
 
 static int same(const struct outcome *a, const struct outcome *b)
@@ -168,6 +192,52 @@ static void take(uint32_t mode, int wide, const uint8_t *frame, size_t len, cons
     krbrelay_receiver_free(&r);
 }
 
+/* A receiver tells the number that came: it answers as another that doesn't. The refused message tells
+ * its number if and only if it is authentic, and has one. */
+static void take_numbered(uint32_t mode, int wide, const uint8_t *frame, size_t len,
+                          const struct outcome *unsealed, const struct outcome *authentic)
+{
+    static uint8_t bytes[LONGEST];
+    int is_told = authentic->answer == KRBRELAY_OK && authentic->carried.has_number;
+    uint64_t number = 12345, expected = 12345;
+    uint32_t kind = 99;
+    size_t size = 12345;
+    enum krbrelay_answer answer = krbrelay_receiver_take_numbered(
+        &receivers[mode - KRBRELAY_SAFE][wide], frame, len, &now, &kind, bytes, LONGEST, &size, &number);
+    HOLDS(answer == unsealed->answer
+          || (unsealed->answer == KRBRELAY_OK && answer == KRBRELAY_BAD_RECORD));
+    if (answer == KRBRELAY_OK)
+        expected = NUMBER;
+    else if (answer == KRBRELAY_BADORDER)
+        expected = is_told ? authentic->carried.number : UINT64_MAX;
+    HOLDS(number == expected);
+    if (answer == KRBRELAY_OK)
+        make_receiver(mode, wide);
+}
+
+/* A peer opens what an opener opens with the same demand, moves on then alone, and tells what the
+ * message carried also where its number is refused. */
+static void open_by_peer(uint32_t mode, int wide, const uint8_t *frame, size_t len,
+                         const struct outcome *authentic, const struct outcome *demanded)
+{
+    static struct outcome found;
+    struct krbrelay_peer *p = &peers[mode - KRBRELAY_SAFE][wide];
+    uint64_t next = 99, expected = 99;
+    clear(&found);
+    memset(&found.carried, 0xee, sizeof found.carried);
+    found.answer = krbrelay_peer_open(p, frame, len, &now, found.data, LONGEST, &found.size,
+                                      &found.carried);
+    HOLDS(found.answer == demanded->answer && found.size == demanded->size
+          && memcmp(found.data, demanded->data, LONGEST) == 0);
+    HOLDS(memcmp(&found.carried, found.answer == KRBRELAY_BADORDER ? &authentic->carried
+                                                                   : &demanded->carried,
+                 sizeof found.carried) == 0);
+    HOLDS(krbrelay_peer_state(p, &next, &expected) == KRBRELAY_OK && next == 0);
+    HOLDS(expected == NUMBER + (found.answer == KRBRELAY_OK));
+    if (found.answer == KRBRELAY_OK)
+        make_peer(mode, wide);
+}
+
 static void print_line(uint32_t mode, int etype, const uint8_t *frame, size_t len,
                        const struct outcome *o)
 {
@@ -199,6 +269,8 @@ static void try_message(const uint8_t *frame, size_t len)
             open_with(o, frame, len, 1, &demanded);
             agree(mode, &unsealed, &authentic, &demanded);
             take(mode, wide, frame, len, &unsealed);
+            take_numbered(mode, wide, frame, len, &unsealed, &authentic);
+            open_by_peer(mode, wide, frame, len, &authentic, &demanded);
             HOLDS((read == KRBRELAY_MALFORMED) == (unsealed.answer == KRBRELAY_MALFORMED)
                   || unsealed.answer == KRBRELAY_MALFORMED);
             if (print_lines)
@@ -270,8 +342,11 @@ static void try_given(void)
 
 static void free_all(void)
 {
-    for (int i = 0; i < 4; i++)
+    for (int i = 0; i < 4; i++) {
         krbrelay_opener_free(&openers[i / 2][i % 2]);
+        krbrelay_receiver_free(&receivers[i / 2][i % 2]);
+        krbrelay_peer_free(&peers[i / 2][i % 2]);
+    }
 }
 
 int main(int argc, char **argv)
@@ -295,7 +370,7 @@ int main(int argc, char **argv)
     }
     free_all();
     if (!print_lines)
-        printf("fuzz: %ld messages, to four openers and receivers each\n", count);
+        printf("fuzz: %ld messages, to four openers, receivers and peers each\n", count);
     return 0;
 }
 #endif

@@ -148,6 +148,91 @@ static int record_with_refusal(uint32_t mode, int etype, long at)
     return refused > met;
 }
 
+/* The same of a peer, which is made, seals, opens what comes from the other end, and is made again. */
+static int peer_with_refusal(uint32_t mode, int etype, long at)
+{
+    static uint8_t state[KRBRELAY_PEER_STATE_SIZE];
+    struct krbrelay_peer near = { 0 }, far = { 0 };
+    struct krbrelay_carried carried = { 0 };
+    uint64_t next = 0, expected = 0;
+    size_t n = 0, m = 0;
+    int met = refused;
+    enum krbrelay_answer answer;
+    CHECK(peer_of(&far, etype, key, mode, 255) == KRBRELAY_OK);
+    before_refusal = at;
+    if ((answer = peer_of(&near, etype, key, mode, 1)) != KRBRELAY_OK) {
+        refused++;
+        CHECK(answer == KRBRELAY_MEMORY && krbrelay_peer_state(&near, &next, &expected) == KRBRELAY_EMPTY);
+        CHECK(peer_of(&near, etype, key, mode, 1) == KRBRELAY_OK);
+    }
+    answer = krbrelay_peer_seal(&near, key, 20, &now, confounder, frame, sizeof frame, &n);
+    if (answer != KRBRELAY_OK) {
+        refused++;
+        CHECK(answer == KRBRELAY_MEMORY && n == 0);
+        CHECK(krbrelay_peer_state(&near, &next, &expected) == KRBRELAY_OK && next == 7);
+        CHECK(krbrelay_peer_seal(&near, key, 20, &now, confounder, frame, sizeof frame, &n) == 0);
+    }
+    answer = krbrelay_peer_open(&far, frame, n, &now, text, sizeof text, &m, &carried);
+    if (answer != KRBRELAY_OK) {
+        refused++;
+        CHECK(answer == KRBRELAY_MEMORY && m == 0 && carried.has_number == 0);
+        CHECK(krbrelay_peer_state(&far, &next, &expected) == KRBRELAY_OK && expected == 7);
+        CHECK(krbrelay_peer_open(&far, frame, n, &now, text, sizeof text, &m, &carried) == 0);
+    }
+    CHECK(m == 20 && memcmp(text, key, 20) == 0 && carried.number == 7);
+    answer = krbrelay_peer_open(&far, frame, n, &now, text, sizeof text, &m, &carried);
+    if (answer == KRBRELAY_MEMORY) {
+        refused++;
+        answer = krbrelay_peer_open(&far, frame, n, &now, text, sizeof text, &m, &carried);
+    }
+    CHECK(answer == KRBRELAY_BADORDER && krbrelay_peer_export(&far, state) == KRBRELAY_OK);
+    CHECK(state[11] == 7 && state[19] == 8);
+    before_refusal = -1;
+    krbrelay_peer_free(&near);
+    krbrelay_peer_free(&far);
+    return refused > met;
+}
+
+/* A peer that goes on from an export, and a receiver that tells the number that came. */
+static int resumed_with_refusal(uint32_t mode, int etype, long at)
+{
+    static const uint8_t state[KRBRELAY_PEER_STATE_SIZE] = { 0x6b, 0x72, 0x73, 1, [11] = 7, [19] = 8 };
+    struct krbrelay_session session = session_of(mode, 0);
+    struct krbrelay_demand demand = demand_of(255, 1, 0);
+    struct krbrelay_expect expect = expect_of(mode);
+    struct krbrelay_peer p = { 0 };
+    struct krbrelay_receiver r = { 0 };
+    uint64_t next = 0, expected = 0, number = 5;
+    size_t n = 0, m = 0, len = key_size(etype);
+    uint32_t kind = 0;
+    int met = refused;
+    enum krbrelay_answer answer;
+    before_refusal = at;
+    if ((answer = krbrelay_peer_resume(&p, etype, key, len, &session, &demand, state)) != KRBRELAY_OK) {
+        refused++;
+        CHECK(answer == KRBRELAY_MEMORY && krbrelay_peer_is_empty(&p));
+        CHECK(krbrelay_peer_resume(&p, etype, key, len, &session, &demand, state) == KRBRELAY_OK);
+    }
+    before_refusal = -1;
+    CHECK(krbrelay_peer_state(&p, &next, &expected) == KRBRELAY_OK && next == 7 && expected == 8);
+    CHECK(krbrelay_peer_seal(&p, (const uint8_t *)"Dhi", 3, &now, confounder, frame, sizeof frame, &n)
+          == KRBRELAY_OK);
+    CHECK(krbrelay_receiver_new(&r, etype, key, len, &expect, 8, 0) == KRBRELAY_OK);
+    before_refusal = refused > met ? -1 : at;
+    answer = krbrelay_receiver_take_numbered(&r, frame, n, &now, &kind, text, sizeof text, &m, &number);
+    if (answer == KRBRELAY_MEMORY) {
+        refused++;
+        CHECK(number == 5);
+        answer = krbrelay_receiver_take_numbered(&r, frame, n, &now, &kind, text, sizeof text, &m,
+                                                 &number);
+    }
+    CHECK(answer == KRBRELAY_BADORDER && number == 7 && m == 0 && kind == 0);
+    before_refusal = -1;
+    krbrelay_peer_free(&p);
+    krbrelay_receiver_free(&r);
+    return refused > met;
+}
+
 /* How many allocations sealing a KRB-PRIV message of so many bytes takes. */
 static long asked_by_seal(int etype, const uint8_t *bytes, size_t size)
 {
@@ -223,6 +308,10 @@ int main(void)
             CHECK(at >= 8);
             for (at = 0; record_with_refusal(mode, etype, at); at++) { }
             CHECK(at >= 8);
+            for (at = 0; peer_with_refusal(mode, etype, at); at++) { }
+            CHECK(at >= 5);
+            for (at = 0; resumed_with_refusal(mode, etype, at); at++) { }
+            CHECK(at >= 2);
         }
     printf("memory: %d refused allocations, each answered\n", refused);
     return check_status("memory");

@@ -267,6 +267,88 @@ static void ours_to_ours(struct end *from, struct end *to, uint32_t mode, size_t
     ours_reads(to, mode, our_frame(from, len), len);
 }
 
+/* ---- peers: MIT's library at one end, and a peer at the other, both ways in turn */
+
+/* A peer in the place of MIT's end. MIT leaves the number 0 out of its messages. */
+static struct krbrelay_peer peer_in(const struct end *e, uint32_t mode, uint32_t *first)
+{
+    struct direction out = direction_of(e, krb5_auth_con_getlocalseqnumber,
+                                        krb5_auth_con_getsendsubkey);
+    struct direction in = direction_of(e, krb5_auth_con_getremoteseqnumber,
+                                       krb5_auth_con_getrecvsubkey);
+    struct krbrelay_session session = { .mode = mode, .first = out.number, .sender = out.local };
+    struct krbrelay_demand demand = {
+        .how_sender = KRBRELAY_REQUIRED, .sender = in.remote,
+        .how_receiver = KRBRELAY_IF_PRESENT, .receiver = in.local,
+        .how_time = KRBRELAY_REQUIRED, .skew = 300,
+        .how_number = KRBRELAY_ABSENT_IS_0, .number = in.number
+    };
+    struct krbrelay_peer peer = KRBRELAY_INIT;
+    CHECK(out.key->length == in.key->length
+          && memcmp(out.key->contents, in.key->contents, in.key->length) == 0);
+    CHECK(krbrelay_peer_new(&peer, out.key->enctype, out.key->contents, out.key->length, &session,
+                            &demand) == KRBRELAY_OK);
+    *first = in.number;
+    krb5_free_keyblock(ctx, out.key);
+    krb5_free_keyblock(ctx, in.key);
+    return peer;
+}
+
+/* The peer opens MIT's message, and tells its number where it comes again. */
+static void mit_to_peer(struct end *from, struct krbrelay_peer *to, uint32_t mode, uint32_t number,
+                        size_t len)
+{
+    krb5_data in = { KV5M_DATA, (unsigned)len, (char *)sent }, out = { 0 };
+    krb5_replay_data replay;
+    struct krbrelay_carried carried = KRBRELAY_INIT;
+    struct krbrelay_moment now = read_clock();
+    size_t size = 0;
+    must(mode == KRBRELAY_SAFE ? krb5_mk_safe(ctx, from->mit, &in, &out, &replay)
+                          : krb5_mk_priv(ctx, from->mit, &in, &out, &replay), "mk");
+    for (int again = 0; again < 2; again++) {
+        CHECK(krbrelay_peer_open(to, (const uint8_t *)out.data, out.length, &now, text, sizeof text,
+                                 &size, &carried) == (again ? KRBRELAY_BADORDER : KRBRELAY_OK));
+        CHECK(size == len && memcmp(text, sent, len) == 0);
+        CHECK(carried.number == number && carried.has_number == (number != 0));
+    }
+    krb5_free_data_contents(ctx, &out);
+}
+
+static void peer_to_mit(struct krbrelay_peer *from, struct end *to, uint32_t mode, size_t len)
+{
+    krb5_data in = { KV5M_DATA, 0, (char *)frame }, out = { 0 };
+    krb5_replay_data replay;
+    krb5_error_code error;
+    size_t size = 0;
+    CHECK(krbrelay_peer_seal_now(from, sent, len, frame, sizeof frame, &size) == KRBRELAY_OK);
+    in.length = (unsigned)size;
+    error = mode == KRBRELAY_SAFE ? krb5_rd_safe(ctx, to->mit, &in, &out, &replay)
+                                  : krb5_rd_priv(ctx, to->mit, &in, &out, &replay);
+    CHECK(error == 0);
+    CHECK(error != 0 || (out.length == len && memcmp(out.data, sent, len) == 0));
+    krb5_free_data_contents(ctx, &out);
+}
+
+/* A session of MIT's exchange, with the numbers that MIT chose. */
+static void with_a_peer(krb5_enctype etype, uint32_t mode, int at_server)
+{
+    static const size_t sizes[] = { 0, 1, 16, 17, 1024, 60000 };
+    struct end client = { 0 }, server = { 0 };
+    struct krbrelay_peer peer;
+    struct end *mit = at_server ? &client : &server;
+    uint32_t number;
+    exchange(etype, &client.mit, &server.mit);
+    peer = peer_in(at_server ? &server : &client, mode, &number);
+    for (size_t i = 0; i < sizeof sizes / sizeof sizes[0]; i++) {
+        mit_to_peer(mit, &peer, mode, number++, sizes[i]);
+        peer_to_mit(&peer, mit, mode, sizes[i]);
+        mit_to_peer(mit, &peer, mode, number++, 3);
+    }
+    krbrelay_peer_free(&peer);
+    krb5_auth_con_free(ctx, client.mit);
+    krb5_auth_con_free(ctx, server.mit);
+}
+
 /* What one end of a new session sends the other: first by one library, then read by another. */
 static void one_way(krb5_enctype etype, uint32_t mode, int from_server, int who)
 {
@@ -303,9 +385,11 @@ int main(void)
         sent[i] = (uint8_t)(i * 7 + i / 256);
     for (krb5_enctype etype = 17; etype <= 18; etype++)
         for (uint32_t mode = KRBRELAY_SAFE; mode <= KRBRELAY_PRIV; mode++)
-            for (int from_server = 0; from_server < 2; from_server++)
+            for (int from_server = 0; from_server < 2; from_server++) {
+                with_a_peer(etype, mode, from_server);
                 for (int who = 0; who < 3; who++)
                     one_way(etype, mode, from_server, who);
+            }
     krb5_free_context(ctx);
     return check_status("mit");
 }

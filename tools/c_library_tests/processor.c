@@ -38,17 +38,26 @@ static void makers(enum krbrelay_answer answer)
     struct krbrelay_sealer s = KRBRELAY_INIT;
     struct krbrelay_opener o = KRBRELAY_INIT;
     struct krbrelay_receiver r = KRBRELAY_INIT;
+    struct krbrelay_peer p = KRBRELAY_INIT, resumed = KRBRELAY_INIT;
     struct krbrelay_header header = KRBRELAY_INIT;
+    struct krbrelay_demand demand = demand_of(255, 1, 0);
+    static const uint8_t state[KRBRELAY_PEER_STATE_SIZE] = { 0x6b, 0x72, 0x73, 1 };
     int is_made = answer == KRBRELAY_OK;
     CHECK(krbrelay_sealer_new(&s, 17, key, sizeof key, &session) == answer);
     CHECK(krbrelay_opener_new(&o, 17, key, sizeof key, &expect) == answer);
     CHECK(krbrelay_receiver_new(&r, 17, key, sizeof key, &expect, 7, 0) == answer);
+    CHECK(krbrelay_peer_new(&p, 17, key, sizeof key, &session, &demand) == answer);
+    session.first = 0;
+    CHECK(krbrelay_peer_resume(&resumed, 17, key, sizeof key, &session, &demand, state) == answer);
     CHECK(krbrelay_message_header(priv_17, sizeof priv_17, &header) == answer);
     CHECK(krbrelay_sealer_is_empty(&s) == !is_made && krbrelay_opener_is_empty(&o) == !is_made);
+    CHECK(krbrelay_peer_is_empty(&p) == !is_made && krbrelay_peer_is_empty(&resumed) == !is_made);
     CHECK(krbrelay_receiver_is_empty(&r) == !is_made && header.kind == (is_made ? KRBRELAY_PRIV : 0));
     krbrelay_sealer_free(&s);
     krbrelay_opener_free(&o);
     krbrelay_receiver_free(&r);
+    krbrelay_peer_free(&p);
+    krbrelay_peer_free(&resumed);
 }
 
 /* The calls over a handle that holds nothing. */
@@ -58,6 +67,7 @@ static void empty_handles(void)
     struct krbrelay_sealer s = KRBRELAY_INIT;
     struct krbrelay_opener o = KRBRELAY_INIT;
     struct krbrelay_receiver r = KRBRELAY_INIT;
+    struct krbrelay_peer p = KRBRELAY_INIT;
     struct krbrelay_moment at = moment(SECS, USEC);
     struct krbrelay_carried carried;
     uint8_t in_place[sizeof priv_17];
@@ -79,7 +89,14 @@ static void empty_handles(void)
                                &carried) == KRBRELAY_EMPTY);
     CHECK(krbrelay_receiver_take(&r, priv_17, sizeof priv_17, &at, &kind, text, sizeof text, &size)
           == KRBRELAY_EMPTY);
+    CHECK(krbrelay_receiver_take_numbered(&r, priv_17, sizeof priv_17, &at, &kind, text, sizeof text,
+                                          &size, &number) == KRBRELAY_EMPTY);
     CHECK(krbrelay_receiver_state(&r, &number, &kind) == KRBRELAY_EMPTY);
+    CHECK(krbrelay_peer_seal_now(&p, key, 3, frame, sizeof frame, &size) == KRBRELAY_EMPTY);
+    CHECK(krbrelay_peer_open(&p, priv_17, sizeof priv_17, &at, text, sizeof text, &size, &carried)
+          == KRBRELAY_EMPTY);
+    CHECK(krbrelay_peer_state(&p, &number, &number) == KRBRELAY_EMPTY);
+    CHECK(krbrelay_peer_export(&p, text) == KRBRELAY_EMPTY);
     CHECK(size == 99 && number == 99 && kind == 99);
     krbrelay_sealer_wipe(&s);
     krbrelay_opener_wipe(&o);

@@ -22,7 +22,7 @@ static const struct krbrelay_moment now = { SECS, USEC, 0 };
 
 static uint8_t key[32];
 /* The block of a handle in use, and how many runs of its bytes stood in it when it was freed. */
-struct watched { const void *block; uint8_t bytes[2048]; size_t size; int freed, runs; };
+struct watched { const void *block; uint8_t bytes[4096]; size_t size; int freed, runs; };
 static struct watched watch[2];
 static int blocks_freed;
 
@@ -135,6 +135,24 @@ static void no_residue_of_receiver(uint32_t mode, int etype, int new_key)
     CHECK(watch[0].freed >= 1 && watch[0].runs == 0);
 }
 
+/* The same of a peer, ended by free, by a new key, by a refused one, or by going on from an export. */
+static void no_residue_of_peer(uint32_t mode, int etype, enum ending how)
+{
+    static const uint8_t none[KRBRELAY_PEER_STATE_SIZE];
+    static const uint8_t other[32] = { 9, 8, 7, 6, 5, 4, 3, 2, 1 };
+    struct krbrelay_session session = session_of(mode, 0);
+    struct krbrelay_demand demand = demand_of(255, 1, 0);
+    struct krbrelay_peer p = { 0 };
+    CHECK(peer_of(&p, etype, key, mode, 1) == KRBRELAY_OK);
+    watch_block(0, p.at);
+    if (how == NEW_KEY)
+        CHECK(peer_of(&p, 17, other, mode, 1) == KRBRELAY_OK);
+    if (how == REFUSED_NEW)
+        CHECK(krbrelay_peer_resume(&p, 17, other, 16, &session, &demand, none) == KRBRELAY_ARGUMENT);
+    krbrelay_peer_free(&p);
+    CHECK(watch[0].freed >= 1 && watch[0].runs == 0);
+}
+
 /* ---- user data */
 
 enum { SIZE = 64, ROOM = 4096 };
@@ -204,6 +222,7 @@ static void take_in_each_way(int etype)
     struct krbrelay_receiver r = { 0 };
     size_t n[3] = { 0, 0, 0 }, size = 0, m = 0;
     uint32_t kind = 0;
+    uint64_t number = 0;
     CHECK(krbrelay_batch_add(batch, ROOM, &size, user_data, SIZE) == KRBRELAY_OK);
     CHECK(krbrelay_batch_add(batch, ROOM, &size, user_data, SIZE) == KRBRELAY_OK);
     CHECK(krbrelay_sealer_new(&s, etype, key, key_size(etype), &session) == KRBRELAY_OK);
@@ -222,10 +241,34 @@ static void take_in_each_way(int etype)
     }
     CHECK(krbrelay_receiver_take(&r, frames[0], n[0], &now, &kind, bytes, ROOM, &m)
           == KRBRELAY_BADORDER);
+    CHECK(krbrelay_receiver_take_numbered(&r, frames[0], n[0], &now, &kind, bytes, ROOM, &m, &number)
+          == KRBRELAY_BADORDER && number == 7);
     CHECK(krbrelay_receiver_take(&r, frames[2], n[2], &now, &kind, bytes, ROOM, &m)
           == KRBRELAY_BAD_RECORD);
     krbrelay_sealer_free(&s);
     krbrelay_receiver_free(&r);
+}
+
+/* Peers: opened, and refused after it was deciphered, for its number, its time, its address and its
+ * room. */
+static void open_by_a_peer_in_each_way(int etype)
+{
+    static uint8_t frame[ROOM], text[ROOM];
+    struct krbrelay_moment late = moment(SECS + 1000, USEC);
+    struct krbrelay_peer near = { 0 }, far = { 0 };
+    struct krbrelay_carried carried;
+    size_t n = 0, m = 0;
+    CHECK(peer_of(&near, etype, key, KRBRELAY_PRIV, 1) == KRBRELAY_OK);
+    CHECK(peer_of(&far, etype, key, KRBRELAY_PRIV, 255) == KRBRELAY_OK);
+    CHECK(krbrelay_peer_seal(&near, user_data, SIZE, &now, confounder, frame, ROOM, &n) == 0);
+    CHECK(krbrelay_peer_open(&near, frame, n, &now, text, ROOM, &m, &carried) == KRBRELAY_BADADDR);
+    CHECK(krbrelay_peer_open(&far, frame, n, &late, text, ROOM, &m, &carried) == KRBRELAY_SKEW);
+    CHECK(krbrelay_peer_open(&far, frame, n, &now, text, SIZE - 1, &m, &carried) == KRBRELAY_ROOM);
+    CHECK(krbrelay_peer_open(&far, frame, n, &now, text, ROOM, &m, &carried) == 0 && m == SIZE);
+    CHECK(memcmp(text, user_data, SIZE) == 0);
+    CHECK(krbrelay_peer_open(&far, frame, n, &now, text, ROOM, &m, &carried) == KRBRELAY_BADORDER);
+    krbrelay_peer_free(&near);
+    krbrelay_peer_free(&far);
 }
 
 /* Each byte is written, though the block is freed then. */
@@ -261,11 +304,15 @@ static void end_in_each_way(void)
                 no_residue(mode, etype, (enum ending)how);
             no_residue_of_receiver(mode, etype, 0);
             no_residue_of_receiver(mode, etype, 1);
+            no_residue_of_peer(mode, etype, FREE_SEALER_FIRST);
+            no_residue_of_peer(mode, etype, NEW_KEY);
+            no_residue_of_peer(mode, etype, REFUSED_NEW);
         }
     for (int etype = 17; etype <= 18; etype++) {
         unseal_in_each_way(etype);
         open_in_each_way(etype);
         take_in_each_way(etype);
+        open_by_a_peer_in_each_way(etype);
     }
     CHECK(blocks_freed > 0);
 }

@@ -573,13 +573,21 @@ static void take(size_t i)
     struct krbrelay_moment at = some_moment();
     uint8_t data[LONGEST];
     uint32_t kind = 99;
+    uint64_t number = 777;
     size_t size = 777, room = some_data_room(f->len - (size_t)(f->len > 0));
     enum krbrelay_answer before = FIRST_OF(UNLESS(m->life != NOTHING, KRBRELAY_EMPTY), of_moment(&at));
     enum krbrelay_answer expected = before != KRBRELAY_OK ? before
         : FIRST_OF(UNLESS(!m->closed, KRBRELAY_AFTER_CLOSE), of_unsealing(m, f, m->number, &at),
                    UNLESS(f->kind != 0, KRBRELAY_BAD_RECORD), UNLESS(f->len <= 1 + room, KRBRELAY_ROOM));
-    answered(krbrelay_receiver_take(&receivers[i].h, f->frame, f->size, &at, &kind, data, room, &size),
-             expected, "krbrelay_receiver_take");
+    if (one_in(2)) {
+        answered(krbrelay_receiver_take_numbered(&receivers[i].h, f->frame, f->size, &at, &kind, data,
+                                                 room, &size, &number), expected,
+                 "krbrelay_receiver_take_numbered");
+        HOLDS(number == (expected == KRBRELAY_OK || expected == KRBRELAY_BADORDER ? f->by.number : 777));
+    } else {
+        answered(krbrelay_receiver_take(&receivers[i].h, f->frame, f->size, &at, &kind, data, room,
+                                        &size), expected, "krbrelay_receiver_take");
+    }
     if (expected != KRBRELAY_OK) {
         HOLDS(kind == 99 && size == 777);
         return;
@@ -589,6 +597,203 @@ static void take(size_t i)
     m->closed = kind == KRBRELAY_CLOSE;
     if (kind == KRBRELAY_BATCH)
         go_over(data, size);
+}
+
+/* ---- peers: pairs of a client at 10.0.0.1 and a server at 10.0.0.255, and their last messages */
+
+enum { ENDS = 2, KEPT = 8 };
+
+/* What an end holds: m.number is the next number that it seals. */
+struct peer { struct krbrelay_peer h; struct held m; uint64_t expected; };
+
+static struct peer peers[HANDLES][ENDS];
+static struct sealed messages[HANDLES][KEPT];       /* kind is the end that sealed it */
+static size_t sent[HANDLES];
+
+static uint8_t host_of(size_t end) { return end == 0 ? 1 : 255; }
+
+static struct krbrelay_session peer_session(uint32_t mode, size_t end, uint32_t first)
+{
+    struct krbrelay_session s = session_of(mode, first);
+    s.sender = host(host_of(end));
+    s.has_receiver = 1;
+    s.receiver = host(host_of(1 - end));
+    if (one_in(40))
+        s.reserved[draw(5)] = 1;
+    if (one_in(40))
+        s.receiver.len = 41;
+    return s;
+}
+
+static enum krbrelay_answer of_peer_session(const struct krbrelay_session *s)
+{
+    return FIRST_OF(of_session(s), UNLESS(s->receiver.len <= 40, KRBRELAY_ADDRESS));
+}
+
+static struct krbrelay_demand peer_demand(size_t end, uint64_t number)
+{
+    struct krbrelay_demand d = demand_of(host_of(1 - end), host_of(end), number);
+    if (one_in(40))
+        d.how_number = (uint32_t)draw(2);
+    if (one_in(40))
+        d.number = 4294967297 + draw(2);
+    return d;
+}
+
+static enum krbrelay_answer of_peer_demand(const struct krbrelay_demand *d)
+{
+    return UNLESS(d->how_number >= 2 && d->number <= 4294967296, KRBRELAY_ARGUMENT);
+}
+
+/* Mostly of the other end's type, mode and numbers. */
+static void make_peer(size_t i, size_t end)
+{
+    struct peer *it = &peers[i][end];
+    const struct peer *far = &peers[i][1 - end];
+    struct held m = { LIVE, some_etype(), some_mode(), 1, one_in(4) ? UINT32_MAX - draw(9) : draw(50), 0 };
+    uint64_t number = draw(50);
+    size_t len;
+    struct krbrelay_session session;
+    struct krbrelay_demand demand;
+    enum krbrelay_answer expected;
+    if (far->m.life == LIVE && !one_in(4)) {
+        m.etype = far->m.etype;
+        m.mode = far->m.mode;
+        m.number = far->expected <= UINT32_MAX ? far->expected : 0;
+        number = far->m.number;
+    }
+    len = some_key_size(m.etype);
+    session = peer_session(m.mode, end, (uint32_t)m.number);
+    demand = peer_demand(end, number);
+    expected = FIRST_OF(of_peer_demand(&demand), of_key(m.etype, len), of_peer_session(&session));
+    answered(krbrelay_peer_new(&it->h, m.etype, keys[m.etype & 1 ? 0 : 1], len, &session, &demand),
+             expected, "krbrelay_peer_new");
+    m.life = expected == KRBRELAY_OK ? LIVE : NOTHING;
+    it->m = m;
+    it->expected = number;
+    HOLDS(krbrelay_peer_is_empty(&it->h) == (m.life == NOTHING));
+}
+
+static void seal_by_peer(size_t i, size_t end)
+{
+    static const uint8_t confounder[16];
+    struct peer *it = &peers[i][end];
+    struct sealed *f = &messages[i][sent[i] % KEPT];
+    struct krbrelay_moment at = some_moment();
+    size_t len = draw(DATA), size = 0, room = one_in(9) ? draw(20) : LONGEST;
+    uint8_t data[DATA];
+    enum krbrelay_answer expected = it->m.life == NOTHING ? KRBRELAY_EMPTY
+        : of_sealing(&it->m, len, &at, room == LONGEST ? 0 : LONGEST, room);
+    for (size_t k = 0; k < len; k++)
+        data[k] = (uint8_t)draw(256);
+    answered(krbrelay_peer_seal(&it->h, data, len, &at, confounder, f->frame, room, &size), expected,
+             "krbrelay_peer_seal");
+    HOLDS((size > 0 && size <= krbrelay_frame_size(len)) == (expected == KRBRELAY_OK));
+    if (expected != KRBRELAY_OK)
+        return;
+    f->size = size;
+    f->len = len;
+    memcpy(f->user, data, len);
+    f->by = it->m;
+    f->at = at;
+    f->kind = (uint32_t)end;
+    it->m.number++;
+    sent[i]++;
+}
+
+/* Any message of the pair, its own too. */
+static void open_by_peer(size_t i, size_t end)
+{
+    struct peer *it = &peers[i][end];
+    const struct sealed *f = &messages[i][draw(sent[i] < KEPT ? sent[i] : KEPT)];
+    struct krbrelay_moment at = some_moment();
+    struct krbrelay_carried carried = { 0 };
+    uint8_t data[LONGEST];
+    size_t size = 777, room = some_data_room(f->len);
+    enum krbrelay_answer before = FIRST_OF(UNLESS(it->m.life != NOTHING, KRBRELAY_EMPTY), of_moment(&at));
+    enum krbrelay_answer expected = before != KRBRELAY_OK ? before
+        : FIRST_OF(of_authentic(&it->m, f), UNLESS(f->kind != end, KRBRELAY_BADADDR), of_time(f, &at, 300),
+                   UNLESS(f->by.number == it->expected, KRBRELAY_BADORDER),
+                   UNLESS(f->len <= room, KRBRELAY_ROOM));
+    answered(krbrelay_peer_open(&it->h, f->frame, f->size, &at, data, room, &size, &carried), expected,
+             "krbrelay_peer_open");
+    HOLDS(expected == KRBRELAY_OK ? size == f->len && memcmp(data, f->user, size) == 0 : size == 777);
+    if (expected == KRBRELAY_OK || expected == KRBRELAY_BADORDER)
+        HOLDS(carried.has_number && carried.number == f->by.number && carried.seconds == f->at.seconds
+              && carried.sender.bytes[3] == host_of(f->kind));
+    else
+        HOLDS(carried.has_number == 0 && carried.sender.len == 0);
+    it->expected += expected == KRBRELAY_OK;
+}
+
+/* The eight bytes of a number, the most significant first. */
+static void put_number(uint8_t *to, uint64_t number)
+{
+    for (int k = 0; k < 8; k++)
+        to[k] = (uint8_t)(number >> (56 - 8 * k));
+}
+
+/* An end is exported, and goes on from that, at times with an argument that is wrong. */
+static void resume_peer(size_t i, size_t end)
+{
+    struct peer *it = &peers[i][end];
+    uint8_t state[KRBRELAY_PEER_STATE_SIZE] = { 9 }, spelt[KRBRELAY_PEER_STATE_SIZE] = { 0x6b, 0x72, 0x73, 1 };
+    uint64_t next = 99, number = 99;
+    enum krbrelay_answer empty = UNLESS(it->m.life != NOTHING, KRBRELAY_EMPTY), expected;
+    struct krbrelay_session session = peer_session(it->m.mode, end, one_in(20) ? 1 : 0);
+    struct krbrelay_demand demand = peer_demand(end, one_in(20) ? 1 : 0);
+    int changed = one_in(20);
+    answered(krbrelay_peer_state(&it->h, &next, &number), empty, "krbrelay_peer_state");
+    answered(krbrelay_peer_export(&it->h, state), empty, "krbrelay_peer_export");
+    if (empty != KRBRELAY_OK) {
+        HOLDS(next == 99 && number == 99 && state[0] == 9);
+        return;
+    }
+    put_number(spelt + 4, it->m.number);
+    put_number(spelt + 12, it->expected);
+    HOLDS(next == it->m.number && number == it->expected && memcmp(state, spelt, sizeof state) == 0);
+    if (one_in(2))
+        return;
+    state[draw(4)] ^= (uint8_t)changed;
+    expected = FIRST_OF(of_peer_demand(&demand), UNLESS(session.first == 0 && demand.number == 0
+                                                        && !changed, KRBRELAY_ARGUMENT),
+                        UNLESS(next <= UINT32_MAX, KRBRELAY_EXHAUSTED), of_peer_session(&session));
+    answered(krbrelay_peer_resume(&it->h, it->m.etype, keys[it->m.etype & 1 ? 0 : 1],
+                                  key_size(it->m.etype), &session, &demand, state),
+             expected, "krbrelay_peer_resume");
+    if (expected != KRBRELAY_OK)
+        it->m.life = NOTHING;
+}
+
+/* With the system's clock and randomness: the message is kept nowhere, so the other end misses it. */
+static void end_peer(size_t i, size_t end)
+{
+    struct peer *it = &peers[i][end];
+    uint8_t frame[LONGEST];
+    size_t size = 0;
+    enum krbrelay_answer expected = FIRST_OF(UNLESS(it->m.life != NOTHING, KRBRELAY_EMPTY),
+                                             UNLESS(it->m.number <= UINT32_MAX, KRBRELAY_EXHAUSTED));
+    if (one_in(2)) {
+        answered(krbrelay_peer_seal_now(&it->h, (const uint8_t *)"hi", 2, frame, sizeof frame, &size),
+                 expected, "krbrelay_peer_seal_now");
+        it->m.number += expected == KRBRELAY_OK;
+        return;
+    }
+    krbrelay_peer_free(&it->h);
+    it->m.life = NOTHING;
+    calls++;
+}
+
+static void peer(size_t i)
+{
+    size_t end = draw(ENDS);
+    switch (draw(20)) {
+    case 0: case 1: make_peer(i, end); break;
+    case 2: case 3: case 4: case 5: case 6: case 7: seal_by_peer(i, end); break;
+    case 8: case 9: resume_peer(i, end); break;
+    case 10: if (one_in(4)) end_peer(i, end); break;
+    default: if (sent[i] > 0) open_by_peer(i, end); break;
+    }
 }
 
 static void ask_receiver(size_t i)
@@ -706,7 +911,7 @@ static void header(void)
 static void step(void)
 {
     size_t i = draw(HANDLES);
-    switch (draw(made == 0 ? 4 : 30)) {
+    switch (draw(made == 0 ? 4 : 36)) {
     case 0: make_sealer(i); break;
     case 1: case 2: case 4: seal(i); break;
     case 3: case 5: case 6: seal_record(i); break;
@@ -724,7 +929,8 @@ static void step(void)
     case 26: progress(); break;
     case 27: name_answers(); break;
     case 28: if (one_in(50)) ask_system(); break;
-    default: header(); break;
+    case 29: header(); break;
+    default: peer(i); break;
     }
 }
 
@@ -741,6 +947,8 @@ int main(int argc, char **argv)
         krbrelay_sealer_free(&sealers[i].h);
         krbrelay_opener_free(&openers[i].h);
         krbrelay_receiver_free(&receivers[i].h);
+        for (size_t end = 0; end < ENDS; end++)
+            krbrelay_peer_free(&peers[i][end].h);
     }
     printf("sequences: %llu calls, each answered as the model says\n", calls);
     return 0;

@@ -74,3 +74,15 @@ enum krbrelay_answer krbrelay_sealer_seal_record_now(struct krbrelay_sealer *han
     explicit_bzero(&fresh, sizeof fresh);
     return answer;
 }
+
+enum krbrelay_answer krbrelay_peer_seal_now(struct krbrelay_peer *handle, const uint8_t *user_data,
+                                            size_t len, uint8_t *frame, size_t room, size_t *size)
+{
+    struct fresh fresh;
+    enum krbrelay_answer answer = read_system(&fresh);
+    if (answer == KRBRELAY_OK)
+        answer = krbrelay_peer_seal(handle, user_data, len, &fresh.now, fresh.confounder, frame, room,
+                                    size);
+    explicit_bzero(&fresh, sizeof fresh);
+    return answer;
+}

@@ -41,6 +41,27 @@ enum krbrelay_answer krbrelay_receiver_new(struct krbrelay_receiver *handle, int
     return krbrelay_proved_receiver_new(handle, etype, key, key_len, expect, expected, closed);
 }
 
+enum krbrelay_answer krbrelay_peer_new(struct krbrelay_peer *handle, int32_t etype,
+                                       const uint8_t *key, size_t key_len,
+                                       const struct krbrelay_session *session,
+                                       const struct krbrelay_demand *demand)
+{
+    if (!krbrelay_is_supported())
+        return KRBRELAY_PROCESSOR;
+    return krbrelay_proved_peer_new(handle, etype, key, key_len, session, demand);
+}
+
+enum krbrelay_answer krbrelay_peer_resume(struct krbrelay_peer *handle, int32_t etype,
+                                          const uint8_t *key, size_t key_len,
+                                          const struct krbrelay_session *session,
+                                          const struct krbrelay_demand *demand,
+                                          const uint8_t state[KRBRELAY_PEER_STATE_SIZE])
+{
+    if (!krbrelay_is_supported())
+        return KRBRELAY_PROCESSOR;
+    return krbrelay_proved_peer_resume(handle, etype, key, key_len, session, demand, state);
+}
+
 enum krbrelay_answer krbrelay_message_header(const uint8_t *frame, size_t len,
                                              struct krbrelay_header *header)
 {

@@ -118,6 +118,29 @@ static size_t two_texts(uint8_t *batch, size_t room)
     return size;
 }
 
+static void make_peer(struct krbrelay_peer *peer)
+{
+    struct krbrelay_session session = { .mode = mode, .first = NUMBER, .sender = host(2) };
+    struct krbrelay_demand demand = { .how_sender = KRBRELAY_REQUIRED, .sender = host(1),
+                                      .how_number = KRBRELAY_REQUIRED, .number = NUMBER };
+    has_answered(krbrelay_peer_new(peer, etype, key, key_size(), &session, &demand), KRBRELAY_OK,
+                 "peer_new");
+}
+
+static void seal_by_peer(void)
+{
+    static const uint8_t state[KRBRELAY_PEER_STATE_SIZE] = { 0x6b, 0x72, 0x73, 1 };
+    struct krbrelay_session session = { .mode = mode, .sender = host(2) };
+    struct krbrelay_demand demand = { .how_number = KRBRELAY_REQUIRED };
+    struct krbrelay_peer peer = { 0 };
+    size_t size;
+    has_answered(krbrelay_peer_resume(&peer, etype, key, key_size(), &session, &demand, state),
+                 KRBRELAY_OK, "peer_resume");
+    has_answered(krbrelay_peer_seal(&peer, text, 100, &now, confounder, frame, sizeof frame, &size),
+                 KRBRELAY_OK, "peer_seal");
+    krbrelay_peer_free(&peer);
+}
+
 static void seal(void)
 {
     static const uint32_t other[] = { KRBRELAY_PRIV, KRBRELAY_SAFE };
@@ -137,6 +160,7 @@ static void seal(void)
     (void)sealed_record(&sealer, KRBRELAY_CLOSE, NULL, 0);
     krbrelay_sealer_wipe(&sealer);
     krbrelay_sealer_free(&sealer);
+    seal_by_peer();
 }
 
 /* The opener's calls, of a frame that each of them accepts or refuses. */
@@ -157,6 +181,20 @@ static void open_by_opener(size_t len, enum krbrelay_answer wanted)
                  "opener_unseal_in_place");
     krbrelay_opener_wipe(&opener);
     krbrelay_opener_free(&opener);
+}
+
+/* A frame that was accepted comes again, and its number is told. */
+static void open_by_peer(size_t len, enum krbrelay_answer wanted)
+{
+    struct krbrelay_peer peer = { 0 };
+    struct krbrelay_carried carried;
+    size_t size;
+    make_peer(&peer);
+    has_answered(krbrelay_peer_open(&peer, frame, len, &now, opened, sizeof opened, &size, &carried),
+                 wanted, "peer_open");
+    has_answered(krbrelay_peer_open(&peer, frame, len, &now, opened, sizeof opened, &size, &carried),
+                 wanted == KRBRELAY_OK ? KRBRELAY_BADORDER : wanted, "peer_open again");
+    krbrelay_peer_free(&peer);
 }
 
 static void take_by_receiver(size_t len, enum krbrelay_answer wanted)
@@ -185,6 +223,7 @@ static void open_all(uint8_t mask, enum krbrelay_answer wanted)
         krbrelay_sealer_free(&sealer);
         frame[len - 1] ^= mask;
         take_by_receiver(len, wanted);
+        open_by_peer(len, wanted);
         open_by_opener(len, wanted);
     }
 }

@@ -1,0 +1,104 @@
+"""Peers: one end of a session of user data, in both directions."""
+from __future__ import annotations
+
+import os
+from ctypes import c_uint8, c_uint64
+from typing import NamedTuple, Optional
+
+from krbrelay.errors import Code, Refusal
+from krbrelay.handle import Handle, Key
+from krbrelay.library import CONFOUNDER_SIZE, PEER_STATE_SIZE, CarriedStruct
+from krbrelay.sealer import UNUSED, confounder_of, session_struct
+from krbrelay.values import (
+    Address, Body, Bytes, Demand, Mode, Moment, body_of, bytes_of, demand_struct, moment_struct)
+
+
+class Numbers(NamedTuple):
+    """The sequence numbers of a peer, each 2**32 where none is left."""
+    next: int
+    """The one that is sealed next."""
+    expected: int
+    """The one that is expected next of the other end."""
+
+
+class Peer(Handle):
+    """One end of a session: it seals under its own sequence numbers, and opens what the other end
+    sealed in order, each message once.
+
+    `etype` and `key` are those of a Sealer. The messages of this end carry the address of the
+    `sender`, this end's, and that of the `receiver` if there is one, and begin at the number
+    `first`. Those of the other end have to meet the `demand`, whose number is the first that is
+    expected, at most 2**32, with How.REQUIRED or How.ABSENT_IS_0. One key serves both directions:
+    so the ends need different addresses, and each demands the other's.
+
+    With `state`, what `export` returned, a peer goes on where another stopped: `first` and the
+    demand's number are 0.
+
+    ValueError, TypeError, Exhausted, MemoryError, LibraryError.
+    """
+
+    _kind = "peer"
+
+    def __init__(self, etype: int, key: Key, *, mode: Mode, sender: Address, demand: Demand,
+                 first: int = 0, receiver: Optional[Address] = None,
+                 state: Optional[Bytes] = None) -> None:
+        self._draws = Mode(mode) is Mode.PRIV
+        ends = session_struct(mode, sender, first, receiver), demand_struct(demand)
+        if state is None:
+            super().__init__(etype, key, *ends)
+        else:
+            self._maker = "resume"
+            super().__init__(etype, key, *ends, _state_of(state))
+
+    def seal(self, user_data: Bytes, at: Optional[Moment] = None,
+             confounder: Optional[Bytes] = None) -> bytes:
+        """The message of the user data at the next sequence number, as Sealer.seal.
+
+        Exhausted, Freed, ValueError, TypeError, MemoryError.
+        """
+        content = bytes_of("the user data", user_data)
+        given = None if confounder is None else confounder_of(confounder)
+        drawn = given or (os.urandom(CONFOUNDER_SIZE) if self._draws else UNUSED)
+        room = self._library.krbrelay_frame_size(len(content))
+        return self._write("seal", room, content, len(content), moment_struct(at), drawn)
+
+    def open(self, frame: Bytes, at: Optional[Moment] = None) -> Body:
+        """What a message of the other end with the expected number carries. The number is one more
+        then. `at` is the moment of opening, now if it isn't given. After any exception the peer is
+        as it was.
+
+        A Refusal with Code.BADORDER is of an authentic message that meets all but the number: its
+        `number` is the one that the message carries, below the expected one of a repeat.
+
+        Refusal, Freed, ValueError, TypeError, MemoryError.
+        """
+        content, carried = bytes_of("the message", frame), CarriedStruct()
+        try:
+            user_data = self._write("open", len(content), content, len(content), moment_struct(at),
+                                    after=(carried,))
+        except Refusal as refusal:
+            if refusal.code is Code.BADORDER and carried.has_number:
+                refusal.number = carried.number
+            raise
+        return body_of(user_data, carried)
+
+    @property
+    def numbers(self) -> Numbers:
+        """The next number and the expected one. Freed."""
+        following, expected = c_uint64(), c_uint64()
+        self._call("state", following, expected)
+        return Numbers(following.value, expected.value)
+
+    def export(self) -> bytes:
+        """Both numbers, without a secret, in 20 bytes. Store them before the messages that were
+        sealed are sent: a peer that goes on from them seals no number twice. Freed."""
+        state = (c_uint8 * PEER_STATE_SIZE)()
+        self._call("export", state)
+        return bytes(state)
+
+
+def _state_of(state: Bytes) -> object:
+    content = bytes_of("the state", state)
+    if len(content) != PEER_STATE_SIZE:
+        raise ValueError(f"the state has {len(content)} bytes: it has to have {PEER_STATE_SIZE}")
+    return (c_uint8 * PEER_STATE_SIZE).from_buffer_copy(content)

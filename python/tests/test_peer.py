@@ -1,0 +1,127 @@
+import unittest
+
+from support import (
+    CONFOUNDER, KEYS, KINDS, MICROS, OTHER, PAIRS, RECEIVER, SENDER, frame_of, frames, outcome,
+    peer_of, receiver_of, sealed)
+
+import krbrelay
+from krbrelay import Body, Code, Demand, How, Mode, Numbers, Peer
+
+
+def number_of(call, *arguments):
+    """The code of the refusal, and the number that it tells."""
+    try:
+        call(*arguments)
+    except krbrelay.Refusal as refusal:
+        return refusal.code, refusal.number
+    return None
+
+
+class Directions(unittest.TestCase):
+    def test_what_is_sealed_is_of_the_independent_sealer(self):
+        for key, mode in KINDS:
+            with peer_of(key, mode, first=2**32 - 2, receiver=SENDER) as peer:
+                for number, data in ((2**32 - 2, b"hi"), (2**32 - 1, bytes(5000))):
+                    body = frames.body(data, MICROS, number, PAIRS[RECEIVER], PAIRS[SENDER])
+                    self.assertEqual(peer.seal(data, MICROS, CONFOUNDER),
+                                     sealed(key, mode, body))
+                self.assertEqual(peer.numbers, Numbers(2**32, 7))
+                self.assertRaises(krbrelay.Exhausted, peer.seal, b"")
+
+    def test_what_is_opened_is_of_the_independent_sealer(self):
+        for key, mode in KINDS:
+            with peer_of(key, mode) as peer:
+                for number in range(7, 12):
+                    frame = frame_of(key, mode, b"hi" * number, number)
+                    self.assertEqual(peer.open(frame, MICROS), Body(
+                        b"hi" * number, MICROS // 10**6, MICROS % 10**6, number, SENDER, None))
+                    self.assertEqual(peer.numbers, Numbers(7, number + 1))
+
+    def test_two_peers(self):
+        for key, mode in KINDS:
+            with peer_of(key, mode, 7, 9) as near, \
+                    peer_of(key, mode, 9, 7, here=SENDER, there=RECEIVER) as far:
+                for turn in range(3):
+                    self.assertEqual(far.open(near.seal(b"a")).number, 7 + turn)
+                    self.assertEqual(near.open(far.seal(b"b")).user_data, b"b")
+
+    def test_the_number_that_came(self):
+        for key, mode in KINDS:
+            with peer_of(key, mode, expected=8) as peer, receiver_of(key, mode, 8) as receiver:
+                for number in (7, 9, 0, 2**32 - 1):
+                    frame = frame_of(key, mode, b"Dhi", number)
+                    for call in (peer.open, receiver.take):
+                        self.assertEqual(number_of(call, frame, MICROS), (Code.BADORDER, number))
+                frame = frame_of(key, mode, b"Dhi", left_out=(0xA3,))
+                for call in (peer.open, receiver.take):
+                    self.assertEqual(number_of(call, frame, MICROS), (Code.BADORDER, None))
+                    self.assertEqual(number_of(call, b"", MICROS), (Code.MALFORMED, None))
+                self.assertEqual(peer.numbers, Numbers(7, 8))
+
+    def test_a_message_that_comes_back_to_its_maker(self):
+        for key, mode in KINDS:
+            with peer_of(key, mode) as peer:
+                self.assertEqual(outcome(peer.open, peer.seal(b"hi", MICROS), MICROS), Code.BADADDR)
+
+
+class Exports(unittest.TestCase):
+    def test_bytes(self):
+        for first, expected, digits in (
+                (0, 0, "6b727301 0000000000000000 0000000000000000"),
+                (0x1020304, 0x5060708, "6b727301 0000000001020304 0000000005060708"),
+                (2**32 - 1, 2**32, "6b727301 00000000ffffffff 0000000100000000")):
+            with peer_of(KEYS[0], Mode.PRIV, first, expected) as peer:
+                self.assertEqual(peer.export(), bytes.fromhex(digits))
+
+    def test_going_on(self):
+        for key, mode in KINDS:
+            with peer_of(key, mode, 3, 7) as peer:
+                peer.seal(b"")
+                peer.open(frame_of(key, mode, b"hi"), MICROS)
+                state = peer.export()
+            with peer_of(key, mode, 0, 0, state=state) as peer:
+                self.assertEqual(peer.numbers, Numbers(4, 8))
+                frame = frame_of(key, mode, b"again", 8)
+                self.assertEqual(peer.open(frame, MICROS).user_data, b"again")
+
+    def test_what_is_no_export(self):
+        good = bytes.fromhex("6b727301 0000000000000004 0000000000000008")
+        for state in (b"", good[:-1], good + b"\0", b"x" + good[1:], good[:3] + b"\2" + good[4:],
+                      good[:12] + b"\1" + good[13:]):
+            with self.assertRaises(ValueError):
+                peer_of(KEYS[0], Mode.PRIV, 0, 0, state=state)
+        for first, expected in ((4, 0), (0, 8)):
+            with self.assertRaises(ValueError):
+                peer_of(KEYS[0], Mode.PRIV, first, expected, state=good)
+        with self.assertRaises(TypeError):
+            peer_of(KEYS[0], Mode.PRIV, 0, 0, state="state")
+        with self.assertRaises(krbrelay.Exhausted):
+            peer_of(KEYS[0], Mode.PRIV, 0, 0,
+                    state=good[:4] + (2**32).to_bytes(8, "big") + good[12:])
+
+
+class Arguments(unittest.TestCase):
+    def test_demands(self):
+        for demand in (Demand(), Demand(number=7, how_number=How.IF_PRESENT),
+                       Demand(number=2**32 + 1)):
+            with self.assertRaises(ValueError):
+                Peer(17, KEYS[0], mode=Mode.PRIV, sender=OTHER, demand=demand)
+        with self.assertRaises(TypeError):
+            Peer(17, KEYS[0], mode=Mode.PRIV, sender=OTHER, demand=None)
+
+    def test_an_absent_number_is_0(self):
+        frame = frame_of(KEYS[0], Mode.SAFE, b"hi", left_out=(0xA3,))
+        demand = Demand(number=0, how_number=How.ABSENT_IS_0)
+        with Peer(17, KEYS[0], mode=Mode.SAFE, sender=OTHER, demand=demand) as peer:
+            self.assertEqual(peer.open(frame, MICROS).user_data, b"hi")
+            self.assertEqual(peer.numbers, Numbers(0, 1))
+
+    def test_confounders(self):
+        with peer_of(KEYS[0], Mode.PRIV) as peer:
+            for wrong in (b"", bytes(15), bytes(17)):
+                self.assertRaises(ValueError, peer.seal, b"hi", MICROS, wrong)
+            self.assertEqual(peer.numbers, Numbers(7, 7))
+
+
+if __name__ == "__main__":
+    unittest.main()
