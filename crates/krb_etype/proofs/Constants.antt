@@ -1,5 +1,5 @@
 -- The constants of key derivation, n-folded: computed from the definition of n-fold.
-use Rattle.std.proofs.Common.{◌≡◌, ℕ, List, refl, sym, ap, ◌∙◌}
+use Rattle.std.proofs.Common.{◌≡◌, ℕ, List, refl, ap}
 use Rattle.krb_keys.specs.Nfold.{number, lcm, rotated, repeated, sum_of_pieces, end_around, nfold}
 use Rattle.krb_keys.specs.Derivation.{constant, dk, dr}
 use Rattle.krb_etype.specs.declared.derived.TheConstants.{CHECKSUM_CONSTANT, ENCRYPTION_CONSTANT, INTEGRITY_CONSTANT}

@@ -1,6 +1,6 @@
-use Rattle.std.proofs.Common.{◌≡◌, ap, ◌∙◌}
+use Rattle.std.proofs.Common.{ap, ◌∙◌}
 use Rattle.krb_keys.specs.Nfold.{nfold}
-use Rattle.krb_keys.specs.Derivation.{constant, dk, dr}
+use Rattle.krb_keys.specs.Derivation.{dk, dr}
 use Rattle.krb_keys.proofs.derivation.derive.Goals as goal
 
 pub returns-clause-value : goal.returns-clause-value
