@@ -5,6 +5,7 @@ use Rattle.krb_seal.specs.declared.session.Mode.{Mode}
 use Rattle.krb_seal.specs.Opens.{OpenerState}
 use Rattle.krb_peers.specs.ReceiverState.{ReceiverState}
 use Rattle.krb_structs.specs.declared.moment.KrbMoment.{KrbMoment}
+use Rattle.krb_structs.specs.Number.{TellsItsNumber}
 use Rattle.krb_structs.specs.Opening.{HeldOpener}
 use Rattle.krb_structs.specs.Record.{Accepts, SealsRecord}
 use Rattle.krb_structs.specs.Sealing.{SizesNext}
@@ -62,6 +63,16 @@ abbrev pub AcceptsTo : Option ReceiverState → ℕ → List ℕ → ℕ → Lis
 AcceptsTo None now frame kind body new = ⊥
 AcceptsTo (Some old) now frame kind body None = ⊥
 AcceptsTo (Some old) now frame kind body (Some new) = Accepts old now frame kind body new
+
+-- the handle holds a receiver, which demands this number
+abbrev pub IsDemanded : Option ReceiverState → ℕ → Type 0
+IsDemanded None number = ⊥
+IsDemanded (Some s) number = number ≡ s.demand.expected
+
+-- the handle holds a receiver, and this is told of the number at which a frame opens
+abbrev pub TellsNumberTo : Option ReceiverState → ℕ → List ℕ → ℕ → Type 0
+TellsNumberTo None now frame told = ⊥
+TellsNumberTo (Some s) now frame told = TellsItsNumber s.opener now frame told
 
 -- a handle with an opener whose keys are overwritten
 abbrev pub opener_wiped_if : HeldOpener → HeldOpener

@@ -3,7 +3,7 @@
 
 ghost use Rattle.std.specs.Prelude.{◌≡◌, ◌≤◌, drop, length, take, None};
 ghost use Rattle.krb_seal.specs.Opens.{opener_of};
-ghost use Rattle.krb_c.specs.Exports.{Demands, IsDemanding, AcceptsTo};
+ghost use Rattle.krb_c.specs.Exports.{Demands, IsDemanded, IsDemanding, AcceptsTo, TellsNumberTo};
 ghost use Rattle.krb_structs.specs.Moment.{micros_of};
 ghost use Rattle.krb_structs.specs.Reasons.{ReceiverAnswer, TakeAnswer};
 ghost use Rattle.krb_structs.specs.Session.{IsExpect, expect_of, is_set};
@@ -71,6 +71,50 @@ pub extern "C" fn krbrelay_receiver_take(
         return Fault::Empty.code();
     };
     let taken = receiver.take(alloc, frame, at, out);
+    handle.put(alloc, receiver);
+    match taken {
+        Ok((found, written)) => {
+            *kind = found;
+            *size = written;
+            0
+        }
+        Err(fault) => fault.code(),
+    }
+}
+
+/// Takes a frame as `krbrelay_receiver_take` does, and tells its number. If its number is all that the
+/// frame is refused by (42), it tells the one at which the frame opens, and the highest of 64 bits if it
+/// opens at none. With another answer it tells no number.
+#[unsafe(no_mangle)]
+pub extern "C" fn krbrelay_receiver_take_numbered(
+    alloc: Global,
+    handle: &mut KrbReceiver,
+    frame: &[u8],
+    at: &KrbMoment,
+    kind: &mut u32,
+    out: &mut [u8],
+    size: &mut usize,
+    number: &mut u64,
+) -> u32
+    ensures accepted { result ≡ 0 → AcceptsTo handle.old.receiver (micros_of at.now) frame.now
+        kind.new (take size.new out.new) handle.new.receiver }
+    ensures size { result ≡ 0 → size.new ≤ length out.new }
+    ensures rest { result ≡ 0 → drop size.new out.new ≡ drop size.new out.old }
+    ensures number { result ≡ 0 → IsDemanded handle.old.receiver number.new }
+    ensures misordered { result ≡ 42 → TellsNumberTo handle.old.receiver (micros_of at.now)
+        frame.now number.new }
+
+    ensures unchanged { ¬ (result ≡ 0) → handle.new.receiver ≡ handle.old.receiver }
+    ensures out_kept { ¬ (result ≡ 0) → out.new ≡ out.old }
+    ensures size_kept { ¬ (result ≡ 0) → size.new ≡ size.old }
+    ensures kind_kept { ¬ (result ≡ 0) → kind.new ≡ kind.old }
+    ensures number_kept { ¬ (result ≡ 0) → ¬ (result ≡ 42) → number.new ≡ number.old }
+    ensures answer { TakeAnswer handle.old.receiver at.now frame.now (length out.old) result }
+{
+    let Some(mut receiver) = handle.take(alloc) else {
+        return Fault::Empty.code();
+    };
+    let taken = receiver.take_numbered(alloc, frame, at, out, number);
     handle.put(alloc, receiver);
     match taken {
         Ok((found, written)) => {

@@ -1,6 +1,6 @@
 -- The number of a frame that is refused by its number.
 use Rattle.std.proofs.Common.{◌≡◌, ℕ, Bool, true, false, List, [], ◌∷◌, length, Option, Some, None, Result, Ok, Err, refl, sym, ap, subst, ◌∙◌, inl, inr}
-use Rattle.std.specs.Prelude.{◌⊎◌, IfErr}
+use Rattle.std.specs.Prelude.{IfErr}
 use Rattle.std.specs.Global.{Vec}
 use Rattle.std.proofs.lemmas.Bool.{eq-eqb, le-leb}
 use Rattle.krb_base.specs.Limits.{frame_limit}
@@ -14,8 +14,8 @@ use Rattle.krb_seal.specs.declared.session.Expect.{Expect}
 use Rattle.krb_seal.specs.declared.refusal.Refusal.{Refusal}
 use Rattle.krb_seal.specs.declared.refusal.Refusal.TheVariants.{BadVersion, MsgType, InappCksum, BadAddr, Skew, BadOrder, Modified, Memory}
 use Rattle.krb_seal.specs.declared.unopened.Unopened.{Unopened}
-use Rattle.krb_seal.specs.Opens.{OpenerState, Opens, Read, safe_checks, body_checks, is_number}
-use Rattle.krb_seal.specs.OpensParts.{Checks, OpensPart, frame_checks}
+use Rattle.krb_seal.specs.Opens.{OpenerState, Read, safe_checks, body_checks, is_number}
+use Rattle.krb_seal.specs.OpensParts.{OpensPart, frame_checks}
 use Rattle.krb_seal.specs.Authentic.{Authenticity, Authenticates, AuthenticMessage, AuthenticOrMemory, GivesBody, authentic_checks}
 use Rattle.krb_seal.specs.Number.{OpensAt, IsItsNumber, TellsNumber}
 use Rattle.krb_seal.specs.NumberInside.{FitsButForNumber, IsNumberOf, IsAuthenticNumber, TellsOfBody, TellsOfMessage}

@@ -1,6 +1,4 @@
-use Rattle.std.proofs.Common.{◌≡◌, ℕ, List, Result, Ok, Err, subst}
 use Rattle.krb_seal.specs.Opens.{Opens}
-use Rattle.krb_seal.specs.Unseals.{OrMemory, untold}
 use Rattle.krb_seal.proofs.Checking.{refusal_alone}
 use Rattle.krb_seal.proofs.opener.Opener.unseal.Goals as goal
 

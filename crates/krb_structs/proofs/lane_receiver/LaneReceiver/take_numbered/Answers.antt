@@ -1,13 +1,16 @@
-use Rattle.std.proofs.Common.{◌∙◌, ℕ, List, Some, Err, subst, sym, ap, drop, length, take, inl, inr, refl, arith}
+use Rattle.std.proofs.Common.{◌≡◌, ◌∙◌, ℕ, List, Some, Err, subst, sym, ap, drop, length, take, inl, inr, refl, arith}
 use Rattle.std.proofs.lemmas.List.{take_rest}
 use Rattle.krb_record.specs.Record.{number_of}
 use Rattle.krb_peers.specs.ReceiverState.{ReceiverState}
 use Rattle.krb_peers.specs.Receiver.{IsJudgement, OpensRecord, TakesMemory}
-use Rattle.krb_structs.specs.declared.fault.Fault.TheVariants.{Room}
+use Rattle.krb_structs.specs.declared.fault.Fault.TheVariants.{Refused, Room}
 use Rattle.krb_structs.specs.Moment.{micros_of}
 use Rattle.krb_structs.specs.Fault.{fault_code}
 use Rattle.krb_structs.specs.Record.{Accepts}
 use Rattle.krb_structs.specs.Reasons.{TakeAnswer}
+use Rattle.krb_seal.specs.declared.refusal.Refusal.TheVariants.{BadOrder}
+use Rattle.krb_structs.specs.Number.{TellsItsNumber}
+use Rattle.krb_structs.proofs.Refusals.{is_order}
 use Rattle.krb_structs.proofs.Answering.{answer_is, timed}
 use Rattle.krb_structs.proofs.ReceiverLemmas.{accepts_of, take_answer, take_refused}
 use Rattle.krb_structs.proofs.lane_receiver.LaneReceiver.take_numbered.Goals as goal
@@ -45,3 +48,9 @@ returns-clause-accepted c =
     let accepts = accepts_of s now frame opened written next o (c.in_ok-size.ensures.written ∙ take_rest c.as_slice.result.now 1 ∙ ap (drop 1) c.as_slice.ensures) (c.accept.ensures o.0 o.3) in
     rw c.number.ensures (subst (λ (z : ReceiverState). Accepts z (micros_of c.args.at.now) frame (number_of opened.kind) written next) c.self.view_is
     (subst (λ (m : ℕ). Accepts s m frame (number_of opened.kind) written next) c.in_ok-now.ensures.value accepts))
+
+pub returns-in_err-opened-clause-misordered : goal.returns-in_err-opened-clause-misordered
+returns-in_err-opened-clause-misordered c e =
+    let r = c.in_err-opened.field-0.0 in
+    let order : r ≡ BadOrder = is_order r (sym (answer_is c.from_residual-in_err-opened.result (Refused r) c.from_residual-in_err-opened.ensures.1) ∙ e) in
+    subst (λ (m : ℕ). TellsItsNumber c.args.self.now.opener m c.args.frame.now c.open.new.number) c.in_ok-now.ensures.value (c.in_err-opened.ensures.misordered (ap Err order))
