@@ -23,4 +23,4 @@ returns-in-Ok-clause-answer c =
     subst (λ (s : Option ReceiverState). TakeAnswer s at frame room 0) (sym c.in-Some.ensures.taken) held
 
 pub returns-in-Err-clause-number_kept : goal.returns-in-Err-clause-number_kept
-returns-in-Err-clause-number_kept c = λ failed other. c.in-Err.ensures.untold (λ e. other (c.code-in-Err.ensures ∙ ap fault_code e))
+returns-in-Err-clause-number_kept c = λ failed other. c.in-Err.ensures.untold (λ e. other (c.code-in-Err.ensures.value ∙ ap fault_code e))
