@@ -2,7 +2,7 @@ use Rattle.std.proofs.Common.{◌≡◌, ◌∙◌, ℕ, List, Some, Err, subst,
 use Rattle.std.proofs.lemmas.List.{take_rest}
 use Rattle.krb_record.specs.Record.{number_of}
 use Rattle.krb_peers.specs.ReceiverState.{ReceiverState}
-use Rattle.krb_peers.specs.Receiver.{IsJudgement, OpensRecord, TakesMemory}
+use Rattle.krb_peers.specs.Receiver.{OpensRecord}
 use Rattle.krb_structs.specs.declared.fault.Fault.TheVariants.{Refused, Room}
 use Rattle.krb_structs.specs.Moment.{micros_of}
 use Rattle.krb_structs.specs.Fault.{fault_code}
