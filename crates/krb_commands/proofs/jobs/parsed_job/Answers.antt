@@ -1,4 +1,4 @@
-use Rattle.std.proofs.Common.{rules, arith, ◌∙◌}
+use Rattle.std.proofs.Common.{rules, arith}
 use Rattle.std.proofs.lemmas.Grind.{common_steps}
 use Rattle.krb_commands.proofs.ParsedLemmas.{reads_parsed, job_parsed, bad_parsed}
 use Rattle.krb_commands.proofs.jobs.parsed_job.Goals as goal

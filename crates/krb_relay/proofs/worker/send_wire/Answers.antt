@@ -1,6 +1,5 @@
 -- An emission more, and what was sent until the worker stopped.
-use Rattle.std.proofs.Common.{◌≡◌, ◌++◌, ◌∷◌, [], inl, inr, refl, ap, sym, ◌∙◌, rules, arith}
-use Rattle.std.proofs.lemmas.List.{take_all}
+use Rattle.std.proofs.Common.{◌≡◌, ◌++◌, ◌∷◌, [], inl, inr, refl, ap, sym, ◌∙◌, rules}
 use Rattle.krb_relay.proofs.SentLemmas.{sent_more, sent_front}
 use Rattle.krb_relay.proofs.worker.send_wire.Goals as goal
 

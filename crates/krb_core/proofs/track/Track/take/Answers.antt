@@ -1,5 +1,5 @@
 -- A take is the event of the lane, and what a verdict or the end leaves.
-use Rattle.std.proofs.Common.{◌≡◌, ◌+◌, ◌<◌, ◌≤◌, length, slice_get, Some, None, ap, subst, ◌∙◌, arith}
+use Rattle.std.proofs.Common.{◌≡◌, ◌+◌, ◌<◌, ◌≤◌, length, ap, subst, ◌∙◌, arith}
 use Rattle.std.proofs.lemmas.Option.{slice_get_past}
 use Rattle.krb_core.specs.Track.{TrackState, after_take, log_after, LogsFront, HasFrameFirst}
 use Rattle.krb_core.proofs.SteppedLemmas.{on_err}
