@@ -201,12 +201,16 @@ static void take_by_receiver(size_t len, enum krbrelay_answer wanted)
 {
     const struct krbrelay_expect demands = expected();
     struct krbrelay_receiver receiver = { 0 };
+    uint64_t number;
     uint32_t kind;
     size_t size;
     has_answered(krbrelay_receiver_new(&receiver, etype, key, key_size(), &demands, NUMBER, 0),
                  KRBRELAY_OK, "receiver_new");
     has_answered(krbrelay_receiver_take(&receiver, frame, len, &now, &kind, opened, sizeof opened, &size),
                  wanted, "receiver_take");
+    has_answered(krbrelay_receiver_take_numbered(&receiver, frame, len, &now, &kind, opened, sizeof opened,
+                                                 &size, &number),
+                 wanted == KRBRELAY_OK ? KRBRELAY_BADORDER : wanted, "receiver_take_numbered");
     krbrelay_receiver_free(&receiver);
 }
 
