@@ -73,6 +73,7 @@ class Part:
     minutes: int    # its limit
     needs: tuple = ()
     after: str = ""     # the part that has to have ended before it begins
+    is_early: bool = False      # whether it needs nothing that `rt ci` builds
 
     def name(self):
         return self.command.replace(" ", "_").replace("/", "_")
@@ -94,16 +95,16 @@ LIBRARY = Part("tools/c_library --core", 30, ("rt", COMPILER, CRYPTOGRAPHY, MAKE
 PARTS = [
     LIBRARY,
     Part("tools/python", 20, (COMPILER, CRYPTOGRAPHY), LIBRARY.command),
-    Part("tools/quotes", 1),
-    Part("tools/reference --check", 1),
-    Part("tools/test_reference", 1),
-    Part("tools/test_tables", 1),
-    Part("tools/test_jobs", 1, (CRYPTOGRAPHY,)),
-    Part("tools/vector_tables.py --check", 1),
-    Part("tools/test_building", 5, (COMPILER, CRYPTOGRAPHY)),
-    Part("tools/test_parts", 5, (COMPILER, CRYPTOGRAPHY, MAKE, SQLITE)),
-    Part("tools/test_picture", 2),
-    Part("tools/figure --check", 1),
+    Part("tools/quotes", 1, is_early=True),
+    Part("tools/reference --check", 1, is_early=True),
+    Part("tools/test_reference", 1, is_early=True),
+    Part("tools/test_tables", 1, is_early=True),
+    Part("tools/test_jobs", 1, (CRYPTOGRAPHY,), is_early=True),
+    Part("tools/vector_tables.py --check", 1, is_early=True),
+    Part("tools/test_building", 5, (COMPILER, CRYPTOGRAPHY), is_early=True),
+    Part("tools/test_parts", 5, (COMPILER, CRYPTOGRAPHY, MAKE, SQLITE), is_early=True),
+    Part("tools/test_picture", 2, is_early=True),
+    Part("tools/figure --check", 1, is_early=True),
     Part("tools/picture --check", 1, (PROGRAM,)),
     Part("tools/test_program", 3, (PROGRAM, COMPILER)),
     Part("tools/test_install", 1, (PROGRAM,)),

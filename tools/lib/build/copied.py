@@ -53,6 +53,7 @@ check)
 ci)
     note "begin ci"
     cat "$SAYS"; [ -z "$CHANGES" ] || echo >> "$CHANGES"
+    [ -z "$CI_SLEEPS" ] || sleep "$CI_SLEEPS"
     note "end ci"
     exit "${CI_STATUS:-0}" ;;
 esac
