@@ -91,9 +91,11 @@ FIRST = Part("tools/wrong_bodies", 2, ("rt",))
 GATE = Part("rt ci", 174, ("rt",))
 BUILD = Part("tools/krbrelay --prove", 60, ("rt",))
 # The first builds the C library, which those after it take then.
-LIBRARY = Part("tools/c_library --core", 30, ("rt", COMPILER, CRYPTOGRAPHY, MAKE, SQLITE))
+LIBRARY = Part("tools/c_library --build", 30, ("rt", COMPILER, MAKE))
 PARTS = [
     LIBRARY,
+    Part("tools/c_library --core", 20, ("rt", COMPILER, CRYPTOGRAPHY, MAKE, SQLITE),
+         LIBRARY.command),
     Part("tools/python", 20, (COMPILER, CRYPTOGRAPHY), LIBRARY.command),
     Part("tools/quotes", 1, is_early=True),
     Part("tools/reference --check", 1, is_early=True),
