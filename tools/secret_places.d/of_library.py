@@ -15,7 +15,9 @@ CONTROL = 3             # the places of the part `control`: one of each secret
 # the uses of the outcome in each of the seven calls, whose answer it is.
 OUTCOMES = {"safe": 13, "priv": 1}
 # What holds decrypted bytes before their code is compared, and the calls of the library.
-HOLDERS = ("krb_seal.opening.", "krb_structs.lane_receiver.", "krbrelay_")
+HOLDERS = ("krb_seal.opening.", "krbrelay_")
+# What uses the outcome, and then reads the record in a text whose code was right.
+RECEIVERS = ("krb_structs.lane_receiver.",)
 # What may read a text whose code was right.
 READERS = ("krb_der.", "krb_tlv.", "krb_time.", "krb_seal.checks.check_body",
            "krb_structs.opening.open_telling", "core.cmp.", "std_alloc.vec.", "malloc", "memmove")
@@ -51,7 +53,7 @@ class Calls:
         """A part has so many places, each in what may have some. Returns them."""
         places = self.places(part)
         self.count.told(len(places) == wanted and (part == "control" or all(
-            it.is_of(HOLDERS) for it in places)),
+            it.is_of(HOLDERS + RECEIVERS) for it in places)),
             f"{part}, {self.what}: {len(places)} places depend on a secret, and {wanted} have to",
             memcheck.by_function(places))
         return places
@@ -61,7 +63,8 @@ class Calls:
         places = self.places("open")
         reached = memcheck.reached([self.program, "refuse", *self.words])
         before = {it for it in places if it.is_of(HOLDERS) and it.at in reached}
-        wrong = before - outcomes | {it for it in places - before if not it.is_of(HOLDERS + READERS)}
+        wrong = before - outcomes | {it for it in places - before
+                                     if not it.is_of(HOLDERS + RECEIVERS + READERS)}
         self.count.check(f"refuse, {self.what}: its places are instructions of its run",
                          {it.at for it in outcomes} <= reached)
         self.count.told(before and not wrong,
