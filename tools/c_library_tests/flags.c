@@ -53,7 +53,7 @@ static struct krbrelay_moment read_clock(void)
 
 /* What a program that has MIT's flags demands of a message: the time where MIT checks it, and the
  * number where MIT checks it. */
-static struct krbrelay_demand demand_of(int flags, uint64_t number)
+static struct krbrelay_demand flagged_demand(int flags, uint64_t number)
 {
     struct krbrelay_demand d = { 0 };
     if (flags & DO_TIME) {
@@ -119,7 +119,7 @@ static int mit_to_ours(uint32_t mode, int etype, int flags, enum krbrelay_answer
     for (unsigned i = 0; i < MESSAGES; i++) {
         krb5_data in = { KV5M_DATA, sizeof text, (char *)(uintptr_t)text }, out = { 0 };
         krb5_replay_data replay = { 0 };
-        struct krbrelay_demand demand = demand_of(flags, i);
+        struct krbrelay_demand demand = flagged_demand(flags, i);
         struct krbrelay_moment now;
         struct krbrelay_carried c;
         size_t size = 0;
