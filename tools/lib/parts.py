@@ -4,6 +4,7 @@ import functools
 import os
 import shutil
 import subprocess
+import typing
 
 from lib import scripts
 from lib.build import building, c_tools, unproved
@@ -73,7 +74,9 @@ class Part:
     minutes: int    # its limit
     needs: tuple = ()
     after: str = ""     # the part that has to have ended before it begins
-    is_early: bool = False      # whether it needs nothing that `rt ci` builds
+    # The crates on which what it runs is built: once `rt ci` has proved these, it may begin beside it.
+    # None: it begins after it.
+    over: typing.Optional[tuple] = None
 
     def name(self):
         return self.command.replace(" ", "_").replace("/", "_")
@@ -91,22 +94,22 @@ FIRST = Part("tools/wrong_bodies", 2, ("rt",))
 GATE = Part("rt ci", 174, ("rt",))
 BUILD = Part("tools/krbrelay --prove", 60, ("rt",))
 # The first builds the C library, which those after it take then.
-LIBRARY = Part("tools/c_library --build", 30, ("rt", COMPILER, MAKE))
+LIBRARY = Part("tools/c_library --build", 30, ("rt", COMPILER, MAKE), over=("krb_c",))
 PARTS = [
     LIBRARY,
     Part("tools/c_library --core", 20, ("rt", COMPILER, CRYPTOGRAPHY, MAKE, SQLITE),
-         LIBRARY.command),
-    Part("tools/python", 20, (COMPILER, CRYPTOGRAPHY), LIBRARY.command),
-    Part("tools/quotes", 1, is_early=True),
-    Part("tools/reference --check", 1, is_early=True),
-    Part("tools/test_reference", 1, is_early=True),
-    Part("tools/test_tables", 1, is_early=True),
-    Part("tools/test_jobs", 1, (CRYPTOGRAPHY,), is_early=True),
-    Part("tools/vector_tables.py --check", 1, is_early=True),
-    Part("tools/test_building", 5, (COMPILER, CRYPTOGRAPHY), is_early=True),
-    Part("tools/test_parts", 5, (COMPILER, CRYPTOGRAPHY, MAKE, SQLITE), is_early=True),
-    Part("tools/test_picture", 2, is_early=True),
-    Part("tools/figure --check", 1, is_early=True),
+         LIBRARY.command, over=()),
+    Part("tools/python", 20, (COMPILER, CRYPTOGRAPHY), LIBRARY.command, over=()),
+    Part("tools/quotes", 1, over=()),
+    Part("tools/reference --check", 1, over=()),
+    Part("tools/test_reference", 1, over=()),
+    Part("tools/test_tables", 1, over=()),
+    Part("tools/test_jobs", 1, (CRYPTOGRAPHY,), over=()),
+    Part("tools/vector_tables.py --check", 1, over=()),
+    Part("tools/test_building", 5, (COMPILER, CRYPTOGRAPHY), over=()),
+    Part("tools/test_parts", 5, (COMPILER, CRYPTOGRAPHY, MAKE, SQLITE), over=()),
+    Part("tools/test_picture", 2, over=()),
+    Part("tools/figure --check", 1, over=()),
     Part("tools/picture --check", 1, (PROGRAM,)),
     Part("tools/test_program", 3, (PROGRAM, COMPILER)),
     Part("tools/test_install", 1, (PROGRAM,)),
@@ -118,8 +121,9 @@ PARTS = [
     Part("tools/carrier", 30, (PROGRAM, "rt", COMPILER, MAKE, SQLITE), LIBRARY.command),
     Part("tools/fuzz 2000", 5, (PROGRAM, CRYPTOGRAPHY)),
     Part("tools/test_bench", 30, ("rt",)),
-    Part("tools/secret_places", 60, ("rt", COMPILER, "valgrind")),
-    Part("tools/secret_places --library", 20, ("rt", COMPILER, MAKE, "valgrind"), LIBRARY.command),
+    Part("tools/secret_places", 60, ("rt", COMPILER, "valgrind"), over=("krb_seal",)),
+    Part("tools/secret_places --library", 20, ("rt", COMPILER, MAKE, "valgrind"), LIBRARY.command,
+         over=()),
 ]
 MORE = [
     Part("tools/quotes --typed", 10, (PROGRAM, "rt", COMPILER, MAKE, PKG_CONFIG, SQLITE)),

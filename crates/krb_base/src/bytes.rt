@@ -1,26 +1,28 @@
-//! Byte strings, and a part of one in its own block.
+//! Byte strings, each a part of its block.
 
 ghost use Rattle.std.specs.Prelude.{◌≡◌, ◌≤◌, ◌-◌, drop, length, take};
 ghost use Rattle.krb_base.specs.Bytes.{AreBytes};
 
 use std::alloc::AllocError;
 use std::collections::VecDeque;
+use std::fmt;
 use std::marker::Model;
 
 /// A byte string on the heap, which contracts see as the list of its bytes.
 ///
-/// Neither making one nor giving its `Vec` back allocates; a clone does.
-#[derive(Debug, Drop)]
+/// It may be a part of its block, and then it lies where it lay in the whole. Only a clone allocates.
+#[derive(Drop)]
 pub struct Bytes {
     vec: Vec<u8>,
+    start: usize,
 }
 
 impl Model for Bytes {
-    ghost use Rattle.std.specs.Prelude.{List, ℕ};
+    ghost use Rattle.std.specs.Prelude.{List, ℕ, drop};
 
     ghost Value = { List ℕ };
 
-    ghost view = { λ b. b.vec.items };
+    ghost view = { λ b. drop b.start b.vec.items };
 }
 
 impl Bytes {
@@ -28,22 +30,59 @@ impl Bytes {
     pub fn new(vec: Vec<u8>) -> Bytes
         ensures { result ≡ vec.items }
     {
-        Self { vec }
+        Self { vec, start: 0 }
+    }
+
+    /// The bytes of `vec` from `start` on.
+    pub(crate) fn within(vec: Vec<u8>, start: usize) -> Bytes
+        requires { start ≤ length vec.items }
+        ensures { result ≡ drop start vec.items }
+    {
+        Self { vec, start }
+    }
+
+    /// Its block, and where in it the bytes begin.
+    pub(crate) fn into_parts(self) -> (Vec<u8>, usize)
+        ensures within { result.1 ≤ length result.0.items }
+        ensures bytes { drop result.1 result.0.items ≡ self }
+    {
+        let Bytes { vec, start } = self;
+        let start = start.min(vec.len());
+        (vec, start)
     }
 
     /// The bytes as a slice.
     pub fn as_slice(&self) -> &[u8]
         ensures { result.now ≡ self.now }
     {
-        self.vec.as_slice()
+        &self.vec[self.start.min(self.vec.len())..]
     }
 
-    /// The bytes as the `Vec` that they were made from.
+    /// The bytes from `start` up to `end`, where they lie: nothing is moved or overwritten.
+    pub fn cut(self, start: usize, end: usize) -> Bytes
+        requires order { start ≤ end }
+        requires within { end ≤ length self }
+        ensures part { result ≡ take (end - start) (drop start self) }
+    {
+        let (mut vec, front) = self.into_parts();
+        vec.truncate(front + end);
+        Bytes {
+            vec,
+            start: front + start,
+        }
+    }
+
+    /// The bytes as a `Vec` in their block: what doesn't begin the block is moved there, in one move.
     pub fn into_vec(self) -> Vec<u8>
         ensures { result.items ≡ self }
     {
-        let Bytes { vec } = self;
-        vec
+        let (vec, start) = self.into_parts();
+        if start == 0 {
+            return vec;
+        }
+        let mut bytes = VecDeque::from(vec);
+        bytes.drain(..start);
+        Vec::from(bytes)
     }
 }
 
@@ -52,23 +91,16 @@ impl Clone for Bytes {
     ghost is_clone = { λ bytes copy. copy ≡ bytes };
 
     fn clone(&self) -> Result<Bytes, AllocError> {
-        Ok(Bytes {
-            vec: self.vec.clone()?,
-        })
+        let vec = Vec::from_slice(*self.vec.allocator(), self.as_slice())?;
+        Ok(Bytes::new(vec))
     }
 }
 
-/// The bytes from `start` up to `end`, in the block in which they are: they are moved to its
-/// beginning in one move, and nothing is allocated.
-pub fn cut_out(bytes: Vec<u8>, start: usize, end: usize) -> Vec<u8>
-    requires order { start ≤ end }
-    requires within { end ≤ length bytes.items }
-    ensures part { result.items ≡ take (end - start) (drop start bytes.items) }
-{
-    let mut bytes = VecDeque::from(bytes);
-    bytes.truncate(end);
-    bytes.drain(..start);
-    Vec::from(bytes)
+/// Shows the bytes, and nothing else of their block.
+impl fmt::Debug for Bytes {
+    fn fmt<W: fmt::Write>(&self, f: &mut fmt::Formatter<W>) -> fmt::Result {
+        fmt::Debug::fmt(&self.as_slice(), f)
+    }
 }
 
 /// A law, and no work: the elements of a slice of bytes are bytes, as their type says.

@@ -15,7 +15,7 @@ mod limits;
 mod prefix;
 mod secret;
 
-pub use bytes::{Bytes, cut_out, known_bytes};
+pub use bytes::{Bytes, known_bytes};
 pub use lane::lane_laws;
 pub use limits::{
     ADDRESS_LIMIT, BATCH_LIMIT, BATCH_SIZE_LIMIT, CAPACITY_LIMIT, ENTRIES_LIMIT, FRAME_LIMIT,

@@ -69,7 +69,7 @@ abbrev pub IsDemanded : Option ReceiverState → ℕ → Type 0
 IsDemanded None number = ⊥
 IsDemanded (Some s) number = number ≡ s.demand.expected
 
--- the handle holds a receiver, and this is told of the number at which a frame opens
+-- the handle holds a receiver, and C gets this for the number at which a frame opens
 abbrev pub TellsNumberTo : Option ReceiverState → ℕ → List ℕ → ℕ → Type 0
 TellsNumberTo None now frame told = ⊥
 TellsNumberTo (Some s) now frame told = TellsItsNumber s.opener now frame told

@@ -14,7 +14,7 @@ ghost use Rattle.krb_der.specs.Writing.{IsShortBody};
 
 use crate::body::{Body, BodyRef, read_body, read_details, split_data};
 use crate::tag;
-use krb_base::{Bytes, FRAME_LIMIT, Secret, cut_out, known_bytes};
+use krb_base::{FRAME_LIMIT, Secret, known_bytes};
 use krb_tlv::{DerError, Writer, only_element, size_around};
 use std::alloc::{AllocError, Global};
 
@@ -130,8 +130,8 @@ pub fn decode_part(alloc: Global, bytes: &[u8]) -> Result<Body, DerError>
     read_part(alloc, bytes)
 }
 
-/// The same as `read_part` of the bytes from `start` on; its data keep the block of the bytes, and
-/// the block is overwritten if there is no body.
+/// The same as `read_part` of the bytes from `start` on; its data stay where they lie in the bytes'
+/// block, and the block is overwritten if there is no body.
 fn take_part(alloc: Global, bytes: Secret, start: usize) -> Result<Body, DerError>
     requires { start ≤ length bytes }
     ensures { Gives (λ x. x) result (part_of (drop start bytes)) }
@@ -140,14 +140,13 @@ fn take_part(alloc: Global, bytes: Secret, start: usize) -> Result<Body, DerErro
     let details = read_details(alloc, following)?;
     let end = bytes.as_slice().len() - following.len();
     let front = end - data.len();
-    let data = cut_out(bytes.into_vec(alloc), front, end);
-    Ok(details.with(Bytes::new(data)))
+    let data = bytes.into_bytes(alloc).cut(front, end);
+    Ok(details.with(data))
 }
 
 /// The body that the bytes from `start` on spell as the encrypted part of KRB-PRIV, as
-/// [`decode_part`] gives it. Its data stay in the block of the bytes: they are moved to its
-/// beginning, and nothing is allocated for them. If there is no body, the block is overwritten before
-/// it is freed, since it holds what was deciphered.
+/// [`decode_part`] gives it. Its data stay where they lie: nothing is moved or allocated for them. If
+/// there is no body, the block is overwritten before it is freed, since it holds what was deciphered.
 pub fn decode_part_from(alloc: Global, bytes: Vec<u8>, start: usize) -> Result<Body, DerError>
     requires { start ≤ length bytes.items }
     ensures answer { Decodes SpellsPart result (drop start bytes.items) }

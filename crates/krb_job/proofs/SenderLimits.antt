@@ -1,33 +1,65 @@
 -- What the checks of a sender let through keeps the limits of a job's types.
-use Rattle.std.proofs.Common.{◌≡◌, ◌≤◌, ◌<◌, ℕ, nat_le, Bool, true, false, ◌&&◌, List, [], ◌∷◌, length, Option, Some, None, Result, Ok, IsSome, All, refl, arith}
+use Rattle.std.proofs.Common.{◌≡◌, ◌≤◌, ◌<◌, ℕ, nat_le, Bool, true, false, ◌&&◌, List, [], ◌∷◌, length, Option, Some, None, Result, Ok, IsSome, All, refl, subst, arith}
 use Rattle.std.proofs.lemmas.Grind.{common_steps}
 use Rattle.std.proofs.lemmas.Bool.Decides.{nat_tests}
 use Rattle.std.proofs.lemmas.List.Elements.{All-nil, All-cons}
 use Rattle.std.specs.Result.{result_ok}
 use Rattle.hex.specs.Hex.{decode_of}
 use Rattle.toml.specs.Data.{Data, string, integer, float, boolean, datetime, array, table, Items, no_items, item, Members}
-use Rattle.krb_base.specs.Limits.{text_limit}
+use Rattle.krb_base.specs.Limits.{address_limit, text_limit}
+use Rattle.krb_der.specs.declared.address.HostAddress.{HostAddress}
+use Rattle.krb_seal.specs.Session.{IsShortAddress}
 use Rattle.krb_job.specs.declared.place.Place.{Place}
 use Rattle.krb_base.specs.Steps.{◌>>=◌}
 use Rattle.krb_job.specs.Limits.{AreShortTexts}
-use Rattle.krb_job.specs.Values.{sized, bytes_of}
+use Rattle.krb_job.specs.Address.{address_named, address_of}
+use Rattle.krb_job.specs.Decimal.{int32_of}
+use Rattle.krb_job.specs.Text.{split_at}
+use Rattle.krb_job.specs.Values.{sized, bytes_of, hex_of}
 use Rattle.krb_job.specs.Lists.{count, each, items_of, moment_of, moments_of, texts_of}
 use Rattle.krb_job.specs.Keys.{at_key, needed, only_if}
 use Rattle.krb_base.proofs.OptionSteps.{bind_some}
 use Rattle.krb_job.proofs.Given.{within, value_at, barred-absent}
 
 -- no more bytes than allowed were read
-most-bytes : (high : ℕ) (d : Data) (b : List ℕ) → bytes_of 0 high d ≡ Some b → length b ≤ high
-most-bytes high (string text) b e =
+most-hex : (high : ℕ) (text b : List ℕ) → hex_of 0 high text ≡ Some b → length b ≤ high
+most-hex high text b e =
     let s = bind_some (result_ok (decode_of text)) (sized 0 high) b e in
     let fit = within (nat_le 0 (length s.0) && nat_le (length s.0) high) s.0 b s.2 in
     grind (arith, nat_tests, common_steps)
+
+most-bytes : (high : ℕ) (d : Data) (b : List ℕ) → bytes_of 0 high d ≡ Some b → length b ≤ high
+most-bytes high (string text) b e = most-hex high text b e
 most-bytes high (integer z) b e = absurd cc
 most-bytes high (float x) b e = absurd cc
 most-bytes high (boolean x) b e = absurd cc
 most-bytes high (datetime dt) b e = absurd cc
 most-bytes high (array ds) b e = absurd cc
 most-bytes high (table ms) b e = absurd cc
+
+-- nor of an address
+named-short : (text : List ℕ) (a : HostAddress) → address_named text ≡ Some a → IsShortAddress a
+named-short text a e =
+    let parts = bind_some (split_at 58 text) (λ p. int32_of p.0 >>= λ kind. hex_of 0 address_limit p.1 >>= λ bytes. Some (record { kind = kind; bytes = bytes })) a e in
+    let kind = bind_some (int32_of parts.0.0) (λ kind. hex_of 0 address_limit parts.0.1 >>= λ bytes. Some (record { kind = kind; bytes = bytes })) a parts.2 in
+    let bytes = bind_some (hex_of 0 address_limit parts.0.1) (λ bytes. Some (record { kind = kind.0; bytes = bytes })) a kind.2 in
+    let same : ◌≡◌ {A = HostAddress} (record { kind = kind.0; bytes = bytes.0 }) a = let f = bytes.2 in cc in
+    let short : length bytes.0 ≤ address_limit = most-hex address_limit parts.0.1 bytes.0 bytes.1 in
+    subst (λ (z : HostAddress). IsShortAddress z) same (grind (arith, short))
+
+data-short : (d : Data) (a : HostAddress) → address_of d ≡ Some a → IsShortAddress a
+data-short (string text) a e = named-short text a e
+data-short (integer z) a e = absurd cc
+data-short (float x) a e = absurd cc
+data-short (boolean x) a e = absurd cc
+data-short (datetime dt) a e = absurd cc
+data-short (array ds) a e = absurd cc
+data-short (table ms) a e = absurd cc
+
+pub address-short : (place : Place) (ms : Members) (a : HostAddress) → needed place address_of ms ≡ Ok a → IsShortAddress a
+address-short place ms a e =
+    let found = value_at place address_of ms a e in
+    data-short found.0 a found.1
 
 -- what holds of each value that an item may have holds of all that were read
 All-each : {A : Type 0} (P : A → Type 0) (of : Data → Option A) → ((d : Data) (x : A) → of d ≡ Some x → P x)

@@ -2,7 +2,6 @@
 use Rattle.std.proofs.Common.{◌≡◌, ℕ, false, List, Result, Ok, Err, refl, sym, ap, subst, ◌∙◌, inl, inr}
 use Rattle.std.specs.Prelude.{◌⊎◌, ◌≤◌, IfErr, IsErrAnd, OnOk}
 use Rattle.krb_base.specs.Limits.{last_number}
-use Rattle.std.specs.Global.{Vec}
 use Rattle.krb_seal.specs.declared.refusal.Refusal.{Refusal}
 use Rattle.krb_seal.specs.declared.refusal.Refusal.TheVariants.{BadRecord, Memory}
 use Rattle.krb_seal.specs.Opens.{Opens}
@@ -21,7 +20,7 @@ use Rattle.krb_peers.specs.Receiver.{IsJudgement, OpensRecord}
 use Rattle.krb_peers.proofs.NumberLemmas.{opens_in_range}
 
 -- a refusal of the opener's, where no close was accepted
-pub refused_is : (receiver : ReceiverState) (now : ℕ) (frame : List ℕ) (result : Result (Vec ℕ) Unopened) → receiver.demand.closed ≡ false
+pub refused_is : (receiver : ReceiverState) (now : ℕ) (frame : List ℕ) (result : Result (List ℕ) Unopened) → receiver.demand.closed ≡ false
     → OrMemory (Opens receiver.opener receiver.demand.expected now frame) (untold result)
     → IfErr result (λ u. (u.refusal ≡ Memory) ⊎ Fails receiver.opener receiver.demand now frame u.refusal)
 refused_is receiver now frame (Ok v) live h = tt
@@ -29,10 +28,10 @@ refused_is receiver now frame (Err r) live (inl h) = inl (let e = h in cc)
 refused_is receiver now frame (Err r) live (inr h) = inr (inr (live, inl h))
 
 -- no frame opens at a number over the last
-pub given_in_range : (receiver : ReceiverState) (now : ℕ) (frame : List ℕ) (result : Result (Vec ℕ) Unopened)
+pub given_in_range : (receiver : ReceiverState) (now : ℕ) (frame : List ℕ) (result : Result (List ℕ) Unopened)
     → OrMemory (Opens receiver.opener receiver.demand.expected now frame) (untold result) → OnOk result (receiver.demand.expected ≤ last_number)
 given_in_range receiver now frame (Ok v) (inl h) = absurd (let e = h in cc)
-given_in_range receiver now frame (Ok v) (inr h) = opens_in_range receiver.opener receiver.demand.expected now frame v.items h
+given_in_range receiver now frame (Ok v) (inr h) = opens_in_range receiver.opener receiver.demand.expected now frame v h
 given_in_range receiver now frame (Err r) h = tt
 
 -- such a refusal is the verdict

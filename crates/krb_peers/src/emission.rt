@@ -5,8 +5,9 @@ ghost use Rattle.krb_base.specs.Bytes.{AreBytes};
 ghost use Rattle.krb_peers.specs.Plan.{contents, is_good, is_good_emission, emission, emissions, wire};
 ghost use Rattle.krb_peers.specs.Verdicts.{AllBytes};
 
-use crate::plan::{Emit, EmitError};
+use crate::plan::EmitError;
 use krb_base::known_bytes;
+use krb_plan::Emit;
 use std::alloc::{AllocError, Global};
 
 /// What `plan` makes of `frames`: one frame for each emission, in order.

@@ -51,13 +51,14 @@ pub use emission::emit;
 pub use frames::{attempt_laws, frames_laws};
 pub use gate::{Gate, NoGate};
 pub use krb_base::{BATCH_LIMIT, LAST_NUMBER, TEXT_LIMIT, USER_DATA_LIMIT};
+pub use krb_plan::Emit;
 pub use krb_record::{
     Record, RecordError, RecordKind, Texts, read_record, record_bytes, record_laws,
 };
 pub use laws::{accepted_laws, logged_laws, rounds_laws, verdict_laws};
 pub use log::{Entry, Event, Log, Status};
 pub use order::{Order, OrderRefusal};
-pub use plan::{Emit, EmitError};
+pub use plan::EmitError;
 pub use planned::{carried_laws, going_on_laws, headline_laws, source_laws, undisturbed_laws};
 pub use receiver::{Opened, Receiver, Receiving};
 pub use receivers::{Receivers, wipe_receivers};

@@ -1,23 +1,11 @@
-//! Plans: how a wire may repeat, drop, reorder and change the frames of a sender.
+//! Why a plan emits nothing.
 
 ghost use Rattle.std.specs.Prelude.{◌≡◌, Some};
 ghost use Rattle.krb_peers.specs.Plan.{code_of, words_of};
 
-use krb_base::Bytes;
 use std::alloc::AllocError;
 use std::error::Error;
 use std::fmt;
-
-/// One emission of a plan: what is put on the wire next.
-#[derive(Debug, Drop)]
-pub enum Emit {
-    /// Frame `k` of the sender, as it is.
-    Frame(usize),
-    /// Frame `k` with its byte `at` changed by exclusive or with `mask`.
-    Flip { k: usize, at: usize, mask: u8 },
-    /// These bytes, whatever was sealed.
-    Raw(Bytes),
-}
 
 /// Why [`emit`](crate::emit) emits nothing.
 #[derive(Clone, Copy, Debug, PartialEq, Eq)]

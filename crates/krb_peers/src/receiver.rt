@@ -3,7 +3,7 @@
 ghost use Rattle.std.specs.Prelude.{◌≡◌, ◌⊎◌, ◌+◌, ◌<◌, ◌≤◌, length, replicate, IsFalse, IsTrue, IfErr, IfOk, Ok, Err, OnOk, OnErr};
 ghost use Rattle.krb_base.specs.Limits.{last_number};
 ghost use Rattle.krb_record.specs.Record.{is_close, kind_of};
-ghost use Rattle.krb_seal.specs.Number.{TellsNumber};
+ghost use Rattle.krb_seal.specs.Number.{TellsNoOther, TellsNumber};
 ghost use Rattle.krb_seal.specs.Opens.{Opens};
 ghost use Rattle.krb_seal.specs.Unseals.{untold};
 ghost use Rattle.krb_peers.specs.declared.delivery.Delivery.{Delivery as DeliveryValue};
@@ -16,7 +16,7 @@ ghost use Rattle.krb_peers.specs.Logged.{noted, IsShut, LogsNext};
 use crate::delivery::Delivery;
 use crate::log::Log;
 use crate::order::Order;
-use krb_base::Secret;
+use krb_base::{Bytes, Secret};
 use krb_der::Moment;
 use krb_record::{RecordError, RecordKind, into_record};
 use krb_seal::{Opener, Refusal, Unopened};
@@ -131,8 +131,8 @@ impl Receiver {
         Ok(delivery)
     }
 
-    /// Opens a frame as [`take`](Receiver::take) does, and leaves its record in the block in which it
-    /// was opened: nothing is copied. Nothing changes either: [`accept`](Receiver::accept) moves on.
+    /// Opens a frame as [`take`](Receiver::take) does, and leaves its record where it was opened:
+    /// nothing is copied or moved. Nothing changes either: [`accept`](Receiver::accept) moves on.
     ///
     /// `Memory` is returned if an allocation failed, and never for a frame after a close or over the
     /// limit. A frame that is refused by its number tells at which number it opens.
@@ -141,10 +141,11 @@ impl Receiver {
         ensures refused { IfErr result (λ unopened.
             IsJudgement self.now now frame.now (Err unopened.refusal)) }
         ensures number { IfErr result (TellsNumber self.now.opener now frame.now) }
+        ensures no_other { IfErr result TellsNoOther }
         ensures memory { untold result ≡ Err Refusal.Memory → TakesMemory self.now frame.now }
         ensures in_range { OnOk result (self.now.demand.expected ≤ last_number) }
     {
-        let bytes = Secret::new(self.unsealed(alloc, frame, now)?);
+        let bytes = Secret::from(self.unsealed(alloc, frame, now)?);
         match RecordKind::of(bytes.as_slice()) {
             Some(kind) => Ok(Opened { kind, bytes }),
             None => Err(Unopened::from(Refusal::BadRecord)),
@@ -247,13 +248,14 @@ impl Receiver {
     }
 
     /// The user data of a frame that carries the demanded number, unless a close was accepted.
-    fn unsealed(&self, alloc: Global, frame: &[u8], now: Moment) -> Result<Vec<u8>, Unopened>
+    fn unsealed(&self, alloc: Global, frame: &[u8], now: Moment) -> Result<Bytes, Unopened>
         ensures open { OnOk result (IsFalse self.now.demand.closed) }
         ensures opened { IfOk result (λ user. Opens self.now.opener self.now.demand.expected now
-            frame.now (Ok user.items)) }
+            frame.now (Ok user)) }
         ensures refused { IfErr result (λ unopened. (unopened.refusal ≡ Refusal.Memory)
             ⊎ Fails self.now.opener self.now.demand now frame.now unopened.refusal) }
         ensures number { IfErr result (TellsNumber self.now.opener now frame.now) }
+        ensures no_other { IfErr result TellsNoOther }
         ensures memory { untold result ≡ Err Refusal.Memory → TakesMemory self.now frame.now }
         ensures in_range { OnOk result (self.now.demand.expected ≤ last_number) }
     {

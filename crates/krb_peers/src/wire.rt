@@ -5,12 +5,12 @@ ghost use Rattle.krb_peers.specs.Plan.{contents, is_planned, wire};
 ghost use Rattle.krb_peers.specs.Verdicts.{AllBytes};
 
 use crate::emission::{emit_one, is_good, known_emissions};
-use crate::plan::Emit;
+use krb_plan::Emit;
 use std::alloc::{AllocError, Global};
 use std::marker::Model;
 
-/// The wire of a sender: the frames of all its records, and the plan that says what becomes of them.
-/// Contracts see it as the list of its emissions.
+/// The wire of a sender: the frames of all its records, and the plan that says which of them come, in
+/// which order and with which bytes. Contracts see it as the list of its emissions.
 ///
 /// An emission is made when it is asked for. So a wire takes the memory of its frames and its plan,
 /// however often the plan repeats a frame.

@@ -8,7 +8,7 @@ ghost use Rattle.krb_record.specs.Record.{kind_of, kind_of_number, number_of, fi
 
 use crate::batch::{BATCH_BYTE, BatchError, batch_bytes, is_batch, is_batch_body, read_batch};
 use crate::texts::Texts;
-use krb_base::{Bytes, TEXT_LIMIT, cut_out};
+use krb_base::{Bytes, TEXT_LIMIT};
 use std::alloc::{AllocError, Global};
 use std::error::Error;
 use std::fmt;
@@ -238,24 +238,23 @@ pub fn read_record(alloc: Global, bytes: &[u8]) -> Result<Record, RecordError>
     }
 }
 
-/// The record whose bytes these are, as [`read_record`] gives it, but a text stays in their block,
-/// and only a batch allocates.
-pub fn into_record(alloc: Global, bytes: Vec<u8>) -> Result<Record, RecordError>
-    ensures ok { IfOk result (λ r. SpellsRecord r bytes.items) }
+/// The record whose bytes these are, as [`read_record`] gives it, but a text stays where it lies, and
+/// only a batch allocates.
+pub fn into_record(alloc: Global, bytes: Bytes) -> Result<Record, RecordError>
+    ensures ok { IfOk result (λ r. SpellsRecord r bytes) }
 
     // If the bytes are those of a record, the only error is out of memory.
-    ensures only { (r : Record) → SpellsRecord r bytes.items
+    ensures only { (r : Record) → SpellsRecord r bytes
         → MatchResult result (λ got. got ≡ r) (λ e. e ≡ RecordError.Memory) }
-    ensures bad { (result ≡ Err RecordError.BadRecord)
-        ↔ ((r : Record) → ¬ SpellsRecord r bytes.items) }
+    ensures bad { (result ≡ Err RecordError.BadRecord) ↔ ((r : Record) → ¬ SpellsRecord r bytes) }
     ensures memory { result ≡ Err RecordError.Memory
-        → (texts : List (List ℕ)) × SpellsBatch texts bytes.items }
+        → (texts : List (List ℕ)) × SpellsBatch texts bytes }
 {
-    let end = bytes.len();
-    if is_text(&bytes) {
-        return Ok(Record::Text(Bytes::new(cut_out(bytes, 1, end))));
+    let end = bytes.as_slice().len();
+    if is_text(bytes.as_slice()) {
+        return Ok(Record::Text(bytes.cut(1, end)));
     }
-    read_record(alloc, &bytes)
+    read_record(alloc, bytes.as_slice())
 }
 
 /// Whether the bytes are those of a text.

@@ -16,7 +16,7 @@ use Rattle.krb_seal.specs.declared.refusal.Refusal.TheVariants.{FieldTooLong, Ma
 use Rattle.krb_etype.specs.Keys.{tag_of, IsEncryption}
 use Rattle.krb_seal.specs.Opens.{OpenerState, Passes, Read, Decrypt, OpensText, OpensMessage, Opens, priv_header}
 use Rattle.krb_seal.specs.OpensParts.{Outcome, Checks, OpensPart, text_checks, frame_checks}
-use Rattle.krb_seal.specs.Authentic.{Authenticity, AuthenticMessage, AuthenticText, AuthenticOrMemory, GivesBody}
+use Rattle.krb_seal.specs.Authentic.{Authenticity, AuthenticMessage, AuthenticText, GivesBody}
 use Rattle.krb_seal.specs.declared.unopened.Unopened.{Unopened}
 use Rattle.krb_seal.specs.Unseals.{seen, untold, OrMemory, first_unmet, refusal_of, Checked}
 
@@ -86,22 +86,16 @@ outcome_given ((false, x) ∷ rest) Then outcome e p = absurd cc
 memory_of : {A B : Type 0} (r : Refusal) → ◌≡◌ {A = Result A Refusal} (Err r) (Err Memory) → ◌≡◌ {A = Result B Refusal} (Err r) (Err Memory)
 memory_of r e = cc
 
--- The checks that a function made were not passed. What is seen of a result leaves its refusals as
--- they are.
-not_passed_as : {A X B : Type 0} (see : Result X Refusal → Result B Refusal) → ((r : Refusal) → see (Err r) ≡ Err r)
-    → (checks : Checks) (Then : Result B Refusal → Type 0) (made : Result A Refusal) (r : Refusal) (result : Result X Refusal)
-    → Checked checks made → made ≡ Err r → IsErrAnd result (λ e. e ≡ r) → Passes checks Then (see result)
-not_passed_as see same checks Then made r (Ok v) h is p = absurd p
-not_passed_as see same checks Then made r (Err x) h is p =
-    subst (λ z. Passes checks Then z) (sym (same x)) (outcome_refused checks Then x (h ∙ ap refusal_of is ∙ ap Some (sym p)))
-
-pub not_passed : {A : Type 0} (checks : Checks) (Then : Outcome → Type 0) (made : Result A Refusal) (r : Refusal) (result : Result (Vec ℕ) Refusal)
-    → Checked checks made → made ≡ Err r → IsErrAnd result (λ e. e ≡ r) → Passes checks Then (seen result)
-not_passed = not_passed_as seen (λ r. refl)
-
-pub body_not_passed : {A : Type 0} (checks : Checks) (Then : Authenticity → Type 0) (made : Result A Refusal) (r : Refusal) (result : Authenticity)
+-- the checks that a function made were not passed
+pub not_passed : {A B : Type 0} (checks : Checks) (Then : Result B Refusal → Type 0) (made : Result A Refusal) (r : Refusal) (result : Result B Refusal)
     → Checked checks made → made ≡ Err r → IsErrAnd result (λ e. e ≡ r) → Passes checks Then result
-body_not_passed = not_passed_as (λ z. z) (λ r. refl)
+not_passed checks Then made r (Ok v) h is p = absurd p
+not_passed checks Then made r (Err x) h is p = outcome_refused checks Then x (h ∙ ap refusal_of is ∙ ap Some (sym p))
+
+pub not_passed_untold : {A B : Type 0} (checks : Checks) (Then : Result B Refusal → Type 0) (made : Result A Refusal) (r : Refusal) (result : Result B Unopened)
+    → Checked checks made → made ≡ Err r → IsErrAnd result (λ u. u ≡ record { refusal = r; number = None }) → Passes checks Then (untold result)
+not_passed_untold checks Then made r (Ok v) h is p = absurd p
+not_passed_untold checks Then made r (Err u) h is p = not_passed checks Then made r (Err u.refusal) h is (ap (λ (z : Unopened). z.refusal) p)
 
 -- they were passed
 pub all_passed : {M A B : Type 0} (checks : Checks) (Then : Result B Refusal → Type 0) (made : Result A Refusal) (x : A) (outcome : Result B Refusal)
@@ -113,9 +107,6 @@ all_passed checks Then made x outcome h is (inr p) = inr (outcome_given checks T
 pub all_passed_for : {A B : Type 0} (checks : Checks) (Then : Result B Refusal → Type 0) (made : Result A Refusal) (x : A) (outcome : Result B Refusal)
     → Checked checks made → made ≡ Ok x → Then outcome → Passes checks Then outcome
 all_passed_for checks Then made x outcome h is p = outcome_given checks Then outcome (h ∙ ap refusal_of is) p
-
-pub gave : (user : List ℕ) (v : Vec ℕ) → v.items ≡ user → OrMemory (λ y. y ≡ Ok user) (Ok v)
-gave user v e = inr (ap Ok e)
 
 -- a cipher was deciphered
 pub was_deciphered : {M B : Type 0} (key cipher text tag : List ℕ) (Then : List ℕ → List ℕ → Result B Refusal → Type 0) (outcome : Result B Refusal)
@@ -142,10 +133,10 @@ frame_passed Then bytes m outcome s (inr h) =
     met_limit : (n : ℕ) → n ≤ frame_limit → first_unmet ((nat_le n frame_limit, FieldTooLong) ∷ []) ≡ None
     met_limit n le = rw (le-leb n frame_limit le) refl
 
-pub frame_opened : (o : OpenerState) (number now at : ℕ) (bytes : List ℕ) (m : Message) (result : Result (Vec ℕ) Refusal) → at ≡ now → Spells m bytes
+pub frame_opened : (o : OpenerState) (number now at : ℕ) (bytes : List ℕ) (m : Message) (result : Outcome) → at ≡ now → Spells m bytes
     → OrMemory (OpensMessage o number at m) result → OrMemory (Opens o number now bytes) result
 frame_opened o number now at bytes m result is s h =
-    frame_passed (OpensMessage o number now) bytes m (seen result) s (subst (λ (z : ℕ). OrMemory (OpensMessage o number z m) result) is h)
+    frame_passed (OpensMessage o number now) bytes m result s (subst (λ (z : ℕ). OrMemory (OpensMessage o number z m) result) is h)
 
 -- ---- from the authentic body to the user data
 
@@ -175,23 +166,23 @@ priv_goes_on o number now m made outcome p g =
     passes_on (priv_header o.etype o.expect m) (Decrypt o.key m.cipher (AuthenticText o.key)) (Decrypt o.key m.cipher (OpensText o number now)) Then made outcome g
     (λ d. (d.0, d.1, d.2, passes_on (text_checks o.key d.0 d.1) (Read SpellsPart (drop 16 d.0) GivesBody) (Read SpellsPart (drop 16 d.0) Then) Then made outcome g (read_on (drop 16 d.0) Then made outcome g) d.3)) p
 
-pub priv_refused : (o : OpenerState) (number now : ℕ) (m : PrivMsg) (made : Authenticity) (r : Refusal) (result : Result (Vec ℕ) Refusal)
-    → AuthenticOrMemory (AuthenticMessage o (messages.Priv m)) made → made ≡ Err r → IsErrAnd result (λ e. e ≡ r) → OrMemory (OpensMessage o number now (messages.Priv m)) result
+pub priv_refused : (o : OpenerState) (number now : ℕ) (m : PrivMsg) (made : Authenticity) (r : Refusal) (result : Outcome)
+    → OrMemory (AuthenticMessage o (messages.Priv m)) made → made ≡ Err r → IsErrAnd result (λ e. e ≡ r) → OrMemory (OpensMessage o number now (messages.Priv m)) result
 priv_refused o number now m made r (Ok v) h is p = absurd p
-priv_refused o number now m made r (Err x) (inl h) is p = inl (memory_of {A = Body} {B = Vec ℕ} x (ap Err p ∙ sym is ∙ h))
+priv_refused o number now m made r (Err x) (inl h) is p = inl (memory_of {A = Body} {B = List ℕ} x (ap Err p ∙ sym is ∙ h))
 priv_refused o number now m made r (Err x) (inr h) is p =
     inr (priv_goes_on o number now m made (Err x) h (subst (λ (z : Authenticity). GoesOn z (OpensPart o.expect number now) (Err x)) (sym is) (ap Err p)))
 
-pub priv_opened : (o : OpenerState) (number now : ℕ) (m : PrivMsg) (made : Authenticity) (b : Body) (result : Result (Vec ℕ) Refusal)
-    → AuthenticOrMemory (AuthenticMessage o (messages.Priv m)) made → made ≡ Ok b → OrMemory (OpensPart o.expect number now b) result → OrMemory (OpensMessage o number now (messages.Priv m)) result
+pub priv_opened : (o : OpenerState) (number now : ℕ) (m : PrivMsg) (made : Authenticity) (b : Body) (result : Outcome)
+    → OrMemory (AuthenticMessage o (messages.Priv m)) made → made ≡ Ok b → OrMemory (OpensPart o.expect number now b) result → OrMemory (OpensMessage o number now (messages.Priv m)) result
 priv_opened o number now m made b result (inl h) is p = absurd (let e : Ok b ≡ Err Memory = sym is ∙ h in cc)
 priv_opened o number now m made b result (inr h) is (inl p) = inl p
 priv_opened o number now m made b result (inr h) is (inr p) =
-    inr (priv_goes_on o number now m made (seen result) h (subst (λ (z : Authenticity). GoesOn z (OpensPart o.expect number now) (seen result)) (sym is) p))
+    inr (priv_goes_on o number now m made result h (subst (λ (z : Authenticity). GoesOn z (OpensPart o.expect number now) result) (sym is) p))
 
 -- without the number, a refusal is the same
-pub refusal_alone : (Gives : Outcome → Type 0) (told : Result (Vec ℕ) Unopened) (u : Unopened) (result : Result (Vec ℕ) Refusal)
-    → OrMemory Gives (untold told) → told ≡ Err u → IsErrAnd result (λ r. r ≡ u.refusal) → OrMemory Gives result
+pub refusal_alone : (Gives : Outcome → Type 0) (told : Result (List ℕ) Unopened) (u : Unopened) (result : Result (Vec ℕ) Refusal)
+    → OrMemory Gives (untold told) → told ≡ Err u → IsErrAnd result (λ r. r ≡ u.refusal) → OrMemory Gives (seen result)
 refusal_alone Gives told u (Ok v) h is p = absurd p
 refusal_alone Gives told u (Err r) h is p =
-    subst (λ (z : Refusal). OrMemory Gives (Err z)) (sym p) (subst (λ (z : Result (Vec ℕ) Unopened). OrMemory Gives (untold z)) is h)
+    subst (λ (z : Refusal). OrMemory Gives (Err z)) (sym p) (subst (λ (z : Result (List ℕ) Unopened). OrMemory Gives (untold z)) is h)

@@ -1,7 +1,6 @@
 -- The number of a frame that is refused by its number.
 use Rattle.std.proofs.Common.{◌≡◌, ℕ, Bool, true, false, List, [], ◌∷◌, length, Option, Some, None, Result, Ok, Err, refl, sym, ap, subst, ◌∙◌, inl, inr}
 use Rattle.std.specs.Prelude.{IfErr}
-use Rattle.std.specs.Global.{Vec}
 use Rattle.std.proofs.lemmas.Bool.{eq-eqb, le-leb}
 use Rattle.krb_base.specs.Limits.{frame_limit}
 use Rattle.krb_der.specs.declared.body.Body.{Body}
@@ -16,12 +15,12 @@ use Rattle.krb_seal.specs.declared.refusal.Refusal.TheVariants.{BadVersion, MsgT
 use Rattle.krb_seal.specs.declared.unopened.Unopened.{Unopened}
 use Rattle.krb_seal.specs.Opens.{OpenerState, Read, safe_checks, body_checks, is_number}
 use Rattle.krb_seal.specs.OpensParts.{OpensPart, frame_checks}
-use Rattle.krb_seal.specs.Authentic.{Authenticity, Authenticates, AuthenticMessage, AuthenticOrMemory, GivesBody, authentic_checks}
+use Rattle.krb_seal.specs.Authentic.{Authenticity, Authenticates, AuthenticMessage, GivesBody, authentic_checks}
 use Rattle.krb_seal.specs.Number.{OpensAt, IsItsNumber, TellsNumber}
 use Rattle.krb_seal.specs.NumberInside.{FitsButForNumber, IsNumberOf, IsAuthenticNumber, TellsOfBody, TellsOfMessage}
-use Rattle.krb_seal.specs.Unseals.{Checked, first_unmet, refusal_of}
+use Rattle.krb_seal.specs.Unseals.{Checked, OrMemory, first_unmet, refusal_of}
 use Rattle.krb_seal.proofs.SealedFrames.{met_all, all_met}
-use Rattle.krb_seal.proofs.Checking.{all_passed_for, body_not_passed}
+use Rattle.krb_seal.proofs.Checking.{all_passed_for, not_passed}
 use Rattle.krb_seal.proofs.Outcomes.{one_authenticity}
 use Rattle.krb_seal.proofs.Authentics.{opens_the_authentic}
 
@@ -64,19 +63,19 @@ authentic_or_not o now m number fits (inl h) =
 authentic_or_not o now m number fits (inr h) =
     let found = refusal_in (first_unmet (authentic_checks o m)) h.0 in
     let unmet : Checked {A = Unit} (authentic_checks o m) (Err found.0) = found.1 in
-    (Err found.0, body_not_passed {A = Unit} (authentic_checks o m) (GivesBody m.body) (Err found.0) found.0 (Err found.0) unmet refl refl, h.1)
+    (Err found.0, not_passed {A = Unit} (authentic_checks o m) (GivesBody m.body) (Err found.0) found.0 (Err found.0) unmet refl refl, h.1)
 
 pub safe_tells : (o : OpenerState) (number now : ℕ) (m : SafeMsg) (made : Result Unit Refusal) (u : Unopened) → Checked (safe_checks o number now m) made → made ≡ Err u.refusal
     → (u.refusal ≡ BadOrder → IsAuthenticNumber o m u.number) → TellsOfMessage o now (messages.Safe m) u
 safe_tells o number now m made u h is told e =
     authentic_or_not o now m u.number (safe_fits o number now m made h (is ∙ ap Err e)) (told e)
 
-pub priv_tells : (o : OpenerState) (now : ℕ) (m : PrivMsg) (made : Authenticity) (b : Body) (u : Unopened) → AuthenticOrMemory (AuthenticMessage o (messages.Priv m)) made → made ≡ Ok b
+pub priv_tells : (o : OpenerState) (now : ℕ) (m : PrivMsg) (made : Authenticity) (b : Body) (u : Unopened) → OrMemory (AuthenticMessage o (messages.Priv m)) made → made ≡ Ok b
     → TellsOfBody o.expect now b u → TellsOfMessage o now (messages.Priv m) u
 priv_tells o now m made b u (inl h) is told e = absurd (let f : Ok b ≡ Err Memory = sym is ∙ h in cc)
 priv_tells o now m made b u (inr h) is told e = (Ok b, subst (λ (z : Authenticity). AuthenticMessage o (messages.Priv m) z) is h, told e)
 
-pub priv_untold : (o : OpenerState) (now : ℕ) (m : PrivMsg) (made : Authenticity) (r : Refusal) (u : Unopened) → AuthenticOrMemory (AuthenticMessage o (messages.Priv m)) made → made ≡ Err r
+pub priv_untold : (o : OpenerState) (now : ℕ) (m : PrivMsg) (made : Authenticity) (r : Refusal) (u : Unopened) → OrMemory (AuthenticMessage o (messages.Priv m)) made → made ≡ Err r
     → u ≡ record { refusal = r; number = None } → TellsOfMessage o now (messages.Priv m) u
 priv_untold o now m made r u (inl h) is same e =
     absurd (let f : ◌≡◌ {A = Authenticity} (Err BadOrder) (Err Memory) = ap Err (sym e ∙ ap (λ (z : Unopened). z.refusal) same) ∙ sym is ∙ h in cc)
@@ -125,6 +124,6 @@ frame_tells o now at frame m u is s told e =
     its_number o now frame t.0 u.number
     (all_met (frame_checks frame) (Read Spells frame (AuthenticMessage o)) t.0 (le-leb (length frame) frame_limit s.short, tt) (inr (m, s, t.1))) t.2
 
-pub frame_told : (o : OpenerState) (now at : ℕ) (frame : List ℕ) (m : Message) (result : Result (Vec ℕ) Unopened) → at ≡ now → Spells m frame → IfErr result (TellsOfMessage o at m) → IfErr result (TellsNumber o now frame)
+pub frame_told : (o : OpenerState) (now at : ℕ) (frame : List ℕ) (m : Message) (result : Result (List ℕ) Unopened) → at ≡ now → Spells m frame → IfErr result (TellsOfMessage o at m) → IfErr result (TellsNumber o now frame)
 frame_told o now at frame m (Ok v) is s h = h
 frame_told o now at frame m (Err u) is s h = frame_tells o now at frame m u is s h

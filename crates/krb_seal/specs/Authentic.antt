@@ -1,14 +1,13 @@
 -- What opening without demands gives: the authenticated body, or the refusal of the first check
 -- that the frame fails. The checks are those of `Opens` but for the ones of the body (RFC 4120
 -- sections 3.4.2 and 3.5.2; RFC 3961 section 5.3).
-use Rattle.std.specs.Prelude.{◌≡◌, ◌⊎◌, ℕ, List, ◌++◌, drop, Result, Ok, Err}
+use Rattle.std.specs.Prelude.{◌≡◌, ℕ, List, ◌++◌, drop, Result, Ok}
 use Rattle.krb_der.specs.declared.body.Body.{Body}
 use Rattle.krb_der.specs.declared.safe.SafeMsg.{SafeMsg}
 use Rattle.krb_der.specs.declared.message.Message.{Message}
 use Rattle.krb_der.specs.declared.message.Message.TheVariants as messages
 use Rattle.krb_der.specs.Message.{Spells, SpellsPart}
 use Rattle.krb_seal.specs.declared.refusal.Refusal.{Refusal}
-use Rattle.krb_seal.specs.declared.refusal.Refusal.TheVariants.{Memory}
 use Rattle.krb_etype.specs.Etype.{confounder_size}
 use Rattle.krb_seal.specs.Opens.{OpenerState, Passes, Read, Decrypt}
 use Rattle.krb_seal.specs.OpensParts.{Checks, frame_checks}
@@ -44,7 +43,3 @@ AuthenticMessage o (messages.Priv m) outcome =
 abbrev pub Authenticates : OpenerState → List ℕ → Authenticity → Type 0
 Authenticates o bytes outcome =
     Passes (frame_checks bytes) (Read Spells bytes (AuthenticMessage o)) outcome
-
--- The call ran out of memory, or its result is as Gives says.
-abbrev pub AuthenticOrMemory : (Authenticity → Type 0) → Authenticity → Type 0
-AuthenticOrMemory Gives result = (result ≡ Err Memory) ⊎ Gives result

@@ -13,7 +13,11 @@ abbrev pub IsItsNumber : OpenerState → ℕ → List ℕ → Option ℕ → Typ
 IsItsNumber o now frame None = (number : ℕ) → ¬ OpensAt o now frame number
 IsItsNumber o now frame (Some number) = OpensAt o now frame number
 
--- If the frame is refused by its number, what is told is the one at which it opens.
+-- If the frame is refused by its number, the number at which it opens is reported.
 abbrev pub TellsNumber : OpenerState → ℕ → List ℕ → Unopened → Type 0
 TellsNumber o now frame unopened =
     unopened.refusal ≡ BadOrder → IsItsNumber o now frame unopened.number
+
+-- After another refusal no number is reported.
+abbrev pub TellsNoOther : Unopened → Type 0
+TellsNoOther unopened = ¬ (unopened.refusal ≡ BadOrder) → unopened.number ≡ None

@@ -27,7 +27,7 @@ IsAuthenticNumber o m number =
     ((first_unmet (authentic_checks o m) ≡ None) × (number ≡ m.body.seq))
     ⊎ ((¬ (first_unmet (authentic_checks o m) ≡ None)) × (number ≡ None))
 
--- What is told of a body that is refused by its number.
+-- What is reported of a body that is refused by its number.
 abbrev pub TellsOfBody : Expect → ℕ → Body → Unopened → Type 0
 TellsOfBody x now b unopened =
     unopened.refusal ≡ BadOrder → (unopened.number ≡ b.seq) × FitsButForNumber x now b

@@ -7,6 +7,7 @@ use Rattle.krb_seal.specs.declared.refusal.Refusal.TheVariants.{Memory}
 use Rattle.krb_seal.specs.declared.unopened.Unopened.{Unopened}
 use Rattle.krb_seal.specs.OpensParts.{Outcome, Checks}
 
+-- The user data of a `Vec`, or the refusal.
 abbrev pub seen : Result (Vec ℕ) Refusal → Outcome
 seen (Ok v) = Ok v.items
 seen (Err r) = Err r
@@ -17,8 +18,8 @@ untold (Ok x) = Ok x
 untold (Err unopened) = Err unopened.refusal
 
 -- The call ran out of memory, or its result is as Gives says.
-abbrev pub OrMemory : (Outcome → Type 0) → Result (Vec ℕ) Refusal → Type 0
-OrMemory Gives result = (result ≡ Err Memory) ⊎ Gives (seen result)
+abbrev pub OrMemory : {A : Type 0} → (Result A Refusal → Type 0) → Result A Refusal → Type 0
+OrMemory Gives result = (result ≡ Err Memory) ⊎ Gives result
 
 -- The first refusal of a list of checks.
 abbrev pub first_unmet : Checks → Option Refusal

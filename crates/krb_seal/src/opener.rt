@@ -8,14 +8,15 @@ ghost use Rattle.krb_etype.specs.Etype.{number_of};
 ghost use Rattle.krb_etype.specs.HeldKeys.{fresh_keys};
 ghost use Rattle.krb_seal.specs.Mode.{purpose_of};
 ghost use Rattle.krb_seal.specs.Opens.{Opens, opener_of};
-ghost use Rattle.krb_seal.specs.Authentic.{Authenticates, AuthenticOrMemory};
-ghost use Rattle.krb_seal.specs.Number.{TellsNumber};
-ghost use Rattle.krb_seal.specs.Unseals.{OrMemory, untold};
+ghost use Rattle.krb_seal.specs.Authentic.{Authenticates};
+ghost use Rattle.krb_seal.specs.Number.{TellsNoOther, TellsNumber};
+ghost use Rattle.krb_seal.specs.Unseals.{OrMemory, seen, untold};
 
 use crate::opening::Opening;
 use crate::refusal::Refusal;
 use crate::session::Expect;
 use crate::unopened::Unopened;
+use krb_base::Bytes;
 use krb_der::{Body, Moment};
 use krb_etype::{End, Etype, Keys, SessionKey};
 use std::alloc::Global;
@@ -92,24 +93,27 @@ impl Opener {
         number: u64,
         now: Moment,
     ) -> Result<Vec<u8>, Refusal>
-        ensures answer { OrMemory (Opens self.now number now frame.now) result }
+        ensures answer { OrMemory (Opens self.now number now frame.now) (seen result) }
         // A frame over the limit is refused before anything is allocated.
         ensures memory { result ≡ Err Refusal.Memory → length frame.now ≤ frame_limit }
     {
-        Ok(self.unseal_telling(alloc, frame, number, now)?)
+        let user_data = self.unseal_telling(alloc, frame, number, now)?;
+        Ok(user_data.into_vec())
     }
 
-    /// As [`unseal`](Opener::unseal), and of a frame that is refused by its number it tells at which
-    /// number it opens: one below the demanded number is a repeat, one above it leaves a gap.
+    /// As [`unseal`](Opener::unseal), but the user data stay where they were deciphered. And of a frame
+    /// that is refused by its number it tells at which number it opens: one below the demanded number
+    /// is a repeat, one above it leaves a gap.
     pub fn unseal_telling(
         &self,
         alloc: Global,
         frame: &[u8],
         number: u64,
         now: Moment,
-    ) -> Result<Vec<u8>, Unopened>
+    ) -> Result<Bytes, Unopened>
         ensures answer { OrMemory (Opens self.now number now frame.now) (untold result) }
         ensures number { IfErr result (TellsNumber self.now now frame.now) }
+        ensures no_other { IfErr result TellsNoOther }
         // A frame over the limit is refused before anything is allocated.
         ensures memory { untold result ≡ Err Refusal.Memory → length frame.now ≤ frame_limit }
     {
@@ -131,7 +135,7 @@ impl Opener {
     /// version, its kind, its encryption type and its integrity, or its checksum's type and its
     /// checksum.
     pub fn authenticate(&self, alloc: Global, frame: &[u8]) -> Result<Body, Refusal>
-        ensures answer { AuthenticOrMemory (Authenticates self.now frame.now) result }
+        ensures answer { OrMemory (Authenticates self.now frame.now) result }
         ensures range { IfOk result InRange }
         // A frame over the limit is refused before anything is allocated.
         ensures memory { result ≡ Err Refusal.Memory → length frame.now ≤ frame_limit }

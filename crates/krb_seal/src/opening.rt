@@ -1,6 +1,6 @@
 //! One opening of a frame.
 
-ghost use Rattle.std.specs.Prelude.{◌≡◌, ◌≤◌, drop, length, Err, IfErr, IfOk};
+ghost use Rattle.std.specs.Prelude.{◌≡◌, ◌≤◌, ◌++◌, drop, length, Err, IfErr, IfOk, None};
 ghost use Rattle.krb_base.specs.Limits.{frame_limit};
 ghost use Rattle.krb_der.specs.declared.message.Message.TheVariants as messages;
 ghost use Rattle.krb_der.specs.Body.{InRange};
@@ -10,19 +10,19 @@ ghost use Rattle.krb_etype.specs.Etype.{number_of};
 ghost use Rattle.krb_etype.specs.HeldKeys.{fresh_keys};
 ghost use Rattle.krb_etype.specs.declared.private_keys.End.TheVariants as ends;
 ghost use Rattle.krb_seal.specs.Mode.{purpose_of};
-ghost use Rattle.krb_seal.specs.Opens.{Opens, OpensMessage, Read, opener_of, safe_checks};
+ghost use Rattle.krb_seal.specs.Opens.{Opens, OpensMessage, Read, body_checks, opener_of, safe_header};
 ghost use Rattle.krb_seal.specs.OpensParts.{OpensPart, checksum_checks};
-ghost use Rattle.krb_seal.specs.Authentic.{Authenticates, AuthenticMessage, AuthenticOrMemory, GivesBody, authentic_checks};
-ghost use Rattle.krb_seal.specs.Number.{TellsNumber};
+ghost use Rattle.krb_seal.specs.Authentic.{Authenticates, AuthenticMessage, GivesBody, authentic_checks};
+ghost use Rattle.krb_seal.specs.Number.{TellsNoOther, TellsNumber};
 ghost use Rattle.krb_seal.specs.NumberInside.{IsAuthenticNumber, TellsOfBody, TellsOfMessage};
-ghost use Rattle.krb_seal.specs.Unseals.{Checked, OrMemory, seen, untold};
+ghost use Rattle.krb_seal.specs.Unseals.{Checked, OrMemory, untold};
 
 use crate::checks::{check_body, check_priv_header, check_safe_header, has_checksum};
 use crate::checksum::checksum_of;
 use crate::refusal::Refusal;
 use crate::session::Expect;
 use crate::unopened::Unopened;
-use krb_base::Secret;
+use krb_base::{Bytes, Secret};
 use krb_der::{Body, DerError, Message, Moment, PrivMsg, SafeMsg, decode, decode_part_from};
 use krb_etype::{CONFOUNDER_SIZE, Etype, Keys};
 use std::alloc::Global;
@@ -69,9 +69,10 @@ impl<'a> Opening<'a> {
         frame: &[u8],
         number: u64,
         now: Moment,
-    ) -> Result<Vec<u8>, Unopened>
+    ) -> Result<Bytes, Unopened>
         ensures answer { OrMemory (Opens self.now number now frame.now) (untold result) }
         ensures number { IfErr result (TellsNumber self.now now frame.now) }
+        ensures no_other { IfErr result TellsNoOther }
         // A frame over the limit is refused before anything is allocated.
         ensures memory { untold result ≡ Err Refusal.Memory → length frame.now ≤ frame_limit }
     {
@@ -87,7 +88,7 @@ impl<'a> Opening<'a> {
 
     /// As [`Opener::authenticate`](crate::Opener::authenticate).
     pub fn authenticate(&self, alloc: Global, frame: &[u8]) -> Result<Body, Refusal>
-        ensures answer { AuthenticOrMemory (Authenticates self.now frame.now) result }
+        ensures answer { OrMemory (Authenticates self.now frame.now) result }
         ensures range { IfOk result InRange }
         // A frame over the limit is refused before anything is allocated.
         ensures memory { result ≡ Err Refusal.Memory → length frame.now ≤ frame_limit }
@@ -116,14 +117,14 @@ impl<'a> Opening<'a> {
         Ok(())
     }
 
-    /// All checks of a KRB-SAFE.
-    fn check_safe(&self, frame: &[u8], m: &SafeMsg, number: u64, now: u64) -> Result<(), Refusal>
-        requires spelt { Spells (messages.Safe m.now) frame.now }
-        ensures { Checked (safe_checks self.now number now m.now) result }
+    /// The checks of a KRB-SAFE but for its checksum.
+    fn check_fields(&self, m: &SafeMsg, number: u64, now: u64) -> Result<(), Refusal>
+        requires { InRange m.now.body }
+        ensures { Checked (safe_header self.now.etype self.now.expect m.now
+            ++ body_checks self.now.expect number now m.now.body) result }
     {
         check_safe_header(self.etype, self.expect, m)?;
-        check_body(self.expect, number, now, &m.body)?;
-        self.check_checksum(frame, m)
+        check_body(self.expect, number, now, &m.body)
     }
 
     /// The checks of a KRB-SAFE but for those of its body.
@@ -136,34 +137,27 @@ impl<'a> Opening<'a> {
     }
 
     /// What a KRB-SAFE gives.
-    fn open_safe(
-        &self,
-        frame: &[u8],
-        m: SafeMsg,
-        number: u64,
-        now: u64,
-    ) -> Result<Vec<u8>, Unopened>
+    fn open_safe(&self, frame: &[u8], m: SafeMsg, number: u64, now: u64) -> Result<Bytes, Unopened>
         requires spelt { Spells (messages.Safe m) frame.now }
-        ensures answer { OpensMessage self.now number now (messages.Safe m) (seen (untold result)) }
+        ensures answer { OpensMessage self.now number now (messages.Safe m) (untold result) }
         ensures number { IfErr result (TellsOfMessage self.now now (messages.Safe m)) }
+        ensures no_other { IfErr result TellsNoOther }
     {
-        match self.check_safe(frame, &m, number, now) {
-            Ok(()) => {
-                let SafeMsg { body, .. } = m;
-                let Body { user_data, .. } = body;
-                Ok(user_data.into_vec())
-            }
-            Err(refusal) => Err(Unopened {
-                refusal,
-                number: self.number_of(frame, &m, refusal),
-            }),
+        if let Err(refusal) = self.check_fields(&m, number, now) {
+            let number = self.number_of(frame, &m, refusal);
+            return Err(Unopened { refusal, number });
         }
+        self.check_checksum(frame, &m)?;
+        let SafeMsg { body, .. } = m;
+        let Body { user_data, .. } = body;
+        Ok(user_data)
     }
 
-    /// The number of a KRB-SAFE that was refused by its number, if its checksum is right.
+    /// The number of a KRB-SAFE that is refused so, if it is by its number and the checksum is right.
     fn number_of(&self, frame: &[u8], m: &SafeMsg, refusal: Refusal) -> Option<u32>
         requires spelt { Spells (messages.Safe m.now) frame.now }
-        ensures { refusal ≡ Refusal.BadOrder → IsAuthenticNumber self.now m.now result }
+        ensures order { refusal ≡ Refusal.BadOrder → IsAuthenticNumber self.now m.now result }
+        ensures other { ¬ (refusal ≡ Refusal.BadOrder) → result ≡ None }
     {
         if !matches!(refusal, Refusal::BadOrder) {
             return None;
@@ -186,16 +180,11 @@ impl<'a> Opening<'a> {
     }
 
     /// What a KRB-PRIV gives.
-    fn open_priv(
-        &self,
-        alloc: Global,
-        m: PrivMsg,
-        number: u64,
-        now: u64,
-    ) -> Result<Vec<u8>, Unopened>
+    fn open_priv(&self, alloc: Global, m: PrivMsg, number: u64, now: u64) -> Result<Bytes, Unopened>
         ensures answer { OrMemory (OpensMessage self.now number now (messages.Priv m))
             (untold result) }
         ensures number { IfErr result (TellsOfMessage self.now now (messages.Priv m)) }
+        ensures no_other { IfErr result TellsNoOther }
     {
         match self.authentic_priv(alloc, m) {
             Ok(body) => self.open_body(alloc, body, number, now),
@@ -204,33 +193,25 @@ impl<'a> Opening<'a> {
     }
 
     /// What an authentic body gives. If it is refused, its data are overwritten before they are freed.
-    fn open_body(
-        &self,
-        alloc: Global,
-        body: Body,
-        number: u64,
-        now: u64,
-    ) -> Result<Vec<u8>, Unopened>
+    fn open_body(&self, alloc: Global, body: Body, number: u64, now: u64) -> Result<Bytes, Unopened>
         requires range { InRange body }
-        ensures answer { OpensPart self.now.expect number now body (seen (untold result)) }
+        ensures answer { OpensPart self.now.expect number now body (untold result) }
         ensures number { IfErr result (TellsOfBody self.now.expect now body) }
+        ensures no_other { IfErr result TellsNoOther }
     {
         let checked = check_body(self.expect, number, now, &body);
         let Body { user_data, seq, .. } = body;
-        let user_data = Secret::new(user_data.into_vec());
+        let user_data = Secret::from(user_data);
         match checked {
-            Ok(()) => Ok(user_data.into_vec(alloc)),
-            Err(refusal) => Err(Unopened {
-                refusal,
-                number: seq,
-            }),
+            Ok(()) => Ok(user_data.into_bytes(alloc)),
+            Err(refusal) => Err(Unopened::new(refusal, seq)),
         }
     }
 
     /// The body of a KRB-PRIV that is authentic. If it is refused, what was deciphered is overwritten
     /// before it is freed.
     fn authentic_priv(&self, alloc: Global, m: PrivMsg) -> Result<Body, Refusal>
-        ensures answer { AuthenticOrMemory (AuthenticMessage self.now (messages.Priv m)) result }
+        ensures answer { OrMemory (AuthenticMessage self.now (messages.Priv m)) result }
         ensures range { IfOk result InRange }
     {
         check_priv_header(self.etype, self.expect, &m)?;
@@ -247,7 +228,7 @@ impl<'a> Opening<'a> {
 /// The body after the confounder of a text. Its data take the text's own block.
 fn read_part(alloc: Global, text: Vec<u8>) -> Result<Body, Refusal>
     requires { 16 ≤ length text.items }
-    ensures answer { AuthenticOrMemory (Read SpellsPart (drop 16 text.items) GivesBody) result }
+    ensures answer { OrMemory (Read SpellsPart (drop 16 text.items) GivesBody) result }
     ensures range { IfOk result InRange }
 {
     match decode_part_from(alloc, text, CONFOUNDER_SIZE) {

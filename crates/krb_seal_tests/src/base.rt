@@ -13,6 +13,28 @@ fn bytes_give_back_what_they_were_made_of(rt: HostRuntime) -> Result<(), Fail> {
 }
 
 #[test]
+fn part_of_bytes_is_cut_out_shown_and_copied(rt: HostRuntime) -> Result<(), Fail> {
+    let bytes = Bytes::new(Vec::from_slice(rt.alloc(), b"0123456789")?);
+    let part = bytes.cut(2, 9).cut(1, 5);
+    assert_same(&rt, part.as_slice(), b"3456".as_slice());
+    let shown = format!(in rt.alloc(); "{part:?}")?;
+    assert!(rt; shown.as_str() == "[51, 52, 53, 54]");
+    assert_same(&rt, part.clone()?.as_slice(), b"3456".as_slice());
+    assert_same(&rt, part.into_vec().as_slice(), b"3456".as_slice());
+    Ok(())
+}
+
+#[test]
+fn secret_of_a_part_grows_and_is_given_back(rt: HostRuntime) -> Result<(), Fail> {
+    let bytes = Bytes::new(Vec::from_slice(rt.alloc(), b"0123456789")?);
+    let mut secret = Secret::from(bytes.cut(2, 7));
+    assert!(rt; secret.as_slice() == b"23456".as_slice());
+    secret.append(rt.alloc(), b"abc")?;
+    assert!(rt; secret.into_bytes(rt.alloc()).as_slice() == b"23456abc".as_slice());
+    Ok(())
+}
+
+#[test]
 fn secret_grows_shows_no_byte_and_is_given_back(rt: HostRuntime) -> Result<(), Fail> {
     let mut secret = Secret::new(Vec::from_slice(rt.alloc(), b"0")?);
     for digit in b"123456789" {

@@ -11,10 +11,11 @@ use crate::asserts::assert_same;
 use frames::{PRIV_17, PRIV_17_OTHER, PRIV_18, SAFE_17, SAFE_18};
 use krb_der::{Bytes, HostAddress, Moment};
 use krb_seal::{
-    Aes128Sealer, Aes256Sealer, Expect, Mode, Opener, SealError, Sealer, Session, SessionKey,
-    SessionSealer,
+    Aes128Sealer, Aes256Sealer, Expect, Mode, Opener, Refusal, SealError, Sealer, Session,
+    SessionKey, SessionSealer, Unopened,
 };
 use std::alloc::{AllocError, Global};
+use std::process::Abort;
 use std::test::Fail;
 
 /// 2023-11-14T22:13:20Z and 5 microseconds.
@@ -99,6 +100,17 @@ fn first_frame(
     )
 }
 
+/// Asserts that a frame with the number 7 was refused by its number, which was told.
+fn assert_misordered(rt: &impl Abort, answer: Result<Bytes, Unopened>) {
+    match answer {
+        Ok(_) => assert!(rt; false),
+        Err(unopened) => {
+            assert_same(rt, unopened.refusal, Refusal::BadOrder);
+            assert_same(rt, unopened.number, Some(7));
+        }
+    }
+}
+
 /// The encryption type, the mode, the bytes of the confounder, and the frame.
 static FRAMES: [(bool, Mode, u8, &[u8]); 5] = [
     (false, Mode::Safe, 0, &SAFE_17),
@@ -116,8 +128,10 @@ fn frames_are_those_of_another_sealer(rt: HostRuntime) -> Result<(), Fail> {
             let frame = first_frame(rt.alloc(), of_key, *wide, *mode, *byte)?;
             assert_same(&rt, frame.as_slice(), *expected);
         }
-        let data = opener(rt.alloc(), *wide, *mode)?.unseal(rt.alloc(), expected, 7, now)?;
+        let opener = opener(rt.alloc(), *wide, *mode)?;
+        let data = opener.unseal(rt.alloc(), expected, 7, now)?;
         assert_same(&rt, data.as_slice(), b"Dhi".as_slice());
+        assert_misordered(&rt, opener.unseal_telling(rt.alloc(), expected, 8, now));
     }
     Ok(())
 }

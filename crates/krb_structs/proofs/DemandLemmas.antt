@@ -5,9 +5,9 @@ use Rattle.krb_der.specs.declared.body.Body.{Body}
 use Rattle.krb_seal.specs.declared.refusal.Refusal.{Refusal}
 use Rattle.krb_seal.specs.declared.refusal.Refusal.TheVariants.{BadAddr, BadOrder, Memory, Skew}
 use Rattle.krb_seal.specs.Opens.{OpenerState}
-use Rattle.krb_seal.specs.Authentic.{Authenticity, Authenticates, AuthenticOrMemory, GivesBody}
-use Rattle.krb_seal.specs.Unseals.{first_unmet, refusal_of}
-use Rattle.krb_seal.proofs.Checking.{body_not_passed, all_passed}
+use Rattle.krb_seal.specs.Authentic.{Authenticity, Authenticates, GivesBody}
+use Rattle.krb_seal.specs.Unseals.{OrMemory, first_unmet, refusal_of}
+use Rattle.krb_seal.proofs.Checking.{not_passed, all_passed}
 use Rattle.krb_structs.specs.declared.demand.KrbDemand.{KrbDemand}
 use Rattle.krb_structs.specs.declared.carried.KrbCarried.{KrbCarried}
 use Rattle.krb_structs.specs.Carried.{carried_of}
@@ -15,20 +15,20 @@ use Rattle.krb_structs.specs.Demand.{AsDemanded, MeetsAllButNumber, OpensWith, a
 use Rattle.krb_structs.specs.Opening.{Misorders}
 
 goes_on : (o : OpenerState) (d : KrbDemand) (now : ℕ) (frame : List ℕ) (made : Authenticity) (b : Body) (result : Authenticity)
-    → Authenticates o frame made → made ≡ Ok b → AuthenticOrMemory (AsDemanded d now (Ok b)) result → AuthenticOrMemory (OpensWith o d now frame) result
+    → Authenticates o frame made → made ≡ Ok b → OrMemory (AsDemanded d now (Ok b)) result → OrMemory (OpensWith o d now frame) result
 goes_on o d now frame made b result h is (inl p) = inl p
 goes_on o d now frame made b result h is (inr p) = inr (made, h, subst (λ (z : Authenticity). AsDemanded d now z result) (sym is) p)
 
 pub demand_unmet : {A : Type 0} (o : OpenerState) (d : KrbDemand) (now : ℕ) (frame : List ℕ) (made : Authenticity) (b : Body) (checked : Result A Refusal) (r : Refusal) (result : Authenticity)
-    → AuthenticOrMemory (Authenticates o frame) made → made ≡ Ok b → first_unmet (demand_checks d now b) ≡ refusal_of checked → checked ≡ Err r → IsErrAnd result (λ e. e ≡ r)
-    → AuthenticOrMemory (OpensWith o d now frame) result
+    → OrMemory (Authenticates o frame) made → made ≡ Ok b → first_unmet (demand_checks d now b) ≡ refusal_of checked → checked ≡ Err r → IsErrAnd result (λ e. e ≡ r)
+    → OrMemory (OpensWith o d now frame) result
 demand_unmet o d now frame made b checked r result (inl h) is unmet was e = absurd (let x : Ok b ≡ Err Memory = sym is ∙ h in cc)
 demand_unmet o d now frame made b checked r result (inr h) is unmet was e =
-    goes_on o d now frame made b result h is (inr (body_not_passed (demand_checks d now b) (GivesBody b) checked r result unmet was e))
+    goes_on o d now frame made b result h is (inr (not_passed (demand_checks d now b) (GivesBody b) checked r result unmet was e))
 
 pub demand_met : {A : Type 0} (o : OpenerState) (d : KrbDemand) (now : ℕ) (frame : List ℕ) (made : Authenticity) (b : Body) (checked : Result A Refusal) (x : A)
-    → AuthenticOrMemory (Authenticates o frame) made → made ≡ Ok b → first_unmet (demand_checks d now b) ≡ refusal_of checked → checked ≡ Ok x
-    → AuthenticOrMemory (OpensWith o d now frame) (Ok b)
+    → OrMemory (Authenticates o frame) made → made ≡ Ok b → first_unmet (demand_checks d now b) ≡ refusal_of checked → checked ≡ Ok x
+    → OrMemory (OpensWith o d now frame) (Ok b)
 demand_met o d now frame made b checked x (inl h) is met was = absurd (let y : Ok b ≡ Err Memory = sym is ∙ h in cc)
 demand_met o d now frame made b checked x (inr h) is met was =
     goes_on o d now frame made b (Ok b) h is (all_passed (demand_checks d now b) (GivesBody b) checked x (Ok b) met was (inr refl))
@@ -49,7 +49,7 @@ but_number d now b checked unmet was =
     record { room = met.0; addresses = met.1; time = met.2; number = met.3 }
 
 pub misorders : {A : Type 0} (o : OpenerState) (d : KrbDemand) (now : ℕ) (frame : List ℕ) (made : Authenticity) (b : Body) (checked : Result A Refusal) (told : KrbCarried)
-    → AuthenticOrMemory (Authenticates o frame) made → made ≡ Ok b → first_unmet (demand_checks d now b) ≡ refusal_of checked → checked ≡ Err BadOrder → told ≡ carried_of b → Misorders o d now frame told
+    → OrMemory (Authenticates o frame) made → made ≡ Ok b → first_unmet (demand_checks d now b) ≡ refusal_of checked → checked ≡ Err BadOrder → told ≡ carried_of b → Misorders o d now frame told
 misorders o d now frame made b checked told (inl h) is unmet was tells = absurd (let x : Ok b ≡ Err Memory = sym is ∙ h in cc)
 misorders o d now frame made b checked told (inr h) is unmet was tells =
     (b, subst (λ (z : Authenticity). Authenticates o frame z) is h, but_number d now b checked unmet was, tells)

@@ -1,4 +1,4 @@
--- The number of a message, as C is told it.
+-- The number of a message, as C gets it.
 use Rattle.std.specs.Prelude.{◌≡◌, ℕ, List, Option, Some, None}
 use Rattle.krb_seal.specs.Opens.{OpenerState}
 use Rattle.krb_seal.specs.Number.{IsItsNumber}

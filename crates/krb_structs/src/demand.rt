@@ -4,8 +4,7 @@ ghost use Rattle.std.specs.Prelude.{◌≡◌, ◌↔◌, ◌≤◌, length, IsT
 ghost use Rattle.krb_base.specs.Limits.{frame_limit};
 ghost use Rattle.krb_der.specs.Body.{InRange};
 ghost use Rattle.krb_der.specs.Address.{same_address};
-ghost use Rattle.krb_seal.specs.Unseals.{first_unmet, refusal_of};
-ghost use Rattle.krb_seal.specs.Authentic.{AuthenticOrMemory};
+ghost use Rattle.krb_seal.specs.Unseals.{OrMemory, first_unmet, refusal_of};
 ghost use Rattle.krb_structs.specs.Carried.{carried_of};
 ghost use Rattle.krb_structs.specs.Opening.{Misorders};
 ghost use Rattle.krb_structs.specs.Session.{address_of, address_room};
@@ -159,7 +158,7 @@ fn check_demand(demand: &KrbDemand, now: u64, body: &Body) -> Result<(), Refusal
     requires range { InRange body.now }
     ensures checks { first_unmet (demand_checks demand.now now body.now) ≡ refusal_of result }
     ensures short { OnOk result (AreShort body.now.s_addr body.now.r_addr) }
-    ensures short_too { result ≡ Err Refusal.BadOrder → AreShort body.now.s_addr body.now.r_addr }
+    ensures short_misordered { result ≡ Err Refusal.BadOrder → AreShort body.now.s_addr body.now.r_addr }
     ensures memory { IfErr result (λ r. ¬ (r ≡ Refusal.Memory)) }
 {
     if !all_have_room(&body.s_addr, &body.r_addr) {
@@ -180,11 +179,11 @@ fn check_demand(demand: &KrbDemand, now: u64, body: &Body) -> Result<(), Refusal
 /// Ends a body whose user data the caller doesn't get: they are overwritten before they are freed.
 fn refuse(body: Body) {
     let Body { user_data, .. } = body;
-    drop(Secret::new(user_data.into_vec()));
+    drop(Secret::from(user_data));
 }
 
 /// The authentic body of a frame, where it meets the demands. Where it meets all but the number, what
-/// it carried is told.
+/// it carried is written to `told`.
 pub fn open_body(
     alloc: Global,
     opener: &Opener,
@@ -194,7 +193,7 @@ pub fn open_body(
     told: &mut KrbCarried,
 ) -> Result<Body, Refusal>
     requires { IsDemand demand.now }
-    ensures answer { AuthenticOrMemory (OpensWith opener.now demand.now now frame.now) result }
+    ensures answer { OrMemory (OpensWith opener.now demand.now now frame.now) result }
     ensures short { IfOk result (λ b. AreShort b.s_addr b.r_addr) }
     ensures misordered { result ≡ Err Refusal.BadOrder
         → Misorders opener.now demand.now now frame.now told.new }

@@ -170,7 +170,7 @@ impl LaneReceiver {
     }
 }
 
-/// A number as C is told it: the highest of 64 bits where there is none.
+/// A number as C gets it: the highest of 64 bits where there is none.
 fn number_told(number: Option<u32>) -> u64
     ensures { result ≡ number_told number }
 {

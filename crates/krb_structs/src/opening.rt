@@ -35,8 +35,10 @@ fn unsealed(
 {
     let opener = opener.live()?;
     let now = at.moment()?;
-    let user_data = opener.unseal(alloc, frame, number, now)?;
-    Ok(Secret::new(user_data))
+    match opener.unseal_telling(alloc, frame, number, now) {
+        Ok(user_data) => Ok(Secret::from(user_data)),
+        Err(unopened) => Err(Fault::Refused(unopened.refusal)),
+    }
 }
 
 /// Opens into a buffer, unless the opener was wiped, and answers the size of the user data. What is
@@ -128,7 +130,7 @@ pub fn open_telling(
     let body = open_body(alloc, opener, frame, demand, now, told)?;
     let carried = carried(&body);
     let Body { user_data, .. } = body;
-    let user_data = Secret::new(user_data.into_vec());
+    let user_data = Secret::from(user_data);
     let size = put_user_data(out, &user_data)?;
     *told = carried;
     Ok(size)

@@ -187,7 +187,7 @@ impl Peer {
     /// is one more then. Tells what else the message carried, and answers the size of the user data.
     ///
     /// BADORDER is the refusal of an authentic message that passes all checks but the number's. Then
-    /// it is told too what the message carried: a number below the expected one is a repeat, one above
+    /// what the message carried is written too: a number below the expected one is a repeat, one above
     /// it says that others are missing. Nothing else changes, and nothing at all on any other fault.
     pub fn open(
         &mut self,

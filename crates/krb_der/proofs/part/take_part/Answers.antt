@@ -9,6 +9,6 @@ returns c =
     let spelt = take_rest c.as_slice.result.now c.args.start ∙ ap (drop c.args.start) c.as_slice.ensures in
     let place = ends-dropped c.args.start (c.in_ok-data.data.now ++ c.in_ok-data.following.now) c.args.bytes (subst (EndsWith (c.in_ok-data.data.now ++ c.in_ok-data.following.now)) spelt c.in_ok-data.ensures.place) in
     let size = ap length c.as_slice-2.ensures in
-    let cut = rw c.into_vec.ensures at c.cut_out-data.ensures.part in
-    let moved = c.new.ensures ∙ cut ∙ data-place c.args.bytes c.in_ok-data.data.now c.in_ok-data.following.now _ size place in
+    let cut = rw c.into_bytes.ensures at c.cut-data.ensures.part in
+    let moved = cut ∙ data-place c.args.bytes c.in_ok-data.data.now c.in_ok-data.following.now _ size place in
     ap part_of (sym spelt) ∙ c.in_ok-data.ensures.fields ∙ c.in_ok-details.ensures c.in_ok-data.data.now ∙ ap Some (sym (c.with.ensures ∙ ap (λ (z : List ℕ). body_with z c.in_ok-details.details) moved))

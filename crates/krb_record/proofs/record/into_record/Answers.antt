@@ -9,4 +9,4 @@ returns-then-is_text-clause-bad c =
     let is : IsTrue c.is_text.result = search rules in
     let text = c.is_text.ensures.0 is in
     let P : List ℕ → Type 0 = λ bytes. SpellsRecord (Text text.0) bytes in
-    bad-ok _ c.args.bytes.items (Text text.0) (subst P c.deref.ensures.value text.1)
+    bad-ok _ c.args.bytes (Text text.0) (subst P c.as_slice.ensures text.1)

@@ -7,8 +7,8 @@ use Rattle.krb_peers.proofs.receiver.Receiver.judge.Goals as goal
 pub returns-in-Ok-clause-verdict : goal.returns-in-Ok-clause-verdict
 returns-in-Ok-clause-verdict c =
     let user = c.in_ok-user_data.user_data in
-    let spelled : SpellsRecord c.in-Ok.record user.items = search rules in
-    carried_is c.args.self.now c.args.now c.args.frame.now user.items c.in-Ok.record c.from.result c.in_ok-user_data.ensures.open c.in_ok-user_data.ensures.opened spelled c.from.ensures
+    let spelled : SpellsRecord c.in-Ok.record user = search rules in
+    carried_is c.args.self.now c.args.now c.args.frame.now user c.in-Ok.record c.from.result c.in_ok-user_data.ensures.open c.in_ok-user_data.ensures.opened spelled c.from.ensures
 
 pub returns-in_err-user_data-clause-verdict : goal.returns-in_err-user_data-clause-verdict
 returns-in_err-user_data-clause-verdict c =
