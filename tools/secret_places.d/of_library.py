@@ -11,9 +11,9 @@ import memcheck
 KINDS = [(name, etype, mode) for etype in (17, 18) for name, mode in (("safe", 20), ("priv", 21))]
 CONTROL = 3             # the places of the part `control`: one of each secret
 # Those of `refuse`, of each mode: the branch on the outcome of the comparison. Of KRB-SAFE one where a
-# call demands nothing first and one where it demands the body; whether the number is told, twice; and
-# the uses of the outcome in each of the seven calls, whose answer it is.
-OUTCOMES = {"safe": 13, "priv": 1}
+# call demands nothing first and one where it demands the body; and the use of the outcome in each of the
+# seven calls, whose answer it is.
+OUTCOMES = {"safe": 9, "priv": 1}
 # What holds decrypted bytes before their code is compared, and the calls of the library.
 HOLDERS = ("krb_seal.opening.", "krbrelay_")
 # What uses the outcome, and then reads the record in a text whose code was right.
