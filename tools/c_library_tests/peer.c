@@ -145,7 +145,7 @@ static void both_directions(int etype, uint32_t mode)
     CHECK(krbrelay_peer_is_empty(&client) && client.at == NULL);
 }
 
-/* A frame that comes again and one that comes early are told apart by the number that came. */
+/* A frame that comes again and one that comes early differ by the number that came. */
 static void repeats_and_gaps(int etype, uint32_t mode)
 {
     struct krbrelay_peer client = peer_at(etype, mode, CLIENT, 7, 0);

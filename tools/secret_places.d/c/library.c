@@ -183,7 +183,7 @@ static void open_by_opener(size_t len, enum krbrelay_answer wanted)
     krbrelay_opener_free(&opener);
 }
 
-/* A frame that was accepted comes again, and its number is told. */
+/* A frame that was accepted comes again, and its number is reported. */
 static void open_by_peer(size_t len, enum krbrelay_answer wanted)
 {
     struct krbrelay_peer peer = { 0 };
