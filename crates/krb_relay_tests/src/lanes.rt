@@ -22,7 +22,7 @@ use std::thread::Threads;
 /// 2023-11-14T22:13:20Z and 5 microseconds.
 const MICROS: u64 = 1_700_000_000_000_005;
 
-pub(crate) fn moment() -> Result<Moment, Fail> {
+fn moment() -> Result<Moment, Fail> {
     Ok(Moment::from_micros(MICROS).ok_or("past the year 9999")?)
 }
 
@@ -46,12 +46,7 @@ fn address(alloc: Global, host: u8) -> Result<HostAddress, AllocError>
 }
 
 /// A receiver of 10.0.0.`host` that demands the number 7.
-pub(crate) fn receiver(
-    alloc: Global,
-    long: bool,
-    mode: Mode,
-    host: u8,
-) -> Result<Receiver, AllocError> {
+fn receiver(alloc: Global, long: bool, mode: Mode, host: u8) -> Result<Receiver, AllocError> {
     let expect = Expect {
         mode,
         s_addr: address(alloc, host)?,

@@ -1,6 +1,5 @@
-//! Tests of the lane and of both relays, of what no clause says: calls that succeed, waits, gates,
-//! which allocation may fail, and one worked relay of each. What whole relays print is in
-//! `tools/test_program.d`.
+//! Tests of both relays, of what no clause says: calls that succeed, gates, which allocation may
+//! fail, and one worked relay of each. What whole relays print is in `tools/test_program.d`.
 //!
 //! `stepped` tests the relay of `krb_core`, which one thread steps, and `threads` that of
 //! `krb_relay`, which has a worker for each sender. This crate has no public item.
@@ -8,8 +7,6 @@
 
 #[cfg(test)]
 mod asserts;
-#[cfg(test)]
-mod lane;
 #[cfg(test)]
 mod lanes;
 #[cfg(test)]

@@ -1,5 +1,5 @@
 use Rattle.std.proofs.Common.{◌≡◌}
-use Rattle.krb_relay_tests.proofs.lane.passing.take_all.Given as goal
+use Rattle.krb_lane_tests.proofs.lane.passing.take_all.Given as goal
 
 abbrev pub invariant-loop : goal.invariant-loop
 invariant-loop g l =

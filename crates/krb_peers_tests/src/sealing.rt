@@ -1,8 +1,10 @@
 //! Frames of an independent sealer (`tools/frames.py`): each sealer seals them, an opener opens them,
-//! and what they carry is authentic.
+//! what they carry is authentic, and a receiver takes them.
 
 mod authentic;
 mod frames;
+mod records;
+mod sweep;
 
 ghost use Rattle.std.specs.Prelude.{IfOk};
 ghost use Rattle.krb_seal.specs.Session.{HasShortAddresses, IsShortAddress};
