@@ -1,5 +1,5 @@
 -- A failure passed on.
-use Rattle.std.proofs.Common.{◌≡◌, Bool, true, false, Option, Some, None, option_map, Result, Ok, Err, IsErr, ok_or, refl}
+use Rattle.std.proofs.Common.{◌≡◌, Bool, true, false, Option, Some, None, option_map, Result, Ok, Err, IsErr, IfOk, ok_or, refl}
 use Rattle.std.specs.Result.{IsErrAnd}
 use Rattle.krb_job.specs.declared.place.Place.{Place}
 use Rattle.krb_job.specs.declared.place.KeyError.{KeyError}
@@ -85,3 +85,8 @@ refused (Some x) e place is = absurd cc
 pub err_memory : {X Y : Type 0} (view : X → Y) (r : Result X KeyError) (checks : Result Y Place)
     → IsErr r × IsErrAnd r (λ x. x ≡ errors.Memory) → Gives view r checks
 err_memory view r checks same = err_gives view r errors.Memory checks same tt
+
+-- a failure has no value, so that anything holds of it
+pub err_holds : {X E : Type 0} (P : X → Type 0) (r : Result X E) → IsErr r → IfOk r P
+err_holds P (Ok x) failed = absurd cc
+err_holds P (Err e) failed = tt
