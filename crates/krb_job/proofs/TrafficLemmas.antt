@@ -1,5 +1,5 @@
 -- The checks of what is sent or opened, one after the other.
-use Rattle.std.proofs.Common.{◌≡◌, ℕ, Bool, List, [], Option, None, Result, Ok, Err, IsErr, refl, ap}
+use Rattle.std.proofs.Common.{◌≡◌, ℕ, Bool, List, [], Option, None, Result, Ok, IsErr, refl, ap}
 use Rattle.std.specs.Result.{IsErrAnd}
 use Rattle.toml.specs.Data.{Members}
 use Rattle.krb_base.specs.Limits.{batch_limit}

@@ -12,7 +12,7 @@ loop-item-init c = joined_none (bytes_of 0 c.args.high) c.args.items.now c.new-t
 pub returns-in_err-text : goal.returns-in_err-text
 returns-in_err-text c =
     err_within (λ v. v.items) c.from_residual.result c.in_err-text.field-0.0 ((bytes_of 0 c.args.high) (view c.item-item.result)) (each (bytes_of 0 c.args.high) (items_view c.args.items.now)) c.args.place c.from_residual.ensures
-        (λ none. joined_stop (bytes_of 0 c.args.high) c.args.items.now c.loop-item.item-index c.item-item.result c.loop-item.texts.items c.loop-item.invariant c.loop-item-test.true c.item-item.is none) c.in_err-text.ensures
+    (λ none. joined_stop (bytes_of 0 c.args.high) c.args.items.now c.loop-item.item-index c.item-item.result c.loop-item.texts.items c.loop-item.invariant c.loop-item-test.true c.item-item.is none) c.in_err-text.ensures
 
 pub returns-in_err-push : goal.returns-in_err-push
 returns-in_err-push c = err_memory (λ v. v.items) c.from_residual-in_err-push.result (ok_or (each (bytes_of 0 c.args.high) (items_view c.args.items.now)) c.args.place) c.from_residual-in_err-push.ensures

@@ -12,7 +12,7 @@ loop-item-init c = joined_none emission_of c.args.items.now c.new-plan.result.it
 pub returns-in_err-emission : goal.returns-in_err-emission
 returns-in_err-emission c =
     err_within (λ v. v.items) c.from_residual.result c.in_err-emission.field-0.0 (emission_of (view c.item-item.result)) (each emission_of (items_view c.args.items.now)) c.args.place c.from_residual.ensures
-        (λ none. joined_stop emission_of c.args.items.now c.loop-item.item-index c.item-item.result c.loop-item.plan.items c.loop-item.invariant c.loop-item-test.true c.item-item.is none) c.in_err-emission.ensures
+    (λ none. joined_stop emission_of c.args.items.now c.loop-item.item-index c.item-item.result c.loop-item.plan.items c.loop-item.invariant c.loop-item-test.true c.item-item.is none) c.in_err-emission.ensures
 
 pub returns-in_err-push : goal.returns-in_err-push
 returns-in_err-push c = err_memory (λ v. v.items) c.from_residual-in_err-push.result (ok_or (each emission_of (items_view c.args.items.now)) c.args.place) c.from_residual-in_err-push.ensures

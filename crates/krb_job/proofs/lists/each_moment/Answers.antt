@@ -14,7 +14,7 @@ pub returns-in_err-moment : goal.returns-in_err-moment
 returns-in_err-moment c =
     let failed = refused (moment_of (view c.item-item.result)) c.in_err-moment.field-0.0 c.args.place (rw c.read_moment.ensures at c.in_err-moment.ensures.value) in
     err_within (λ v. v.items) c.from_residual.result c.in_err-moment.field-0.0 (moment_of (view c.item-item.result)) (each moment_of (items_view c.args.items.now)) c.args.place c.from_residual.ensures
-        (λ none. joined_stop moment_of c.args.items.now c.loop-item.item-index c.item-item.result c.loop-item.moments.items c.loop-item.invariant c.loop-item-test.true c.item-item.is none) failed
+    (λ none. joined_stop moment_of c.args.items.now c.loop-item.item-index c.item-item.result c.loop-item.moments.items c.loop-item.invariant c.loop-item-test.true c.item-item.is none) failed
 
 pub returns-in_err-push : goal.returns-in_err-push
 returns-in_err-push c = err_memory (λ v. v.items) c.from_residual-in_err-push.result (ok_or (each moment_of (items_view c.args.items.now)) c.args.place) c.from_residual-in_err-push.ensures

@@ -88,8 +88,8 @@ pub returns-clause-value : goal.returns-clause-value
 returns-clause-value c =
     ap (sender_with (protection_view c.args.protection) (parties_view c.args.parties))
     (traffic_passes c.args.command (table_view c.args.table.now) c.seals-seals.result c.seals-seals.ensures c.opens.result c.opens.ensures
-        c.in_ok-seed.field-0 c.in_ok-moments_if.field-0.items c.in_ok-moments.field-0.items c.in_ok-texts.field-0.items c.in_ok-batch.field-0 (option_map (λ v. v.items) c.in_ok-plan.field-0) c.in_ok-frames.field-0.items
-        c.in_ok-seed.ensures.value c.in_ok-moments_if.ensures c.in_ok-moments.ensures c.in_ok-texts.ensures c.in_ok-batch.ensures.value c.in_ok-plan.ensures c.in_ok-frames.ensures)
+    c.in_ok-seed.field-0 c.in_ok-moments_if.field-0.items c.in_ok-moments.field-0.items c.in_ok-texts.field-0.items c.in_ok-batch.field-0 (option_map (λ v. v.items) c.in_ok-plan.field-0) c.in_ok-frames.field-0.items
+    c.in_ok-seed.ensures.value c.in_ok-moments_if.ensures c.in_ok-moments.ensures c.in_ok-texts.ensures c.in_ok-batch.ensures.value c.in_ok-plan.ensures c.in_ok-frames.ensures)
 
 pub returns-clause-seed : goal.returns-clause-seed
 returns-clause-seed c = λ sealing. c.in_ok-seed.ensures.there (c.seals-seals.ensures ∙ sealing)
