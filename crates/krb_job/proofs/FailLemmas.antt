@@ -90,3 +90,8 @@ err_memory view r checks same = err_gives view r errors.Memory checks same tt
 pub err_holds : {X E : Type 0} (P : X → Type 0) (r : Result X E) → IsErr r → IfOk r P
 err_holds P (Ok x) failed = absurd cc
 err_holds P (Err e) failed = tt
+
+-- what the code answers with the place's error where there is no value
+pub gives_or : {A : Type 0} (r : Result A KeyError) (o : Option A) (place : Place) → r ≡ ok_or o (errors.Bad place) → Gives (λ x. x) r (ok_or o place)
+gives_or r None place is = rw is refl
+gives_or r (Some x) place is = rw is refl
