@@ -3,6 +3,7 @@ use Rattle.std.proofs.Common.{◌≡◌, ℕ, nat_le, ◌&&◌, cond, length, Li
 use Rattle.toml.specs.Data.{Data, string, integer, float, boolean, datetime, array, table, as_str, as_array}
 use Rattle.toml.specs.View.{items_view}
 use Rattle.toml.specs.declared.value.Value.{Value}
+use Rattle.krb_job.specs.Values.{bytes_of}
 use Rattle.krb_job.specs.Lists.{items_of}
 use Rattle.krb_job.proofs.ListLemmas.{count_view}
 
@@ -25,3 +26,13 @@ items_of-array low high vs (float x) e = absurd cc
 items_of-array low high vs (boolean b) e = absurd cc
 items_of-array low high vs (datetime dt) e = absurd cc
 items_of-array low high vs (table ms) e = absurd cc
+
+-- what isn't a text stands for no bytes
+pub no_text : (low high : ℕ) (d : Data) → None ≡ as_str d → bytes_of low high d ≡ None
+no_text low high (string text) e = absurd cc
+no_text low high (integer z) e = refl
+no_text low high (float x) e = refl
+no_text low high (boolean b) e = refl
+no_text low high (datetime dt) e = refl
+no_text low high (array ds) e = refl
+no_text low high (table ms) e = refl

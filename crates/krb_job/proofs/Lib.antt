@@ -9,4 +9,5 @@ pub mod ListLemmas
 pub mod SenderLemmas
 pub mod SenderLimits
 pub mod TextLemmas
+pub mod TrafficLemmas
 pub mod TreeLemmas
