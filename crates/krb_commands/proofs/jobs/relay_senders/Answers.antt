@@ -6,7 +6,7 @@ use Rattle.krb_commands.proofs.FaultLemmas.{if_fault, same_fault, no_value, no_b
 use Rattle.krb_commands.proofs.jobs.relay_senders.Goals as goal
 
 pub returns-in_err-sendings-clause-printed : goal.returns-in_err-sendings-clause-printed
-returns-in_err-sendings-clause-printed g c = no_value c.from_residual.result c.from_residual.ensures.1 _
+returns-in_err-sendings-clause-printed g c = no_value c.from_residual.result Memory c.from_residual.ensures.1 _
 
 pub returns-in_err-sendings-clause-bad_plan : goal.returns-in_err-sendings-clause-bad_plan
 returns-in_err-sendings-clause-bad_plan g c = λ bad named. absurd (no_bad c.from_residual.result c.from_residual.ensures.1 bad named)
@@ -27,7 +27,7 @@ pub returns-in_err-sendings-clause-faults : goal.returns-in_err-sendings-clause-
 returns-in_err-sendings-clause-faults g c = if_fault c.from_residual.result Memory IsOfRelaying c.from_residual.ensures.1 tt
 
 pub returns-in_err-receivers-clause-printed : goal.returns-in_err-receivers-clause-printed
-returns-in_err-receivers-clause-printed g c = no_value c.from_residual-in_err-receivers.result c.from_residual-in_err-receivers.ensures.1 _
+returns-in_err-receivers-clause-printed g c = no_value c.from_residual-in_err-receivers.result Memory c.from_residual-in_err-receivers.ensures.1 _
 
 pub returns-in_err-receivers-clause-bad_plan : goal.returns-in_err-receivers-clause-bad_plan
 returns-in_err-receivers-clause-bad_plan g c = λ bad named. absurd (no_bad c.from_residual-in_err-receivers.result c.from_residual-in_err-receivers.ensures.1 bad named)
@@ -48,7 +48,7 @@ pub returns-in_err-receivers-clause-faults : goal.returns-in_err-receivers-claus
 returns-in_err-receivers-clause-faults g c = if_fault c.from_residual-in_err-receivers.result Memory IsOfRelaying c.from_residual-in_err-receivers.ensures.1 tt
 
 pub returns-in_err-sealer_of-clause-printed : goal.returns-in_err-sealer_of-clause-printed
-returns-in_err-sealer_of-clause-printed g c = no_value c.from_residual-in_err-sealer_of.result c.from_residual-in_err-sealer_of.ensures.1 _
+returns-in_err-sealer_of-clause-printed g c = no_value c.from_residual-in_err-sealer_of.result Memory c.from_residual-in_err-sealer_of.ensures.1 _
 
 pub returns-in_err-sealer_of-clause-bad_plan : goal.returns-in_err-sealer_of-clause-bad_plan
 returns-in_err-sealer_of-clause-bad_plan g c = λ bad named. absurd (no_bad c.from_residual-in_err-sealer_of.result c.from_residual-in_err-sealer_of.ensures.1 bad named)
@@ -69,7 +69,7 @@ pub returns-in_err-sealer_of-clause-faults : goal.returns-in_err-sealer_of-claus
 returns-in_err-sealer_of-clause-faults g c = if_fault c.from_residual-in_err-sealer_of.result Memory IsOfRelaying c.from_residual-in_err-sealer_of.ensures.1 tt
 
 pub returns-in_err-new-clause-printed : goal.returns-in_err-new-clause-printed
-returns-in_err-new-clause-printed g c = no_value c.from_residual-in_err-new.result c.from_residual-in_err-new.ensures.1 _
+returns-in_err-new-clause-printed g c = no_value c.from_residual-in_err-new.result Memory c.from_residual-in_err-new.ensures.1 _
 
 pub returns-in_err-new-clause-bad_plan : goal.returns-in_err-new-clause-bad_plan
 returns-in_err-new-clause-bad_plan g c = λ bad named. absurd (no_bad c.from_residual-in_err-new.result c.from_residual-in_err-new.ensures.1 bad named)
@@ -90,7 +90,7 @@ pub returns-in_err-new-clause-faults : goal.returns-in_err-new-clause-faults
 returns-in_err-new-clause-faults g c = if_fault c.from_residual-in_err-new.result Memory IsOfRelaying c.from_residual-in_err-new.ensures.1 tt
 
 pub returns-in_err-push_parsed-clause-printed : goal.returns-in_err-push_parsed-clause-printed
-returns-in_err-push_parsed-clause-printed g c = no_value c.from_residual-in_err-push_parsed.result (same_fault c.from_residual-in_err-push_parsed.result c.in_err-push_parsed.field-0.0 Memory c.in_err-push_parsed.ensures.faults c.from_residual-in_err-push_parsed.ensures.1) _
+returns-in_err-push_parsed-clause-printed g c = no_value c.from_residual-in_err-push_parsed.result Memory (same_fault c.from_residual-in_err-push_parsed.result c.in_err-push_parsed.field-0.0 Memory c.in_err-push_parsed.ensures.faults c.from_residual-in_err-push_parsed.ensures.1) _
 
 pub returns-in_err-push_parsed-clause-bad_plan : goal.returns-in_err-push_parsed-clause-bad_plan
 returns-in_err-push_parsed-clause-bad_plan g c = λ bad named. absurd (no_bad c.from_residual-in_err-push_parsed.result (same_fault c.from_residual-in_err-push_parsed.result c.in_err-push_parsed.field-0.0 Memory c.in_err-push_parsed.ensures.faults c.from_residual-in_err-push_parsed.ensures.1) bad named)
