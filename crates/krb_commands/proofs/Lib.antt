@@ -1,4 +1,5 @@
 pub mod EndsLemmas
+pub mod FaultLemmas
 pub mod LineLemmas
 pub mod LinesLemmas
 pub mod OpenedLemmas

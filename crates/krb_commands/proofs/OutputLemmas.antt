@@ -1,8 +1,10 @@
 -- Writes one after another.
 use Rattle.std.proofs.lemmas.List.{take_all, length-drop, take-append-drop}
-use Rattle.std.proofs.Common.{◌+◌, ◌-◌, ◌≤◌, length, take, drop, arith, ◌≡◌, ℕ, List, [], ◌++◌, refl, sym, ap, ◌∙◌, append_assoc, append-nil, length-append, Option}
-use Rattle.std.specs.Io.KnownBytes.{Appends}
-use Rattle.std.proofs.KnownBytes.{Appends-trans, Appends-nil}
+use Rattle.std.specs.Prelude.{◌==◌}
+use Rattle.std.proofs.lemmas.Bool.Decides.{nat_tests}
+use Rattle.std.proofs.Common.{true, false, None, Some, subst, ◌<◌, ◌∷◌, ◌+◌, ◌-◌, ◌≤◌, length, take, drop, arith, ◌≡◌, ℕ, List, [], ◌++◌, refl, sym, ap, ◌∙◌, append_assoc, append-nil, length-append, Option}
+use Rattle.std.specs.Io.KnownBytes.{Appends, Keeps}
+use Rattle.std.proofs.KnownBytes.{Appends-trans, Appends-kept, Appends-nil}
 use Rattle.krb_base.specs.Prefix.{IsPrefix}
 use Rattle.krb_commands.specs.Output.{AppendsPrefix, AppendsPart}
 
@@ -50,3 +52,29 @@ wrote_more a b c done rest all count p e q =
       e ∙ ap (λ l. done ++ l) (sym (take-append-drop count rest)) ∙ sym (append_assoc done (take count rest) (drop count rest))
           ∙ ap (λ l. (done ++ take count rest) ++ l) (sym (take_all (length rest - count) (drop count rest) short)),
     )
+
+-- ---- where the writing ends
+
+not_empty : (rest : List ℕ) → false ≡ (length rest == 0) → 0 < length rest
+not_empty [] h = absurd (let e : false ≡ true = h in cc)
+not_empty (x ∷ xs) h = omega arith
+
+pub kept_by_none : (a b : Option (List ℕ)) → Appends a b [] → Keeps a b
+kept_by_none None b p = tt
+kept_by_none (Some x) None p = absurd p
+kept_by_none (Some x) (Some y) p = p ∙ append-nil x
+
+-- the writer took nothing of what was left
+pub wrote_part : (a b c : Option (List ℕ)) (done rest all : List ℕ) → Appends a b done → all ≡ done ++ rest
+    → false ≡ (length rest == 0) → Keeps b c → AppendsPart a c all
+wrote_part a b c done rest all p e left kept =
+    (done, Appends-kept a b c done p kept, (rest, e), omega (arith, ap length e, length-append done rest, not_empty rest left))
+
+is_zero : (n : ℕ) → true ≡ (n == 0) → n ≡ 0
+is_zero n h = grind (arith, nat_tests)
+
+-- and nothing is left
+pub wrote_all : (a b : Option (List ℕ)) (done rest all : List ℕ) → Appends a b done → all ≡ done ++ rest
+    → true ≡ (length rest == 0) → Appends a b all
+wrote_all a b done [] all p e none = let P : List ℕ → Type 0 = λ l. Appends a b l in subst P (sym (e ∙ append-nil done)) p
+wrote_all a b done (x ∷ xs) all p e none = absurd (let n : length (x ∷ xs) ≡ 0 = is_zero (length (x ∷ xs)) none in omega arith)

@@ -1,7 +1,7 @@
 -- What `relay` has printed.
-use Rattle.std.proofs.Common.{◌≡◌, ℕ, suc, ◌+◌, ◌&&◌, Bool, List, [], ◌∷◌, ◌++◌, length, map, drop, slice_get, Some, Option, Result, Ok, Err, OnOk, OnErr, IfOk, refl, sym, ap, subst, ◌∙◌, arith, append-nil, append_assoc, inl, inr}
+use Rattle.std.proofs.Common.{◌≡◌, ℕ, suc, ◌+◌, ◌&&◌, Bool, List, [], ◌∷◌, ◌++◌, length, map, drop, slice_get, Some, Option, Result, Ok, Err, OnOk, OnErr, IfOk, refl, sym, ap, subst, ◌∙◌, arith, append-nil, append_assoc, inl, inr, ◌⊎◌}
 use Rattle.std.specs.List.{concat}
-use Rattle.std.specs.Io.KnownBytes.{Appends}
+use Rattle.std.specs.Io.KnownBytes.{Appends, Keeps}
 use Rattle.std.proofs.Math.Bool.{and_assoc}
 use Rattle.std.proofs.KnownBytes.{Appends-trans, Appends-nil}
 use Rattle.krb_peers.specs.declared.sending.Sent.{Sent}
@@ -12,10 +12,11 @@ use Rattle.krb_seal.specs.Sealer.{SealerState}
 use Rattle.krb_peers.specs.declared.receiver.Receiving.{Receiving}
 use Rattle.krb_peers.specs.declared.sending.Sending.{Sending}
 use Rattle.krb_peers.specs.Ends.{Ends, lanes_of, sents_of}
-use Rattle.krb_peers.specs.Whole.{IsWhole}
+use Rattle.krb_peers.specs.Whole.{IsRelayed, IsWhole}
+use Rattle.krb_relay.specs.Relayed.{unended}
 use Rattle.krb_commands.specs.JobLines.{entry_line, entry_lines, end_line, end_lines, are_closed, is_closed_state, status_by}
 use Rattle.krb_commands.specs.Relayed.{relayed_text, PrintsRelayed, PrintsRelayedPrefix}
-use Rattle.krb_commands.specs.Output.{AppendsPart}
+use Rattle.krb_commands.specs.Output.{AppendsPart, AppendsPrefix}
 use Rattle.krb_commands.proofs.OutputLemmas.{AppendsPrefix-after, AppendsPart-after, prefix_by_part}
 
 -- ---- how the lanes ended
@@ -94,3 +95,9 @@ module _ (lanes : List Ends) (log : LogState) (old then now : Option (List ℕ))
     pub front_by : {E : Type 0} (r : Result ℕ E) → OnErr r (AppendsPart then now (end_lines 0 sents log)) → OnErr r (PrintsRelayedPrefix lanes old now)
     front_by (Ok status) p = tt
     front_by (Err e) p = ends_front p
+
+-- a prefix of the entries until a relay stopped, or nothing
+pub stopped_front : (lanes : List Ends) (log : LogState) (old now : Option (List ℕ)) → IsRelayed lanes (unended log)
+    → Keeps old now ⊎ AppendsPrefix old now (entry_lines log.entries) → PrintsRelayedPrefix lanes old now
+stopped_front lanes log old now h (inl kept) = inl kept
+stopped_front lanes log old now h (inr front) = inr (inr (log, h, front))

@@ -14,7 +14,7 @@ use Rattle.krb_relay.specs.declared.cause.Cause.TheVariants.{Memory, Spawn, Lost
 use Rattle.krb_relay.specs.Relayed.{IsLeast, StopsRelay}
 use Rattle.krb_commands.specs.declared.fault.Fault.{Fault}
 use Rattle.krb_commands.specs.declared.fault.Fault.TheVariants as fault
-use Rattle.krb_commands.specs.Fault.{bad_plan, of_relay, IsLiveCause, IsOfPrinting}
+use Rattle.krb_commands.specs.Fault.{bad_plan, of_relay, IsLiveCause, IsOfPrinting, IsOfRelaying}
 use Rattle.krb_commands.specs.Relayed.{HasBadPlanFirst}
 
 -- ---- a lane and its run
@@ -91,3 +91,34 @@ names_bad_plan lanes log lane Lost reported bad h lines Part (inl is) named = ab
 names_bad_plan lanes log lane BadPlan reported bad h lines Part (inl is) named =
     (lane, (let e : fault.BadInput (bad_plan lane) ≡ fault.BadInput bad = sym is ∙ named in let f : bad_plan lane ≡ bad = cc in sym f), first_bad_plan lanes log lane h)
 names_bad_plan lanes log lane Wiped reported bad h lines Part (inl is) named = absurd (let e : fault.Memory ≡ fault.BadInput bad = sym is ∙ named in cc)
+
+-- ---- the fault by its cause
+
+module _ (lane n : ℕ) where
+  pub cause_relaying : (cause : Cause) → IsOfRelaying (of_relay cause lane n)
+  cause_relaying Memory = tt
+  cause_relaying Spawn = tt
+  cause_relaying Lost = tt
+  cause_relaying BadPlan = tt
+  cause_relaying Wiped = tt
+
+  pub bad_cause : (cause : Cause) (bad : BadInput) → of_relay cause lane n ≡ fault.BadInput bad → cause ≡ BadPlan
+  bad_cause Memory bad is = absurd (let e : fault.Stopped n ≡ fault.BadInput bad = is in cc)
+  bad_cause Spawn bad is = absurd (let e : fault.Thread n ≡ fault.BadInput bad = is in cc)
+  bad_cause Lost bad is = absurd (let e : fault.Thread n ≡ fault.BadInput bad = is in cc)
+  bad_cause BadPlan bad is = refl
+  bad_cause Wiped bad is = absurd (let e : fault.Memory ≡ fault.BadInput bad = is in cc)
+
+  pub stopped_lines : (cause : Cause) (lines : ℕ) → of_relay cause lane n ≡ fault.Stopped lines → lines ≡ n
+  stopped_lines Memory lines is = let e : fault.Stopped n ≡ fault.Stopped lines = is in cc
+  stopped_lines Spawn lines is = absurd (let e : fault.Thread n ≡ fault.Stopped lines = is in cc)
+  stopped_lines Lost lines is = absurd (let e : fault.Thread n ≡ fault.Stopped lines = is in cc)
+  stopped_lines BadPlan lines is = absurd (let e : fault.BadInput (bad_plan lane) ≡ fault.Stopped lines = is in cc)
+  stopped_lines Wiped lines is = absurd (let e : fault.Memory ≡ fault.Stopped lines = is in cc)
+
+  pub lost_lines : (cause : Cause) (lines : ℕ) → of_relay cause lane n ≡ fault.Thread lines → lines ≡ n
+  lost_lines Memory lines is = absurd (let e : fault.Stopped n ≡ fault.Thread lines = is in cc)
+  lost_lines Spawn lines is = let e : fault.Thread n ≡ fault.Thread lines = is in cc
+  lost_lines Lost lines is = let e : fault.Thread n ≡ fault.Thread lines = is in cc
+  lost_lines BadPlan lines is = absurd (let e : fault.BadInput (bad_plan lane) ≡ fault.Thread lines = is in cc)
+  lost_lines Wiped lines is = absurd (let e : fault.Memory ≡ fault.Thread lines = is in cc)
