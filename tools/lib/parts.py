@@ -95,7 +95,7 @@ GATE = Part("rt ci", 174, ("rt",))
 BUILD = Part("tools/krbrelay --prove", 60, ("rt",))
 # The first builds the C library, which those after it take then. It stands on all that krb_c stands
 # on: `rt ci` proves krb_c as one of the last crates, and compiles none of it.
-LIBRARY = Part("tools/c_library --build", 30, ("rt", COMPILER, MAKE),
+LIBRARY = Part("tools/c_library --build", 60, ("rt", COMPILER, MAKE),
                over=("krb_carry", "krb_structs", "krb_window"))
 PARTS = [
     LIBRARY,
