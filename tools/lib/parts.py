@@ -93,10 +93,10 @@ class Part:
 FIRST = Part("tools/wrong_bodies", 2, ("rt",))
 GATE = Part("rt ci", 174, ("rt",))
 BUILD = Part("tools/krbrelay --prove", 60, ("rt",))
-# The first builds the C library, which those after it take then. It stands on all that krb_c stands
-# on: `rt ci` proves krb_c as one of the last crates, and compiles none of it.
+# The first builds the C library, which those after it take then. It stands on what krb_c stands on:
+# `rt ci` proves krb_c as one of the last crates, and compiles none of it.
 LIBRARY = Part("tools/c_library --build", 60, ("rt", COMPILER, MAKE),
-               over=("krb_carry", "krb_structs", "krb_window"))
+               over=tuple(building.below()["krb_c"]))
 PARTS = [
     LIBRARY,
     Part("tools/c_library --core", 20, ("rt", COMPILER, CRYPTOGRAPHY, MAKE, SQLITE),
