@@ -1,3 +1,4 @@
+pub mod EndedLemmas
 pub mod EndsLemmas
 pub mod FaultLemmas
 pub mod LineLemmas
@@ -6,8 +7,6 @@ pub mod OpenedLemmas
 pub mod OutputLemmas
 mod ParsedLemmas
 pub mod Readings
-pub mod StoppedLemmas
-pub mod RelayedLemmas
 pub mod SealedLemmas
 pub mod ShowLemmas
 pub mod TextLemmas

@@ -2,8 +2,6 @@
 use Rattle.std.specs.Prelude.{ℕ}
 use Rattle.krb_peers.specs.declared.start.StartError.{StartError}
 use Rattle.krb_peers.specs.declared.start.StartError.TheVariants as start
-use Rattle.krb_relay.specs.declared.cause.Cause.{Cause}
-use Rattle.krb_relay.specs.declared.cause.Cause.TheVariants as cause
 use Rattle.krb_job.specs.declared.bad_input.BadInput.{BadInput}
 use Rattle.krb_job.specs.declared.bad_input.BadInput.TheVariants as bad
 use Rattle.krb_job.specs.declared.bad_input.JobError.{JobError}
@@ -41,19 +39,6 @@ of_start start.Memory = fault.Memory
 of_start (start.BadPlan lane) = fault.BadInput (bad_plan lane)
 of_start (start.Wiped lane) = fault.Memory
 
--- no sealer was wiped, where a relay stops
-abbrev pub IsLiveCause : Cause → Type 0
-IsLiveCause cause.Wiped = ⊥
-IsLiveCause other = Unit {0}
-
--- why a relay stopped at a lane, where so many lines are printed
-abbrev pub of_relay : Cause → ℕ → ℕ → Fault
-of_relay cause.Memory lane lines = fault.Stopped lines
-of_relay cause.Spawn lane lines = fault.Thread lines
-of_relay cause.Lost lane lines = fault.Thread lines
-of_relay cause.BadPlan lane lines = fault.BadInput (bad_plan lane)
-of_relay cause.Wiped lane lines = fault.Memory
-
 -- a fault of reading an input
 abbrev pub IsOfReading : Fault → Type 0
 IsOfReading fault.TooLong = Unit {0}
@@ -88,12 +73,6 @@ IsOfOpening fault.Memory = Unit {0}
 IsOfOpening (fault.Stopped lines) = Unit {0}
 IsOfOpening fault.Write = Unit {0}
 IsOfOpening other = ⊥
-
--- any but a fault of reading
-abbrev pub IsOfRelaying : Fault → Type 0
-IsOfRelaying fault.TooLong = ⊥
-IsOfRelaying fault.Read = ⊥
-IsOfRelaying other = Unit {0}
 
 -- a fault of reading an input, or a check of the job that isn't passed
 abbrev pub IsOfTelling : Fault → Type 0

@@ -10,7 +10,6 @@ pub mod Output
 pub mod Parsed
 pub mod Printed
 pub mod Reading
-pub mod Relayed
 pub mod Sealed
 pub mod Show
 pub mod Vectors

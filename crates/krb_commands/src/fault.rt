@@ -1,11 +1,10 @@
 //! What ends a run before its output is whole.
 ghost use Rattle.std.specs.Prelude.{◌≡◌};
 ghost use Rattle.krb_commands.specs.declared.fault.Fault.TheVariants.{Memory};
-ghost use Rattle.krb_commands.specs.Fault.{bad_plan, fault_status, of_job, of_relay, of_start, IsLive, IsLiveCause};
+ghost use Rattle.krb_commands.specs.Fault.{bad_plan, fault_status, of_job, of_start, IsLive};
 
 use krb_job::{BadInput, JobError, Place};
 use krb_peers::StartError;
-use krb_relay::Cause;
 use std::alloc::{AllocError, AllocFailed};
 use thiserror::Error;
 
@@ -65,22 +64,8 @@ impl Fault {
         }
     }
 
-    /// Why a relay of sealers that weren't wiped stops, as a fault: a bad plan is bad input. So
-    /// many lines are printed.
-    pub(crate) fn of_relay(cause: Cause, lane: u32, lines: usize) -> Fault
-        requires { IsLiveCause cause }
-        ensures { result ≡ of_relay cause lane lines }
-    {
-        match cause {
-            Cause::Memory => Fault::Stopped { lines },
-            Cause::Spawn | Cause::Lost => Fault::Thread { lines },
-            Cause::BadPlan => Fault::bad_plan(lane),
-            Cause::Wiped => unreachable!(),
-        }
-    }
-
-    /// The plan of a sender names what its frames don't have.
-    pub(crate) fn bad_plan(lane: u32) -> Fault
+    /// The plan of a sender, by its place in the job, names what its frames don't have.
+    pub fn bad_plan(lane: u32) -> Fault
         ensures { result ≡ Fault.BadInput (bad_plan lane) }
     {
         Fault::BadInput(BadInput::InSender {

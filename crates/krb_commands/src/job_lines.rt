@@ -8,7 +8,7 @@ ghost use Rattle.krb_commands.specs.JobLines as lines;
 ghost use Rattle.krb_commands.specs.Output.{AppendsPart};
 
 use crate::fault::Fault;
-use crate::line::{Line, print_lines};
+use crate::line::{Line, print_line, print_lines};
 use krb_peers::{Ending, Entry, Event, Log, Sent, Status};
 use std::alloc::{AllocError, Global};
 use std::io::Write;
@@ -46,7 +46,7 @@ impl Line for Entry {
 /// Prints all entries of a log, one a line, and answers how many these are.
 ///
 /// After a fault a prefix of the lines is written, and not all.
-pub(crate) fn print_log<W: Write>(alloc: Global, log: &Log, writer: &mut W) -> Result<usize, Fault>
+pub fn print_log<W: Write>(alloc: Global, log: &Log, writer: &mut W) -> Result<usize, Fault>
     ensures count { IfOk result (λ count. count ≡ length log.now.entries) }
     ensures printed { OnOk result (Appends
         (W.contents writer.old) (W.contents writer.new) (lines.entry_lines log.now.entries)) }
@@ -106,10 +106,10 @@ fn state_name(status: Status) -> &'static str
 
 /// How much of a lane's texts was sealed, and how the lane ended.
 #[derive(Drop)]
-pub(crate) struct EndLine {
-    pub(crate) lane: u32,
-    pub(crate) sent: Sent,
-    pub(crate) status: Status,
+struct EndLine {
+    lane: u32,
+    sent: Sent,
+    status: Status,
 }
 
 impl Line for EndLine {
@@ -121,6 +121,39 @@ impl Line for EndLine {
         let ending = ending_name(self.sent.ending);
         format!(in alloc; "lane {lane} sent {sealed} of {texts} {ending} {name}\n")
     }
+}
+
+/// Prints of each lane of a log that has ended how it ended, one a line, and answers the exit
+/// status: 0 where every lane's close was accepted, else 3.
+///
+/// `sents` says how much the sender of each lane sealed. After a fault a prefix of the lines is
+/// written, and not all.
+pub fn print_ends<W: Write>(
+    alloc: Global,
+    sents: &[Sent],
+    log: &Log,
+    writer: &mut W,
+) -> Result<u8, Fault>
+    requires { length sents.now ≡ log.now.lanes }
+    ensures printed { OnOk result (Appends (W.contents writer.old) (W.contents writer.new)
+        (lines.end_lines 0 sents.now log.now)) }
+    ensures status { IfOk result (λ status.
+        status ≡ lines.status_by (lines.are_closed 0 sents.now log.now)) }
+    ensures part { OnErr result (AppendsPart (W.contents writer.old) (W.contents writer.new)
+        (lines.end_lines 0 sents.now log.now)) }
+    ensures faults { IfErr result IsOfPrinting }
+{
+    let mut all_closed = true;
+    for lane in 0..log.lanes() {
+        let end = EndLine {
+            lane,
+            sent: sents[lane as usize],
+            status: log.status(lane),
+        };
+        print_line(alloc, &end, writer)?;
+        all_closed &= is_closed(end.status);
+    }
+    Ok(status_of_lanes(all_closed))
 }
 
 /// Whether the lane's close was accepted.

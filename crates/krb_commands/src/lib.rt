@@ -1,9 +1,10 @@
-//! The commands of the program `krbrelay`, each over a reader and a writer.
+//! The commands of the program `krbrelay` but for `relay`, each over a reader and a writer.
 //!
-//! [`show`] prints messages, [`vectors`] published values of the ciphers. [`seal_job`],
-//! [`open_job`] and [`relay_job`] print what a job's senders seal and its receivers open;
-//! [`sealer_of`], [`sending_of`] and [`receiving_of`] make the two ends of a lane from the job.
-//! Each command answers the exit status, or the [`Fault`] that ended it.
+//! [`show`] prints messages, [`vectors`] published values of the ciphers. [`seal_job`] and
+//! [`open_job`] print what a job's sender seals and its receiver opens; [`sealer_of`],
+//! [`sending_of`] and [`receiving_of`] make the two ends of a lane from the job, and [`print_log`]
+//! and [`print_ends`] print the lines of a log. Each command answers the exit status, or the
+//! [`Fault`] that ended it.
 //!
 //! ```text
 //! let input = read_all(alloc, &mut reader)?;
@@ -25,7 +26,6 @@ mod opening;
 mod output;
 mod published;
 mod reading;
-mod relaying;
 mod sealing;
 mod text;
 
@@ -34,9 +34,9 @@ pub use ends::{
 };
 pub use fault::Fault;
 pub use input::{LIMIT, limit_law, read_all};
-pub use jobs::{open, relay, seal};
+pub use job_lines::{print_ends, print_log};
+pub use jobs::{open, parsed_job, seal};
 pub use messages::{one_reading, show};
 pub use opening::open_job;
 pub use published::vectors;
-pub use relaying::relay_job;
 pub use sealing::seal_job;

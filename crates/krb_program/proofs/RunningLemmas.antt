@@ -13,7 +13,8 @@ use Rattle.krb_commands.specs.Vectors.{vectors_text}
 use Rattle.krb_program.specs.declared.command.Cmd.{Cmd}
 use Rattle.krb_program.specs.declared.command.Cmd.TheVariants.{Show, Vectors, Seal, Open, Relay}
 use Rattle.krb_commands.specs.Parsed.{Parsed}
-use Rattle.krb_commands.specs.Jobs.{SealsParsed, SealsParsedPrefix, OpensParsed, OpensParsedFirst, OpensParsedPrefix, RelaysParsed, RelaysParsedPrefix, StopsParsed}
+use Rattle.krb_commands.specs.Jobs.{SealsParsed, SealsParsedPrefix, OpensParsed, OpensParsedFirst, OpensParsedPrefix}
+use Rattle.krb_program.specs.RelayedJob.{RelaysParsed, RelaysParsedPrefix, StopsParsed}
 use Rattle.krb_commands.specs.JobInput.{PrintsNothing}
 use Rattle.krb_program.specs.Running.{Does, DoesFirst, DoesPrefix, IsBadInput, HasRun}
 

@@ -15,7 +15,8 @@ use Rattle.krb_program.specs.declared.command.Cmd.TheVariants.{Show, Vectors, Se
 use Rattle.krb_commands.specs.Parsed.{Parsed, IsParsed}
 use Rattle.krb_commands.specs.Jobs.{SealsParsed, SealsParsedPrefix, IsBadToSeal}
 use Rattle.krb_commands.specs.Jobs.{OpensParsed, OpensParsedFirst, OpensParsedPrefix}
-use Rattle.krb_commands.specs.Jobs.{RelaysParsed, RelaysParsedPrefix, StopsParsed, IsBadToRelay}
+use Rattle.krb_program.specs.RelayedJob.{RelaysParsed, RelaysParsedPrefix, StopsParsed}
+use Rattle.krb_program.specs.RelayedJob.{IsBadToRelay}
 
 -- all that the command is to write is written, and this is the status
 abbrev pub Does : Cmd → Option (List ℕ) → Option (List ℕ) → Option (List ℕ) → ℕ → Type 0

@@ -1,8 +1,9 @@
 //! What the program `krbrelay` does, from the words of its command line to its exit code.
 //!
 //! [`obey`] runs the command that the words name, over a reader and a writer; [`run`] runs a
-//! [`Cmd`] that [`command_of`] has read from them. [`finish`], [`usage`] and [`bad_words`] tell
-//! what went otherwise on standard error, and give the exit code.
+//! [`Cmd`] that [`command_of`] has read from them. [`relay`] is the command of that name, the others
+//! are krb_commands'; [`relay_job`] relays a job's lanes. [`finish`], [`usage`] and [`bad_words`]
+//! tell what went otherwise on standard error, and give the exit code.
 //!
 //! ```text
 //! match obey(&rt, rt.alloc(), words.as_slice(), &mut rt.reader(), &mut writer, &NoGate) {
@@ -15,8 +16,12 @@
 mod command;
 mod ending;
 mod help;
+mod relay_command;
+mod relaying;
 mod running;
 
 pub use command::{Cmd, command_of};
 pub use ending::{bad_words, finish, usage};
+pub use relay_command::relay;
+pub use relaying::relay_job;
 pub use running::{obey, run};

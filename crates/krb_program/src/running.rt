@@ -10,8 +10,9 @@ ghost use Rattle.krb_commands.specs.JobInput.{PrintsNothing};
 ghost use Rattle.krb_program.specs.Running.{Does, DoesFirst, DoesPrefix, IsBadInput, HasRun};
 
 use crate::command::{Cmd, command_of};
+use crate::relay_command::relay;
 use clap::Error;
-use krb_commands::{Fault, open, relay, seal, show, vectors};
+use krb_commands::{Fault, open, seal, show, vectors};
 use krb_relay::Gate;
 use std::alloc::Global;
 use std::convert::AsStr;

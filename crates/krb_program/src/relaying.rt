@@ -1,22 +1,20 @@
-//! The command `relay`.
+//! A relay of a job's lanes, and what is printed of it.
 
-ghost use Rattle.std.specs.Prelude.{◌≡◌, ◌⊎◌, ◌≤◌, ◌<◌, ℕ, false, length, All, IfOk, IfErr, OnOk, OnErr};
-ghost use Rattle.std.specs.Io.KnownBytes.{Keeps};
+ghost use Rattle.std.specs.Prelude.{◌≡◌, ◌⊎◌, ◌≤◌, ◌<◌, ℕ, false, length, All, IfOk, IfErr, OnErr};
+ghost use Rattle.std.specs.Io.KnownBytes.{Appends, Keeps};
+ghost use Rattle.krb_base.specs.Limits.{lane_limit, capacity_limit};
 ghost use Rattle.krb_job.specs.declared.bad_input.BadInput.{BadInput};
 ghost use Rattle.krb_peers.specs.Sending.{source_of, IsSender};
 ghost use Rattle.krb_peers.specs.Ends.{lanes_of};
-ghost use Rattle.krb_commands.specs.Fault.{bad_plan, of_relay, IsLiveCause, IsOfPrinting, IsOfRelaying};
-ghost use Rattle.krb_commands.specs.JobLines.{are_closed, end_lines, entry_lines, status_by};
+ghost use Rattle.krb_commands.specs.Fault.{bad_plan, IsOfPrinting};
+ghost use Rattle.krb_commands.specs.JobLines.{entry_lines};
 ghost use Rattle.krb_commands.specs.Output.{AppendsPart, AppendsPrefix};
-ghost use Rattle.krb_commands.specs.Relayed.{HasBadPlanFirst, PrintsRelayed, PrintsRelayedPrefix, PrintsStopped};
-ghost use Rattle.std.specs.Io.KnownBytes.{Appends};
-ghost use Rattle.krb_base.specs.Limits.{lane_limit, capacity_limit};
+ghost use Rattle.krb_program.specs.RelayFault.{of_relay, IsLiveCause, IsOfRelaying};
+ghost use Rattle.krb_program.specs.Relayed.{HasBadPlanFirst, PrintsRelayed, PrintsRelayedPrefix, PrintsStopped};
 
-use crate::fault::Fault;
-use crate::job_lines::{EndLine, is_closed, print_log, status_of_lanes};
-use crate::line::print_line;
+use krb_commands::{Fault, print_ends, print_log};
 use krb_peers::{Boxed, Receiving, Sending};
-use krb_relay::{Cause, Gate, Report, relay};
+use krb_relay::{Cause, Gate, relay};
 use krb_seal::Sealer;
 use std::alloc::Global;
 use std::io::Write;
@@ -73,7 +71,7 @@ pub fn relay_job<T: Threads + Wait + Sync, G: Gate + Sync, S: Sealer + Boxed + S
         Err(stopped) => return Err(print_stopped(alloc, &stopped, writer)),
     };
     print_log(alloc, &report.log, writer)?;
-    print_ends(alloc, &report, writer)
+    print_ends(alloc, report.sent.as_slice(), &report.log, writer)
 }
 
 /// Prints the outcome of all frames until a relay stopped, and answers its fault, or that of the
@@ -102,32 +100,21 @@ fn print_stopped<W: Write>(alloc: Global, stopped: &krb_relay::Fault, writer: &m
         return Fault::bad_plan(stopped.lane);
     }
     match print_log(alloc, &stopped.log, writer) {
-        Ok(lines) => Fault::of_relay(stopped.cause, stopped.lane, lines),
+        Ok(lines) => fault_of(stopped.cause, stopped.lane, lines),
         Err(fault) => fault,
     }
 }
 
-/// Prints of each lane how it ended, and answers the exit status.
-fn print_ends<W: Write>(alloc: Global, report: &Report, writer: &mut W) -> Result<u8, Fault>
-    requires { length report.now.sent.items ≡ report.now.log.lanes }
-    ensures printed { OnOk result (Appends (W.contents writer.old) (W.contents writer.new)
-        (end_lines 0 report.now.sent.items report.now.log)) }
-    ensures status { IfOk result (λ status.
-        status ≡ status_by (are_closed 0 report.now.sent.items report.now.log)) }
-    ensures part { OnErr result (AppendsPart
-        (W.contents writer.old) (W.contents writer.new)
-        (end_lines 0 report.now.sent.items report.now.log)) }
-    ensures faults { IfErr result IsOfPrinting }
+/// Why a relay of sealers that weren't wiped stops, as a fault: a bad plan is bad input. So many
+/// lines are printed.
+fn fault_of(cause: Cause, lane: u32, lines: usize) -> Fault
+    requires { IsLiveCause cause }
+    ensures { result ≡ of_relay cause lane lines }
 {
-    let mut all_closed = true;
-    for lane in 0..report.log.lanes() {
-        let end = EndLine {
-            lane,
-            sent: report.sent[lane as usize],
-            status: report.log.status(lane),
-        };
-        print_line(alloc, &end, writer)?;
-        all_closed &= is_closed(end.status);
+    match cause {
+        Cause::Memory => Fault::Stopped { lines },
+        Cause::Spawn | Cause::Lost => Fault::Thread { lines },
+        Cause::BadPlan => Fault::bad_plan(lane),
+        Cause::Wiped => unreachable!(),
     }
-    Ok(status_of_lanes(all_closed))
 }

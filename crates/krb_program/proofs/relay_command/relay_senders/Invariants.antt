@@ -2,8 +2,8 @@ use Rattle.std.proofs.Common.{◌≡◌, length, map, Some}
 use Rattle.krb_job.specs.SenderView.{sender_view}
 use Rattle.krb_peers.specs.Ends.{lanes_of}
 use Rattle.krb_commands.specs.Ends.{AreReady, lane_stated}
-use Rattle.krb_commands.proofs.jobs.relay_senders.OwnLists.{own-1}
-use Rattle.krb_commands.proofs.jobs.relay_senders.Given as goal
+use Rattle.krb_program.proofs.relay_command.relay_senders.OwnLists.{own-1}
+use Rattle.krb_program.proofs.relay_command.relay_senders.Given as goal
 
 -- the ends of one lane for each sender so far
 abbrev pub invariant-loop-sender : goal.invariant-loop-sender

@@ -14,8 +14,9 @@ use Rattle.krb_relay.specs.declared.cause.Cause.TheVariants.{Memory, Spawn, Lost
 use Rattle.krb_relay.specs.Relayed.{IsLeast, StopsRelay}
 use Rattle.krb_commands.specs.declared.fault.Fault.{Fault}
 use Rattle.krb_commands.specs.declared.fault.Fault.TheVariants as fault
-use Rattle.krb_commands.specs.Fault.{bad_plan, of_relay, IsLiveCause, IsOfPrinting, IsOfRelaying}
-use Rattle.krb_commands.specs.Relayed.{HasBadPlanFirst}
+use Rattle.krb_commands.specs.Fault.{bad_plan, IsOfPrinting}
+use Rattle.krb_program.specs.RelayFault.{of_relay, IsLiveCause, IsOfRelaying}
+use Rattle.krb_program.specs.Relayed.{HasBadPlanFirst}
 
 -- ---- a lane and its run
 

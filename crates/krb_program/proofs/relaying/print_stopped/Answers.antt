@@ -4,12 +4,13 @@ use Rattle.std.proofs.KnownBytes.{Keeps-refl}
 use Rattle.std.proofs.lemmas.Bool.{true≢false}
 use Rattle.krb_relay.specs.declared.cause.Cause.TheVariants.{BadPlan}
 use Rattle.krb_commands.specs.declared.fault.Fault.TheVariants as fault
-use Rattle.krb_commands.specs.Fault.{bad_plan, of_relay, IsOfPrinting, IsOfRelaying}
-use Rattle.krb_commands.proofs.FaultLemmas.{printing_relaying}
+use Rattle.krb_commands.specs.Fault.{bad_plan, IsOfPrinting}
+use Rattle.krb_program.specs.RelayFault.{of_relay, IsOfRelaying}
+use Rattle.krb_program.proofs.FaultLemmas.{printing_relaying}
 use Rattle.krb_commands.proofs.OutputLemmas.{AppendsPrefix-whole, prefix_by_part}
-use Rattle.krb_commands.proofs.StoppedLemmas.{cause_relaying, bad_cause, stopped_lines, lost_lines}
-use Rattle.krb_commands.proofs.relaying.print_stopped.Goals as goal
-use Rattle.krb_commands.proofs.relaying.print_stopped.Goals.{in-BadPlan, in_default}
+use Rattle.krb_program.proofs.StoppedLemmas.{cause_relaying, bad_cause, stopped_lines, lost_lines}
+use Rattle.krb_program.proofs.relaying.print_stopped.Goals as goal
+use Rattle.krb_program.proofs.relaying.print_stopped.Goals.{in-BadPlan, in_default}
 
 -- ---- a bad plan
 
@@ -40,28 +41,28 @@ returns-then-matches-clause-prefix g c = inl (Keeps-refl _)
 pub returns-in-Ok-clause-fault : goal.returns-in-Ok-clause-fault
 returns-in-Ok-clause-fault g c =
     let stopped = c.args.stopped.now in
-    inl (c.of_relay.ensures ∙ ap (of_relay stopped.cause stopped.lane) c.in-Ok.ensures.count)
+    inl (c.fault_of.ensures ∙ ap (of_relay stopped.cause stopped.lane) c.in-Ok.ensures.count)
 
 pub returns-in-Ok-clause-faults : goal.returns-in-Ok-clause-faults
 returns-in-Ok-clause-faults g c =
     let stopped = c.args.stopped.now in
-    subst IsOfRelaying (sym c.of_relay.ensures) (cause_relaying stopped.lane c.in-Ok.lines stopped.cause)
+    subst IsOfRelaying (sym c.fault_of.ensures) (cause_relaying stopped.lane c.in-Ok.lines stopped.cause)
 
 pub returns-in-Ok-clause-bad_plan : goal.returns-in-Ok-clause-bad_plan
 returns-in-Ok-clause-bad_plan g c = λ bad named.
     let stopped = c.args.stopped.now in
-    let is : stopped.cause ≡ BadPlan = bad_cause stopped.lane c.in-Ok.lines stopped.cause bad (sym c.of_relay.ensures ∙ named) in
+    let is : stopped.cause ≡ BadPlan = bad_cause stopped.lane c.in-Ok.lines stopped.cause bad (sym c.fault_of.ensures ∙ named) in
     elim c.match-matches.branch [ in-BadPlan w ↦ absurd (true≢false (sym w.matches-is ∙ c.if-matches.false)) | in_default w ↦ absurd (w.in_default.not-BadPlan is) ]
 
 pub returns-in-Ok-clause-stopped : goal.returns-in-Ok-clause-stopped
 returns-in-Ok-clause-stopped g c = λ lines named.
     let stopped = c.args.stopped.now in
-    (stopped_lines stopped.lane c.in-Ok.lines stopped.cause lines (sym c.of_relay.ensures ∙ named) ∙ c.in-Ok.ensures.count, c.in-Ok.ensures.printed)
+    (stopped_lines stopped.lane c.in-Ok.lines stopped.cause lines (sym c.fault_of.ensures ∙ named) ∙ c.in-Ok.ensures.count, c.in-Ok.ensures.printed)
 
 pub returns-in-Ok-clause-thread : goal.returns-in-Ok-clause-thread
 returns-in-Ok-clause-thread g c = λ lines named.
     let stopped = c.args.stopped.now in
-    (lost_lines stopped.lane c.in-Ok.lines stopped.cause lines (sym c.of_relay.ensures ∙ named) ∙ c.in-Ok.ensures.count, c.in-Ok.ensures.printed)
+    (lost_lines stopped.lane c.in-Ok.lines stopped.cause lines (sym c.fault_of.ensures ∙ named) ∙ c.in-Ok.ensures.count, c.in-Ok.ensures.printed)
 
 pub returns-in-Ok-clause-prefix : goal.returns-in-Ok-clause-prefix
 returns-in-Ok-clause-prefix g c = inr (AppendsPrefix-whole _ _ _ c.in-Ok.ensures.printed)

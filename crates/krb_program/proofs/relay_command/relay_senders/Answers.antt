@@ -1,9 +1,10 @@
 -- Before the relay begins, out of memory is the only fault, and nothing is written.
 use Rattle.std.proofs.KnownBytes.{Keeps-refl}
 use Rattle.krb_commands.specs.declared.fault.Fault.TheVariants.{Memory}
-use Rattle.krb_commands.specs.Fault.{IsOfRelaying}
-use Rattle.krb_commands.proofs.FaultLemmas.{if_fault, same_fault, no_value, no_bad, no_stopped, no_thread, nothing_written}
-use Rattle.krb_commands.proofs.jobs.relay_senders.Goals as goal
+use Rattle.krb_program.specs.RelayFault.{IsOfRelaying}
+use Rattle.krb_commands.proofs.FaultLemmas.{if_fault, no_value, no_bad, nothing_written}
+use Rattle.krb_program.proofs.FaultLemmas.{same_fault, no_stopped, no_thread}
+use Rattle.krb_program.proofs.relay_command.relay_senders.Goals as goal
 
 pub returns-in_err-sendings-clause-printed : goal.returns-in_err-sendings-clause-printed
 returns-in_err-sendings-clause-printed g c = no_value c.from_residual.result Memory c.from_residual.ensures.1 _

@@ -1,13 +1,15 @@
 -- What is printed, by what the relay answers.
 use Rattle.std.proofs.Common.{◌∙◌, sym}
 use Rattle.krb_peers.specs.Ends.{lanes_of}
-use Rattle.krb_commands.proofs.FaultLemmas.{if_fault, no_value, all_relaying, printing_relaying, printing_named}
+use Rattle.krb_commands.proofs.FaultLemmas.{if_fault, no_value}
+use Rattle.krb_program.proofs.FaultLemmas.{all_relaying, printing_relaying, printing_named}
 use Rattle.krb_commands.specs.declared.fault.Fault.TheVariants as fault
-use Rattle.krb_commands.specs.Fault.{IsOfPrinting, IsOfRelaying}
-use Rattle.krb_commands.proofs.StoppedLemmas.{live_cause, names_bad_plan}
-use Rattle.krb_commands.proofs.RelayedLemmas.{entries_front, relayed_by, front_by, sents_many, stopped_front}
+use Rattle.krb_commands.specs.Fault.{IsOfPrinting}
+use Rattle.krb_program.specs.RelayFault.{IsOfRelaying}
+use Rattle.krb_program.proofs.StoppedLemmas.{live_cause, names_bad_plan}
+use Rattle.krb_program.proofs.RelayedLemmas.{entries_front, relayed_by, front_by, sents_many, stopped_front}
 use Rattle.krb_commands.proofs.ShowLemmas.{on_err}
-use Rattle.krb_commands.proofs.relaying.relay_job.Goals as goal
+use Rattle.krb_program.proofs.relaying.relay_job.Goals as goal
 
 pub print_stopped-requires : goal.print_stopped-requires
 print_stopped-requires g c =
@@ -28,7 +30,8 @@ returns-in_err-print_log-clause-prefix g c =
 
 pub print_ends-requires : goal.print_ends-requires
 print_ends-requires g c =
-    sents_many g.S.Sealer.state c.args.sendings.items c.args.receivings.items c.in-Ok.report.sent.items c.requires.same (c.in-Ok.ensures.whole).sealed ∙ sym c.in-Ok.ensures.lanes
+    rw c.as_slice.ensures.value
+    (sents_many g.S.Sealer.state c.args.sendings.items c.args.receivings.items c.in-Ok.report.sent.items c.requires.same (c.in-Ok.ensures.whole).sealed ∙ sym c.in-Ok.ensures.lanes)
 
 pub returns-clause-printed : goal.returns-clause-printed
 returns-clause-printed g c =
@@ -36,7 +39,7 @@ returns-clause-printed g c =
     let old = g.W.Write.contents c.args.writer.now in
     let whole = c.in-Ok.ensures.whole in
     relayed_by lanes c.in-Ok.report.log old _ _ c.in-Ok.report.sent.items whole whole.sealed c.in_ok-print_log.ensures.printed
-    c.print_ends.result c.print_ends.ensures.printed c.print_ends.ensures.status
+    c.print_ends.result (rw c.as_slice.ensures.value at c.print_ends.ensures.printed) (rw c.as_slice.ensures.value at c.print_ends.ensures.status)
 
 pub returns-clause-prefix : goal.returns-clause-prefix
 returns-clause-prefix g c =
@@ -44,7 +47,7 @@ returns-clause-prefix g c =
     let old = g.W.Write.contents c.args.writer.now in
     let whole = c.in-Ok.ensures.whole in
     front_by lanes c.in-Ok.report.log old _ _ c.in-Ok.report.sent.items whole whole.sealed c.in_ok-print_log.ensures.printed
-    c.print_ends.result c.print_ends.ensures.part
+    c.print_ends.result (rw c.as_slice.ensures.value at c.print_ends.ensures.part)
 
 pub returns-in-Err-clause-printed : goal.returns-in-Err-clause-printed
 returns-in-Err-clause-printed g c = tt
