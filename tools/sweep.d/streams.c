@@ -1,7 +1,7 @@
 /* Preloaded: each read of standard input gives at most SWEEP_SIZE bytes, or each write to standard
- * output takes at most so many; SWEEP_STREAM is 0 or 1. The call whose number SWEEP_REFUSE gives,
- * counted from 1, fails, or a write takes nothing where SWEEP_NOTHING is set. That call makes the
- * file that SWEEP_REPORT names. */
+ * output takes at most so many; SWEEP_STREAM is 0 or 1. From the call on whose number SWEEP_REFUSE
+ * gives, counted from 1, each fails, or a write takes nothing where SWEEP_NOTHING is set. That call
+ * makes the file that SWEEP_REPORT names. */
 #define _GNU_SOURCE
 #include <errno.h>
 #include <fcntl.h>
@@ -31,7 +31,7 @@ static int is_refused(void)
 {
     int file;
 
-    if (__atomic_add_fetch(&asked, 1, __ATOMIC_SEQ_CST) != refused)
+    if (__atomic_add_fetch(&asked, 1, __ATOMIC_SEQ_CST) < refused)
         return 0;
     file = (int)syscall(SYS_openat, AT_FDCWD, report, O_WRONLY | O_CREAT | O_CLOEXEC, 0600);
     if (file < 0 || close(file) != 0)
