@@ -109,7 +109,7 @@ PARTS = [
     Part("tools/test_jobs", 1, (CRYPTOGRAPHY,), over=()),
     Part("tools/vector_tables.py --check", 1, over=()),
     Part("tools/test_building", 5, (COMPILER, CRYPTOGRAPHY), over=()),
-    Part("tools/test_parts", 5, (COMPILER, CRYPTOGRAPHY, MAKE, SQLITE), over=()),
+    Part("tools/test_parts", 10, (COMPILER, CRYPTOGRAPHY, MAKE, SQLITE), over=()),
     Part("tools/test_picture", 2, over=()),
     Part("tools/figure --check", 1, over=()),
     Part("tools/picture --check", 1, (PROGRAM,)),
