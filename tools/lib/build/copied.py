@@ -8,11 +8,12 @@ import time
 
 from lib.build import building
 
-LIMIT = 60      # seconds for one command
+LIMIT = 300     # seconds for one command, also beside much other work
 TO_END = 10     # seconds for all to end
 # What takes the place of the kit: the words that it was called with are noted in $NOTES, as what
 # its programs are called with. A crate whose sources are those of the copy is proved, and of another
-# one it prints $SAYS. If $HANGS is set, `rt try` goes on for a minute beside a process in a session
+# one it prints $SAYS. `rt ci` goes on until $CI_AWAITS parts have ended beside it, and then for some
+# seconds. If $HANGS is set, `rt try` goes on for a minute beside a process in a session
 # of its own, as the kit's does. At a signal it ends that process, after a second, and then itself; at
 # a second signal meanwhile it ends at once.
 KIT = r'''#!/bin/sh
@@ -53,7 +54,13 @@ check)
 ci)
     note "begin ci"
     cat "$SAYS"; [ -z "$CHANGES" ] || echo >> "$CHANGES"
-    [ -z "$CI_SLEEPS" ] || sleep "$CI_SLEEPS"
+    if [ -n "$CI_AWAITS" ]; then
+        for turn in $(seq 600); do
+            [ "$(sed '1,/^begin ci$/d' "$NOTES" | grep -c '^end ')" -lt "$CI_AWAITS" ] || break
+            sleep 0.5
+        done
+        sleep 5
+    fi
     note "end ci"
     exit "${CI_STATUS:-0}" ;;
 esac
