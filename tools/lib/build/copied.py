@@ -13,9 +13,9 @@ TO_END = 10     # seconds for all to end
 # What takes the place of the kit: the words that it was called with are noted in $NOTES, as what
 # its programs are called with. A crate whose sources are those of the copy is proved, and of another
 # one it prints $SAYS. `rt ci` goes on until $CI_AWAITS parts have ended beside it, and then for some
-# seconds. If $HANGS is set, `rt try` goes on for a minute beside a process in a session
-# of its own, as the kit's does. At a signal it ends that process, after a second, and then itself; at
-# a second signal meanwhile it ends at once.
+# seconds. If $HANGS is set, `rt try` goes on for a minute beside a process in a session of its own, as
+# the kit's does. At a signal it ends that process, after a second, and then itself; at a second signal
+# meanwhile it ends at once.
 KIT = r'''#!/bin/sh
 name=$(basename "$PWD")
 note() { echo "$*" >> "$NOTES"; }
