@@ -122,7 +122,8 @@ class Copy:
 
     def __init__(self, folder):
         self.top, self.notes = os.path.join(folder, "copy"), os.path.join(folder, "notes")
-        ignored = shutil.ignore_patterns("out", "__pycache__", ".git", "must-fail*")
+        ignored = shutil.ignore_patterns("out", "__pycache__", ".git", "must-fail*",
+                                         "mutants.toml")
         shutil.copytree(building.TOP, self.top, ignore=ignored)
         programs = os.path.join(folder, "bin")
         tools = os.path.join(folder, "toolchain")
