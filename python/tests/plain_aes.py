@@ -1,5 +1,5 @@
 """AES in plain Python (FIPS 197), in the place of the package `cryptography` where that isn't
-installed: the few names of it that the sealer and the opener of tools/lib/oracle use."""
+installed: the few names of it that the sealer and the opener of tests/oracle use."""
 import functools
 import sys
 import types

@@ -1,11 +1,11 @@
 """What the tests have in common: the package from its folder, and the independent sealer and opener
-of tools/lib/oracle, whose values are expected."""
+of tests/oracle, whose values are expected."""
 import os
 import sys
 
 PYTHON = os.path.dirname(os.path.dirname(os.path.realpath(__file__)))
 TOP = os.path.dirname(PYTHON)
-sys.path[:0] = [PYTHON, os.path.join(TOP, "tools")]
+sys.path[:0] = [PYTHON, os.path.join(TOP, "tools"), os.path.join(TOP, "tests")]
 
 try:
     import cryptography.hazmat.primitives.ciphers  # noqa: F401
@@ -13,7 +13,7 @@ except ImportError:
     import plain_aes
     plain_aes.install()
 
-from lib.oracle import fixtures, frames, opener, reader     # noqa: E402
+from oracle import fixtures, frames, opener, reader     # noqa: E402
 
 import krbrelay    # noqa: E402
 from krbrelay import Address, Mode     # noqa: E402

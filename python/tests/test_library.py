@@ -79,7 +79,7 @@ class Places(unittest.TestCase):
         said = self.says()
         if library.NAME in said and "(1, 0, 0)" in said:
             self.skipTest("the system's loader finds an installed library")
-        self.assertRegex(said, r"LibraryError: libkrbrelay can't be loaded: .*tools/c_library "
+        self.assertRegex(said, r"LibraryError: libkrbrelay can't be loaded: .*c/library "
                                r"--install PREFIX.*KRBRELAY_LIBRARY=")
 
     def test_the_variable_names_none(self):
@@ -110,7 +110,7 @@ class TheHeader(unittest.TestCase):
 
     @classmethod
     def setUpClass(cls):
-        with open(os.path.join(TOP, "crates", "krb_c", "krbrelay.h"), encoding="utf-8") as file:
+        with open(os.path.join(TOP, "c", "krbrelay.h"), encoding="utf-8") as file:
             cls.text = re.sub(r"/\*.*?\*/", "", file.read(), flags=re.S)
 
     # What Python has itself, or has no use for.
@@ -162,6 +162,6 @@ class TheHeader(unittest.TestCase):
                     f'_Static_assert({what} == {number}, "{what}");\n' for what, number in told))
             compiler = shutil.which("cc") or shutil.which("gcc")
             ran = subprocess.run([compiler, "-std=c11", "-fsyntax-only",
-                                  "-I" + os.path.join(TOP, "crates", "krb_c"), source],
+                                  "-I" + os.path.join(TOP, "c"), source],
                                  capture_output=True, text=True)
         self.assertEqual((ran.returncode, ran.stderr), (0, ""))

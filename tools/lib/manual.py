@@ -6,7 +6,7 @@ import subprocess
 
 from lib.build import building
 
-PAGE = os.path.join("docs", "man", "krbrelay.1")
+PAGE = os.path.join("docs", "krbrelay.1")
 HEAD = '''\
 .TH KRBRELAY 1 {date} "krbrelay {version}" "krbrelay"
 .nh

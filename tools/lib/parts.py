@@ -36,7 +36,7 @@ def has(command):
 def runs(*words):
     how = dict(stdin=subprocess.DEVNULL, stdout=subprocess.DEVNULL, stderr=subprocess.DEVNULL)
     try:
-        done = subprocess.run(words, cwd=building.TOOLS, check=False, timeout=TO_ANSWER, **how)
+        done = subprocess.run(words, cwd=os.path.join(building.TOP, "tests"), check=False, timeout=TO_ANSWER, **how)
         return done.returncode == 0
     except (OSError, subprocess.TimeoutExpired):
         return False
@@ -46,7 +46,7 @@ IS_THERE = {
     PROGRAM: lambda: building.is_built("krbrelay", building.KRBRELAY),
     UNPROVED: lambda: has("rt") and unproved.is_kept(),
     COMPILER: lambda: has(c_tools.c_compiler()[0]),
-    CRYPTOGRAPHY: lambda: runs("python3", "-c", "from lib.oracle import opener"),
+    CRYPTOGRAPHY: lambda: runs("python3", "-c", "import sys; sys.path.append('../tools'); from oracle import opener"),
     MIT: lambda: runs("pkg-config", "--exists", "mit-krb5"),
     HEIMDAL: lambda: runs("pkg-config", "--exists", "heimdal-krb5"),
     REALM: lambda: all(shutil.which(it, path="/usr/sbin:/usr/bin:/sbin:/bin") for it in
@@ -95,50 +95,50 @@ GATE = Part("rt ci", 174, ("rt",))
 BUILD = Part("tools/krbrelay --prove", 60, ("rt",))
 # The first builds the C library, which those after it take then. It stands on what krb_c stands on:
 # `rt ci` proves krb_c as one of the last crates, and compiles none of it.
-LIBRARY = Part("tools/c_library --build", 60, ("rt", COMPILER, MAKE),
+LIBRARY = Part("c/library --build", 60, ("rt", COMPILER, MAKE),
                over=tuple(building.below()["krb_c"]))
 PARTS = [
     LIBRARY,
-    Part("tools/c_library --core", 20, ("rt", COMPILER, CRYPTOGRAPHY, MAKE, SQLITE),
+    Part("c/library --core", 20, ("rt", COMPILER, CRYPTOGRAPHY, MAKE, SQLITE),
          LIBRARY.command, over=()),
-    Part("tools/python", 20, (COMPILER, CRYPTOGRAPHY), LIBRARY.command, over=()),
+    Part("python/test", 20, (COMPILER, CRYPTOGRAPHY), LIBRARY.command, over=()),
     Part("tools/quotes", 1, over=()),
     Part("tools/reference --check", 1, over=()),
     Part("tools/test_reference", 1, over=()),
     Part("tools/test_tables", 1, over=()),
-    Part("tools/test_jobs", 1, (CRYPTOGRAPHY,), over=()),
-    Part("tools/vector_tables.py --check", 1, over=()),
+    Part("tests/job_check", 1, (CRYPTOGRAPHY,), over=()),
+    Part("tests/vector_tables.py --check", 1, over=()),
     Part("tools/test_building", 5, (COMPILER, CRYPTOGRAPHY), over=()),
     Part("tools/test_parts", 10, (COMPILER, CRYPTOGRAPHY, MAKE, SQLITE), over=()),
     Part("tools/test_picture", 2, over=()),
     Part("tools/figure --check", 1, over=()),
     Part("tools/picture --check", 1, (PROGRAM,)),
-    Part("tools/test_program", 3, (PROGRAM, COMPILER)),
-    Part("tools/test_install", 1, (PROGRAM,)),
-    Part("tools/sweep", 10, (PROGRAM, COMPILER, CRYPTOGRAPHY)),
-    Part("tools/job_costs --check", 5, (PROGRAM,)),
-    Part("tools/residue --program", 5, (PROGRAM, COMPILER, CRYPTOGRAPHY)),
-    Part("tools/residue --relays", 10, ("rt", COMPILER, CRYPTOGRAPHY)),
-    Part("tools/redelivery", 5, (PROGRAM, CRYPTOGRAPHY)),
-    Part("tools/carrier --library", 30, ("rt", COMPILER, MAKE, SQLITE), LIBRARY.command, over=()),
-    Part("tools/carrier --files", 10, (PROGRAM, "rt", COMPILER, MAKE, SQLITE), LIBRARY.command),
-    Part("tools/fuzz 2000", 5, (PROGRAM, CRYPTOGRAPHY)),
+    Part("tests/program", 3, (PROGRAM, COMPILER)),
+    Part("tests/install", 1, (PROGRAM,)),
+    Part("tests/sweep", 10, (PROGRAM, COMPILER, CRYPTOGRAPHY)),
+    Part("tests/job_costs --check", 5, (PROGRAM,)),
+    Part("tests/residue --program", 5, (PROGRAM, COMPILER, CRYPTOGRAPHY)),
+    Part("tests/residue --relays", 10, ("rt", COMPILER, CRYPTOGRAPHY)),
+    Part("tests/redelivery", 5, (PROGRAM, CRYPTOGRAPHY)),
+    Part("carrier/test --library", 30, ("rt", COMPILER, MAKE, SQLITE), LIBRARY.command, over=()),
+    Part("carrier/test --files", 10, (PROGRAM, "rt", COMPILER, MAKE, SQLITE), LIBRARY.command),
+    Part("tests/fuzz 2000", 5, (PROGRAM, CRYPTOGRAPHY)),
     Part("tools/test_bench", 30, ("rt",)),
-    Part("tools/secret_places", 60, ("rt", COMPILER, "valgrind"), over=("krb_seal",)),
-    Part("tools/secret_places --library", 20, ("rt", COMPILER, MAKE, "valgrind"), LIBRARY.command,
+    Part("tests/secret_places", 60, ("rt", COMPILER, "valgrind"), over=("krb_seal",)),
+    Part("tests/secret_places --library", 20, ("rt", COMPILER, MAKE, "valgrind"), LIBRARY.command,
          over=()),
 ]
 MORE = [
     Part("tools/quotes --typed", 10, (PROGRAM, "rt", COMPILER, MAKE, PKG_CONFIG, SQLITE)),
     Part("tools/wrong_bodies --try", 170, ("rt",)),
-    Part("tools/fuzz 20000 2", 60, (PROGRAM, CRYPTOGRAPHY)),
-    Part("tools/interop", 20, (PROGRAM, COMPILER, MIT, HEIMDAL)),
-    Part("tools/c_library", 60, ("rt", COMPILER, MIT, "clang", "valgrind", MAKE)),
-    Part("tools/dist --check", 60, ("rt", COMPILER, "clang", MAKE, CROSS)),
+    Part("tests/fuzz 20000 2", 60, (PROGRAM, CRYPTOGRAPHY)),
+    Part("kerberos/interop", 20, (PROGRAM, COMPILER, MIT, HEIMDAL)),
+    Part("c/library", 60, ("rt", COMPILER, MIT, "clang", "valgrind", MAKE)),
+    Part("c/dist --check", 60, ("rt", COMPILER, "clang", MAKE, CROSS)),
     Part("tools/debian --check", 60, (PROGRAM, "rt", COMPILER, MAKE, PACKAGING)),
-    Part("tools/python --all", 20, (COMPILER, CRYPTOGRAPHY)),
-    Part("tools/kerberos", 75, ("rt", COMPILER, MIT, HEIMDAL, REALM)),
-    Part("tools/carrier --all", 60, (PROGRAM, "rt", COMPILER, "clang", MAKE, SQLITE, SERVERS,
+    Part("python/test --all", 20, (COMPILER, CRYPTOGRAPHY)),
+    Part("kerberos/test", 75, ("rt", COMPILER, MIT, HEIMDAL, REALM)),
+    Part("carrier/test --all", 60, (PROGRAM, "rt", COMPILER, "clang", MAKE, SQLITE, SERVERS,
                                        MIT, REALM)),
 ]
 # Those of --quick: the first builds the program that the others run, without its proofs.
@@ -146,12 +146,12 @@ BUILD_UNPROVED = Part("tools/krbrelay --unproved", 10, ("rt",))
 QUICK = [
     Part("tools/quotes", 1),
     Part("tools/test_tables", 1),
-    Part("tools/test_jobs", 1, (CRYPTOGRAPHY,)),
+    Part("tests/job_check", 1, (CRYPTOGRAPHY,)),
     Part("tools/picture --quick", 1, (UNPROVED,)),
-    Part("tools/redelivery --quick", 4, (UNPROVED, CRYPTOGRAPHY)),
-    Part("tools/test_install --quick", 1, (UNPROVED,)),
-    Part("tools/fuzz --quick 300", 5, (UNPROVED, CRYPTOGRAPHY)),
-    Part("tools/test_program --quick", 6, (UNPROVED, COMPILER)),
+    Part("tests/redelivery --quick", 4, (UNPROVED, CRYPTOGRAPHY)),
+    Part("tests/install --quick", 1, (UNPROVED,)),
+    Part("tests/fuzz --quick 300", 5, (UNPROVED, CRYPTOGRAPHY)),
+    Part("tests/program --quick", 6, (UNPROVED, COMPILER)),
 ]
 
 
@@ -160,9 +160,9 @@ QUICK = [
 # What tools are for, in the order of the table. Those that aren't named check something.
 VERBS = {
     "run": ("krbrelay", "relay", "show", "picture", "check_job"),
-    "make": ("install", "c_library", "dist", "debian", "reference", "figure"),
+    "make": ("install", "c/library", "c/dist", "debian", "reference", "figure"),
     "prove": ("test", "proving.py", "wrong_bodies"),
-    "bench": ("bench", "bench_aes", "bench_lane", "job_costs"),
+    "bench": ("bench", "bench_aes", "bench_lane", "tests/job_costs"),
 }
 OTHERS = "check"
 

@@ -1,4 +1,5 @@
-"""The scripts of tools/: what their own first lines say of them, and one of them as a module."""
+"""The scripts of tools/ and those that test a room: what their own first lines say of them, and one
+of them as a module. The name of one outside tools/ begins with its room."""
 import ast
 import importlib.machinery
 import importlib.util
@@ -8,15 +9,26 @@ import re
 from lib.build import building
 
 
+OF_ROOMS = ("c/library", "c/dist", "python/test", "carrier/test", "kerberos/test", "kerberos/interop")
+
+
 def names():
-    """All scripts: the files of tools/ itself."""
-    return sorted(it for it in os.listdir(building.TOOLS)
-                  if os.path.isfile(os.path.join(building.TOOLS, it)))
+    """All scripts: the files of tools/ and tests/ themselves, and those of the rooms."""
+    return sorted([*files_of("tools", ""), *files_of("tests", "tests/"), *OF_ROOMS])
+
+
+def files_of(room, before):
+    folder = os.path.join(building.TOP, room)
+    return [before + it for it in os.listdir(folder) if os.path.isfile(os.path.join(folder, it))]
+
+
+def path_of(name):
+    return name if "/" in name else f"tools/{name}"
 
 
 def head_of(name):
     """What a script says of itself: its docstring, or the comment at its head."""
-    text = building.text_of(os.path.join("tools", name))
+    text = building.text_of(path_of(name))
     if text.startswith("#!/usr/bin/env python3"):
         return ast.get_docstring(ast.parse(text)) or ""
     comment = re.match(r"#!.*\n((?:#.*\n)*)", text)
@@ -39,8 +51,8 @@ def needs(name):
 
 def load(name):
     """A script as a module, also one that has no .py in its name."""
-    loader = importlib.machinery.SourceFileLoader(name + "_tool",
-                                                  os.path.join(building.TOOLS, name))
+    loader = importlib.machinery.SourceFileLoader(os.path.basename(name) + "_tool",
+                                                  os.path.join(building.TOP, path_of(name)))
     made = importlib.util.module_from_spec(importlib.util.spec_from_loader(loader.name, loader))
     loader.exec_module(made)
     return made

@@ -36,19 +36,19 @@ def needed_flags(package):
 
 
 def preloaded(folder, *source):
-    """A library to be preloaded, of a source below tools/."""
+    """A library to be preloaded, of a source of the repository."""
     built = os.path.join(folder, source[-1] + ".so")
     words = [*c_compiler(), "-O2", "-fno-builtin", "-shared", "-fPIC",
-             os.path.join(building.TOOLS, *source), "-o", built, "-ldl"]
+             os.path.join(building.TOP, *source), "-o", built, "-ldl"]
     if subprocess.run(words, check=False).returncode != 0:
         raise NotBuilt("the C compiler failed")
     return built
 
 
 def program(folder, *source):
-    """A program of a source below tools/, built with no optimization: each store in it is made."""
+    """A program of a source of the repository, built with no optimization: each store in it is made."""
     built = os.path.join(folder, source[-1].removesuffix(".c"))
-    words = [*c_compiler(), "-O0", "-fno-builtin", os.path.join(building.TOOLS, *source), "-o", built]
+    words = [*c_compiler(), "-O0", "-fno-builtin", os.path.join(building.TOP, *source), "-o", built]
     if subprocess.run(words, check=False).returncode != 0:
         raise NotBuilt("the C compiler failed")
     return built
@@ -60,7 +60,7 @@ def c_library(words, folder):
     if words:
         return os.path.abspath(words[0])
     prefix = os.path.join(folder, "prefix")
-    done = subprocess.run([os.path.join(building.TOOLS, "c_library"), "--install", prefix],
+    done = subprocess.run([os.path.join(building.TOP, "c", "library"), "--install", prefix],
                           check=False, stdout=subprocess.PIPE, stderr=subprocess.STDOUT, text=True)
     if done.returncode:
         sys.exit(f"{done.stdout}\nlibkrbrelay isn't built")

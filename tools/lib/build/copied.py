@@ -6,6 +6,7 @@ import signal
 import subprocess
 import time
 
+from lib import scripts
 from lib.build import building
 
 LIMIT = 300     # seconds for one command, also beside much other work
@@ -141,7 +142,7 @@ class Copy:
         also where the test ignores interrupts, as what a shell starts in the background does."""
         open(self.notes, "w", encoding="utf-8").close()
         tool, *rest = words.split()
-        return subprocess.Popen([self.path("tools", tool), *rest], stdin=subprocess.DEVNULL,
+        return subprocess.Popen([self.path(scripts.path_of(tool)), *rest], stdin=subprocess.DEVNULL,
                                 stdout=subprocess.PIPE, stderr=subprocess.PIPE, text=True,
                                 env={**self.given, **given}, preexec_fn=stand_alone)
 

@@ -1,0 +1,35 @@
+/* The proved functions behind calls that do something before: ask what the processor has, or name
+ * an answer that the proved code never gives. In the library they have these names, and nobody else
+ * sees them (c/library). */
+#ifndef PROVED_H
+#define PROVED_H
+
+#include "../krbrelay.h"
+
+enum krbrelay_answer krbrelay_proved_sealer_new(struct krbrelay_sealer *handle, int32_t etype,
+                                                const uint8_t *key, size_t key_len,
+                                                const struct krbrelay_session *session);
+enum krbrelay_answer krbrelay_proved_opener_new(struct krbrelay_opener *handle, int32_t etype,
+                                                const uint8_t *key, size_t key_len,
+                                                const struct krbrelay_expect *expect);
+enum krbrelay_answer krbrelay_proved_receiver_new(struct krbrelay_receiver *handle, int32_t etype,
+                                                  const uint8_t *key, size_t key_len,
+                                                  const struct krbrelay_expect *expect,
+                                                  uint64_t expected, uint32_t closed);
+enum krbrelay_answer krbrelay_proved_peer_new(struct krbrelay_peer *handle, int32_t etype,
+                                              const uint8_t *key, size_t key_len,
+                                              const struct krbrelay_session *session,
+                                              const struct krbrelay_demand *demand);
+enum krbrelay_answer krbrelay_proved_peer_resume(struct krbrelay_peer *handle, int32_t etype,
+                                                 const uint8_t *key, size_t key_len,
+                                                 const struct krbrelay_session *session,
+                                                 const struct krbrelay_demand *demand,
+                                                 const uint8_t state[KRBRELAY_PEER_STATE_SIZE]);
+enum krbrelay_answer krbrelay_proved_message_header(const uint8_t *frame, size_t len,
+                                                    struct krbrelay_header *header);
+enum krbrelay_answer krbrelay_proved_answer_name(uint32_t answer, char *name, size_t room,
+                                                 size_t *size);
+enum krbrelay_answer krbrelay_proved_answer_text(uint32_t answer, char *text, size_t room,
+                                                 size_t *size);
+
+#endif

@@ -1,0 +1,86 @@
+"""The calls of libkrbrelay, watched by memcheck with their keys, confounders and user data marked as
+undefined. The program is linked to the archive, so that its places are the same in each run."""
+import os
+import subprocess
+
+from lib import report
+from lib.build import building, c_tools
+
+import memcheck
+
+KINDS = [(name, etype, mode) for etype in (17, 18) for name, mode in (("safe", 20), ("priv", 21))]
+CONTROL = 3             # the places of the part `control`: one of each secret
+# Those of `refuse`, of each mode: the branch on the outcome of the comparison. Of KRB-SAFE one where a
+# call demands nothing first and one where it demands the body; and the use of the outcome in each of the
+# seven calls, whose answer it is.
+OUTCOMES = {"safe": 9, "priv": 1}
+# What holds decrypted bytes before their code is compared, and the calls of the library.
+HOLDERS = ("krb_seal.opening.", "krbrelay_")
+# What uses the outcome, and then reads the record in a text whose code was right.
+RECEIVERS = ("krb_structs.lane_receiver.",)
+# What may read a text whose code was right.
+READERS = ("krb_der.", "krb_tlv.", "krb_time.", "krb_seal.checks.check_body",
+           "krb_structs.opening.open_telling", "core.cmp.", "std_alloc.vec.", "malloc", "memmove")
+
+
+def build(folder, prefix):
+    program = os.path.join(folder, "library")
+    words = [*c_tools.c_compiler(), "-std=gnu11", "-O1", "-Wall", "-Wextra", "-Werror", "-no-pie",
+             "-I" + os.path.join(prefix, "include"),
+             os.path.join(building.TOP, "tests", "secrets", "c", "library.c"),
+             os.path.join(prefix, "lib", "libkrbrelay.a"), "-o", program]
+    if subprocess.run(words, check=False).returncode:
+        raise c_tools.NotBuilt("the C compiler failed")
+    return program
+
+
+class Calls:
+    """The program's parts in one mode and type."""
+
+    def __init__(self, folder, program, count, kind):
+        self.folder, self.program, self.count = folder, program, count
+        self.name, etype, mode = kind
+        self.words = [str(etype), str(mode)]
+        self.what = f"{self.name} {etype}"
+
+    def places(self, part):
+        places, done = memcheck.reported(self.folder, [self.program, part, *self.words])
+        self.count.right(done.returncode == 0,
+                         f"FAILED {part}, {self.what}: a call answered otherwise")
+        return set(places)
+
+    def has(self, part, wanted):
+        """A part has so many places, each in what may have some. Returns them."""
+        places = self.places(part)
+        self.count.told(len(places) == wanted and (part == "control" or all(
+            it.is_of(HOLDERS + RECEIVERS) for it in places)),
+            f"{part}, {self.what}: {len(places)} places depend on a secret, and {wanted} have to",
+            memcheck.by_function(places))
+        return places
+
+    def opening(self, outcomes):
+        """A text whose code was right is read by those that may, and after the comparison alone."""
+        places = self.places("open")
+        reached = memcheck.reached([self.program, "refuse", *self.words])
+        before = {it for it in places if it.is_of(HOLDERS) and it.at in reached}
+        wrong = before - outcomes | {it for it in places - before
+                                     if not it.is_of(HOLDERS + RECEIVERS + READERS)}
+        self.count.check(f"refuse, {self.what}: its places are instructions of its run",
+                         {it.at for it in outcomes} <= reached)
+        self.count.told(before and not wrong,
+                        f"open, {self.what}: {len(before)} places are outcomes of the comparison,"
+                        f" {len(wrong)} depend on a secret elsewhere, and {len(places - before)} read"
+                        " a text whose code was right", memcheck.by_function(wrong))
+
+    def watch(self):
+        self.has("control", CONTROL)
+        self.has("seal", 0)
+        self.opening(self.has("refuse", OUTCOMES[self.name]))
+
+
+def watch(folder, prefix):
+    count = report.Count()
+    program = build(folder, prefix)
+    for kind in KINDS:
+        Calls(folder, program, count, kind).watch()
+    return count
