@@ -1,4 +1,4 @@
-//! Frames of an independent sealer (`tools/frames.py`): each sealer seals them, an opener opens them,
+//! Frames of an independent sealer (`tests/frames.py`): each sealer seals them, an opener opens them,
 //! what they carry is authentic, and a receiver takes them.
 
 mod authentic;

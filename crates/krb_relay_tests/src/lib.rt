@@ -1,5 +1,5 @@
 //! Tests of both relays, of what no clause says: calls that succeed, gates, which allocation may
-//! fail, and one worked relay of each. What whole relays print is in `tools/test_program.d`.
+//! fail, and one worked relay of each. What whole relays print is in `tests/jobs`.
 //!
 //! `stepped` tests the relay of `krb_core`, which one thread steps, and `threads` that of
 //! `krb_relay`, which has a worker for each sender. This crate has no public item.

@@ -1,4 +1,4 @@
-//! Frames as `tools/frames.py` prints them, and others worked out by hand.
+//! Frames as `tests/frames.py` prints them, and others worked out by hand.
 
 /// Text 44 68 69 at 2023-11-14T22:13:20Z and 5 microseconds, number 7, from 10.0.0.1, under
 /// encryption type 17.

@@ -1,4 +1,4 @@
-//! Frames as the sealer of `tools/frames.py` makes them, from 10.0.0.1, at 2023-11-14T22:13:20Z and 5
+//! Frames as the sealer of `tests/frames.py` makes them, from 10.0.0.1, at 2023-11-14T22:13:20Z and 5
 //! microseconds, under encryption type 17 and the key 00 to 0f.
 
 /// The close, at number 8, as KRB-SAFE.
