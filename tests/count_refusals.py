@@ -5,7 +5,7 @@
 
 For each message in hexadecimal digits it prints how many of its proper prefixes and how many of
 its single bit flips spell a message of the grammar (RFC 4120 in DER, X.690), and how many don't.
-tests/program compares `krbrelay show` and `open` with these counts. The reader,
+tests/test_program.py compares `krbrelay show` and `open` with these counts. The reader,
 tests/oracle/reader.py, shares nothing with them. Needed: Python.
 """
 

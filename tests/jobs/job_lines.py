@@ -23,16 +23,19 @@ def sender(table, command, key=None, line="", more=""):
 class Lines:
     """Tests of jobs by the first check that fails."""
 
-    def __init__(self, tests):
-        self.tests, self.table = tests, rows()
-        self.small = [self.lines, self.wide_keys, self.tops, self.order, self.senders]
-        self.all = [*self.small, self.limits]
+    def __init__(self):
+        self.found, self.table = [], rows()
+
+    def cases(self, *parts):
+        """Each bad job: the command, its input and the fault."""
+        for part in parts:
+            part()
+        return self.found
 
     def faulty(self, command, job, fault, name):
         """The command finds the job bad, by this fault, and prints nothing."""
         data = job if isinstance(job, bytes) else job.encode()
-        self.tests.fault(f"{command} with {name:.60}", self.tests.run([command], data), 2,
-                         f"bad input: {fault}")
+        self.found.append((f"{command} with {name:.60}", command, data, fault))
 
     def bad(self, command, key, line):
         self.faulty(command, sender(self.table, command, key, line), f"sender 0: {key}", line)

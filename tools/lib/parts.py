@@ -105,7 +105,7 @@ PARTS = [
     Part("tools/quotes", 1, over=()),
     Part("tools/reference --check", 1, over=()),
     Part("tools/test_reference", 1, over=()),
-    Part("tools/test_tables", 1, over=()),
+    Part("pytest tests/test_tables.py", 1, over=()),
     Part("tests/job_check", 1, (CRYPTOGRAPHY,), over=()),
     Part("tests/vector_tables.py --check", 1, over=()),
     Part("tools/test_building", 5, (COMPILER, CRYPTOGRAPHY), over=()),
@@ -113,7 +113,7 @@ PARTS = [
     Part("tools/test_picture", 2, over=()),
     Part("tools/figure --check", 1, over=()),
     Part("tools/picture --check", 1, (PROGRAM,)),
-    Part("tests/program", 3, (PROGRAM, COMPILER)),
+    Part("pytest tests/test_program.py", 3, (PROGRAM, COMPILER)),
     Part("tests/install", 1, (PROGRAM,)),
     Part("tests/sweep", 10, (PROGRAM, COMPILER, CRYPTOGRAPHY)),
     Part("tests/job_costs --check", 5, (PROGRAM,)),
@@ -145,13 +145,13 @@ MORE = [
 BUILD_UNPROVED = Part("tools/krbrelay --unproved", 10, ("rt",))
 QUICK = [
     Part("tools/quotes", 1),
-    Part("tools/test_tables", 1),
+    Part("pytest tests/test_tables.py", 1),
     Part("tests/job_check", 1, (CRYPTOGRAPHY,)),
     Part("tools/picture --quick", 1, (UNPROVED,)),
     Part("tests/redelivery --quick", 4, (UNPROVED, CRYPTOGRAPHY)),
     Part("tests/install --quick", 1, (UNPROVED,)),
     Part("tests/fuzz --quick 300", 5, (UNPROVED, CRYPTOGRAPHY)),
-    Part("tests/program --quick", 6, (UNPROVED, COMPILER)),
+    Part("pytest --quick tests/test_program.py", 6, (UNPROVED, COMPILER)),
 ]
 
 

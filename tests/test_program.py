@@ -1,33 +1,23 @@
-#!/usr/bin/env python3
 """Runs the built program as a user would: its exit statuses, what it writes on standard error, and
 what it does where a stream is closed, full, a directory or too long.
 
-    tests/program [PROGRAM]
-    tests/program --quick      over the program that is built without its proofs
-                                    (tools/lib/build/unproved.py), which is slow: all but texts,
-                                    lists and inputs near their limits
-
-Without PROGRAM the one in crates/krbrelay/out is taken, which is proved and built first if needed.
-Another file has to be that program, byte for byte: one that isn't proved is refused. Jobs and the
-lines that they print are the rows of tests/jobs/runs.toml, and jobs of which a line is
+Jobs and the lines that they print are the rows of tests/jobs/runs.toml, and jobs of which a line is
 another those of keys.toml. The frames that are expected are those of tests/frames.py and of the
-examples. Needed: a C compiler, for the library that interrupts reads. The last line is
-'N passed, N failed'.
+examples. A C compiler makes the library that interrupts reads.
 """
+import collections
 import os
 import resource
 import subprocess
-import sys
 import tempfile
 import time
 
-sys.path.insert(0, os.path.join(os.path.dirname(os.path.realpath(__file__)), "../tools"))
-from lib import report, usage
-from lib.build import building, c_tools, unproved
+import job_lines
+import pytest
+import runs
 
-sys.path.insert(0, os.path.join(building.TOP, 'tests', 'jobs'))
-import job_lines  # noqa: E402
-import runs  # noqa: E402
+from lib.build import building, c_tools
+
 
 LIMIT = 16_777_216
 
@@ -37,9 +27,8 @@ def example(name):
         return file.read()
 
 
-class Tests(report.Count):
+class Program:
     def __init__(self, program):
-        super().__init__()
         self.program = program
 
     def run(self, words, data=b'', memory=None, **streams):
@@ -53,19 +42,20 @@ class Tests(report.Count):
         done = subprocess.run([self.program] + words, timeout=60, **given)
         return done.returncode, done.stdout, done.stderr
 
-    def check(self, name, answer, status, out=None, err=None):
-        """An `out` or `err` of None isn't looked at; a function is asked."""
-        got = dict(status=answer[0], out=answer[1], err=answer[2])
-        wrong = []
-        for key, want in dict(status=status, out=out, err=err).items():
-            if want is None:
-                continue
-            if not (want(got[key]) if callable(want) else got[key] == want):
-                wrong.append(f'{key} is {got[key]!r:.200}')
-        self.right(not wrong, f'FAILED {name}: ' + '; '.join(wrong))
 
-    def fault(self, name, answer, status, words, out=b''):
-        self.check(name, answer, status, out, f'krbrelay: {words}\n'.encode())
+@pytest.fixture(scope='module')
+def t(krbrelay):
+    return Program(krbrelay)
+
+
+def check(answer, status, out=None, err=None):
+    """An `out` or `err` of None isn't looked at; a function is asked."""
+    for got, want in zip(answer, (status, out, err)):
+        assert want is None or (want(got) if callable(want) else got == want)
+
+
+def fault(answer, status, words, out=b''):
+    check(answer, status, out, f'krbrelay: {words}\n'.encode())
 
 
 def lines_of_relay():
@@ -76,151 +66,147 @@ def lines_of_relay():
             b'lane 2 sent 1 of 1 DONE TRUNCATED\n')
 
 
-def statuses(t):
+def test_statuses(t):
     seal, opened = example('seal.toml'), example('open.toml')
-    t.check('seal', t.run(['seal'], seal), 0, lambda o: o.count(b'\n') == 3
+    check(t.run(['seal'], seal), 0, lambda o: o.count(b'\n') == 3
             and o.startswith(b'745e305c') and o.endswith(b'sent 1 of 1 DONE\n'), b'')
-    t.check('open', t.run(['open'], opened), 0,
+    check(t.run(['open'], opened), 0,
             b'lane 0 text 6869\nlane 0 closed\nlane 0 refused 903 AFTER_CLOSE\nlane 0 CLOSED\n',
             b'')
-    t.check('relay', t.run(['relay'], example('relay.toml')), 3, lines_of_relay(), b'')
-    t.check('show', t.run(['show'], example('messages.hex')), 2,
+    check(t.run(['relay'], example('relay.toml')), 3, lines_of_relay(), b'')
+    check(t.run(['show'], example('messages.hex')), 2,
             lambda o: o.startswith(b'SAFE 5 20 data=446869')
             and o.endswith(b'refused 901 MALFORMED\n'), b'')
-    t.check('show of nothing', t.run(['show'], b''), 0, b'', b'')
-    t.check('vectors', t.run(['vectors']), 0, lambda o: o.count(b'\n') == 9, b'')
+    check(t.run(['show'], b''), 0, b'', b'')
+    check(t.run(['vectors']), 0, lambda o: o.count(b'\n') == 9, b'')
     # What one end seals the other opens: the frames of `seal` as the frames of `open`.
     frames = t.run(['seal'], seal)[1].split(b'\n')[:2]
     job = opened[:opened.index(b'frames = [')]
     job += b'frames = [' + b', '.join(b'"' + f + b'"' for f in frames) + b']\n'
-    t.check('open of what was sealed', t.run(['open'], job), 0,
+    check(t.run(['open'], job), 0,
             b'lane 0 text 6869\nlane 0 closed\nlane 0 CLOSED\n', b'')
-    t.check('open without the close',
-            t.run(['open'], job.replace(b', "' + frames[1] + b'"', b'')), 3,
+    check(t.run(['open'], job.replace(b', "' + frames[1] + b'"', b'')), 3,
             b'lane 0 text 6869\nlane 0 TRUNCATED\n', b'')
 
 
-def batches(t):
+def test_batches(t):
     job = example('batches.toml')
     first, last = b'lane 0 text 61\nlane 0 text 62\n', b'lane 0 text 63\nlane 0 closed\n'
     done = b'lane 0 sent 3 of 3 DONE CLOSED\n'
-    t.check('relay of a batch', t.run(['relay'], job), 0, first + last + done, b'')
-    t.check('relay of a batch that comes twice',
-            t.run(['relay'], job + b'plan = ["0", "0", "1", "2"]\n'), 0,
+    check(t.run(['relay'], job), 0, first + last + done, b'')
+    check(t.run(['relay'], job + b'plan = ["0", "0", "1", "2"]\n'), 0,
             first + b'lane 0 refused 42 BADORDER\n' + last + done, b'')
-    t.check('relay of a batch before the last number',
-            t.run(['relay'], job.replace(b'first = 7', b'first = 4294967294')), 0,
+    check(t.run(['relay'], job.replace(b'first = 7', b'first = 4294967294')), 0,
             first + b'lane 0 closed\nlane 0 sent 2 of 3 LAST_NUMBER CLOSED\n', b'')
     sealed = t.run(['seal'], job)
     frames = sealed[1].split(b'\n')[:3]
     head = b'74663064a003020105a103020114a23f303da00d040b4200000001610000000162'
-    t.check('seal of a batch', sealed, 0, lambda o: o.startswith(head) and len(frames[0]) == 2 * 104
+    check(sealed, 0, lambda o: o.startswith(head) and len(frames[0]) == 2 * 104
             and frames[0].endswith(b'040c34bfe85cb025148f49575c3e')
             and o.endswith(b'\nsent 3 of 3 DONE\n'), b'')
     opened = example('open.toml')
     opened = opened[:opened.index(b'frames = [')]
     opened += b'frames = [' + b', '.join(b'"' + f + b'"' for f in frames) + b']\n'
-    t.check('open of a batch', t.run(['open'], opened), 0, first + last + b'lane 0 CLOSED\n', b'')
+    check(t.run(['open'], opened), 0, first + last + b'lane 0 CLOSED\n', b'')
     for batch in (b'0', b'1001', b'"2"'):
-        t.fault(f'a batch of {batch.decode()}',
-                t.run(['relay'], job.replace(b'batch = 2', b'batch = ' + batch)), 2,
+        fault(t.run(['relay'], job.replace(b'batch = 2', b'batch = ' + batch)), 2,
                 'bad input: sender 0: batch')
-    t.fault('open with a batch', t.run(['open'], opened + b'batch = 1\n'), 2,
+    fault(t.run(['open'], opened + b'batch = 1\n'), 2,
             'bad input: sender 0: batch')
 
 
-def large_batches(t):
+@pytest.mark.large
+def test_large_batches(t):
     """The most texts of a batch, and the most bytes."""
     job = example('batches.toml')
     texts, own = b'texts = ["61", "62", "63"]', b'batch = 2'
     most = job.replace(texts, b'texts = [' + b', '.join([b'"6869"'] * 1000) + b']')
     for batch, frames in ((b'batch = 999', 3), (b'batch = 1000', 2)):
-        t.check(f'seal of 1,000 texts, {batch.decode()}',
-                t.run(['seal'], most.replace(own, batch)), 0,
+        check(t.run(['seal'], most.replace(own, batch)), 0,
                 lambda o, count=frames + 1: o.count(b'\n') == count
                 and o.endswith(b'sent 1000 of 1000 DONE\n'), b'')
-    t.check('relay of 1,000 texts in a batch',
-            t.run(['relay'], most.replace(own, b'batch = 1000')), 0,
+    check(t.run(['relay'], most.replace(own, b'batch = 1000')), 0,
             b'lane 0 text 6869\n' * 1000
             + b'lane 0 closed\nlane 0 sent 1000 of 1000 DONE CLOSED\n', b'')
     # Alone the last of them is larger than a batch may be.
     for size, other, frames in ((499_996, 499_996, 2), (499_997, 499_996, 3), (999_992, 0, 2),
                                 (999_993, 0, 3), (1_000_000, 0, 3)):
         pair = b'texts = ["' + b'00' * size + b'", "' + b'00' * other + b'"]'
-        t.check(f'seal of texts of {size} and {other} bytes',
-                t.run(['seal'], job.replace(texts, pair)), 0,
+        check(t.run(['seal'], job.replace(texts, pair)), 0,
                 lambda o, count=frames + 1: o.count(b'\n') == count
                 and o.endswith(b'sent 2 of 2 DONE\n'), b'')
 
 
-def bad_input(t):
+def test_bad_input(t):
     seal = example('seal.toml')
     for name, data, words in [
             ('no document', b'a = = b', 'toml'), ('no text', b'\xff\xfe', 'toml'),
             ('no sender', b'', 'sender'), ('no capacity', b'capacity = 0\n' + seal, 'capacity'),
             ('an unknown key', b'other = 1\n' + seal, 'unknown key'),
             ('no encryption type', seal.replace(b'etype = 17', b'etype = 16'), 'sender 0: etype')]:
-        t.fault(f'seal with {name}', t.run(['seal'], data), 2, f'bad input: {words}')
+        fault(t.run(['seal'], data), 2, f'bad input: {words}')
     for command in ('open', 'relay'):
-        t.fault(f'{command} of nothing', t.run([command], b''), 2, 'bad input: sender')
+        fault(t.run([command], b''), 2, 'bad input: sender')
 
 
-def longest_input(t):
+@pytest.mark.large
+def test_longest_input(t):
     seal = example('seal.toml')
     whole = seal + b'\n' * (LIMIT - len(seal))
-    t.check('an input at the limit', t.run(['seal'], whole), 0,
+    check(t.run(['seal'], whole), 0,
             lambda o: o.endswith(b'DONE\n'), b'')
     for command in ('seal', 'open', 'relay', 'show'):
-        t.fault(f'{command} of an input over the limit', t.run([command], whole + b'\n'), 2,
+        fault(t.run([command], whole + b'\n'), 2,
                 'bad input: input')
 
 
-def command_line(t):
-    t.check('no command', t.run([]), 2, b'', lambda e: b'Usage: krbrelay' in e)
-    t.check('an unknown command', t.run(['help']), 2, b'', lambda e: e.startswith(b'error: '))
-    t.check('a word too many', t.run(['show', 'file']), 2, b'', lambda e: e.startswith(b'error: '))
-    t.check('a file in place of the input', t.run(['relay', 'job.toml']), 2, b'',
+def test_command_line(t):
+    check(t.run([]), 2, b'', lambda e: b'Usage: krbrelay' in e)
+    check(t.run(['help']), 2, b'', lambda e: e.startswith(b'error: '))
+    check(t.run(['show', 'file']), 2, b'', lambda e: e.startswith(b'error: '))
+    check(t.run(['relay', 'job.toml']), 2, b'',
             lambda e: b'Usage: krbrelay relay < JOB.toml\n' in e)
-    t.check('a word that is no text', t.run([b'\xff']), 2, b'',
+    check(t.run([b'\xff']), 2, b'',
             b'error: invalid UTF-8 was detected in one or more arguments\n')
     for word in ('--help', '-h'):
-        t.check(word, t.run([word]), 0, lambda o: b'Usage: krbrelay' in o, b'')
+        check(t.run([word]), 0, lambda o: b'Usage: krbrelay' in o, b'')
     for word in ('--version', '-V'):
-        t.check(word, t.run([word]), 0, lambda o: o.startswith(b'krbrelay '), b'')
+        check(t.run([word]), 0, lambda o: o.startswith(b'krbrelay '), b'')
     for command in ('show', 'vectors', 'seal', 'open', 'relay'):
-        t.check(f'{command} --help', t.run([command, '--help']), 0,
+        check(t.run([command, '--help']), 0,
                 lambda o: f'Usage: krbrelay {command}'.encode() in o, b'')
 
 
-def streams(t):
+def test_streams(t):
     jobs = dict(show=example('messages.hex'), vectors=b'', seal=example('seal.toml'),
                 open=example('open.toml'), relay=example('relay.toml'))
     for command, data in jobs.items():
         with open('/dev/full', 'wb') as full:
-            t.fault(f'{command} into a full file', t.run([command], data, stdout=full), 4,
+            fault(t.run([command], data, stdout=full), 4,
                     'write fault', None)
         read, write = os.pipe()
         os.close(read)
         # Nobody reads: the write fails, or a signal ends the process.
         answer = t.run([command], data, stdout=write)
         os.close(write)
-        t.check(f'{command} into a closed pipe', answer, lambda s: s in (4, -13))
+        check(answer, lambda s: s in (4, -13))
     for command in ('show', 'seal', 'open', 'relay'):
         with tempfile.TemporaryDirectory() as folder:
             directory = os.open(folder, os.O_RDONLY)
-            t.fault(f'{command} of a directory', t.run([command], stdin=directory), 4, 'read fault')
+            fault(t.run([command], stdin=directory), 4, 'read fault')
             os.close(directory)
 
 
-def no_memory(t):
+@pytest.mark.large
+def test_no_memory(t):
     for command in ('seal', 'open', 'relay'):
         job = example(f'{command}.toml')
         data = job + b'\n' * (LIMIT - len(job))
-        t.fault(f'{command} without memory', t.run([command], data, memory=16 << 20), 4,
+        fault(t.run([command], data, memory=16 << 20), 4,
                 'out of memory', None)
 
 
-def interrupted_reads(t):
+def test_interrupted_reads(t):
     """A signal interrupts each read that waits, and no call is restarted."""
     job = example('seal.toml')
     wanted = t.run(['seal'], job)
@@ -235,11 +221,11 @@ def interrupted_reads(t):
                 running.stdin.write(part)
                 running.stdin.flush()
             out, err = running.communicate(timeout=60)
-        t.check('reads that are interrupted', (running.returncode, out, err), *wanted)
-        t.right(os.path.exists(report_of), 'FAILED reads that are interrupted: none was')
+        check((running.returncode, out, err), *wanted)
+        assert os.path.exists(report_of)
 
 
-def nothing_is_read(t):
+def test_nothing_is_read(t):
     """Words that name no command, `vectors` and help read nothing: the file that they are given
     stands where it stood."""
     for words, status in (([], 2), (['shows'], 2), (['show', 'it'], 2), (['--help'], 0),
@@ -248,24 +234,85 @@ def nothing_is_read(t):
             file.write(b'0' * 64)
             file.seek(16)
             os.lseek(file.fileno(), 16, os.SEEK_SET)
-            t.check(f'{words} over a file', t.run(words, stdin=file), status)
-            t.right(os.lseek(file.fileno(), 0, os.SEEK_CUR) == 16, f'FAILED {words} read its input')
+            check(t.run(words, stdin=file), status)
+            assert os.lseek(file.fileno(), 0, os.SEEK_CUR) == 16
 
 
-SMALL = (statuses, batches, bad_input, command_line, streams, interrupted_reads, nothing_is_read)
-LARGE = (large_batches, longest_input, no_memory)
+# ---- the rows of tables
+
+def named(words, cases):
+    """Parameters of a test, whose first one is the case's name."""
+    return pytest.mark.parametrize(words, [pytest.param(*it[1:], id=it[0]) for it in cases])
 
 
-def main(words):
-    quick = words == [unproved.QUICK]
-    t = Tests(unproved.chosen(words)[0] if quick else building.krbrelay(*words[:1]))
-    for part in SMALL if quick else SMALL + LARGE:
-        part(t)
-    lines, whole = job_lines.Lines(t), runs.Runs(t)
-    for part in lines.small + whole.small if quick else lines.all + whole.all:
-        part()
-    return t.end()
+RUNS = runs.Runs()
+SMALL = list(RUNS.cases(RUNS.jobs, RUNS.bad_plans, RUNS.shown, RUNS.opened, RUNS.cut, RUNS.most, RUNS.rounds,
+                        RUNS.vectors))
+LARGE = runs.Runs()
+LARGE = LARGE.cases(LARGE.zeros, LARGE.shown_zeros, LARGE.longest)
+LINES, LONG_LINES = job_lines.Lines(), job_lines.Lines()
+OF_LINES = LINES.cases(LINES.lines, LINES.wide_keys, LINES.tops, LINES.order, LINES.senders)
+OF_LONG = LONG_LINES.cases(LONG_LINES.limits)
 
 
-usage.answer(__doc__)
-sys.exit(main(sys.argv[1:]))
+@named('words, data, status, out, err', SMALL)
+def test_run(t, words, data, status, out, err):
+    check(t.run(words, data), status, out, err)
+
+
+@pytest.mark.large
+@named('words, data, status, out, err', LARGE)
+def test_long_run(t, words, data, status, out, err):
+    check(t.run(words, data), status, out, err)
+
+
+@named('command, data, told', OF_LINES)
+def test_line(t, command, data, told):
+    """The command finds the job bad, by this fault, and prints nothing."""
+    fault(t.run([command], data), 2, f'bad input: {told}')
+
+
+@pytest.mark.large
+@named('command, data, told', OF_LONG)
+def test_long_line(t, command, data, told):
+    fault(t.run([command], data), 2, f'bad input: {told}')
+
+
+@pytest.mark.large
+@pytest.mark.parametrize('texts, other', RUNS.sealed(), ids=lambda it: f'{it}'[:60])
+def test_what_was_sealed(t, texts, other):
+    """What `seal` prints of texts, `open` gives."""
+    status, out, _ = t.run(['seal'], RUNS.job('seal', [{'texts': f'{texts}'}], other).encode())
+    frames = out.decode().splitlines()[:-1]
+    lines = [f'lane 0 text {it}' for it in texts] + ['lane 0 closed', 'lane 0 CLOSED']
+    assert (status, len(frames)) == (0, len(texts) + 1)
+    check(t.run(['open'], RUNS.job('open', [{'frames': f'{frames}'}], other).encode()), 0,
+          ''.join(f'{line}\n' for line in lines).encode())
+
+
+@pytest.mark.parametrize('row', RUNS.table['flipped'], ids=lambda row: row['frame'])
+def test_each_flipped_bit(t, row):
+    frame = bytes.fromhex(RUNS.filled(row['frame']))
+    status, out, _ = t.run(['open'], RUNS.single(row, [*runs.flips(frame), frame.hex()]))
+    *lines, text, end = out.decode().splitlines()
+    assert collections.Counter(line.split()[3] for line in lines) == row['codes']
+    assert (status, text, end) == (3, 'lane 0 text 6869', 'lane 0 TRUNCATED')
+
+
+@pytest.mark.parametrize('row', RUNS.table['spelt'], ids=lambda row: row['message'][:30])
+def test_each_bit_and_prefix_shown(t, row):
+    message = bytes.fromhex(RUNS.filled(row['message']))
+
+    def shown(messages):
+        return t.run(['show'], ''.join(f'{it}\n' for it in messages).encode())[1].decode().splitlines()
+
+    lines = shown(runs.flips(message))
+    assert (len(lines), lines.count('refused 901 MALFORMED')) == (8 * len(message), 8 * len(message) - row['flips'])
+    assert shown(runs.prefixes(message)) == ['refused 901 MALFORMED'] * len(message)
+
+
+@pytest.mark.parametrize('command', ['relay', 'show'])
+def test_help(t, command):
+    out, told = t.run([command, '--help'])[1].decode(), RUNS.table['help']
+    keys = [f'\n  {key} = ' for key in told['keys']] if command == 'relay' else []
+    assert [it for it in told[command] + keys if it not in out] == []

@@ -1,25 +1,13 @@
-#!/usr/bin/env python3
 """Compares the refusals, limits, versions, fields of structs and parts of tools/test that stand in
-several places.
-
-    tools/test_tables
-
-The refusals are those of crates/krb_seal/src/refusal.rt, and the limits those of
-crates/krb_base/src/limits.rt, which the prover ties to the definitions. The copies are in the
-header for C, the Python package, the independent reader, sealer and opener, the help, and the
-documents. Each number that the prose of a source or a document has with commas has to be a limit.
-The versions are those of the file VERSION: each place that says one has to say the same. A struct
-of the header has the fields of Rust's, and of Python's if there is one, by name, type and order. The
-parts are those of lib/parts.py, each of which has a row in docs/PROVED.md of what it alone sees.
-A line for each difference; the last line is 'N passed, N failed'. Nothing is built.
-"""
+other places with those of the crates; and the walks of CONTRIBUTING.md with the tree."""
 import ast
 import glob
 import os
 import re
-import sys
 
-from lib import parts, report, usage
+import pytest
+
+from lib import parts
 from lib.build import building
 
 HEADER, SYMBOLS = "c/krbrelay.h", "c/krbrelay.map"
@@ -220,79 +208,68 @@ def unnamed(names):
             or not re.search(rf"KRBRELAY_{name}\b", manual)]
 
 
-# ---- comparing
+# ---- comparing: each case has a name, what was found, and what is wanted
 
-class Count(report.Count):
-    def same(self, what, found, wanted):
-        self.right(found == wanted, f"{what}: {found}, and {wanted} in the crates")
+def compared(cases):
+    return pytest.mark.parametrize("found, wanted", [pytest.param(*it[1:], id=it[0]) for it in cases()])
 
 
-def compare_refusals(count):
+def of_refusals():
     table, answers = refusals(), of_header()[0]
     within = range(min(table.values()), max(table.values()) + 1)
-    count.same(f"{HEADER}, refusals",
-               {name: code for name, code in answers.items() if code in within}, table)
+    yield HEADER, {name: code for name, code in answers.items() if code in within}, table
     told = {name: code for name, code in table.items() if name not in UNTOLD}
     named = of_python(f"{ORACLE}/opener.py")["NAMES"]
-    count.same(f"{ORACLE}/opener.py", {name: code for code, name in named.items()}, told)
+    yield f"{ORACLE}/opener.py", {name: code for code, name in named.items()}, told
     errors = of_python("python/krbrelay/errors.py")
-    count.same("python/krbrelay/errors.py", {it: errors.get(it) for it in told}, told)
-    count.same("docs/C.md and c/man, refusals without a name", unnamed(table), [])
+    yield "python/krbrelay/errors.py", {it: errors.get(it) for it in told}, told
+    yield "docs/C.md and c/man, refusals without a name", unnamed(table), []
     for path, code, name in quoted():
-        count.same(f"{path}, {name}", code, table.get(name))
+        yield f"{path}, {name}", code, table.get(name)
 
 
-def compare_limits(count):
+def of_limits():
     limits = constants(LIMITS)
     room, session, job = map(constants, SIZES)
     wanted = {"USER_DATA_LIMIT": limits["USER_DATA_LIMIT"], "FRAME_LIMIT": limits["FRAME_LIMIT"],
               "ADDRESS_LIMIT": session["ADDRESS_ROOM"]}
-    count.same(f"{HEADER}, limits", of_header()[1],
-               wanted | {"FRAME_OVERHEAD": room["FRAME_OVERHEAD"]})
+    yield HEADER, of_header()[1], wanted | {"FRAME_OVERHEAD": room["FRAME_OVERHEAD"]}
     library = of_python("python/krbrelay/library.py")
-    count.same("python/krbrelay/library.py", {it: library[it] for it in wanted}, wanted)
+    yield "python/krbrelay/library.py", {it: library[it] for it in wanted}, wanted
     for path, copy, name in [(f"{ORACLE}/reader.py", "LIMIT", "FRAME_LIMIT"),
                              (f"{ORACLE}/frames.py", "MOST_TEXTS", "BATCH_LIMIT"),
                              (f"{ORACLE}/frames.py", "MOST_BYTES", "BATCH_SIZE_LIMIT"),
                              (RELAYED, "MOST_TEXTS_BYTES", "BATCH_SIZE_LIMIT"),
                              *((JOB_CHECK, it, it) for it in JOB_LIMITS)]:
-        count.same(f"{path}, {copy}", of_python(path)[copy], limits[name])
-    count.same(f"{JOB_CHECK}, INPUT_LIMIT", of_python(JOB_CHECK)["INPUT_LIMIT"], job["LIMIT"])
-    known = {*limits.values(), *job.values()}
-    known |= {limits["LAST_NUMBER"] + 1}
+        yield f"{path}, {copy}", of_python(path)[copy], limits[name]
+    yield f"{JOB_CHECK}, INPUT_LIMIT", of_python(JOB_CHECK)["INPUT_LIMIT"], job["LIMIT"]
+    known = {*limits.values(), *job.values(), limits["LAST_NUMBER"] + 1}
     for path, number in written():
-        count.right(number in known | NO_LIMITS.get(path, set()),
-                    f"{path}: {number:,} is no limit of the crates")
+        yield f"{path}, {number:,}", number in known | NO_LIMITS.get(path, set()), True
     batch = re.search(r"BATCH_TEXTS = (\d+)", building.text_of("carrier/seal.h"))
-    count.same("carrier/seal.h, BATCH_TEXTS", batch and int(batch[1]), limits["BATCH_LIMIT"])
+    yield "carrier/seal.h, BATCH_TEXTS", int(batch[1]), limits["BATCH_LIMIT"]
 
 
-def compare_structs(count):
+def of_structs():
     room = str(constants(SIZES[1])["ADDRESS_ROOM"])
     crates = {name: [(field, kind.replace("ADDRESS_ROOM", room)) for field, kind in fields]
               for name, fields in structs_of_rust().items()}
     header, package = structs_of_header(), structs_of_python()
-    count.same(f"{HEADER}, structs", sorted(header), sorted(crates))
+    yield f"{HEADER}, structs", sorted(header), sorted(crates)
     for name, fields in header.items():
-        count.same(f"{HEADER}, struct krbrelay_{name}", fields, crates.get(name))
-    count.right(len(package) > 5, "python/krbrelay/library.py has no structs")
+        yield f"{HEADER}, struct krbrelay_{name}", fields, crates.get(name)
+    yield "python/krbrelay/library.py has structs", len(package) > 5, True
     for name, fields in package.items():
         found = [(field, kind.replace("ADDRESS_ROOM", room)) for field, kind in fields]
-        count.same(f"python/krbrelay/library.py, {name}", found, crates.get(name))
+        yield f"python/krbrelay/library.py, {name}", found, crates.get(name)
 
 
-def compare_versions(count):
+def of_versions():
     known = {name: spellings(version) for name, version in versions().items()}
     for path, around, name, part in places():
         found = set(re.findall(around, building.text_of(path), re.M))
-        if part == "packed":
-            found = {int(it, 0) for it in found}
-        wanted = known[name][part]
-        count.right(found == {wanted}, f"{path}, {around}: {found or 'nothing'}, and {wanted!r} by "
-                                       f"{VERSIONS}")
+        yield f"{path}, {around}", {int(it, 0) for it in found} if part == "packed" else found, {known[name][part]}
 
-
-# ---- where a change goes
 
 def walk(heading):
     """The section of a change in CONTRIBUTING.md."""
@@ -321,53 +298,62 @@ def files_with(word, places):
                         yield name
 
 
-def compare_walks(count):
+def of_walks():
     """The lists of places that a change touches name files that are there, and each that has a
     refusal, by one that has no other meaning."""
     every = [os.path.relpath(path, building.TOP) for place in SOURCES
              for path in glob.glob(os.path.join(building.TOP, place), recursive=True)]
     walks = building.text_of(WALKS).partition("## Where a change goes")[2]
     for name in sorted(named_files(walks)):
-        count.right(any(("/" + path).endswith("/" + name) for path in every),
-                    f"{WALKS} names {name}, which isn't there")
+        yield f"{WALKS} names {name}", any(("/" + path).endswith("/" + name) for path in every), True
     names = named_files(walk("A refusal of the opener"))
     found = sorted(set(files_with("InappCksum|INAPP_CKSUM", SOURCES)))
-    count.right(len(found) > 10, f"{WALKS}: a refusal stands in {len(found)} files")
+    yield f"{WALKS}: a refusal stands in some files", len(found) > 10, True
     for path in found:
-        count.right(is_named(path, names), f"{WALKS}: a refusal also stands in {path}")
+        yield f"{WALKS}: a refusal in {path}", is_named(path, names), True
 
 
-# ---- the parts of tools/test
-
-ROOMS = "tools/", "c/", "carrier/", "kerberos/", "python/", "tests/"
+ROOMS = "tools/", "c/", "carrier/", "kerberos/", "python/", "tests/", "pytest "
 PROVED, TESTED = "docs/PROVED.md", "## What is only tested"
 ROW = re.compile(r"^\| `([^`]+)` \| (?:([\d,]+) \| )?(.+) \|$", re.M)
 
 
-def compare_parts(count):
+def of_parts():
     """Each part has a row of what it alone sees, in their order, and those of the gate with the
     seconds that they take."""
     text = building.text_of(PROVED).partition(TESTED)[2].partition("\n## ")[0]
     rows = [row for row in ROW.findall(text) if row[0].startswith((*ROOMS, "rt "))]
     gate = [part.command for part in (parts.FIRST, parts.GATE, *parts.PARTS)]
-    count.right([row[0] for row in rows] == gate + [part.command for part in parts.MORE],
-                f"{PROVED}: its rows aren't the parts of lib/parts.py: "
-                f"{sorted({row[0] for row in rows} ^ {*gate, *(it.command for it in parts.MORE)})}")
+    yield f"{PROVED}, rows", [row[0] for row in rows], gate + [part.command for part in parts.MORE]
     for name, seconds, _ in rows:
-        count.right((name in gate) == bool(seconds), f"{PROVED}: the seconds of {name}")
+        yield f"{PROVED}, seconds of {name}", (name in gate) == bool(seconds), True
 
 
-def main():
-    count = Count()
-    compare_parts(count)
-    compare_walks(count)
-    compare_versions(count)
-    compare_refusals(count)
-    compare_limits(count)
-    compare_structs(count)
-    return count.end()
+@compared(of_refusals)
+def test_refusals(found, wanted):
+    assert found == wanted
 
 
-if __name__ == "__main__":
-    usage.no_words(__doc__)
-    sys.exit(main())
+@compared(of_limits)
+def test_limits(found, wanted):
+    assert found == wanted
+
+
+@compared(of_structs)
+def test_structs(found, wanted):
+    assert found == wanted
+
+
+@compared(of_versions)
+def test_versions(found, wanted):
+    assert found == wanted
+
+
+@compared(of_walks)
+def test_walks(found, wanted):
+    assert found == wanted
+
+
+@compared(of_parts)
+def test_parts(found, wanted):
+    assert found == wanted
