@@ -8,11 +8,13 @@ struct named { const char *name, *text; };
 
 /* The answers of the C beside the proved code. */
 static const struct named system_answers[] = {
+    /* of tables/answers.toml: system */
     [KRBRELAY_CLOCK - KRBRELAY_CLOCK] =
         { "CLOCK", "the clock can't be read, or isn't in the years 1970 to 9999" },
     [KRBRELAY_RANDOM - KRBRELAY_CLOCK] = { "RANDOM", "the system has no random bytes" },
     [KRBRELAY_PROCESSOR - KRBRELAY_CLOCK] =
         { "PROCESSOR", "the processor lacks instructions of the library" },
+    /* end of system */
 };
 
 static int is_of_system(uint32_t answer)
@@ -48,6 +50,7 @@ enum krbrelay_answer krbrelay_answer_text(uint32_t answer, char *text, size_t ro
 const char *krbrelay_strerror(uint32_t answer)
 {
     switch ((enum krbrelay_answer)answer) {
+    /* of tables/answers.toml: texts */
     case KRBRELAY_OK: return "done";
     case KRBRELAY_WIPED: return "the keys were overwritten";
     case KRBRELAY_TOO_LONG: return "the user data are longer than a message may carry";
@@ -77,6 +80,7 @@ const char *krbrelay_strerror(uint32_t answer)
     case KRBRELAY_RECORD: return "the texts are no record";
     case KRBRELAY_REPEATED: return "the number was taken before";
     case KRBRELAY_TOO_OLD: return "the number is too far below the highest that was taken";
+    /* end of texts */
     case KRBRELAY_CLOCK:
     case KRBRELAY_RANDOM:
     case KRBRELAY_PROCESSOR: return system_answers[answer - KRBRELAY_CLOCK].text;
@@ -89,6 +93,7 @@ enum krbrelay_class krbrelay_class_of(uint32_t answer)
     switch ((enum krbrelay_answer)answer) {
     case KRBRELAY_OK:
         return KRBRELAY_CLASS_OK;
+    /* of tables/answers.toml: classes */
     case KRBRELAY_ETYPE_NOSUPP:
     case KRBRELAY_BAD_INTEGRITY:
     case KRBRELAY_SKEW:
@@ -125,6 +130,7 @@ enum krbrelay_class krbrelay_class_of(uint32_t answer)
     case KRBRELAY_RANDOM:
     case KRBRELAY_PROCESSOR:
         return KRBRELAY_CLASS_SYSTEM;
+    /* end of classes */
     }
     return KRBRELAY_CLASS_UNKNOWN;
 }

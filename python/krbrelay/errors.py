@@ -12,6 +12,7 @@ class Code(enum.IntEnum):
     """Why a message is refused: the first check that it fails. The numbers below 100 are those of
     RFC 4120 section 7.5.9."""
 
+    # of tables/answers.toml: codes
     ETYPE_NOSUPP = 14
     """Another encryption type."""
     BAD_INTEGRITY = 31
@@ -42,6 +43,7 @@ class Code(enum.IntEnum):
     """Of windows: the number was taken before."""
     TOO_OLD = 918
     """Of windows: the number is too far below the highest that was taken."""
+    # end of codes
 
 
 class Error(Exception):
