@@ -480,7 +480,8 @@ class Writer:
             Heading(1, "Reference", ""),
             Paragraph(self.inlines("krb_base", "Each public type and function of the crates, with"
                                    " its contract, and each definition that a contract cites."
-                                   " `tools/reference` makes these pages from the sources. The"
+                                   " `tools/reference --html` makes a page of each crate for a browser; here a name leads to"
+                                   " its source. The"
                                    " prover has checked each function against its contract.")),
             Paragraph([Inline("Start with "),
                        Inline("what the headline rests on", False, Target(HEADLINE)),
@@ -637,6 +638,24 @@ def source_in(comment: str, head: str) -> str:
     if not STANDARD.search(comment) and section and len(standards) == 1:
         return f"{standards.pop()} section {section[1]}"
     return source_of(comment) or source_of(head) or OWN
+
+
+def source_file(project: Project, target: Target) -> str:
+    """The file in which the item, the clause or the definition of a target stands."""
+    crate = project.crates.get(target.page)
+    first, *rest = target.anchor.split(".")
+    if first == "specs":
+        module = project.module_of(target.page, ".".join(rest[:-1]))
+        assert module is not None
+        return module.file
+    assert crate is not None
+    if first in crate.functions:
+        return crate.functions[first].file
+    if first not in crate.items:
+        return f"crates/{target.page}/src/lib.rt"
+    item = crate.items[first]
+    made = [*item.functions, *(it for part in item.implementations for it in part.functions)]
+    return next((it.file for it in made if rest and it.name == rest[0]), item.file)
 
 
 def pages_of(project: Project) -> List[Page]:
