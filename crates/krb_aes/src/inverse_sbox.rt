@@ -2,7 +2,7 @@
 // SubBytes is.
 //
 // Between the rounds of the inverse cipher the S-box's affine map is undone already, so that the
-// inverse S-box of a byte is the inverse of what its nibbles mean. tools/vector_tables.py computes
+// inverse S-box of a byte is the inverse of what its nibbles mean. tests/vector_tables.py computes
 // the tables.
 
 ghost use Rattle.std.specs.Prelude.{◌≡◌, List, ℕ, map};

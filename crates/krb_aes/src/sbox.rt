@@ -5,7 +5,7 @@
 // A byte is split into two elements of the field of 16 elements, its nibbles (specs/Nibbles.antt).
 // The inverse of a byte is then a matter of a few look-ups by nibbles: they give two places, and
 // what is sought of the inverse is the sum of what two tables give, one at each place. Each pair
-// of tables below is named after what it gives. tools/vector_tables.py computes all the tables,
+// of tables below is named after what it gives. tests/vector_tables.py computes all the tables,
 // and compares them with these.
 
 ghost use Rattle.std.specs.Prelude.{◌≡◌, ◌/◌, List, ℕ, map, bit_xor, bit_and};

@@ -1,8 +1,0 @@
-use Rattle.krb_aes.proofs.WideLanes.{two_picked}
-use Rattle.krb_aes.proofs.wide.twice.Goals as goal
-
-pub returns-clause-value : goal.returns-clause-value
-returns-clause-value c = two_picked c.args.block c.fits-block.0
-
-pub returns-clause-whole : goal.returns-clause-whole
-returns-clause-whole c = c.fits-block.0
