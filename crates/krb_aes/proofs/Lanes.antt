@@ -20,9 +20,13 @@ map_same f g h (x ∷ xs) k = λ i. h x k.0.fits i ∷ map_same f g h xs k.1 i
 holds : (t : Bool) → t ≡ true → T t
 holds t e = rw e tt
 
+-- places that were computed of bytes
+pub places_of_bytes : (g : ℕ → ℕ) (v js : List ℕ) → Each1 (Fits w8) v → js ≡ map g v → all_below (λ b. is_place (g b)) 256 ≡ true → ArePlaces js
+places_of_bytes g v js f e h =
+    record { each = rw e (each_map (λ j. T (is_place j)) g (λ b lt. holds (is_place (g b)) (all_below_at (λ b. is_place (g b)) 256 b h lt)) v f) }
+
 pub places_of : (g : ℕ → ℕ) (v js : List ℕ) → AreLanes v → js ≡ map g v → all_below (λ b. is_place (g b)) 256 ≡ true → ArePlaces js
-places_of g v js f e h =
-    record { each = rw e (each_map (λ j. T (is_place j)) g (λ b lt. holds (is_place (g b)) (all_below_at (λ b. is_place (g b)) 256 b h lt)) v f.1) }
+places_of g v js f e h = places_of_bytes g v js f.1 e h
 
 pub places_ok : (js : List ℕ) → AreLanes js → ArePlaces js → SwzOk w8 16 16 0 js
 places_ok js f p = SwzOk-from_Each1 w8 16 1 16 0 js refl (omega (arith, f.0)) p.each

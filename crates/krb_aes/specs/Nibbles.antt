@@ -5,7 +5,7 @@
 -- t = 0xb2, for which t^2 = g t + g, each byte is k + i t for one pair of elements; its nibbles
 -- are i, the higher one, and k. In this form the inverse of a byte needs tables of 16 bytes alone
 -- ("Accelerating AES with Vector Permute Instructions", Hamburg, 2009). The tables are computed by
--- tools/vector_tables.py.
+-- tests/vector_tables.py.
 use Rattle.std.specs.Prelude.{ℕ, ◌/◌, nat_lt, nat_le, Bool, T, ◌||◌, List, [], ◌∷◌, slice_index}
 use Rattle.std.specs.Prelude.{bit_xor, bit_and, if◌then◌else◌}
 use Rattle.std.specs.Simd.Lanes.{Each1}

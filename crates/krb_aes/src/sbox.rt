@@ -5,7 +5,7 @@
 // A byte is split into two elements of the field of 16 elements, its nibbles (specs/Nibbles.antt).
 // The inverse of a byte is then a matter of a few look-ups by nibbles: they give two places, and
 // what is sought of the inverse is the sum of what two tables give, one at each place. Each pair
-// of tables below is named after what it gives. tools/vector_tables.py computes all the tables,
+// of tables below is named after what it gives. tests/vector_tables.py computes all the tables,
 // and compares them with these.
 
 ghost use Rattle.std.specs.Prelude.{◌≡◌, ◌/◌, List, ℕ, map, bit_xor, bit_and};
@@ -18,12 +18,12 @@ use crate::words;
 use std::simd::prelude::*;
 
 // The inverse of each element of the field of 16 elements; 0 has none, and means no place.
-const INVERSES: [u8; 16] = [
+pub const INVERSES: [u8; 16] = [
     0x80, 0x01, 0x09, 0x0e, 0x0d, 0x0b, 0x07, 0x06, 0x0f, 0x02, 0x0c, 0x05, 0x0a, 0x04, 0x03, 0x08,
 ];
 
 // The same times g.
-const SCALED_INVERSES: [u8; 16] = [
+pub const SCALED_INVERSES: [u8; 16] = [
     0x80, 0x02, 0x01, 0x0f, 0x09, 0x05, 0x0e, 0x0c, 0x0d, 0x04, 0x0b, 0x0a, 0x07, 0x08, 0x06, 0x03,
 ];
 

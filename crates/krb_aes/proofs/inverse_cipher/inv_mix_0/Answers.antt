@@ -1,27 +1,7 @@
-use Rattle.std.proofs.Common.{[], ◌∷◌, get_or, ◌∙◌}
-use Rattle.krb_aes.specs.InverseCipher.{inv_sbox, inv_sub_bytes, inv_shift_rows, inv_mix_columns}
-use Rattle.krb_aes.specs.Stealing.{xor_block}
-use Rattle.krb_aes.specs.Rounds.{rows_shifted, columns_raised}
-use Rattle.krb_aes.proofs.Entries.{inv_sbox-lt}
-use Rattle.krb_aes.proofs.InverseNibbles.{mixed_back_late, inv_mix_lanes}
+use Rattle.std.proofs.Common.{[], ◌∷◌, ◌∙◌}
+use Rattle.krb_aes.proofs.InverseNibbles.{inv_mix_lanes}
+use Rattle.krb_aes.proofs.InverseMixing.{inv_mix_lanes-0}
 use Rattle.krb_aes.proofs.inverse_cipher.inv_mix_0.Goals as goal
 
 pub returns : goal.returns
-unfolding rows_shifted columns_raised inv_shift_rows inv_sub_bytes inv_mix_columns xor_block
-returns c = λ s k h g ea eb ec ed ek. (λ i. inv_mix_lanes (1 ∷ 2 ∷ 3 ∷ 0 ∷ 5 ∷ 6 ∷ 7 ∷ 4 ∷ 9 ∷ 10 ∷ 11 ∷ 8 ∷ 13 ∷ 14 ∷ 15 ∷ 12 ∷ []) (ea i) (eb i) (ec i) (ed i) (ek i)) ∙ (λ i.
-    mixed_back_late (inv_sbox (get_or s 0 0)) (inv_sbox (get_or s 13 0)) (inv_sbox (get_or s 10 0)) (inv_sbox (get_or s 7 0)) (get_or k 0 0) (get_or k 1 0) (get_or k 2 0) (get_or k 3 0) (inv_sbox-lt _ (h.small 0)) (inv_sbox-lt _ (h.small 13)) (inv_sbox-lt _ (h.small 10)) (inv_sbox-lt _ (h.small 7)) (g.small 0) (g.small 1) (g.small 2) (g.small 3) i ∷
-    mixed_back_late (inv_sbox (get_or s 13 0)) (inv_sbox (get_or s 10 0)) (inv_sbox (get_or s 7 0)) (inv_sbox (get_or s 0 0)) (get_or k 1 0) (get_or k 2 0) (get_or k 3 0) (get_or k 0 0) (inv_sbox-lt _ (h.small 13)) (inv_sbox-lt _ (h.small 10)) (inv_sbox-lt _ (h.small 7)) (inv_sbox-lt _ (h.small 0)) (g.small 1) (g.small 2) (g.small 3) (g.small 0) i ∷
-    mixed_back_late (inv_sbox (get_or s 10 0)) (inv_sbox (get_or s 7 0)) (inv_sbox (get_or s 0 0)) (inv_sbox (get_or s 13 0)) (get_or k 2 0) (get_or k 3 0) (get_or k 0 0) (get_or k 1 0) (inv_sbox-lt _ (h.small 10)) (inv_sbox-lt _ (h.small 7)) (inv_sbox-lt _ (h.small 0)) (inv_sbox-lt _ (h.small 13)) (g.small 2) (g.small 3) (g.small 0) (g.small 1) i ∷
-    mixed_back_late (inv_sbox (get_or s 7 0)) (inv_sbox (get_or s 0 0)) (inv_sbox (get_or s 13 0)) (inv_sbox (get_or s 10 0)) (get_or k 3 0) (get_or k 0 0) (get_or k 1 0) (get_or k 2 0) (inv_sbox-lt _ (h.small 7)) (inv_sbox-lt _ (h.small 0)) (inv_sbox-lt _ (h.small 13)) (inv_sbox-lt _ (h.small 10)) (g.small 3) (g.small 0) (g.small 1) (g.small 2) i ∷
-    mixed_back_late (inv_sbox (get_or s 4 0)) (inv_sbox (get_or s 1 0)) (inv_sbox (get_or s 14 0)) (inv_sbox (get_or s 11 0)) (get_or k 4 0) (get_or k 5 0) (get_or k 6 0) (get_or k 7 0) (inv_sbox-lt _ (h.small 4)) (inv_sbox-lt _ (h.small 1)) (inv_sbox-lt _ (h.small 14)) (inv_sbox-lt _ (h.small 11)) (g.small 4) (g.small 5) (g.small 6) (g.small 7) i ∷
-    mixed_back_late (inv_sbox (get_or s 1 0)) (inv_sbox (get_or s 14 0)) (inv_sbox (get_or s 11 0)) (inv_sbox (get_or s 4 0)) (get_or k 5 0) (get_or k 6 0) (get_or k 7 0) (get_or k 4 0) (inv_sbox-lt _ (h.small 1)) (inv_sbox-lt _ (h.small 14)) (inv_sbox-lt _ (h.small 11)) (inv_sbox-lt _ (h.small 4)) (g.small 5) (g.small 6) (g.small 7) (g.small 4) i ∷
-    mixed_back_late (inv_sbox (get_or s 14 0)) (inv_sbox (get_or s 11 0)) (inv_sbox (get_or s 4 0)) (inv_sbox (get_or s 1 0)) (get_or k 6 0) (get_or k 7 0) (get_or k 4 0) (get_or k 5 0) (inv_sbox-lt _ (h.small 14)) (inv_sbox-lt _ (h.small 11)) (inv_sbox-lt _ (h.small 4)) (inv_sbox-lt _ (h.small 1)) (g.small 6) (g.small 7) (g.small 4) (g.small 5) i ∷
-    mixed_back_late (inv_sbox (get_or s 11 0)) (inv_sbox (get_or s 4 0)) (inv_sbox (get_or s 1 0)) (inv_sbox (get_or s 14 0)) (get_or k 7 0) (get_or k 4 0) (get_or k 5 0) (get_or k 6 0) (inv_sbox-lt _ (h.small 11)) (inv_sbox-lt _ (h.small 4)) (inv_sbox-lt _ (h.small 1)) (inv_sbox-lt _ (h.small 14)) (g.small 7) (g.small 4) (g.small 5) (g.small 6) i ∷
-    mixed_back_late (inv_sbox (get_or s 8 0)) (inv_sbox (get_or s 5 0)) (inv_sbox (get_or s 2 0)) (inv_sbox (get_or s 15 0)) (get_or k 8 0) (get_or k 9 0) (get_or k 10 0) (get_or k 11 0) (inv_sbox-lt _ (h.small 8)) (inv_sbox-lt _ (h.small 5)) (inv_sbox-lt _ (h.small 2)) (inv_sbox-lt _ (h.small 15)) (g.small 8) (g.small 9) (g.small 10) (g.small 11) i ∷
-    mixed_back_late (inv_sbox (get_or s 5 0)) (inv_sbox (get_or s 2 0)) (inv_sbox (get_or s 15 0)) (inv_sbox (get_or s 8 0)) (get_or k 9 0) (get_or k 10 0) (get_or k 11 0) (get_or k 8 0) (inv_sbox-lt _ (h.small 5)) (inv_sbox-lt _ (h.small 2)) (inv_sbox-lt _ (h.small 15)) (inv_sbox-lt _ (h.small 8)) (g.small 9) (g.small 10) (g.small 11) (g.small 8) i ∷
-    mixed_back_late (inv_sbox (get_or s 2 0)) (inv_sbox (get_or s 15 0)) (inv_sbox (get_or s 8 0)) (inv_sbox (get_or s 5 0)) (get_or k 10 0) (get_or k 11 0) (get_or k 8 0) (get_or k 9 0) (inv_sbox-lt _ (h.small 2)) (inv_sbox-lt _ (h.small 15)) (inv_sbox-lt _ (h.small 8)) (inv_sbox-lt _ (h.small 5)) (g.small 10) (g.small 11) (g.small 8) (g.small 9) i ∷
-    mixed_back_late (inv_sbox (get_or s 15 0)) (inv_sbox (get_or s 8 0)) (inv_sbox (get_or s 5 0)) (inv_sbox (get_or s 2 0)) (get_or k 11 0) (get_or k 8 0) (get_or k 9 0) (get_or k 10 0) (inv_sbox-lt _ (h.small 15)) (inv_sbox-lt _ (h.small 8)) (inv_sbox-lt _ (h.small 5)) (inv_sbox-lt _ (h.small 2)) (g.small 11) (g.small 8) (g.small 9) (g.small 10) i ∷
-    mixed_back_late (inv_sbox (get_or s 12 0)) (inv_sbox (get_or s 9 0)) (inv_sbox (get_or s 6 0)) (inv_sbox (get_or s 3 0)) (get_or k 12 0) (get_or k 13 0) (get_or k 14 0) (get_or k 15 0) (inv_sbox-lt _ (h.small 12)) (inv_sbox-lt _ (h.small 9)) (inv_sbox-lt _ (h.small 6)) (inv_sbox-lt _ (h.small 3)) (g.small 12) (g.small 13) (g.small 14) (g.small 15) i ∷
-    mixed_back_late (inv_sbox (get_or s 9 0)) (inv_sbox (get_or s 6 0)) (inv_sbox (get_or s 3 0)) (inv_sbox (get_or s 12 0)) (get_or k 13 0) (get_or k 14 0) (get_or k 15 0) (get_or k 12 0) (inv_sbox-lt _ (h.small 9)) (inv_sbox-lt _ (h.small 6)) (inv_sbox-lt _ (h.small 3)) (inv_sbox-lt _ (h.small 12)) (g.small 13) (g.small 14) (g.small 15) (g.small 12) i ∷
-    mixed_back_late (inv_sbox (get_or s 6 0)) (inv_sbox (get_or s 3 0)) (inv_sbox (get_or s 12 0)) (inv_sbox (get_or s 9 0)) (get_or k 14 0) (get_or k 15 0) (get_or k 12 0) (get_or k 13 0) (inv_sbox-lt _ (h.small 6)) (inv_sbox-lt _ (h.small 3)) (inv_sbox-lt _ (h.small 12)) (inv_sbox-lt _ (h.small 9)) (g.small 14) (g.small 15) (g.small 12) (g.small 13) i ∷
-    mixed_back_late (inv_sbox (get_or s 3 0)) (inv_sbox (get_or s 12 0)) (inv_sbox (get_or s 9 0)) (inv_sbox (get_or s 6 0)) (get_or k 15 0) (get_or k 12 0) (get_or k 13 0) (get_or k 14 0) (inv_sbox-lt _ (h.small 3)) (inv_sbox-lt _ (h.small 12)) (inv_sbox-lt _ (h.small 9)) (inv_sbox-lt _ (h.small 6)) (g.small 15) (g.small 12) (g.small 13) (g.small 14) i ∷ [])
+returns c = λ s k h g ea eb ec ed ek. (λ i. inv_mix_lanes (1 ∷ 2 ∷ 3 ∷ 0 ∷ 5 ∷ 6 ∷ 7 ∷ 4 ∷ 9 ∷ 10 ∷ 11 ∷ 8 ∷ 13 ∷ 14 ∷ 15 ∷ 12 ∷ []) (ea i) (eb i) (ec i) (ed i) (ek i)) ∙ inv_mix_lanes-0 s k h g
