@@ -174,7 +174,7 @@ shard_in list shard first session tables =
 
 -- ---- what a batch has of a session
 
--- what came of an attempt: it moves the session once, from the demand with which the attempt begins
+-- the batch is of an attempt: it moves the session once, from the demand with which the attempt begins
 -- to that with which it ends, and inserts the texts that it delivers
 pub record Moves (first session : ℕ) (batch : Batch) (attempt : Attempt) : Type 0 where
   pub move : Move
