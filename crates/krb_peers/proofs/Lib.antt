@@ -26,3 +26,4 @@ pub mod WireLemmas
 pub mod ReceiveLemmas
 pub mod WholeLemmas
 pub mod BatchLogLemmas
+pub mod CallLemmas

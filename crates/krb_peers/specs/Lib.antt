@@ -25,3 +25,5 @@ pub mod Planned
 pub mod Rounds
 pub mod Whole
 pub mod Laws
+pub mod Calls
+pub mod CallLaws

@@ -28,6 +28,7 @@
 #![tactic(auto)]
 
 mod boxed;
+mod calls;
 mod confounder;
 mod delivery;
 mod emission;
@@ -46,6 +47,7 @@ mod start;
 mod wire;
 
 pub use boxed::Boxed;
+pub use calls::calls_laws;
 pub use delivery::Delivery;
 pub use emission::emit;
 pub use frames::{attempt_laws, frames_laws};

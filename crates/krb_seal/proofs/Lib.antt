@@ -7,3 +7,5 @@ pub mod FrameSizes
 pub mod Checking
 pub mod Authentics
 pub mod Numbers
+pub mod BytesLemmas
+pub mod ExistsLemmas

@@ -17,3 +17,4 @@ pub mod Unseals
 pub mod Number
 pub mod NumberInside
 pub mod Laws
+pub mod Exists

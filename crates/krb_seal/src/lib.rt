@@ -25,6 +25,7 @@ mod aes_sealer;
 mod boxed;
 mod checks;
 mod checksum;
+mod exists;
 mod frame;
 mod laws;
 mod limit;
@@ -37,6 +38,7 @@ mod session;
 mod unopened;
 
 pub use aes_sealer::{Aes128Sealer, Aes256Sealer, SessionSealer};
+pub use exists::exists_laws;
 pub use krb_etype::{Etype, SessionKey};
 pub use laws::{authentic_laws, one_outcome, opens_at_its_number_alone};
 pub use opener::Opener;

@@ -1,0 +1,7 @@
+pub mod Reflection
+pub mod Peers
+pub mod PeerLaws
+pub mod SealedRecords
+pub mod InC
+pub mod PeersHappen
+pub mod PeerTurn

@@ -1,0 +1,102 @@
+//! Each call that succeeds is one of the calls that the laws speak of.
+
+ghost use Rattle.std.specs.Prelude.{◌≡◌, ℕ, List, Option, IfOk, OnErr, length, take};
+ghost use Rattle.krb_structs.specs.Moment.{micros_of};
+ghost use Rattle.krb_peers.specs.Calls.{Answers, AreCalls, Call, Moves};
+ghost use Rattle.krb_peer_laws.specs.Peers.{PeerEnd, IsPeerCall};
+ghost use Rattle.krb_peer_laws.specs.Peers.PeerCall.{Sealed, Opened, Resumed};
+
+use krb_der::Moment;
+use krb_peers::{Delivery, Receiver, calls_laws};
+use krb_seal::Refusal;
+use krb_structs::{Fault, KrbCarried, KrbDemand, KrbMoment, KrbSession, Peer};
+use std::alloc::Global;
+
+/// Takes a frame.
+pub fn take_frame(
+    receiver: &mut Receiver,
+    alloc: Global,
+    frame: &[u8],
+    now: Moment,
+) -> Result<Delivery, Refusal>
+    ensures { (verdict : Option _) × Answers result verdict
+        × Moves receiver.old now frame.now verdict receiver.new }
+{
+    calls_laws();
+    receiver.take(alloc, frame, now)
+}
+
+/// Seals user data.
+pub fn seal_peer(
+    peer: &mut Peer,
+    alloc: Global,
+    user: &[u8],
+    at: &KrbMoment,
+    confounder: &[u8; 16],
+    out: &mut [u8],
+) -> Result<usize, Fault>
+    ensures call { IfOk result (λ size. (e : PeerEnd) → IsPeerCall e peer.old (Sealed (record {
+      user = user.now;
+      at = micros_of at.now;
+      confounder = confounder.now;
+      frame = take size out.new;
+    })) peer.new) }
+    ensures none { OnErr result (peer.new ≡ peer.old) }
+{
+    peer.seal(alloc, user, at, confounder, out)
+}
+
+/// Opens a frame.
+pub fn open_peer(
+    peer: &mut Peer,
+    alloc: Global,
+    frame: &[u8],
+    at: &KrbMoment,
+    out: &mut [u8],
+    told: &mut KrbCarried,
+) -> Result<usize, Fault>
+    ensures call { IfOk result (λ size. (e : PeerEnd) → IsPeerCall e peer.old (Opened (record {
+      frame = frame.now;
+      now = micros_of at.now;
+      user = take size out.new;
+      told = told.new;
+    })) peer.new) }
+    ensures none { OnErr result (peer.new ≡ peer.old) }
+{
+    peer.open(alloc, frame, at, out, told)
+}
+
+/// Goes on from the export of a peer.
+pub fn resume_peer(
+    peer: &Peer,
+    alloc: Global,
+    etype: i32,
+    key: &[u8],
+    session: &KrbSession,
+    demand: &KrbDemand,
+) -> Result<Box<Peer>, Fault>
+    ensures call { IfOk result (λ b. (state : List ℕ) × IsPeerCall (record {
+      etype = etype;
+      key = key.now;
+      session = session.now;
+      demand = demand.now;
+    })
+        peer.now (Resumed state) b.value) }
+{
+    let state = peer.export();
+    Peer::resume(alloc, etype, key, session, demand, &state)
+}
+
+/// Takes frames one after another, whatever each call answers.
+pub fn take_each(receiver: &mut Receiver, alloc: Global, frames: &[Vec<u8>], now: Moment)
+    ensures { (calls : List Call) × AreCalls receiver.old calls receiver.new
+        × (length calls ≡ length frames.now) }
+{
+    calls_laws();
+    for frame in frames {
+        match receiver.take(alloc, frame.as_slice(), now) {
+            Ok(_) => {}
+            Err(_) => {}
+        }
+    }
+}

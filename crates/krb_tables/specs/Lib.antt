@@ -1,0 +1,5 @@
+pub mod Database
+pub mod StoreTables
+pub mod OutboxTables
+pub mod Restored
+pub mod Laws
