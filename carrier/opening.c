@@ -12,13 +12,11 @@ enum { AP_REQ = 0x6e, NAME_BYTES = 16 };
 
 static const char begin[] = "krbrelay session 1 ";
 
+#define OPENING_NAME_OF(name) "OPENING_" #name,
+
 const char *opening_name(enum opening_answer answer)
 {
-    static const char *const names[OPENING_ANSWERS] = {
-        "OPENED", "OPENING_MALFORMED", "OPENING_NO_KEY", "OPENING_CHANGED", "OPENING_SKEW",
-        "OPENING_EXPIRED", "OPENING_NO_SUBKEY", "OPENING_ETYPE", "OPENING_NAME", "OPENING_CLIENT",
-        "OPENING_FORKED", "OPENING_OTHER",
-    };
+    static const char *const names[] = { "OPENED", OPENING_REASONS(OPENING_NAME_OF) };
     return names[answer];
 }
 

@@ -28,22 +28,26 @@ struct opened {
     uint64_t ends;          /* when the ticket ends, in seconds since 1970 */
 };
 
-/* Why an opening isn't taken. All of these may pass: a keytab is written anew, a clock is set, a
- * client is allowed. OPENING_FAULT is out of memory and the like. */
+/* Why an opening isn't taken, each reason by its name. All of these may pass: a keytab is written
+ * anew, a clock is set, a client is allowed. OPENING_FAULT is out of memory and the like. */
+#define OPENING_REASONS(X) \
+    X(MALFORMED) /* it isn't an AP-REQ and the text, or the text isn't of that form */ \
+    X(NO_KEY) /* the keytab has no key for the ticket, or the ticket is another service's */ \
+    X(CHANGED) /* ticket, authenticator or checksum don't fit: changed, or another's */ \
+    X(SKEW) /* the authenticator's time, by krb5.conf's `clockskew` */ \
+    X(EXPIRED) /* the ticket has ended, or hasn't begun */ \
+    X(NO_SUBKEY) /* the ticket's key would serve several sessions */ \
+    X(ETYPE) /* the subkey's is none of 17 and 18 */ \
+    X(NAME) /* the name isn't the key's, or the frame has another one */ \
+    X(CLIENT) /* the client isn't allowed */ \
+    X(FORKED) /* the stream has another session after BEFORE: is this an older outbox? */ \
+    X(OTHER) /* what else the library says */
+
+#define OPENING_VALUE(name) OPENING_##name,
 enum opening_answer {
     OPENING_FAULT = -1,
     OPENING_OK,
-    OPENING_MALFORMED, /* it isn't an AP-REQ and the text, or the text isn't of that form */
-    OPENING_NO_KEY,    /* the keytab has no key for the ticket, or the ticket is another service's */
-    OPENING_CHANGED,   /* ticket, authenticator or checksum don't fit: changed, or another's */
-    OPENING_SKEW,      /* the authenticator's time, by krb5.conf's `clockskew` */
-    OPENING_EXPIRED,   /* the ticket has ended, or hasn't begun */
-    OPENING_NO_SUBKEY, /* the ticket's key would serve several sessions */
-    OPENING_ETYPE,     /* the subkey's is none of 17 and 18 */
-    OPENING_NAME,      /* the name isn't the key's, or the frame has another one */
-    OPENING_CLIENT,    /* the client isn't allowed */
-    OPENING_FORKED,    /* the stream has another session after BEFORE: is this an older outbox? */
-    OPENING_OTHER,     /* what else the library says */
+    OPENING_REASONS(OPENING_VALUE)
     OPENING_ANSWERS
 };
 

@@ -68,7 +68,19 @@ struct receiving {
     unsigned tries;                /* and so often the shard was read again for it */
 };
 
-enum { REFUSALS = 25 }; /* reasons for which a frame is refused (shard_report.c) */
+/* What the library answers of a frame that it refuses (answers.toml: reasons). */
+#define REFUSAL_NAMES(X) \
+    X(ETYPE_NOSUPP) X(BAD_INTEGRITY) X(SKEW) X(BADADDR) X(BADVERSION) X(MSG_TYPE) X(MODIFIED) \
+    X(BADORDER) X(INAPP_CKSUM) X(FIELD_TOOLONG) X(MALFORMED) X(BAD_RECORD) X(AFTER_CLOSE)
+/* end of reasons */
+
+/* Reasons for which a frame is refused: there is no line for its session, an answer of the library's,
+ * another answer, or a reason of an opening. */
+#define SHARD_COUNT(name) +1
+enum {
+    OTHER_REFUSAL = 1 REFUSAL_NAMES(SHARD_COUNT),
+    REFUSALS = OTHER_REFUSAL + 1 OPENING_REASONS(SHARD_COUNT)
+};
 
 struct shard_counts {
     unsigned long frames, texts, accepted, repeats, early, fenced, commits, back, opened,

@@ -11,6 +11,8 @@
 #define REFUSED(reason) \
     { NAME "refused_frames_total", "counter", "Other frames that were refused, by reason", \
       "reason=\"" reason "\"" }
+#define REFUSED_BY(name) REFUSED(#name),
+#define UNOPENED(name) REFUSED("OPENING_" #name),
 
 /* In the order of the values in shard_show; those of refusals are the last. */
 const struct metric shard_metrics[] = {
@@ -32,39 +34,27 @@ const struct metric shard_metrics[] = {
     { NAME "lag_frames", "gauge", "Frames that the carrier has after it", NULL },
     { NAME "loaded_sessions", "gauge", "Sessions of which frames came", NULL },
     { NAME "standing_sessions", "gauge", "Sessions that miss a frame, or had one refused", NULL },
-    REFUSED("NO_LINE"), REFUSED("ETYPE_NOSUPP"), REFUSED("BAD_INTEGRITY"), REFUSED("SKEW"),
-    REFUSED("BADADDR"), REFUSED("BADVERSION"), REFUSED("MSG_TYPE"), REFUSED("MODIFIED"),
-    REFUSED("BADORDER"), REFUSED("INAPP_CKSUM"), REFUSED("FIELD_TOOLONG"), REFUSED("MALFORMED"),
-    REFUSED("BAD_RECORD"), REFUSED("OTHER"),
-    REFUSED("OPENING_MALFORMED"), REFUSED("OPENING_NO_KEY"), REFUSED("OPENING_CHANGED"),
-    REFUSED("OPENING_SKEW"), REFUSED("OPENING_EXPIRED"), REFUSED("OPENING_NO_SUBKEY"),
-    REFUSED("OPENING_ETYPE"), REFUSED("OPENING_NAME"), REFUSED("OPENING_CLIENT"),
-    REFUSED("OPENING_FORKED"), REFUSED("OPENING_OTHER"),
+    REFUSED("NO_LINE"), REFUSAL_NAMES(REFUSED_BY) REFUSED("OTHER"), OPENING_REASONS(UNOPENED)
 };
 const unsigned shard_metrics_count = sizeof shard_metrics / sizeof *shard_metrics;
 const struct metric shard_stands_metric = {
     NAME "session_stands", "gauge", "Sessions that stand still, some of them by name", NULL
 };
 
-/* In the order of the metrics; what isn't here is another one. */
-enum { OTHER = 13 }; /* the place of those; the openings' are after it, as they are numbered */
-static const uint32_t refusals[OTHER] = {
-    0, KRBRELAY_ETYPE_NOSUPP, KRBRELAY_BAD_INTEGRITY, KRBRELAY_SKEW, KRBRELAY_BADADDR,
-    KRBRELAY_BADVERSION, KRBRELAY_MSG_TYPE, KRBRELAY_MODIFIED, KRBRELAY_BADORDER,
-    KRBRELAY_INAPP_CKSUM, KRBRELAY_FIELD_TOOLONG, KRBRELAY_MALFORMED, KRBRELAY_BAD_RECORD,
-};
+#define ANSWER(name) KRBRELAY_##name,
+static const uint32_t refusals[OTHER_REFUSAL] = { 0, REFUSAL_NAMES(ANSWER) };
 
 void shard_count_refused(struct shard_counts *counts, uint32_t answer)
 {
     unsigned i = 0;
-    while (i < OTHER && refusals[i] != answer)
+    while (i < OTHER_REFUSAL && refusals[i] != answer)
         i++;
     counts->refused[i]++;
 }
 
 void shard_count_unopened(struct shard_counts *counts, enum opening_answer answer)
 {
-    counts->refused[OTHER + answer]++;
+    counts->refused[OTHER_REFUSAL + answer]++;
 }
 
 static unsigned long count_refused(const struct shard_counts *counts)

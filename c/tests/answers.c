@@ -429,6 +429,7 @@ struct named { uint32_t answer; const char *name, *text; };
 /* Each answer of the header; names are those of RFC 4120 section 7.5.9, without KRB_AP_ERR_ and the
  * like, where it has one. */
 static const struct named known_answers[] = {
+    /* answers.toml: known */
     { KRBRELAY_OK, "OK", "done" },
     { KRBRELAY_WIPED, "WIPED", "the keys were overwritten" },
     { KRBRELAY_TOO_LONG, "TOO_LONG", "the user data are longer than a message may carry" },
@@ -462,6 +463,7 @@ static const struct named known_answers[] = {
     { KRBRELAY_PROCESSOR, "PROCESSOR", "the processor lacks instructions of the library" },
     { KRBRELAY_REPEATED, "REPEATED", "the number was taken before" },
     { KRBRELAY_TOO_OLD, "TOO_OLD", "the number is too far below the highest that was taken" },
+    /* end of known */
 };
 
 typedef enum krbrelay_answer written_call(uint32_t, char *, size_t, size_t *);

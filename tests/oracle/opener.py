@@ -14,9 +14,11 @@ from oracle import frames, reader
 
 LAST_NUMBER = 2**32 - 1
 NAMES = {
-    61: "FIELD_TOOLONG", 901: "MALFORMED", 39: "BADVERSION", 40: "MSG_TYPE", 14: "ETYPE_NOSUPP",
-    31: "BAD_INTEGRITY", 50: "INAPP_CKSUM", 38: "BADADDR", 37: "SKEW", 42: "BADORDER",
-    41: "MODIFIED", 902: "BAD_RECORD", 903: "AFTER_CLOSE",
+    # answers.toml: names
+    14: "ETYPE_NOSUPP", 31: "BAD_INTEGRITY", 37: "SKEW", 38: "BADADDR", 39: "BADVERSION",
+    40: "MSG_TYPE", 41: "MODIFIED", 42: "BADORDER", 50: "INAPP_CKSUM", 61: "FIELD_TOOLONG",
+    901: "MALFORMED", 902: "BAD_RECORD", 903: "AFTER_CLOSE",
+    # end of names
 }
 
 

@@ -15,6 +15,7 @@ PROGRAM = "a program that is built from these sources"
 UNPROVED = "one that is built from them without its proofs"
 COMPILER = "a C compiler"
 CRYPTOGRAPHY = "Python's package cryptography"
+PYTEST = "Debian's python3-pytest"
 MIT = "Debian's libkrb5-dev"
 HEIMDAL = "Debian's heimdal-multidev"
 MAKE = "make"
@@ -36,7 +37,8 @@ def has(command):
 def runs(*words):
     how = dict(stdin=subprocess.DEVNULL, stdout=subprocess.DEVNULL, stderr=subprocess.DEVNULL)
     try:
-        done = subprocess.run(words, cwd=os.path.join(building.TOP, "tests"), check=False, timeout=TO_ANSWER, **how)
+        done = subprocess.run(words, cwd=os.path.join(building.TOP, "tests"), check=False,
+                              timeout=TO_ANSWER, **how)
         return done.returncode == 0
     except (OSError, subprocess.TimeoutExpired):
         return False
@@ -46,7 +48,9 @@ IS_THERE = {
     PROGRAM: lambda: building.is_built("krbrelay", building.KRBRELAY),
     UNPROVED: lambda: has("rt") and unproved.is_kept(),
     COMPILER: lambda: has(c_tools.c_compiler()[0]),
-    CRYPTOGRAPHY: lambda: runs("python3", "-c", "import sys; sys.path.append('../tools'); from oracle import opener"),
+    CRYPTOGRAPHY: lambda: runs("python3", "-c", "import sys; sys.path.append('../tools');"
+                               " from oracle import opener"),
+    PYTEST: lambda: runs("python3", "-m", "pytest", "--version"),
     MIT: lambda: runs("pkg-config", "--exists", "mit-krb5"),
     HEIMDAL: lambda: runs("pkg-config", "--exists", "heimdal-krb5"),
     REALM: lambda: all(shutil.which(it, path="/usr/sbin:/usr/bin:/sbin:/bin") for it in
@@ -105,7 +109,8 @@ PARTS = [
     Part("tools/quotes", 1, over=()),
     Part("tools/reference --check", 1, over=()),
     Part("tools/test_reference", 1, over=()),
-    Part("pytest tests/test_tables.py", 1, over=()),
+    Part("pytest tests/test_tables.py", 1, (PYTEST,), over=()),
+    Part("tools/tables --check", 1, over=()),
     Part("tests/job_check", 1, (CRYPTOGRAPHY,), over=()),
     Part("tests/vector_tables.py --check", 1, over=()),
     Part("tools/test_building", 5, (COMPILER, CRYPTOGRAPHY), over=()),
@@ -113,7 +118,7 @@ PARTS = [
     Part("tools/test_picture", 2, over=()),
     Part("tools/figure --check", 1, over=()),
     Part("tools/picture --check", 1, (PROGRAM,)),
-    Part("pytest tests/test_program.py", 3, (PROGRAM, COMPILER)),
+    Part("pytest tests/test_program.py", 3, (PROGRAM, COMPILER, PYTEST)),
     Part("tests/install", 1, (PROGRAM,)),
     Part("tests/sweep", 10, (PROGRAM, COMPILER, CRYPTOGRAPHY)),
     Part("tests/job_costs --check", 5, (PROGRAM,)),
@@ -145,13 +150,14 @@ MORE = [
 BUILD_UNPROVED = Part("tools/krbrelay --unproved", 10, ("rt",))
 QUICK = [
     Part("tools/quotes", 1),
-    Part("pytest tests/test_tables.py", 1),
+    Part("pytest tests/test_tables.py", 1, (PYTEST,)),
+    Part("tools/tables --check", 1),
     Part("tests/job_check", 1, (CRYPTOGRAPHY,)),
     Part("tools/picture --quick", 1, (UNPROVED,)),
     Part("tests/redelivery --quick", 4, (UNPROVED, CRYPTOGRAPHY)),
     Part("tests/install --quick", 1, (UNPROVED,)),
     Part("tests/fuzz --quick 300", 5, (UNPROVED, CRYPTOGRAPHY)),
-    Part("pytest --quick tests/test_program.py", 6, (UNPROVED, COMPILER)),
+    Part("pytest --quick tests/test_program.py", 6, (UNPROVED, COMPILER, PYTEST)),
 ]
 
 
