@@ -1,13 +1,14 @@
 """Compares the refusals, limits, versions, fields of structs and parts of tools/test that stand in
 other places with those of the crates; and the walks of CONTRIBUTING.md with the tree."""
 import ast
+import fnmatch
 import glob
 import os
 import re
 
 import pytest
 
-from lib import parts
+from lib import parts, scripts
 from lib.build import building
 
 HEADER, SYMBOLS = "c/krbrelay.h", "c/krbrelay.map"
@@ -329,6 +330,22 @@ def of_parts():
         yield f"{PROVED}, seconds of {name}", (name in gate) == bool(seconds), True
 
 
+def of_tarball():
+    """The tarball of the C library has what its Makefile and Debian's packages take of it."""
+    there = [*scripts.load("c/dist").sources(), "krbrelay-x86_64.s"]
+    tests = re.search(r"^TESTS = (.*)$", building.text_of("c/Makefile"), re.M)[1].split()
+    wanted = ["Makefile", "heap.c", "krbrelay.h", "krbrelay.map", "man/links", "unproved/answers.c",
+              *(f"tests/{name}.c" for name in tests)]
+    wanted += re.findall(r"tests/\w+", " ".join(re.findall(r"^WORDS_\w+ = (.*)$", building.text_of("c/Makefile"), re.M)))
+    for name in ("krbrelay.manpages", "libkrbrelay-dev.docs", "libkrbrelay-dev.examples",
+                 "python3-krbrelay.examples"):
+        wanted += building.text_of(f"packaging/debian/{name}").split()
+    for page, _ in map(str.split, building.text_of("c/man/links").splitlines()):
+        wanted.append(f"man/{page}.3")
+    for name in dict.fromkeys(wanted):
+        yield f"the tarball has {name}", bool(fnmatch.filter(there, name)), True
+
+
 @compared(of_refusals)
 def test_refusals(found, wanted):
     assert found == wanted
@@ -356,4 +373,9 @@ def test_walks(found, wanted):
 
 @compared(of_parts)
 def test_parts(found, wanted):
+    assert found == wanted
+
+
+@compared(of_tarball)
+def test_tarball(found, wanted):
     assert found == wanted
