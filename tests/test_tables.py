@@ -330,6 +330,25 @@ def of_parts():
         yield f"{PROVED}, seconds of {name}", (name in gate) == bool(seconds), True
 
 
+def of_order():
+    """A page of the manual has the refusals of a message in the order in which they are looked for,
+    which is that of the definitions."""
+    text = building.text_of("crates/krb_seal/specs/Opens.antt")
+    proved = [refusal.upper() for name in ("safe_header", "body_checks", "safe_checks")
+              for refusal in re.findall(r", (\w+)\)(?: ∷ \[\])?$", body_of(text, name), re.M)]
+    yield "the checks of a KRB-SAFE are read", (len(proved), proved[-1:]), (7, ["MODIFIED"])
+    for page in ("krbrelay_opener_new", "krbrelay_receiver_new"):
+        listed = building.text_of(f"{PAGES}/{page}.3").partition(".SH RETURN VALUE")[2]
+        names = [it.replace("_", "") for line in re.findall(r"^\.B (KRBRELAY_.*)$", listed, re.M)
+                 for it in re.findall(r"KRBRELAY_(\w+)", line)]
+        yield f"{PAGES}/{page}.3, order", [it for it in names if it in proved], proved
+
+
+def body_of(text, name):
+    """The clauses of a definition."""
+    return text.partition(f"\nabbrev pub {name} :")[2].partition("\n\n")[0]
+
+
 def of_tarball():
     """The tarball of the C library has what its Makefile and Debian's packages take of it."""
     there = [*scripts.load("c/dist").sources(), "krbrelay-x86_64.s"]
@@ -373,6 +392,11 @@ def test_walks(found, wanted):
 
 @compared(of_parts)
 def test_parts(found, wanted):
+    assert found == wanted
+
+
+@compared(of_order)
+def test_order(found, wanted):
     assert found == wanted
 
 
