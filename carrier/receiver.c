@@ -156,7 +156,7 @@ static void start_shards(void)
             end_now();
 }
 
-/* Looks whether the file of sessions is another one. */
+/* Looks whether the file of sessions has changed. */
 static void look_at_sessions(void)
 {
     struct sessions *again = sessions_read_again(sessions);

@@ -217,7 +217,7 @@ static void report_silence(struct sender *s, size_t rose)
     s->rose = nanoseconds();
 }
 
-/* Begins anew if the file of sessions is another one: those that were stopped are tried again. */
+/* Begins anew if the file of sessions has changed: those that were stopped are tried again. */
 static enum outbox_answer look_at_sessions(struct sender *s)
 {
     enum outbox_answer begun;
@@ -260,7 +260,7 @@ static enum outbox_answer look_at_hangups(struct sender *s)
 }
 
 /* Each second: shows how it stands, looks whether the outbox is still this process's, also where
- * nothing is stored, and whether the file of sessions is another one. */
+ * nothing is stored, and whether the file of sessions has changed. */
 static enum outbox_answer look(struct sender *s)
 {
     enum outbox_answer answer;

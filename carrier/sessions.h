@@ -41,7 +41,7 @@ struct sessions *sessions_empty(void);
  * form, or may be read or written by others than its owner. */
 struct sessions *sessions_read(const char *path);
 
-/* Called once a second, by one thread: if the file is another one now, and was the same at the last
+/* Called once a second, by one thread: if the file has changed, and not since the last
  * call, reads it. NULL if it isn't, or, with a line of the log, if it can't be used. */
 struct sessions *sessions_read_again(struct sessions *sessions);
 

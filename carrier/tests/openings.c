@@ -92,7 +92,7 @@ static krb5_data request_of(const char *kind, krb5_creds *creds, krb5_keyblock *
     return make(creds, key, strcmp(kind, "other-text") == 0 ? "krbrelay" : text);
 }
 
-/* A session as it has to be, unless its etype or its name is another one. */
+/* A session as it has to be, but for its etype or its name, as `kind` says. */
 static void draw(const char *kind, int etype, krb5_keyblock *key, struct opened *it)
 {
     struct kerberos_options options = { .keytab = "FILE:none", .etype = etype };

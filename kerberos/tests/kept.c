@@ -76,7 +76,7 @@ static void counts(struct pair *p, enum call make, unsigned long sealers, unsign
 }
 
 /* The sealer goes on in the other kind; an opener is of one. After MIT's code made messages the
- * number is another one, so the sealer is made anew. */
+ * number has changed, so the sealer is made anew. */
 static void one_handle_for_a_key(krb5_context ctx, int etype)
 {
     struct pair p = pair_of(ctx, etype, 0);
