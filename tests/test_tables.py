@@ -67,7 +67,7 @@ PROSE = ("crates/*/src/**/*.rt", HEADER, "docs/C.md", "docs/PYTHON.md", "docs/US
 OTHER_SIZES = re.compile(r"_tests/|/tests\.rt$|/krb_bench/")
 NO_LIMITS = {"crates/krb_der/src/laws.rt": {65_000}}
 WALKS = "CONTRIBUTING.md"
-SOURCES = ("tables/*", "crates/**/*", "python/**/*", "tools/**/*", "docs/*.md", "docs/*.1", "c/**/*", "tests/**/*", "kerberos/**/*", "carrier/*",
+SOURCES = ("tables/*", "crates/**/*", "python/**/*", "tools/**/*", "docs/*.md", "docs/*.1", "c/**/*", "tests/**/*", "kerberos/**/*", "carrier/**/*",
            "examples/**/*")
 OF_TESTS = re.compile(r"/out/|/must-fail|mutants\.toml|_tests/|(python|carrier|kerberos)/tests/|^c/tests/(?!answers\.c)|/test_|^tests/(?!oracle/|job_check)"
                       r"|__pycache__")
@@ -299,19 +299,33 @@ def files_with(word, places):
                         yield name
 
 
+# What a walk means without naming each: pages and examples, demos, symbol versions, answers of proofs.
+BESIDE_WALKS = re.compile(r"^c/man/|examples/|^carrier/demo|\.map$|/proofs/krb|/proofs/receiver|_calls\.rt$|^docs/\w+\.md")
+
+
 def of_walks():
-    """The lists of places that a change touches name files that are there, and each that has a
-    refusal, by one that has no other meaning."""
+    """The lists of places that a change touches name files that are there, and each that has the
+    walk's word, which has no other meaning."""
     every = [os.path.relpath(path, building.TOP) for place in SOURCES
              for path in glob.glob(os.path.join(building.TOP, place), recursive=True)]
     walks = building.text_of(WALKS).partition("## Where a change goes")[2]
     for name in sorted(named_files(walks)):
         yield f"{WALKS} names {name}", any(("/" + path).endswith("/" + name) for path in every), True
-    names = named_files(walk("A refusal of the opener"))
-    found = sorted(set(files_with("InappCksum|INAPP_CKSUM", SOURCES)))
-    yield f"{WALKS}: a refusal stands in some files", len(found) > 10, True
+    for heading in re.findall(r"^### (.*)$", walks, re.M):
+        yield from of_walk(heading)
+
+
+def of_walk(heading):
+    """The files that have the word of a walk, if it names one."""
+    text = walk(heading)
+    word = re.match(r"\n\(`([^`]+)`\)", text)
+    if not word:
+        return
+    names = named_files(text) | set(re.findall(r"`(Makefile)`", text))
+    found = [path for path in sorted(set(files_with(word[1], SOURCES))) if not BESIDE_WALKS.search(path)]
+    yield f"{WALKS}: {heading} stands in some files", len(found) > 1, True
     for path in found:
-        yield f"{WALKS}: a refusal in {path}", is_named(path, names), True
+        yield f"{WALKS}: {heading}, in {path}", is_named(path, names), True
 
 
 ROOMS = "tools/", "c/", "carrier/", "kerberos/", "python/", "tests/", "pytest "
