@@ -485,7 +485,7 @@ class Writer:
                                    " prover has checked each function against its contract.")),
             Paragraph([Inline("Start with "),
                        Inline("what the headline rests on", False, Target(HEADLINE)),
-                       Inline(": the contract of "), *code("relay", Target("krb_relay", "relay")),
+                       Inline(": the contract of "), *code(LAW.word, Target(LAW.crate, LAW.word)),
                        Inline(", and each definition that it reaches. Then "),
                        Inline("what is proved, crate by crate", False, Target(PROMISES)),
                        Inline(": each promise in a line.")]),
