@@ -50,7 +50,7 @@ IS_THERE = {
     COMPILER: lambda: has(c_tools.c_compiler()[0]),
     CRYPTOGRAPHY: lambda: runs("python3", "-c", "import sys; sys.path.append('../tools');"
                                " from oracle import opener"),
-    PYTEST: lambda: runs("python3", "-m", "pytest", "--version"),
+    PYTEST: lambda: has("pytest"),
     MIT: lambda: runs("pkg-config", "--exists", "mit-krb5"),
     HEIMDAL: lambda: runs("pkg-config", "--exists", "heimdal-krb5"),
     REALM: lambda: all(shutil.which(it, path="/usr/sbin:/usr/bin:/sbin:/bin") for it in
