@@ -1,5 +1,5 @@
 -- A frame of each record within its limits.
-use Rattle.std.proofs.Common.{ap, ℤ, ◌≡◌, ℕ, ◌+◌, ◌≤◌, List, [], ◌∷◌, ◌++◌, length, slice_get, zero, suc, Some, refl, subst, arith, length-append}
+use Rattle.std.proofs.Common.{ap, ℤ, ◌≡◌, ℕ, ◌+◌, ◌≤◌, List, [], ◌∷◌, length, slice_get, zero, suc, Some, refl, subst, arith, length-append}
 use Rattle.std.specs.List.{flat_map}
 use Rattle.std.proofs.lemmas.List.Sums.{sum_by-cons}
 use Rattle.krb_base.specs.Bytes.{AreBytes}

@@ -5,3 +5,4 @@ pub mod SealedRecords
 pub mod InC
 pub mod PeersHappen
 pub mod PeerTurn
+pub mod TakenFrames

@@ -1,8 +1,10 @@
 //! Each call that succeeds is one of the calls that the laws speak of.
 
-ghost use Rattle.std.specs.Prelude.{◌≡◌, ℕ, List, Option, IfOk, OnErr, length, take};
+ghost use Rattle.std.specs.Prelude.{◌≡◌, ℕ, List, Option, IfOk, OnErr, All, take};
 ghost use Rattle.krb_structs.specs.Moment.{micros_of};
 ghost use Rattle.krb_peers.specs.Calls.{Answers, AreCalls, Call, Moves};
+ghost use Rattle.krb_peers.specs.Plan.{contents};
+ghost use Rattle.krb_peer_laws.specs.TakenFrames.{frames_of};
 ghost use Rattle.krb_peer_laws.specs.Peers.{PeerEnd, IsPeerCall};
 ghost use Rattle.krb_peer_laws.specs.Peers.PeerCall.{Sealed, Opened, Resumed};
 
@@ -88,9 +90,11 @@ pub fn resume_peer(
 }
 
 /// Takes frames one after another, whatever each call answers.
+///
+/// There is one call for each frame, in their order, and each is made at `now`.
 pub fn take_each(receiver: &mut Receiver, alloc: Global, frames: &[Vec<u8>], now: Moment)
     ensures { (calls : List Call) × AreCalls receiver.old calls receiver.new
-        × (length calls ≡ length frames.now) }
+        × (frames_of calls ≡ contents frames.now) × All (λ call. call.now ≡ now) calls }
 {
     calls_laws();
     for frame in frames {
