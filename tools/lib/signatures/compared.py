@@ -1,0 +1,110 @@
+"""Compares the header with the proved module, the crates' sources, unproved/proved.h and krbrelay.map."""
+import re
+from typing import Dict, Set
+
+from lib import report
+from lib.signatures import enums, header, python_types, source
+from lib.signatures.given import HEADER, MAP, MODULE, RELEASED, Given
+from lib.signatures.header import PREFIX, Function, Header
+from lib.signatures.source import Export
+
+INNER = PREFIX + "proved_"      # the names of proved.h, for functions that C stands before
+# The header's names of what the sources call otherwise. Of a slice C has a length too.
+ALSO = {"told": "session expect demand carried header", "user": "user_data", "code": "answer",
+        "out": "frame user_data bytes name text", "body": "bytes", "number": "mode"}
+LENGTHS = "len", "key_len", "room"
+RESULTS = {"u32": ("enum krbrelay_answer", "uint32_t"), "usize": ("size_t",), None: ("void",)}
+
+
+def same(count: report.Count, found: object, wanted: object, what: str) -> None:
+    count.right(found == wanted, f"FAILED {what}: {wanted}, and in the header {found}")
+
+
+# ---- functions
+
+def in_module(given: Given) -> Dict[str, list]:
+    """The types of each function that the module exports."""
+    return dict(header.lowered(line) for line in given.text_of(MODULE).splitlines()
+                if re.match(r"define (?!internal)[^@]*@krbrelay_\w+\(", line))
+
+
+def in_unproved(given: Given) -> Set[str]:
+    """The functions that the C beside the proved code defines."""
+    return {name for _, text in given.unproved()
+            for name in re.findall(r"^\w[\w ]*\W(krbrelay_\w+)\(", text, re.M) if not name.startswith(INNER)}
+
+
+def compare_names(count: report.Count, given: Given, has: Header, exported: Dict[str, Export]) -> None:
+    """Each function of the header is proved, or is in C; those of both are proved.h's."""
+    proved, inner = set(in_module(given)), {it for it in has.functions if it.startswith(INNER)}
+    same(count, sorted(set(has.functions) - inner), sorted(proved | in_unproved(given)), "functions of module and C")
+    same(count, sorted(PREFIX + it.removeprefix(INNER) for it in inner), sorted(proved & in_unproved(given)),
+         "functions of both, in proved.h")
+    count.right(proved == set(exported), f"FAILED exports of module and source: {sorted(proved ^ set(exported))}")
+    same(count, sorted(has.structs), sorted(source.Structs(given.sources()).fields), "structs of the source")
+
+
+def compare_parameters(count: report.Count, name: str, declared: Function, export: Export) -> None:
+    """What pointers point to, and the names, since the module has neither."""
+    plain = [re.sub(r"\bchar \*", "uint8_t *", it.type) for it in declared.takes]
+    same(count, plain, [it.type for it in export.takes], f"{name}, in the source")
+    for mine, theirs in zip(declared.takes, export.takes):
+        fits = LENGTHS if theirs.part else (theirs.name, *ALSO.get(theirs.name, "").split())
+        count.right(mine.name in fits, f"FAILED {name}, names: {fits}, and in the header {mine.name}")
+    count.right(declared.result in RESULTS[export.result],
+                f"FAILED {name} returns {export.result} in the source, and in the header {declared.result}")
+
+
+def compare_never_null(count: report.Count, text: str, name: str, export: Export) -> None:
+    """The pointers that the header says are never NULL are those to a single value."""
+    single = [at + 1 for at, it in enumerate(export.takes) if "*" in it.type and "[u8]" not in it.rust]
+    told = re.search(rf"\b{name}\([^;]*?\)\s*(?:KRBRELAY_NONNULL\(([\d, ]*)\)\s*)?(?:KRBRELAY_CHECKED)?;", text)
+    listed = [int(it) for it in re.findall(r"\d+", told[1] or "")] if told else None
+    same(count, listed, single, f"{name}, never NULL")
+
+
+def compare_functions(count: report.Count, given: Given, has: Header) -> None:
+    exported, module = source.exports(given.sources()), in_module(given)
+    compare_names(count, given, has, exported)
+    for name in sorted(set(module) & set(has.functions)):
+        same(count, has.lowered[name], module[name], f"{name}, in the module")
+    for name in sorted(set(exported) & set(has.functions)):
+        compare_parameters(count, name, has.functions[name], exported[name])
+        compare_never_null(count, given.text_of(HEADER), name, exported[name])
+    for name in sorted(it for it in has.functions if it.startswith(INNER)):
+        outer = PREFIX + name.removeprefix(INNER)
+        same(count, has.functions.get(outer), has.functions[name], f"{name} of proved.h")
+
+
+# ---- structs, and versions
+
+def compare_structs(count: report.Count, given: Given, has: Header) -> None:
+    """Fields with their offsets and sizes: clang's, and those that C's rules give the source's."""
+    structs = source.Structs(given.sources())
+    for name in sorted(set(has.layouts) & set(structs.fields)):
+        mine, theirs = has.layouts[name], structs.layout(name)
+        for one, other in zip(mine.fields, theirs.fields):
+            same(count, tuple(one), tuple(other), f"struct {name}, {other.name}")
+        same(count, (len(mine.fields), *mine[1:]), (len(theirs.fields), *theirs[1:]),
+             f"struct {name}: fields, size and alignment")
+
+
+def compare_versions(count: report.Count, given: Given, has: Header) -> None:
+    """The symbol version of each function is the one that it came in."""
+    mapped = {name: it[1] for it in re.finditer(r"KRBRELAY_([\d.]+) \{(.*?)\}", given.text_of(MAP), re.S)
+              for name in re.findall(r"(krbrelay_\w+);", it[2])}
+    released = dict(line.split() for line in given.text_of(RELEASED).splitlines() if not line.startswith("#"))
+    same(count, sorted(it for it in has.functions if not it.startswith(INNER)), sorted(mapped), f"functions of {MAP}")
+    for name in sorted(set(mapped) | set(released)):
+        count.right(mapped.get(name) == released.get(name), f"FAILED {name}, its version: {released.get(name)} in"
+                    f" {RELEASED}, and {mapped.get(name)} in {MAP}")
+
+
+def compare(count: report.Count, given: Given) -> None:
+    """Compares all. NotRead where clang doesn't take the header."""
+    has = header.read(given)
+    compare_functions(count, given, has)
+    compare_structs(count, given, has)
+    python_types.compare(count, given, has)
+    compare_versions(count, given, has)
+    enums.compare(count, given.library, has.enums)

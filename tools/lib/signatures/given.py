@@ -1,0 +1,36 @@
+"""What is compared: the repository's files, the text of the proved module, and the shared object."""
+import dataclasses
+import os
+from typing import Dict, Iterator, List, Tuple
+
+from lib.build import assembly, building
+
+CRATE = assembly.CRATE
+HEADER, PROVED, MAP = "c/krbrelay.h", "c/unproved/proved.h", "c/krbrelay.map"
+RELEASED, PYTHON = "c/released_names", "python/krbrelay/library.py"
+MODULE = "the module"       # stands for a path
+
+
+@dataclasses.dataclass(frozen=True)
+class Given:
+    """`texts` has the module's text, and what is read in place of a file of the repository."""
+    texts: Dict[str, str]
+    library: str
+
+    def text_of(self, path: str) -> str:
+        return self.texts[path] if path in self.texts else building.text_of(path)
+
+    def changed(self, path: str, text: str) -> "Given":
+        """The same, with another text at this path."""
+        return dataclasses.replace(self, texts={**self.texts, path: text})
+
+    def sources(self) -> List[str]:
+        """The texts of the crates that the library stands on, and of its own."""
+        return [self.text_of(os.path.relpath(path, building.TOP))
+                for path in building.sources(building.in_order(CRATE)) if path.endswith(".rt")]
+
+    def unproved(self) -> Iterator[Tuple[str, str]]:
+        """The C beside the proved code, by its names."""
+        for name in sorted(os.listdir(os.path.join(building.TOP, "c", "unproved"))):
+            if name.endswith(".c"):
+                yield name, self.text_of(f"c/unproved/{name}")
