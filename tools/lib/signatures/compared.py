@@ -1,6 +1,7 @@
 """Compares the header with the proved module, the crates' sources, unproved/proved.h and krbrelay.map."""
+import functools
 import re
-from typing import Dict, Set
+from typing import Dict, List, Set
 
 from lib import report
 from lib.signatures import enums, header, python_types, source
@@ -22,10 +23,10 @@ def same(count: report.Count, found: object, wanted: object, what: str) -> None:
 
 # ---- functions
 
-def in_module(given: Given) -> Dict[str, list]:
+@functools.lru_cache(maxsize=2)
+def in_module(text: str) -> Dict[str, List[str]]:
     """The types of each function that the module exports."""
-    return dict(header.lowered(line) for line in given.text_of(MODULE).splitlines()
-                if re.match(r"define (?!internal)[^@]*@krbrelay_\w+\(", line))
+    return dict(header.lowered(it) for it in re.findall(r"^define (?!internal)[^@\n]*@krbrelay_\w+\(.*", text, re.M))
 
 
 def in_unproved(given: Given) -> Set[str]:
@@ -36,7 +37,7 @@ def in_unproved(given: Given) -> Set[str]:
 
 def compare_names(count: report.Count, given: Given, has: Header, exported: Dict[str, Export]) -> None:
     """Each function of the header is proved, or is in C; those of both are proved.h's."""
-    proved, inner = set(in_module(given)), {it for it in has.functions if it.startswith(INNER)}
+    proved, inner = set(in_module(given.text_of(MODULE))), {it for it in has.functions if it.startswith(INNER)}
     same(count, sorted(set(has.functions) - inner), sorted(proved | in_unproved(given)), "functions of module and C")
     same(count, sorted(PREFIX + it.removeprefix(INNER) for it in inner), sorted(proved & in_unproved(given)),
          "functions of both, in proved.h")
@@ -64,7 +65,7 @@ def compare_never_null(count: report.Count, text: str, name: str, export: Export
 
 
 def compare_functions(count: report.Count, given: Given, has: Header) -> None:
-    exported, module = source.exports(given.sources()), in_module(given)
+    exported, module = source.exports(given.sources()), in_module(given.text_of(MODULE))
     compare_names(count, given, has, exported)
     for name in sorted(set(module) & set(has.functions)):
         same(count, has.lowered[name], module[name], f"{name}, in the module")

@@ -45,7 +45,8 @@ class Tried:
 
     def taken(self, call: Callable[[int], int], wrong: str) -> List[int]:
         """The numbers that a call doesn't answer with this."""
-        return [it for it in NUMBERS if call(it) != self.of("answer")[wrong]]
+        answer = self.of("answer")[wrong]
+        return [it for it in NUMBERS if call(it) != answer]
 
     def out(self) -> tuple:
         """A buffer, its room, and where the size is written."""

@@ -1,5 +1,6 @@
 """What is compared: the repository's files, the text of the proved module, and the shared object."""
 import dataclasses
+import functools
 import os
 from typing import Dict, Iterator, List, Tuple
 
@@ -11,6 +12,16 @@ RELEASED, PYTHON = "c/released_names", "python/krbrelay/library.py"
 MODULE = "the module"       # stands for a path
 
 
+kept = functools.lru_cache(maxsize=None)(building.text_of)
+
+
+@functools.lru_cache(maxsize=None)
+def paths() -> List[str]:
+    """The sources of the crates that the library stands on, and its own."""
+    return [os.path.relpath(path, building.TOP) for path in building.sources(building.in_order(CRATE))
+            if path.endswith(".rt")]
+
+
 @dataclasses.dataclass(frozen=True)
 class Given:
     """`texts` has the module's text, and what is read in place of a file of the repository."""
@@ -18,7 +29,7 @@ class Given:
     library: str
 
     def text_of(self, path: str) -> str:
-        return self.texts[path] if path in self.texts else building.text_of(path)
+        return self.texts[path] if path in self.texts else kept(path)
 
     def changed(self, path: str, text: str) -> "Given":
         """The same, with another text at this path."""
@@ -26,8 +37,7 @@ class Given:
 
     def sources(self) -> List[str]:
         """The texts of the crates that the library stands on, and of its own."""
-        return [self.text_of(os.path.relpath(path, building.TOP))
-                for path in building.sources(building.in_order(CRATE)) if path.endswith(".rt")]
+        return list(map(self.text_of, paths()))
 
     def unproved(self) -> Iterator[Tuple[str, str]]:
         """The C beside the proved code, by its names."""

@@ -15,7 +15,7 @@ PREFIX = "krbrelay_"
 STANDARD = {
     "stddef.h": "typedef __SIZE_TYPE__ size_t;\n",
     "stdint.h": "".join(f"typedef __{it.upper()}_TYPE__ {it}_t;\n"
-                        for it in ("uint8", "uint32", "uint64", "int32")),
+                        for sign in ("", "u") for it in (f"{sign}int{size}" for size in (8, 16, 32, 64))),
 }
 # What a type of LLVM's may be, and what is said of it that a caller has to know.
 LOWERED = re.compile(r"\{[^}]*\}|\[[^\]]*\]|<[^>]*>|\b(?:ptr|void|i\d+|float|double|zeroext|signext"
