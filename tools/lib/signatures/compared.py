@@ -14,6 +14,7 @@ INNER = PREFIX + "proved_"      # the names of proved.h, for functions that C st
 ALSO = {"told": "session expect demand carried header", "user": "user_data", "code": "answer",
         "out": "frame user_data bytes name text", "body": "bytes", "number": "mode"}
 LENGTHS = "len", "key_len", "room"
+DECLARED = re.compile(r"\b(krbrelay_\w+)\([^;{]*?\)\s*(?:KRBRELAY_NONNULL\(([\d, ]*)\)\s*)?(?:KRBRELAY_CHECKED)?;")
 RESULTS = {"u32": ("enum krbrelay_answer", "uint32_t"), "usize": ("size_t",), None: ("void",)}
 
 
@@ -56,22 +57,25 @@ def compare_parameters(count: report.Count, name: str, declared: Function, expor
                 f"FAILED {name} returns {export.result} in the source, and in the header {declared.result}")
 
 
-def compare_never_null(count: report.Count, text: str, name: str, export: Export) -> None:
-    """The pointers that the header says are never NULL are those to a single value."""
-    single = [at + 1 for at, it in enumerate(export.takes) if "*" in it.type and "[u8]" not in it.rust]
-    told = re.search(rf"\b{name}\([^;]*?\)\s*(?:KRBRELAY_NONNULL\(([\d, ]*)\)\s*)?(?:KRBRELAY_CHECKED)?;", text)
-    listed = [int(it) for it in re.findall(r"\d+", told[1] or "")] if told else None
-    same(count, listed, single, f"{name}, never NULL")
+def never_null(text: str) -> Dict[str, List[int]]:
+    """Which parameters the header says are never NULL, by their places."""
+    return {it[1]: [int(number) for number in re.findall(r"\d+", it[2] or "")] for it in DECLARED.finditer(text)}
+
+
+def single_values(export: Export) -> List[int]:
+    """The places of pointers to a single value: these are never NULL."""
+    return [at + 1 for at, it in enumerate(export.takes) if "*" in it.type and "[u8]" not in it.rust]
 
 
 def compare_functions(count: report.Count, given: Given, has: Header) -> None:
     exported, module = source.exports(given.sources()), in_module(given.text_of(MODULE))
+    listed = never_null(given.text_of(HEADER))
     compare_names(count, given, has, exported)
     for name in sorted(set(module) & set(has.functions)):
         same(count, has.lowered[name], module[name], f"{name}, in the module")
     for name in sorted(set(exported) & set(has.functions)):
         compare_parameters(count, name, has.functions[name], exported[name])
-        compare_never_null(count, given.text_of(HEADER), name, exported[name])
+        same(count, listed.get(name), single_values(exported[name]), f"{name}, never NULL")
     for name in sorted(it for it in has.functions if it.startswith(INNER)):
         outer = PREFIX + name.removeprefix(INNER)
         same(count, has.functions.get(outer), has.functions[name], f"{name} of proved.h")

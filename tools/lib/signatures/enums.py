@@ -1,22 +1,29 @@
 """Tries the enums of the header on the shared object: which numbers each argument takes, and which are
 given, of 0 to 1,023 and three beyond. KRBRELAY_DIRECTIONAL stands in no call: its number isn't tried."""
 import ctypes
+import functools
 import socket
-from typing import Callable, Dict, List
+from typing import Callable, Dict, List, Sequence, Tuple
 
 from lib import report
 
 NUMBERS = [*range(1024), 65536, 2**31, 2**32 - 1]
 KEY, MOMENT = bytes(16), (ctypes.c_uint64 * 2)(1700000000)
 ROOM = 2000
+# What a record may be of these bytes: a text has any, eight zeros are a batch of two texts, and a close
+# has none.
+RECORDS = {b"a": ("TEXT",), bytes(8): ("TEXT", "BATCH"), b"": ("TEXT", "CLOSE")}
+HOWS = "IGNORE", "IF_PRESENT", "REQUIRED", "ABSENT_IS_0"
+DEMANDS = {"sender": HOWS[:3], "receiver": HOWS[:3], "time": HOWS[:3], "number": HOWS}
 # An answer of each class.
 CLASSES = {"OK": "OK", "REFUSAL": "BADORDER", "CALLER": "ROOM", "STATE": "EMPTY", "MEMORY": "MEMORY",
            "SYSTEM": "CLOCK"}
-# What is known of a frame where number 5 is demanded (demanded, opened, accepted, has_opened), and what it
-# is taken for, with a place that knows none and one that knows the key.
-OUTCOMES = [((5, 0, 1, 0), "ACCEPTED", "ACCEPTED"), ((5, 4, 0, 1), "REPEAT", "REPEAT"),
-            ((5, 7, 0, 1), "EARLY", "EARLY"), ((5, 5, 0, 1), "UNSETTLED", "UNSETTLED"),
-            ((5, 0, 0, 0), "UNSETTLED", "UNKNOWN")]
+# What is known of a frame (demanded, opened, accepted, has_opened), whether the place knows the key, and
+# what the frame is taken for.
+OUTCOMES = [((5, 0, 1, 0), 0, "ACCEPTED"), ((5, 4, 0, 1), 0, "REPEAT"), ((5, 7, 0, 1), 0, "EARLY"),
+            ((5, 0, 0, 0), 1, "UNKNOWN"), ((5, 0, 0, 0), 0, "UNSETTLED"), ((5, 5, 0, 1), 1, "UNSETTLED")]
+MISSED = {"ACCEPTED": "NOTHING", "EARLY": "EARLY", "UNSETTLED": "UNSETTLED"}
+KINDS = {"IPV4": (socket.AF_INET, 16), "IPV6": (socket.AF_INET6, 28)}
 
 
 def numbers_of(*numbers: int) -> ctypes.Array:
@@ -24,104 +31,120 @@ def numbers_of(*numbers: int) -> ctypes.Array:
     return (ctypes.c_uint32 * 64)(*numbers)
 
 
-class Tried:
-    """The shared object, its answers, and a count of what is compared."""
+# ---- what the shared object says, whatever the header says
 
-    def __init__(self, count: report.Count, path: str, enums: Dict[str, Dict[str, int]]):
-        self.count, self.library, self.enums = count, ctypes.CDLL(path), enums
-        self.tried: List[str] = []
+class Library:
+    """A shared object, and what its calls answer to each of the numbers."""
+
+    def __init__(self, path: str):
+        self.calls = ctypes.CDLL(path)
         self.room, self.size = ctypes.create_string_buffer(ROOM), ctypes.c_size_t()
         self.sealer, self.opener = (ctypes.c_size_t * 2)(), (ctypes.c_size_t * 2)()
+        self.names = {it: self.room.value.decode() for it in NUMBERS
+                      if self.calls.krbrelay_answer_name(it, *self.out()) == 0}
+        self.modes = {"a sealer": self.answers(self.new_sealer), "an opener": self.answers(self.new_opener)}
+        self.new_sealer(20)
+        self.new_opener(20)
+        self.records = {body: self.answers(functools.partial(self.seal, body)) for body in RECORDS}
+        self.demands = {what: self.answers(functools.partial(self.open, at)) for at, what in enumerate(DEMANDS)}
+        self.missed = self.answers(lambda it: self.calls.krbrelay_place_read_again(numbers_of(5, 0, it, 1)))
+        self.classes = dict(zip(NUMBERS, self.answers(self.calls.krbrelay_class_of)))
+        self.outcomes = [self.take(*frame, known) for frame, known, _ in OUTCOMES]
+        self.kinds = {name: self.kind(*it) for name, it in KINDS.items()}
+        self.calls.krbrelay_sealer_free(self.sealer)
+        self.calls.krbrelay_opener_free(self.opener)
 
-    def of(self, short: str) -> Dict[str, int]:
-        """An enum's numbers by their names, without what all of them begin with."""
-        words = "" if short in ("answer", "mode", "record", "how", "address_kind") else short.upper() + "_"
-        return {name.removeprefix("KRBRELAY_" + words): number
-                for name, number in self.enums[f"krbrelay_{short}"].items()}
-
-    def same(self, short: str, mine: object, theirs: object, what: str = "") -> None:
-        self.tried.append(f"krbrelay_{short}")
-        self.count.right(mine == theirs, f"FAILED enum krbrelay_{short}{what}: {theirs}, and in the header {mine}")
-
-    def taken(self, call: Callable[[int], int], wrong: str) -> List[int]:
-        """The numbers that a call doesn't answer with this."""
-        answer = self.of("answer")[wrong]
-        return [it for it in NUMBERS if call(it) != answer]
+    def answers(self, call: Callable[[int], int]) -> List[int]:
+        return [call(it) for it in NUMBERS]
 
     def out(self) -> tuple:
         """A buffer, its room, and where the size is written."""
         return self.room, ctypes.c_size_t(ROOM), ctypes.byref(self.size)
 
-    # ---- each enum
-
-    def answers(self) -> None:
-        names = {it: self.room.value.decode() for it in NUMBERS
-                 if self.library.krbrelay_answer_name(it, *self.out()) == 0}
-        self.same("answer", {number: name for name, number in self.of("answer").items()}, names)
-
     def new_sealer(self, mode: int) -> int:
-        return self.library.krbrelay_sealer_new(self.sealer, 17, KEY, ctypes.c_size_t(16), numbers_of(mode, 7))
+        return self.calls.krbrelay_sealer_new(self.sealer, 17, KEY, ctypes.c_size_t(16), numbers_of(mode, 7))
 
     def new_opener(self, mode: int) -> int:
-        return self.library.krbrelay_opener_new(self.opener, 17, KEY, ctypes.c_size_t(16), numbers_of(mode))
+        return self.calls.krbrelay_opener_new(self.opener, 17, KEY, ctypes.c_size_t(16), numbers_of(mode))
 
-    def modes(self) -> None:
-        self.same("mode", sorted(self.of("mode").values()), self.taken(self.new_sealer, "MODE"), " of a sealer")
-        self.same("mode", sorted(self.of("mode").values()), self.taken(self.new_opener, "MODE"), " of an opener")
+    def seal(self, body: bytes, kind: int) -> int:
+        return self.calls.krbrelay_sealer_seal_record(self.sealer, kind, body, ctypes.c_size_t(len(body)), MOMENT, KEY,
+                                                      *self.out())
 
-    def records(self) -> None:
-        """A text has any bytes, eight zeros are a batch of two texts, and a close has none."""
-        self.new_sealer(20)
-        for body, kinds in ((b"a", ("TEXT",)), (bytes(8), ("TEXT", "BATCH")), (b"", ("TEXT", "CLOSE"))):
-            found = self.taken(lambda it: self.library.krbrelay_sealer_seal_record(
-                self.sealer, it, body, ctypes.c_size_t(len(body)), MOMENT, KEY, *self.out()), "RECORD")
-            self.same("record", [self.of("record")[it] for it in kinds], found, f" of {len(body)} bytes")
+    def open(self, at: int, how: int) -> int:
+        """Opens no message, with one demand."""
+        demand = numbers_of(*[0] * at, how)
+        return self.calls.krbrelay_opener_open(self.opener, b"x", ctypes.c_size_t(1), demand, MOMENT, *self.out(),
+                                               numbers_of())
 
-    def demands(self) -> None:
-        self.new_opener(20)
-        for at, what in enumerate(("sender", "receiver", "time", "number")):
-            names = ["IGNORE", "IF_PRESENT", "REQUIRED", "ABSENT_IS_0"][:4 if what == "number" else 3]
-            found = self.taken(lambda it: self.library.krbrelay_opener_open(
-                self.opener, b"x", ctypes.c_size_t(1), numbers_of(*[0] * at, it), MOMENT, *self.out(),
-                numbers_of()), "ARGUMENT")
-            self.same("how", [self.of("how")[it] for it in names], found, f" of {what}")
+    def take(self, demanded: int, opened: int, accepted: int, has_opened: int, known: int) -> Tuple[int, int]:
+        """What a frame is taken for, and what is missed then."""
+        told, place = numbers_of(), numbers_of(0, 0, 0, known)
+        frame = numbers_of(demanded, 0, opened, 0, 0, accepted, has_opened)
+        self.calls.krbrelay_place_take(place, ctypes.c_uint64(9), frame, told)
+        return told[0], place[2]
 
-    def classes(self) -> None:
-        answers = self.of("answer")
-        found = {name: self.library.krbrelay_class_of(answers[it]) for name, it in CLASSES.items()}
-        found["UNKNOWN"] = self.library.krbrelay_class_of(NUMBERS[-1])
-        self.same("class", self.of("class"), found)
-        self.same("class", set(self.of("class").values()), set(map(self.library.krbrelay_class_of, NUMBERS)))
+    def kind(self, family: int, size: int) -> int:
+        """The kind of address that a socket has."""
+        told, given = numbers_of(), int(family).to_bytes(2, "little") + bytes(size - 2)
+        self.calls.krbrelay_address_from(told, given, ctypes.c_size_t(size))
+        return told[0]
 
-    def places(self) -> None:
-        found = self.taken(lambda it: self.library.krbrelay_place_read_again(numbers_of(5, 0, it, 1)), "ARGUMENT")
-        self.same("missed", sorted(self.of("missed").values()), found)
-        listed = self.of("outcome")
-        for known in (0, 1):
-            for (demanded, opened, accepted, has_opened), *names in OUTCOMES:
-                told, place = numbers_of(), numbers_of(0, 0, 0, known)
-                frame = numbers_of(demanded, 0, opened, 0, 0, accepted, has_opened)
-                self.library.krbrelay_place_take(place, ctypes.c_uint64(9), frame, told)
-                self.same("outcome", listed[names[known]], told[0], f" {names[known]}")
-                if names[known] == "EARLY":
-                    self.same("missed", self.of("missed")["EARLY"], place[2], " EARLY")
 
-    def addresses(self) -> None:
-        for family, name, size in ((socket.AF_INET, "IPV4", 16), (socket.AF_INET6, "IPV6", 28)):
-            told, given = numbers_of(), family.to_bytes(2, "little") + bytes(size - 2)
-            self.library.krbrelay_address_from(told, given, ctypes.c_size_t(size))
-            self.same("address_kind", self.of("address_kind")[name], told[0], f" {name}")
+# It says the same each time.
+tried = functools.lru_cache(maxsize=None)(Library)
 
-    def all(self) -> None:
-        for each in (self.answers, self.modes, self.records, self.demands, self.classes, self.places,
-                     self.addresses):
-            each()
-        self.library.krbrelay_sealer_free(self.sealer)
-        self.library.krbrelay_opener_free(self.opener)
-        self.count.right(set(self.tried) == set(self.enums), f"FAILED enums that aren't tried: "
-                         f"{sorted(set(self.enums) ^ set(self.tried))}")
+
+# ---- beside the header
+
+class Compared:
+    """The enums of the header beside what the shared object says."""
+
+    def __init__(self, count: report.Count, library: Library, enums: Dict[str, Dict[str, int]]):
+        self.count, self.library, self.enums = count, library, enums
+        self.answer = self.numbers("answer")
+        self.seen: List[str] = []
+
+    def numbers(self, enum: str, begin: str = "") -> Dict[str, int]:
+        """An enum's numbers by their names, without what all of these begin with."""
+        return {name.removeprefix("KRBRELAY_" + begin): number for name, number in self.enums[f"krbrelay_{enum}"].items()}
+
+    def same(self, enum: str, mine: object, theirs: object, of: str = "") -> None:
+        self.seen.append(f"krbrelay_{enum}")
+        self.count.right(mine == theirs, f"FAILED enum krbrelay_{enum}{of and ' of '}{of}: {theirs}, and in the header {mine}")
+
+    def taken(self, enum: str, mine: Sequence[int], answers: List[int], wrong: str, of: str = "") -> None:
+        """The numbers of the enum are those that a call doesn't answer with `wrong`."""
+        self.same(enum, sorted(mine), [it for it, answer in zip(NUMBERS, answers) if answer != self.answer[wrong]], of)
+
+    def arguments(self) -> None:
+        for of, answers in self.library.modes.items():
+            self.taken("mode", list(self.numbers("mode").values()), answers, "MODE", of)
+        for body, answers in self.library.records.items():
+            self.taken("record", [self.numbers("record")[it] for it in RECORDS[body]], answers, "RECORD", f"{len(body)} bytes")
+        for what, answers in self.library.demands.items():
+            self.taken("how", [self.numbers("how")[it] for it in DEMANDS[what]], answers, "ARGUMENT", what)
+        self.taken("missed", list(self.numbers("missed").values()), self.library.missed, "ARGUMENT")
+
+    def results(self) -> None:
+        self.same("answer", {number: name for name, number in self.answer.items()}, self.library.names)
+        classes, given = self.numbers("class", "CLASS_"), self.library.classes
+        self.same("class", classes, {**{name: given[self.answer[it]] for name, it in CLASSES.items()},
+                                     "UNKNOWN": given[NUMBERS[-1]]})
+        self.same("class", set(classes.values()), set(given.values()), "any number")
+        outcomes, missed = self.numbers("outcome", "OUTCOME_"), self.numbers("missed", "MISSED_")
+        for (_, _, name), (outcome, left) in zip(OUTCOMES, self.library.outcomes):
+            self.same("outcome", outcomes[name], outcome, name)
+            if name in MISSED:
+                self.same("missed", missed[MISSED[name]], left, f"a frame taken for {name}")
+        self.same("outcome", sorted(outcomes), sorted({it[2] for it in OUTCOMES}), "all")
+        for name, kind in self.library.kinds.items():
+            self.same("address_kind", self.numbers("address_kind")[name], kind, name)
 
 
 def compare(count: report.Count, path: str, enums: Dict[str, Dict[str, int]]) -> None:
     """Which numbers of each enum the shared object takes or gives."""
-    Tried(count, path, enums).all()
+    compared = Compared(count, tried(path), enums)
+    compared.arguments()
+    compared.results()
+    count.right(set(compared.seen) == set(enums), f"FAILED enums that aren't tried: {sorted(set(enums) ^ set(compared.seen))}")
