@@ -1,8 +1,8 @@
-"""What is compared: the repository's files, the text of the proved module, and the shared object."""
+"""What is compared: the repository's files, the proved module, and the shared object."""
 import dataclasses
 import functools
 import os
-from typing import Dict, Iterator, List, Tuple
+from typing import Dict, List
 
 from lib.build import assembly, building
 
@@ -18,8 +18,8 @@ kept = functools.lru_cache(maxsize=None)(building.text_of)
 @functools.lru_cache(maxsize=None)
 def paths() -> List[str]:
     """The sources of the crates that the library stands on, and its own."""
-    return [os.path.relpath(path, building.TOP) for path in building.sources(building.in_order(CRATE))
-            if path.endswith(".rt")]
+    found = building.sources(building.in_order(CRATE))
+    return [os.path.relpath(path, building.TOP) for path in found if path.endswith(".rt")]
 
 
 @dataclasses.dataclass(frozen=True)
@@ -39,8 +39,7 @@ class Given:
         """The texts of the crates that the library stands on, and of its own."""
         return list(map(self.text_of, paths()))
 
-    def unproved(self) -> Iterator[Tuple[str, str]]:
-        """The C beside the proved code, by its names."""
-        for name in sorted(os.listdir(os.path.join(building.TOP, "c", "unproved"))):
-            if name.endswith(".c"):
-                yield name, self.text_of(f"c/unproved/{name}")
+    def unproved(self) -> List[str]:
+        """The C beside the proved code."""
+        names = sorted(os.listdir(os.path.join(building.TOP, "c", "unproved")))
+        return [self.text_of(f"c/unproved/{it}") for it in names if it.endswith(".c")]

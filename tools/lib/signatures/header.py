@@ -1,4 +1,4 @@
-"""What the kit's clang makes of krbrelay.h and of unproved/proved.h: functions, structs and enums."""
+"""What the kit's clang makes of krbrelay.h and unproved/proved.h: functions, structs and enums."""
 import dataclasses
 import json
 import os
@@ -14,12 +14,12 @@ PREFIX = "krbrelay_"
 # The kit's clang has no headers of its own: it knows these types by other names.
 STANDARD = {
     "stddef.h": "typedef __SIZE_TYPE__ size_t;\n",
-    "stdint.h": "".join(f"typedef __{it.upper()}_TYPE__ {it}_t;\n"
-                        for sign in ("", "u") for it in (f"{sign}int{size}" for size in (8, 16, 32, 64))),
+    "stdint.h": "".join(f"typedef __{sign.upper()}INT{size}_TYPE__ {sign}int{size}_t;\n"
+                        for sign in ("", "u") for size in (8, 16, 32, 64)),
 }
 # What a type of LLVM's may be, and what is said of it that a caller has to know.
-LOWERED = re.compile(r"\{[^}]*\}|\[[^\]]*\]|<[^>]*>|\b(?:ptr|void|i\d+|float|double|zeroext|signext"
-                     r"|byval|sret|inreg)\b|\.\.\.")
+LOWERED = re.compile(r"\{[^}]*\}|\[[^\]]*\]|<[^>]*>|\.\.\."
+                     r"|\b(?:ptr|void|i\d+|float|double|zeroext|signext|byval|sret|inreg)\b")
 ATTRIBUTE = re.compile(r"\b(\w+)\([^()]*\)")
 
 
@@ -63,15 +63,17 @@ class Header:
 
 def asked(given: Given, code: str, *words: str) -> str:
     """What the kit's clang prints of code that stands after both headers."""
-    files = {**STANDARD, "krbrelay.h": given.text_of(HEADER), "unproved/proved.h": given.text_of(PROVED),
+    files = {**STANDARD, "krbrelay.h": given.text_of(HEADER),
+             "unproved/proved.h": given.text_of(PROVED),
              "asked.c": f'#include "unproved/proved.h"\n{code}'}
     with tempfile.TemporaryDirectory() as folder:
         os.mkdir(os.path.join(folder, "unproved"))
         for name, text in files.items():
             with open(os.path.join(folder, name), "w", encoding="utf-8") as file:
                 file.write(text)
-        done = subprocess.run([kit_compiler.clang(), f"--target={target(given)}", "-w", "-ffreestanding", f"-I{folder}",
-                               *words, "asked.c", "-o", "-"], cwd=folder, check=False, capture_output=True, text=True)
+        command = [kit_compiler.clang(), f"--target={target(given)}", "-w", "-ffreestanding",
+                   f"-I{folder}", *words, "asked.c", "-o", "-"]
+        done = subprocess.run(command, cwd=folder, check=False, capture_output=True, text=True)
     if done.returncode:
         raise NotRead(done.stderr)
     return done.stdout
@@ -94,7 +96,8 @@ def lowered(line: str) -> Tuple[str, List[str]]:
     return name, [" ".join(sorted(part)) for part in parts if part]
 
 
-def compiled(given: Given, names: Sequence[str], expressions: Sequence[str]) -> Tuple[Dict[str, List[str]], List[int]]:
+def compiled(given: Given, names: Sequence[str],
+             expressions: Sequence[str]) -> Tuple[Dict[str, List[str]], List[int]]:
     """What clang declares of these functions, and the values of constant expressions."""
     code = f"void *all[] = {{ {', '.join(names)} }};\n" + "".join(
         f"const unsigned long c{at} = {it};\n" for at, it in enumerate(expressions))
@@ -107,16 +110,20 @@ def compiled(given: Given, names: Sequence[str], expressions: Sequence[str]) -> 
 # ---- what the header declares
 
 def function_of(node: Dict[str, Any]) -> Function:
+    takes = [it for it in node.get("inner", []) if it["kind"] == "ParmVarDecl"]
     return Function(node["type"]["qualType"].split("(")[0].strip(),
-                    [Named(it["type"]["qualType"], it.get("name", "")) for it in node.get("inner", [])
-                     if it["kind"] == "ParmVarDecl"])
+                    [Named(it["type"]["qualType"], it.get("name", "")) for it in takes])
 
 
 def fields_of(node: Dict[str, Any]) -> List[Named]:
-    return [Named(it["type"]["qualType"], it["name"]) for it in node["inner"] if it["kind"] == "FieldDecl"]
+    return [Named(it["type"]["qualType"], it["name"]) for it in node["inner"]
+            if it["kind"] == "FieldDecl"]
 
 
-def declared(given: Given) -> Tuple[Dict[str, Function], Dict[str, List[Named]], Dict[str, List[str]]]:
+Declared = Tuple[Dict[str, Function], Dict[str, List[Named]], Dict[str, List[str]]]
+
+
+def declared(given: Given) -> Declared:
     """The functions, the fields of the structs, and the names of each enum."""
     tree = json.loads(asked(given, "", "-Xclang", "-ast-dump=json", "-fsyntax-only"))
     functions, structs, enums = {}, {}, {}
@@ -135,24 +142,27 @@ def declared(given: Given) -> Tuple[Dict[str, Function], Dict[str, List[Named]],
 
 def layout_words(name: str, fields: Sequence[Named]) -> List[str]:
     """The expressions whose values are the layout of a struct."""
-    of_fields = [f"{what}{name}{more}" for it in fields for what, more in (
-        ("__builtin_offsetof(struct ", f", {it.name})"), ("sizeof(((struct ", f" *)0)->{it.name})"))]
-    return [f"sizeof(struct {name})", f"_Alignof(struct {name})", *of_fields]
+    words = [f"sizeof(struct {name})", f"_Alignof(struct {name})"]
+    for it in fields:
+        words += [f"__builtin_offsetof(struct {name}, {it.name})",
+                  f"sizeof(((struct {name} *)0)->{it.name})"]
+    return words
 
 
 def layout_of(fields: Sequence[Named], values: List[int]) -> Layout:
     size, alignment, *rest = values
-    return Layout([Field(*it, *rest[2 * at:2 * at + 2]) for at, it in enumerate(fields)], size, alignment)
+    listed = [Field(*it, *rest[2 * at:2 * at + 2]) for at, it in enumerate(fields)]
+    return Layout(listed, size, alignment)
 
 
 def read(given: Given) -> Header:
     """The header, as clang has it."""
     functions, structs, enums = declared(given)
-    words = {name: layout_words(name, fields) for name, fields in structs.items()}
-    words |= enums
-    lower, values = compiled(given, sorted(functions), [it for listed in words.values() for it in listed])
-    each = {}
+    words = {name: layout_words(name, fields) for name, fields in structs.items()} | enums
+    lower, values = compiled(given, sorted(functions), sum(words.values(), []))
+    found = {}
     for name, listed in words.items():
-        each[name], values = values[:len(listed)], values[len(listed):]
-    return Header(functions, structs, {name: dict(zip(listed, each[name])) for name, listed in enums.items()},
-                  {name: layout_of(fields, each[name]) for name, fields in structs.items()}, lower)
+        found[name], values = values[:len(listed)], values[len(listed):]
+    return Header(functions, structs,
+                  {name: dict(zip(listed, found[name])) for name, listed in enums.items()},
+                  {name: layout_of(fields, found[name]) for name, fields in structs.items()}, lower)

@@ -11,8 +11,8 @@ PLACE, SESSION = "crates/krb_c/src/place.rt", "crates/krb_structs/src/session.rt
 
 
 class Plant(NamedTuple):
-    """In the part of a text that `within` finds, `old` stands once, and becomes `new`: then a line of
-    what isn't alike has to begin with `expected`."""
+    """In the part of a text that `within` finds, `old` stands once, and becomes `new`: then a line
+    of what isn't alike has to begin with `expected`."""
     name: str
     path: str
     within: str
@@ -96,17 +96,35 @@ PLANTS = [
           "KRBRELAY_PRIV = 21\n", "KRBRELAY_PRIV = 22\n", "enum krbrelay_mode of a sealer: "),
     Plant("a batch of 4", HEADER, "",
           "KRBRELAY_BATCH = 2,", "KRBRELAY_BATCH = 4,", "enum krbrelay_record of 8 bytes: "),
+    Plant("a record more", HEADER, "",
+          "KRBRELAY_CLOSE = 3\n", "KRBRELAY_CLOSE = 3, KRBRELAY_MORE = 4\n",
+          "enum krbrelay_record of all: "),
+    Plant("a way to demand more", HEADER, "",
+          "KRBRELAY_ABSENT_IS_0 = 3 ", "KRBRELAY_ABSENT_IS_0 = 3, KRBRELAY_MORE = 4 ",
+          "enum krbrelay_how of all: "),
     Plant("a demand of 4", HEADER, "",
           "KRBRELAY_ABSENT_IS_0 = 3 ", "KRBRELAY_ABSENT_IS_0 = 4 ",
           "enum krbrelay_how of number: "),
     Plant("a class of 7", HEADER, "",
           "KRBRELAY_CLASS_SYSTEM = 5,", "KRBRELAY_CLASS_SYSTEM = 7,", "enum krbrelay_class: "),
+    Plant("a class more", HEADER, "",
+          "KRBRELAY_CLASS_UNKNOWN = 6 ", "KRBRELAY_CLASS_UNKNOWN = 6, KRBRELAY_CLASS_MORE = 7 ",
+          "enum krbrelay_class of any number: "),
+    Plant("two names of what was missed exchanged", HEADER, "",
+          "KRBRELAY_MISSED_EARLY = 1,          /* a frame that came before its turn */\n"
+          "    KRBRELAY_MISSED_UNSETTLED = 2",
+          "KRBRELAY_MISSED_UNSETTLED = 1, KRBRELAY_MISSED_EARLY = 2",
+          "enum krbrelay_missed of a frame taken for EARLY: "),
     Plant("what was missed is 3", HEADER, "",
           "KRBRELAY_MISSED_UNSETTLED = 2 ", "KRBRELAY_MISSED_UNSETTLED = 3 ",
           "enum krbrelay_missed: "),
     Plant("an outcome of 5", HEADER, "",
           "KRBRELAY_OUTCOME_UNKNOWN = 3,", "KRBRELAY_OUTCOME_UNKNOWN = 5,",
           "enum krbrelay_outcome of UNKNOWN: "),
+    Plant("an outcome more", HEADER, "",
+          "KRBRELAY_OUTCOME_UNSETTLED = 4 ",
+          "KRBRELAY_OUTCOME_UNSETTLED = 4, KRBRELAY_OUTCOME_MORE = 5 ",
+          "enum krbrelay_outcome of all: "),
     Plant("a kind of address of 23", HEADER, "",
           "KRBRELAY_IPV6 = 24 ", "KRBRELAY_IPV6 = 23 ", "enum krbrelay_address_kind of IPV6: "),
     Plant("an enum more", HEADER, "",
@@ -119,6 +137,8 @@ PLANTS = [
           "c_uint64", "c_uint32", "Python's krbrelay_opener_unseal: "),
     Plant("an etype without a sign in Python", PYTHON, r"^_KEY = [^\n]*",
           "c_int32", "c_uint32", "Python's krbrelay_peer_new: "),
+    Plant("no call in Python", PYTHON, "",
+          "# ---- finding and loading", "CALLS = {}", "Python's types aren't read"),
     Plant("a version that moves", MAP, "",
           "KRBRELAY_1.1 {", "KRBRELAY_1.2 {", "krbrelay_now, its version: "),
     Plant("a name gone from the map", MAP, "", "        krbrelay_now;\n", "",

@@ -37,9 +37,10 @@ def fits(python: Any, c: str) -> bool:
 def compare_struct(count: report.Count, has: Header, name: str, struct: Any) -> None:
     layout = has.layouts[name]
     mine = [(it.name, it.offset, it.size) for it in layout.fields]
-    theirs = [(it[0], getattr(struct, it[0]).offset, getattr(struct, it[0]).size) for it in struct._fields_]
-    count.right((mine, layout.size) == (theirs, ctypes.sizeof(struct)),
-                f"FAILED Python's {name}: {theirs}, {ctypes.sizeof(struct)} bytes, and in the header {mine},"
+    places = [(it[0], getattr(struct, it[0])) for it in struct._fields_]
+    theirs, size = [(it, place.offset, place.size) for it, place in places], ctypes.sizeof(struct)
+    count.right((mine, layout.size) == (theirs, size),
+                f"FAILED Python's {name}: {theirs}, {size} bytes, and in the header {mine},"
                 f" {layout.size} bytes")
 
 
@@ -48,17 +49,19 @@ def compare_call(count: report.Count, has: Header, name: str, call: Tuple[Any, l
     wanted = [declared.result, *(it.type for it in declared.takes)] if declared else []
     given = [call[0], *call[1]]
     count.right(len(given) == len(wanted) and all(map(fits, given, wanted)),
-                f"FAILED Python's {name}: {[it and it.__name__ for it in given]}, and in the header {wanted}")
+                f"FAILED Python's {name}: {[it and it.__name__ for it in given]}, and in the header"
+                f" {wanted}")
 
 
 def compare(count: report.Count, given: Given, has: Header) -> None:
     """The package's structs and calls, as they stand in its text."""
     package = types.ModuleType("library")
     exec(compile(given.text_of(PYTHON), PYTHON, "exec"), package.__dict__)
-    structs: Dict[str, Any] = {
-        name: it for it in vars(package).values() if isinstance(it, type) and issubclass(it, ctypes.Structure)
-        for name in re.findall(r"krbrelay_\w+", it.__doc__)}
-    count.right(len(structs) > LEAST[0] and len(package.CALLS) > LEAST[1], "FAILED Python's types aren't read")
+    classes = [it for it in vars(package).values() if isinstance(it, type)]
+    structs: Dict[str, Any] = {name: it for it in classes if issubclass(it, ctypes.Structure)
+                               for name in re.findall(r"krbrelay_\w+", it.__doc__)}
+    count.right(len(structs) > LEAST[0] and len(package.CALLS) > LEAST[1],
+                "FAILED Python's types aren't read")
     for name, struct in structs.items():
         compare_struct(count, has, name, struct)
     for name, call in package.CALLS.items():

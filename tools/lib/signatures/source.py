@@ -5,9 +5,11 @@ from typing import Dict, List, NamedTuple, Optional, Sequence, Tuple
 from lib.signatures.header import Field, Layout
 
 # C's names of Rust's numbers, and their bytes.
-NUMBERS = {"u8": "uint8_t", "u32": "uint32_t", "u64": "uint64_t", "i32": "int32_t", "usize": "size_t"}
+NUMBERS = {"u8": "uint8_t", "u32": "uint32_t", "u64": "uint64_t", "i32": "int32_t",
+           "usize": "size_t"}
 SIZES = {"uint8_t": 1, "uint32_t": 4, "uint64_t": 8, "int32_t": 4, "size_t": 8}
-EXPORT = re.compile(r'#\[unsafe\(no_mangle\)\]\s*pub extern "C" fn (krbrelay_\w+)\(([^)]*)\)(?:\s*->\s*(\w+))?')
+EXPORT = re.compile(r'#\[unsafe\(no_mangle\)\]\s*pub extern "C" fn (krbrelay_\w+)\(([^)]*)\)'
+                    r"(?:\s*->\s*(\w+))?")
 STRUCT = re.compile(r"#\[repr\(C\)\]\s*(?:#\[[^\]]*\]\s*)*pub struct (\w+) \{\n(.*?)\n\}", re.S)
 FIELD = re.compile(r"^    (?:pub(?:\([^)]*\))? )?(?!ghost)(\w+): ([^,{]+),", re.M)
 COUNT = re.compile(r"pub const (\w+): usize = (\d+);")
@@ -48,12 +50,14 @@ def in_c(rust: str) -> List[str]:
 def parameters(text: str) -> List[Parameter]:
     """Those between the brackets of a function."""
     pairs = [it.split(": ", 1) for it in re.split(r",\s*", text.strip().rstrip(",")) if it]
-    return [Parameter(c, name, rust, part) for name, rust in pairs for part, c in enumerate(in_c(rust))]
+    return [Parameter(c, name, rust, part) for name, rust in pairs
+            for part, c in enumerate(in_c(rust))]
 
 
 def exports(texts: Sequence[str]) -> Dict[str, Export]:
     """The exported functions of all sources."""
-    return {it[1]: Export(it[3], parameters(it[2])) for text in texts for it in EXPORT.finditer(text)}
+    return {it[1]: Export(it[3], parameters(it[2]))
+            for text in texts for it in EXPORT.finditer(text)}
 
 
 class Structs:
