@@ -19,8 +19,8 @@ DEMANDS = {"sender": HOWS[:3], "receiver": HOWS[:3], "time": HOWS[:3], "number":
 # An answer of each class.
 CLASSES = {"OK": "OK", "REFUSAL": "BADORDER", "CALLER": "ROOM", "STATE": "EMPTY",
            "MEMORY": "MEMORY", "SYSTEM": "CLOCK"}
-# What is known of a frame (demanded, opened, accepted, has_opened), whether the place knows the key,
-# and what the frame is taken for.
+# What is known of a frame (demanded, opened, accepted, has_opened), whether the place knows the
+# key, and what the frame is taken for.
 OUTCOMES = [((5, 0, 1, 0), 0, "ACCEPTED"), ((5, 4, 0, 1), 0, "REPEAT"),
             ((5, 7, 0, 1), 0, "EARLY"), ((5, 0, 0, 0), 1, "UNKNOWN"),
             ((5, 0, 0, 0), 0, "UNSETTLED"), ((5, 5, 0, 1), 1, "UNSETTLED")]
@@ -80,8 +80,8 @@ class Library:
     def open(self, at: int, how: int) -> int:
         """Opens no message, with one demand."""
         demand = numbers_of(*[0] * at, how)
-        return self.calls.krbrelay_opener_open(self.opener, b"x", ctypes.c_size_t(1), demand, MOMENT,
-                                               *self.out(), numbers_of())
+        return self.calls.krbrelay_opener_open(self.opener, b"x", ctypes.c_size_t(1), demand,
+                                               MOMENT, *self.out(), numbers_of())
 
     def read_again(self, missed: int) -> int:
         return self.calls.krbrelay_place_read_again(numbers_of(5, 0, missed, 1))
