@@ -300,7 +300,7 @@ def files_with(word, places):
 
 
 # What a walk means without naming each: pages and examples, demos, symbol versions, answers of proofs.
-BESIDE_WALKS = re.compile(r"^c/man/|examples/|^carrier/demo|\.map$|/proofs/krb|/proofs/receiver|_calls\.rt$|^docs/\w+\.md")
+BESIDE_WALKS = re.compile(r"^c/man/|examples/|^carrier/demo|\.map$|/proofs/krb|/proofs/receiver|_calls\.rt$|/released_names$|^docs/\w+\.md")
 
 
 def of_walks():

@@ -105,6 +105,7 @@ PARTS = [
     LIBRARY,
     Part("c/library --core", 20, ("rt", COMPILER, CRYPTOGRAPHY, MAKE, SQLITE),
          LIBRARY.command, over=()),
+    Part("c/signatures", 2, ("rt", COMPILER, MAKE), LIBRARY.command, over=()),
     Part("python/test", 20, (COMPILER, CRYPTOGRAPHY), LIBRARY.command, over=()),
     Part("tools/quotes", 1, over=()),
     Part("tools/reference --check", 1, over=()),

@@ -9,7 +9,8 @@ import re
 from lib.build import building
 
 
-OF_ROOMS = ("c/library", "c/dist", "python/test", "carrier/test", "kerberos/test", "kerberos/interop")
+OF_ROOMS = ("c/library", "c/dist", "c/signatures", "python/test", "carrier/test", "kerberos/test",
+            "kerberos/interop")
 
 
 def names():

@@ -1,0 +1,203 @@
+"""The control of the comparison: changes of what is compared, each of which it has to report."""
+import re
+from typing import List, NamedTuple
+
+from lib import report
+from lib.build import building
+from lib.signatures import compared
+from lib.signatures.given import HEADER, MAP, MODULE, PROVED, PYTHON, RELEASED, Given
+
+PLACE, SESSION = "crates/krb_c/src/place.rt", "crates/krb_structs/src/session.rt"
+
+
+class Plant(NamedTuple):
+    """In the part of a text that `within` finds, `old` stands once, and becomes `new`: then a line
+    of what isn't alike has to begin with `expected`."""
+    name: str
+    path: str
+    within: str
+    old: str
+    new: str
+    expected: str
+
+
+def define(name: str) -> str:
+    """The line of the module that defines a function."""
+    return rf"^define [^\"\n]*@{name}\([^\n]*"
+
+
+def declares(name: str) -> str:
+    """A declaration of the header, with what stands before and after it."""
+    return rf"^[\w ]*\b{name}\([^;]*;"
+
+
+PLANTS = [
+    Plant("a number of 32 bits in the module", MODULE, define("krbrelay_opener_unseal"),
+          "i64 noundef %a3", "i32 noundef %a3", "krbrelay_opener_unseal, in the module: "),
+    Plant("an offset of 32 bits in the module", MODULE, define("krbrelay_place_take"),
+          "i64 noundef %a1", "i32 noundef %a1", "krbrelay_place_take, in the module: "),
+    Plant("a flag of 8 bits in the module", MODULE, define("krbrelay_receiver_new"),
+          "i32 noundef %a6", "i8 noundef zeroext %a6", "krbrelay_receiver_new, in the module: "),
+    Plant("a length of 32 bits in the module", MODULE, define("krbrelay_sealer_frame_size"),
+          "i64 noundef %a1", "i32 noundef %a1", "krbrelay_sealer_frame_size, in the module: "),
+    Plant("an answer of 8 bits in the module", MODULE, define("krbrelay_window_take"),
+          "define noundef i32", "define noundef i8", "krbrelay_window_take, in the module: "),
+    Plant("an extension in the module", MODULE, define("krbrelay_sealer_set_mode"),
+          "i32 noundef %a1", "i32 noundef signext %a1",
+          "krbrelay_sealer_set_mode, in the module: "),
+    Plant("a struct by value in the module", MODULE, define("krbrelay_peer_free"),
+          "ptr noundef %a0", "ptr noundef byval([2 x i64]) align 8 %a0",
+          "krbrelay_peer_free, in the module: "),
+    Plant("a function gone from the module", MODULE, define("krbrelay_window_new"),
+          "@krbrelay_window_new(", "@window_new(", "exports of module and source: "),
+    Plant("a size of 32 bits in the header", HEADER, declares("krbrelay_frame_size"),
+          "size_t krb", "uint32_t krb", "krbrelay_frame_size, in the module: "),
+    Plant("an etype without a sign", HEADER, declares("krbrelay_opener_new"),
+          "int32_t etype", "uint32_t etype", "krbrelay_opener_new, in the source: "),
+    Plant("two pointers exchanged", HEADER, declares("krbrelay_sealer_seal"),
+          "const struct krbrelay_moment *at,\n"
+          "                                          const uint8_t confounder[16]",
+          "const uint8_t confounder[16], const struct krbrelay_moment *at",
+          "krbrelay_sealer_seal, in the source: "),
+    Plant("two numbers exchanged", HEADER, declares("krbrelay_progress_new"),
+          "uint64_t carried, uint64_t at", "uint64_t at, uint64_t carried",
+          "krbrelay_progress_new, names: "),
+    Plant("a length that is called a size", HEADER, declares("krbrelay_message_header"),
+          "size_t len", "size_t number", "krbrelay_message_header, names: "),
+    Plant("a version with a sign", HEADER, declares("krbrelay_version"),
+          "uint32_t", "int32_t", "krbrelay_version returns u32 in the source, "),
+    Plant("NULL allowed", HEADER, declares("krbrelay_opener_open"),
+          "(1, 4, 5, 8, 9)", "(1, 4, 5, 8)", "krbrelay_opener_open, never NULL: "),
+    Plant("a function of another name", HEADER, declares("krbrelay_window_take"),
+          "krbrelay_window_take(", "krbrelay_window_took(", "functions of module and C: "),
+    Plant("a function more in proved.h", PROVED, declares("krbrelay_proved_peer_new"),
+          "krbrelay_proved_peer_new(", "krbrelay_proved_peer_open(",
+          "functions of both, in proved.h: "),
+    Plant("an etype of 64 bits in proved.h", PROVED, declares("krbrelay_proved_sealer_new"),
+          "int32_t etype", "int64_t etype", "krbrelay_proved_sealer_new of proved.h: "),
+    Plant("a field less in reserve", HEADER, r"^struct krbrelay_demand \{.*?\n\};",
+          "reserved[5]", "reserved[4]", "struct krbrelay_demand, reserved: "),
+    Plant("a field more", HEADER, r"^struct krbrelay_place \{.*?\n\};",
+          "uint32_t known; ", "uint32_t known, more; ",
+          "struct krbrelay_place: fields, size and alignment: "),
+    Plant("a struct more", HEADER, r"^struct krbrelay_moment \{",
+          "struct", "struct krbrelay_more { int a; };\nstruct", "structs of the source: "),
+    Plant("two fields exchanged in the source", PLACE, r"pub struct KrbTaken \{.*?\n\}",
+          "pub demanded: u64,\n"
+          "    /// The number under which it opens if nothing is demanded of it.\n"
+          "    pub opened: u64,", "pub opened: u64,\n    pub demanded: u64,",
+          "struct krbrelay_taken, opened: "),
+    Plant("an address of 39 bytes", SESSION, "",
+          "ADDRESS_ROOM: usize = 40", "ADDRESS_ROOM: usize = 39",
+          "struct krbrelay_address, bytes: "),
+    Plant("an answer of 919", HEADER, "",
+          "KRBRELAY_REPEATED = 917,", "KRBRELAY_REPEATED = 919,", "enum krbrelay_answer: "),
+    Plant("a mode of 22", HEADER, "",
+          "KRBRELAY_PRIV = 21\n", "KRBRELAY_PRIV = 22\n", "enum krbrelay_mode of a sealer: "),
+    Plant("a batch of 4", HEADER, "",
+          "KRBRELAY_BATCH = 2,", "KRBRELAY_BATCH = 4,", "enum krbrelay_record of 8 bytes: "),
+    Plant("a record more", HEADER, "",
+          "KRBRELAY_CLOSE = 3\n", "KRBRELAY_CLOSE = 3, KRBRELAY_MORE = 4\n",
+          "enum krbrelay_record of all: "),
+    Plant("a way to demand more", HEADER, "",
+          "KRBRELAY_ABSENT_IS_0 = 3 ", "KRBRELAY_ABSENT_IS_0 = 3, KRBRELAY_MORE = 4 ",
+          "enum krbrelay_how of all: "),
+    Plant("a demand of 4", HEADER, "",
+          "KRBRELAY_ABSENT_IS_0 = 3 ", "KRBRELAY_ABSENT_IS_0 = 4 ",
+          "enum krbrelay_how of number: "),
+    Plant("a class of 7", HEADER, "",
+          "KRBRELAY_CLASS_SYSTEM = 5,", "KRBRELAY_CLASS_SYSTEM = 7,", "enum krbrelay_class: "),
+    Plant("a class more", HEADER, "",
+          "KRBRELAY_CLASS_UNKNOWN = 6 ", "KRBRELAY_CLASS_UNKNOWN = 6, KRBRELAY_CLASS_MORE = 7 ",
+          "enum krbrelay_class of any number: "),
+    Plant("two names of what was missed exchanged", HEADER, "",
+          "KRBRELAY_MISSED_EARLY = 1,          /* a frame that came before its turn */\n"
+          "    KRBRELAY_MISSED_UNSETTLED = 2",
+          "KRBRELAY_MISSED_UNSETTLED = 1, KRBRELAY_MISSED_EARLY = 2",
+          "enum krbrelay_missed of a frame taken for EARLY: "),
+    Plant("what was missed is 3", HEADER, "",
+          "KRBRELAY_MISSED_UNSETTLED = 2 ", "KRBRELAY_MISSED_UNSETTLED = 3 ",
+          "enum krbrelay_missed: "),
+    Plant("an outcome of 5", HEADER, "",
+          "KRBRELAY_OUTCOME_UNKNOWN = 3,", "KRBRELAY_OUTCOME_UNKNOWN = 5,",
+          "enum krbrelay_outcome of UNKNOWN: "),
+    Plant("an outcome more", HEADER, "",
+          "KRBRELAY_OUTCOME_UNSETTLED = 4 ",
+          "KRBRELAY_OUTCOME_UNSETTLED = 4, KRBRELAY_OUTCOME_MORE = 5 ",
+          "enum krbrelay_outcome of all: "),
+    Plant("a kind of address of 23", HEADER, "",
+          "KRBRELAY_IPV6 = 24 ", "KRBRELAY_IPV6 = 23 ", "enum krbrelay_address_kind of IPV6: "),
+    Plant("an enum more", HEADER, "",
+          "enum krbrelay_mode {", "enum krbrelay_more { A = 1 };\nenum krbrelay_mode {",
+          "enums that aren't tried: "),
+    Plant("two fields exchanged in Python", PYTHON, r"^class DemandStruct.*?\n\n",
+          '("how_sender", c_uint32), ("how_receiver", c_uint32)',
+          '("how_receiver", c_uint32), ("how_sender", c_uint32)', "Python's krbrelay_demand: "),
+    Plant("a number of 32 bits in Python", PYTHON, r'^    "krbrelay_opener_unseal":[^\n]*',
+          "c_uint64", "c_uint32", "Python's krbrelay_opener_unseal: "),
+    Plant("an etype without a sign in Python", PYTHON, r"^_KEY = [^\n]*",
+          "c_int32", "c_uint32", "Python's krbrelay_peer_new: "),
+    Plant("no call in Python", PYTHON, "",
+          "# ---- finding and loading", "CALLS = {}", "Python's types aren't read"),
+    Plant("a version that moves", MAP, "",
+          "KRBRELAY_1.1 {", "KRBRELAY_1.2 {", "krbrelay_now, its version: "),
+    Plant("a name gone from the map", MAP, "", "        krbrelay_now;\n", "",
+          f"functions of {MAP}: "),
+    Plant("a name gone from the list", RELEASED, "",
+          "krbrelay_window_new 1.1\n", "", "krbrelay_window_new, its version: "),
+]
+
+
+class Faults(report.Count):
+    """A count that keeps what failed, and prints nothing."""
+
+    def __init__(self) -> None:
+        super().__init__()
+        self.lines: List[str] = []
+
+    def right(self, passed: object, fault: str) -> None:
+        self.add(bool(passed), not passed)
+        if not passed:
+            self.lines.append(fault)
+
+
+class NotPlanted(Exception):
+    """A plant whose place isn't there, or that changes nothing."""
+
+
+def planted(given: Given, plant: Plant) -> Given:
+    """What is compared, with the change."""
+    text = given.text_of(plant.path)
+    places = list(re.finditer(plant.within or r"\A.*\Z", text, re.M | re.S))
+    if len(places) != 1:
+        raise NotPlanted(f"{plant.path} has {len(places)} places for it")
+    part = places[0][0]
+    if part.count(plant.old) != 1 or plant.old == plant.new:
+        raise NotPlanted(f"{plant.path} has {part.count(plant.old)} times {plant.old!r}")
+    return given.changed(plant.path, text[:places[0].start()] + part.replace(plant.old, plant.new)
+                         + text[places[0].end():])
+
+
+def faults_of(given: Given) -> List[str]:
+    """What isn't alike."""
+    faults = Faults()
+    compared.compare(faults, given)
+    return faults.lines
+
+
+def missing(given: Given, plant: Plant, before: List[str]) -> str:
+    """Why a plant isn't seen, or ''. A comparison that ends early has seen nothing."""
+    try:
+        lines = [it for it in faults_of(planted(given, plant)) if it not in before]
+    except Exception as fault:
+        return f"{type(fault).__name__}: {fault}"
+    seen = any(it.startswith(f"FAILED {plant.expected}") for it in lines)
+    return "" if seen else f"no line begins with {plant.expected!r} among {lines}"
+
+
+def control(count: report.Count, given: Given) -> None:
+    """Each plant is seen, by the line that names what it changed."""
+    before = faults_of(given)
+    for plant in PLANTS:
+        why = missing(given, plant, before)
+        count.right(not why, f"FAILED control: {plant.name}: {why}")
