@@ -32,10 +32,9 @@ class Program:
         self.program = program
 
     def run(self, words, data=b'', memory=None, **streams):
-        def limit():
-            if memory:
-                resource.setrlimit(resource.RLIMIT_AS, (memory, memory))
-        given = dict(stdout=subprocess.PIPE, stderr=subprocess.PIPE, preexec_fn=limit)
+        given = dict(stdout=subprocess.PIPE, stderr=subprocess.PIPE)
+        if memory:      # a function for the child makes its start slow
+            given['preexec_fn'] = lambda: resource.setrlimit(resource.RLIMIT_AS, (memory, memory))
         given.update(streams)
         if 'stdin' not in given:
             given['input'] = data
