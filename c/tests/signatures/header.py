@@ -8,7 +8,7 @@ import tempfile
 from typing import Any, Dict, List, NamedTuple, Sequence, Tuple
 
 from lib.build import kit_compiler
-from lib.signatures.given import HEADER, MODULE, PROVED, Given
+from signatures.given import HEADER, MODULE, PROVED, Given
 
 PREFIX = "krbrelay_"
 # The kit's clang has no headers of its own: it knows these types by other names.

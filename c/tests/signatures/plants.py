@@ -4,8 +4,8 @@ from typing import List, NamedTuple
 
 from lib import report
 from lib.build import building
-from lib.signatures import compared
-from lib.signatures.given import HEADER, MAP, MODULE, PROVED, PYTHON, RELEASED, Given
+from signatures import compared
+from signatures.given import HEADER, MAP, MODULE, PROVED, PYTHON, RELEASED, Given
 
 PLACE, SESSION = "crates/krb_c/src/place.rt", "crates/krb_structs/src/session.rt"
 

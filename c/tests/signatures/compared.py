@@ -4,10 +4,10 @@ import re
 from typing import Dict, List, Set
 
 from lib import report
-from lib.signatures import enums, header, python_types, source
-from lib.signatures.given import HEADER, MAP, MODULE, RELEASED, Given
-from lib.signatures.header import PREFIX, Function, Header
-from lib.signatures.source import Export
+from signatures import enums, header, python_types, source
+from signatures.given import HEADER, MAP, MODULE, RELEASED, Given
+from signatures.header import PREFIX, Function, Header
+from signatures.source import Export
 
 INNER = PREFIX + "proved_"      # the names of proved.h, for functions that C stands before
 # The header's names of what the sources call otherwise. Of a slice C has a length too.

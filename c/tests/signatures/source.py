@@ -2,7 +2,7 @@
 import re
 from typing import Dict, List, NamedTuple, Optional, Sequence, Tuple
 
-from lib.signatures.header import Field, Layout
+from signatures.header import Field, Layout
 
 # C's names of Rust's numbers, and their bytes.
 NUMBERS = {"u8": "uint8_t", "u32": "uint32_t", "u64": "uint64_t", "i32": "int32_t",

@@ -5,8 +5,8 @@ import types
 from typing import Any, Dict, Optional, Tuple
 
 from lib import report
-from lib.signatures.given import PYTHON, Given
-from lib.signatures.header import Header
+from signatures.given import PYTHON, Given
+from signatures.header import Header
 
 # C's numbers: their bytes, and whether they have a sign.
 NUMBERS = {"uint8_t": (1, False), "char": (1, False), "uint32_t": (4, False), "int32_t": (4, True),
