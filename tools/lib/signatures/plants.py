@@ -3,7 +3,6 @@ import re
 from typing import List, NamedTuple
 
 from lib import report
-from lib.build import building
 from lib.signatures import compared
 from lib.signatures.given import HEADER, MAP, MODULE, PROVED, PYTHON, RELEASED, Given
 
