@@ -11,6 +11,7 @@ from lib import report
 NUMBERS = [*range(1024), 65536, 2**31, 2**32 - 1]
 KEY, MOMENT = bytes(16), (ctypes.c_uint64 * 2)(1700000000)
 ROOM = 2000
+NONE = -1       # stands for the number of a name that the header doesn't have
 # What a record may be of these bytes: a text has any, eight zeros are a batch of two texts, and a
 # close has none.
 RECORDS = {b"a": ("TEXT",), bytes(8): ("TEXT", "BATCH"), b"": ("TEXT", "CLOSE")}
@@ -118,7 +119,7 @@ class Compared:
     def numbers(self, enum: str, begin: str = "") -> Dict[str, int]:
         """An enum's numbers by their names, without what all of these begin with."""
         return {name.removeprefix("KRBRELAY_" + begin): number
-                for name, number in self.enums[f"krbrelay_{enum}"].items()}
+                for name, number in self.enums.get(f"krbrelay_{enum}", {}).items()}
 
     def same(self, enum: str, mine: object, theirs: object, of: str = "") -> None:
         self.seen.append(f"krbrelay_{enum}")
@@ -128,7 +129,8 @@ class Compared:
     def taken(self, enum: str, mine: Iterable[int], answers: List[int], wrong: str,
               of: str = "") -> None:
         """The numbers of the enum are those that a call doesn't answer with `wrong`."""
-        theirs = [it for it, answer in zip(NUMBERS, answers) if answer != self.answer[wrong]]
+        refused = self.answer.get(wrong)
+        theirs = [it for it, answer in zip(NUMBERS, answers) if answer != refused]
         self.same(enum, sorted(mine), theirs, of)
 
     def arguments(self) -> None:
@@ -136,10 +138,11 @@ class Compared:
         for of, answers in self.library.modes.items():
             self.taken("mode", self.numbers("mode").values(), answers, "MODE", of)
         for body, answers in self.library.records.items():
-            mine = [records[it] for it in RECORDS[body]]
+            mine = [records.get(it, NONE) for it in RECORDS[body]]
             self.taken("record", mine, answers, "RECORD", f"{len(body)} bytes")
         for what, answers in self.library.demands.items():
-            self.taken("how", [hows[it] for it in DEMANDS[what]], answers, "ARGUMENT", what)
+            mine = [hows.get(it, NONE) for it in DEMANDS[what]]
+            self.taken("how", mine, answers, "ARGUMENT", what)
         self.taken("missed", self.numbers("missed").values(), self.library.missed, "ARGUMENT")
         self.same("record", set(records), set(sum(RECORDS.values(), ())), "all")
         self.same("how", set(hows), set(HOWS), "all")
@@ -148,18 +151,18 @@ class Compared:
         names = {number: name for name, number in self.answer.items()}
         self.same("answer", names, self.library.names)
         classes, given = self.numbers("class", "CLASS_"), self.library.classes
-        found = {name: given[self.answer[it]] for name, it in CLASSES.items()}
+        found = {name: given.get(self.answer.get(it)) for name, it in CLASSES.items()}
         self.same("class", classes, {**found, "UNKNOWN": given[NUMBERS[-1]]})
         self.same("class", set(classes.values()), set(given.values()), "any number")
         for name, kind in self.library.kinds.items():
-            self.same("address_kind", self.numbers("address_kind")[name], kind, name)
+            self.same("address_kind", self.numbers("address_kind").get(name), kind, name)
 
     def outcomes(self) -> None:
         mine, missed = self.numbers("outcome", "OUTCOME_"), self.numbers("missed", "MISSED_")
         for (_, _, name), (outcome, left) in zip(OUTCOMES, self.library.outcomes):
-            self.same("outcome", mine[name], outcome, name)
+            self.same("outcome", mine.get(name), outcome, name)
             if name in MISSED:
-                self.same("missed", missed[MISSED[name]], left, f"a frame taken for {name}")
+                self.same("missed", missed.get(MISSED[name]), left, f"a frame taken for {name}")
         self.same("outcome", sorted(mine), sorted({it[2] for it in OUTCOMES}), "all")
 
 

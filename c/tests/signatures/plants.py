@@ -3,7 +3,6 @@ import re
 from typing import List, NamedTuple
 
 from lib import report
-from lib.build import building
 from signatures import compared
 from signatures.given import HEADER, MAP, MODULE, PROVED, PYTHON, RELEASED, Given
 
@@ -102,6 +101,13 @@ PLANTS = [
     Plant("a way to demand more", HEADER, "",
           "KRBRELAY_ABSENT_IS_0 = 3 ", "KRBRELAY_ABSENT_IS_0 = 3, KRBRELAY_MORE = 4 ",
           "enum krbrelay_how of all: "),
+    Plant("a record of another name", HEADER, "",
+          "KRBRELAY_BATCH = 2,", "KRBRELAY_BUNCH = 2,", "enum krbrelay_record of 8 bytes: "),
+    Plant("an answer of another name", HEADER, "",
+          "KRBRELAY_ARGUMENT = 912,", "KRBRELAY_ARGUMENTS = 912,", "enum krbrelay_answer: "),
+    Plant("an outcome of another name", HEADER, "",
+          "KRBRELAY_OUTCOME_REPEAT = 1,", "KRBRELAY_OUTCOME_REPEATED = 1,",
+          "enum krbrelay_outcome of REPEAT: "),
     Plant("a demand of 4", HEADER, "",
           "KRBRELAY_ABSENT_IS_0 = 3 ", "KRBRELAY_ABSENT_IS_0 = 4 ",
           "enum krbrelay_how of number: "),
@@ -130,6 +136,9 @@ PLANTS = [
     Plant("an enum more", HEADER, "",
           "enum krbrelay_mode {", "enum krbrelay_more { A = 1 };\nenum krbrelay_mode {",
           "enums that aren't tried: "),
+    Plant("a struct of another name in Python", PYTHON, "",
+          '"""struct krbrelay_window."""', '"""struct krbrelay_windows."""',
+          "Python's krbrelay_windows: "),
     Plant("two fields exchanged in Python", PYTHON, r"^class DemandStruct.*?\n\n",
           '("how_sender", c_uint32), ("how_receiver", c_uint32)',
           '("how_receiver", c_uint32), ("how_sender", c_uint32)', "Python's krbrelay_demand: "),

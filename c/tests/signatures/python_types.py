@@ -6,7 +6,7 @@ from typing import Any, Dict, Optional, Tuple
 
 from lib import report
 from signatures.given import PYTHON, Given
-from signatures.header import Header
+from signatures.header import Header, Layout
 
 # C's numbers: their bytes, and whether they have a sign.
 NUMBERS = {"uint8_t": (1, False), "char": (1, False), "uint32_t": (4, False), "int32_t": (4, True),
@@ -35,7 +35,7 @@ def fits(python: Any, c: str) -> bool:
 
 
 def compare_struct(count: report.Count, has: Header, name: str, struct: Any) -> None:
-    layout = has.layouts[name]
+    layout = has.layouts.get(name, Layout([], 0, 0))
     mine = [(it.name, it.offset, it.size) for it in layout.fields]
     places = [(it[0], getattr(struct, it[0])) for it in struct._fields_]
     theirs, size = [(it, place.offset, place.size) for it, place in places], ctypes.sizeof(struct)
