@@ -33,6 +33,8 @@ CALLS, PACKAGE = "crates/krb_c/src/message_calls.rt", "python/tests/test_library
 # Where a version stands: the file, the words around it, whose it is, and what of it stands there. A
 # symbol's version is that of the library which brought it: its major number alone is compared.
 PLACES = [
+    ("README.md", r"^\*\*Version\*\*: library (\S+), program", "library", "whole"),
+    ("README.md", r"^\*\*Version\*\*: library \S+, program (\S+),", "program", "whole"),
     ("crates/krb_program/src/command.rt", r'\.version\("(.*)"\)', "program", "whole"),
     ("tools/lib/build/copied.py", r"echo krbrelay (\S+)", "program", "whole"),
     (CALLS, r"^/// The version of the library: (\w+) is ", "library", "packed"),
@@ -185,8 +187,7 @@ def places():
     yield from PLACES
     for path in sorted(glob.glob(os.path.join(building.TOP, PAGES, "*.[37]"))):
         page = os.path.relpath(path, building.TOP)
-        if not building.text_of(page).startswith(".so "):
-            yield page, r'^\.TH \S+ [37] \S+ "krbrelay (.*?)"', "library", "whole"
+        yield page, r'^\.TH \S+ [37] \S+ "krbrelay (.*?)"', "library", "whole"
 
 
 def written():
