@@ -5,7 +5,8 @@ import collections
 import os
 import sys
 
-sys.path.insert(0, os.path.join(os.path.dirname(os.path.abspath(__file__)), "../../tests"))
+TOP = os.path.join(os.path.dirname(os.path.abspath(__file__)), "../..")
+sys.path[:0] = os.path.join(TOP, "tests"), os.path.join(TOP, "tools")
 from oracle import opener  # noqa: E402
 
 KEYS = {17: bytes(range(16)), 18: b"\x11" * 32}
@@ -37,7 +38,7 @@ def main() -> int:
         seen[told[0]] += 1
     counts = ", ".join(f"{answer}: {count}" for answer, count in sorted(seen.items()))
     print(f"fuzz: {sum(seen.values())} answers as opener.py gives them ({counts})")
-    return 0
+    return 0 if seen else 1     # no line: the program before it in the pipe gave none
 
 
 sys.exit(main())

@@ -6,7 +6,8 @@ import os
 import random
 import sys
 
-sys.path.insert(0, os.path.join(os.path.dirname(os.path.abspath(__file__)), "../../tests"))
+TOP = os.path.join(os.path.dirname(os.path.abspath(__file__)), "../..")
+sys.path[:0] = os.path.join(TOP, "tests"), os.path.join(TOP, "tools")
 from oracle import frames  # noqa: E402
 
 KEYS = (bytes(range(16)), b"\x11" * 32)
