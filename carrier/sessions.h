@@ -41,8 +41,8 @@ struct sessions *sessions_empty(void);
  * form, or may be read or written by others than its owner. */
 struct sessions *sessions_read(const char *path);
 
-/* Called once a second, by one thread: if the file has changed, and not since the last
- * call, reads it. NULL if it isn't, or, with a line of the log, if it can't be used. */
+/* Called once a second, by one thread: if the file has changed, and is the same as at
+ * the last call, reads it. NULL if it hasn't, or, with a line of the log, if it can't be used. */
 struct sessions *sessions_read_again(struct sessions *sessions);
 
 /* The session with this name: 1, or 0 if there is none. The caller overwrites what it got, since it
