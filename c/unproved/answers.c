@@ -55,18 +55,18 @@ const char *krbrelay_strerror(uint32_t answer)
     case KRBRELAY_WIPED: return "the keys were overwritten";
     case KRBRELAY_TOO_LONG: return "the user data are longer than a message may carry";
     case KRBRELAY_EXHAUSTED: return "no sequence number is left";
-    case KRBRELAY_ETYPE_NOSUPP: return "the encryption type isn't the opener's";
-    case KRBRELAY_BAD_INTEGRITY: return "the encrypted part is too short, or its code differs";
+    case KRBRELAY_ETYPE_NOSUPP: return "the encryption type isn't the expected one";
+    case KRBRELAY_BAD_INTEGRITY: return "the encrypted part is too short, or its authentication code differs";
     case KRBRELAY_SKEW: return "the time is off by more than the skew, or is missing";
     case KRBRELAY_BADADDR: return "an address isn't the expected one, or is missing";
     case KRBRELAY_BADVERSION: return "the protocol version isn't 5";
-    case KRBRELAY_MSG_TYPE: return "the message is of the other kind";
+    case KRBRELAY_MSG_TYPE: return "the message isn't of the expected kind, KRB-SAFE or KRB-PRIV";
     case KRBRELAY_MODIFIED: return "the checksum differs";
     case KRBRELAY_BADORDER: return "the sequence number isn't the expected one";
-    case KRBRELAY_INAPP_CKSUM: return "the checksum's type isn't the opener's";
+    case KRBRELAY_INAPP_CKSUM: return "the checksum's type isn't the expected one";
     case KRBRELAY_FIELD_TOOLONG: return "the message is longer than a message may be";
-    case KRBRELAY_MALFORMED: return "no message is spelt so";
-    case KRBRELAY_BAD_RECORD: return "the user data are no record";
+    case KRBRELAY_MALFORMED: return "not a DER-encoded KRB-SAFE or KRB-PRIV message";
+    case KRBRELAY_BAD_RECORD: return "the user data aren't a record";
     case KRBRELAY_AFTER_CLOSE: return "a close was accepted before";
     case KRBRELAY_MEMORY: return "out of memory";
     case KRBRELAY_ETYPE: return "the encryption type is neither 17 nor 18";
@@ -74,10 +74,10 @@ const char *krbrelay_strerror(uint32_t answer)
     case KRBRELAY_EMPTY: return "the handle holds nothing";
     case KRBRELAY_KEY_SIZE: return "the key hasn't the size of its encryption type";
     case KRBRELAY_MODE: return "the mode is neither KRB-SAFE nor KRB-PRIV";
-    case KRBRELAY_MOMENT: return "no moment of the years 1970 to 9999";
+    case KRBRELAY_MOMENT: return "the time is outside the years 1970 to 9999";
     case KRBRELAY_ADDRESS: return "an address has over 40 bytes";
     case KRBRELAY_ARGUMENT: return "an argument is out of its range";
-    case KRBRELAY_RECORD: return "the texts are no record";
+    case KRBRELAY_RECORD: return "the texts don't fit in a record";
     case KRBRELAY_REPEATED: return "the number was taken before";
     case KRBRELAY_TOO_OLD: return "the number is too far below the highest that was taken";
     /* end of texts */

@@ -16,7 +16,7 @@ class Code(enum.IntEnum):
     ETYPE_NOSUPP = 14
     """Another encryption type."""
     BAD_INTEGRITY = 31
-    """The encrypted part is too short, or its code differs."""
+    """The encrypted part is too short, or its authentication code differs."""
     SKEW = 37
     """The time is off by more than the skew, or is missing."""
     BADADDR = 38
@@ -24,7 +24,7 @@ class Code(enum.IntEnum):
     BADVERSION = 39
     """The protocol version isn't 5."""
     MSG_TYPE = 40
-    """A message of the other kind."""
+    """The message isn't of the expected kind, KRB-SAFE or KRB-PRIV."""
     MODIFIED = 41
     """The checksum differs."""
     BADORDER = 42
@@ -34,9 +34,9 @@ class Code(enum.IntEnum):
     FIELD_TOOLONG = 61
     """Over FRAME_LIMIT bytes."""
     MALFORMED = 901
-    """No message is spelt so."""
+    """Not a DER-encoded KRB-SAFE or KRB-PRIV message."""
     BAD_RECORD = 902
-    """Of receivers: the user data are no record."""
+    """Of receivers: the user data aren't a record."""
     AFTER_CLOSE = 903
     """Of receivers: a close was accepted before."""
     REPEATED = 917

@@ -17,7 +17,7 @@ frame_limit = 1005000
 abbrev pub raw_limit : ℕ
 raw_limit = 1010000
 
--- the most bytes of an address of a session
+-- the most bytes of an address in a job
 abbrev pub address_limit : ℕ
 address_limit = 32
 

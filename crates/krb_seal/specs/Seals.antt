@@ -75,8 +75,8 @@ unfoldable pub sealed : Etype → List ℕ → Session → ℕ → List ℕ → 
 sealed etype key s number user at conf = message (sealed_message etype key s number user at conf)
 
 -- The bytes are the message that carries a body, under the encryption type that has this number:
--- there is such a type, what goes in is in range, what is enciphered is bytes, and the message is
--- spelt so.
+-- there is such a type, what goes in is in range, what is enciphered is bytes, and these are the
+-- bytes of the message.
 pub record SealsBody (mode : Mode) (number : ℤ) (key conf : List ℕ) (b : Body)
     (bytes : List ℕ) : Type 0 where
   pub etype : Etype

@@ -27,13 +27,13 @@ pub enum Fault {
     KeySize,
     /// 909: the mode is neither KRB-SAFE nor KRB-PRIV.
     Mode,
-    /// 910: no moment of the years 1970 to 9999.
+    /// 910: the time is outside the years 1970 to 9999.
     Moment,
     /// 911: an address has more bytes than there is room for.
     Address,
     /// 912: an argument is out of its range.
     Argument,
-    /// 913: the texts are no record.
+    /// 913: the texts don't fit in a record.
     Record,
     /// 917: the number was taken before.
     Repeated,

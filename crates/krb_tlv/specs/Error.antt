@@ -10,5 +10,5 @@ error_code errors.Memory = 3
 
 abbrev pub error_words : DerError → List ℕ
 error_words errors.TooLong = codes "longer than a message may be"
-error_words errors.Malformed = codes "no message is spelt so"
+error_words errors.Malformed = codes "not the DER encoding of a message"
 error_words errors.Memory = codes "out of memory"

@@ -36,7 +36,7 @@ impl fmt::Display for DerError {
     fn fmt<W: fmt::Write>(&self, f: &mut fmt::Formatter<W>) -> fmt::Result {
         match self {
             DerError::TooLong => write!(f, "longer than a message may be"),
-            DerError::Malformed => write!(f, "no message is spelt so"),
+            DerError::Malformed => write!(f, "not the DER encoding of a message"),
             DerError::Memory => write!(f, "out of memory"),
         }
     }
