@@ -67,7 +67,7 @@ class DemandStruct(ctypes.Structure):
     _fields_ = [("how_sender", c_uint32), ("how_receiver", c_uint32), ("how_time", c_uint32),
                 ("how_number", c_uint32), ("number", c_uint64), ("skew", c_uint32),
                 ("sender", AddressStruct), ("receiver", AddressStruct),
-                ("reserved", c_uint32 * 5)]
+                ("needs_time_or_number", c_uint32), ("reserved", c_uint32 * 4)]
 
 
 class CarriedStruct(ctypes.Structure):
