@@ -188,9 +188,7 @@ fn tells_number(demand: &KrbDemand, seq: Option<u32>) -> bool
 fn needs_meet(demand: &KrbDemand, body: &Body) -> bool
     ensures { result ≡ needs_meet demand.now body.now }
 {
-    demand.needs_time_or_number == 0
-        || tells_time(demand, body)
-        || tells_number(demand, body.seq)
+    demand.needs_time_or_number == 0 || tells_time(demand, body) || tells_number(demand, body.seq)
 }
 
 /// The addresses, the time and the number of an authentic body.
