@@ -69,9 +69,11 @@ int carrier_make(struct carrier *carrier, unsigned shard, uint64_t *incarnation)
     return carrier->make(carrier, shard, incarnation);
 }
 
-int carrier_last(struct carrier *carrier, unsigned shard, const char *session, struct carried *last)
+int carrier_since(struct carrier *carrier, unsigned shard, const char *session, uint64_t after,
+                  carrier_take *take, void *given, int *is_whole)
 {
-    return carrier->last(carrier, shard, session, last);
+    *is_whole = 1;
+    return carrier->since(carrier, shard, session, after, take, given, is_whole);
 }
 
 int carrier_publish(struct carrier *carrier, unsigned shard, const char *session, uint32_t tag,
@@ -116,6 +118,11 @@ int carrier_last_receipt(struct carrier *carrier, unsigned shard, const char *se
                          carrier_receipt *take, void *given)
 {
     return carrier->last_receipt(carrier, shard, session, take, given);
+}
+
+int carrier_is_closed(struct carrier *carrier)
+{
+    return carrier->is_closed != NULL && carrier->is_closed(carrier);
 }
 
 void carrier_close(struct carrier *carrier)

@@ -93,10 +93,12 @@ int carrier_incarnation(struct carrier *carrier, unsigned shard, uint64_t *incar
  * reason to ask again, that costs nothing. */
 int carrier_make(struct carrier *carrier, unsigned shard, uint64_t *incarnation);
 
-/* The last frame that stands in the shard under this session's name, among the last of the shard:
- * 1, or 0 if there is none. It is valid until the next call of this or a fetch. */
-int carrier_last(struct carrier *carrier, unsigned shard, const char *session,
-                 struct carried *last);
+/* Passes each frame that stands in the shard under this session's name after an offset to a function, in
+ * their order; what that doesn't answer 0 ends it with this answer. is_whole becomes 0 if the shard has
+ * lost frames after the offset, as by its retention. */
+typedef int carrier_take(void *given, const struct carried *frame);
+int carrier_since(struct carrier *carrier, unsigned shard, const char *session, uint64_t after,
+                  carrier_take *take, void *given, int *is_whole);
 
 /* Passes a frame to the carrier. It is stored when it is confirmed, with the caller's tag and
  * number. If it isn't confirmed within some seconds, it may be stored or not. A confirmation counts
@@ -135,6 +137,10 @@ int carrier_receipts(struct carrier *carrier, carrier_receipt *take, void *given
 int carrier_last_receipt(struct carrier *carrier, unsigned shard, const char *session,
                          carrier_receipt *take, void *given);
 
+/* Whether the connection has ended for good, as where a server refused the credentials twice: that is
+ * reported, and the program ends, so that it is started again and reads them anew. */
+int carrier_is_closed(struct carrier *carrier);
+
 void carrier_close(struct carrier *carrier);
 
 /* ---- For those who write a carrier: its first member is a struct carrier. */
@@ -142,7 +148,7 @@ void carrier_close(struct carrier *carrier);
 struct carrier {
     int (*incarnation)(struct carrier *, unsigned, uint64_t *);
     int (*make)(struct carrier *, unsigned, uint64_t *);
-    int (*last)(struct carrier *, unsigned, const char *, struct carried *);
+    int (*since)(struct carrier *, unsigned, const char *, uint64_t, carrier_take *, void *, int *);
     void (*seek)(struct carrier *, unsigned, uint64_t);
     int (*publish)(struct carrier *, unsigned, const char *, uint32_t, uint64_t, const uint8_t *,
                    size_t);
@@ -152,6 +158,7 @@ struct carrier {
     int (*acknowledge)(struct carrier *, unsigned, const struct carried *, size_t);
     int (*receipts)(struct carrier *, carrier_receipt *, void *);
     int (*last_receipt)(struct carrier *, unsigned, const char *, carrier_receipt *, void *);
+    int (*is_closed)(struct carrier *); /* NULL: it never is */
     void (*close)(struct carrier *);
 };
 

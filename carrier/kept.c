@@ -8,8 +8,8 @@
 #include <string.h>
 
 #define COLUMNS "opened.name, opened.stream, opened.before, opened.client, opened.etype," \
-                " opened.ends, opened.kvno, opened.wrapping, opened.key"
-enum { NAME, STREAM, BEFORE, CLIENT, ETYPE, ENDS, KVNO, WRAPPING, KEY };
+                " opened.ends, opened.kvno, opened.wrapping, opened.key, opened.history"
+enum { NAME, STREAM, BEFORE, CLIENT, ETYPE, ENDS, KVNO, WRAPPING, KEY, HISTORY };
 enum { TOGETHER = 64 }; /* rows that are wrapped anew at once */
 
 /* What is wrapped with the key. */
@@ -49,6 +49,7 @@ static int read_columns(struct reading *r, const char *const *row)
         return 0;
     }
     it->etype = (int32_t)etype;
+    history_read(&it->closed, row[HISTORY]);
     r->wrapped.kvno = (uint32_t)kvno;
     r->wrapped.etype = (int32_t)wrapping;
     return 1;
@@ -122,7 +123,7 @@ int kept_is_forked(struct store *store, const struct opened *it)
 static int add_row(struct store *store, unsigned shard, const struct opened *it,
                    const struct wrapped *wrapped)
 {
-    char key[2 * AT_REST_BYTES + 1];
+    char key[2 * AT_REST_BYTES + 1], history[HISTORY_TEXT];
     const struct value values[] = {
         { VALUE_TEXT, 0, it->name, strlen(it->name) },
         { VALUE_NUMBER, shard, NULL, 0 },
@@ -134,10 +135,13 @@ static int add_row(struct store *store, unsigned shard, const struct opened *it,
         { VALUE_NUMBER, wrapped->kvno, NULL, 0 },
         { VALUE_NUMBER, (uint64_t)wrapped->etype, NULL, 0 },
         { VALUE_TEXT, 0, key, 2 * wrapped->len },
+        { VALUE_TEXT, 0, history, it->closed.is_known ? HISTORY_TEXT - 1 : 0 },
     };
+    history_write(&it->closed, history);
     write_hex(wrapped->bytes, wrapped->len, key);
     return store_run(store, "INSERT INTO opened (name, shard, client, stream, before, etype, ends,"
-                            " kvno, wrapping, key) VALUES ($1, $2, $3, $4, $5, $6, $7, $8, $9, $10)"
+                            " kvno, wrapping, key, history)"
+                            " VALUES ($1, $2, $3, $4, $5, $6, $7, $8, $9, $10, $11)"
                             " ON CONFLICT (name) DO UPDATE SET ends = excluded.ends,"
                             " kvno = excluded.kvno, wrapping = excluded.wrapping,"
                             " key = excluded.key", values, sizeof values / sizeof *values);

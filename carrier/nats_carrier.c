@@ -107,28 +107,13 @@ static int incarnation(struct carrier *base, unsigned shard, uint64_t *incarnati
     return status == NATS_ERR ? CARRIER_FAULT : nats_report("a stream", status);
 }
 
-static int last(struct carrier *base, unsigned shard, const char *session, struct carried *last)
+static int is_closed(struct carrier *base)
 {
     struct nats_carrier *c = (struct nats_carrier *)base;
-    char name[32], subject[64];
-    jsOptions options;
-    jsErrCode code = 0;
-    natsStatus status = nats_begin_to_ask(c, &options);
-    natsMsg_Destroy(c->last);
-    c->last = NULL;
-    write_whole(name, sizeof name, "KRB_%u", shard);
-    write_whole(subject, sizeof subject, "krb.%u.%s", shard, session);
-    if (status == NATS_OK)
-        status = js_GetLastMsg(&c->last, c->js, name, subject, &options, &code);
-    nats_note_asked(c, status);
-    if (status == NATS_NOT_FOUND || code == JSStreamNotFoundErr)
+    if (!natsConnection_IsClosed(c->connection))
         return 0;
-    if (status != NATS_OK)
-        return nats_report("the last frame of a session", status);
-    last->offset = natsMsg_GetSequence(c->last);
-    write_whole(last->session, sizeof last->session, "%s", session);
-    last->frame = (const uint8_t *)natsMsg_GetData(c->last);
-    last->len = (size_t)natsMsg_GetDataLength(c->last);
+    log_fact(LEVEL_ERROR, "carrier_closed", field_text("text", "the connection has ended for good: were"
+             " the credentials refused? This program ends, and reads them when it is started again"));
     return 1;
 }
 
@@ -138,7 +123,6 @@ static void close_it(struct carrier *base)
 {
     struct nats_carrier *c = (struct nats_carrier *)base;
     nats_stop_reading(c);
-    natsMsg_Destroy(c->last);
     natsSubscription_Destroy(c->answers);
     natsSubscription_Destroy(c->receipts);
     natsInbox_Destroy(c->inbox);
@@ -278,7 +262,7 @@ struct carrier *nats_carrier_open(const struct carrier_options *options)
         return NULL;
     c->base.incarnation = incarnation;
     c->base.make = nats_make;
-    c->base.last = last;
+    c->base.since = nats_since;
     c->base.publish = nats_publish;
     c->base.confirmed = nats_confirmed;
     c->base.seek = nats_seek;
@@ -287,6 +271,7 @@ struct carrier *nats_carrier_open(const struct carrier_options *options)
     c->base.acknowledge = nats_acknowledge;
     c->base.receipts = nats_receipts;
     c->base.last_receipt = nats_last_receipt;
+    c->base.is_closed = is_closed;
     c->base.close = close_it;
     c->replicas = options->replicas;
     status = natsOptions_Create(&c->options);

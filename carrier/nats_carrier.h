@@ -8,7 +8,9 @@
 
 #include <nats/nats.h>
 
-enum { NATS_HELD = 4096, NATS_UNPROVED = 8192 };
+/* As many confirmations as the windows of all shards in a burst: where there is no room, no answers are
+ * read that would make some. */
+enum { NATS_HELD = 4096, NATS_UNPROVED = 1 << 18 };
 
 /* A confirmation, and whether the end of its stream was asked for since it came. */
 struct nats_answer { struct confirmed it; unsigned shard; int is_asked; };
@@ -34,7 +36,6 @@ struct nats_carrier {
     int unproved_count;
     natsInbox *inbox;                   /* confirmations */
     natsSubscription *answers;
-    natsMsg *last;                      /* of carrier_last */
     /* The reader: which list it is, where it stands, how many frames its consumer has delivered,
      * how often it was tried to begin, and the frames of the last fetch. */
     unsigned shard;
@@ -48,6 +49,7 @@ struct nats_carrier {
     int is_silent;                      /* 1: the consumer's heartbeats are missed */
     natsSubscription *receipts;         /* all that are published, from the first look on */
     uint64_t receipts_moment;           /* their stream isn't asked for before this moment */
+    int has_told_replicas;              /* that it has too few of them */
 };
 
 /* Logs a fault of a call; CARRIER_FAULT. */
@@ -63,6 +65,10 @@ int nats_make(struct carrier *base, unsigned shard, uint64_t *incarnation);
 int nats_publish(struct carrier *base, unsigned shard, const char *session, uint32_t tag,
                  uint64_t number, const uint8_t *frame, size_t len);
 int nats_confirmed(struct carrier *base, struct confirmed *list, size_t room, int milliseconds);
+
+/* nats_since.c */
+int nats_since(struct carrier *base, unsigned shard, const char *session, uint64_t after,
+               carrier_take *take, void *given, int *is_whole);
 
 /* nats_reader.c */
 void nats_seek(struct carrier *base, unsigned shard, uint64_t offset);

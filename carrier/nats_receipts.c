@@ -30,6 +30,18 @@ static natsStatus add_stream(struct nats_carrier *c)
     return status;
 }
 
+/* Tells once that a node's end would take the receipts with it. */
+static void check_replicas(struct nats_carrier *c, const jsStreamInfo *info)
+{
+    if (info->Config->Replicas >= (int64_t)c->replicas || c->has_told_replicas)
+        return;
+    c->has_told_replicas = 1;
+    log_fact(LEVEL_WARNING, "receipts_unfit", field_text("stream", STREAM),
+             field_number("replicas", (uint64_t)info->Config->Replicas),
+             field_number("wanted", c->replicas),
+             field_text("text", "it has fewer replicas than --replicas asks for: change the stream"));
+}
+
 /* Makes the stream, unless it is there, and looks for it again after a while: what is published
  * meanwhile is heard all the same. */
 static void make_stream(struct nats_carrier *c)
@@ -44,6 +56,8 @@ static void make_stream(struct nats_carrier *c)
     if (status == NATS_OK)
         status = js_GetStreamInfo(&info, c->js, STREAM, &options, &code);
     nats_note_asked(c, status);
+    if (status == NATS_OK)
+        check_replicas(c, info);
     jsStreamInfo_Destroy(info);
     if (status == NATS_NOT_FOUND)
         status = add_stream(c);

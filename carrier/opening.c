@@ -10,7 +10,7 @@
 
 enum { AP_REQ = 0x6e, NAME_BYTES = 16 };
 
-static const char begin[] = "krbrelay session 1 ";
+static const char begin[] = "krbrelay session "; /* and the form: 1 or 2 */
 
 #define OPENING_NAME_OF(name) "OPENING_" #name,
 
@@ -88,8 +88,12 @@ int opening_back(struct kerberos *k, const struct opened *it, uint8_t back[SESSI
 
 void opening_text(const struct opened *it, char text[OPENING_TEXT])
 {
-    write_whole(text, OPENING_TEXT, "%s%s %s %s", begin, it->name, it->stream,
-                it->before[0] != 0 ? it->before : "-");
+    char history[HISTORY_TEXT];
+    int has_history = it->before[0] != 0 && it->closed.is_known;
+    history_write(&it->closed, history);
+    write_whole(text, OPENING_TEXT, "%s%c %s %s %s%s%s", begin, has_history ? '2' : '1', it->name,
+                it->stream, it->before[0] != 0 ? it->before : "-", has_history ? " " : "",
+                has_history ? history : "");
 }
 
 /* Copies a word up to a space or the end, and moves past it: 1, or 0 if it is no name. */
@@ -107,8 +111,8 @@ static int read_word(const char **at, char name[CARRIER_NAME])
 static int read_text(const uint8_t *bytes, size_t len, struct opened *it)
 {
     char text[OPENING_TEXT], again[OPENING_TEXT];
-    const char *at = text + sizeof begin - 1;
-    if (len >= sizeof text || len < sizeof begin || memcmp(bytes, begin, sizeof begin - 1) != 0)
+    const char *at = text + sizeof begin + 1; /* after the form and a space */
+    if (len >= sizeof text || len < sizeof begin + 1 || memcmp(bytes, begin, sizeof begin - 1) != 0)
         return 0;
     memcpy(text, bytes, len);
     text[len] = 0;
@@ -116,6 +120,7 @@ static int read_text(const uint8_t *bytes, size_t len, struct opened *it)
         return 0;
     if (strcmp(it->before, "-") == 0)
         it->before[0] = 0;
+    history_read(&it->closed, at);
     opening_text(it, again);
     return strlen(again) == len && memcmp(again, bytes, len) == 0;
 }

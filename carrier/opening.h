@@ -2,12 +2,15 @@
  * MIT's library, and after it the text
  *
  *     krbrelay session 1 NAME STREAM BEFORE
+ *     krbrelay session 2 NAME STREAM BEFORE HISTORY
  *
  * which the authenticator's checksum covers. The session's key is the authenticator's subkey. The
  * sender draws it first, so it can make an opening of the same session anew under any later ticket.
  * NAME follows from the key (krb5_c_prf), so nobody can take another session's name, and a key
  * has one name. STREAM is what the application calls it, BEFORE the session of the stream before
- * this one, or '-'. The opening stands before number 1. Nothing is decided by what nobody signed:
+ * this one, or '-', and HISTORY that session's frames up to its close (receipts.h): so a stream goes on
+ * after the frames that took effect, and not after others under their numbers. The first form is that of
+ * a stream's first session, and of one whose HISTORY isn't known. The opening stands before number 1. Nothing is decided by what nobody signed:
  * the AP-REQ's own sequence number, its options and its bytes outside of the ciphers.
  *
  * No replay cache is used, since a carrier repeats: another opening of a known session is a
@@ -17,10 +20,12 @@
 
 #include "carrier.h"
 #include "kerberos.h"
+#include "receipts.h"
 
 /* A session that begins by a ticket. */
 struct opened {
     char name[CARRIER_NAME], stream[CARRIER_NAME], before[CARRIER_NAME]; /* before: "" for none */
+    struct history closed;  /* of the session before, up to its close */
     char client[PRINCIPAL]; /* who began it, as the ticket says */
     int32_t etype;
     uint8_t key[SESSION_KEY];
@@ -69,7 +74,7 @@ enum opening_answer opening_take(struct kerberos *kerberos, const char *name, co
                                  size_t len, struct opened *it);
 
 /* The text of an opening. */
-enum { OPENING_TEXT = 128 };
+enum { OPENING_TEXT = 192 };
 void opening_text(const struct opened *it, char text[OPENING_TEXT]);
 
 #endif

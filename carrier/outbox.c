@@ -1,7 +1,10 @@
 #include "outbox.h"
+#include "log.h"
+#include "text.h"
 
 #include <stdio.h>
 #include <string.h>
+#include <sys/stat.h>
 
 static const char tables[] =
     "CREATE TABLE IF NOT EXISTS session (name TEXT PRIMARY KEY, next INTEGER NOT NULL,"
@@ -37,6 +40,7 @@ static const char *const columns[][2] = {
     { "session", "shard INTEGER NOT NULL DEFAULT -1" },
     { "session", "incarnation INTEGER NOT NULL DEFAULT 0" },
     { "session", "done INTEGER NOT NULL DEFAULT -1" },
+    { "session", "history TEXT NOT NULL DEFAULT ''" },
     { "text", "since INTEGER NOT NULL DEFAULT 0" },
     { "owner", "renewed INTEGER NOT NULL DEFAULT 0" },
 };
@@ -44,8 +48,8 @@ static const char *const columns[][2] = {
 #define OPENED "name, stream, before, etype, turn, since, shard, closed, kvno, wrapping, key"
 
 static const char *const sql[OUTBOX_STATEMENTS] = {
-    [LOAD_SESSION] = ("SELECT next, carried, at, incarnation, shard, iif(done < 0, carried, done)"
-                      " FROM session WHERE name = ?"),
+    [LOAD_SESSION] = ("SELECT next, carried, at, incarnation, shard, iif(done < 0, carried, done),"
+                      " history FROM session WHERE name = ?"),
     [SELECT_TEXTS] = ("SELECT id, session, body FROM text WHERE id > ? AND id <= ? ORDER BY id"
                       " LIMIT ?"),
     [HAS_TEXT] = "SELECT 1 FROM text WHERE id > ? LIMIT 1",
@@ -60,10 +64,12 @@ static const char *const sql[OUTBOX_STATEMENTS] = {
                   " VALUES (?2, ?1, ?5, 0, ?4, ?5)"
                   " ON CONFLICT (name) DO UPDATE SET next = ?1 WHERE next = ?3"),
     [SET_CARRIED] = ("UPDATE session SET carried = ?1, at = ?2, incarnation = ?3, shard = ?4,"
-                     " done = ?6 WHERE name = ?5"),
+                     " done = ?6, history = ?7 WHERE name = ?5"),
     [SELECT_OWNER] = "SELECT turn FROM owner",
     [SELECT_SENDING] = "SELECT DISTINCT session FROM frame",
     [DROP_STOPPED] = "DELETE FROM stopped",
+    [END_STOPPED] = "DELETE FROM stopped WHERE session = ?",
+    [COUNT_STOPPED] = "SELECT count(*) FROM stopped",
     [ADD_STOPPED] = ("INSERT INTO stopped VALUES (?1, ?2, CAST(strftime('%s') AS INTEGER))"
                      " ON CONFLICT (session) DO UPDATE SET reason = ?2"),
     [COUNT_TEXTS] = "SELECT count(*) FROM (SELECT 1 FROM text LIMIT 100000)",
@@ -100,11 +106,36 @@ static int complete(struct outbox *o)
     return -1;
 }
 
+/* Which file is at the outbox's place: 0 and where it lies, or -1. */
+static int find_file(const char *path, uint64_t *device, uint64_t *inode)
+{
+    struct stat found;
+    if (stat(path, &found) != 0)
+        return -1;
+    *device = (uint64_t)found.st_dev;
+    *inode = (uint64_t)found.st_ino;
+    return 0;
+}
+
+int outbox_is_there(const struct outbox *o)
+{
+    uint64_t device = 0, inode = 0;
+    if (find_file(o->path, &device, &inode) == 0 && device == o->device && inode == o->inode)
+        return 1;
+    log_fact(LEVEL_ERROR, "outbox_replaced", field_text("file", o->path),
+             field_text("text", "the file at this place has changed: this sender ends"));
+    return 0;
+}
+
 int outbox_open(struct outbox *o, const char *path)
 {
     memset(o, 0, sizeof *o);
+    if (!copy_text(o->path, sizeof o->path, path)) {
+        log_fact(LEVEL_ERROR, "outbox_name_too_long", field_text("file", path));
+        return -1;
+    }
     o->db = open_database(path, tables);
-    if (o->db == NULL || complete(o) != 0
+    if (o->db == NULL || find_file(path, &o->device, &o->inode) != 0 || complete(o) != 0
         || prepare_all(o->db, o->statements, sql, OUTBOX_STATEMENTS) != 0)
         return -1;
     if (begin_writing(o->db) != 0 || run(o->db, "UPDATE owner SET turn = turn + 1") != 0
@@ -128,7 +159,7 @@ int outbox_load(struct outbox *o, const struct session *session, struct outbox_p
     row = step_row(select);
     *it = (struct outbox_progress){ session->first, session->first - session->has_opening, 0, 0,
                                     session->first - session->has_opening,
-                                    (int32_t)session->shard };
+                                    (int32_t)session->shard, { .is_known = 0 } };
     if (row == 1) {
         it->next = (uint64_t)sqlite3_column_int64(select->at, 0);
         it->carried = (uint64_t)sqlite3_column_int64(select->at, 1);
@@ -136,7 +167,10 @@ int outbox_load(struct outbox *o, const struct session *session, struct outbox_p
         it->incarnation = (uint64_t)sqlite3_column_int64(select->at, 3);
         it->shard = sqlite3_column_int(select->at, 4);
         it->done = (uint64_t)sqlite3_column_int64(select->at, 5);
+        history_read(&it->history, (const char *)sqlite3_column_text(select->at, 6));
     }
+    if (it->done <= session->first) /* no frame: an opening is none of them */
+        it->history = (struct history){ .is_known = 1 };
     end_rows(select);
     return row >= 0 ? 0 : -1;
 }
@@ -179,6 +213,11 @@ uint64_t outbox_count_texts(struct outbox *o)
 uint64_t outbox_oldest_text(struct outbox *o)
 {
     return number_of(o, OLDEST_TEXT);
+}
+
+uint64_t outbox_count_stopped(struct outbox *o)
+{
+    return number_of(o, COUNT_STOPPED);
 }
 
 uint64_t outbox_renewed(struct outbox *o)
@@ -292,6 +331,9 @@ static int drop_below(struct statement *drop, const char *session, uint64_t numb
 int outbox_set_carried(struct outbox *o, const char *session, const struct outbox_progress *it)
 {
     struct statement *set = &o->statements[SET_CARRIED];
+    char history[HISTORY_TEXT];
+    history_write(&it->history, history);
+    bind_text(set, 7, history);
     bind_number(set, 1, (sqlite3_int64)it->carried);
     bind_number(set, 2, (sqlite3_int64)it->at);
     bind_number(set, 3, (sqlite3_int64)it->incarnation);
@@ -309,6 +351,12 @@ int outbox_add_stopped(struct outbox *o, const char *session, const char *reason
     bind_text(add, 1, session);
     bind_text(add, 2, reason);
     return step_once(add);
+}
+
+int outbox_end_stopped(struct outbox *o, const char *session)
+{
+    bind_text(&o->statements[END_STOPPED], 1, session);
+    return step_once(&o->statements[END_STOPPED]);
 }
 
 int outbox_drop_stopped(struct outbox *o)
@@ -352,4 +400,18 @@ int outbox_next_frame(struct outbox *o, uint64_t *number, const uint8_t **frame,
 void outbox_end_frames(struct outbox *o)
 {
     end_rows(&o->statements[SELECT_FRAMES]);
+}
+
+void outbox_add_history(struct outbox *o, const char *session, uint64_t from, uint64_t to,
+                        struct history *history)
+{
+    const uint8_t *frame;
+    uint64_t number;
+    size_t len;
+    outbox_select_frames(o, session, from, UINT32_MAX);
+    while (history->is_known && from < to)
+        if (outbox_next_frame(o, &number, &frame, &len) != 1 || number != from++
+            || history_add(history, frame, len) != 0)
+            history->is_known = 0;
+    outbox_end_frames(o);
 }

@@ -24,20 +24,26 @@
 #include "database.h"
 #include "opening.h"
 #include "progress.h"
+#include "receipts.h"
 #include "sessions.h"
 
 enum outbox_statement {
     LOAD_SESSION, SELECT_TEXTS, HAS_TEXT, DROP_TEXTS, ADD_FRAME, SELECT_FRAMES, DROP_FRAMES,
     ADD_SEALED, DROP_SEALED,
-    SET_NEXT, SET_CARRIED, SELECT_OWNER, SELECT_SENDING, ADD_STOPPED, DROP_STOPPED, COUNT_TEXTS,
+    SET_NEXT, SET_CARRIED, SELECT_OWNER, SELECT_SENDING, ADD_STOPPED, DROP_STOPPED, END_STOPPED,
+    COUNT_STOPPED, COUNT_TEXTS,
     OLDEST_TEXT, ADD_OPENED, SELECT_OPENED, SELECT_STREAM, CLOSE_OPENED, DROP_OPENED,
     SELECT_WRAPPED, SET_RENEWED, SELECT_RENEWED, OUTBOX_STATEMENTS
 };
+
+enum { OUTBOX_PATH = 4096 };
 
 struct outbox {
     sqlite3 *db;
     struct statement statements[OUTBOX_STATEMENTS];
     sqlite3_int64 turn; /* those who opened this outbox are counted: this is the turn'th */
+    char path[OUTBOX_PATH]; /* where it is, and which file is there */
+    uint64_t device, inode;
 };
 
 enum outbox_answer { OUTBOX_OK = 0, OUTBOX_AGAIN = 1, OUTBOX_FAULT = -1, OUTBOX_TAKEN = -2 };
@@ -47,8 +53,13 @@ struct waiting_text { sqlite3_int64 id; const char *session; const uint8_t *body
 
 /* How far a session is: next, carried and at as in progress.h; `at` is an offset of the list of
  * this shard with this incarnation (carrier.h); a shard of -1, an incarnation of 0: it isn't
- * known. All below `done` took effect, as receipts say, or, without receipts, is carried. */
-struct outbox_progress { uint64_t next, carried, at, incarnation, done; int32_t shard; };
+ * known. All below `done` took effect, as receipts say, or, without receipts, is carried; `history` is
+ * that of the frames below `done` (receipts.h). */
+struct outbox_progress {
+    uint64_t next, carried, at, incarnation, done;
+    int32_t shard;
+    struct history history;
+};
 
 /* Opens it, makes its tables, and becomes its owner. 0, or -1 after a fault. */
 int outbox_open(struct outbox *outbox, const char *path);
@@ -66,10 +77,17 @@ int outbox_sessions(struct outbox *outbox, outbox_take *take, void *given);
 int outbox_has_text(struct outbox *outbox, sqlite3_int64 after);
 int outbox_is_owned(struct outbox *outbox);
 
+/* Whether the file is still the one at its place. If it isn't, as where another one was put there, that
+ * is reported: what this process stores is lost. */
+int outbox_is_there(const struct outbox *outbox);
+
 /* How many texts there are, of the first 100,000; when the oldest was put in, in seconds since 1970, 0
  * if there is none or it isn't known. */
 uint64_t outbox_count_texts(struct outbox *outbox);
 uint64_t outbox_oldest_text(struct outbox *outbox);
+
+/* How many sessions are stopped. */
+uint64_t outbox_count_stopped(struct outbox *outbox);
 
 /* ---- Within a transaction. OUTBOX_AGAIN: another process's transaction took long. OUTBOX_TAKEN:
  * another process is the owner. */
@@ -98,8 +116,9 @@ int outbox_set_next(struct outbox *outbox, const struct session *session, uint64
 int outbox_set_carried(struct outbox *outbox, const char *session,
                        const struct outbox_progress *it);
 
-/* Says that a session is stopped, and why; that none is. */
+/* Says that a session is stopped, and why; that it isn't; that none is. */
 int outbox_add_stopped(struct outbox *outbox, const char *session, const char *reason);
+int outbox_end_stopped(struct outbox *outbox, const char *session);
 int outbox_drop_stopped(struct outbox *outbox);
 
 /* ---- Sessions that begin by tickets (opening.h), whose keys are wrapped (at_rest.h). */
@@ -142,5 +161,10 @@ void outbox_select_frames(struct outbox *outbox, const char *session, uint64_t f
                           unsigned limit);
 int outbox_next_frame(struct outbox *outbox, uint64_t *number, const uint8_t **frame, size_t *len);
 void outbox_end_frames(struct outbox *outbox);
+
+/* Adds the frames of a session from a number up to another to a history, which isn't known any more if
+ * one of them isn't there. */
+void outbox_add_history(struct outbox *outbox, const char *session, uint64_t from, uint64_t to,
+                        struct history *history);
 
 #endif

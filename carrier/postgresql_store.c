@@ -122,7 +122,7 @@ static int read_answers(struct postgresql_store *s)
 }
 
 /* Values of a statement as text. */
-struct values { unsigned count; char texts[10][24]; const char *at[11]; };
+struct values { unsigned count; char texts[10][24], history[HISTORY_TEXT]; const char *at[12]; };
 
 static void add_number(struct values *v, unsigned long long number)
 {
@@ -140,6 +140,12 @@ static void add_demand(struct values *v, const struct demand *it)
     write_whole(v->texts[v->count - 1], sizeof v->texts[0], "%d", it->shard);
     v->at[v->count] = v->texts[v->count - 1];
     v->count++;
+}
+
+static void add_history(struct values *v, const struct history *it)
+{
+    history_write(it, v->history);
+    v->at[v->count++] = v->history;
 }
 
 static int ask_values(struct postgresql_store *s, const char *name, const struct values *v,
@@ -176,9 +182,11 @@ static int advance(struct store *base, const char *session, const struct demand 
     struct postgresql_store *s = (struct postgresql_store *)base;
     struct values v = { .count = 1, .at = { session } };
     add_demand(&v, to);
+    if (from->is_stored)
+        add_demand(&v, from);
+    add_history(&v, &to->history);
     if (!from->is_stored)
         return ask_values(s, "add_session", &v, ONE_ROW);
-    add_demand(&v, from);
     return ask_values(s, "move_session", &v, ONE_ROW);
 }
 
@@ -338,6 +346,7 @@ static void read_demand(const PGresult *result, int row, struct demand *demand)
     demand->missed = (uint32_t)number_at(result, row, 2);
     demand->at = number_at(result, row, 3);
     demand->shard = (int32_t)strtol(PQgetvalue(result, row, 4), NULL, 10);
+    history_read(&demand->history, PQgetvalue(result, row, 6));
     demand->is_stored = 1;
 }
 
@@ -377,7 +386,7 @@ static int sessions(struct store *base, const char *const *names, size_t count, 
     int answer = -1;
     if (array != NULL)
         answer = take_rows(query((struct postgresql_store *)base,
-                                 "SELECT next, closed, missed, at, shard, name FROM session"
+                                 "SELECT next, closed, missed, at, shard, name, history FROM session"
                                  " WHERE name = ANY ($1::text[])", array), take, given);
     free(array);
     return answer;
@@ -388,7 +397,7 @@ static int standing(struct store *base, unsigned shard, store_take *take, void *
     char text[24];
     write_whole(text, sizeof text, "%u", shard);
     return take_rows(query((struct postgresql_store *)base,
-                           "SELECT next, closed, missed, at, shard, name FROM session"
+                           "SELECT next, closed, missed, at, shard, name, history FROM session"
                            " WHERE shard = $1 AND missed <> 0", text), take, given);
 }
 
@@ -460,12 +469,16 @@ static const char tables[] =
     " END IF; END $$; CREATE INDEX IF NOT EXISTS standing ON session (shard) WHERE missed <> 0;"
     "CREATE TABLE IF NOT EXISTS passed (shard int NOT NULL, session text NOT NULL,"
     " at bigint NOT NULL, PRIMARY KEY (shard, session));"
-    "ALTER TABLE session ADD COLUMN IF NOT EXISTS since bigint NOT NULL DEFAULT 0;";
+    "ALTER TABLE session ADD COLUMN IF NOT EXISTS since bigint NOT NULL DEFAULT 0;"
+    "ALTER TABLE session ADD COLUMN IF NOT EXISTS history text NOT NULL DEFAULT '';";
+
+static const char opened_columns[] =
+    "ALTER TABLE opened ADD COLUMN IF NOT EXISTS history text NOT NULL DEFAULT '';";
 
 /* A role that may not make tables may use those that are there. */
 static int make_tables(struct postgresql_store *s)
 {
-    const char *const steps[] = { tables, effect_tables_postgresql, kept_tables, "COMMIT" };
+    const char *const steps[] = { tables, effect_tables_postgresql, kept_tables, opened_columns, "COMMIT" };
     unsigned i;
     for (i = 0; i < sizeof steps / sizeof *steps; i++) {
         PGresult *result = PQexec(s->db, steps[i]);
@@ -493,15 +506,15 @@ static int prepare_all(struct postgresql_store *s)
           " DO UPDATE SET incarnation = $4, at = $5"
           " WHERE shard.incarnation = $2 AND shard.at = $3" },
         { "add_session",
-          "INSERT INTO session (name, next, closed, missed, at, shard, since)"
+          "INSERT INTO session (name, next, closed, missed, at, shard, since, history)"
           " VALUES ($1, $2::bigint, $3::int, $4::int, $5::bigint, $6::int,"
-          " CASE WHEN $4 = 0 THEN 0 ELSE extract(epoch FROM now())::bigint END)"
+          " CASE WHEN $4 = 0 THEN 0 ELSE extract(epoch FROM now())::bigint END, $7)"
           " ON CONFLICT DO NOTHING" },
         { "move_session",
           "UPDATE session SET since = CASE WHEN next = $2::bigint AND (since > 0 OR $4::int = 0)"
           " THEN since WHEN $4 = 0 THEN 0 ELSE extract(epoch FROM now())::bigint END,"
           " next = $2, closed = $3::int, missed = $4,"
-          " at = $5::bigint, shard = $6::int WHERE name = $1 AND next = $7::bigint"
+          " at = $5::bigint, shard = $6::int, history = $12 WHERE name = $1 AND next = $7::bigint"
           " AND closed = $8::int AND missed = $9::int AND at = $10::bigint AND shard = $11::int" },
         { "pass_session",
           "INSERT INTO passed SELECT $2::int, CASE WHEN (SELECT count(*) FROM passed"

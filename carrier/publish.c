@@ -98,7 +98,9 @@ static int put_off(struct sender *s, struct sending *it, int answer, uint64_t nu
 static int publish_opening(struct sender *s, struct sending *it)
 {
     size_t len = 0;
-    int answer = tickets_make_opening(s->tickets, s->kerberos, &it->begun->opened, s->opening,
+    int answer;
+    sender_note_before(s, it);
+    answer = tickets_make_opening(s->tickets, s->kerberos, &it->begun->opened, s->opening,
                                       OPENING, &len);
     if (answer == 0)
         answer = carrier_publish(s->carrier, it->of.shard, it->of.name, it->tag, 0, s->opening, len);

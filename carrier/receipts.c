@@ -1,13 +1,51 @@
 #include "receipts.h"
 #include "clock.h"
 #include "log.h"
+#include "text.h"
 
+#include <string.h>
 #include <sys/random.h>
 
-int receipt_seal(const struct session *of, uint64_t n, uint8_t frame[RECEIPT], size_t *len)
+/* ---- Histories */
+
+int history_add(struct history *history, const uint8_t *frame, size_t len)
 {
-    const struct krbrelay_session session = { .mode = KRBRELAY_PRIV, .first = (uint32_t)(n - 1),
-                                              .sender = of->to };
+    enum krbrelay_answer answer = history->is_known
+                                      ? krbrelay_history_add(history->bytes, frame, len) : KRBRELAY_OK;
+    if (answer == KRBRELAY_OK)
+        return 0;
+    report_answer("history_unmade", "", 0, answer);
+    return -1;
+}
+
+int history_is(const struct history *one, const struct history *other)
+{
+    return one->is_known && other->is_known
+           && memcmp(one->bytes, other->bytes, sizeof one->bytes) == 0;
+}
+
+void history_write(const struct history *history, char text[HISTORY_TEXT])
+{
+    text[0] = 0;
+    if (history->is_known)
+        write_hex(history->bytes, sizeof history->bytes, text);
+}
+
+void history_read(struct history *history, const char *text)
+{
+    size_t len = 0;
+    history->is_known = text != NULL && read_hex(text, history->bytes, sizeof history->bytes, &len)
+                        && len == sizeof history->bytes;
+}
+
+/* ---- Receipts */
+
+int receipt_seal(const struct session *of, const struct receipt *receipt, uint8_t frame[RECEIPT],
+                 size_t *len)
+{
+    const struct krbrelay_session session = { .mode = KRBRELAY_PRIV,
+                                              .first = (uint32_t)(receipt->n - 1), .sender = of->to };
+    const struct history *history = &receipt->history;
     struct krbrelay_sealer sealer = { 0 };
     struct krbrelay_moment now = read_clock();
     uint8_t confounder[16];
@@ -18,17 +56,18 @@ int receipt_seal(const struct session *of, uint64_t n, uint8_t frame[RECEIPT], s
     }
     answer = krbrelay_sealer_new(&sealer, of->etype, of->back, of->key_len, &session);
     if (answer == KRBRELAY_OK)
-        answer = krbrelay_sealer_seal(&sealer, (const uint8_t *)"", 0, &now, confounder, frame, RECEIPT,
-                                      len); /* no record: a text has no last number */
+        answer = krbrelay_sealer_seal(&sealer, history->bytes,
+                                      history->is_known ? sizeof history->bytes : 0, &now, confounder,
+                                      frame, RECEIPT, len); /* no record: a text has no last number */
     krbrelay_sealer_free(&sealer);
     if (answer == KRBRELAY_OK)
         return 0;
-    report_answer("receipt_unsealed", of->name, n, answer);
+    report_answer("receipt_unsealed", of->name, receipt->n, answer);
     return -1;
 }
 
 int receipt_open(const struct session *of, struct krbrelay_opener *opener, const uint8_t *frame,
-                 size_t len, uint64_t *n)
+                 size_t len, struct receipt *receipt)
 {
     const struct krbrelay_expect expect = { .mode = KRBRELAY_PRIV };
     const struct krbrelay_demand demand = { .how_sender = KRBRELAY_REQUIRED, .sender = of->to };
@@ -44,6 +83,10 @@ int receipt_open(const struct session *of, struct krbrelay_opener *opener, const
     if (krbrelay_opener_open(opener, frame, len, &demand, &now, text, sizeof text, &size, &carried)
             != KRBRELAY_OK || !carried.has_number)
         return 0;
-    *n = (uint64_t)carried.number + 1;
+    if (size != 0 && size != sizeof receipt->history.bytes)
+        return 0;
+    receipt->n = (uint64_t)carried.number + 1;
+    receipt->history.is_known = size > 0;
+    memcpy(receipt->history.bytes, text, size);
     return 1;
 }

@@ -1,10 +1,15 @@
 /* Receipts: by which a sender learns that its texts took effect, whatever a carrier has confirmed or
  * lost.
  *
- * A receipt says "all below n took effect, the close too if it is below". It is a KRB-PRIV of no
- * bytes under the session's key of the way back, with the number n - 1 and the receiver's address. So
- * any number of receivers may seal it, it is sealed of what the store has alone, and a lost,
- * repeated, reordered or old one does nothing: the sender keeps the greatest n.
+ * A receipt says "all below n took effect, the close too if it is below", and of which frames: it has the
+ * history of those (krbrelay_history_add). It is a KRB-PRIV of these bytes under the session's key of the
+ * way back, with the number n - 1 and the receiver's address. So any number of receivers may seal it, it
+ * is sealed of what the store has alone, and a lost, repeated, reordered or old one does nothing: the
+ * sender keeps the greatest n. A sender whose own frames have another history isn't the one whose frames
+ * took effect: its outbox was restored from an older copy, or copied and used twice. It stops the session.
+ *
+ * A receipt of a receiver of an older version, or of a session that began under one, has no history: it
+ * covers numbers, whoever's frames took them.
  *
  * The key of the way back follows from the key of a session that began by a ticket, and is the last
  * word of a line of the file of sessions. A session without one has no receipts. */
@@ -13,13 +18,31 @@
 
 #include "sessions.h"
 
-enum { RECEIPT = KRBRELAY_FRAME_SIZE(1) }; /* the room for one */
+enum { RECEIPT = KRBRELAY_FRAME_SIZE(KRBRELAY_HISTORY_SIZE) }; /* the room for one */
 
-/* Seals the receipt for all below n, which is 1 at least. 0, or -1 with a report. */
-int receipt_seal(const struct session *of, uint64_t n, uint8_t frame[RECEIPT], size_t *len);
+/* A history, if it is known. */
+struct history { uint8_t bytes[KRBRELAY_HISTORY_SIZE]; int is_known; };
 
-/* Opens one, by an opener that is made when it is first needed: 1 and its n, or 0 if it is none. */
+/* What a receipt says: all below n took effect, and which frames these were. */
+struct receipt { uint64_t n; struct history history; };
+
+/* Adds a frame to a history that is known. 0, or -1 with a report. */
+int history_add(struct history *history, const uint8_t *frame, size_t len);
+
+int history_is(const struct history *one, const struct history *other);
+
+/* A history as digits, "" for one that isn't known; and back, of which anything else isn't known. */
+enum { HISTORY_TEXT = 2 * KRBRELAY_HISTORY_SIZE + 1 };
+void history_write(const struct history *history, char text[HISTORY_TEXT]);
+void history_read(struct history *history, const char *text);
+
+/* Seals a receipt, whose n is 1 at least. 0, or -1 with a report. */
+int receipt_seal(const struct session *of, const struct receipt *receipt, uint8_t frame[RECEIPT],
+                 size_t *len);
+
+/* Opens one, by an opener that is made when it is first needed: 1 and what it says, or 0 if it is
+ * none. */
 int receipt_open(const struct session *of, struct krbrelay_opener *opener, const uint8_t *frame,
-                 size_t len, uint64_t *n);
+                 size_t len, struct receipt *receipt);
 
 #endif

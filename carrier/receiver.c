@@ -28,7 +28,8 @@ static const char usage[] =
     CARRIER_USAGE
     "  --shards LIST    the shards to be served, such as 0-3,7\n"
     "  --shards auto    those of the sessions, which all receivers of the store that say so share\n"
-    "  --replicas N     a stream with fewer isn't read (1)\n"
+    "  --replicas N     a stream with fewer isn't read; so many has that of receipts, if it is made\n"
+    "                   (1)\n"
     "  --batch N        so many frames go into a transaction at most (1024)\n"
     "  --skew SECONDS   by so much a frame's time may be off (86400): more than the time for\n"
     "                   which the carrier keeps frames, or their session stands still\n"
@@ -37,7 +38,8 @@ static const char usage[] =
     KERBEROS_USAGE
     "  --allow FILE     the clients that may begin sessions: a principal each line\n"
     "  --help, --version\n"
-    "It ends by SIGTERM. Status: 0; 1 after a fault at the start; 2 for a wrong option.\n";
+    "It ends by SIGTERM. Status: 0; 1 after a fault at the start, or once the carrier's connection has\n"
+    "ended for good, as after refused credentials; 2 for a wrong option.\n";
 
 struct options {
     struct shard_options shard;

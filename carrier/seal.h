@@ -31,11 +31,12 @@ struct sending {
     unsigned texts;
     sqlite3_int64 begin;        /* of which this is the first */
     sqlite3_int64 stopped_at;   /* texts from this one on aren't taken; 0: all are */
-    char reason[192];
+    char reason[256];
     int is_checked, is_wanted;  /* texts.c: the carrier has no frame of a later number; is asked */
     int is_touched, is_active;  /* it is in the lists of sender.h */
     int is_blocked;             /* publish.c: the carrier won't have its next frame */
-    uint64_t done;              /* all below took effect, as receipts say (sender_receipts.c) */
+    uint64_t done;              /* all below took effect, as receipts say (sender_receipts.c): */
+    struct history history;     /* that of these frames */
     uint64_t waited;            /* frames have waited for a receipt since this moment, */
     unsigned waits;             /* and were published again so often since the last one */
     int has_asked;              /* the carrier was asked for the last one */

@@ -55,7 +55,6 @@ int sender_tell_stopped(struct sender *s, const char *session, const char *reaso
 {
     log_fact(LEVEL_ERROR, "session_stopped", field_text("session", session),
              field_text("text", reason));
-    s->stopped++;
     return outbox_add_stopped(&s->outbox, session, reason);
 }
 
@@ -116,6 +115,9 @@ static enum seal_answer keep_carried(struct sender *s)
         now.carried = it->progress.carried;
         now.at = it->progress.at;
         now.done = it->of.has_back ? it->done : it->progress.carried;
+        now.history = it->history;
+        if (!it->of.has_back && now.done > it->of.first)
+            now.history.is_known = 0;
         if ((it->kept.carried != it->progress.carried || it->kept.done != now.done)
             && outbox_set_carried(&s->outbox, it->of.name, &now) != 0)
             return SEAL_FAULT;
@@ -132,6 +134,7 @@ static void note_kept(struct sender *s)
         it->kept.carried = it->progress.carried;
         it->kept.at = it->progress.at;
         it->kept.done = it->of.has_back ? it->done : it->progress.carried;
+        it->kept.history = it->history;
     }
     for (i = 0; i < s->touched.count; i++) {
         struct sending *it = s->touched.at[i];
@@ -208,13 +211,13 @@ static void report_silence(struct sender *s, size_t rose)
 {
     size_t backlog = publish_backlog(s);
     if (rose > 0 || backlog == 0)
-        s->rose = nanoseconds();
-    if (nanoseconds() - s->rose < SILENCE)
+        s->rose = s->told = nanoseconds();
+    if (nanoseconds() - s->told < SILENCE)
         return;
     log_fact(LEVEL_WARNING, "nothing_confirmed", field_number("frames", backlog),
              field_number("seconds", SILENCE / SECOND),
              field_text("text", "are most nodes of the carrier up? They are published again"));
-    s->rose = nanoseconds();
+    s->told = nanoseconds();
 }
 
 /* Begins anew if the file of sessions has changed: those that were stopped are tried again. */
@@ -236,7 +239,6 @@ static enum outbox_answer look_at_sessions(struct sender *s)
     sessions_forget(s->sessions);
     s->sessions = s->newer;
     s->newer = NULL;
-    s->stopped = 0;
     return sender_begin(s) == 0 ? OUTBOX_OK : OUTBOX_FAULT;
 }
 
@@ -271,7 +273,11 @@ static enum outbox_answer look(struct sender *s)
     service_tell_alive();
     if (!outbox_is_owned(&s->outbox))
         return OUTBOX_TAKEN;
+    if (!outbox_is_there(&s->outbox) || carrier_is_closed(s->carrier))
+        return OUTBOX_FAULT; /* which is reported: a unit starts this program again */
     answer = look_at_sessions(s);
+    if (answer == OUTBOX_OK && sender_try_left(s) != 0)
+        answer = OUTBOX_FAULT;
     if (answer == OUTBOX_OK && s->kerberos != NULL)
         answer = look_at_hangups(s);
     return answer == OUTBOX_AGAIN ? OUTBOX_OK : answer; /* then in a second */
@@ -324,7 +330,7 @@ static enum outbox_answer serve(struct sender *s)
     struct looked before = { 0, calloc(CARRIER_SHARDS, sizeof *before.deferred) };
     enum outbox_answer answer = OUTBOX_FAULT;
     size_t rose = 0;
-    s->rose = nanoseconds();
+    s->rose = s->told = nanoseconds();
     service_tell_ready();
     if (before.deferred != NULL) {
         answer = OUTBOX_OK;
@@ -405,6 +411,7 @@ static int work(struct sender *s)
 {
     uint64_t began = nanoseconds();
     size_t held;
+    uint64_t stopped;
     enum outbox_answer answer = start(s) == 0 ? serve(s) : OUTBOX_FAULT;
     log_fact(LEVEL_INFO, "sender_ended", field_number("frames", s->sealing.frames),
              field_number("published", s->published), field_number("again", s->again),
@@ -415,11 +422,12 @@ static int work(struct sender *s)
         log_fact(LEVEL_ERROR, "outbox_taken", field_text("file", s->options.outbox),
                  field_text("text", "another sender has taken it over: this one ends"));
     held = publish_count_held(s);
+    stopped = s->outbox.db != NULL ? outbox_count_stopped(&s->outbox) : 0;
     stop(s);
     log_end();
     if (answer < 0)
         return answer == OUTBOX_TAKEN ? 3 : !is_ending();
-    return s->options.drain && !is_ending() && s->stopped + held > 0 ? 4 : 0;
+    return s->options.drain && !is_ending() && stopped + held > 0 ? 4 : 0;
 }
 
 /* ---- Options */

@@ -47,6 +47,8 @@ struct list { struct sending **at; size_t count; };
 struct stream {
     char name[CARRIER_NAME];     /* the first member: it is found by it */
     struct sending *now, *next;  /* its session, and the one that is to come after it; or NULL */
+    enum { STREAM_TAKEN, STREAM_LEFT, STREAM_TRIED } left; /* its key couldn't be read: it takes no text
+                                  * until all texts are looked at again, in their order */
     int is_renewed;              /* this transaction closes `now`: texts are the next one's */
 };
 
@@ -74,7 +76,6 @@ struct sender {
     struct list touched;        /* sealed from in this transaction */
     struct list active;         /* with frames that aren't carried, or progress that isn't stored */
     struct list wanted;         /* to be checked before the first text is sealed */
-    unsigned long stopped;      /* so many stops were reported */
     char unknown[CARRIER_NAME]; /* the last session without a line that was reported */
     uint8_t *bytes;             /* of a frame that is opened */
     unsigned long published, again, receipts;
@@ -82,6 +83,10 @@ struct sender {
     uint64_t heard;             /* and it was looked for some at this moment */
     uint64_t storing, carrying; /* nanoseconds */
     uint64_t rose;              /* when a frame was carried last, or there was none to be carried */
+    uint64_t told;              /* when it was reported that none is, or `rose` */
+    uint64_t ask_moment;        /* no last receipt is asked for before this moment */
+    uint64_t left_moment;       /* keys that couldn't be read are tried again then; 0: all could be, */
+    unsigned left_tries;        /* and so often they were tried in vain */
     uint64_t looked;            /* when it was looked whether the outbox is this process's */
 };
 
@@ -110,7 +115,8 @@ int sender_find(struct sender *s, const char *name, struct sending **it);
 /* Makes a session what the outbox has. */
 int sender_load(struct sender *s, struct sending *it);
 
-/* Loads the sessions that have frames; forgets all. */
+/* Loads the sessions that have frames, and tells those that have no line or whose key can't be read;
+ * forgets all. */
 int sender_begin(struct sender *s);
 void sender_forget(struct sender *s);
 
@@ -127,12 +133,21 @@ int sender_is_old(const struct sender *s, const struct sending *it);
 /* Whether frames of the session before it in its stream aren't carried. */
 int sender_is_after(const struct sender *s, const struct sending *it);
 
+/* Notes in what its opening says the history of the session before it, if that is known. */
+void sender_note_before(struct sender *s, struct sending *it);
+
 /* Closes it, and gives the next one. `id` is the text's. Within a transaction, after which
  * sender_note_renewed is called of each session from which something was sealed. */
 enum seal_answer sender_renew(struct sender *s, struct sending **it, sqlite3_int64 id);
 void sender_note_renewed(struct sending *it, int is_kept);
 
 void sender_forget_streams(struct sender *s);
+
+/* A key couldn't be read: it is tried again after some seconds, and then ever more rarely. */
+void sender_note_left(struct sender *s);
+
+/* Tries those that are due: their texts are looked at again, in their order. 0, or -1 after a fault. */
+int sender_try_left(struct sender *s);
 
 /* ---- texts.c */
 
@@ -173,6 +188,12 @@ size_t receipts_hear(struct sender *s);
 
 /* Looks whether a session has waited for too long for one. */
 void receipts_look(struct sender *s, struct sending *it);
+
+/* The history of all frames of a session below a number, as far as it is known. */
+struct history receipts_history(struct sender *s, const struct sending *it, uint64_t n);
+
+/* Asks for the last receipt of a session, and takes it: 0, or -1 if the carrier doesn't answer. */
+int receipts_ask_last(struct sender *s, const struct sending *it);
 
 /* ---- sender_report.c: the sender is the first part of service.h, its shards are the others. */
 

@@ -84,6 +84,7 @@ int sender_load(struct sender *s, struct sending *it)
         return -1;
     }
     it->done = it->kept.done;
+    it->history = it->kept.history;
     s->has_receipts |= it->of.has_back;
     lane->backlog += (size_t)(it->progress.next - it->progress.carried);
     seal_reset(it);
@@ -110,16 +111,29 @@ int sender_find(struct sender *s, const char *name, struct sending **it)
     return s->kerberos != NULL ? sender_find_stream(s, name, it) : 0;
 }
 
+/* A session has frames, and can't be loaded now. */
+static int tell_unloaded(struct sender *s, const char *name)
+{
+    if (s->kerberos != NULL)
+        sender_note_left(s);
+    return sender_stop(s, name, s->kerberos == NULL
+                       ? "it has frames that aren't carried, and no line among the sessions"
+                       : "it has frames that aren't carried, and no key: is the keytab there, and its"
+                         " line, if it had one?") == OUTBOX_FAULT ? -1 : 0;
+}
+
 static int load_named(void *given, const char *name)
 {
     struct sender *s = given;
     struct sending *it;
     struct session of;
-    int has_line = sessions_find(s->sessions, name, &of);
+    int has_line = sessions_find(s->sessions, name, &of), found;
     explicit_bzero(&of, sizeof of);
-    if (has_line || s->kerberos == NULL)
-        return sender_find(s, name, &it) < 0 ? -1 : 0;
-    return sender_find_begun(s, name, &it) < 0 ? -1 : 0;
+    found = has_line || s->kerberos == NULL ? sender_find(s, name, &it)
+                                            : sender_find_begun(s, name, &it);
+    if (found == 0)
+        return tell_unloaded(s, name);
+    return found < 0 ? -1 : 0;
 }
 
 int sender_begin(struct sender *s)

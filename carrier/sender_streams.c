@@ -1,13 +1,17 @@
 /* The streams of a sender: what an application calls a stream is sent as sessions that begin by
  * tickets, one after the other, with a key each. */
 #include "clock.h"
+#include "log.h"
 #include "sender.h"
+#include "text.h"
 
 #include <search.h>
 #include <stdlib.h>
 #include <string.h>
 
 #define NUMBERS UINT64_C(2147483648) /* of one session, of 2^32 that there are */
+#define LATER UINT64_C(2000000000)   /* nanoseconds until a key that couldn't be read is tried again, */
+enum { MOST_TRIES = 7 };             /* doubled so often at most: up to some four minutes */
 
 /* A name, or a struct that begins with one. */
 static int by_name(const void *one, const void *other)
@@ -153,6 +157,16 @@ int sender_find_begun(struct sender *s, const char *name, struct sending **it)
     return is_there && *it == NULL ? -1 : is_there;
 }
 
+/* The key of a stream that was left can be read now. In a transaction. */
+static int end_stop(struct sender *s, struct stream *stream)
+{
+    stream->left = STREAM_TAKEN;
+    s->left_tries = 0;
+    log_fact(LEVEL_INFO, "stream_taken_up", field_text("stream", stream->name),
+             field_text("text", "its key can be read: its texts are taken again, in their order"));
+    return outbox_end_stopped(&s->outbox, stream->name);
+}
+
 int sender_find_stream(struct sender *s, const char *name, struct sending **it)
 {
     struct stream *stream;
@@ -164,10 +178,45 @@ int sender_find_stream(struct sender *s, const char *name, struct sending **it)
     if (stream == NULL)
         return -1;
     if (stream->now == NULL)
-        answer = load(s, stream);
+        answer = stream->left == STREAM_LEFT ? 0 : load(s, stream);
+    if (answer == 0) {
+        stream->left = STREAM_LEFT; /* so that no later text of it is taken before this one */
+        sender_note_left(s);
+    }
+    if (answer == 1 && stream->left == STREAM_TRIED && end_stop(s, stream) != 0)
+        return -1;
     if (answer == 1)
         *it = stream->is_renewed ? stream->next : stream->now;
     return answer;
+}
+
+void sender_note_left(struct sender *s)
+{
+    unsigned doubled = s->left_tries < MOST_TRIES ? s->left_tries : MOST_TRIES;
+    if (s->left_moment == 0)
+        s->left_moment = nanoseconds() + (LATER << doubled);
+}
+
+static void try_again(const void *node, VISIT visit, int depth)
+{
+    struct stream *stream = *(struct stream *const *)node;
+    (void)depth;
+    if ((visit == postorder || visit == leaf) && stream->left == STREAM_LEFT)
+        stream->left = STREAM_TRIED;
+}
+
+int sender_try_left(struct sender *s)
+{
+    size_t i;
+    if (s->left_moment == 0 || nanoseconds() < s->left_moment)
+        return 0;
+    s->left_moment = 0;
+    s->left_tries++;
+    twalk(s->streams, try_again);
+    s->seen = 0;
+    for (i = 0; i < s->lane_count; i++)
+        s->lanes[i].deferred = 0;
+    return sender_begin(s);
 }
 
 int sender_is_after(const struct sender *s, const struct sending *it)
@@ -178,6 +227,28 @@ int sender_is_after(const struct sender *s, const struct sending *it)
 }
 
 /* ---- A new key */
+
+/* The history of a session that isn't loaded, as the outbox has it. */
+static struct history stored_history(struct sender *s, const char *name)
+{
+    struct session of = { .first = 1, .has_opening = 1 };
+    struct outbox_progress row;
+    if (!copy_text(of.name, sizeof of.name, name) || outbox_load(&s->outbox, &of, &row) != 0)
+        return (struct history){ .is_known = 0 };
+    outbox_add_history(&s->outbox, name, row.done > 1 ? row.done : 1, row.next, &row.history);
+    return row.history;
+}
+
+void sender_note_before(struct sender *s, struct sending *it)
+{
+    struct opened *opened = &it->begun->opened;
+    void *found = tfind(opened->before, &s->by_name, by_name);
+    const struct sending *before = found != NULL ? *(struct sending **)found : NULL;
+    if (opened->before[0] == 0 || opened->closed.is_known)
+        return;
+    opened->closed = before != NULL ? receipts_history(s, before, before->progress.next)
+                                    : stored_history(s, opened->before);
+}
 
 int sender_is_old(const struct sender *s, const struct sending *it)
 {

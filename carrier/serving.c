@@ -85,6 +85,12 @@ static int is_closed(const struct shard *shard)
     return shard->options->until_closed && shard->is_loaded && shard->open == 0;
 }
 
+static void fail(void)
+{
+    set(&serving.failed);
+    end_now();
+}
+
 /* What waits for the first frame isn't counted in the seconds. */
 static void serve(struct thread *it)
 {
@@ -103,6 +109,8 @@ static void serve(struct thread *it)
         if (shard->counts.accepted == 0 && count == 0)
             began = nanoseconds();
         if (nanoseconds() - reported > SECOND) {
+            if (carrier_is_closed(shard->carrier))
+                fail();
             report(shard, began, &before);
             reported = nanoseconds();
         }
@@ -111,12 +119,6 @@ static void serve(struct thread *it)
     shard_report(shard, "shard_ended", nanoseconds() - began);
     if (is_closed(shard))
         set(&it->is_closed);
-}
-
-static void fail(void)
-{
-    set(&serving.failed);
-    end_now();
 }
 
 static void *work(void *given)

@@ -10,27 +10,37 @@
 
 /* ---- A frame that is refused */
 
-/* Opens the frame at any number, time and addresses, and tells the number; -1 if it doesn't open.
- */
-static int look(struct shard *s, struct receiving *of, const struct carried *it, uint64_t *number)
+/* The opener of a session, made when it is first needed. */
+static enum krbrelay_answer make_opener(struct receiving *of)
 {
     const struct session *session = &of->of;
     const struct krbrelay_expect expect = { .mode = session->mode };
+    if (of->opener.at != NULL)
+        return KRBRELAY_OK;
+    return krbrelay_opener_new(&of->opener, session->etype, session->key, session->key_len, &expect);
+}
+
+/* Opens the frame at any number, time and addresses: 1 and its number, 0 if it is refused or tells no
+ * number, -1 after a fault, such as out of memory: then nothing is known of it. */
+static int look(struct shard *s, struct receiving *of, const struct carried *it, uint64_t *number)
+{
     const struct krbrelay_demand any = { 0 };
-    struct krbrelay_opener *opener = &of->opener;
     struct krbrelay_moment now = read_clock();
     struct krbrelay_carried carried;
+    enum krbrelay_answer answer = make_opener(of);
     size_t size;
-    if (opener->at == NULL
-        && krbrelay_opener_new(opener, session->etype, session->key, session->key_len, &expect)
-               != KRBRELAY_OK)
+    if (answer == KRBRELAY_OK)
+        answer = krbrelay_opener_open(&of->opener, it->frame, it->len, &any, &now, s->bytes,
+                                      KRBRELAY_FRAME_LIMIT, &size, &carried);
+    if (krbrelay_is_refusal(answer))
+        return 0;
+    if (answer != KRBRELAY_OK) {
+        report_answer("frame_unopened", it->session, 0, answer);
         return -1;
-    if (krbrelay_opener_open(opener, it->frame, it->len, &any, &now, s->bytes, KRBRELAY_FRAME_LIMIT,
-                             &size, &carried) != KRBRELAY_OK)
-        return -1;
+    }
     of->has_opened = 1;
     *number = carried.number;
-    return carried.has_number ? 0 : -1;
+    return carried.has_number != 0;
 }
 
 /* The session's place after a frame (krbrelay_place_take), which was refused by this answer or wasn't:
@@ -109,11 +119,15 @@ static int take_refusal(struct shard *s, struct receiving *of, const struct carr
     struct krbrelay_taken taken = { .demanded = demanded,
                                     .closed = answer == KRBRELAY_AFTER_CLOSE };
     uint32_t outcome = 0;
+    int opens;
     if (!krbrelay_is_refusal(answer)) {
         report_answer("frame_unopened", it->session, demanded, answer);
         return -1;
     }
-    taken.has_opened = !taken.closed && look(s, of, it, &taken.opened) == 0;
+    opens = taken.closed ? 0 : look(s, of, it, &taken.opened);
+    if (opens < 0)
+        return -1; /* the frames are read again */
+    taken.has_opened = (uint32_t)opens;
     if (take_place(s, of, it->offset, &taken, answer, &outcome) != 0)
         return -1;
     if (outcome == KRBRELAY_OUTCOME_REPEAT)
@@ -209,7 +223,8 @@ static int take_opening(struct shard *s, struct receiving *of, const struct carr
     if (take_accepted(s, of, it, of->of.first) != 0)
         return -1;
     of->passed = it->offset; /* if one before it was passed by, that note ends */
-    s->unopened.tries = 0;
+    if (s->unopened.at == 0)
+        s->unopened.tries = 0; /* none is known that can't be taken */
     log_fact(LEVEL_INFO, "session_opened", field_text("session", of->of.name),
              field_number("shard", s->number), field_text("client", of->opened->client),
              field_text("stream", of->opened->stream), field_text("before", of->opened->before));
@@ -242,7 +257,8 @@ static int take(struct shard *s, struct receiving *of, const struct carried *it)
         return done;
     }
     s->counts.opening += nanoseconds() - began;
-    if (take_accepted(s, of, it, demanded) != 0)
+    if (take_accepted(s, of, it, demanded) != 0
+        || history_add(&of->now.history, it->frame, it->len) != 0)
         return -1;
     s->open -= kind == KRBRELAY_CLOSE && s->open > 0;
     began = nanoseconds();
@@ -352,6 +368,8 @@ int shard_step(struct shard *s, int milliseconds)
     shard_look_back(s);
     began = nanoseconds();
     count = carrier_fetch(s->carrier, s->frames, s->options->batch, milliseconds);
+    if (count >= 0)
+        s->answered = nanoseconds();
     if (count == CARRIER_CHANGED)
         s->is_loaded = 0;
     if (count <= 0)

@@ -121,6 +121,7 @@ struct shard {
     uint64_t least;                /* of a note of other names: from there on all is read again; 0:
                                     * there is none */
     uint64_t highest, heard;       /* the greatest offset of a frame, and when that one came */
+    uint64_t answered;             /* when the carrier answered last */
     int has_looked;                /* the shard's end was read once more since */
     unsigned long turn;            /* so often it was loaded */
     int is_loaded, has_begun;

@@ -109,7 +109,8 @@ static void ask(struct shard *s, struct receiving *it)
     if (it->turn == s->turn)
         return;
     it->turn = s->turn;
-    it->stored = (struct demand){ .next = it->of.first, .shard = (int32_t)s->number };
+    it->stored = (struct demand){ .next = it->of.first, .shard = (int32_t)s->number,
+                                  .history = { .is_known = 1 } }; /* of no frames */
     it->is_made = 0;
     it->passed = 0;
     s->names[s->asked.count] = it->of.name;
@@ -363,6 +364,8 @@ int shard_load(struct shard *s)
     if (s->stored.incarnation != 0 && s->stored.incarnation != incarnation)
         begin_anew(s);
     carrier_seek(s->carrier, s->number, s->now.offset);
+    if (s->has_begun)
+        s->least = 0; /* it was read again from the note of other names when this receiver began */
     shard_go_back(s, !s->has_begun);
     s->has_begun = s->is_loaded = 1;
     return 0;

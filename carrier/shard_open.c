@@ -111,14 +111,40 @@ static int is_closed(struct receiving *it)
     return krbrelay_receiver_state(&it->receiver, &next, &closed) == KRBRELAY_OK && closed != 0;
 }
 
-int shard_has_turn(struct shard *s, const struct receiving *of)
+/* The session of the stream before this one, if it is closed, or NULL. */
+static const struct receiving *closed_before(struct shard *s, const struct receiving *of)
 {
     struct receiving *before;
+    if (shard_find(s, of->opened->before, &before) != 1 || before->turn != s->turn
+        || before->opened == NULL || strcmp(before->opened->client, of->opened->client) != 0
+        || strcmp(before->opened->stream, of->opened->stream) != 0 || !is_closed(before))
+        return NULL;
+    return before;
+}
+
+/* Whether the session before took other frames than its sender says: an outbox that was restored or
+ * copied sealed this one. */
+static int is_forked(const struct receiving *of, const struct receiving *before)
+{
+    const struct history *told = &of->opened->closed, *took = &before->now.history;
+    return told->is_known && took->is_known && !history_is(told, took);
+}
+
+int shard_has_turn(struct shard *s, const struct receiving *of)
+{
+    const struct receiving *before;
     if (of->opened == NULL || of->opened->before[0] == 0)
         return 1;
-    return shard_find(s, of->opened->before, &before) == 1 && before->turn == s->turn
-           && before->opened != NULL && strcmp(before->opened->client, of->opened->client) == 0
-           && strcmp(before->opened->stream, of->opened->stream) == 0 && is_closed(before);
+    before = closed_before(s, of);
+    if (before == NULL)
+        return 0;
+    if (!is_forked(of, before))
+        return 1;
+    log_fact(LEVEL_ERROR, "session_forked", field_text("session", of->of.name),
+             field_number("shard", s->number), field_text("before", before->of.name),
+             field_text("text", "the session before took other frames than this one's sender says: is its"
+                                " outbox an older copy, or is another copy of it used?"));
+    return 0;
 }
 
 /* ---- By an opening */

@@ -28,8 +28,9 @@ static int has_moved(const struct receiving *it)
 /* Seals the receipt of a session that is due: 1, or 0 if there is nothing to be said. */
 static int seal(struct receiving *it, struct carried *to, uint8_t frame[RECEIPT])
 {
+    const struct receipt receipt = { it->stored.next, it->stored.history };
     it->receipted = nanoseconds();
-    if (!has_moved(it) || receipt_seal(&it->of, it->stored.next, frame, &to->len) != 0)
+    if (!has_moved(it) || receipt_seal(&it->of, &receipt, frame, &to->len) != 0)
         return 0;
     memcpy(to->session, it->of.name, sizeof to->session);
     to->frame = frame;

@@ -1,4 +1,5 @@
 /* What was counted of a shard, for its log and for who looks at the metrics. */
+#include "clock.h"
 #include "log.h"
 #include "service.h"
 #include "shard.h"
@@ -8,6 +9,7 @@
 #include <stdio.h>
 
 #define NAME "krbrelay_receiver_"
+#define SILENCE UINT64_C(10000000000) /* nanoseconds */
 #define REFUSED(reason) \
     { NAME "refused_frames_total", "counter", "Other frames that were refused, by reason", \
       "reason=\"" reason "\"" }
@@ -109,6 +111,6 @@ void shard_show(struct shard *s, unsigned part)
     for (i = 0; i < REFUSALS; i++)
         values[shard_metrics_count - REFUSALS + i] = (double)c->refused[i];
     write_whole(labels, sizeof labels, "shard=\"%u\"", s->number);
-    service_alive(part, s->is_loaded, labels, values);
+    service_alive(part, s->is_loaded && nanoseconds() - s->answered < SILENCE, labels, values);
     name_standing(s, part);
 }

@@ -12,7 +12,7 @@
 
 enum { PENDING = 4096, POLL = 5 };
 enum {
-    INSERT, SELECT, SELECT_LAST, SELECT_END, COUNT, ADD_RECEIPT, SELECT_RECEIPTS, SELECT_RECEIPT,
+    INSERT, SELECT, SELECT_SINCE, SELECT_FIRST, SELECT_END, COUNT, ADD_RECEIPT, SELECT_RECEIPTS, SELECT_RECEIPT,
     STATEMENTS
 };
 
@@ -38,6 +38,7 @@ static const char tables[] =
     "CREATE TABLE IF NOT EXISTS carried (offset INTEGER PRIMARY KEY AUTOINCREMENT,"
     " shard INTEGER NOT NULL, session TEXT NOT NULL, frame BLOB NOT NULL);"
     "CREATE INDEX IF NOT EXISTS of_shard ON carried (shard, offset);"
+    "CREATE INDEX IF NOT EXISTS of_session ON carried (shard, session, offset);"
     "CREATE TABLE IF NOT EXISTS receipt (session TEXT PRIMARY KEY, turn INTEGER NOT NULL,"
     " receipt BLOB NOT NULL) WITHOUT ROWID;"
     "CREATE UNIQUE INDEX IF NOT EXISTS of_turn ON receipt (turn);"
@@ -49,8 +50,10 @@ static const char *const sql[STATEMENTS] = {
     [INSERT] = "INSERT INTO carried (shard, session, frame) VALUES (?, ?, ?)",
     [SELECT] = "SELECT offset, session, frame FROM carried WHERE shard = ? AND offset > ?"
                " ORDER BY offset LIMIT ?",
-    [SELECT_LAST] = "SELECT offset, session, frame FROM (SELECT * FROM carried WHERE shard = ?"
-                    " ORDER BY offset DESC LIMIT 65536) WHERE session = ? LIMIT 1",
+    [SELECT_SINCE] = "SELECT offset, session, frame FROM carried WHERE shard = ? AND session = ?"
+                     " AND offset > ? ORDER BY offset",
+    [SELECT_FIRST] = "SELECT coalesce((SELECT min(offset) FROM carried),"
+                     " (SELECT seq + 1 FROM sqlite_sequence WHERE name = 'carried'), 1)",
     [COUNT] = "SELECT count(*) FROM (SELECT 1 FROM carried WHERE shard = ? AND offset > ?"
               " LIMIT 100000)",
     [ADD_RECEIPT] = ("INSERT INTO receipt VALUES (?1,"
@@ -213,18 +216,32 @@ static int fetch(struct carrier *base, struct carried *list, size_t room, int mi
     return count;
 }
 
-static int last(struct carrier *base, unsigned shard, const char *session, struct carried *last)
+/* Whether no frame after the offset was deleted: all shards count in one row of offsets. */
+static int has_all_after(struct sqlite_carrier *c, uint64_t after, int *is_whole)
+{
+    struct statement *select = &c->statements[SELECT_FIRST];
+    int has_row = step_row(select) == 1;
+    if (has_row)
+        *is_whole = (uint64_t)sqlite3_column_int64(select->at, 0) <= after + 1;
+    end_rows(select);
+    return has_row ? 0 : CARRIER_FAULT;
+}
+
+static int since(struct carrier *base, unsigned shard, const char *session, uint64_t after,
+                 carrier_take *take, void *given, int *is_whole)
 {
     struct sqlite_carrier *c = (struct sqlite_carrier *)base;
-    struct statement *select = &c->statements[SELECT_LAST];
-    int row;
+    struct statement *select = &c->statements[SELECT_SINCE];
+    int row, answer = has_all_after(c, after, is_whole);
     bind_number(select, 1, shard);
     bind_text(select, 2, session);
-    row = step_row(select);
-    if (row == 1 && copy_row(c, select, last, 0) != 0)
-        row = -1;
+    bind_number(select, 3, (sqlite3_int64)after);
+    while (answer == 0 && (row = step_row(select)) != 0) {
+        struct carried it;
+        answer = row == 1 && copy_row(c, select, &it, 0) == 0 ? take(given, &it) : CARRIER_FAULT;
+    }
     end_rows(select);
-    return row;
+    return answer;
 }
 
 static int behind(struct carrier *base, uint64_t *frames)
@@ -335,7 +352,7 @@ struct carrier *sqlite_carrier_open(const char *path)
         return NULL;
     c->base.incarnation = incarnation;
     c->base.make = incarnation;
-    c->base.last = last;
+    c->base.since = since;
     c->base.publish = publish;
     c->base.confirmed = confirmed;
     c->base.seek = seek;

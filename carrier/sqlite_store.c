@@ -36,26 +36,28 @@ static const char *const columns[][2] = {
     { "session", "at INTEGER NOT NULL DEFAULT 0" },
     { "session", "shard INTEGER NOT NULL DEFAULT -1" },
     { "session", "since INTEGER NOT NULL DEFAULT 0" },
+    { "session", "history TEXT NOT NULL DEFAULT ''" },
 };
 
 /* Each changes one row if it stands where it is said, and else none. A row that isn't there stands
  * at zeros, or nowhere. */
 static const char *const own_sql[STATEMENTS] = {
     [SELECT_REACHED] = "SELECT incarnation, offset FROM shard WHERE shard = ?",
-    [SELECT_SESSION] = "SELECT next, closed, missed, at, shard, name FROM session WHERE name = ?",
-    [SELECT_STANDING] = ("SELECT next, closed, missed, at, shard, name FROM session"
+    [SELECT_SESSION] = ("SELECT next, closed, missed, at, shard, name, history FROM session"
+                        " WHERE name = ?"),
+    [SELECT_STANDING] = ("SELECT next, closed, missed, at, shard, name, history FROM session"
                          " WHERE shard = ? AND missed != 0"),
     [SELECT_PASSED] = "SELECT at, session FROM passed WHERE shard = ?",
     [MOVE_SHARD] = ("INSERT INTO shard (shard, incarnation, offset) SELECT ?1, ?4, ?5"
                     " WHERE ?2 = 0 AND ?3 = 0 OR ?1 IN (SELECT shard FROM shard)"
                     " ON CONFLICT (shard) DO UPDATE SET incarnation = ?4, offset = ?5"
                     " WHERE incarnation = ?2 AND offset = ?3"),
-    [ADD_SESSION] = ("INSERT INTO session (name, next, closed, missed, at, shard, since)"
-                     " VALUES (?1, ?2, ?3, ?4, ?5, ?6, iif(?4 = 0, 0, strftime('%s')))"
+    [ADD_SESSION] = ("INSERT INTO session (name, next, closed, missed, at, shard, since, history)"
+                     " VALUES (?1, ?2, ?3, ?4, ?5, ?6, iif(?4 = 0, 0, strftime('%s')), ?7)"
                      " ON CONFLICT DO NOTHING"),
     [MOVE_SESSION] = ("UPDATE session SET since = CASE WHEN next = ?2 AND (since > 0 OR ?4 = 0)"
                       " THEN since WHEN ?4 = 0 THEN 0 ELSE strftime('%s') END,"
-                      " next = ?2, closed = ?3, missed = ?4, at = ?5, shard = ?6"
+                      " next = ?2, closed = ?3, missed = ?4, at = ?5, shard = ?6, history = ?12"
                       " WHERE name = ?1 AND next = ?7 AND closed = ?8 AND missed = ?9 AND at = ?10"
                       " AND shard = ?11"),
     [PASS_SESSION] = ("INSERT INTO passed SELECT ?1, CASE WHEN (SELECT count(*) FROM passed"
@@ -86,6 +88,7 @@ static void read_demand(struct statement *select, struct demand *demand)
     demand->missed = (uint32_t)sqlite3_column_int(select->at, 2);
     demand->at = (uint64_t)sqlite3_column_int64(select->at, 3);
     demand->shard = sqlite3_column_int(select->at, 4);
+    history_read(&demand->history, (const char *)sqlite3_column_text(select->at, 6));
     demand->is_stored = 1;
 }
 
@@ -189,10 +192,13 @@ static int advance(struct store *base, const char *session, const struct demand 
 {
     struct sqlite_store *s = (struct sqlite_store *)base;
     struct statement *statement = &s->statements[from->is_stored ? MOVE_SESSION : ADD_SESSION];
+    char history[HISTORY_TEXT];
+    history_write(&to->history, history);
     bind_text(statement, 1, session);
     bind_demand(statement, 2, to);
     if (from->is_stored)
         bind_demand(statement, 7, from);
+    bind_text(statement, from->is_stored ? 12 : 7, history);
     return move(s, statement);
 }
 
@@ -331,6 +337,10 @@ static const char *path_of_shard(const char *path, unsigned shard, char *name, s
     return NULL;
 }
 
+static const char *const opened_columns[][2] = {
+    { "opened", "history TEXT NOT NULL DEFAULT ''" },
+};
+
 /* The tables of effects, and what files of an older version don't have. */
 static int complete(sqlite3 *db)
 {
@@ -340,7 +350,7 @@ static int complete(sqlite3 *db)
         && run(db, "CREATE INDEX IF NOT EXISTS standing ON session (shard) WHERE missed != 0") == 0
         && run(db, effect_tables_sqlite) == 0
         && add_columns(db, effect_columns, effect_column_count) == 0 && run(db, kept_tables) == 0
-        && run(db, "COMMIT") == 0)
+        && add_columns(db, opened_columns, 1) == 0 && run(db, "COMMIT") == 0)
         return 0;
     roll_back(db);
     return -1;

@@ -12,6 +12,8 @@
 #ifndef STORE_H
 #define STORE_H
 
+#include "receipts.h"
+
 #include <krbrelay.h>
 
 #include <stddef.h>
@@ -27,7 +29,8 @@ struct reached { uint64_t incarnation, offset; };
 #define missed_by(answer) (KRBRELAY_MISSED_UNSETTLED + ((uint32_t)(answer) << 8))
 #define missed_kind(stored) ((stored) & 0xff)
 
-/* A session: what it demands next, whether its close was accepted, and its place (krbrelay_place). */
+/* A session: what it demands next, whether its close was accepted, its place (krbrelay_place), and the
+ * history of its frames that took effect, which isn't known of a session that an older version stored. */
 struct demand {
     uint64_t next;
     uint32_t closed;
@@ -35,6 +38,7 @@ struct demand {
     uint64_t at;
     int32_t shard;      /* -1: it was stored before places were */
     uint32_t is_stored; /* 0: the store doesn't know the session */
+    struct history history;
 };
 
 /* Opens "sqlite:FILE", in whose name '%' stands for the shard's number, or "postgresql://..".
@@ -93,7 +97,7 @@ void store_close(struct store *store);
 enum value_kind { VALUE_NUMBER, VALUE_TEXT, VALUE_BYTES };
 struct value { enum value_kind kind; uint64_t number; const void *at; size_t len; };
 
-enum { STORE_VALUES = 10 }; /* the most of one statement */
+enum { STORE_VALUES = 11 }; /* the most of one statement */
 
 int store_run(struct store *store, const char *sql, const struct value *values, unsigned count);
 

@@ -17,7 +17,8 @@ enum { LOOKED = 2048 }; /* texts of one pass */
 
 /* ---- Sessions that are checked */
 
-/* Opens a frame at any number: 1 and the number, or 0. */
+/* Opens a frame at any number: 1 and the number, 0 if it is refused or tells none, -1 after a fault, such
+ * as out of memory. */
 static int number_of(struct sender *s, const struct session *of, const struct carried *frame,
                      uint64_t *number)
 {
@@ -33,28 +34,93 @@ static int number_of(struct sender *s, const struct session *of, const struct ca
         answer = krbrelay_opener_open(&opener, frame->frame, frame->len, &any, &now, s->bytes,
                                       KRBRELAY_FRAME_LIMIT, &size, &carried);
     krbrelay_opener_free(&opener);
+    if (answer != KRBRELAY_OK && !krbrelay_is_refusal(answer)) {
+        report_answer("frame_unopened", of->name, 0, answer);
+        return -1;
+    }
     if (answer != KRBRELAY_OK || !carried.has_number)
         return 0;
     *number = carried.number;
     return 1;
 }
 
-/* Whether the carrier's last frame of a session is one that the outbox has had: 1; 0 if the outbox
- * is older; -1 if the carrier doesn't answer. */
+/* Whether the outbox has another frame of this number. */
+static int has_another(struct sender *s, const struct sending *it, uint64_t number,
+                       const struct carried *frame)
+{
+    const uint8_t *own;
+    uint64_t found = 0;
+    size_t len = 0;
+    int is_another;
+    outbox_select_frames(&s->outbox, it->of.name, number, 1);
+    is_another = outbox_next_frame(&s->outbox, &found, &own, &len) == 1 && found == number
+                 && (len != frame->len || memcmp(own, frame->frame, len) != 0);
+    outbox_end_frames(&s->outbox);
+    return is_another;
+}
+
+/* A session whose frames are looked at. */
+struct checked { struct sender *sender; struct sending *it; };
+
+/* Of a frame of the session in the carrier: 0 if the outbox may have sealed it, 1 with the reason if it
+ * hasn't, CARRIER_FAULT if that isn't known now. */
+static int check_frame(void *given, const struct carried *frame)
+{
+    const struct checked *checked = given;
+    struct sender *s = checked->sender;
+    struct sending *it = checked->it;
+    uint64_t number = 0;
+    int opens = number_of(s, &it->of, frame, &number);
+    if (opens < 0)
+        return CARRIER_FAULT;
+    if (opens == 0)
+        return 0;
+    if (number >= it->progress.next)
+        write_cut(it->reason, sizeof it->reason, "this outbox is older than what has left: it goes on"
+                  " at number %llu, and frame %llu is in the carrier: the session needs a new key",
+                  (unsigned long long)it->progress.next, (unsigned long long)number);
+    else if (has_another(s, it, number, frame))
+        write_cut(it->reason, sizeof it->reason, "another frame of number %llu is in the carrier than in"
+                  " this outbox: it is an older copy, or another copy of it is used: the session needs"
+                  " a new key", (unsigned long long)number);
+    else
+        return 0;
+    it->stopped_at = 1;
+    return 1;
+}
+
+/* Of a session without receipts: whether the carrier can still say what left after this outbox was
+ * stored last. Nothing is asked of a session of which nothing was carried. */
+static int check_whole(struct sending *it, int is_whole)
+{
+    if (is_whole || it->of.has_back || it->kept.at == 0)
+        return 0;
+    write_cut(it->reason, sizeof it->reason, "the carrier hasn't all frames after offset %llu any more, and"
+              " there are no receipts: it isn't known whether this outbox is older than what has left: the"
+              " session needs a new key", (unsigned long long)it->kept.at);
+    it->stopped_at = 1;
+    return 1;
+}
+
+/* Whether all frames of a session that left since the outbox was stored last are of this outbox: 1; 0 if
+ * it is older, or another copy of it was used; -1 if the carrier doesn't answer. */
 static int check(struct sender *s, struct sending *it)
 {
-    struct carried last;
-    uint64_t number = 0;
-    int found = carrier_last(s->carrier, it->of.shard, it->of.name, &last);
+    struct checked checked = { s, it };
+    uint64_t list = 0;
+    int is_whole, found;
+    if (carrier_make(s->carrier, it->of.shard, &list) != 0)
+        return -1;
+    if (it->of.has_back && receipts_ask_last(s, it) != 0)
+        return -1;
+    if (it->stopped_at == 1)
+        return 0; /* for what its receipt says */
+    found = carrier_since(s->carrier, it->of.shard, it->of.name,
+                          it->kept.incarnation == list ? it->kept.at : 0, check_frame, &checked,
+                          &is_whole);
     if (found < 0)
         return -1;
-    if (found == 0 || !number_of(s, &it->of, &last, &number) || number < it->progress.next)
-        return 1;
-    write_cut(it->reason, sizeof it->reason, "this outbox is older than what has left: it goes on"
-              " at number %llu, and frame %llu is in the carrier: the session needs a new key",
-              (unsigned long long)it->progress.next, (unsigned long long)number);
-    it->stopped_at = 1;
-    return 0;
+    return found == 0 && check_whole(it, is_whole) == 0;
 }
 
 /* Checks one session, unless its shard didn't answer a moment ago. 1 if that is done. */
