@@ -8,7 +8,7 @@
  * sender draws it first, so it can make an opening of the same session anew under any later ticket.
  * NAME follows from the key (krb5_c_prf), so nobody can take another session's name, and a key
  * has one name. STREAM is what the application calls it, BEFORE the session of the stream before
- * this one, or '-', and HISTORY that session's frames up to its close (receipts.h): so a stream goes on
+ * this one, or '-', and HISTORY that of its frames up to its close (history.h): so a stream goes on
  * after the frames that took effect, and not after others under their numbers. The first form is that of
  * a stream's first session, and of one whose HISTORY isn't known. The opening stands before number 1. Nothing is decided by what nobody signed:
  * the AP-REQ's own sequence number, its options and its bytes outside of the ciphers.
@@ -19,8 +19,8 @@
 #define OPENING_H
 
 #include "carrier.h"
+#include "history.h"
 #include "kerberos.h"
-#include "receipts.h"
 
 /* A session that begins by a ticket. */
 struct opened {

@@ -22,9 +22,9 @@
 
 #include "at_rest.h"
 #include "database.h"
+#include "history.h"
 #include "opening.h"
 #include "progress.h"
-#include "receipts.h"
 #include "sessions.h"
 
 enum outbox_statement {
@@ -54,7 +54,7 @@ struct waiting_text { sqlite3_int64 id; const char *session; const uint8_t *body
 /* How far a session is: next, carried and at as in progress.h; `at` is an offset of the list of
  * this shard with this incarnation (carrier.h); a shard of -1, an incarnation of 0: it isn't
  * known. All below `done` took effect, as receipts say, or, without receipts, is carried; `history` is
- * that of the frames below `done` (receipts.h). */
+ *that of the frames below `done` (history.h). */
 struct outbox_progress {
     uint64_t next, carried, at, incarnation, done;
     int32_t shard;

@@ -16,25 +16,13 @@
 #ifndef RECEIPTS_H
 #define RECEIPTS_H
 
+#include "history.h"
 #include "sessions.h"
 
 enum { RECEIPT = KRBRELAY_FRAME_SIZE(KRBRELAY_HISTORY_SIZE) }; /* the room for one */
 
-/* A history, if it is known. */
-struct history { uint8_t bytes[KRBRELAY_HISTORY_SIZE]; int is_known; };
-
 /* What a receipt says: all below n took effect, and which frames these were. */
 struct receipt { uint64_t n; struct history history; };
-
-/* Adds a frame to a history that is known. 0, or -1 with a report. */
-int history_add(struct history *history, const uint8_t *frame, size_t len);
-
-int history_is(const struct history *one, const struct history *other);
-
-/* A history as digits, "" for one that isn't known; and back, of which anything else isn't known. */
-enum { HISTORY_TEXT = 2 * KRBRELAY_HISTORY_SIZE + 1 };
-void history_write(const struct history *history, char text[HISTORY_TEXT]);
-void history_read(struct history *history, const char *text);
 
 /* Seals a receipt, whose n is 1 at least. 0, or -1 with a report. */
 int receipt_seal(const struct session *of, const struct receipt *receipt, uint8_t frame[RECEIPT],

@@ -12,7 +12,7 @@
 #ifndef STORE_H
 #define STORE_H
 
-#include "receipts.h"
+#include "history.h"
 
 #include <krbrelay.h>
 

@@ -73,9 +73,10 @@ static int make(struct carrier *base, unsigned shard, uint64_t *incarnation)
     return carrier_make(((struct faulty *)base)->real, shard, incarnation);
 }
 
-static int last(struct carrier *base, unsigned shard, const char *session, struct carried *last)
+static int since(struct carrier *base, unsigned shard, const char *session, uint64_t after,
+                 carrier_take *take, void *given, int *is_whole)
 {
-    return carrier_last(((struct faulty *)base)->real, shard, session, last);
+    return carrier_since(((struct faulty *)base)->real, shard, session, after, take, given, is_whole);
 }
 
 static void seek(struct carrier *base, unsigned shard, uint64_t offset)
@@ -131,7 +132,7 @@ struct carrier *__wrap_sqlite_carrier_open(const char *path)
         free(c);
         return real;
     }
-    c->base = (struct carrier){ .incarnation = incarnation, .make = make, .last = last,
+    c->base = (struct carrier){ .incarnation = incarnation, .make = make, .since = since,
                                 .seek = seek, .publish = publish, .confirmed = confirmed,
                                 .fetch = fetch, .behind = behind, .acknowledge = acknowledge,
                                 .receipts = receipts, .last_receipt = last_receipt,

@@ -27,10 +27,19 @@ static struct reached at(uint64_t offset)
     return (struct reached){ LIST, offset };
 }
 
+/* Of a session that demands this number: bytes that differ by the number. */
+static struct history history_of(uint64_t number)
+{
+    struct history it = { .is_known = 1 };
+    memset(it.bytes, (int)(0xf0 + number), sizeof it.bytes);
+    return it;
+}
+
 /* A session that demands this number, with its place. */
 static struct demand demands(uint64_t number, uint64_t place)
 {
-    return (struct demand){ number, 0, KRBRELAY_MISSED_NOTHING, place, SHARD, number != FIRST };
+    return (struct demand){ number, 0, KRBRELAY_MISSED_NOTHING, place, SHARD, number != FIRST,
+                            history_of(number) };
 }
 
 /* One whole transaction with one text. */
@@ -70,6 +79,8 @@ static void stands(struct store *s, uint64_t offset, uint64_t number, uint32_t c
     check(demand.next == number && demand.closed == closed, what);
     check(demand.is_stored == (number != FIRST), "whether it is stored");
     check(!demand.is_stored || (demand.at == offset && demand.shard == SHARD), "its place");
+    check(!demand.is_stored || memcmp(&demand.history.bytes, history_of(number).bytes,
+                                      sizeof demand.history.bytes) == 0, "its history");
 }
 
 /* The same step as another store has under way, begun while it is. */
@@ -206,7 +217,8 @@ static void test_standing(struct store *one, struct store *other)
 static void test_other_list(struct store *one, struct store *other)
 {
     const struct reached from = at(12), to = { LIST + 1, 3 };
-    const struct demand fine = demands(9, 12), after = { 9, 0, KRBRELAY_MISSED_UNSETTLED, 12, SHARD, 1 };
+    const struct demand fine = demands(9, 12), after = { 9, 0, KRBRELAY_MISSED_UNSETTLED, 12, SHARD, 1,
+                                                       history_of(9) };
     struct demand found = { 0 }, reset = after;
     struct reached reached;
     reset.at = reset.missed = 0;
@@ -281,7 +293,7 @@ static void test_lost(const char *where)
 
 int main(int count, char **words)
 {
-    const struct demand end = { 11, 1, KRBRELAY_MISSED_NOTHING, 16, SHARD, 1 };
+    const struct demand end = { 11, 1, KRBRELAY_MISSED_NOTHING, 16, SHARD, 1, history_of(11) };
     struct reached from, to = at(16);
     struct demand before;
     struct store *one, *other;
