@@ -180,7 +180,11 @@ static void publish_one(struct sender *s, struct sending *it)
         || !find_list(s, it))
         return;
     s->again += progress_rewind(&it->progress, now, patience);
-    if (it->progress.sent < it->progress.next && publish(s, it) != 0)
+    if (it->progress.sent == it->progress.next)
+        return;
+    if (!it->is_checked)
+        texts_want(s, it); /* before its frames leave once more, and are the last that the carrier has */
+    else if (publish(s, it) != 0)
         log_fact(LEVEL_WARNING, "session_unpublished", field_text("session", it->of.name),
                  field_number("shard", it->of.shard), field_text("text", "tried again"));
 }

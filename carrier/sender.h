@@ -75,7 +75,7 @@ struct sender {
     sqlite3_int64 seen;         /* all texts up to this one were looked at */
     struct list touched;        /* sealed from in this transaction */
     struct list active;         /* with frames that aren't carried, or progress that isn't stored */
-    struct list wanted;         /* to be checked before the first text is sealed */
+    struct list wanted;         /* to be checked before the first text is sealed, or frame published */
     char unknown[CARRIER_NAME]; /* the last session without a line that was reported */
     uint8_t *bytes;             /* of a frame that is opened */
     unsigned long published, again, receipts;
@@ -157,6 +157,9 @@ struct looked { sqlite3_int64 seen; sqlite3_int64 *deferred; };
 /* Checks the sessions that are wanted: a session whose frames went on beyond this outbox is
  * stopped. */
 enum outbox_answer texts_check_wanted(struct sender *s);
+
+/* The session is to be checked, unless it was. */
+void texts_want(struct sender *s, struct sending *it);
 
 /* Whether texts may be taken now. */
 int texts_wait(struct sender *s);

@@ -105,19 +105,20 @@ size_t receipts_hear(struct sender *s)
 
 int receipts_ask_last(struct sender *s, const struct sending *it)
 {
-    return carrier_last_receipt(s->carrier, it->of.shard, it->of.name, take, s) == 0 ? 0 : -1;
+    if (nanoseconds() < s->ask_moment)
+        return -1;
+    if (carrier_last_receipt(s->carrier, it->of.shard, it->of.name, take, s) == 0)
+        return 0;
+    s->ask_moment = nanoseconds() + LATER; /* it is reported */
+    return -1;
 }
 
 /* Asks once for the last receipt, which may have come when this sender wasn't there. */
 static void ask(struct sender *s, struct sending *it)
 {
-    if (nanoseconds() < s->ask_moment)
-        return;
-    it->has_asked = 1;
-    if (carrier_last_receipt(s->carrier, it->of.shard, it->of.name, take, s) == 0)
-        return;
-    it->has_asked = 0; /* which is reported */
-    s->ask_moment = nanoseconds() + LATER;
+    it->has_asked = 1; /* a receipt that comes now begins the waiting anew */
+    if (receipts_ask_last(s, it) != 0)
+        it->has_asked = 0;
 }
 
 void receipts_look(struct sender *s, struct sending *it)

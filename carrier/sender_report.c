@@ -8,7 +8,7 @@
 #include <stdio.h>
 
 #define NAME "krbrelay_sender_"
-#define SILENCE 10.0 /* seconds */
+#define SILENCE 1.0 /* seconds: service.h waits for ten more before it says so */
 
 /* In the order of the values in sender_show; the last is the shards'. */
 static const struct metric metrics[] = {

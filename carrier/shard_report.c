@@ -9,7 +9,7 @@
 #include <stdio.h>
 
 #define NAME "krbrelay_receiver_"
-#define SILENCE UINT64_C(10000000000) /* nanoseconds */
+#define SILENCE UINT64_C(2000000000) /* nanoseconds: service.h waits for ten seconds more */
 #define REFUSED(reason) \
     { NAME "refused_frames_total", "counter", "Other frames that were refused, by reason", \
       "reason=\"" reason "\"" }

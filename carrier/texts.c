@@ -133,8 +133,10 @@ static int check_one(struct sender *s, struct sending *it, enum outbox_answer *a
     is_fine = check(s, it);
     if (is_fine < 0)
         lane->moment = nanoseconds() + LATER;
-    else if (is_fine == 0)
+    else if (is_fine == 0) {
+        publish_block(s, it);
         *answer = sender_stop(s, it->of.name, it->reason);
+    }
     if (is_fine < 0 || *answer != OUTBOX_OK)
         return 0;
     it->is_checked = 1;
@@ -154,7 +156,7 @@ enum outbox_answer texts_check_wanted(struct sender *s)
     return answer == OUTBOX_AGAIN ? OUTBOX_OK : answer;
 }
 
-static void want(struct sender *s, struct sending *it)
+void texts_want(struct sender *s, struct sending *it)
 {
     if (it->is_checked || it->is_wanted)
         return;
@@ -210,7 +212,7 @@ static enum seal_answer look_at(struct sender *s, const struct lane *only,
     lane = &s->lanes[(*it)->lane];
     if (((*it)->stopped_at > 0 && text->id >= (*it)->stopped_at) || (only != NULL && lane != only))
         return SEAL_OK;
-    want(s, *it);
+    texts_want(s, *it);
     if (lane->room == 0 || !(*it)->is_checked)
         defer(lane, only, text);
     if (lane->deferred > 0)

@@ -3,7 +3,10 @@
  * sqlite_carrier_open (--wrap).
  *
  * CARRIER_FAULTS is one number: so many of 1,000 frames are lost, as many stored twice, and so
- * many confirmations lost. CLOCK_OFFSET are seconds by which the clock is ahead. */
+ * many confirmations lost. With RECEIPTS_UNANSWERED the question for a last receipt is waited for, so many
+ * milliseconds, in vain. CLOCK_OFFSET are seconds by which the clock is ahead, and the file CLOCK_FILE has
+ * others, which may change. OPENS_WITHOUT_MEMORY of the calls of krbrelay_opener_open have no memory: the
+ * first ones of messages that are refused. */
 #include "carrier.h"
 #include "clock.h"
 
@@ -25,12 +28,50 @@ struct carrier *__wrap_sqlite_carrier_open(const char *path);
 struct krbrelay_moment __real_read_clock(void);
 struct krbrelay_moment __wrap_read_clock(void);
 
+enum krbrelay_answer __real_krbrelay_opener_open(struct krbrelay_opener *handle, const uint8_t *frame,
+                                                 size_t len, const struct krbrelay_demand *demand,
+                                                 const struct krbrelay_moment *at, uint8_t *user_data,
+                                                 size_t room, size_t *size,
+                                                 struct krbrelay_carried *carried);
+enum krbrelay_answer __wrap_krbrelay_opener_open(struct krbrelay_opener *handle, const uint8_t *frame,
+                                                 size_t len, const struct krbrelay_demand *demand,
+                                                 const struct krbrelay_moment *at, uint8_t *user_data,
+                                                 size_t room, size_t *size,
+                                                 struct krbrelay_carried *carried);
+
+/* The seconds that the file has, 0 if there is none. */
+static uint64_t ahead_in_file(void)
+{
+    const char *path = getenv("CLOCK_FILE");
+    FILE *file = path != NULL ? fopen(path, "r") : NULL;
+    char text[32] = "";
+    if (file == NULL)
+        return 0;
+    if (fgets(text, sizeof text, file) == NULL)
+        text[0] = 0;
+    fclose(file);
+    return (uint64_t)atoll(text);
+}
+
 struct krbrelay_moment __wrap_read_clock(void)
 {
     struct krbrelay_moment now = __real_read_clock();
     const char *ahead = getenv("CLOCK_OFFSET");
-    now.seconds += ahead != NULL ? (uint64_t)atoll(ahead) : 0;
+    now.seconds += (ahead != NULL ? (uint64_t)atoll(ahead) : 0) + ahead_in_file();
     return now;
+}
+
+enum krbrelay_answer __wrap_krbrelay_opener_open(struct krbrelay_opener *handle, const uint8_t *frame,
+                                                 size_t len, const struct krbrelay_demand *demand,
+                                                 const struct krbrelay_moment *at, uint8_t *user_data,
+                                                 size_t room, size_t *size,
+                                                 struct krbrelay_carried *carried)
+{
+    static int had;
+    const char *without = getenv("OPENS_WITHOUT_MEMORY");
+    if (without != NULL && __sync_fetch_and_add(&had, 1) < atoi(without))
+        return KRBRELAY_MEMORY;
+    return __real_krbrelay_opener_open(handle, frame, len, demand, at, user_data, room, size, carried);
 }
 
 static int happens(const struct faulty *c)
@@ -114,7 +155,11 @@ static int receipts(struct carrier *base, carrier_receipt *take, void *given)
 static int last_receipt(struct carrier *base, unsigned shard, const char *session,
                         carrier_receipt *take, void *given)
 {
-    return carrier_last_receipt(((struct faulty *)base)->real, shard, session, take, given);
+    const char *unanswered = getenv("RECEIPTS_UNANSWERED");
+    if (unanswered == NULL)
+        return carrier_last_receipt(((struct faulty *)base)->real, shard, session, take, given);
+    pause_milliseconds((unsigned)atoi(unanswered));
+    return -1;
 }
 
 static void close_it(struct carrier *base)
@@ -128,7 +173,8 @@ struct carrier *__wrap_sqlite_carrier_open(const char *path)
     struct carrier *real = __real_sqlite_carrier_open(path);
     const char *faults = getenv("CARRIER_FAULTS");
     struct faulty *c = calloc(1, sizeof *c);
-    if (real == NULL || c == NULL || faults == NULL) {
+    int is_faulty = faults != NULL || getenv("RECEIPTS_UNANSWERED") != NULL;
+    if (real == NULL || c == NULL || !is_faulty) {
         free(c);
         return real;
     }
@@ -138,7 +184,7 @@ struct carrier *__wrap_sqlite_carrier_open(const char *path)
                                 .receipts = receipts, .last_receipt = last_receipt,
                                 .close = close_it };
     c->real = real;
-    c->faults = atol(faults);
+    c->faults = faults != NULL ? atol(faults) : 0;
     srand((unsigned)(getpid() + time(NULL)));
     return &c->base;
 }

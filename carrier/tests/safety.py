@@ -1,0 +1,379 @@
+"""No text is lost or overtaken, whatever is restored, copied, or unreadable for a moment: cases as those of
+repro.py, each a fault that a review found."""
+import glob
+import os
+import shutil
+import signal
+import sqlite3
+import time
+import urllib.error
+import urllib.request
+
+import engines
+import repro
+from repro import Case, require_stopped, texts
+
+ANN = repro.ANN
+WITH_RECEIPTS = ANN.rstrip("\n") + f" {'33' * 16}\n"
+AHEAD = 200_000         # seconds, more than the skew
+OTHERS = 60_000         # frames of others
+MANY = 40               # sessions that wait for a receipt
+
+
+def new_texts(name, count):
+    return [(name, f"new {it}".encode()) for it in range(count)]
+
+
+def backup(place, name="backup"):
+    """A copy of the outbox as it is now."""
+    source, copy = sqlite3.connect(place.outbox), sqlite3.connect(f"{place.folder}/{name}.db")
+    source.backup(copy)
+    source.close()
+    copy.close()
+
+
+def restore(place, name="backup"):
+    for path in glob.glob(f"{place.outbox}*"):
+        os.unlink(path)
+    shutil.copy(f"{place.folder}/{name}.db", place.outbox)
+
+
+def change(place, name, sql, rows=((),)):
+    with sqlite3.connect(f"{place.folder}/{name}.db", timeout=30) as file:
+        file.executemany(sql, rows)
+    file.close()
+
+
+def drain(place, receiver=True, **more):
+    """Sends what can be sent, and has it delivered: the sender's status."""
+    status, _ = place.run("sender", "--drain", seconds=8, **more)
+    if receiver:
+        it = place.start("receiver")
+        time.sleep(1)
+        place.end(it)
+    return status
+
+
+def require_unlost(place, status, reason):
+    """The session is stopped with this reason, and its new texts wait."""
+    place.require(status == 4, f"sender --drain: status {status}")
+    require_stopped(place, "ann", reason)
+    waiting = place.count("outbox", "text")
+    place.require(waiting == 100, f"{waiting} texts wait")
+    place.await_delivered()
+
+
+# ---- an outbox that is restored
+
+def deliver_after_a_backup(place):
+    """30 texts, and a copy of the outbox after 10 of them."""
+    place.put(texts("ann", 0, 10))
+    drain(place)
+    await_no_frames(place)
+    backup(place)
+    place.put(texts("ann", 10, 30))
+    drain(place)
+    restore(place)
+    place.put(new_texts("ann", 100))
+
+
+def restored_and_purged(place):
+    deliver_after_a_backup(place)
+    change(place, "carrier", "DELETE FROM carried")
+    require_unlost(place, drain(place), "hasn't all frames after offset")
+
+
+def restored_and_others(place):
+    deliver_after_a_backup(place)
+    change(place, "carrier", "INSERT INTO carried (shard, session, frame) VALUES (0, 'bob', ?)",
+           ((b"x",) for _ in range(70_000)))
+    require_unlost(place, drain(place, receiver=False), "older than what has left")
+
+
+def restored_and_junk(place):
+    deliver_after_a_backup(place)
+    change(place, "carrier", "INSERT INTO carried (shard, session, frame) VALUES (0, 'ann', x'00')")
+    require_unlost(place, drain(place), "older than what has left")
+
+
+def restored_and_repeated(place):
+    deliver_after_a_backup(place)
+    change(place, "carrier", "INSERT INTO carried (shard, session, frame)"
+                             " SELECT shard, session, frame FROM carried WHERE offset = 1")
+    require_unlost(place, drain(place), "older than what has left")
+
+
+def seal_only(place, count, outbox="outbox"):
+    """A sender that seals so many texts, and whose frames are all lost."""
+    place.env["CARRIER_FAULTS"] = "1000"
+    sender = place.start("sender", outbox=f"{place.folder}/{outbox}.db")
+    del place.env["CARRIER_FAULTS"]
+    sealed = place.wait(lambda: place.ask(outbox, "SELECT next FROM session")[0][0] == count + 1
+                        if place.count(outbox, "session") else False, 8)
+    place.require(sealed, "nothing was sealed")
+    sender.send_signal(signal.SIGKILL)
+    sender.wait()
+
+
+def restored_with_its_frames(place):
+    """The backup has frames that aren't carried: they are published again, and are the last ones then."""
+    place.put(texts("ann", 0, 10))
+    seal_only(place, 10)
+    backup(place)
+    place.put(texts("ann", 10, 30))
+    drain(place)
+    restore(place)
+    place.run("sender", "--drain")      # the frames leave again, and nothing else
+    place.put(new_texts("ann", 100))
+    require_unlost(place, drain(place), "older than what has left")
+
+
+def restored_and_receipted(place):
+    """The last receipt is there, and nothing else is."""
+    deliver_after_a_backup(place)
+    change(place, "carrier", "DELETE FROM carried")
+    require_unlost(place, drain(place), "all below 31 took effect")
+
+
+# ---- an outbox that is copied
+
+def copied_and_cut_off(place):
+    """A copy seals while it is cut off from the carrier; the first outbox goes on. Each has sealed texts
+    under the same numbers then."""
+    place.put(texts("ann", 0, 10))
+    drain(place)
+    await_no_frames(place)
+    backup(place, "copy")
+    copy = f"{place.folder}/copy.db"
+    place.put(new_texts("ann", 5), outbox=copy)
+    seal_only(place, 15, "copy")
+    place.put(texts("ann", 10, 15))
+    drain(place)
+    return copy
+
+
+def await_no_frames(place):
+    """A sender runs until nothing of it waits for the carrier or a receipt."""
+    sender = place.start("sender")
+    place.require(place.wait(lambda: place.count("outbox", "frame") == 0, 8), "no receipt came")
+    time.sleep(0.2)
+    place.end(sender)
+
+
+def copied_with_receipts(place):
+    copy = copied_and_cut_off(place)
+    sender = place.start("sender", "--patience", "1", outbox=copy)
+    is_told = place.wait(lambda: any("are of this outbox" in it for it, in place.ask(
+        "copy", "SELECT reason FROM stopped")), 10)
+    place.require(is_told, f"stopped: {place.ask('copy', 'SELECT reason FROM stopped')}")
+    time.sleep(2)
+    place.end(sender)
+    kept = place.count("copy", "frame"), place.count("copy", "sealed")
+    place.require(kept == (5, 5), f"the copy keeps {kept} frames and texts")
+    place.await_delivered()
+
+
+def copied_without_receipts(place):
+    copy = copied_and_cut_off(place)
+    place.put(new_texts("ann", 3), outbox=copy)
+    status, _ = place.run("sender", "--drain", outbox=copy, seconds=8)
+    place.require(status == 4, f"sender --drain: status {status}")
+    reasons = place.ask("copy", "SELECT session, reason FROM stopped")
+    place.require(any("another frame of number" in it for _, it in reasons), f"stopped: {reasons}")
+    place.require(place.count("copy", "text") == 3, "texts left that were put in later")
+    place.await_delivered()
+
+
+# ---- a receiver without memory
+
+def no_memory_at_a_refusal(place):
+    """Nothing is known of a frame that couldn't be looked at: it is read again."""
+    clock = f"{place.folder}/clock"
+    place.env |= {"CLOCK_FILE": clock, "OPENS_WITHOUT_MEMORY": "1"}
+    place.write(clock, ["0"])
+    place.put(texts("ann", 0, 1))
+    place.run("sender", "--drain")
+    place.start("receiver")
+    place.require(place.wait(lambda: place.is_delivered({"ann": 1}), 5), "the first text isn't delivered")
+    place.write(clock, [str(AHEAD)])
+    place.env.pop("CLOCK_FILE")
+    for it in (1, 2):
+        place.put(texts("ann", it, it + 1))
+        place.run("sender", "--drain")
+        time.sleep(0.5)
+    place.write(clock, ["0"])
+    place.await_delivered()
+
+
+# ---- what is told
+
+def line_gone(place):
+    """Frames whose line was taken out wait, and that is told."""
+    place.put(texts("ann", 0, 3))
+    seal_only(place, 3)
+    place.replace(place.sessions, [repro.TOM])
+    status, _ = place.run("sender", "--drain", seconds=8)
+    place.require(status == 4, f"sender --drain: status {status}")
+    require_stopped(place, "ann", "no line among the sessions")
+    place.replace(place.sessions, [ANN])
+    place.require(place.run("sender", "--drain", seconds=8)[0] == 0, "it isn't sent with its line")
+    place.require(place.count("outbox", "stopped") == 0, "it is stopped though it has a line")
+    place.start("receiver")
+    place.await_delivered()
+
+
+def outbox_replaced(place):
+    """Another file is put in the outbox's place: the sender below ends, and the next one reads it."""
+    sender, _ = repro.start_both(place, 5)
+    backup(place)
+    restore(place)
+    place.put(texts("ann", 5, 6))
+    place.require(place.wait(lambda: sender.poll() is not None, 5), "the sender goes on")
+    place.require(sender.returncode == 1, f"it ends with {sender.returncode}")
+    place.require("outbox_replaced" in place.log(sender), "it doesn't say why")
+    place.start("sender")
+    place.await_delivered()
+
+
+def shown(port, name, path="/metrics"):
+    """A number that a program shows, or the status of its health."""
+    try:
+        with urllib.request.urlopen(f"http://127.0.0.1:{port}{path}", timeout=5) as answer:
+            if path == "/healthz":
+                return answer.status
+            lines = answer.read().decode().splitlines()
+    except urllib.error.HTTPError as fault:
+        return fault.code
+    return next(float(line.split()[-1]) for line in lines
+                if line.split()[0] in (name, name + "{}"))
+
+
+def stopped_names(place):
+    """Two names without a line take turns: two sessions are stopped, however often that is looked at."""
+    port = engines.free_ports(1)[0]
+    place.put([(f"typo{it % 2}", b"x") for it in range(500)])
+    place.start("sender", metrics=f"127.0.0.1:{port}")
+    place.require(place.wait(lambda: place.count("outbox", "text") == 500
+                             and place.count("outbox", "stopped") == 2, 8), "two aren't stopped")
+    time.sleep(1.2)
+    stopped = shown(port, "krbrelay_sender_stopped_sessions")
+    place.require(stopped == 2, f"stopped_sessions is {stopped}")
+
+
+# ---- questions that nobody answers, and what has to be looked at
+
+def many_lines():
+    return tuple(WITH_RECEIPTS.replace("ann 0", f"w{it} 1").replace("11" * 16, f"{0x40 + it:02x}" * 16)
+                 .replace("33" * 16, f"{0x80 + it:02x}" * 16) for it in range(MANY))
+
+
+def receipts_unanswered(place):
+    """Sessions that wait for receipts, and the carrier doesn't answer for those: another session goes on."""
+    place.env["RECEIPTS_UNANSWERED"] = "1000"
+    place.put([row for it in range(MANY) for row in texts(f"w{it}", 0, 1)])
+    place.start("sender")
+    place.start("receiver")
+    time.sleep(3)
+    for it in range(20):
+        place.put(texts("ann", it, it + 1))
+        time.sleep(0.1)
+    place.await_delivered()
+
+
+def first_texts(place):
+    """The first texts of 300 sessions beside many frames of one shard."""
+    change_to = f"{place.folder}/carrier.db"
+    place.run("sender", "--drain")
+    with sqlite3.connect(change_to, timeout=30) as file:
+        file.executemany("INSERT INTO carried (shard, session, frame) VALUES (0, 'others', ?)",
+                         ((b"x" * 100,) for _ in range(OTHERS)))
+    file.close()
+    place.put([row for it in range(300) for row in texts(f"s{it}", 0, 1)])
+    place.began = time.monotonic()
+    status, _ = place.run("sender", "--drain", seconds=15)
+    place.require(status == 0, f"sender --drain: status {status}")
+    place.require(place.count("carrier", "carried") == OTHERS + 300, "not all are carried")
+
+
+def short_lines():
+    return tuple(ANN.replace("ann 0", f"s{it} 0").replace("11" * 16, f"{it:032x}") for it in range(300))
+
+
+# ---- a broker that is away
+
+def health_of_both(place):
+    """The broker is away for longer than ten seconds: /healthz says so at both ends, and then that it is
+    there."""
+    ports = engines.free_ports(2)
+    place.put(texts("ann", 0, 1))
+    place.start("sender", metrics=f"127.0.0.1:{ports[0]}")
+    place.start("receiver", metrics=f"127.0.0.1:{ports[1]}")
+    place.require(place.wait(lambda: place.is_delivered({"ann": 1}), 8), "nothing is delivered")
+    place.nats.kill(0)
+    place.put(texts("ann", 1, 2))
+    place.require(place.wait(lambda: [shown(it, "", "/healthz") for it in ports] == [503, 503], 20),
+                  "it isn't told that the broker is away")
+    silent = shown(ports[0], "krbrelay_sender_silent_seconds")
+    place.require(silent > 10, f"silent_seconds is {silent}")
+    place.nats.start(0)
+    place.await_delivered()
+    place.require(place.wait(lambda: [shown(it, "", "/healthz") for it in ports] == [200, 200], 5),
+                  "it isn't told that the broker is there")
+
+
+def credentials_refused(place):
+    """A node refuses the password for some seconds: both programs end with status 1, as a unit expects that
+    starts them again, and go on then."""
+    path = f"{place.folder}/nats/nats0.conf"
+    with open(path, encoding="utf-8") as file:
+        right = file.read()
+    place.write(f"{place.folder}/credentials", ["krb one\n"])
+    words = {"credentials": f"{place.folder}/credentials"}
+    place.put(texts("ann", 0, 1), given=words)
+    running = [place.start(name, **words) for name in ("sender", "receiver")]
+    place.require(place.wait(lambda: place.is_delivered({"ann": 1}), 8), "nothing is delivered")
+    place.nats.kill(0)
+    place.replace(path, [right.replace('"one"', '"two"')])
+    place.nats.start(0)
+    place.require(place.wait(lambda: all(it.poll() is not None for it in running), 20), "they go on")
+    place.require([it.returncode for it in running] == [1, 1], "they end with another status than 1")
+    place.require(all("carrier_closed" in place.log(it) for it in running), "they don't say why")
+    place.nats.kill(0)
+    place.replace(path, [right])
+    place.nats.start(0)
+    place.put(texts("ann", 1, 2))
+    engines.await_port(place.nats.ports[0])
+    for name in ("sender", "receiver"):
+        place.start(name, **words)
+    place.await_delivered()
+
+
+CASES = (
+    Case(restored_and_purged, "an outbox is restored, and the carrier has no frame any more", {"ann": 30},
+         20, (ANN,)),
+    Case(restored_and_others, "it is restored beside 70,000 later frames of others", {"ann": 30}, 20,
+         (ANN,)),
+    Case(restored_and_junk, "it is restored, and the last frame of its session is junk", {"ann": 30}, 20,
+         (ANN,)),
+    Case(restored_and_repeated, "it is restored, and the last frame is an old one", {"ann": 30}, 20,
+         (ANN,)),
+    Case(restored_with_its_frames, "it is restored with frames, which leave again", {"ann": 30}, 25,
+         (ANN,)),
+    Case(restored_and_receipted, "it is restored, and its last receipt is all that is left", {"ann": 30},
+         20, (WITH_RECEIPTS,)),
+    Case(copied_with_receipts, "a copy of an outbox seals the same numbers; receipts", {"ann": 15}, 25,
+         (WITH_RECEIPTS,)),
+    Case(copied_without_receipts, "a copy of an outbox seals the same numbers; no receipts", {"ann": 15},
+         25, (ANN,)),
+    Case(no_memory_at_a_refusal, "a refused frame can't be looked at, since there is no memory",
+         {"ann": 3}, 40, (ANN,)),
+    Case(line_gone, "the line of a session with frames is taken out", {"ann": 3}, 25, (ANN, repro.TOM)),
+    Case(outbox_replaced, "the outbox's file is replaced below a sender", {"ann": 6}, 15, (ANN,)),
+    Case(stopped_names, "texts of two names without a line, in turns", {}, 15, (ANN,)),
+    Case(receipts_unanswered, "40 sessions wait for receipts, of which the carrier tells nothing",
+         {"ann": 20}, 20, (ANN, *many_lines())),
+    Case(first_texts, "first texts of 300 sessions beside 60,000 frames", {}, 30, short_lines()),
+    Case(credentials_refused, "a node refuses the password for some seconds", {"ann": 2}, 60, (ANN,),
+         nats='authorization { user: "krb", password: "one" }\n'),
+    Case(health_of_both, "the broker is away for more than ten seconds", {"ann": 2}, 40, (ANN,), nats=""),
+)
