@@ -4,6 +4,7 @@ within how many seconds.
 """
 import dataclasses
 import functools
+import glob
 import os
 import random
 import shutil
@@ -475,6 +476,81 @@ def before_its_turn(place):
     place.require(loglines.has(place.log(receiver), "frame_early", before=first), "it isn't said")
 
 
+# ---- keys that can't be read for a while, and outboxes that are restored
+
+def deliver_first(place):
+    """The first text of each stream; a sender that doesn't know the streams yet, and a receiver run then."""
+    place.put(streams_of(place, 1))
+    sender = place.start("sender")
+    place.start("receiver")
+    place.require(place.wait(lambda: place.is_delivered(dict.fromkeys(place.case.wanted, 1)), 8),
+                  "nothing is delivered")
+    place.end(sender)
+
+
+def keytab_moment(place):
+    """The keytab is away for a second, as where it is written anew: no text is overtaken."""
+    place.keytab = shutil.copy(place.keytab, f"{place.folder}/sender.keytab")
+    deliver_first(place)
+    place.start("sender")
+    time.sleep(1)
+    os.rename(place.keytab, place.keytab + ".away")
+    place.put(streams_of(place, 2, 1))
+    time.sleep(1)
+    os.rename(place.keytab + ".away", place.keytab)
+    place.put(streams_of(place, 4, 2))
+    place.await_delivered()
+    place.require(place.count("outbox", "stopped") == 0, "it is stopped still")
+
+
+def wrapping_key_later(place):
+    """The keytab lacks the key under which the stream's key is wrapped, and then has it again."""
+    name = f"rotated-sender-{place.etype}"
+    place.keytab, place.client = place.realm.add(name), name
+    place.allow(name)
+    deliver_first(place)
+    both_keys, new = shutil.copy(place.keytab, f"{place.folder}/both"), f"{place.folder}/new"
+    place.realm.kadmin(f"ktadd -q -k {new} {name}")
+    place.realm.kadmin(f"ktadd -q -norandkey -k {both_keys} {name}")
+    shutil.copy(new, place.keytab)
+    place.start("sender")
+    place.put(streams_of(place, 2, 1))
+    place.require(place.wait(lambda: place.count("outbox", "stopped") == 1, 10), "it isn't told")
+    os.replace(both_keys, place.keytab)
+    place.put(streams_of(place, 3, 2))
+    place.await_delivered()
+
+
+def closed_anew(place):
+    """An outbox is restored that closes a session once more, after other frames than those that took effect:
+    the stream's next session isn't taken. The carrier has nothing of it any more."""
+    deliver_first(place)
+    backup = f"{place.folder}/backup.db"
+    with sqlite3.connect(place.outbox) as file, sqlite3.connect(backup) as copy:
+        file.backup(copy)
+    place.put(streams_of(place, 10, 1))
+    time.sleep(1.1)
+    place.run("sender", "--drain", life="1")            # closes the session, and begins the next
+    place.await_delivered()
+    for path in glob.glob(f"{place.outbox}*"):
+        os.unlink(path)
+    os.rename(backup, place.outbox)
+    for name, sql in (("carrier", "DELETE FROM carried"), ("carrier", "DELETE FROM receipt"),
+                      ("store", "DELETE FROM session WHERE name IN"
+                                " (SELECT name FROM opened WHERE before != '')"),
+                      ("store", "DELETE FROM opened WHERE before != ''")):
+        with sqlite3.connect(f"{place.folder}/{name}.db", timeout=errors.LIMIT) as file:
+            file.execute(sql)
+        file.close()
+    place.put([("orders", f"new {it}".encode()) for it in range(5)])
+    place.start("sender", "--patience", "1", life="1")
+    told = place.wait(lambda: any("session_forked" in place.log(it) for it in place.running), 10)
+    place.require(told, "the receiver doesn't say that the session is forked")
+    stopped = place.wait(lambda: place.count("outbox", "stopped") > 0, 10)
+    place.require(stopped, "the sender doesn't stop")
+    place.await_delivered()
+
+
 def short_life(place):
     """--life 1: each second's first text begins a session; both ends are killed meanwhile."""
     for turn in range(4):
@@ -727,6 +803,9 @@ CASES = (
     Case(many_streams, "5,000 streams, of a text each", {}, 40),
     Case(before_its_turn, "a session's frames stand before the close of the one before it",
          {"orders": 20}, 20),
+    Case(keytab_moment, "the sender's keytab is away for a second", {"orders": 4}, 25),
+    Case(wrapping_key_later, "the sender's keytab lacks a key for a while", {"orders": 3}, 30),
+    Case(closed_anew, "a restored outbox closes a session once more", {"orders": 10}, 40),
     Case(short_life, "--life 1, and both ends are killed", {"orders": 400}, 25),
     Case(at_rest, "keys at rest, and newer keys in the keytabs", {"orders": 100, "bills": 100}, 30),
     Case(exchanged_rows, "wrapped keys of two rows are exchanged", {"one": 20, "two": 20}, 25),
