@@ -57,11 +57,12 @@ def makes_check(of: Implementation, group: Group, step: Step) -> bool:
     return bool(failing if of.checks is None else failing & of.checks)
 
 
-def expected_code(of: Implementation, group: Group, step: Step) -> str:
-    """How it names the first check that fails, by its order. Receivers of records have the RFC's."""
+def expected_codes(of: Implementation, group: Group, step: Step) -> set[str]:
+    """How it may name the first check that fails, by its order. Receivers of records have the RFC's order.
+    Where an element is malformed too, what is malformed may be seen before the check or after it."""
     checks = step.verdict.checks
     first = min(checks, key=of.order.index) if of.order and not group.of_records else checks[0]
-    return f"no:{CODES[of.codes][first]}"
+    return {f"no:{CODES[of.codes][it]}" for it in (checks if "der" in checks else (first,))}
 
 
 def class_of_step(of: Implementation, group: Group, step: Step, verdict: str) -> Class:
@@ -77,7 +78,7 @@ def class_of_step(of: Implementation, group: Group, step: Step, verdict: str) ->
         return Class.TAKES if taken else Class.REFUSES
     if wanted.result is Result.VALID:
         return Class.PASS if taken else Class.REFUSED
-    if not taken and of.codes and verdict != expected_code(of, group, step):
+    if not taken and of.codes and verdict not in expected_codes(of, group, step):
         return Class.OTHER_NAME
     return Class.ACCEPTED if taken else Class.PASS
 
@@ -91,21 +92,30 @@ def class_of(of: Implementation, group: Group, case: Case, verdicts: list[str]) 
 
 # ---- what is known
 
+OTHERWISE = (Class.REFUSED, Class.ACCEPTED, Class.OTHER_NAME)
+NOT_HELD = Class.OTHER_NAME     # whose cases may be of this class, and need not
+
 @dataclasses.dataclass(frozen=True)
 class Known:
-    """What is known of krbrelay, by flag and for each of its readers: the acceptable cases that it takes,
-    and what it does otherwise than the suite says, each with its reason."""
+    """What is known of a reader by flag: the acceptable cases that it takes, and what it does otherwise than
+    the suite says, each with its reason."""
     takes: dict[str, str]
     otherwise: dict[str, dict[str, str]]
 
+    def is_otherwise(self, case: Case, name: Class) -> bool:
+        return bool(set(case.flags) & set(self.otherwise[name.value]))
+
     def expected(self, case: Case) -> Class:
-        """The class that a case has to have."""
-        for name in (Class.REFUSED, Class.ACCEPTED, Class.OTHER_NAME):
-            if set(case.flags) & set(self.otherwise.get(name.value, {})):
+        """The class that a case has to have, unless its name isn't held."""
+        for name in (it for it in OTHERWISE if it is not NOT_HELD):
+            if self.is_otherwise(case, name):
                 return name
         if case.result() is Result.ACCEPTABLE:
             return Class.TAKES if set(case.flags) & set(self.takes) else Class.REFUSES
         return Class.PASS
+
+    def allows(self, case: Case, found: Class) -> bool:
+        return found is self.expected(case) or found is NOT_HELD and self.is_otherwise(case, NOT_HELD)
 
 
 def known_tables() -> dict[str, dict[str, object]]:
@@ -114,12 +124,11 @@ def known_tables() -> dict[str, dict[str, object]]:
 
 
 def known_of(of: Implementation) -> Known:
-    """Of krbrelay's readers together, with what one of them has more."""
+    """Of readers that have a table together, with what one of them has more."""
     tables = known_tables()
-    common, own = tables["krbrelay"], tables.get(of.name, {})
-    otherwise = {name.value: {**common.get(name.value, {}), **own.get(name.value, {})}
-                 for name in (Class.REFUSED, Class.ACCEPTED, Class.OTHER_NAME)}
-    return Known({**common["takes"], **own.get("takes", {})}, otherwise)
+    common, own = tables[of.known], tables.get(of.name, {})
+    otherwise = {name.value: {**common.get(name.value, {}), **own.get(name.value, {})} for name in OTHERWISE}
+    return Known({**common.get("takes", {}), **own.get("takes", {})}, otherwise)
 
 
 def counted_of(of: Implementation) -> dict[tuple[str, str], int] | None:

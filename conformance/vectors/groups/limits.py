@@ -27,9 +27,6 @@ def frames(suite: Suite) -> None:
     for mode, key in each(suite, "a longer message", [("safe", 17)]):
         frame, user = of_size(mode, key, FRAME_LIMIT + 1)
         suite.add(valid(user), frame, f"{FRAME_LIMIT + 1} bytes", SECTION, "OverKrbrelayLimit")
-        broken = bytearray(frame)
-        broken[-1] ^= 1
-        suite.add(invalid("checksum"), bytes(broken), f"{FRAME_LIMIT + 1} bytes, a wrong checksum", SECTION, "OverKrbrelayLimit")
 
 
 def longest_skew(suite: Suite) -> None:

@@ -89,7 +89,7 @@ def added_to(suite: Suite, mode: str, key: bytes, name: str, inside: bool) -> No
         suite.add(acceptable(), bent(mode, key, FULL, name, under, change), f"{name}: {comment}", "RFC4120 5.6.1, 5.7.1",
                   "TrailingElement")
     if covered:
-        suite.add(invalid("checksum"), bent(mode, key, FULL, name, False, UNKNOWN),
+        suite.add(invalid("checksum", "der"), bent(mode, key, FULL, name, False, UNKNOWN),
                   f"{name}: a field [9] added after the checksum", "RFC4120 3.4.2, 5.6.1", "UnauthenticatedField")
 
 
