@@ -329,7 +329,7 @@ def of_walk(heading):
         yield f"{WALKS}: {heading}, in {path}", is_named(path, names), True
 
 
-ROOMS = "tools/", "c/", "carrier/", "kerberos/", "python/", "tests/", "pytest "
+ROOMS = "tools/", "c/", "carrier/", "conformance/", "kerberos/", "python/", "tests/", "pytest "
 PROVED, TESTED = "docs/PROVED.md", "## What is only tested"
 ROW = re.compile(r"^\| `([^`]+)` \| (?:([\d,]+) \| )?(.+) \|$", re.M)
 

@@ -14,6 +14,7 @@ KRBRELAY = {"der": 901, "pvno": 39, "msg-type": 40, "etype": 14, "integrity": 31
             "address": 38, "time": 37, "order": 42, "fresh": 41, "record": 902, "closed": 903}
 CODES = {"krbrelay": KRBRELAY}
 LONGEST_ADDRESS = 40    # of krbrelay's structs
+DAY = 86_400            # seconds, the longest skew of a job
 
 
 class Class(enum.Enum):
@@ -41,6 +42,7 @@ def needs_of(group: Group, case: Case) -> set[str]:
         "receiver required": asked.receiver_required, "time ignored": asked.time is Asked.IGNORED,
         "time if present": asked.time is Asked.IF_PRESENT, "absent microseconds": asked.time is Asked.SECONDS_REQUIRED,
         "time or number": asked.needs_time_or_number,
+        "skews over a day": asked.skew > DAY,
         "long addresses": any(it and len(it.octets) > LONGEST_ADDRESS for it in (asked.sender, asked.receiver))}
     return found | {need for need, holds in conditions.items() if holds}
 
@@ -50,8 +52,9 @@ def is_asked(of: Implementation, group: Group, case: Case) -> bool:
 
 
 def makes_check(of: Implementation, group: Group, step: Step) -> bool:
-    """Whether it makes one of the checks that a refused message fails."""
-    failing = set(step.verdict.checks)
+    """Whether it makes one of the checks that a refused message fails. What is malformed beside a check that
+    comes first is so for some implementations only."""
+    failing = {it for place, it in enumerate(step.verdict.checks) if it != "der" or place == 0}
     if group.mode == "safe":
         failing -= of.omits
     return bool(failing if of.checks is None else failing & of.checks)
