@@ -70,7 +70,8 @@ OTHER_SIZES = re.compile(r"_tests/|/tests\.rt$|/krb_bench/")
 NO_LIMITS = {"crates/krb_der/src/laws.rt": {65_000}}
 WALKS = "CONTRIBUTING.md"
 SOURCES = ("tables/*", "crates/**/*", "python/**/*", "tools/**/*", "docs/*.md", "docs/*.1",
-           "c/**/*", "tests/**/*", "kerberos/**/*", "carrier/**/*", "examples/**/*")
+           "c/**/*", "tests/**/*", "conformance/**/*", "kerberos/**/*", "carrier/**/*",
+           "examples/**/*")
 OF_TESTS = re.compile(r"/out/|/must-fail|mutants\.toml|_tests/|(python|carrier|kerberos)/tests/|^c/tests/(?!answers\.c)|/test_|^tests/(?!oracle/|job_check)"
                       r"|__pycache__")
 # Running out of memory is no answer of the independent opener, and an exception of its own in

@@ -83,7 +83,7 @@ static void end(const struct asked *asked)
 
 int main(void)
 {
-    char path[] = "/tmp/heimdal-runner-XXXXXX";
+    char path[] = P_tmpdir "/heimdal-runner-XXXXXX";
     close(mkstemp(path));
     setenv("KRB5_CONFIG", path, 1);
     int failed = krb5_init_context(&ctx) != 0;

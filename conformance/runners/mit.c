@@ -22,7 +22,7 @@ static long skew = -1;
 /* A context under a file of its own: the skew is read from there. */
 static void open_context(long seconds)
 {
-    char path[] = "/tmp/mit-runner-XXXXXX";
+    char path[] = P_tmpdir "/mit-runner-XXXXXX";
     int file = mkstemp(path);
     dprintf(file, "[libdefaults]\n clockskew = %ld\n default_realm = T\n", seconds);
     close(file);
