@@ -86,6 +86,16 @@ def lengths_of(of: OfElement) -> None:
         of.add(invalid("der"), "indefinite length of a primitive", "RFC4120 5.1.1; X.690 8.1.3", "WrongLength", indefinite)
 
 
+def indefinite_as_128(suite: Suite) -> None:
+    """A length byte of 80 is no length of 128, also where 128 bytes follow it."""
+    of = FULL.but(user=b"D" * 128)
+    for mode, key in each(suite, "128 bytes after a length of 80", EITHER):
+        for how, comment in ((b"\x80", "80"), (b"\x80\x80", "80 80")):
+            message = bent(mode, key, of, "user-data", True, spelt(lambda size, how=how: how))
+            suite.add(invalid("der"), message, f"user-data: {comment} before 128 bytes", "RFC4120 5.1.1; X.690 8.1.3",
+                      "WrongLength")
+
+
 # ---- tags
 
 def tagged(how: collections.abc.Callable[[int], bytes]) -> Change:
@@ -145,4 +155,5 @@ def tags_of(of: OfElement) -> None:
 
 def build(suite: Suite) -> None:
     lengths(suite)
+    indefinite_as_128(suite)
     tags(suite)
