@@ -90,8 +90,6 @@ def kind_of(it: Made) -> Kind:
 
 
 def kind_of_malformed(it: Made) -> Kind:
-    if it.sender == "-" and it.time == "0" and it.number == "-":
-        return "invalid", "NeitherTimeNorNumber", "fresh"
     if it.sender == "-":
         return "acceptable", "MissingSender", None
     if it.mode == "priv" and it.is_big:
@@ -101,12 +99,17 @@ def kind_of_malformed(it: Made) -> Kind:
 
 # ---- some of them
 
+def is_wanted(it: Made) -> bool:
+    """Not one with two faults: no sender, and neither time nor number."""
+    return bool(it.user) and not (it.sender == "-" and it.time == "0" and it.number == "-")
+
+
 def some_of(path: str) -> list[tuple[Made, Kind]]:
     """A few of each kind of message."""
     taken: collections.Counter[tuple[object, ...]] = collections.Counter()
     found = []
     with open(path, encoding="ascii") as file:
-        for it in filter(lambda it: it.user, map(made_of, file)):
+        for it in filter(is_wanted, map(made_of, file)):
             kind = kind_of(it)
             number = "big" if it.is_big else str(it.number in ("-", "0"))
             key = (it.mode, it.etype, kind, it.sender, it.receiver, it.required, it.time, number)

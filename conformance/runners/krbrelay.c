@@ -87,7 +87,7 @@ static enum krbrelay_answer take_record(struct bytes message, uint8_t *data, siz
     static const uint8_t letters[] = { 0, 'D', 'B', 'C' };
     uint32_t kind = 0;
     enum krbrelay_answer answer = krbrelay_receiver_take(&receiver, message.at, message.size, &now,
-                                                         data + 1, message.size, &kind, size);
+                                                         &kind, data + 1, message.size, size);
     if (answer == KRBRELAY_OK) {
         data[0] = letters[kind];
         *size += 1;

@@ -82,6 +82,8 @@ FRESHNESS = {
     "MissingNumber": flag("REPLAY", "No sequence number where one is demanded", "RFC4120 3.4.2"),
     "NeitherTimeNorNumber": flag("REPLAY", "Neither timestamp nor sequence number: KRB_AP_ERR_MODIFIED",
                                  "RFC4120 3.4.2", "RFC4120 3.5.2"),
+    "NeitherButMicroseconds": flag("REPLAY", "Microseconds without a timestamp, and no number, where a time is compared if "
+                                   "present", "RFC4120 3.4.2", "RFC4120 3.5.2"),
     "TimeOrNumberNeeded": flag("REPLAY", "The receiver is told to refuse a message that tells neither a time nor a number",
                                "RFC4120 3.4.2", "RFC4120 3.5.2"),
     "Replayed": flag("REPLAY", "Messages repeated, left out or out of order", "RFC4120 5.5.1"),

@@ -28,8 +28,9 @@ def faults_of_known(of: Implementation, groups: list[Group], verdicts: Verdicts)
         if not judging.is_asked(of, group, case):
             continue
         class_ = judging.class_of(of, group, case, verdicts[case.number])
-        passed += known.allows(case, class_)
-        if not known.allows(case, class_):
+        right = known.allows(case, class_, verdicts[case.number])
+        passed += right
+        if not right:
             line = example((group, case, class_, verdicts[case.number]))
             found.append(f"{of.name}: {class_.value}, not {known.expected(case).value}: {' '.join(case.flags)}: {line}")
     return passed, found

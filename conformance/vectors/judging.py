@@ -104,6 +104,7 @@ class Known:
     the suite says, each with its reason."""
     takes: dict[str, str]
     otherwise: dict[str, dict[str, str]]
+    codes: dict[str, int]       # of valid messages that it refuses, by flag
 
     def is_otherwise(self, case: Case, name: Class) -> bool:
         return bool(set(case.flags) & set(self.otherwise[name.value]))
@@ -117,8 +118,17 @@ class Known:
             return Class.TAKES if set(case.flags) & set(self.takes) else Class.REFUSES
         return Class.PASS
 
-    def allows(self, case: Case, found: Class) -> bool:
+    def allows(self, case: Case, found: Class, verdicts: list[str]) -> bool:
+        if found is Class.REFUSED and not self.has_code(case, verdicts):
+            return False
         return found is self.expected(case) or found is NOT_HELD and self.is_otherwise(case, NOT_HELD)
+
+    def has_code(self, case: Case, verdicts: list[str]) -> bool:
+        """Whether the valid messages that are refused are so by the number of the case's flag."""
+        wanted = {f"no:{self.codes[flag]}" for flag in case.flags if flag in self.codes}
+        told = {verdict for step, verdict in zip(case.steps, verdicts)
+                if step.verdict.result is Result.VALID and verdict.startswith("no:")}
+        return not wanted or told <= wanted
 
 
 def known_tables() -> dict[str, dict[str, object]]:
@@ -131,7 +141,7 @@ def known_of(of: Implementation) -> Known:
     tables = known_tables()
     common, own = tables[of.known], tables.get(of.name, {})
     otherwise = {name.value: {**common.get(name.value, {}), **own.get(name.value, {})} for name in OTHERWISE}
-    return Known({**common.get("takes", {}), **own.get("takes", {})}, otherwise)
+    return Known({**common.get("takes", {}), **own.get("takes", {})}, otherwise, common.get("codes", {}))
 
 
 def counted_of(of: Implementation) -> dict[tuple[str, str], int] | None:

@@ -16,7 +16,7 @@ from vectors.model import Asked, Address, Case, Group
 
 RUNNERS = ROOM / "runners"
 TIMES = {Asked.IGNORED: 0, Asked.IF_PRESENT: 1, Asked.REQUIRED: 2, Asked.SECONDS_REQUIRED: 3}
-C_FLAGS = ["-std=gnu11", "-O1", "-g", "-Wall", "-Wextra"]
+C_FLAGS = ["-std=gnu11", "-O1", "-g", "-Wall", "-Wextra", "-Werror"]
 SANITIZERS = ["-fsanitize=address,undefined", "-fno-sanitize-recover=all"]
 
 

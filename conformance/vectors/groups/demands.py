@@ -41,15 +41,20 @@ def neither(suite: Suite) -> None:
     """What the RFC says, of a receiver that isn't told so."""
     for asked in (Asked.IGNORED, Asked.IF_PRESENT):
         for mode, key in each(suite, "neither time nor number", time=asked, number=None):
-            for of, comment in ((NOTHING, "no timestamp, usec and number"), (NOTHING.but(usec=123_456), "usec alone")):
-                suite.add(invalid("fresh"), message(mode, key, of), comment, RECEIPT, "NeitherTimeNorNumber")
+            suite.add(invalid("fresh"), message(mode, key, NOTHING), "no timestamp, usec and number", RECEIPT,
+                      "NeitherTimeNorNumber")
+            alone = message(mode, key, NOTHING.but(usec=123_456))
+            if asked is Asked.IF_PRESENT:
+                suite.add(invalid("time", "fresh"), alone, "usec alone", RECEIPT, "NeitherButMicroseconds")
+            else:
+                suite.add(invalid("fresh"), alone, "usec alone", RECEIPT, "NeitherTimeNorNumber")
 
 
 def needed(suite: Suite) -> None:
     """Of a receiver that is told to refuse such messages."""
     for asked in (Asked.IGNORED, Asked.IF_PRESENT):
         for mode, key in each(suite, "a time or a number is needed", time=asked, number=None, needs_time_or_number=True):
-            for verdict, of, comment in told():
+            for verdict, of, comment in told(asked):
                 suite.add(verdict, message(mode, key, of), comment, RECEIPT, "TimeOrNumberNeeded")
     for mode, key in each(suite, "a time or a number is needed, and the number 0 demanded", time=Asked.IGNORED, number=0,
                           needs_time_or_number=True):
@@ -57,10 +62,10 @@ def needed(suite: Suite) -> None:
         suite.add(invalid("order"), message(mode, key, NOTHING.but(number=1)), "the number 1", RECEIPT, "TimeOrNumberNeeded")
 
 
-def told() -> list[tuple[Verdict, Fields, str]]:
+def told(asked: Asked) -> list[tuple[Verdict, Fields, str]]:
     time = {"time": CLOCK, "usec": 123_456}
     return [(invalid("fresh"), NOTHING, "no timestamp, usec and number"),
-            (invalid("fresh"), NOTHING.but(usec=123_456), "usec alone"),
+            (invalid("time", "fresh") if asked is Asked.IF_PRESENT else invalid("fresh"), NOTHING.but(usec=123_456), "usec alone"),
             (valid(), NOTHING.but(**time), "time alone"),
             (valid(), NOTHING.but(number=NUMBER), "number alone"),
             (valid(), NOTHING.but(number=0), "the number 0 alone"),

@@ -130,6 +130,13 @@ def clocks(suite: Suite) -> None:
                     suite.add(invalid("time"), frame, comment, RECEIPT, flag, "Skew")
 
 
+def before_the_epoch(suite: Suite) -> None:
+    """A year before 1970 that is within the skew."""
+    for mode, key in each(suite, "a second before 1970", EITHER, now=Moment(0, 0)):
+        suite.add(acceptable(), message(mode, key, ORDINARY.but(time=b"19691231235959Z", usec=999_999)),
+                  "a microsecond before 1970-01-01", KERBEROS_TIME, "Before1970")
+
+
 def offsets(clock: int) -> list[int]:
     """Of the times that are near the clock, those that a KerberosTime can tell."""
     return [off for off in (0, 1, -1, 300, -300, 301, -301, 302, -302) if 0 <= clock + off <= LAST_SECOND]
@@ -170,7 +177,7 @@ def not_demanded(suite: Suite) -> None:
                   "MicrosecondsAloneIgnored")
 
 
-PARTS: list[collections.abc.Callable[[Suite], None]] = [spellings, distant, skew, other_skews, clocks, left_out, not_demanded]
+PARTS: list[collections.abc.Callable[[Suite], None]] = [spellings, distant, skew, other_skews, clocks, before_the_epoch, left_out, not_demanded]
 
 
 def build(suite: Suite) -> None:
