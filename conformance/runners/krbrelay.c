@@ -24,7 +24,8 @@ static int set_address(struct krbrelay_address *to, const struct host *from)
         return 0;
     to->kind = from->type;
     to->len = (uint32_t)from->address.size;
-    memcpy(to->bytes, from->address.at, from->address.size);
+    if (from->address.size > 0)
+        memcpy(to->bytes, from->address.at, from->address.size);
     return 1;
 }
 
