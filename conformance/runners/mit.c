@@ -7,7 +7,7 @@
 
 void krb5_set_debugging_time(krb5_context, krb5_timestamp, krb5_int32); /* exported, not declared */
 
-/* The front of struct _krb5_auth_context (1.20): no public call sets the numbers. */
+/* The first fields of struct _krb5_auth_context (1.20): no public call sets the numbers. */
 struct front {
     krb5_magic magic;
     void *remote_addr, *remote_port, *local_addr, *local_port, *key, *send_subkey, *recv_subkey;

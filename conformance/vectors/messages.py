@@ -1,5 +1,5 @@
 """KRB-SAFE and KRB-PRIV messages (RFC 4120 sections 5.6 and 5.7) of which a case may bend what it
-likes, before or after the protection is computed. The cryptography is that of tests/oracle, which
+likes, before or after the protection is computed. Keys and codes are derived as in tests/oracle, which
 shares nothing with the crates."""
 from __future__ import annotations
 
@@ -7,6 +7,8 @@ import collections.abc
 import dataclasses
 import functools
 import hashlib
+
+from cryptography.hazmat.primitives.ciphers import Cipher, algorithms, modes
 
 from oracle import frames
 from vectors.elements import Element, explicit, integer, octets, sequence, stamp, TIME
@@ -108,9 +110,18 @@ class Confounders:
         cls.drawn = 0
 
 
+def stolen(key: bytes, text: bytes) -> bytes:
+    """CBC with ciphertext stealing (RFC 3962 section 5), of a block or more."""
+    engine = Cipher(algorithms.AES(key), modes.CBC(bytes(BLOCK))).encryptor()
+    chain = engine.update(text + bytes(-len(text) % BLOCK)) + engine.finalize()
+    if len(chain) > BLOCK:
+        chain = chain[:-2 * BLOCK] + chain[-BLOCK:] + chain[-2 * BLOCK:-BLOCK]
+    return chain[:len(text)]
+
+
 def encrypt(key: bytes, plain: bytes, usage: int = PRIV_USAGE) -> bytes:
     """The cipher of RFC 3962 over these bytes, the confounder among them, with its code."""
-    return (frames.cts(derive(key, usage, FOR_CIPHER), plain)
+    return (stolen(derive(key, usage, FOR_CIPHER), plain)
             + frames.mac(derive(key, usage, FOR_INTEGRITY), plain))
 
 
