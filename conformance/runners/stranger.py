@@ -2,6 +2,7 @@
 """A runner written from README.md and the RFCs alone, with Python's package cryptography: an opener that
 shares no code with this project. It reads DER only."""
 import calendar
+import collections.abc
 import hashlib
 import hmac
 import math
@@ -11,6 +12,7 @@ import time
 
 from cryptography.hazmat.primitives.ciphers import Cipher, algorithms, modes
 
+Reads = collections.abc.Callable[[bytes], object]
 ZERO = bytes(16)
 
 
@@ -18,18 +20,18 @@ class No(Exception):
     """The message is refused."""
 
 
-def need(holds, why):
+def need(holds: object, why: str) -> None:
     if not holds:
         raise No(why)
 
 
-def cbc(key, data, decrypt=False, iv=ZERO):
+def cbc(key: bytes, data: bytes, decrypt: bool = False, iv: bytes = ZERO) -> bytes:
     engine = Cipher(algorithms.AES(key), modes.CBC(iv))
     engine = engine.decryptor() if decrypt else engine.encryptor()
     return engine.update(data) + engine.finalize()
 
 
-def fold(data, size=16):                        # RFC 3961 5.1, byte by byte
+def fold(data: bytes, size: int = 16) -> bytes:      # RFC 3961 5.1, byte by byte
     total = math.lcm(len(data), size)
     number, bits = int.from_bytes(data, "big"), 8 * len(data)
     copies = b""
@@ -42,15 +44,15 @@ def fold(data, size=16):                        # RFC 3961 5.1, byte by byte
     return result.to_bytes(size, "big")
 
 
-def derived(key, usage, last):                  # RFC 3961 5.1 and 5.3
+def derived(key: bytes, usage: int, last: int) -> bytes:     # RFC 3961 5.1 and 5.3
     return cbc(key, fold(struct.pack(">IB", usage, last)) + ZERO * (len(key) // 16 - 1))
 
 
-def code(key, data):
+def code(key: bytes, data: bytes) -> bytes:
     return hmac.new(key, data, hashlib.sha1).digest()[:12]
 
 
-def decrypted(key, cipher):                     # RFC 3962 5
+def decrypted(key: bytes, cipher: bytes) -> bytes:   # RFC 3962 5
     need(len(cipher) >= 28, "short")
     data, mac, ke = cipher[:-12], cipher[-12:], derived(key, 13, 0xAA)
     if len(data) == 16:
@@ -67,7 +69,7 @@ def decrypted(key, cipher):                     # RFC 3962 5
     return plain[16:]
 
 
-def element(data, tag):
+def element(data: bytes, tag: int) -> tuple[bytes, bytes]:
     need(len(data) > 1 and data[0] == tag, "tag")
     size, at = data[1], 2
     if size > 127:
@@ -79,13 +81,13 @@ def element(data, tag):
     return data[at:at + size], data[at + size:]
 
 
-def only(data, tag):
+def only(data: bytes, tag: int) -> bytes:
     inner, rest = element(data, tag)
     need(not rest, "rest")
     return inner
 
 
-def integer(data, low=-2**31, high=2**31 - 1):
+def integer(data: bytes, low: int = -2**31, high: int = 2**31 - 1) -> int:
     inner = only(data, 2)
     need(inner and not (len(inner) > 1 and (inner[0] == 0 and inner[1] < 128 or inner[0] == 255 and inner[1] > 127)), "INTEGER")
     value = int.from_bytes(inner, "big", signed=True)
@@ -93,7 +95,7 @@ def integer(data, low=-2**31, high=2**31 - 1):
     return value
 
 
-def moment(data):
+def moment(data: bytes) -> int:
     text = only(data, 24).decode("latin-1")
     need(len(text) == 15 and text[:14].isascii() and text[:14].isdigit() and text[14] == "Z", "time")
     try:
@@ -104,7 +106,7 @@ def moment(data):
     return seconds
 
 
-def fields(data, *grammar):                     # (number, reader, optional)
+def fields(data: bytes, *grammar: tuple[int, Reads, int]) -> list:      # (number, reader, optional)
     data, found = only(data, 48), []
     for number, reader, optional in grammar:
         if optional and data[:1] != bytes([160 + number]):
@@ -116,24 +118,24 @@ def fields(data, *grammar):                     # (number, reader, optional)
     return found
 
 
-def octets(data):
+def octets(data: bytes) -> bytes:
     return only(data, 4)
 
 
-def typed(data):
+def typed(data: bytes) -> tuple[int, bytes]:
     return tuple(fields(data, (0, integer, 0), (1, octets, 0)))
 
 
-def unsigned(data):
+def unsigned(data: bytes) -> int:
     return integer(data, 0, 2**32 - 1)
 
 
-def body(data):
+def body(data: bytes) -> list:
     return fields(data, (0, octets, 0), (1, moment, 1), (2, lambda it: integer(it, 0, 999_999), 1), (3, unsigned, 1),
                   (4, typed, 0), (5, typed, 1))
 
 
-def opened(mode, etype, key, message):          # the body of an authentic message
+def opened(mode: str, etype: int, key: bytes, message: bytes) -> list:      # the body of an authentic message
     safe = message[:1] == b"\x74"
     inner = only(message, 0x74 if safe else 0x75)
     if not safe:
@@ -153,17 +155,17 @@ def opened(mode, etype, key, message):          # the body of an authentic messa
     return found
 
 
-def wrapped(tag, data):
+def wrapped(tag: int, data: bytes) -> bytes:
     size = len(data)
     digits = size.to_bytes((size.bit_length() + 7) // 8, "big")
     return bytes([tag]) + (bytes([size]) if size < 128 else bytes([128 + len(digits)]) + digits) + data
 
 
-def address(text):
+def address(text: str) -> tuple[int, bytes] | None:
     return None if text == "-" else (int(text.split(":")[0]), bytes.fromhex(text.split(":")[1]))
 
 
-def checked(f, number, message):                # the user data, or No
+def checked(f: list[str], number: int | None, message: bytes) -> bytes:     # the user data, or No
     user, seconds, usec, told, sender, receiver = opened(f[1], int(f[2]), bytes.fromhex(f[3]), message)
     need(f[4] == "-" or sender == address(f[4]), "sender")
     need(receiver is not None or f[6] == "0", "no receiver")
@@ -178,7 +180,7 @@ def checked(f, number, message):                # the user data, or No
     return user
 
 
-def main():
+def main() -> None:
     for line in sys.stdin:
         f, told = line.rstrip("\n").split("\t"), []
         number = None if f[11] == "-" else int(f[11])
