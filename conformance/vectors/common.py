@@ -5,7 +5,7 @@ import collections.abc
 import hashlib
 
 from vectors.messages import Fields
-from vectors.model import Address, Asked, Demand, Group, Moment, Suite
+from vectors.model import Address, Asked as Asked, Demand, Group, Moment, Suite
 
 CLOCK = 1_700_000_000                   # 2023-11-14T22:13:20Z
 NOW = Moment(CLOCK, 500_000)
@@ -16,7 +16,6 @@ LAST_NUMBER = 2**32 - 1
 LAST_SECOND = 253_402_300_799           # 9999-12-31T23:59:59Z
 MICROS = 10**6
 
-ASKED = Demand(FROM, TO, NOW, number=NUMBER)
 ORDINARY = Fields(time=CLOCK, usec=123_456, number=NUMBER, sender=FROM)
 FULL = ORDINARY.but(receiver=TO)        # with each field
 
@@ -48,7 +47,3 @@ def drawn(what: str, size: int) -> bytes:
 def text_of(size: int) -> bytes:
     """User data of so many bytes, which are a text where there is one."""
     return (b"D" + drawn(str(size), size))[:size]
-
-
-__all__ = ["ASKED", "Asked", "BOTH", "CLOCK", "EITHER", "FROM", "FULL", "KEYS", "LAST_NUMBER", "LAST_SECOND",
-           "MICROS", "NOW", "NUMBER", "ORDINARY", "PRIV", "SAFE", "TO", "demand", "drawn", "each", "text_of"]

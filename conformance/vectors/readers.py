@@ -1,7 +1,6 @@
 """The readers of implementations.toml: how each is built, and what it makes of lines."""
 from __future__ import annotations
 
-import collections.abc
 import dataclasses
 import os
 import pathlib
@@ -11,7 +10,7 @@ import sys
 import tomllib
 
 from lib.build import building, c_tools
-from vectors.build import ROOM, cases
+from vectors.build import ROOM
 from vectors.model import Asked, Address, Case, Group
 
 RUNNERS = ROOM / "runners"
@@ -171,7 +170,3 @@ def some_verdicts(runner: Runner, chosen: list[tuple[Group, Case]]) -> tuple[Ver
                           text=True, errors="replace", env={**os.environ, **runner.environment})
     whole = [line.partition("\t") for line in done.stdout.split("\n")[:-1]]
     return {int(number): verdicts.split(",") for number, _, verdicts in whole}, done.returncode
-
-
-def all_cases(groups: list[Group]) -> collections.abc.Iterator[tuple[Group, Case]]:
-    return cases(groups)
