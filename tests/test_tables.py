@@ -70,7 +70,8 @@ OTHER_SIZES = re.compile(r"_tests/|/tests\.rt$|/krb_bench/")
 NO_LIMITS = {"crates/krb_der/src/laws.rt": {65_000}}
 WALKS = "CONTRIBUTING.md"
 SOURCES = ("tables/*", "crates/**/*", "python/**/*", "tools/**/*", "docs/*.md", "docs/*.1",
-           "c/**/*", "tests/**/*", "kerberos/**/*", "carrier/**/*", "examples/**/*")
+           "c/**/*", "tests/**/*", "conformance/**/*", "kerberos/**/*", "carrier/**/*",
+           "examples/**/*")
 OF_TESTS = re.compile(r"/out/|/must-fail|mutants\.toml|_tests/|(python|carrier|kerberos)/tests/|^c/tests/(?!answers\.c)|/test_|^tests/(?!oracle/|job_check)"
                       r"|__pycache__")
 # Running out of memory is no answer of the independent opener, and an exception of its own in
@@ -281,7 +282,7 @@ def walk(heading):
 
 def named_files(text):
     """The paths of files that a text names in backquotes, or as docs/*.md."""
-    return set(re.findall(r"`([\w./-]+\.(?:rt|antt|h|c|py|3|1|toml))`", text)
+    return set(re.findall(r"`([\w./-]+\.(?:rt|antt|h|c|py|3|1|toml|json))`", text)
                + re.findall(r"\bdocs/\w+\.md", text))
 
 
@@ -329,7 +330,7 @@ def of_walk(heading):
         yield f"{WALKS}: {heading}, in {path}", is_named(path, names), True
 
 
-ROOMS = "tools/", "c/", "carrier/", "kerberos/", "python/", "tests/", "pytest "
+ROOMS = "tools/", "c/", "carrier/", "conformance/", "kerberos/", "python/", "tests/", "pytest "
 PROVED, TESTED = "docs/PROVED.md", "## What is only tested"
 ROW = re.compile(r"^\| `([^`]+)` \| (?:([\d,]+) \| )?(.+) \|$", re.M)
 

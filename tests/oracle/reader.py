@@ -42,9 +42,8 @@ def only(data, tag):
 
 def integer(data, low, high):
     content = only(data, 0x02)
-    need(content != b"")
     value = int.from_bytes(content, "big", signed=True)
-    fewest = max(1, (value + (value < 0)).bit_length() // 8 + 1)
+    fewest = (value + (value < 0)).bit_length() // 8 + 1
     need(len(content) == fewest and low <= value <= high)
     return value
 
@@ -128,5 +127,4 @@ def message(data):
 
 
 def part(data):
-    need(len(data) <= LIMIT)
     return body(only(data, 0x7C))

@@ -129,6 +129,7 @@ PARTS = [
     Part("carrier/test --library", 30, ("rt", COMPILER, MAKE, SQLITE), LIBRARY.command, over=()),
     Part("carrier/test --files", 10, (PROGRAM, "rt", COMPILER, MAKE, SQLITE), LIBRARY.command),
     Part("tests/fuzz 2000", 5, (PROGRAM, CRYPTOGRAPHY)),
+    Part("conformance/test", 5, (PROGRAM, COMPILER, CRYPTOGRAPHY), LIBRARY.command),
     Part("tools/test_bench", 30, ("rt",)),
     Part("tests/secret_places", 60, ("rt", COMPILER, "valgrind"), over=("krb_seal",)),
     Part("tests/secret_places --library", 20, ("rt", COMPILER, MAKE, "valgrind"), LIBRARY.command,
@@ -139,6 +140,7 @@ MORE = [
     Part("tools/wrong_bodies --try", 170, ("rt",)),
     Part("tests/fuzz 20000 2", 60, (PROGRAM, CRYPTOGRAPHY)),
     Part("kerberos/interop", 20, (PROGRAM, COMPILER, MIT, HEIMDAL)),
+    Part("conformance/test --all", 20, (PROGRAM, COMPILER, CRYPTOGRAPHY, MIT, HEIMDAL)),
     Part("c/library", 60, ("rt", COMPILER, MIT, "clang", "valgrind", MAKE)),
     Part("c/dist --check", 60, ("rt", COMPILER, "clang", MAKE, CROSS)),
     Part("tools/debian --check", 60, (PROGRAM, "rt", COMPILER, MAKE, PACKAGING)),
@@ -154,6 +156,7 @@ QUICK = [
     Part("pytest tests/test_tables.py", 1, (PYTEST,)),
     Part("tools/tables --check", 1),
     Part("tests/job_check", 1, (CRYPTOGRAPHY,)),
+    Part("conformance/test --quick", 3, (CRYPTOGRAPHY,)),
     Part("tools/picture --quick", 1, (UNPROVED,)),
     Part("tests/redelivery --quick", 4, (UNPROVED, CRYPTOGRAPHY)),
     Part("tests/install --quick", 1, (UNPROVED,)),
@@ -166,7 +169,7 @@ QUICK = [
 
 # What tools are for, in the order of the table. Those that aren't named check something.
 VERBS = {
-    "run": ("krbrelay", "relay", "show", "picture", "check_job"),
+    "run": ("krbrelay", "relay", "show", "picture", "check_job", "conformance/run"),
     "make": ("install", "c/library", "c/dist", "debian", "reference", "figure"),
     "prove": ("test", "proving.py", "wrong_bodies"),
     "bench": ("bench", "bench_aes", "bench_lane", "tests/job_costs"),

@@ -10,7 +10,8 @@ from lib.build import building
 
 
 OF_ROOMS = ("c/library", "c/dist", "c/signatures", "python/test", "carrier/test", "kerberos/test",
-            "kerberos/interop")
+            "kerberos/interop", "conformance/test", "conformance/run", "conformance/mutate",
+            "conformance/plant")
 
 
 def names():
