@@ -1,5 +1,5 @@
 -- What the laws state.
-use Rattle.std.specs.Prelude.{◌≡◌, ◌≢◌, ℕ, ◌+◌, ◌≤◌, true, List, [], ◌∷◌, ◌++◌, length, map}
+use Rattle.std.specs.Prelude.{◌≡◌, ◌≢◌, ℕ, ◌+◌, ◌<◌, ◌≤◌, true, List, [], ◌∷◌, ◌++◌, length, map}
 use Rattle.std.specs.Prelude.{All}
 use Rattle.krb_base.specs.Prefix.{IsPrefix}
 use Rattle.krb_record.specs.declared.record.Record.{Record}
@@ -12,6 +12,7 @@ use Rattle.krb_peers.specs.Verdicts.{delivered}
 use Rattle.krb_carry.specs.Outbox.{texts_put, has_close_put, numbered, Outbox, new_outbox}
 use Rattle.krb_carry.specs.Outbox.{records_in, sealed_in, stored_records}
 use Rattle.krb_carry.specs.Outbox.{MayLeave, Sealing, Act, IsAct, with_frames, LeadsOutbox}
+use Rattle.krb_carry.specs.declared.place.Missed.TheVariants as misses
 use Rattle.krb_carry.specs.Place.{PlacedShard, unread, Step, LeadsPlaced}
 use Rattle.krb_carry.specs.Progress.{Happening, new_progress, resumed, after_all, IsTruthful}
 use Rattle.krb_carry.specs.Progress.{IsCounted, StandInTurn}
@@ -137,6 +138,12 @@ ComparingLessIsEnough =
     (sealer : SealerState) (readings : List Reading) (stored : StoredShard)
     → LeadsLess [] (new_shard sealer) readings stored → LeadsReading (new_shard sealer) readings stored
 
+-- from whatever was stored before
+abbrev pub ComparingLessIsEnoughFromAny : Type 0
+ComparingLessIsEnoughFromAny =
+    (start : StoredShard) (readings : List Reading) (stored : StoredShard)
+    → LeadsLess [] start readings stored → LeadsReading start readings stored
+
 -- a history of readings is one of attempts: what holds of these holds of it
 abbrev pub ReadingsAreAttempts : Type 0
 ReadingsAreAttempts =
@@ -176,6 +183,13 @@ abbrev pub NothingIsPassedBy : Type 0
 NothingIsPassedBy = OfPlaces (λ sealer records session shard done progress turn placed.
     (k : ℕ) → IsCounted sealer done progress k → placed.session.demand.expected ≤ sealer.next + k
     → placed.place.at ≤ turn.place k)
+
+-- Unless something isn't settled, each frame that counts as carried and stands before the offset was
+-- accepted: what a receiver rests on that doesn't read the shard again.
+abbrev pub NothingIsMissed : Type 0
+NothingIsMissed = OfPlaces (λ sealer records session shard done progress turn placed.
+    (k : ℕ) → IsCounted sealer done progress k → placed.place.missed ≢ misses.Unsettled
+    → turn.place k < placed.offset → sealer.next + k < placed.session.demand.expected)
 
 -- so all texts took effect once all frames count as carried, and receivers that agree have read the
 -- shard on, from the place or before it, past the last frame

@@ -3,7 +3,7 @@
 ghost use Rattle.std.specs.Prelude.{◌≡◌, ◌↔◌, ◌+◌, ◌<◌, ◌≤◌, ◌^◌, IsTrue, IsSome, IfSome};
 ghost use Rattle.krb_carry.specs.Progress.{Counts, after, progress_of, resumed};
 ghost use Rattle.krb_carry.specs.Progress.{Store, Publish, Rewind, Confirm};
-ghost use Rattle.krb_carry.specs.Laws.{CountedStandInTurn, CountedStandInside, CarriedIsAccepted, CarriedTakesEffect, ComparingLessIsEnough, ReadingsAreAttempts, ReceiptsStayTrue};
+ghost use Rattle.krb_carry.specs.Laws.{CountedStandInTurn, CountedStandInside, CarriedIsAccepted, CarriedTakesEffect, ComparingLessIsEnough, ComparingLessIsEnoughFromAny, ReadingsAreAttempts, ReceiptsStayTrue};
 
 use std::marker::Model;
 
@@ -159,7 +159,7 @@ impl Progress {
 /// it has no receipt, and none below counts (a receipt once true stays true: `receipts`).
 ///
 /// It is enough to compare the offset, and the number where something was accepted, if receivers
-/// read the offset first, and then the demand (`less`). The other way round it isn't: a frame could
+/// read the offset first, and then the demand (`less`), from whatever was stored before (`less_from`). The other way round it isn't: a frame could
 /// be passed by, since a number before it was demanded, and its offset be stored.
 ///
 /// That a sender goes on publishing, that a carrier keeps what it confirmed, and that some receiver
@@ -170,6 +170,7 @@ pub fn progress_laws()
     ensures accepted { CarriedIsAccepted }
     ensures whole { CarriedTakesEffect }
     ensures less { ComparingLessIsEnough }
+    ensures less_from { ComparingLessIsEnoughFromAny }
     ensures attempts { ReadingsAreAttempts }
     ensures receipts { ReceiptsStayTrue }
 {}

@@ -268,7 +268,7 @@ pub no_row : (it : Sent) (session : ℕ) (next : Next) (old new : OutboxTables) 
 no_row it session next old new once none other (inr same) = same
 no_row it session next old new once none other (inl is) =
     let whole : steps (next ∷ []) None ≡ Some (new.next session) =
-        subst (λ o. steps (next ∷ []) o ≡ Some (new.next session)) none (subst (λ ns. steps ns (old.next session) ≡ Some (new.next session)) once (done it session old new is).row) in
+    subst (λ o. steps (next ∷ []) o ≡ Some (new.next session)) none (subst (λ ns. steps ns (old.next session) ≡ Some (new.next session)) once (done it session old new is).row) in
     let one = chained (λ (row : ℕ). steps [] (Some row)) (next_writes next None) (new.next session) whole in
     absurd (other (eqb-true next.from next.first (guarded (next.from == next.first) next.to (one.0) one.1).0))
 
