@@ -3,7 +3,7 @@
 ghost use Rattle.std.specs.Prelude.{◌≡◌};
 ghost use Rattle.krb_carry.specs.Place.{moved, outcome_of};
 ghost use Rattle.krb_carry.specs.declared.place.Missed.TheVariants as misses;
-ghost use Rattle.krb_carry.specs.Laws.{NothingIsPassedBy, NothingIsMissed, AllTakesEffectFromThePlace};
+ghost use Rattle.krb_carry.specs.Laws.{NothingIsPassedBy, NothingIsMissed, AllTakesEffectFromThePlace, AcceptedMovesThePlace, PlacesHappen};
 
 /// Whether a frame that names a session stands after its place, and may have to be read again.
 #[derive(Clone, Copy, Debug, PartialEq, Eq)]
@@ -114,6 +114,10 @@ impl Place {
 /// place, in agreement with the sender, past the last frame that counts, all texts took effect if all
 /// frames count (`all`).
 ///
+/// A frame that is accepted moves the place to it, unless something isn't settled (`moves`). All this
+/// can come to pass: of whatever is sealed, a receiver that has another mode refuses the first frame, and
+/// after the shard is read again from its place, one that agrees takes all (`happens`).
+///
 /// It is assumed that a frame which is sealed of one of the records opens under its number, unless
 /// nothing opened yet under this receiver's key. Where the carrier's offsets aren't what they were,
 /// the shard is read again from its beginning: that is [`progress_laws`](crate::progress_laws).
@@ -121,4 +125,6 @@ pub fn place_laws()
     ensures before { NothingIsPassedBy }
     ensures missed { NothingIsMissed }
     ensures all { AllTakesEffectFromThePlace }
+    ensures moves { AcceptedMovesThePlace }
+    ensures happens { PlacesHappen }
 {}

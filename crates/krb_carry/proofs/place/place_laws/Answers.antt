@@ -1,6 +1,7 @@
 use Rattle.std.proofs.Common.{arith}
 use Rattle.krb_carry.specs.Place.{unread}
 use Rattle.krb_carry.specs.Reading.{StoredShard}
+use Rattle.krb_carry.proofs.PlacedLemmas.{accepted_moves, placed_all}
 use Rattle.krb_carry.proofs.PlaceLemmas.{holds_unread, holds_all, stands_after}
 use Rattle.krb_carry.proofs.ReadingLemmas.{HasRead, read_all, all_accepted, after_whole}
 use Rattle.krb_carry.proofs.StoreLemmas.{first_take_effect, number_is}
@@ -28,4 +29,6 @@ returns c = record {
       } in
       after_whole sealer records stored.session
       (all_accepted sealer records are fits session shard done progress turn stored (read_all sealer records are fits session shard done progress turn start readings stored has each read) past whole);
+  moves = accepted_moves;
+  happens = placed_all;
 }
