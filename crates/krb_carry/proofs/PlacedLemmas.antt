@@ -1,9 +1,8 @@
 -- A shard whose first frame is refused by a receiver of another mode, and that is read again.
-use Rattle.std.proofs.Common.{◌≡◌, ◌≢◌, ℕ, ℤ, zero, suc, ◌+◌, ◌≤◌, Bool, true, false, List, [], ◌∷◌, ◌++◌, length, map, take, slice_get, Option, Some, None, option_map, Result, Ok, Err, is_ok, refl, sym, ap, subst, ◌∙◌, arith, inl, inr, append-nil, le-leb}
-use Rattle.std.specs.Prelude.{All}
+use Rattle.std.proofs.Common.{◌≡◌, ◌≢◌, ℕ, ℤ, zero, suc, ◌+◌, false, List, [], ◌∷◌, length, take, slice_get, Option, Some, None, option_map, Ok, Err, refl, sym, ap, subst, ◌∙◌, arith, inl, inr, append-nil, le-leb}
 use Rattle.std.proofs.lemmas.List.{length-map, take_all}
-use Rattle.std.proofs.lemmas.List.Elements.{All-nil, All-cons}
-use Rattle.std.proofs.lemmas.Option.{slice_get_within, slice_get-map}
+use Rattle.std.proofs.lemmas.List.Elements.{All-cons}
+use Rattle.std.proofs.lemmas.Option.{slice_get-map}
 use Rattle.krb_base.specs.Limits.{frame_limit}
 use Rattle.krb_record.specs.declared.record.Record.{Record}
 use Rattle.krb_record.specs.Record.{bytes_of}
@@ -21,7 +20,7 @@ use Rattle.krb_peers.specs.declared.delivery.Delivery.{Delivery}
 use Rattle.krb_peers.specs.Attempt.{IsAttempt, HasKey, CanTakeAll}
 use Rattle.krb_peers.specs.Demand.{Demand}
 use Rattle.krb_peers.specs.Moments.{moment_at}
-use Rattle.krb_peers.specs.Order.{demand_after, first_demand}
+use Rattle.krb_peers.specs.Order.{demand_after}
 use Rattle.krb_peers.specs.ReceiverState.{ReceiverState}
 use Rattle.krb_peers.specs.Session.{Sealed, SealsAt, IsSealed}
 use Rattle.krb_peers.specs.Texts.{texts_of_all}
@@ -30,15 +29,13 @@ use Rattle.krb_peers.proofs.AnswerLemmas.{answer_of, records_of-answers}
 use Rattle.krb_peers.proofs.AttemptLemmas.{accepted_here}
 use Rattle.krb_peers.proofs.OrderLemmas.{demand_after-nil}
 use Rattle.krb_carry.specs.declared.place.Missed.TheVariants as misses
-use Rattle.krb_carry.specs.declared.place.Place.{Place}
-use Rattle.krb_carry.specs.declared.place.Taken.{Taken}
 use Rattle.krb_carry.specs.Laws.{AcceptedMovesThePlace, HasPlaced}
 use Rattle.krb_carry.specs.Outbox.{records_in}
-use Rattle.krb_carry.specs.Place.{moved, Taking, attempt_of, taken_of, IsTaking, PlacedShard, unread, Step, Take, Again, Steps, LeadsPlaced}
-use Rattle.krb_carry.specs.Progress.{Happening, Store, new_progress, after, IsTruthful}
+use Rattle.krb_carry.specs.Place.{moved, Taking, attempt_of, taken_of, IsTaking, PlacedShard, unread, Step, Take, LeadsPlaced}
+use Rattle.krb_carry.specs.Progress.{Store, new_progress, after, IsTruthful}
 use Rattle.krb_carry.specs.Shard.{Item}
-use Rattle.krb_carry.specs.Store.{Stored, new_session, applied, IsAfter}
-use Rattle.krb_carry.proofs.DeliveryLemmas.{shard_of, confirms, IsAt, all_confirmed, stands_at, all_true}
+use Rattle.krb_carry.specs.Store.{new_session, applied, IsAfter}
+use Rattle.krb_carry.proofs.DeliveryLemmas.{shard_of, confirms, all_confirmed, all_true}
 use Rattle.krb_carry.proofs.ShardLemmas.{item_of}
 use Rattle.krb_carry.proofs.StoreLemmas.{after_none, after_more}
 

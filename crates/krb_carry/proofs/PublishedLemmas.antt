@@ -1,5 +1,5 @@
 -- What isn't carried is published again.
-use Rattle.std.proofs.Common.{◌≡◌, ◌⊎◌, ℕ, ◌+◌, ◌<◌, ◌≤◌, Bool, true, false, List, [], ◌∷◌, if◌then◌else◌, refl, inl, inr, arith}
+use Rattle.std.proofs.Common.{◌⊎◌, ℕ, ◌<◌, ◌≤◌, Bool, true, false, List, [], ◌∷◌, if◌then◌else◌, inl, inr, arith}
 use Rattle.std.proofs.lemmas.Bool.{cases_lt}
 use Rattle.krb_carry.specs.Laws.{NotCarriedIsPublishedAgain}
 use Rattle.krb_carry.specs.Progress.{counts, counted, Happening, Store, Publish, Rewind, Confirm, after, after_all, Publishes, IsPublished}

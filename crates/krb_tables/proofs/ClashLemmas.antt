@@ -1,5 +1,5 @@
 -- A transaction that takes effect, and what goes wrong where less is compared.
-use Rattle.std.proofs.Common.{◌≡◌, ◌⊎◌, ℕ, ◌+◌, false, true, List, [], ◌∷◌, slice_get, Some, None, refl, sym, ◌∙◌, inl, inr, arith}
+use Rattle.std.proofs.Common.{◌≡◌, ℕ, ◌+◌, true, List, [], ◌∷◌, slice_get, Some, None, refl, sym, ◌∙◌, inl, inr, arith}
 use Rattle.std.proofs.lemmas.Bool.{eq-eqb}
 use Rattle.krb_record.specs.declared.record.Record.TheVariants.{Text}
 use Rattle.krb_peers.specs.Session.{Sealed}

@@ -1,5 +1,5 @@
 -- What the laws state.
-use Rattle.std.specs.Prelude.{◌≡◌, ◌≢◌, ◌≤◌, ℕ, ◌+◌, true, List, [], ◌∷◌, Some, All}
+use Rattle.std.specs.Prelude.{◌≡◌, ◌≢◌, ◌≤◌, ℕ, ◌+◌, true, List, [], ◌∷◌, Some, None, All}
 use Rattle.krb_base.specs.Prefix.{IsPrefix}
 use Rattle.krb_record.specs.declared.record.Record.{Record}
 use Rattle.krb_record.specs.declared.record.Record.TheVariants.{Text}
