@@ -7,7 +7,7 @@ use Rattle.krb_seal.specs.Sealer.{SealerState}
 use Rattle.krb_peers.specs.Session.{Sealed}
 use Rattle.krb_carry.specs.Outbox.{Put, has_close_put, Kept, numbered, Outbox, new_outbox, MayLeave, Sealing, Act, Insert, Seal, IsAct, with_put, with_frames, Acts, LeadsOutbox}
 use Rattle.krb_carry.proofs.OutboxLemmas.{slice_get-append, one_frame}
-use Rattle.krb_tables.specs.Database.{Table, with_row, insert, upsert, executed, CommitAnswer, Ends}
+use Rattle.krb_tables.specs.Database.{Table, with_row, insert, executed, CommitAnswer, Ends}
 use Rattle.krb_tables.specs.OutboxTables.{TextRow, OutboxTables, empty_tables, insert_text, FrameRow, with_frame, add_frame, Run, without, without_all, drop_texts, Next, set_next, on_next, Carried, drop_frames, Sent, sending, waiting_of, next_in, Holds, nexts_of, Adds, Seals, SealsNone, Deed, Puts, Sends, statements_of, IsDeed, LeadsDeeds}
 use Rattle.krb_tables.proofs.DatabaseLemmas.{mapped, chained, guarded, at_key, at_other, changed_row, executed_parts, ended}
 
@@ -99,7 +99,7 @@ frames_dropped (it ∷ carried) old new is =
 -- ---- the next number
 
 abbrev next_writes : Next → Option ℕ → Option ℕ
-next_writes it row = upsert (it.from == it.first) (λ (next : ℕ). next == it.from) it.to row
+next_writes it row = (set_next it).writes row
 
 abbrev steps : List Next → Option ℕ → Option (Option ℕ)
 steps [] row = Some row
