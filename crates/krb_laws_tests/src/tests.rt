@@ -80,7 +80,8 @@ fn demand(sender: u8, number: u64) -> KrbDemand {
         skew: 300,
         sender: host(sender),
         receiver: NO_ADDRESS,
-        reserved: [0; 5],
+        needs_time_or_number: 0,
+        reserved: [0; 4],
     }
 }
 

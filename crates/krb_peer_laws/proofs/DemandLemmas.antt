@@ -1,5 +1,5 @@
 -- Demands that are met, field by field.
-use Rattle.std.proofs.Common.{◌≡◌, ◌≢◌, ◌≤◌, ◌*◌, ℕ, Bool, true, false, List, [], ◌∷◌, Option, Some, None, Result, Ok, Err, refl, sym, ap, ap₂, subst, ◌∙◌}
+use Rattle.std.proofs.Common.{◌≡◌, ◌≢◌, ◌⊎◌, ◌≤◌, ◌*◌, ℕ, inl, inr, arith, Bool, true, false, List, [], ◌∷◌, Option, Some, None, Result, Ok, Err, refl, sym, ap, ap₂, subst, ◌∙◌}
 use Rattle.std.specs.Prelude.{◌&&◌, ◌||◌, not, nat_eq, nat_le, is_some}
 use Rattle.std.specs.Int.{abs_diff}
 use Rattle.std.specs.Ordering.{int_eq}
@@ -18,7 +18,7 @@ use Rattle.krb_seal.proofs.Authentics.{sealed_is_authentic}
 use Rattle.krb_seal.proofs.Outcomes.{one_authenticity}
 use Rattle.krb_seal.proofs.SealedFrames.{met_all}
 use Rattle.krb_structs.specs.declared.demand.KrbDemand.{KrbDemand}
-use Rattle.krb_structs.specs.Demand.{AsDemanded, demand_checks, is_within, number_meets, receiver_meets, sender_meets, time_meets}
+use Rattle.krb_structs.specs.Demand.{AsDemanded, demand_checks, is_near, is_within, needs_meet, number_meets, receiver_meets, sender_meets, tells_number, tells_time, time_meets}
 use Rattle.krb_structs.specs.Session.{address_of}
 use Rattle.krb_peer_laws.specs.Demands.{MeetsFields, DemandsMean, OpensAtItsNumberAlone}
 
@@ -56,16 +56,31 @@ time_is d now b met no secs usec told exact =
     let its : is_within d now (Some secs) (Some usec) ≡ true = subst (λ t. is_within d now t (Some usec) ≡ true) told (subst (λ u. is_within d now b.time u ≡ true) exact within) in
     leb-le (abs_diff now (moment_of secs usec)) (micros_per_second * d.skew) its
 
-time_there : (d : KrbDemand) (now : ℕ) (t u : Option ℕ) → is_within d now t u ≡ true → d.how_time ≡ 2 → (is_some t ≡ true) × (is_some u ≡ true)
-time_there d now (Some secs) (Some usec) within two = (refl, refl)
-time_there d now None None within two =
-    let none : not (nat_eq 2 2) ≡ true = subst (λ n. not (nat_eq n 2) ≡ true) two within in
-    absurd (let e : false ≡ true = none in cc)
-time_there d now (Some secs) None within two = absurd (let e : false ≡ true = within in cc)
+time_second : (d : KrbDemand) (now : ℕ) (b : Body) → time_meets d now b ≡ true → d.how_time ≢ 0 → (secs : ℕ) → b.time ≡ Some secs → b.usec ≡ None
+    → (d.how_time ≡ 3) × (abs_diff now (moment_of secs 0) ≤ micros_per_second * d.skew)
+time_second d now b met no secs told absent =
+    let within : is_within d now b.time b.usec ≡ true = asked d.how_time (is_within d now b.time b.usec) met no in
+    let its : is_within d now (Some secs) None ≡ true = subst (λ t. is_within d now t None ≡ true) told (subst (λ u. is_within d now b.time u ≡ true) absent within) in
+    let both = and_parts (nat_eq d.how_time 3) (is_near d now (moment_of secs 0)) its in
+    (eqb-true d.how_time 3 both.0, leb-le (abs_diff now (moment_of secs 0)) (micros_per_second * d.skew) both.1)
+
+time_there : (d : KrbDemand) (now : ℕ) (t u : Option ℕ) → is_within d now t u ≡ true → 2 ≤ d.how_time → is_some t ≡ true
+time_there d now (Some secs) u within two = refl
+time_there d now None None within two = absurd (let few = leb-le d.how_time 1 within in omega (arith, few, two))
 time_there d now None (Some usec) within two = absurd (let e : false ≡ true = within in cc)
 
-not_ignored : (how : ℕ) → how ≡ 2 → how ≢ 0
-not_ignored how two zero_ = let e : 2 ≡ 0 = sym two ∙ zero_ in cc
+-- one of time and number is told, or the number counts as 0
+number_tells : (d : KrbDemand) (s : Option ℕ) → tells_number d s ≡ true → (is_some s ≡ true) ⊎ (d.how_number ≡ 3)
+number_tells d (Some n) tells = inl refl
+number_tells d None tells = inr (eqb-true d.how_number 3 tells)
+
+needed : (d : KrbDemand) (t u s : Option ℕ) → (tells_time d t u || tells_number d s) ≡ true → (is_some t ≡ true) ⊎ ((is_some s ≡ true) ⊎ (d.how_number ≡ 3))
+needed d (Some secs) u s tells = inl refl
+needed d None None s tells = inr (number_tells d s tells)
+needed d None (Some usec) s tells = inr (number_tells d s tells)
+
+not_ignored : (how : ℕ) → 2 ≤ how → how ≢ 0
+not_ignored how two none = omega (arith, two, none)
 
 number_is : (d : KrbDemand) (s : Option ℕ) → number_meets d s ≡ true → d.how_number ≢ 0 → (n : ℕ) → s ≡ Some n → n ≡ d.number
 number_is d None met no n is = absurd (let e : ◌≡◌ {A = Option ℕ} None (Some n) = is in cc)
@@ -95,17 +110,20 @@ fields_of d now a b as_demanded =
     let met = met_all (demand_checks d now a) (GivesBody a) b as_demanded in
     let addresses = and_parts (sender_meets d a.s_addr) (receiver_meets d a.r_addr) met.0.1.0 in
     let time : time_meets d now a ≡ true = met.0.1.1.0 in
-    let number : number_meets d a.seq ≡ true = met.0.1.1.1.0 in (
+    let number : number_meets d a.seq ≡ true = met.0.1.1.1.0 in
+    let needs : needs_meet d a ≡ true = met.0.1.1.1.1.0 in (
       same_body b a met.1,
       record {
         sender = λ no. host_is a.s_addr (address_of d.sender) (asked d.how_sender (same_address a.s_addr (address_of d.sender)) addresses.0 no);
         receiver = receiver_is d a.r_addr addresses.1;
         receiver_told = receiver_there d a.r_addr addresses.1;
         time = time_is d now a time;
+        time_of_second = time_second d now a time;
         time_told = λ two. time_there d now a.time a.usec (asked d.how_time (is_within d now a.time a.usec) time (not_ignored d.how_time two)) two;
         number = number_is d a.seq number;
         number_told = number_there d a.seq number;
         absent_is_0 = absent d a.seq number;
+        needs = λ no. needed d a.time a.usec a.seq (asked d.needs_time_or_number (tells_time d a.time a.usec || tells_number d a.seq) needs no);
       },
     )
 

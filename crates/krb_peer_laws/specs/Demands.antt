@@ -1,5 +1,5 @@
 -- What demands mean, on the fields of a message.
-use Rattle.std.specs.Prelude.{◌≡◌, ◌≢◌, ◌*◌, ◌≤◌, ℕ, ℤ, true, is_some, List, Some, None, Ok}
+use Rattle.std.specs.Prelude.{◌≡◌, ◌≢◌, ◌⊎◌, ◌*◌, ◌≤◌, ℕ, ℤ, true, is_some, List, Some, None, Ok}
 use Rattle.std.specs.Int.{abs_diff}
 use Rattle.krb_der.specs.declared.address.HostAddress.{HostAddress}
 use Rattle.krb_der.specs.declared.body.Body.{Body}
@@ -14,8 +14,8 @@ use Rattle.krb_structs.specs.Demand.{OpensWith}
 use Rattle.krb_structs.specs.Session.{address_of}
 
 -- What is demanded of the fields (RFC 4120 sections 3.4.2 and 3.5.2): 0 ignores a field, whatever it is;
--- where one isn't ignored, what a message tells has to be this; 2 asks that it is told; and of the
--- number, 3 takes none for 0.
+-- where one isn't ignored, what a message tells has to be this; 2 asks that it is told; and 3 takes an
+-- absent number for 0, and absent microseconds (section 5.1.2). One of time and number can be asked for.
 pub record MeetsFields (d : KrbDemand) (now : ℕ) (b : Body) : Type 0 where
   pub sender : d.how_sender ≢ 0 → b.s_addr ≡ address_of d.sender
   pub receiver : d.how_receiver ≢ 0 → (a : HostAddress) → b.r_addr ≡ Some a
@@ -23,10 +23,14 @@ pub record MeetsFields (d : KrbDemand) (now : ℕ) (b : Body) : Type 0 where
   pub receiver_told : d.how_receiver ≡ 2 → is_some b.r_addr ≡ true
   pub time : d.how_time ≢ 0 → (secs usec : ℕ) → b.time ≡ Some secs → b.usec ≡ Some usec
       → abs_diff now (moment_of secs usec) ≤ micros_per_second * d.skew
-  pub time_told : d.how_time ≡ 2 → (is_some b.time ≡ true) × (is_some b.usec ≡ true)
+  pub time_of_second : d.how_time ≢ 0 → (secs : ℕ) → b.time ≡ Some secs → b.usec ≡ None
+      → (d.how_time ≡ 3) × (abs_diff now (moment_of secs 0) ≤ micros_per_second * d.skew)
+  pub time_told : 2 ≤ d.how_time → is_some b.time ≡ true
   pub number : d.how_number ≢ 0 → (n : ℕ) → b.seq ≡ Some n → n ≡ d.number
   pub number_told : d.how_number ≡ 2 → is_some b.seq ≡ true
   pub absent_is_0 : d.how_number ≡ 3 → b.seq ≡ None → d.number ≡ 0
+  pub needs : d.needs_time_or_number ≢ 0
+      → (is_some b.time ≡ true) ⊎ ((is_some b.seq ≡ true) ⊎ (d.how_number ≡ 3))
 
 -- a frame that opens with demands is authentic, and its fields are what is demanded
 abbrev pub DemandsMean : Type 0
