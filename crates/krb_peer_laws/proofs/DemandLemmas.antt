@@ -4,7 +4,7 @@ use Rattle.std.specs.Prelude.{◌&&◌, ◌||◌, not, nat_eq, nat_le, is_some}
 use Rattle.std.specs.Int.{abs_diff}
 use Rattle.std.specs.Ordering.{int_eq}
 use Rattle.std.specs.Str.{bytes_eq}
-use Rattle.std.proofs.lemmas.Bool.{and_parts, eqb-true, leb-le}
+use Rattle.std.proofs.lemmas.Bool.{and_parts, eqb-true, leb-true}
 use Rattle.std.proofs.lemmas.Bool.Decides.{Decides-int_eq}
 use Rattle.std.proofs.lemmas.Slice.Eq.{bytes_eq-Decides}
 use Rattle.krb_der.specs.declared.address.HostAddress.{HostAddress}
@@ -26,10 +26,10 @@ use Rattle.krb_peer_laws.specs.Demands.{MeetsFields, DemandsMean, OpensAtItsNumb
 
 -- what isn't ignored is compared
 asked : (how : ℕ) (test : Bool) → (nat_eq how 0 || test) ≡ true → how ≢ 0 → test ≡ true
-asked how test met no = by_test (nat_eq how 0) refl met
+asked how test met asks = by_test (nat_eq how 0) refl met
   where
     by_test : (b : Bool) → nat_eq how 0 ≡ b → (b || test) ≡ true → test ≡ true
-    by_test true is met = absurd (no (eqb-true how 0 is))
+    by_test true is met = absurd (asks (eqb-true how 0 is))
     by_test false is met = met
 
 host_is : (a b : HostAddress) → same_address a b ≡ true → a ≡ b
@@ -38,10 +38,10 @@ host_is a b same =
     ap₂ (λ k l. let host : HostAddress = record { kind = k; bytes = l } in host) ((Decides-int_eq a.kind b.kind).0 both.0) ((bytes_eq-Decides a.bytes b.bytes).0 both.1)
 
 receiver_is : (d : KrbDemand) (r : Option HostAddress) → receiver_meets d r ≡ true → d.how_receiver ≢ 0 → (a : HostAddress) → r ≡ Some a → a ≡ address_of d.receiver
-receiver_is d None met no a is = absurd (let e : ◌≡◌ {A = Option HostAddress} None (Some a) = is in cc)
-receiver_is d (Some x) met no a is =
+receiver_is d None met asks a is = absurd (let e : ◌≡◌ {A = Option HostAddress} None (Some a) = is in cc)
+receiver_is d (Some x) met asks a is =
     let same : x ≡ a = (let e : Some x ≡ Some a = is in cc) in
-    sym same ∙ host_is x (address_of d.receiver) (asked d.how_receiver (same_address x (address_of d.receiver)) met no)
+    sym same ∙ host_is x (address_of d.receiver) (asked d.how_receiver (same_address x (address_of d.receiver)) met asks)
 
 receiver_there : (d : KrbDemand) (r : Option HostAddress) → receiver_meets d r ≡ true → d.how_receiver ≡ 2 → is_some r ≡ true
 receiver_there d None met two =
@@ -51,22 +51,22 @@ receiver_there d (Some x) met two = refl
 
 time_is : (d : KrbDemand) (now : ℕ) (b : Body) → time_meets d now b ≡ true → d.how_time ≢ 0 → (secs usec : ℕ) → b.time ≡ Some secs → b.usec ≡ Some usec
     → abs_diff now (moment_of secs usec) ≤ micros_per_second * d.skew
-time_is d now b met no secs usec told exact =
-    let within : is_within d now b.time b.usec ≡ true = asked d.how_time (is_within d now b.time b.usec) met no in
+time_is d now b met asks secs usec told exact =
+    let within : is_within d now b.time b.usec ≡ true = asked d.how_time (is_within d now b.time b.usec) met asks in
     let its : is_within d now (Some secs) (Some usec) ≡ true = subst (λ t. is_within d now t (Some usec) ≡ true) told (subst (λ u. is_within d now b.time u ≡ true) exact within) in
-    leb-le (abs_diff now (moment_of secs usec)) (micros_per_second * d.skew) its
+    leb-true (abs_diff now (moment_of secs usec)) (micros_per_second * d.skew) its
 
 time_second : (d : KrbDemand) (now : ℕ) (b : Body) → time_meets d now b ≡ true → d.how_time ≢ 0 → (secs : ℕ) → b.time ≡ Some secs → b.usec ≡ None
     → (d.how_time ≡ 3) × (abs_diff now (moment_of secs 0) ≤ micros_per_second * d.skew)
-time_second d now b met no secs told absent =
-    let within : is_within d now b.time b.usec ≡ true = asked d.how_time (is_within d now b.time b.usec) met no in
+time_second d now b met asks secs told absent =
+    let within : is_within d now b.time b.usec ≡ true = asked d.how_time (is_within d now b.time b.usec) met asks in
     let its : is_within d now (Some secs) None ≡ true = subst (λ t. is_within d now t None ≡ true) told (subst (λ u. is_within d now b.time u ≡ true) absent within) in
     let both = and_parts (nat_eq d.how_time 3) (is_near d now (moment_of secs 0)) its in
-    (eqb-true d.how_time 3 both.0, leb-le (abs_diff now (moment_of secs 0)) (micros_per_second * d.skew) both.1)
+    (eqb-true d.how_time 3 both.0, leb-true (abs_diff now (moment_of secs 0)) (micros_per_second * d.skew) both.1)
 
 time_there : (d : KrbDemand) (now : ℕ) (t u : Option ℕ) → is_within d now t u ≡ true → 2 ≤ d.how_time → is_some t ≡ true
 time_there d now (Some secs) u within two = refl
-time_there d now None None within two = absurd (let few = leb-le d.how_time 1 within in omega (arith, few, two))
+time_there d now None None within two = absurd (let few = leb-true d.how_time 1 within in omega (arith, few, two))
 time_there d now None (Some usec) within two = absurd (let e : false ≡ true = within in cc)
 
 -- one of time and number is told, or the number counts as 0
@@ -83,10 +83,10 @@ not_ignored : (how : ℕ) → 2 ≤ how → how ≢ 0
 not_ignored how two none = omega (arith, two, none)
 
 number_is : (d : KrbDemand) (s : Option ℕ) → number_meets d s ≡ true → d.how_number ≢ 0 → (n : ℕ) → s ≡ Some n → n ≡ d.number
-number_is d None met no n is = absurd (let e : ◌≡◌ {A = Option ℕ} None (Some n) = is in cc)
-number_is d (Some m) met no n is =
+number_is d None met asks n is = absurd (let e : ◌≡◌ {A = Option ℕ} None (Some n) = is in cc)
+number_is d (Some m) met asks n is =
     let same : m ≡ n = (let e : Some m ≡ Some n = is in cc) in
-    sym same ∙ eqb-true m d.number (asked d.how_number (nat_eq m d.number) met no)
+    sym same ∙ eqb-true m d.number (asked d.how_number (nat_eq m d.number) met asks)
 
 number_there : (d : KrbDemand) (s : Option ℕ) → number_meets d s ≡ true → d.how_number ≡ 2 → is_some s ≡ true
 number_there d None met two =
@@ -114,7 +114,7 @@ fields_of d now a b as_demanded =
     let needs : needs_meet d a ≡ true = met.0.1.1.1.1.0 in (
       same_body b a met.1,
       record {
-        sender = λ no. host_is a.s_addr (address_of d.sender) (asked d.how_sender (same_address a.s_addr (address_of d.sender)) addresses.0 no);
+        sender = λ asks. host_is a.s_addr (address_of d.sender) (asked d.how_sender (same_address a.s_addr (address_of d.sender)) addresses.0 asks);
         receiver = receiver_is d a.r_addr addresses.1;
         receiver_told = receiver_there d a.r_addr addresses.1;
         time = time_is d now a time;
@@ -123,7 +123,7 @@ fields_of d now a b as_demanded =
         number = number_is d a.seq number;
         number_told = number_there d a.seq number;
         absent_is_0 = absent d a.seq number;
-        needs = λ no. needed d a.time a.usec a.seq (asked d.needs_time_or_number (tells_time d a.time a.usec || tells_number d a.seq) needs no);
+        needs = λ asks. needed d a.time a.usec a.seq (asked d.needs_time_or_number (tells_time d a.time a.usec || tells_number d a.seq) needs asks);
       },
     )
 

@@ -118,7 +118,7 @@ taker sealer =
     record { opener = opener_of sealer.etype sealer.key x; demand = first_demand sealer.next }
 
 pub can_be_taken : RecordsCanBeTaken
-unfolding taker
+unfolding taker are_sealed
 can_be_taken etype sealer rs at conf known hosts fits last bytes room moment long drawn =
     let all = are_sealed etype sealer rs at conf known hosts fits bytes room moment long drawn in
     let receiver = taker sealer in (

@@ -1,5 +1,6 @@
 //! The beginnings of the text of RFC 3962, appendix B, of 16 to 64 bytes, enciphered under its key:
-//! OpenSSL's CBC of the padded text, with its last two blocks swapped and cut.
+//! OpenSSL's CBC of the padded text, with its last two blocks swapped and cut. Those of 17, 31, 32, 47, 48 and
+//! 64 bytes are the vectors of that appendix.
 
 pub static STOLEN: [&[u8]; 49] = [
     &[
