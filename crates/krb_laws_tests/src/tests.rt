@@ -131,6 +131,14 @@ fn address(alloc: Global, last: u8) -> Result<HostAddress, AllocError>
     })
 }
 
+/// That second and its 5 microseconds.
+fn moment() -> Result<Moment, Fail> {
+    match Moment::from_micros(MICROS) {
+        Some(at) => Ok(at),
+        None => Err(Fail::new(MICROS)),
+    }
+}
+
 /// A receiver of the records of 10.0.0.1, which demands the number 7.
 fn receiver(alloc: Global) -> Result<Receiver, AllocError> {
     let expect = Expect {
@@ -203,10 +211,10 @@ fn a_receiver_takes_the_frame_of_another(rt: HostRuntime) -> Result<(), Fail> {
     calls_in_c_laws();
     sealed_records_laws();
     let alloc = rt.alloc();
-    let at = Moment::from_micros(MICROS).ok_or(Fail::new(1))?;
+    let at = moment()?;
     let mut one = receiver(alloc)?;
     let taken = take_frame(&mut one, alloc, &SAFE_17, at);
-    assert!(rt; matches!(&taken, Ok(Delivery::Text(text)) if text.as_slice() == b"hi"));
+    assert!(rt; matches!(&taken, Ok(Delivery::Text(text)) if text.as_slice() == b"hi".as_slice()));
     let again = take_frame(&mut one, alloc, &SAFE_17, at);
     assert!(rt; matches!(&again, Err(Refusal::BadOrder)));
     assert_eq!(rt; one.expected(), 8);
@@ -219,7 +227,7 @@ fn all_frames_are_taken(rt: HostRuntime) -> Result<(), Fail> {
     outbox_tables_laws();
     rows_laws();
     let alloc = rt.alloc();
-    let at = Moment::from_micros(MICROS).ok_or(Fail::new(1))?;
+    let at = moment()?;
     let mut one = receiver(alloc)?;
     let junk = Vec::from_slice(alloc, &[0])?;
     let frame = Vec::from_slice(alloc, &SAFE_17)?;
