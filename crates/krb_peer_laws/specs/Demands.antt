@@ -14,8 +14,8 @@ use Rattle.krb_structs.specs.Demand.{OpensWith}
 use Rattle.krb_structs.specs.Session.{address_of}
 
 -- What is demanded of the fields (RFC 4120 sections 3.4.2 and 3.5.2): 0 ignores a field, whatever it is;
--- where one isn't ignored, what a message tells has to be this; 2 asks that it is told; and 3 takes an
--- absent number for 0, and absent microseconds (section 5.1.2). One of time and number can be asked for.
+-- where one isn't ignored, what a message tells has to be this; 2 asks the message to tell it; and 3 takes
+-- an absent number for 0, and absent microseconds (section 5.1.2). One of time and number can be asked for.
 pub record MeetsFields (d : KrbDemand) (now : ℕ) (b : Body) : Type 0 where
   pub sender : d.how_sender ≢ 0 → b.s_addr ≡ address_of d.sender
   pub receiver : d.how_receiver ≢ 0 → (a : HostAddress) → b.r_addr ≡ Some a

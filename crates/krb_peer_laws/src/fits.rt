@@ -31,8 +31,8 @@ pub fn take_frame(
     receiver.take(alloc, frame, now)
 }
 
-/// Seals user data. It answers 0 if and only if no condition of `SealAnswer` holds and memory is there, and
-/// else the number of the first that does.
+/// Seals user data. It answers 0 if and only if no condition of `SealAnswer` holds and memory was available,
+/// and else the number of the first that does.
 pub fn seal_peer(
     peer: &mut Peer,
     alloc: Global,
@@ -54,8 +54,8 @@ pub fn seal_peer(
     peer.seal(alloc, user, at, confounder, out)
 }
 
-/// Opens a frame. It answers 0 if and only if no condition of `DemandAnswer` holds and memory is there, and
-/// else the number of the first that does.
+/// Opens a frame. It answers 0 if and only if no condition of `DemandAnswer` holds and memory was available,
+/// and else the number of the first that does.
 pub fn open_peer(
     peer: &mut Peer,
     alloc: Global,
@@ -78,7 +78,7 @@ pub fn open_peer(
 }
 
 /// Goes on from the export of a peer. It answers 0 if and only if no condition of `ResumeAnswer` holds and
-/// memory is there, and else the number of the first that does.
+/// memory was available, and else the number of the first that does.
 pub fn resume_peer(
     peer: &Peer,
     alloc: Global,
