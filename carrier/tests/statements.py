@@ -26,7 +26,35 @@ TRIGGER = r"CREATE TRIGGER IF NOT EXISTS {} (?:BEFORE|AFTER) INSERT ON text\s+WH
 LOOKS = ("move(s, statement)", "sqlite3_changes(o->db) == 1")
 MOVE_LOOKS = "s->is_fenced |= sqlite3_changes(s->db) != 1;"
 
-Row = dict[str, typing.Any]     # a table of the file, whose keys its head explains
+
+class Text(typing.TypedDict, total=False):
+    """Where a text stands."""
+    file: str
+    name: str
+    called: dict[str, str]
+
+
+class Model(typing.TypedDict, total=False):
+    """What stands of a statement in the definitions of krb_tables."""
+    file: str
+    compares: str
+    row: str
+    sets: str
+    says: str
+
+
+class Row(typing.TypedDict, total=False):
+    """A statement, as the head of statements.toml explains it."""
+    model: Model
+    texts: list[Text]
+    values: list[str]
+    does: str
+    key: list[str]
+    begins: list[str]
+    compares: list[str]
+    sets: list[str]
+    beside: list[str]
+    is_counted: bool
 
 
 @dataclasses.dataclass(frozen=True)
@@ -40,13 +68,22 @@ class Statement:
     where: frozenset[str] = frozenset()
 
 
-def rows() -> dict[str, Row]:
+def rows() -> dict[str, typing.Any]:
     with open(TABLE, "rb") as file:
         return tomllib.load(file)
 
 
 def statements() -> dict[str, Row]:
     return {name: row for name, row in rows().items() if name not in NO_STATEMENTS}
+
+
+def triggers() -> dict[str, dict[str, str]]:
+    return rows()["triggers"]
+
+
+def outside() -> list[str]:
+    """The tables that the model doesn't have."""
+    return rows()["outside"]["tables"]
 
 
 def source_of(folder: str, file: str) -> str:
@@ -148,24 +185,26 @@ def read(tokens: list[str], columns: list[str]) -> Statement:
     """What they say; the columns are those of the table, in their order."""
     parts = parts_of(tokens)
     verb, named = parts[0]
-    said: dict[str, typing.Any] = {"does": " ".join([verb, *[it for it in named if it in ("INTO", "FROM")],
-                                                     next(it for it in named if it not in ("INTO", "FROM"))])}
+    words = [it for it in named if it in ("INTO", "FROM")]
+    said = Statement(" ".join([verb, *words, next(it for it in named if it not in words)]))
     if "(" in named:
         columns = [it for it in named[named.index("("):] if it not in "(),"]
     is_new = verb == "INSERT"
     for word, it in parts[1:]:
         if word in ("VALUES", "SELECT"):
-            said["inserts"] = pairs(columns, it)
+            said = dataclasses.replace(said, inserts=pairs(columns, it))
         elif word == "ON":
-            said["conflict"] = " ".join(["ON", *it])
+            said = dataclasses.replace(said, conflict=" ".join(["ON", *it]))
             is_new = False
         elif word == "DO" and it:
-            said["conflict"] += " DO NOTHING"
+            said = dataclasses.replace(said, conflict=f"{said.conflict} DO NOTHING")
         elif word == "SET":
-            said["sets"] = frozenset(" ".join(one) for one in split(it, {","}))
+            said = dataclasses.replace(said, sets=frozenset(" ".join(one) for one in split(it, {","})))
+        elif word == "WHERE" and is_new:
+            said = dataclasses.replace(said, begins=alternatives(it))
         elif word == "WHERE":
-            said["begins" if is_new else "where"] = alternatives(it) if is_new else comparisons(it)
-    return Statement(**said)
+            said = dataclasses.replace(said, where=comparisons(it))
+    return said
 
 
 def columns_of(folder: str, file: str, table: str) -> tuple[list[str], list[str]]:
@@ -201,7 +240,7 @@ def without(given: frozenset[str], columns: list[str]) -> frozenset[str]:
     return frozenset(it for it in given if it.split()[0] not in columns)
 
 
-def said_by(folder: str, row: Row, text: Row) -> Statement:
+def said_by(folder: str, row: Row, text: Text) -> Statement:
     """What a text says, of the columns that the model has."""
     source = source_of(folder, text["file"])
     tokens = placed(sql_of(text_of(source, text["name"])[0]), row["values"], text.get("called", {}))
@@ -212,12 +251,12 @@ def said_by(folder: str, row: Row, text: Row) -> Statement:
                                conflict=conflict)
 
 
-def made(folder: str, row: Row, text: Row) -> tuple[list[str], list[str]]:
+def made(folder: str, row: Row, text: Text) -> tuple[list[str], list[str]]:
     """The columns of the table that a text is about, and those of its key."""
     return columns_of(folder, text["file"], row["does"].split()[-1])
 
 
-def faults(folder: str, name: str, row: Row, text: Row) -> list[str]:
+def faults(folder: str, name: str, row: Row, text: Text) -> list[str]:
     """What a text says otherwise than its statement, or leaves out."""
     said, to_say = said_by(folder, row, text), wanted(row)
     where = f"{text['file']} {text['name']}"
@@ -263,9 +302,9 @@ def unknown(folder: str) -> list[str]:
     """Texts that change a table of the model, and are none of its statements."""
     known = {(text["file"], text_of(source_of(folder, text["file"]), text["name"]).start())
              for row in statements().values() for text in row["texts"]}
-    outside = rows()["outside"]["tables"]
+    others = outside()
     return [f"{file}: a text that changes {table}" for file, at, table in writes_in(folder)
-            if table not in outside and (file, at) not in known]
+            if table not in others and (file, at) not in known]
 
 
 def trigger(folder: str, name: str) -> tuple[str, str]:
@@ -289,7 +328,7 @@ def definition(specs: str, file: str, name: str) -> str:
     return " ".join(found[0].split())
 
 
-def model_columns(specs: str, model: Row) -> frozenset[str]:
+def model_columns(specs: str, model: Model) -> frozenset[str]:
     """What the model's definition compares, each column with its sign."""
     if "compares" not in model:
         return frozenset()
@@ -308,7 +347,7 @@ def is_column(word: str, other: str) -> bool:
     return word.startswith("row.") or "." not in word and not other.startswith("row.")
 
 
-def model_sets(specs: str, model: Row) -> frozenset[str]:
+def model_sets(specs: str, model: Model) -> frozenset[str]:
     """The columns that the model's definition gives values."""
     if "row" in model:
         text = definition(specs, model["file"], model["row"])

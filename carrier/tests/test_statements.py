@@ -14,13 +14,13 @@ import statements
 ROWS = statements.statements()
 TEXTS = [(name, row, text) for name, row in ROWS.items() for text in row["texts"]]
 MODELS = [name for name, row in ROWS.items() if "model" in row]
-TRIGGERS = statements.rows()["triggers"]
+TRIGGERS = statements.triggers()
 # What a copy of a source has in the place of what looks at a count.
 NO_LOOKS = [("move(s, statement)", "step_once(statement)"), (statements.MOVE_LOOKS, ""),
             (" && sqlite3_changes(o->db) == 1", ""), ("ONE_ROW)", "ANY_ROWS)")]
 
 
-def named(text: statements.Row) -> str:
+def named(text: statements.Text) -> str:
     return f"{text['file']} {text['name']}"
 
 
@@ -60,7 +60,7 @@ def lost(tokens: list[str]) -> typing.Iterator[tuple[str, list[str]]]:
             yield " ".join(tokens[at:to]), tokens[:left] + tokens[right:]
 
 
-def planted(folder: str, text: statements.Row, sql: str) -> None:
+def planted(folder: str, text: statements.Text, sql: str) -> None:
     """A copy of a source in a folder, in which a text is another one."""
     source = statements.source_of(statements.SOURCES, text["file"])
     stands = statements.text_of(source, text["name"])
@@ -68,7 +68,7 @@ def planted(folder: str, text: statements.Row, sql: str) -> None:
         file.write(f'{source[:stands.start()]}"{sql}"{source[stands.end():]}')
 
 
-def tokens_of(text: statements.Row) -> list[str]:
+def tokens_of(text: statements.Text) -> list[str]:
     source = statements.source_of(statements.SOURCES, text["file"])
     return statements.TOKEN.findall(statements.sql_of(statements.text_of(source, text["name"])[0]))
 
