@@ -61,7 +61,8 @@ static const char *const sql[OUTBOX_STATEMENTS] = {
     [ADD_SEALED] = "INSERT INTO sealed VALUES (?, ?, ?, ?)",
     [DROP_SEALED] = "DELETE FROM sealed WHERE session = ? AND number < ?",
     [SET_NEXT] = ("INSERT INTO session (name, next, carried, at, shard, done)"
-                  " VALUES (?2, ?1, ?5, 0, ?4, ?5)"
+                  " SELECT ?2, ?1, ?5, 0, ?4, ?5"
+                  " WHERE ?3 = ?6 OR EXISTS (SELECT 1 FROM session WHERE name = ?2)"
                   " ON CONFLICT (name) DO UPDATE SET next = ?1 WHERE next = ?3"),
     [SET_CARRIED] = ("UPDATE session SET carried = ?1, at = ?2, incarnation = ?3, shard = ?4,"
                      " done = ?6, history = ?7 WHERE name = ?5"),
@@ -317,6 +318,7 @@ int outbox_set_next(struct outbox *o, const struct session *session, uint64_t fr
     bind_number(set, 3, (sqlite3_int64)from);
     bind_number(set, 4, session->shard);
     bind_number(set, 5, session->first - session->has_opening);
+    bind_number(set, 6, session->first);
     return step_once(set) == 0 && sqlite3_changes(o->db) == 1 ? 0 : -1;
 }
 

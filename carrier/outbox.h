@@ -108,7 +108,8 @@ int outbox_add_frame(struct outbox *outbox, const char *session, uint64_t number
 int outbox_add_sealed(struct outbox *outbox, sqlite3_int64 text, const char *session,
                       uint64_t number, unsigned part);
 
-/* Moves a session's next number, by compare-and-set. */
+/* Moves a session's next number, by compare-and-set: one that has no row stands at its first
+ * number. */
 int outbox_set_next(struct outbox *outbox, const struct session *session, uint64_t from,
                     uint64_t to);
 

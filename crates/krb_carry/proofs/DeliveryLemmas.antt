@@ -163,7 +163,7 @@ confirms first k [] = []
 confirms first k (it ∷ sealed) = Confirm (first + k) (k + 1) ∷ confirms first (k + 1) sealed
 
 -- this far
-record IsAt (first k : ℕ) (p : ProgressState) : Type 0 where
+pub record IsAt (first k : ℕ) (p : ProgressState) : Type 0 where
   pub carried : p.carried ≡ first + k
   pub at : p.at ≡ k
 
@@ -174,7 +174,7 @@ one_confirmed first k p is lt =
     let later : nat_lt p.at (k + 1) ≡ true = lt-ltb p.at (k + 1) (omega (arith, is.at)) in
     rw (number, stored, later) refl
 
-all_confirmed : (first k : ℕ) (sealed : List Sealed) (p : ProgressState) → IsAt first k p → first + k + length sealed ≤ p.next → IsAt first (k + length sealed) (after_all p (confirms first k sealed))
+pub all_confirmed : (first k : ℕ) (sealed : List Sealed) (p : ProgressState) → IsAt first k p → first + k + length sealed ≤ p.next → IsAt first (k + length sealed) (after_all p (confirms first k sealed))
 all_confirmed first k [] p is le = record { carried = omega (arith, is.carried); at = omega (arith, is.at) }
 all_confirmed first k (it ∷ sealed) p is le =
     let q = counted p (k + 1) in
@@ -185,14 +185,14 @@ all_confirmed first k (it ∷ sealed) p is le =
     subst (λ s. IsAt first (k + suc (length sealed)) (after_all s (confirms first (k + 1) sealed))) (sym step) (subst (λ m. IsAt first m (after_all q (confirms first (k + 1) sealed))) n rest)
 
 -- each of these confirmations is true
-stands_at : (sealer : SealerState) (records : List Record) (sealed : List Sealed) → AreSealed sealer records sealed → (k : ℕ) (it : Sealed) → slice_get sealed k ≡ Some it → StandsAt sealer records 0 (shard_of sealed) k k
+pub stands_at : (sealer : SealerState) (records : List Record) (sealed : List Sealed) → AreSealed sealer records sealed → (k : ℕ) (it : Sealed) → slice_get sealed k ≡ Some it → StandsAt sealer records 0 (shard_of sealed) k k
 stands_at sealer records sealed are k it at = record {
   it = it;
   sealed = are.each k it at;
   there = slice_get-map (λ (s : Sealed). item_of 0 s.frame) sealed k ∙ ap (λ o. option_map (λ (s : Sealed). item_of 0 s.frame) o) at;
 }
 
-all_true : (sealer : SealerState) (records : List Record) (sealed : List Sealed) → AreSealed sealer records sealed → (k : ℕ) (rest : List Sealed) → ((i : ℕ) (it : Sealed) → slice_get rest i ≡ Some it → slice_get sealed (k + i) ≡ Some it)
+pub all_true : (sealer : SealerState) (records : List Record) (sealed : List Sealed) → AreSealed sealer records sealed → (k : ℕ) (rest : List Sealed) → ((i : ℕ) (it : Sealed) → slice_get rest i ≡ Some it → slice_get sealed (k + i) ≡ Some it)
     → All (IsTruthful sealer records 0 (shard_of sealed)) (confirms sealer.next k rest)
 all_true sealer records sealed are k [] there = All-nil (IsTruthful sealer records 0 (shard_of sealed))
 all_true sealer records sealed are k (it ∷ rest) there =

@@ -218,6 +218,10 @@ less_leads seen old (reading ∷ readings) new earlier leads =
     let between = leads.0 in
     (between, less_commits seen old reading between earlier leads.1 leads.2, less_leads (old ∷ seen) between readings new (still_earlier seen old reading between earlier leads.2) leads.3)
 
+pub less_from : (start : StoredShard) (readings : List Reading) (stored : StoredShard) → LeadsLess [] start readings stored → LeadsReading start readings stored
+less_from start readings stored leads =
+    less_leads [] start readings stored (All-cons (IsEarlier start) start [] (inl refl) (All-nil (IsEarlier start))) leads
+
 pub less_is_enough : (sealer : SealerState) (readings : List Reading) (stored : StoredShard) → LeadsLess [] (new_shard sealer) readings stored → LeadsReading (new_shard sealer) readings stored
 less_is_enough sealer readings stored leads =
-    less_leads [] (new_shard sealer) readings stored (All-cons (IsEarlier (new_shard sealer)) (new_shard sealer) [] (inl refl) (All-nil (IsEarlier (new_shard sealer)))) leads
+    less_from (new_shard sealer) readings stored leads

@@ -1,5 +1,5 @@
 -- What the laws state.
-use Rattle.std.specs.Prelude.{◌≡◌, ◌≢◌, ℕ, ◌+◌, ◌≤◌, true, List, [], ◌∷◌, ◌++◌, length, map}
+use Rattle.std.specs.Prelude.{◌≡◌, ◌≢◌, ℕ, ◌+◌, ◌<◌, ◌≤◌, true, false, is_ok, List, [], ◌∷◌, ◌++◌, length, map}
 use Rattle.std.specs.Prelude.{All}
 use Rattle.krb_base.specs.Prefix.{IsPrefix}
 use Rattle.krb_record.specs.declared.record.Record.{Record}
@@ -12,8 +12,11 @@ use Rattle.krb_peers.specs.Verdicts.{delivered}
 use Rattle.krb_carry.specs.Outbox.{texts_put, has_close_put, numbered, Outbox, new_outbox}
 use Rattle.krb_carry.specs.Outbox.{records_in, sealed_in, stored_records}
 use Rattle.krb_carry.specs.Outbox.{MayLeave, Sealing, Act, IsAct, with_frames, LeadsOutbox}
-use Rattle.krb_carry.specs.Place.{PlacedShard, unread, Step, LeadsPlaced}
-use Rattle.krb_carry.specs.Progress.{Happening, new_progress, resumed, after_all, IsTruthful}
+use Rattle.krb_carry.specs.declared.place.Missed.TheVariants as misses
+use Rattle.krb_carry.specs.declared.place.Place.{Place}
+use Rattle.krb_carry.specs.declared.place.Taken.{Taken}
+use Rattle.krb_carry.specs.Place.{moved, Taking, PlacedShard, unread, Step, Take, Again, Steps, LeadsPlaced}
+use Rattle.krb_carry.specs.Progress.{Happening, Rewind, new_progress, resumed, after, after_all, IsTruthful, IsPublished}
 use Rattle.krb_carry.specs.Progress.{IsCounted, StandInTurn}
 use Rattle.krb_carry.specs.ProgressState.{ProgressState}
 use Rattle.krb_carry.specs.Reading.{Reading, StoredShard, new_shard, IsReading, LeadsReading}
@@ -102,6 +105,15 @@ abbrev pub CountedStandInside : Type 0
 CountedStandInside =
     OfProgress (λ sealer records session shard done progress. progress.at ≤ length shard)
 
+-- From a rewind on, whatever else happens, each frame that doesn't count as carried is published again
+-- before it counts as published: where all that are stored do, all that aren't carried.
+abbrev pub NotCarriedIsPublishedAgain : Type 0
+NotCarriedIsPublishedAgain =
+    (progress : ProgressState) (happenings : List Happening) (number : ℕ)
+    → let begun = after progress Rewind in
+    let now = after_all begun happenings in
+    now.carried ≤ number → number < now.sent → IsPublished begun happenings number
+
 -- ---- receivers that read a shard on from the stored offset
 
 -- It holds of what any history of readings leaves, if the stored offset is past the last frame that
@@ -136,6 +148,12 @@ abbrev pub ComparingLessIsEnough : Type 0
 ComparingLessIsEnough =
     (sealer : SealerState) (readings : List Reading) (stored : StoredShard)
     → LeadsLess [] (new_shard sealer) readings stored → LeadsReading (new_shard sealer) readings stored
+
+-- from whatever was stored before
+abbrev pub ComparingLessIsEnoughFromAny : Type 0
+ComparingLessIsEnoughFromAny =
+    (start : StoredShard) (readings : List Reading) (stored : StoredShard)
+    → LeadsLess [] start readings stored → LeadsReading start readings stored
 
 -- a history of readings is one of attempts: what holds of these holds of it
 abbrev pub ReadingsAreAttempts : Type 0
@@ -177,6 +195,13 @@ NothingIsPassedBy = OfPlaces (λ sealer records session shard done progress turn
     (k : ℕ) → IsCounted sealer done progress k → placed.session.demand.expected ≤ sealer.next + k
     → placed.place.at ≤ turn.place k)
 
+-- Unless something isn't settled, each frame that counts as carried and stands before the offset was
+-- accepted: what a receiver rests on that doesn't read the shard again.
+abbrev pub NothingIsMissed : Type 0
+NothingIsMissed = OfPlaces (λ sealer records session shard done progress turn placed.
+    (k : ℕ) → IsCounted sealer done progress k → placed.place.missed ≢ misses.Unsettled
+    → turn.place k < placed.offset → sealer.next + k < placed.session.demand.expected)
+
 -- so all texts took effect once all frames count as carried, and receivers that agree have read the
 -- shard on, from the place or before it, past the last frame
 abbrev pub AllTakesEffectFromThePlace : Type 0
@@ -187,6 +212,42 @@ AllTakesEffectFromThePlace = OfPlaces (λ sealer records session shard done prog
     → progress.at ≤ stored.offset → progress.carried ≡ sealer.next + length records
     → (stored.session.effects ≡ texts_of_all records)
     × DemandsAfter sealer records (length records) stored.session.demand)
+
+-- an accepted frame moves the place to it, unless something isn't settled
+abbrev pub AcceptedMovesThePlace : Type 0
+AcceptedMovesThePlace =
+    (place : Place) (offset : ℕ) (taken : Taken)
+    → taken.accepted ≡ true → place.missed ≢ misses.Unsettled
+    → ((moved place offset taken).at ≡ offset)
+    × ((moved place offset taken).missed ≡ misses.Nothing)
+
+-- A history with a refusal in it, of one session. A receiver refuses the first frame for a reason of its
+-- own, and that is said. The shard is read again from the session's place, and a receiver takes all that
+-- is sealed. Then the place is past all of it, nothing is missed, and all texts took effect.
+pub record HasPlaced (sealer : SealerState) (sealed : List Sealed) : Type 0 where
+  pub shard : List Item
+  pub happenings : List Happening
+  pub are_true : All (IsTruthful sealer (records_in sealed) 0 shard) happenings
+  pub carried : (after_all (new_progress sealer.next) happenings).carried
+      ≡ sealer.next + length (records_in sealed)
+  pub refused : Taking
+  pub is_refused : is_ok refused.verdict ≡ false
+  pub between : PlacedShard
+  pub first : Steps sealer (records_in sealed) 0 shard (unread (new_session sealer)) (Take refused) between
+  pub unsettled : between.place.missed ≡ misses.Unsettled
+  pub steps : List Step
+  pub placed : PlacedShard
+  pub rest : LeadsPlaced sealer (records_in sealed) 0 shard between (Again 0 ∷ steps) placed
+  pub at : placed.place.at ≡ length shard
+  pub missed : placed.place.missed ≡ misses.Nothing
+  pub effects : placed.session.effects ≡ texts_of_all (records_in sealed)
+
+-- there is one, of whatever is sealed, with a receiver that can take it
+abbrev pub PlacesHappen : Type 0
+PlacesHappen =
+    (sealer : SealerState) (sealed : List Sealed) (receiver : ReceiverState) (nows : List ℕ)
+    → CanTakeAll sealer (records_in sealed) sealed receiver nows → sealed ≢ []
+    → HasPlaced sealer sealed
 
 -- ---- an outbox from which any number of processes seal
 

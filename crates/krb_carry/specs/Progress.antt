@@ -1,5 +1,5 @@
 -- The rule of carried frames: which copies count.
-use Rattle.std.specs.Prelude.{◌≡◌, ℕ, suc, ◌+◌, ◌<◌, ◌≤◌, ◌==◌, nat_lt, ◌&&◌, max, Bool, List, [], ◌∷◌}
+use Rattle.std.specs.Prelude.{◌≡◌, ◌⊎◌, ℕ, suc, ◌+◌, ◌<◌, ◌≤◌, ◌==◌, nat_lt, ◌&&◌, max, Bool, List, [], ◌∷◌}
 use Rattle.std.specs.Prelude.{if◌then◌else◌}
 use Rattle.krb_record.specs.declared.record.Record.{Record}
 use Rattle.krb_seal.specs.Sealer.{SealerState}
@@ -62,6 +62,20 @@ after progress (Confirm number offset) =
 abbrev pub after_all : ProgressState → List Happening → ProgressState
 after_all progress [] = progress
 after_all progress (it ∷ happenings) = after_all (after progress it) happenings
+
+-- the frame of this number is published
+abbrev pub Publishes : ProgressState → Happening → ℕ → Type 0
+Publishes progress (Store count) number = ⊥
+Publishes progress (Publish count) number =
+    (progress.sent ≤ number) × (number < progress.sent + count)
+Publishes progress Rewind number = ⊥
+Publishes progress (Confirm carried offset) number = ⊥
+
+-- by one of these
+abbrev pub IsPublished : ProgressState → List Happening → ℕ → Type 0
+IsPublished progress [] number = ⊥
+IsPublished progress (it ∷ happenings) number =
+    Publishes progress it number ⊎ IsPublished (after progress it) happenings number
 
 -- what a sender hears of a shard is true
 abbrev pub IsTruthful : SealerState → List Record → ℕ → List Item → Happening → Type 0

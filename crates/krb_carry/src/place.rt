@@ -3,7 +3,7 @@
 ghost use Rattle.std.specs.Prelude.{◌≡◌};
 ghost use Rattle.krb_carry.specs.Place.{moved, outcome_of};
 ghost use Rattle.krb_carry.specs.declared.place.Missed.TheVariants as misses;
-ghost use Rattle.krb_carry.specs.Laws.{NothingIsPassedBy, AllTakesEffectFromThePlace};
+ghost use Rattle.krb_carry.specs.Laws.{NothingIsPassedBy, NothingIsMissed, AllTakesEffectFromThePlace, AcceptedMovesThePlace, PlacesHappen};
 
 /// Whether a frame that names a session stands after its place, and may have to be read again.
 #[derive(Clone, Copy, Debug, PartialEq, Eq)]
@@ -109,14 +109,22 @@ impl Place {
 /// again from there or from before it, whenever it likes, while other receivers take the shard too.
 ///
 /// Then no frame that counts as carried and wasn't accepted stands before the place (`before`),
-/// whatever was refused and why. So once the reason is gone, and receivers read the shard on from the
+/// whatever was refused and why. Unless something isn't settled, each frame that counts and was read was
+/// accepted, so that only then the shard has to be read again (`missed`). So once the reason is gone, and receivers read the shard on from the
 /// place, in agreement with the sender, past the last frame that counts, all texts took effect if all
 /// frames count (`all`).
+///
+/// A frame that is accepted moves the place to it, unless something isn't settled (`moves`). All this
+/// can come to pass: of whatever is sealed, a receiver that has another mode refuses the first frame, and
+/// after the shard is read again from its place, one that agrees takes all (`happens`).
 ///
 /// It is assumed that a frame which is sealed of one of the records opens under its number, unless
 /// nothing opened yet under this receiver's key. Where the carrier's offsets aren't what they were,
 /// the shard is read again from its beginning: that is [`progress_laws`](crate::progress_laws).
 pub fn place_laws()
     ensures before { NothingIsPassedBy }
+    ensures missed { NothingIsMissed }
     ensures all { AllTakesEffectFromThePlace }
+    ensures moves { AcceptedMovesThePlace }
+    ensures happens { PlacesHappen }
 {}

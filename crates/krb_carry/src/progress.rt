@@ -3,7 +3,7 @@
 ghost use Rattle.std.specs.Prelude.{◌≡◌, ◌↔◌, ◌+◌, ◌<◌, ◌≤◌, ◌^◌, IsTrue, IsSome, IfSome};
 ghost use Rattle.krb_carry.specs.Progress.{Counts, after, progress_of, resumed};
 ghost use Rattle.krb_carry.specs.Progress.{Store, Publish, Rewind, Confirm};
-ghost use Rattle.krb_carry.specs.Laws.{CountedStandInTurn, CountedStandInside, CarriedIsAccepted, CarriedTakesEffect, ComparingLessIsEnough, ReadingsAreAttempts, ReceiptsStayTrue};
+ghost use Rattle.krb_carry.specs.Laws.{CountedStandInTurn, CountedStandInside, NotCarriedIsPublishedAgain, CarriedIsAccepted, CarriedTakesEffect, ComparingLessIsEnough, ComparingLessIsEnoughFromAny, ReadingsAreAttempts, ReceiptsStayTrue};
 
 use std::marker::Model;
 
@@ -143,7 +143,8 @@ impl Progress {
 /// A shard is what a carrier stored, of many sessions, in order. It may have frames repeated, early,
 /// changed or made up. Whatever happens to a sender, if each confirmation that it hears is true, the
 /// frames that count as carried stand in the shard one after the other (`in_turn`), and none beyond
-/// its end (`inside`). A sender that is started again continues at a progress that was stored, as if
+/// its end (`inside`). From a rewind on, and of a progress that is new or was stored, a frame that doesn't
+/// count as carried counts as published only if it was published again (`again`). A sender that is started again continues at a progress that was stored, as if
 /// what came after had not happened.
 ///
 /// Receivers read a shard on from the stored offset. A transaction compares and moves the offset and
@@ -159,7 +160,7 @@ impl Progress {
 /// it has no receipt, and none below counts (a receipt once true stays true: `receipts`).
 ///
 /// It is enough to compare the offset, and the number where something was accepted, if receivers
-/// read the offset first, and then the demand (`less`). The other way round it isn't: a frame could
+/// read the offset first, and then the demand (`less`), from whatever was stored before (`less_from`). The other way round it isn't: a frame could
 /// be passed by, since a number before it was demanded, and its offset be stored.
 ///
 /// That a sender goes on publishing, that a carrier keeps what it confirmed, and that some receiver
@@ -167,9 +168,11 @@ impl Progress {
 pub fn progress_laws()
     ensures in_turn { CountedStandInTurn }
     ensures inside { CountedStandInside }
+    ensures again { NotCarriedIsPublishedAgain }
     ensures accepted { CarriedIsAccepted }
     ensures whole { CarriedTakesEffect }
     ensures less { ComparingLessIsEnough }
+    ensures less_from { ComparingLessIsEnoughFromAny }
     ensures attempts { ReadingsAreAttempts }
     ensures receipts { ReceiptsStayTrue }
 {}

@@ -1,3 +1,4 @@
+pub mod DemandLemmas
 pub mod ReflectionLemmas
 pub mod PeerLemmas
 pub mod SealedRecordLemmas

@@ -1,6 +1,8 @@
 -- A frame of each record within its limits.
-use Rattle.std.proofs.Common.{ap, ℤ, ◌≡◌, ℕ, ◌+◌, ◌≤◌, List, [], ◌∷◌, length, slice_get, zero, suc, Some, refl, subst, arith, length-append}
+use Rattle.std.proofs.Common.{ap, ℤ, ◌≡◌, ℕ, ◌+◌, ◌≤◌, List, [], ◌∷◌, length, slice_get, zero, suc, Some, refl, sym, subst, arith, length-append}
 use Rattle.std.specs.List.{flat_map}
+use Rattle.std.specs.Prelude.{min, map, slice_index, Option, None, false}
+use Rattle.krb_der.specs.declared.address.HostAddress.{HostAddress}
 use Rattle.std.proofs.lemmas.List.Sums.{sum_by-cons}
 use Rattle.krb_base.specs.Bytes.{AreBytes}
 use Rattle.krb_base.specs.Limits.{user_data_limit, last_number}
@@ -15,8 +17,15 @@ use Rattle.krb_seal.specs.Exists.{HasHosts, CanBeSealed}
 use Rattle.krb_seal.specs.Sealer.{SealerState}
 use Rattle.krb_seal.specs.Seals.{Seals, sealed}
 use Rattle.krb_seal.proofs.ExistsLemmas.{one_exists}
+use Rattle.krb_seal.specs.declared.session.Expect.{Expect}
+use Rattle.krb_seal.specs.Laws.{ReceiverAgrees}
+use Rattle.krb_seal.specs.Opens.{opener_of}
+use Rattle.krb_peers.specs.Moments.{moment_at}
+use Rattle.krb_peers.specs.Order.{first_demand}
+use Rattle.krb_peers.specs.ReceiverState.{ReceiverState}
 use Rattle.krb_peers.specs.Session.{FitLimits, Sealed, SealsAt}
-use Rattle.krb_peer_laws.specs.SealedRecords.{OneFrameOfEachRecord, RecordsAreSealed}
+use Rattle.krb_peers.proofs.FrameLemmas.{all_readable}
+use Rattle.krb_peer_laws.specs.SealedRecords.{OneFrameOfEachRecord, RecordsAreSealed, RecordsCanBeTaken}
 
 -- ---- records
 
@@ -67,6 +76,18 @@ module _ (etype : Etype) (sealer : SealerState) (at : ℕ) (conf : List ℕ) (kn
       let place : suc n + k ≡ n + suc k = omega arith in
       (w.0, subst (λ m. SealsAt sealer m it) place w.1)
 
+  -- each carries its record, and was sealed at the moment
+  carried_is : (n : ℕ) (rs : List Record) → map (λ (it : Sealed). it.carried) (all_from n rs) ≡ rs
+  carried_is n [] = refl
+  carried_is n (r ∷ rs) = ap (λ l. r ∷ l) (carried_is (suc n) rs)
+
+  moment_is : (n : ℕ) (rs : List Record) (k : ℕ) (it : Sealed) → slice_get (all_from n rs) k ≡ Some it → it.at ≡ at
+  moment_is n [] k it is = absurd (let e = is in cc)
+  moment_is n (r ∷ rs) zero it is =
+      let same : sealed_at n r ≡ it = cc in
+      ap (λ (z : Sealed). z.at) (sym same)
+  moment_is n (r ∷ rs) (suc k) it is = moment_is (suc n) rs k it is
+
 pub are_sealed : RecordsAreSealed
 are_sealed etype sealer rs at conf known hosts fits bytes room moment long drawn = (
   all_from etype sealer at conf known hosts moment long drawn sealer.next rs,
@@ -75,3 +96,46 @@ are_sealed etype sealer rs at conf known hosts fits bytes room moment long drawn
     each = λ k it is. let w = each_from etype sealer at conf known hosts moment long drawn sealer.next rs fits bytes room k it is in record { there = w.0; seals = w.1 };
   },
 )
+
+-- ---- a receiver that agrees
+
+receiver_in : Option HostAddress → HostAddress → HostAddress
+receiver_in None other = other
+receiver_in (Some a) other = a
+
+agrees : (x : Expect) (r : Option HostAddress) (other : HostAddress) → x.require_r ≡ false → x.r_addr ≡ receiver_in r other → ReceiverAgrees x r
+unfolding receiver_in
+agrees x None other required is = required
+agrees x (Some a) other required is = sym is
+
+moment_of_one : (at k : ℕ) → moment_at (at ∷ []) k ≡ at
+moment_of_one at k = ap (λ i. slice_index (at ∷ []) i) (let e : min k 0 ≡ 0 = omega arith in e)
+
+taker : SealerState → ReceiverState
+taker sealer =
+    let s = sealer.session in
+    let x : Expect = record { mode = s.mode; s_addr = s.s_addr; r_addr = receiver_in s.r_addr s.s_addr; require_r = false; expect_time = false; skew = 0 } in
+    record { opener = opener_of sealer.etype sealer.key x; demand = first_demand sealer.next }
+
+pub can_be_taken : RecordsCanBeTaken
+unfolding taker are_sealed
+can_be_taken etype sealer rs at conf known hosts fits last bytes room moment long drawn =
+    let all = are_sealed etype sealer rs at conf known hosts fits bytes room moment long drawn in
+    let receiver = taker sealer in (
+      all.0,
+      receiver,
+      carried_is etype sealer at conf known hosts moment long drawn sealer.next rs,
+      record {
+        are = record { readable = all_readable rs fits; close_last = last };
+        fit = fits;
+        each = all.1;
+        has_key = record { etype = refl; key = refl };
+        demand = refl;
+        agree = λ k it is. record {
+          mode = refl;
+          sender = refl;
+          receiver = agrees receiver.opener.expect sealer.session.r_addr sealer.session.s_addr refl refl;
+          current = rw (moment_of_one at k, moment_is etype sealer at conf known hosts moment long drawn sealer.next rs k it is) (omega arith);
+        };
+      },
+    )

@@ -1,3 +1,4 @@
+pub mod Demands
 pub mod Reflection
 pub mod Peers
 pub mod PeerLaws

@@ -1,7 +1,10 @@
 //! Each call that succeeds is one of the calls that the laws speak of.
 
-ghost use Rattle.std.specs.Prelude.{◌≡◌, ℕ, List, Option, IfOk, OnErr, All, take};
+ghost use Rattle.std.specs.Prelude.{◌≡◌, ℕ, List, Option, Some, IfOk, OnErr, All, length, take};
+ghost use Rattle.krb_structs.specs.Fault.{answer_of};
 ghost use Rattle.krb_structs.specs.Moment.{micros_of};
+ghost use Rattle.krb_structs.specs.PeerExport.{export_of};
+ghost use Rattle.krb_structs.specs.Reasons.{DemandAnswer, ResumeAnswer, SealAnswer};
 ghost use Rattle.krb_peers.specs.Calls.{Answers, AreCalls, Call, Moves};
 ghost use Rattle.krb_peers.specs.Plan.{contents};
 ghost use Rattle.krb_peer_laws.specs.TakenFrames.{frames_of};
@@ -28,7 +31,8 @@ pub fn take_frame(
     receiver.take(alloc, frame, now)
 }
 
-/// Seals user data.
+/// Seals user data. It answers 0 if and only if no condition of `SealAnswer` holds and memory was available,
+/// and else the number of the first that does.
 pub fn seal_peer(
     peer: &mut Peer,
     alloc: Global,
@@ -44,11 +48,14 @@ pub fn seal_peer(
       frame = take size out.new;
     })) peer.new) }
     ensures none { OnErr result (peer.new ≡ peer.old) }
+    ensures answer { SealAnswer peer.old.sealer (length user.now) at.now (length out.old)
+        (answer_of result) }
 {
     peer.seal(alloc, user, at, confounder, out)
 }
 
-/// Opens a frame.
+/// Opens a frame. It answers 0 if and only if no condition of `DemandAnswer` holds and memory was available,
+/// and else the number of the first that does.
 pub fn open_peer(
     peer: &mut Peer,
     alloc: Global,
@@ -64,11 +71,14 @@ pub fn open_peer(
       told = told.new;
     })) peer.new) }
     ensures none { OnErr result (peer.new ≡ peer.old) }
+    ensures answer { DemandAnswer (Some peer.old.opener) peer.old.demand at.now frame.now
+        (length out.old) (answer_of result) }
 {
     peer.open(alloc, frame, at, out, told)
 }
 
-/// Goes on from the export of a peer.
+/// Goes on from the export of a peer. It answers 0 if and only if no condition of `ResumeAnswer` holds and
+/// memory was available, and else the number of the first that does.
 pub fn resume_peer(
     peer: &Peer,
     alloc: Global,
@@ -84,6 +94,8 @@ pub fn resume_peer(
       demand = demand.now;
     })
         peer.now (Resumed state) b.value) }
+    ensures answer { ResumeAnswer etype (length key.now) session.now demand.now
+        (export_of peer.now.sealer.next peer.now.demand.number) (answer_of result) }
 {
     let state = peer.export();
     Peer::resume(alloc, etype, key, session, demand, &state)

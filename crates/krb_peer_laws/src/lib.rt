@@ -2,17 +2,20 @@
 //!
 //! [`peer_laws`] says what two peers open of what they seal, in both directions, and
 //! [`reflection_laws`] that a frame that comes back to its maker is refused.
+//! [`demand_fields_laws`] says what demands mean on the fields of a message.
 //! [`calls_in_c_laws`] says that the calls by which C takes frames are those of which
 //! [`calls_laws`](krb_peers::calls_laws) speaks, and [`sealed_records_laws`] that the records of a
 //! session can be sealed. The functions [`take_frame`], [`take_each`], [`seal_peer`], [`open_peer`] and
 //! [`resume_peer`] call the API, and their contracts say that each call is one of the calls of the laws.
 #![tactic(auto)]
 
+mod demands;
 mod fits;
 mod in_c;
 mod peers;
 mod sealed_records;
 
+pub use demands::demand_fields_laws;
 pub use fits::{open_peer, resume_peer, seal_peer, take_each, take_frame};
 pub use in_c::calls_in_c_laws;
 pub use peers::{peer_laws, reflection_laws};

@@ -20,6 +20,8 @@ mod keys;
 #[cfg(test)]
 mod record;
 #[cfg(test)]
+mod stolen;
+#[cfg(test)]
 mod time;
 #[cfg(test)]
 mod tlv;

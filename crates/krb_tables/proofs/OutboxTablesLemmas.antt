@@ -7,7 +7,7 @@ use Rattle.krb_seal.specs.Sealer.{SealerState}
 use Rattle.krb_peers.specs.Session.{Sealed}
 use Rattle.krb_carry.specs.Outbox.{Put, has_close_put, Kept, numbered, Outbox, new_outbox, MayLeave, Sealing, Act, Insert, Seal, IsAct, with_put, with_frames, Acts, LeadsOutbox}
 use Rattle.krb_carry.proofs.OutboxLemmas.{slice_get-append, one_frame}
-use Rattle.krb_tables.specs.Database.{Table, with_row, insert, upsert, executed, CommitAnswer, Ends}
+use Rattle.krb_tables.specs.Database.{Table, with_row, insert, executed, CommitAnswer, Ends}
 use Rattle.krb_tables.specs.OutboxTables.{TextRow, OutboxTables, empty_tables, insert_text, FrameRow, with_frame, add_frame, Run, without, without_all, drop_texts, Next, set_next, on_next, Carried, drop_frames, Sent, sending, waiting_of, next_in, Holds, nexts_of, Adds, Seals, SealsNone, Deed, Puts, Sends, statements_of, IsDeed, LeadsDeeds}
 use Rattle.krb_tables.proofs.DatabaseLemmas.{mapped, chained, guarded, at_key, at_other, changed_row, executed_parts, ended}
 
@@ -99,7 +99,7 @@ frames_dropped (it ∷ carried) old new is =
 -- ---- the next number
 
 abbrev next_writes : Next → Option ℕ → Option ℕ
-next_writes it row = upsert true (λ (next : ℕ). next == it.from) it.to row
+next_writes it row = (set_next it).writes row
 
 abbrev steps : List Next → Option ℕ → Option (Option ℕ)
 steps [] row = Some row
@@ -184,8 +184,10 @@ slice_get-back [] ys i = ap (λ n. slice_get ys n) (let e : 0 + i ≡ i = omega 
 slice_get-back (x ∷ xs) ys i =
     ap (λ n. slice_get (x ∷ (xs ++ ys)) n) (let e : suc (length xs) + i ≡ suc (length xs + i) = omega arith in e) ∙ slice_get-back xs ys i
 
-next_was : (first from : ℕ) (it : Next) (o : Option ℕ) (row : ℕ) → it.from ≡ from → (o ≡ None → from ≡ first) → next_writes it o ≡ Some row → (it.to ≡ row) × (next_in first o ≡ from)
-next_was first from it None row same begins is = ((let e : Some it.to ≡ Some row = is in cc), sym (begins refl))
+next_was : (first from : ℕ) (it : Next) (o : Option ℕ) (row : ℕ) → it.from ≡ from → it.first ≡ first → next_writes it o ≡ Some row → (it.to ≡ row) × (next_in first o ≡ from)
+next_was first from it None row same begins is =
+    let g = guarded (it.from == it.first) it.to row is in
+    (g.1, sym begins ∙ (sym (eqb-true it.from it.first g.0) ∙ same))
 next_was first from it (Some next) row same begins is =
     let g = guarded (next == it.from) it.to row is in
     (g.1, eqb-true next it.from g.0 ∙ same)
@@ -212,7 +214,7 @@ module _ (it : Sent) (first session : ℕ) (sealing : Sealing) (outbox : Outbox)
       (one.0, one.1, (let e : Some (Some (one.0)) ≡ Some (new.next session) = one.2 in cc))
 
   was : (seals.next.to ≡ next_moved.0) × (next_in first (old.next session) ≡ sealing.from)
-  was = next_was first sealing.from seals.next (old.next session) (next_moved.0) seals.from seals.begins next_moved.1
+  was = next_was first sealing.from seals.next (old.next session) (next_moved.0) seals.from seals.first_is next_moved.1
 
   may_leave : (number : ℕ) (frame : List ℕ) → (old.frames session number ≡ Some frame) ⊎ Adds it.frames session number frame → MayLeave sealed_after number frame
   may_leave number frame (inl there) =
@@ -259,6 +261,16 @@ sending_none it first session outbox old new none holds (inl is) =
         | inr adds ↦ absurd (none.no_frame number frame adds)
       ];
     }
+
+-- where there is no row, it goes on from the first number, or does nothing
+pub no_row : (it : Sent) (session : ℕ) (next : Next) (old new : OutboxTables) → nexts_of session it.nexts ≡ next ∷ [] → old.next session ≡ None → (next.from ≡ next.first → ⊥)
+    → (executed (sending it) old ≡ Some new) ⊎ (new ≡ old) → new ≡ old
+no_row it session next old new once none other (inr same) = same
+no_row it session next old new once none other (inl is) =
+    let whole : steps (next ∷ []) None ≡ Some (new.next session) =
+    subst (λ o. steps (next ∷ []) o ≡ Some (new.next session)) none (subst (λ ns. steps ns (old.next session) ≡ Some (new.next session)) once (done it session old new is).row) in
+    let one = chained (λ (row : ℕ). steps [] (Some row)) (next_writes next None) (new.next session) whole in
+    absurd (other (eqb-true next.from next.first (guarded (next.from == next.first) next.to (one.0) one.1).0))
 
 -- ---- an application's transaction
 

@@ -1,7 +1,8 @@
 -- What the laws state.
-use Rattle.std.specs.Prelude.{◌≡◌, ◌≢◌, ◌≤◌, ℕ, ◌+◌, true, List, [], ◌∷◌, Some, All}
+use Rattle.std.specs.Prelude.{◌≡◌, ◌≢◌, ◌≤◌, ℕ, ◌+◌, true, List, [], ◌∷◌, Some, None, All}
 use Rattle.krb_base.specs.Prefix.{IsPrefix}
 use Rattle.krb_record.specs.declared.record.Record.{Record}
+use Rattle.krb_record.specs.declared.record.Record.TheVariants.{Text}
 use Rattle.krb_seal.specs.Sealer.{SealerState}
 use Rattle.krb_peers.specs.Attempt.{Attempt, IsAttempt}
 use Rattle.krb_peers.specs.Session.{Sealed}
@@ -15,7 +16,7 @@ use Rattle.krb_carry.specs.Shard.{Item}
 use Rattle.krb_carry.specs.Store.{new_session, Commits, Leads}
 use Rattle.krb_tables.specs.Database.{Table, executed, CommitAnswer, Ends, Others, Meanwhile, among}
 use Rattle.krb_tables.specs.Database.{HoldsLocks, all_others, changed_all, changes_of}
-use Rattle.krb_tables.specs.OutboxTables.{OutboxTables, empty_tables, TextRow, Sent, Holds, Seals}
+use Rattle.krb_tables.specs.OutboxTables.{OutboxTables, empty_tables, TextRow, Next, Sent, Holds, nexts_of, Seals}
 use Rattle.krb_tables.specs.OutboxTables.{Deed, Puts, Sends, sending, statements_of, LeadsDeeds}
 use Rattle.krb_tables.specs.Restored.{Has, World, new_world, WorldStep, SealsMore, Leaves, LeadsWorld}
 use Rattle.krb_tables.specs.StoreTables.{SessionRow, Tables, no_rows, Batch, transaction, blind_transaction}
@@ -153,14 +154,23 @@ OneRowForEachNumber =
     → old.frames session number ≡ Some frame → new.frames session number ≡ Some other
     → frame ≡ other
 
--- where the session has no row, a transaction that sealed from another number than its first one isn't
--- an act: the next number isn't compared
-abbrev pub NoRowIsNotCompared : Type 0
-NoRowIsNotCompared =
-    (sealer : SealerState) → (it : Sent) × (sealing : Sealing) × (new : OutboxTables)
-    × (executed (sending it) empty_tables ≡ Some new)
-    × ((after : Outbox) → Acts (new_outbox sealer) (Seal sealing) after
-    → ¬ Holds sealer.next 0 new after)
+-- where the session has no row, a transaction that goes on from another number than its first one does
+-- nothing
+abbrev pub NoRowIsCompared : Type 0
+NoRowIsCompared =
+    (it : Sent) (answer : CommitAnswer) (old new : OutboxTables) → Ends (sending it) answer old new
+    → (session : ℕ) (next : Next) → nexts_of session it.nexts ≡ next ∷ []
+    → old.next session ≡ None → next.from ≢ next.first → new ≡ old
+
+-- A sender's transaction can take effect: of one text that waits, where its session has no row.
+abbrev pub SendingsHappen : Type 0
+SendingsHappen =
+    (first at : ℕ) (text frame : List ℕ)
+    → let sealed : Sealed = record { carried = Text text; at = at; frame = frame } in
+    let sealing : Sealing = record { from = first; sealed = sealed ∷ [] } in
+    (it : Sent) × (old : OutboxTables) × (new : OutboxTables) × Seals first 0 old it sealing
+    × (executed (sending it) old ≡ Some new)
+    × (new.next 0 ≡ Some (first + 1)) × (new.frames 0 first ≡ Some frame) × (new.texts ≡ [])
 
 -- ---- an outbox that is restored
 

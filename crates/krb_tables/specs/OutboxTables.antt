@@ -78,16 +78,17 @@ without_all (run ∷ runs) rows = without_all runs (without run rows)
 abbrev pub drop_texts : Run → Statement OutboxTables
 drop_texts run tables = Some (record tables { texts = without run tables.texts })
 
--- INSERT INTO session .. ON CONFLICT DO UPDATE SET next = .. WHERE next = ..: where there is no row, it
--- compares nothing
+-- INSERT INTO session .. SELECT .. WHERE it goes on from the first number OR there is a row, ON CONFLICT
+-- DO UPDATE SET next = .. WHERE next = ..
 pub record Next : Type 0 where
   pub session : ℕ
+  pub first : ℕ
   pub from : ℕ
   pub to : ℕ
 
 abbrev pub set_next : Next → Change ℕ
 set_next it =
-    record { key = it.session; writes = upsert true (λ (next : ℕ). next == it.from) it.to }
+    record { key = it.session; writes = upsert (it.from == it.first) (λ (next : ℕ). next == it.from) it.to }
 
 abbrev pub on_next : Change ℕ → Statement OutboxTables
 on_next change tables =
@@ -152,15 +153,14 @@ Adds (row ∷ rows) session number frame =
     ((session ≡ row.session) × (number ≡ row.number) × (row.frame ≡ frame))
     ⊎ Adds rows session number frame
 
--- What was sealed of the session: of the oldest texts that wait, as the transaction read them. Where
--- the session has no row, it was sealed from its first number on.
+-- What was sealed of the session: of the oldest texts that wait, as the transaction read them.
 pub record Seals (first session : ℕ) (tables : OutboxTables) (it : Sent)
     (sealing : Sealing) : Type 0 where
   pub next : Next
   pub once : nexts_of session it.nexts ≡ next ∷ []
+  pub first_is : next.first ≡ first
   pub from : next.from ≡ sealing.from
   pub to : next.to ≡ sealing.from + length sealing.sealed
-  pub begins : tables.next session ≡ None → sealing.from ≡ first
   pub takes : waiting_of session tables.texts
       ≡ puts_in sealing.sealed ++ waiting_of session (without_all it.drops tables.texts)
   pub frames : (number : ℕ) (frame : List ℕ) → Adds it.frames session number frame

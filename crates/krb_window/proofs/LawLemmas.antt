@@ -1,8 +1,8 @@
 -- What a window does over any numbers, by induction on those that are offered.
-use Rattle.std.proofs.Common.{◌≡◌, ◌≢◌, ℕ, ◌+◌, ◌≤◌, ◌⊎◌, max, List, [], ◌∷◌, Bool, true, false, suc, zero, sym, subst, inl, inr, arith}
+use Rattle.std.proofs.Common.{◌≡◌, ◌≢◌, ℕ, ◌+◌, ◌≤◌, ◌⊎◌, max, List, [], ◌∷◌, Bool, true, false, suc, zero, refl, sym, subst, inl, inr, arith}
 use Rattle.std.specs.List.{All, AllPairs, Contains}
 use Rattle.std.proofs.lemmas.Bool.{cases_lt}
-use Rattle.std.proofs.lemmas.List.Elements.{All-cons, All-nil, Contains-append_cases, Contains-append_left, Contains-append_right, Contains-push}
+use Rattle.std.proofs.lemmas.List.Elements.{All-cons, All-contains, All-nil, Contains-append_cases, Contains-append_left, Contains-append_right, Contains-push}
 use Rattle.std.proofs.lemmas.List.Kept.{AllPairs-cons}
 use Rattle.krb_window.specs.declared.window.Window.{Window}
 use Rattle.krb_window.specs.Window.{IsTaken, IsTooOld, Takes, TakesNoneBelow, window_size}
@@ -118,9 +118,13 @@ far_below : (first n top : ℕ) (w : Window) (ns : List ℕ) → TakesNoneBelow 
 far_below first n top w ns start above far (inl low) = absurd (let is : w.highest ≤ first = start.highest in omega arith)
 far_below first n top w ns start above far (inr (k, within, over)) = (k, within, omega arith)
 
+never : (n : ℕ) (ns : List ℕ) → All (λ m. n ≢ m) ns → Contains ns n → ⊥
+never n ns none there = All-contains (λ m. n ≢ m) ns n none there refl
+
 pub is_exact : IsExact
 is_exact first old new offers start all = (
   past_of_taken old new offers all,
   λ n above t. or_taken first n old (taken_of offers) start above (taken_in old new offers all n t),
   λ n above far. far_below first n new.highest old (taken_of offers) start above far (highest_of old new offers all),
+  λ n below. (past_after old new offers all n (start.below n below), never n (taken_of offers) (none_past old new offers all n (start.below n below))),
 )

@@ -1,5 +1,5 @@
 -- What a window does over any numbers.
-use Rattle.std.specs.Prelude.{◌≡◌, ℕ, ◌+◌, ◌≤◌, ◌⊎◌, List, [], ◌∷◌, ◌≢◌, Bool, true, false}
+use Rattle.std.specs.Prelude.{◌≡◌, ℕ, ◌+◌, ◌<◌, ◌≤◌, ◌⊎◌, List, [], ◌∷◌, ◌≢◌, Bool, true, false}
 use Rattle.std.specs.List.{AllPairs, Contains}
 use Rattle.krb_window.specs.declared.window.Window.{Window}
 use Rattle.krb_window.specs.Window.{IsTaken, IsTooOld, Takes, TakesNoneBelow, window_size}
@@ -35,7 +35,8 @@ TakenOnce = (old new : Window) (offers : List Offer) → AnswersAll old offers n
     → AllPairs (λ m n. m ≢ n) (taken_of offers)
 
 -- Each number that a new window took is in it or is too old. Of those from its first number on, each
--- that is in it was taken, and each that is too old is 64 or more below one that was.
+-- that is in it was taken, and each that is too old is 64 or more below one that was. Those below its
+-- first number are as if taken or too old, and none of them is ever taken.
 abbrev pub IsExact : Type 0
 IsExact = (first : ℕ) (old new : Window) (offers : List Offer) → TakesNoneBelow first old
     → AnswersAll old offers new
@@ -43,3 +44,5 @@ IsExact = (first : ℕ) (old new : Window) (offers : List Offer) → TakesNoneBe
     × ((n : ℕ) → first ≤ n → IsTaken new n → Contains (taken_of offers) n)
     × ((n : ℕ) → first ≤ n → IsTooOld new n
     → (m : ℕ) × Contains (taken_of offers) m × (n + window_size ≤ m))
+    × ((n : ℕ) → n < first
+    → (IsTaken new n ⊎ IsTooOld new n) × ¬ Contains (taken_of offers) n)

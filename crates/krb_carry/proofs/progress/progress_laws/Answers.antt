@@ -5,7 +5,8 @@ use Rattle.krb_seal.specs.Sealer.{SealerState}
 use Rattle.krb_carry.specs.Progress.{Happening, IsTruthful, StandInTurn, resumed, after_all}
 use Rattle.krb_carry.specs.Shard.{Item}
 use Rattle.krb_carry.proofs.ProgressLemmas.{none_stand, turn_after_all, inside_after_all}
-use Rattle.krb_carry.proofs.ReadingLemmas.{read_none, read_all, has_past, all_accepted, after_whole, less_is_enough, readings_attempts}
+use Rattle.krb_carry.proofs.PublishedLemmas.{published_again}
+use Rattle.krb_carry.proofs.ReadingLemmas.{read_none, read_all, has_past, all_accepted, after_whole, less_is_enough, less_from, readings_attempts}
 use Rattle.krb_carry.proofs.StoreLemmas.{first_take_effect, receipt_stays}
 use Rattle.krb_carry.proofs.progress.progress_laws.Goals as goal
 
@@ -31,7 +32,9 @@ returns c = record {
       let begun = read_none sealer records are fits session shard done progress turn then (first_take_effect sealer records are attempts then tries lead) receipt in
       let read = read_all sealer records are fits session shard done progress turn (record { offset = 0; session = then }) readings stored begun each leads in
       after_whole sealer records stored.session (all_accepted sealer records are fits session shard done progress turn stored read at whole);
+  again = published_again;
   less = less_is_enough;
+  less_from = less_from;
   attempts = readings_attempts;
   receipts = receipt_stays;
 }

@@ -1,8 +1,8 @@
 use Rattle.krb_carry.specs.Outbox.{new_outbox}
-use Rattle.krb_tables.specs.OutboxTables.{empty_tables, Puts, Sends, statements_of}
-use Rattle.krb_tables.proofs.ClashLemmas.{no_row, last_is_not}
+use Rattle.krb_tables.specs.OutboxTables.{empty_tables, sending, Puts, Sends, statements_of}
+use Rattle.krb_tables.proofs.ClashLemmas.{happens, last_is_not}
 use Rattle.krb_tables.proofs.DatabaseLemmas.{ended}
-use Rattle.krb_tables.proofs.OutboxTablesLemmas.{text_act, sending_act, acts_of, holds_none, one_row}
+use Rattle.krb_tables.proofs.OutboxTablesLemmas.{text_act, sending_act, acts_of, holds_none, no_row, one_row}
 use Rattle.krb_tables.proofs.RestoredLemmas.{one_each}
 use Rattle.krb_tables.proofs.outbox.outbox_tables_laws.Goals as goal
 
@@ -19,6 +19,7 @@ returns c = record {
       (it.acts, it.outbox, it.each, it.lead, it.holds);
   one = one_row;
   restored = one_each;
-  no_row = no_row;
+  no_row = λ sent answer old new ends session next once none other. no_row sent session next old new once none other (ended (sending sent) answer old new ends);
+  happen = happens;
   last = last_is_not;
 }
