@@ -3,11 +3,15 @@
 #include "session.h"
 
 #include <stdio.h>
+#include <stdlib.h>
 #include <string.h>
 
 /* Up to this size each allocation is refused alone, and then with all that follow it; beyond
  * ALL_REASONS, where a call takes long, none is but at the size of the longest text. */
 enum { THOROUGH = 300, LONGEST_TEXT = 1000000, MORE_THAN_ASKED = 64 };
+
+/* Tells no more faults than these. */
+enum { MOST_TOLD = 40 };
 
 static struct tried tried;
 static struct asked asked;
@@ -26,6 +30,10 @@ void is_so(int fact, const char *what)
     tried.wrong++;
     printf("matrix: %s, %s, mode %u, etype %d, size %zu: not so: %s\n", tried_call, tried_why, given.mode,
            (int)given.etype, given.size, what);
+    if (tried.wrong == MOST_TOLD) {
+        printf("matrix: %d wrong, and there may be more\n", MOST_TOLD);
+        exit(1);
+    }
 }
 
 /* ---- what a call that succeeded has to have done */

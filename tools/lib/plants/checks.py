@@ -1,0 +1,102 @@
+"""The checks that see planted faults: each runs tests of the gate over a copy of the repository. A check
+answers whether the tests passed, and what they said. Crates are built without their proofs, but for the
+check `prover`."""
+import os
+import re
+from collections.abc import Callable
+
+from lib.plants.copies import Copy
+
+Told = tuple[bool, str]
+WRAPS = ["-Wl,--wrap=malloc", "-Wl,--wrap=realloc", "-Wl,--wrap=free"]
+LINKED = {"calls": ["-Wl,--wrap=clock_gettime", "-Wl,--wrap=getrandom"], "residue": WRAPS[2:]}
+SIZES = ["0", "1", "127", "128", "255", "256", "65535", "65536", "65537", "999999", "1000000", "1000001"]
+
+
+# ---- the C library
+
+def c_program(copy: Copy, name: str, *words: str) -> Told:
+    source = f"{copy.top}/c/tests/{name}.c"
+    return copy.run([copy.compiled(name, [source], *LINKED.get(name, ())), *words])
+
+
+def secrets_of(copy: Copy) -> list[str]:
+    return [f"{copy.top}/c/tests/{it}" for it in ("residue_strings", "round_keys")]
+
+
+def matrix(copy: Copy) -> Told:
+    folder = f"{copy.top}/c/tests/matrix"
+    program = copy.compiled("matrix", sorted(f"{folder}/{it}" for it in os.listdir(folder)
+                                             if it.endswith(".c")), *WRAPS)
+    made, said = copy.run(["python3", f"{copy.top}/c/tests/inside.py", "inside.bin"])
+    if not made:
+        return made, said
+    return copy.run([program, f"{copy.top}/c/krbrelay.h", "inside.bin", *secrets_of(copy), "-"])
+
+
+def c_test(copy: Copy, name: str) -> Told:
+    if name == "matrix":
+        return matrix(copy)
+    words = {"dead_stack": secrets_of(copy), "fuzz": ["20000"], "sequences": ["200000"]}
+    return c_program(copy, name, *words.get(name, ()))
+
+
+# ---- the program
+
+def pytest(copy: Copy, *words: str) -> Told:
+    return copy.run(["python3", "-m", "pytest", "-q", "-x", *words], cwd=copy.top)
+
+
+def of_program(copy: Copy, what: str) -> Told:
+    words = {"tests": ["python3", "-m", "pytest", "-q", "-x", "tests/test_program.py"],
+             "sweep": ["tests/sweep", "program"], "residue": ["tests/residue", "--program"],
+             "costs": ["tests/job_costs", "--check"]}[what]
+    return copy.run([*words, *([] if what == "tests" else [copy.program])], cwd=copy.top,
+                    env={**os.environ, "KRBRELAY": copy.program})
+
+
+# ---- the carrier
+
+def carrier(copy: Copy, what: str) -> Told:
+    out = copy.place("programs")
+    built, said = copy.run(["make", "-s", "-C", f"{copy.top}/carrier/tests", f"SOURCES={copy.top}/carrier",
+                            f"OUT={out}", f"PREFIX={copy.installed}", "WITH_NATS=no", "WITH_POSTGRESQL=no",
+                            "tests"])
+    if not built:
+        return built, said
+    folder = copy.place("stores")
+    os.makedirs(folder, exist_ok=True)
+    return copy.run([f"{out}/{what}", folder])
+
+
+# ---- tools, and the prover
+
+def tool(copy: Copy, what: str) -> Told:
+    return copy.run({"self": ["python3", "-m", "pytest", "-q", "-x", "tests/test_tools.py"],
+                     "test_building": ["tools/test_building"]}[what], cwd=copy.top)
+
+
+def crate(copy: Copy, name: str) -> Told:
+    """The tests of a crate, without proofs."""
+    return copy.run(["rt", "try", "--test", "--seconds", "300"], cwd=f"{copy.top}/crates/{name}")
+
+
+def prover(copy: Copy, name: str, function: str) -> Told:
+    """Whether the prover takes one function of a crate. What stands below is proved first."""
+    return copy.run(["rt", "check", "--only", function], cwd=f"{copy.top}/crates/{name}")
+
+
+CHECKS: dict[str, Callable[..., Told]] = {"c": c_test, "program": of_program, "carrier": carrier,
+                                          "tools": tool, "crate": crate, "prover": prover}
+
+
+def run(copy: Copy, check: str) -> Told:
+    kind, *words = check.split()
+    return CHECKS[kind](copy, *words)
+
+
+def last_words(said: str) -> str:
+    """The first line that tells a fault, or the last line."""
+    lines = [it.strip() for it in said.splitlines() if it.strip()]
+    told = [it for it in lines if re.search(r"not so|FAILED|wrong|error|differs", it)]
+    return (told or lines or [""])[0][:150]

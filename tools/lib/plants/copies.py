@@ -1,0 +1,79 @@
+"""A copy of the repository in which a fault may be planted, and what is built of it without proofs."""
+import functools
+import os
+import shutil
+import subprocess
+
+from lib.build import building, c_tools, without_proofs
+from lib.plants import planted
+
+FLAGS = ["-std=gnu11", "-O2", "-w"]
+SECONDS = 900
+
+
+def committed() -> list[str]:
+    """The files of the repository, as they stand here."""
+    found = subprocess.run(["git", "-C", building.TOP, "ls-files", "-z"], check=True,
+                           stdout=subprocess.PIPE, text=True).stdout
+    return [it for it in found.split("\0")[:-1] if os.path.exists(os.path.join(building.TOP, it))]
+
+
+class Copy:
+    """A copy with a plant, or with none."""
+
+    def __init__(self, folder: str, plant: planted.Plant | None = None):
+        self.top, self.folder = os.path.join(folder, "copy"), folder
+        for name in committed():
+            place = os.path.join(self.top, name)
+            os.makedirs(os.path.dirname(place), exist_ok=True)
+            shutil.copy(os.path.join(building.TOP, name), place)
+        subprocess.run(["git", "init", "-q", self.top], check=True)
+        for edit in plant.edits if plant else ():
+            planted.make(edit, self.top)
+
+    def place(self, name: str) -> str:
+        return os.path.join(self.folder, name)
+
+    def run(self, words: list, **how) -> tuple[bool, str]:
+        """Whether a command ends with 0, and the end of what it said."""
+        how.setdefault("cwd", self.folder)
+        try:
+            done = subprocess.run(words, stdin=subprocess.DEVNULL, stdout=subprocess.PIPE, check=False,
+                                  stderr=subprocess.STDOUT, timeout=SECONDS, **how)
+        except subprocess.TimeoutExpired:
+            return False, f"not at its end after {SECONDS} seconds"
+        return done.returncode == 0, done.stdout.decode(errors="replace")[-3000:]
+
+    @functools.cached_property
+    def library(self) -> str:
+        """The folder with libkrbrelay."""
+        folder = self.place("library")
+        without_proofs.library(self.top, folder)
+        return folder
+
+    @functools.cached_property
+    def program(self) -> str:
+        """The program krbrelay."""
+        made = self.place("krbrelay")
+        without_proofs.program(self.top, made)
+        return made
+
+    @functools.cached_property
+    def installed(self) -> str:
+        """The folder at which libkrbrelay is installed."""
+        prefix = self.place("installed")
+        done, said = self.run(["make", "-s", "-f", f"{self.top}/c/Makefile", f"SOURCES={self.top}/c",
+                               f"PROVED={self.library}/proved.o", f"PREFIX={prefix}", "install"],
+                              cwd=self.library)
+        if not done:
+            raise without_proofs.NotCompiled(said)
+        return prefix
+
+    def compiled(self, name: str, sources: list[str], *words: str) -> str:
+        """A C program over the library."""
+        made = self.place(name)
+        done, said = self.run([*c_tools.c_compiler(), *FLAGS, f"-I{self.top}/c", f"-I{self.top}/c/tests",
+                               *sources, f"{self.library}/libkrbrelay.a", *words, "-o", made])
+        if not done:
+            raise without_proofs.NotCompiled(said)
+        return made
