@@ -153,9 +153,14 @@ def library(top, folder):
         as_program(sources)
         compile_module(exported(module_of(sources, LIBRARY, room)), room,
                        os.path.join(room, "code.o"), "-fPIC")
-        os.makedirs(folder, exist_ok=True)
-        run(["make", "-s", "-f", os.path.join(top, "c", "Makefile"), f"SOURCES={top}/c",
-             f"PROVED={room}/code.o", "all"], cwd=folder)
+        make_library(top, folder, os.path.join(room, "code.o"))
+
+
+def make_library(top, folder, code):
+    """Builds libkrbrelay of this code, an object or assembly, and the C beside it."""
+    os.makedirs(folder, exist_ok=True)
+    run(["make", "-s", "-f", os.path.join(top, "c", "Makefile"), f"SOURCES={top}/c", f"PROVED={code}",
+         "all"], cwd=folder)
 
 
 # ---- the program

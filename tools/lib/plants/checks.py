@@ -58,15 +58,15 @@ def of_program(copy: Copy, what: str) -> Told:
 # ---- the carrier
 
 def carrier(copy: Copy, what: str) -> Told:
-    out = copy.place("programs")
+    """One of the units."""
+    made, folder = f"{copy.place('programs')}/{what}", copy.place("stores")
     built, said = copy.run(["make", "-s", "-C", f"{copy.top}/carrier/tests", f"SOURCES={copy.top}/carrier",
-                            f"OUT={out}", f"PREFIX={copy.installed}", "WITH_NATS=no", "WITH_POSTGRESQL=no",
-                            "tests"])
+                            f"OUT={os.path.dirname(made)}", f"PREFIX={copy.installed}", "WITH_NATS=no",
+                            "WITH_POSTGRESQL=no", made])
     if not built:
         return built, said
-    folder = copy.place("stores")
     os.makedirs(folder, exist_ok=True)
-    return copy.run([f"{out}/{what}", folder])
+    return copy.run([made, f"sqlite:{folder}/store.db" if what == "store_test" else folder])
 
 
 # ---- tools, and the prover

@@ -7,6 +7,8 @@ import subprocess
 from lib.build import building, c_tools, without_proofs
 from lib.plants import planted
 
+LIBRARY = without_proofs.LIBRARY
+PROVED = os.path.join(building.folder_of(LIBRARY), "out", "c_library")
 FLAGS = ["-std=gnu11", "-O2", "-w"]
 SECONDS = 900
 
@@ -23,6 +25,7 @@ class Copy:
 
     def __init__(self, folder: str, plant: planted.Plant | None = None):
         self.top, self.folder = os.path.join(folder, "copy"), folder
+        self.changes_crates = any(it.startswith("crates/") for it in plant.files()) if plant else False
         for name in committed():
             place = os.path.join(self.top, name)
             os.makedirs(os.path.dirname(place), exist_ok=True)
@@ -46,9 +49,12 @@ class Copy:
 
     @functools.cached_property
     def library(self) -> str:
-        """The folder with libkrbrelay."""
+        """The folder with libkrbrelay: of the proved code, if no crate is changed and that is built."""
         folder = self.place("library")
-        without_proofs.library(self.top, folder)
+        if self.changes_crates or not building.is_built(LIBRARY, building.top_of(LIBRARY)):
+            without_proofs.library(self.top, folder)
+        else:
+            without_proofs.make_library(self.top, folder, os.path.join(PROVED, "krbrelay.s"))
         return folder
 
     @functools.cached_property
