@@ -1,11 +1,13 @@
 """The C library and the program compiled without their proofs, as fast as the proved ones nearly: for
 tests of changed copies of the repository, of which nothing is proved.
 
-`rt try` gives the kit's compiler a module of a program, with checks of overflows and bounds in it.
-Here it runs in a folder of links to the kit, whose compiler keeps the module (kit_compiler.py has the
-same of the prover) and ends. The module is then compiled without a sanitizer. Of a static library
-`rt try` makes none, so krb_c is given a `main` that names each export, and the exports get the names
-and the linkage that they have for C. What is built so is for tests alone: nothing notes it as built.
+`rt try` gives the kit's compiler a module of a program, with checks in it. Here it runs in a folder
+of links to the kit, whose compiler keeps the module (kit_compiler.py has the same of the prover)
+and ends. The module is then compiled without a sanitizer and without the checks of overflows,
+addresses and alignment; those of bounds stay. So it is about as fast as the proved code, and takes
+about as much stack. Of a static library `rt try` makes none, so krb_c is given a `main` that names
+each export, and the exports get the names and the linkage that they have for C. What is built so is
+for tests alone: nothing notes it as built.
 """
 import os
 import re
@@ -29,7 +31,9 @@ exec {clang} "$@"
 EXPORT = re.compile(r'#\[unsafe\(no_mangle\)\]\npub extern "C" fn (\w+)\((.*?)\)(?: -> \w+)?\n', re.S)
 ANY = "fn any<T>() -> T {\n    loop {}\n}\n"
 SECONDS = 300
-WORDS = ["-march=x86-64", "--no-default-config", "-c", "-O2", "-ffunction-sections", "-fdata-sections"]
+WORDS = ["-march=x86-64-v2", "--no-default-config", "-c", "-O3", "-ffunction-sections", "-fdata-sections"]
+CHECKS = re.compile(r'(?m)^  call void @"rattle-llvm-checks::\w+"\(.*\n')
+WATCHED = re.compile(r' sanitize_address|"frame-pointer"="all"|"probe-stack"="inline-asm"|"stack-probe-size"="\d+"')
 
 
 class NotCompiled(OSError):
@@ -76,7 +80,12 @@ def module_of(top, crate, folder):
     run([kit_compiler.clang(), "-S", "-emit-llvm", "-Xclang", "-disable-llvm-passes", "-x", "ir",
          module, "-o", text])
     with open(text, encoding="utf-8") as file:
-        return re.sub(" sanitize_address", "", file.read())
+        return without_checks(file.read())
+
+
+def without_checks(text):
+    text = CHECKS.sub("", WATCHED.sub("", text))
+    return re.sub(r"(?m)^(attributes #\d+ = )\{ *\}", r"\1{ nounwind }", text)
 
 
 def run(words, **how):
