@@ -10,7 +10,7 @@ from lib.plants.copies import Copy
 Told = tuple[bool, str]
 WRAPS = ["-Wl,--wrap=malloc", "-Wl,--wrap=realloc", "-Wl,--wrap=free"]
 LINKED = {"calls": ["-Wl,--wrap=clock_gettime", "-Wl,--wrap=getrandom"], "residue": WRAPS[2:]}
-SIZES = ["0", "1", "127", "128", "255", "256", "65535", "65536", "65537", "999999", "1000000", "1000001"]
+OF_32_BITS = ["-m32", "-ffreestanding", "-nostdlib", "-static", "-fno-pic", "-no-pie", "-fno-stack-protector"]
 
 
 # ---- the C library
@@ -34,9 +34,20 @@ def matrix(copy: Copy) -> Told:
     return copy.run([program, f"{copy.top}/c/krbrelay.h", "inside.bin", *secrets_of(copy), "-"])
 
 
+def inline(copy: Copy) -> Told:
+    """The header's inline functions, on 64 bits and on 32."""
+    source, header = f"{copy.top}/c/tests/inline.c", f"-I{copy.top}/c"
+    for made, words in (("inline64", ["-DHOSTED"]), ("inline32", OF_32_BITS)):
+        for command in (["cc", "-std=c99", "-O2", *words, header, source, "-o", made], [f"./{made}"]):
+            passed, said = copy.run(command)
+            if not passed:
+                return passed, said or f"{made} failed"
+    return True, ""
+
+
 def c_test(copy: Copy, name: str) -> Told:
-    if name == "matrix":
-        return matrix(copy)
+    if name in ("matrix", "inline"):
+        return {"matrix": matrix, "inline": inline}[name](copy)
     words = {"dead_stack": secrets_of(copy), "fuzz": ["20000"], "sequences": ["200000"]}
     return c_program(copy, name, *words.get(name, ()))
 
