@@ -128,6 +128,74 @@ static void other_times(void)
     krbrelay_opener_free(&o);
 }
 
+/* An absent integer is 0: a time without microseconds is a whole second. */
+static void absent_microseconds(void)
+{
+    static const struct { uint32_t how, skew; struct krbrelay_moment at; enum krbrelay_answer answer; }
+    rows[] = {
+        { KRBRELAY_IGNORE, 0, { SECS, 0, 0 }, KRBRELAY_OK },
+        { KRBRELAY_IF_PRESENT, 300, { SECS, 0, 0 }, KRBRELAY_SKEW },
+        { KRBRELAY_REQUIRED, 300, { SECS, 0, 0 }, KRBRELAY_SKEW },
+        { KRBRELAY_ABSENT_IS_0, 0, { SECS, 0, 0 }, KRBRELAY_OK },
+        { KRBRELAY_ABSENT_IS_0, 0, { SECS, 1, 0 }, KRBRELAY_SKEW },
+        { KRBRELAY_ABSENT_IS_0, 1, { SECS + 1, 0, 0 }, KRBRELAY_OK },
+        { KRBRELAY_ABSENT_IS_0, 1, { SECS + 1, 1, 0 }, KRBRELAY_SKEW },
+        { KRBRELAY_ABSENT_IS_0, 1, { SECS - 1, 0, 0 }, KRBRELAY_OK },
+        { KRBRELAY_ABSENT_IS_0, 1, { SECS - 2, 999999, 0 }, KRBRELAY_SKEW },
+    };
+    struct krbrelay_opener o = opener_from(KRBRELAY_SAFE, 17, expect_of(KRBRELAY_SAFE));
+    struct krbrelay_carried c;
+    for (size_t i = 0; i < sizeof rows / sizeof rows[0]; i++) {
+        struct krbrelay_demand d = { .how_time = rows[i].how, .skew = rows[i].skew };
+        size_t size = 0;
+        CHECK(krbrelay_opener_open(&o, safe_17_no_usec, sizeof safe_17_no_usec, &d, &rows[i].at, data,
+                                   sizeof data, &size, &c) == rows[i].answer);
+    }
+    krbrelay_opener_free(&o);
+}
+
+/* Whole times and times that aren't told are as under KRBRELAY_REQUIRED. */
+static void other_times_where_absent_is_0(void)
+{
+    struct krbrelay_opener o = opener_from(KRBRELAY_SAFE, 17, expect_of(KRBRELAY_SAFE));
+    struct krbrelay_demand d = { .how_time = KRBRELAY_ABSENT_IS_0 };
+    struct krbrelay_carried c;
+    CHECK(open_with(&o, safe_17, sizeof safe_17, &d, &c) == KRBRELAY_OK);
+    CHECK(open_with(&o, safe_17_timeless, sizeof safe_17_timeless, &d, &c) == KRBRELAY_SKEW);
+    krbrelay_opener_free(&o);
+}
+
+/* A message that tells neither its time nor its number is refused where one of both is needed. */
+static void neither_time_nor_number(void)
+{
+    struct frame { const uint8_t *bytes; size_t len; };
+    const struct frame neither = { safe_17_neither, sizeof safe_17_neither };
+    const struct frame seconds = { safe_17_seconds, sizeof safe_17_seconds };
+    const struct frame no_time = { safe_17_timeless, sizeof safe_17_timeless };
+    const struct frame no_number = { safe_17_no_number, sizeof safe_17_no_number };
+    const struct { struct frame f; struct krbrelay_demand d; enum krbrelay_answer answer; } rows[] = {
+        { neither, { .how_time = 0 }, KRBRELAY_OK },
+        { neither, { .needs_time_or_number = 1 }, KRBRELAY_MODIFIED },
+        { neither, { .needs_time_or_number = 1, .how_time = KRBRELAY_IF_PRESENT,
+                     .how_number = KRBRELAY_IF_PRESENT, .number = 7 }, KRBRELAY_MODIFIED },
+        { neither, { .needs_time_or_number = 1, .how_time = KRBRELAY_REQUIRED }, KRBRELAY_SKEW },
+        { neither, { .needs_time_or_number = 1, .how_number = KRBRELAY_REQUIRED }, KRBRELAY_BADORDER },
+        { neither, { .needs_time_or_number = 1, .how_number = KRBRELAY_ABSENT_IS_0 }, KRBRELAY_OK },
+        { neither, { .needs_time_or_number = 1, .how_sender = KRBRELAY_REQUIRED, .sender = host(2) },
+          KRBRELAY_BADADDR },
+        { no_time, { .needs_time_or_number = 1 }, KRBRELAY_OK },
+        { no_number, { .needs_time_or_number = 1 }, KRBRELAY_OK },
+        { seconds, { .needs_time_or_number = 1 }, KRBRELAY_MODIFIED },
+        { seconds, { .needs_time_or_number = 1, .how_time = KRBRELAY_ABSENT_IS_0, .skew = 1 },
+          KRBRELAY_OK },
+    };
+    struct krbrelay_opener o = opener_from(KRBRELAY_SAFE, 17, expect_of(KRBRELAY_SAFE));
+    struct krbrelay_carried c;
+    for (size_t i = 0; i < sizeof rows / sizeof rows[0]; i++)
+        CHECK(open_with(&o, rows[i].f.bytes, rows[i].f.len, &rows[i].d, &c) == rows[i].answer);
+    krbrelay_opener_free(&o);
+}
+
 static void receivers_address(void)
 {
     struct krbrelay_opener o = opener_from(KRBRELAY_SAFE, 17, expect_of(KRBRELAY_SAFE));
@@ -153,11 +221,11 @@ static void refusals(void)
     struct krbrelay_opener o = opener_from(KRBRELAY_SAFE, 17, expect_of(KRBRELAY_SAFE));
     struct krbrelay_opener p = opener_from(KRBRELAY_PRIV, 18, expect_of(KRBRELAY_PRIV));
     struct krbrelay_demand any = { 0 }, bad[] = { { .how_sender = 3 }, { .how_receiver = 3 },
-        { .how_time = 3 }, { .how_number = 4 }, { .how_sender = 1, .sender = { .len = 41 } },
+        { .how_time = 4 }, { .how_number = 4 }, { .needs_time_or_number = 2 }, { .how_sender = 1, .sender = { .len = 41 } },
         { .how_receiver = 1, .receiver = { .len = 41 } }, { .sender = { .kind = 2 } },
         { .sender = { .len = 4 } }, { .sender = { .bytes = { 1 } } }, { .receiver = { .kind = 2 } },
         { .receiver = { .len = 4 } }, { .skew = 1 }, { .number = 1 }, { .number = 1ull << 32 },
-        { .reserved = { 1 } }, { .reserved = { 0, 0, 0, 0, 1 } } };
+        { .reserved = { 1 } }, { .reserved = { 0, 0, 0, 1 } } };
     struct krbrelay_carried c;
     uint8_t changed[sizeof priv_18];
     size_t size;
@@ -395,6 +463,9 @@ int main(void)
     no_remote_address();
     no_number();
     other_times();
+    absent_microseconds();
+    other_times_where_absent_is_0();
+    neither_time_nor_number();
     receivers_address();
     refusals();
     long_addresses();

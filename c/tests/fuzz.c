@@ -302,7 +302,8 @@ static const struct { const uint8_t *bytes; size_t len; } known[] = {
     { safe_17, sizeof safe_17 }, { safe_18, sizeof safe_18 }, { priv_17, sizeof priv_17 },
     { priv_18, sizeof priv_18 }, { safe_17_no_number, sizeof safe_17_no_number },
     { safe_17_timeless, sizeof safe_17_timeless }, { safe_17_no_usec, sizeof safe_17_no_usec },
-    { safe_17_to_receiver, sizeof safe_17_to_receiver }
+    { safe_17_to_receiver, sizeof safe_17_to_receiver }, { safe_17_neither, sizeof safe_17_neither },
+    { safe_17_seconds, sizeof safe_17_seconds }
 };
 
 static size_t change(uint8_t *frame, size_t len)

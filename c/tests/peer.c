@@ -436,25 +436,26 @@ static void reasons_of_makers(void)
 static void demands_that_are_none(void)
 {
     struct krbrelay_session session = session_at(KRBRELAY_PRIV, CLIENT, 0);
-    struct krbrelay_demand rows[15];
+    struct krbrelay_demand rows[16];
     struct krbrelay_peer peer = KRBRELAY_INIT;
-    for (size_t i = 0; i < 15; i++)
+    for (size_t i = 0; i < 16; i++)
         rows[i] = demand_at(CLIENT, NONE_LEFT);
     rows[0].how_number = KRBRELAY_IGNORE;
     rows[1].how_number = KRBRELAY_IF_PRESENT;
     rows[2].how_number = 4;
     rows[3].number = NONE_LEFT + 1;
-    rows[4].how_time = 3;
+    rows[4].how_time = 4;
     rows[5].how_time = KRBRELAY_IGNORE;     /* with a skew */
     rows[6].how_sender = 3;
     rows[7].how_sender = KRBRELAY_IGNORE;   /* with an address */
     rows[8].how_receiver = 3;
     rows[9].how_receiver = KRBRELAY_IGNORE;
-    rows[10].reserved[0] = rows[11].reserved[4] = 1;
+    rows[10].reserved[0] = rows[11].reserved[3] = 1;
     rows[12].sender.len = rows[13].receiver.len = 41;
-    for (size_t i = 0; i < 14; i++)
+    rows[14].needs_time_or_number = 2;
+    for (size_t i = 0; i < 15; i++)
         CHECK(krbrelay_peer_new(&peer, 17, keys[0], 16, &session, &rows[i]) == KRBRELAY_ARGUMENT);
-    CHECK(krbrelay_peer_new(&peer, 17, keys[0], 16, &session, &rows[14]) == KRBRELAY_OK);
+    CHECK(krbrelay_peer_new(&peer, 17, keys[0], 16, &session, &rows[15]) == KRBRELAY_OK);
     krbrelay_peer_free(&peer);
 }
 

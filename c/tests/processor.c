@@ -42,6 +42,7 @@ static void makers(enum krbrelay_answer answer)
     struct krbrelay_header header = KRBRELAY_INIT;
     struct krbrelay_demand demand = demand_of(255, 1, 0);
     static const uint8_t state[KRBRELAY_PEER_STATE_SIZE] = { 0x6b, 0x72, 0x73, 1 };
+    uint8_t history[KRBRELAY_HISTORY_SIZE] = { 0 };
     int is_made = answer == KRBRELAY_OK;
     CHECK(krbrelay_sealer_new(&s, 17, key, sizeof key, &session) == answer);
     CHECK(krbrelay_opener_new(&o, 17, key, sizeof key, &expect) == answer);
@@ -50,6 +51,8 @@ static void makers(enum krbrelay_answer answer)
     session.first = 0;
     CHECK(krbrelay_peer_resume(&resumed, 17, key, sizeof key, &session, &demand, state) == answer);
     CHECK(krbrelay_message_header(priv_17, sizeof priv_17, &header) == answer);
+    CHECK(krbrelay_history_add(history, priv_17, sizeof priv_17) == answer);
+    CHECK((history[0] != 0) == is_made);
     CHECK(krbrelay_sealer_is_empty(&s) == !is_made && krbrelay_opener_is_empty(&o) == !is_made);
     CHECK(krbrelay_peer_is_empty(&p) == !is_made && krbrelay_peer_is_empty(&resumed) == !is_made);
     CHECK(krbrelay_receiver_is_empty(&r) == !is_made && header.kind == (is_made ? KRBRELAY_PRIV : 0));

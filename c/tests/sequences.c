@@ -452,7 +452,8 @@ static void unseal(size_t i)
 static struct krbrelay_demand some_demand(const struct sealed *f)
 {
     struct krbrelay_demand d = { .how_sender = (uint32_t)draw(3), .how_receiver = (uint32_t)draw(3),
-                                 .how_time = (uint32_t)draw(3), .how_number = (uint32_t)draw(4) };
+                                 .how_time = (uint32_t)draw(4), .how_number = (uint32_t)draw(4),
+                                 .needs_time_or_number = (uint32_t)draw(2) };
     if (d.how_sender)
         d.sender = host(one_in(8) ? 2 : 1);
     if (d.how_receiver)
@@ -466,7 +467,9 @@ static struct krbrelay_demand some_demand(const struct sealed *f)
     case 1: d.how_number = 4; break;
     case 2: d.how_time = 0; d.skew = 1; break;
     case 3: d.how_receiver = 0; d.receiver = host(255); break;
-    case 4: d.reserved[draw(5)] = 1; break;
+    case 4: d.reserved[draw(4)] = 1; break;
+    case 6: d.how_time = 4; break;
+    case 7: d.needs_time_or_number = 2; break;
     case 5: d.how_number = 0; d.number = 1; break;
     default: break;
     }
@@ -476,9 +479,10 @@ static struct krbrelay_demand some_demand(const struct sealed *f)
 static enum krbrelay_answer of_demand(const struct krbrelay_demand *d)
 {
     uint32_t any = 0;
-    for (int i = 0; i < 5; i++)
+    for (int i = 0; i < 4; i++)
         any |= d->reserved[i];
-    return UNLESS(any == 0 && d->how_sender <= 2 && d->how_number <= 3 && (d->how_time || !d->skew)
+    return UNLESS(any == 0 && d->how_sender <= 2 && d->how_time <= 3 && d->how_number <= 3
+                  && d->needs_time_or_number <= 1 && (d->how_time || !d->skew)
                   && (d->how_receiver || d->receiver.len == 0) && (d->how_number || d->number == 0),
                   KRBRELAY_ARGUMENT);
 }

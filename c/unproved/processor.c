@@ -69,3 +69,11 @@ enum krbrelay_answer krbrelay_message_header(const uint8_t *frame, size_t len,
         return KRBRELAY_PROCESSOR;
     return krbrelay_proved_message_header(frame, len, header);
 }
+
+enum krbrelay_answer krbrelay_history_add(uint8_t history[KRBRELAY_HISTORY_SIZE],
+                                          const uint8_t *frame, size_t len)
+{
+    if (!krbrelay_is_supported())
+        return KRBRELAY_PROCESSOR;
+    return krbrelay_proved_history_add(history, frame, len);
+}

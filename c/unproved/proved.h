@@ -27,6 +27,8 @@ enum krbrelay_answer krbrelay_proved_peer_resume(struct krbrelay_peer *handle, i
                                                  const uint8_t state[KRBRELAY_PEER_STATE_SIZE]);
 enum krbrelay_answer krbrelay_proved_message_header(const uint8_t *frame, size_t len,
                                                     struct krbrelay_header *header);
+enum krbrelay_answer krbrelay_proved_history_add(uint8_t history[KRBRELAY_HISTORY_SIZE],
+                                                 const uint8_t *frame, size_t len);
 enum krbrelay_answer krbrelay_proved_answer_name(uint32_t answer, char *name, size_t room,
                                                  size_t *size);
 enum krbrelay_answer krbrelay_proved_answer_text(uint32_t answer, char *text, size_t room,

@@ -10,8 +10,9 @@ package; by pkg-config; or by the system's loader. A call raises LibraryError wh
 """
 from krbrelay.errors import (
     Code, Error, Exhausted, Freed, Refusal, Wiped, answer_name, answer_text)
+from krbrelay.history import History
 from krbrelay.library import (
-    ADDRESS_LIMIT, FRAME_LIMIT, USER_DATA_LIMIT, LibraryError, library_version)
+    ADDRESS_LIMIT, FRAME_LIMIT, HISTORY_SIZE, USER_DATA_LIMIT, LibraryError, library_version)
 from krbrelay.message import message_header
 from krbrelay.opener import Opener
 from krbrelay.peer import Numbers, Peer
@@ -25,8 +26,8 @@ __version__ = "1.0.0"
 
 __all__ = [
     "ADDRESS_LIMIT", "Address", "Batch", "Body", "Closed", "Code", "Demand", "Error", "Exhausted",
-    "FRAME_LIMIT", "Freed", "Header", "How", "LibraryError", "Mode", "Moment", "Numbers", "Opener",
-    "Peer", "Receiver", "Record", "Refusal", "Sealer", "State", "Taken", "Text",
+    "FRAME_LIMIT", "Freed", "HISTORY_SIZE", "Header", "History", "How", "LibraryError", "Mode",
+    "Moment", "Numbers", "Opener", "Peer", "Receiver", "Record", "Refusal", "Sealer", "State", "Taken", "Text",
     "USER_DATA_LIMIT", "Window", "Wiped",
     "answer_name", "answer_text", "library_version", "message_header",
 ]

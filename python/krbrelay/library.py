@@ -23,6 +23,7 @@ ADDRESS_LIMIT = 40
 """The most bytes of an address."""
 CONFOUNDER_SIZE = 16
 PEER_STATE_SIZE = 20
+HISTORY_SIZE = 20
 TEXT_SIZE = 64
 
 
@@ -67,7 +68,7 @@ class DemandStruct(ctypes.Structure):
     _fields_ = [("how_sender", c_uint32), ("how_receiver", c_uint32), ("how_time", c_uint32),
                 ("how_number", c_uint32), ("number", c_uint64), ("skew", c_uint32),
                 ("sender", AddressStruct), ("receiver", AddressStruct),
-                ("reserved", c_uint32 * 5)]
+                ("needs_time_or_number", c_uint32), ("reserved", c_uint32 * 4)]
 
 
 class CarriedStruct(ctypes.Structure):
@@ -100,6 +101,7 @@ _BYTES = [c_char_p, c_size_t]                   # what is read
 _ROOM = [POINTER(c_uint8), c_size_t]             # what is written
 _SIZE = POINTER(c_size_t)
 _STATE = POINTER(c_uint8)        # PEER_STATE_SIZE bytes
+_HISTORY = POINTER(c_uint8)      # HISTORY_SIZE bytes
 _KEPT = [_AT, c_size_t, _AT]     # what is written, and its size
 
 CALLS: Dict[str, Tuple[Any, List[Any]]] = {
@@ -141,6 +143,7 @@ CALLS: Dict[str, Tuple[Any, List[Any]]] = {
     "krbrelay_peer_free": (None, [_HANDLE]),
     "krbrelay_window_new": (None, [POINTER(WindowStruct), c_uint64]),
     "krbrelay_window_take": (c_uint32, [POINTER(WindowStruct), c_uint64]),
+    "krbrelay_history_add": (c_uint32, [_HISTORY, *_BYTES]),
     "krbrelay_message_header": (c_uint32, [*_BYTES, POINTER(HeaderStruct)]),
     "krbrelay_answer_name": (c_uint32, [c_uint32, *_ROOM, _SIZE]),
     "krbrelay_answer_text": (c_uint32, [c_uint32, *_ROOM, _SIZE]),

@@ -36,7 +36,8 @@ class How(enum.IntEnum):
     REQUIRED = 2
     """It doesn't meet the demand."""
     ABSENT_IS_0 = 3
-    """Of sequence numbers alone: it has the number 0."""
+    """Of sequence numbers and times: an integer that is left out is 0 (RFC 4120 section 5.1.2). The
+    message has the number 0, or its time is a whole second."""
 
 
 # ---- arguments
@@ -190,8 +191,8 @@ def body_of(user_data: bytes, carried: CarriedStruct) -> Body:
 @dataclasses.dataclass(frozen=True)
 class Demand:
     """What `Opener.open` and a Peer demand of an authentic message: of each field that isn't None,
-    that the message's fits. The checks come in the order of addresses, time and number:
-    Code.BADADDR, Code.SKEW, Code.BADORDER."""
+    that the message's fits. The checks come in the order of addresses, time, number, and whether one
+    of both is told: Code.BADADDR, Code.SKEW, Code.BADORDER, Code.MODIFIED."""
     sender: Optional[Address] = None
     receiver: Optional[Address] = None
     skew: Optional[int] = None
@@ -201,6 +202,9 @@ class Demand:
     how_receiver: How = How.REQUIRED
     how_time: How = How.REQUIRED
     how_number: How = How.REQUIRED
+    needs_time_or_number: bool = False
+    """Whether a message that tells neither its time nor its number is refused, as RFC 4120 asks in
+    sections 3.4.2 and 3.5.2."""
 
 
 def demand_struct(demand: Demand) -> DemandStruct:
@@ -215,6 +219,7 @@ def demand_struct(demand: Demand) -> DemandStruct:
         ranged("the skew", demand.skew or 0, 0, 2**32 - 1),
         optional_struct("the sender", demand.sender),
         optional_struct("the receiver", demand.receiver),
+        bool(demand.needs_time_or_number),
     )
 
 

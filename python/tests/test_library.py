@@ -138,7 +138,7 @@ class TheHeader(unittest.TestCase):
         limits = dict(re.findall(r"^#define KRBRELAY_(\w+) (\d+)$", self.text, re.M))
         for name in ("USER_DATA_LIMIT", "FRAME_LIMIT", "ADDRESS_LIMIT"):
             self.assertEqual(str(getattr(krbrelay, name)), limits[name])
-        for name in ("TEXT_SIZE", "PEER_STATE_SIZE"):
+        for name in ("TEXT_SIZE", "PEER_STATE_SIZE", "HISTORY_SIZE"):
             self.assertEqual(str(getattr(library, name)), limits[name])
         self.assertEqual(str(library.MAJOR), limits["VERSION_MAJOR"])
 

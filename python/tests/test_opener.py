@@ -180,6 +180,8 @@ class Opening(unittest.TestCase):
                 (Demand(receiver=OTHER, how_receiver=How.IF_PRESENT), [38, met, 38, 38]),
                 (Demand(skew=0), [met, met, 37, met]),
                 (Demand(skew=0, how_time=How.IF_PRESENT), ignored),
+                (Demand(skew=0, how_time=How.ABSENT_IS_0), [met, met, 37, met]),
+                (Demand(needs_time_or_number=True), ignored),
                 (Demand(number=7), [met, met, met, 42]),
                 (Demand(number=7, how_number=How.IF_PRESENT), ignored),
                 (Demand(number=8, how_number=How.IF_PRESENT), [42, 42, 42, met]),
@@ -193,11 +195,39 @@ class Opening(unittest.TestCase):
         self.assertEqual(self.outcomes(Demand(skew=1, number=8), MICROS + 10**6 + 1), [37] * 4)
         self.assertEqual(self.outcomes(Demand(number=0), number=0), [met, met, met, 42])
 
+    def test_absent_microseconds(self):
+        second = MICROS - MICROS % 10**6
+        frame = frame_of(KEYS[1], Mode.PRIV, b"Dhi", 7, left_out=(0xA2,))
+        with Opener(18, KEYS[1], mode=Mode.PRIV) as opener:
+            for how, skew, at, expected in (
+                    (How.REQUIRED, 300, second, 37), (How.IF_PRESENT, 300, second, 37),
+                    (How.ABSENT_IS_0, 0, second, b"Dhi"), (How.ABSENT_IS_0, 0, second + 1, 37),
+                    (How.ABSENT_IS_0, 1, second + 10**6, b"Dhi"),
+                    (How.ABSENT_IS_0, 1, second - 10**6, b"Dhi"),
+                    (How.ABSENT_IS_0, 1, second + 10**6 + 1, 37)):
+                opened = outcome(opener.open, frame, Demand(skew=skew, how_time=how), at)
+                self.assertEqual(opened if isinstance(opened, int) else opened.user_data, expected)
+
+    def test_neither_time_nor_number(self):
+        number, time = WITHOUT["number"], WITHOUT["time"]
+        needs = dict(needs_time_or_number=True)
+        for left_out, demand, expected in (
+                (number + time, Demand(), None), (number + time, Demand(**needs), 41),
+                (number, Demand(**needs), None), (time, Demand(**needs), None),
+                (number + (0xA2,), Demand(**needs), 41),
+                (number + (0xA2,), Demand(skew=1, how_time=How.ABSENT_IS_0, **needs), None),
+                (number + time, Demand(number=0, how_number=How.ABSENT_IS_0, **needs), None),
+                (number + time, Demand(number=7, how_number=How.IF_PRESENT, **needs), 41)):
+            frame = frame_of(KEYS[0], Mode.SAFE, b"Dhi", 7, left_out=left_out)
+            with Opener(17, KEYS[0], mode=Mode.SAFE) as opener:
+                opened = outcome(opener.open, frame, demand, MICROS)
+            self.assertEqual(opened if isinstance(opened, int) else None, expected, demand)
+
     def test_no_demands(self):
         frame = frame_of(KEYS[0], Mode.SAFE, b"")
         with opener_of(KEYS[0], Mode.SAFE) as opener:
             for demand in (Demand(number=-1), Demand(number=2**64), Demand(skew=2**32),
-                           Demand(skew=-1), Demand(skew=0, how_time=How.ABSENT_IS_0),
+                           Demand(skew=-1), Demand(skew=0, how_time=4),
                            Demand(receiver=SENDER, how_receiver=How.ABSENT_IS_0),
                            Demand(number=7, how_number=4), Demand(number=7, how_number=0)):
                 with self.assertRaises(ValueError):

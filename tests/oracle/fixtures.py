@@ -69,7 +69,8 @@ def odd_bodies():
     yield "safe 17, an empty checksum", safe(INNER, 15, b"")
     yield "safe 17, what is under the checksum", safe(INNER, 0, b"")
     for name, tags in (("no usec", (0xA2,)), ("no time", (0xA1,)), ("neither", (0xA1, 0xA2)),
-                       ("no number", (0xA3,))):
+                       ("no number", (0xA3,)), ("neither time nor number", (0xA1, 0xA2, 0xA3)),
+                       ("seconds and no number", (0xA2, 0xA3))):
         yield f"safe 17, {name}", seal_safe(KEY_128, body_of(b"Dhi", left_out=tags))
     yield "safe 17, a byte more", safe(INNER, 15, checksum_of(KEY_128, INNER) + b"\0")
 

@@ -75,7 +75,7 @@ PLANTS = [
     Plant("an etype of 64 bits in proved.h", PROVED, declares("krbrelay_proved_sealer_new"),
           "int32_t etype", "int64_t etype", "krbrelay_proved_sealer_new of proved.h: "),
     Plant("a field less in reserve", HEADER, r"^struct krbrelay_demand \{.*?\n\};",
-          "reserved[5]", "reserved[4]", "struct krbrelay_demand, reserved: "),
+          "reserved[4]", "reserved[3]", "struct krbrelay_demand, reserved: "),
     Plant("a field more", HEADER, r"^struct krbrelay_place \{.*?\n\};",
           "uint32_t known; ", "uint32_t known, more; ",
           "struct krbrelay_place: fields, size and alignment: "),

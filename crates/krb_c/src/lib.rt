@@ -5,11 +5,13 @@
 //! receiver or a peer on the heap. Each export says of the handle what the function of `krb_structs` says: its
 //! answer is that of the first condition that doesn't hold. The progress of a session's frames
 //! ([`krb_carry::Progress`]), the place of a session ([`krb_carry::Place`]) and a window
-//! ([`krb_window::Window`]) have no handle: they are numbers of the caller's.
+//! ([`krb_window::Window`]) have no handle: they are numbers of the caller's. Nor has the history of a
+//! session ([`krb_history::with_frame`]), which is bytes of the caller's.
 #![tactic(auto)]
 
 mod handle;
 mod held;
+mod history_calls;
 mod message_calls;
 mod opener_calls;
 mod opener_handle;

@@ -9,6 +9,7 @@ use Rattle.krb_der.specs.Moment.{last_moment, micros_per_second, moment_of, secs
 use Rattle.krb_etype.specs.declared.etype.Etype.{Etype}
 use Rattle.krb_etype.specs.Etype.{confounder_size, number_of}
 use Rattle.krb_seal.specs.Authentic.{Authenticates, GivesBody}
+use Rattle.krb_seal.specs.declared.session.Session.{Session}
 use Rattle.krb_seal.specs.Opens.{opener_of}
 use Rattle.krb_seal.specs.Seals.{Seals, body_of, sealed}
 use Rattle.krb_seal.specs.Sealer.{end_of_numbers}
@@ -16,7 +17,7 @@ use Rattle.krb_seal.proofs.Authentics.{sealed_is_authentic}
 use Rattle.krb_seal.proofs.SealedFrames.{all_met}
 use Rattle.krb_structs.specs.Carried.{carried_of}
 use Rattle.krb_structs.specs.declared.demand.KrbDemand.{KrbDemand}
-use Rattle.krb_structs.specs.Demand.{demand_checks, number_meets, time_meets}
+use Rattle.krb_structs.specs.Demand.{demand_checks, needs_meet, number_meets, time_meets}
 use Rattle.krb_structs.specs.Opening.{Gives, GivesTo}
 use Rattle.krb_structs.specs.Peer.{PeerState, peer_expect, peer_opened, peer_sealed}
 use Rattle.krb_structs.specs.Session.{expect_of, session_of}
@@ -29,6 +30,10 @@ use Rattle.krb_seal.proofs.ExistsLemmas.{one_exists}
 pub or_right : (a b : Bool) → b ≡ true → (a || b) ≡ true
 or_right true b e = refl
 or_right false b e = e
+
+-- a body with a time and a number tells enough
+pub sealed_tells : (d : KrbDemand) (s : Session) (n : ℕ) (user : List ℕ) (at : ℕ) → needs_meet d (body_of s n user at) ≡ true
+sealed_tells d s n user at = or_right (nat_eq d.needs_time_or_number 0) true refl
 
 -- calls that seal and open one frame, and those after them
 call_left : (a c : PeerCall) (xs ys : List PeerCall) → ◌≡◌ {A = List PeerCall} (a ∷ xs) (c ∷ ys) → a ≡ c
@@ -72,7 +77,7 @@ module _ (etype : Etype) (a b : PeerEnd) (at : ℕ) (conf : List ℕ) (known : n
       let mine : Seals b.etype b.key s n user at conf (frame_at n user) = rw (← peers.etype, ← peers.key) (seals_at n user can) in
       let its : Authenticates (opener_of b.etype b.key x) (frame_at n user) (Ok body) = sealed_is_authentic b.etype b.key s x n at user conf (frame_at n user) mine peers.mode in
       let number : number_meets (demand n) (Some n) ≡ true = or_right (nat_eq b.demand.how_number 0) (nat_eq n n) (eq-eqb n n refl) in
-      (body, (Ok body, its, all_met (demand_checks (demand n) at body) (GivesBody body) (Ok body) (suits.room, (suits.addresses, (in_time n user, (number, tt)))) refl), refl, refl)
+      (body, (Ok body, its, all_met (demand_checks (demand n) at body) (GivesBody body) (Ok body) (suits.room, (suits.addresses, (in_time n user, (number, (sealed_tells (demand n) s n user at, tt))))) refl), refl, refl)
 
   -- a talk, with what its frames are
   record Spoken (pa pb : PeerState) (data_of : List (List ℕ)) : Type 0 where

@@ -22,7 +22,7 @@ use Rattle.krb_etype.specs.Etype.{number_of}
 use Rattle.krb_etype.specs.Keys.{encryption_key, tag_of}
 use Rattle.krb_etype.proofs.Etypes.{int_is, own_checksum}
 use Rattle.krb_seal.specs.declared.refusal.Refusal.{Refusal}
-use Rattle.krb_seal.specs.declared.refusal.Refusal.TheVariants.{BadAddr, Skew, BadOrder}
+use Rattle.krb_seal.specs.declared.refusal.Refusal.TheVariants.{BadAddr, Skew, BadOrder, Modified}
 use Rattle.krb_seal.specs.declared.session.Mode.{Mode}
 use Rattle.krb_seal.specs.declared.session.Mode.TheVariants.{Safe, Priv}
 use Rattle.krb_seal.specs.declared.session.Session.{Session}
@@ -35,7 +35,7 @@ use Rattle.krb_seal.proofs.Authentics.{sealed_is_authentic}
 use Rattle.krb_seal.proofs.Outcomes.{one_authenticity, outcomes_unique, passes_unique}
 use Rattle.krb_seal.proofs.SealedFrames.{AllMet, all_met, bytes_same, encrypts, short_part}
 use Rattle.krb_structs.specs.declared.demand.KrbDemand.{KrbDemand}
-use Rattle.krb_structs.specs.Demand.{AsDemanded, all_have_room, demand_checks, number_meets, receiver_meets, sender_meets, time_meets}
+use Rattle.krb_structs.specs.Demand.{AsDemanded, all_have_room, demand_checks, needs_meet, number_meets, receiver_meets, sender_meets, time_meets}
 use Rattle.krb_structs.specs.Session.{address_of}
 use Rattle.krb_peer_laws.specs.Reflection.{OpenersRefuseOwn, PeersRefuseOwn, AddressesTell}
 
@@ -137,7 +137,7 @@ module _ (d : KrbDemand) (now : ℕ) (b : Body) (asked : ¬ (d.how_sender ≡ 0)
   not_as_demanded : AsDemanded d now (Ok b) (Err BadAddr)
   not_as_demanded =
       room_or_not (all_have_room b.s_addr b.r_addr) (sender_meets d b.s_addr && receiver_meets d b.r_addr)
-      ((time_meets d now b, Skew) ∷ (number_meets d b.seq, BadOrder) ∷ []) (GivesBody b) (neither (sender_meets d b.s_addr) (receiver_meets d b.r_addr) unmet)
+      ((time_meets d now b, Skew) ∷ (number_meets d b.seq, BadOrder) ∷ (needs_meet d b, Modified) ∷ []) (GivesBody b) (neither (sender_meets d b.s_addr) (receiver_meets d b.r_addr) unmet)
 
   only_bad : (outcome : Authenticity) → AsDemanded d now (Ok b) outcome → outcome ≡ Err BadAddr
   only_bad outcome is = passes_unique (demand_checks d now b) (GivesBody b) (λ y z p r. p ∙ sym r) outcome (Err BadAddr) is not_as_demanded
@@ -153,20 +153,21 @@ peers_refuse etype key s x d q at now user conf frame outcome seals mode asked o
 
 -- ---- the refusal by addresses
 
-abbrev Tests : Bool → Bool → Bool → Bool → Checks
-Tests room addresses current number = (room, BadAddr) ∷ (addresses, BadAddr) ∷ (current, Skew) ∷ (number, BadOrder) ∷ []
+abbrev Tests : Bool → Bool → Bool → Bool → Bool → Checks
+Tests room addresses current number needs = (room, BadAddr) ∷ (addresses, BadAddr) ∷ (current, Skew) ∷ (number, BadOrder) ∷ (needs, Modified) ∷ []
 
-by_addresses : (room addresses current number : Bool) (b : Body) → Passes (Tests room addresses current number) (GivesBody b) (Err BadAddr) → (room && addresses) ≡ false
-by_addresses false addresses current number b p = refl
-by_addresses true false current number b p = refl
-by_addresses true true false number b p = absurd (let e : ◌≡◌ {A = Authenticity} (Err BadAddr) (Err Skew) = p in cc)
-by_addresses true true true false b p = absurd (let e : ◌≡◌ {A = Authenticity} (Err BadAddr) (Err BadOrder) = p in cc)
-by_addresses true true true true b p = absurd (let e : ◌≡◌ {A = Authenticity} (Err BadAddr) (Ok b) = p in cc)
+by_addresses : (room addresses current number needs : Bool) (b : Body) → Passes (Tests room addresses current number needs) (GivesBody b) (Err BadAddr) → (room && addresses) ≡ false
+by_addresses false addresses current number needs b p = refl
+by_addresses true false current number needs b p = refl
+by_addresses true true false number needs b p = absurd (let e : ◌≡◌ {A = Authenticity} (Err BadAddr) (Err Skew) = p in cc)
+by_addresses true true true false needs b p = absurd (let e : ◌≡◌ {A = Authenticity} (Err BadAddr) (Err BadOrder) = p in cc)
+by_addresses true true true true false b p = absurd (let e : ◌≡◌ {A = Authenticity} (Err BadAddr) (Err Modified) = p in cc)
+by_addresses true true true true true b p = absurd (let e : ◌≡◌ {A = Authenticity} (Err BadAddr) (Ok b) = p in cc)
 
-to_refusal : (room addresses current number : Bool) (b : Body) → (room && addresses) ≡ false → Passes (Tests room addresses current number) (GivesBody b) (Err BadAddr)
-to_refusal false addresses current number b e = refl
-to_refusal true false current number b e = refl
-to_refusal true true current number b e = absurd (let wrong : true ≡ false = e in cc)
+to_refusal : (room addresses current number needs : Bool) (b : Body) → (room && addresses) ≡ false → Passes (Tests room addresses current number needs) (GivesBody b) (Err BadAddr)
+to_refusal false addresses current number needs b e = refl
+to_refusal true false current number needs b e = refl
+to_refusal true true current number needs b e = absurd (let wrong : true ≡ false = e in cc)
 
 pub addresses_tell : AddressesTell
 addresses_tell etype key s x d q at now user conf frame seals mode =
@@ -175,6 +176,6 @@ addresses_tell etype key s x d q at now user conf frame seals mode =
     let its : Authenticates o frame (Ok b) = sealed_is_authentic etype key s x q at user conf frame seals mode in
     let room = all_have_room s.s_addr s.r_addr in
     let fit = sender_meets d s.s_addr && receiver_meets d s.r_addr in (
-      λ is. by_addresses room fit (time_meets d now b) (number_meets d b.seq) b (subst (λ (y : Authenticity). AsDemanded d now y (Err BadAddr)) (one_authenticity o frame is.0 (Ok b) is.1 its) is.2),
-      λ unfit. (Ok b, its, to_refusal room fit (time_meets d now b) (number_meets d b.seq) b unfit),
+      λ is. by_addresses room fit (time_meets d now b) (number_meets d b.seq) (needs_meet d b) b (subst (λ (y : Authenticity). AsDemanded d now y (Err BadAddr)) (one_authenticity o frame is.0 (Ok b) is.1 its) is.2),
+      λ unfit. (Ok b, its, to_refusal room fit (time_meets d now b) (number_meets d b.seq) (needs_meet d b) b unfit),
     )

@@ -14,7 +14,7 @@ use Rattle.krb_structs.specs.Demand.{AsDemanded, demand_checks, number_meets}
 use Rattle.krb_structs.specs.Peer.{of_number, peer_expect}
 use Rattle.krb_structs.specs.Session.{expect_of, session_of}
 use Rattle.krb_peer_laws.specs.PeerTurn.{PeersOpenTheNext}
-use Rattle.krb_peer_laws.proofs.HappenLemmas.{or_right}
+use Rattle.krb_peer_laws.proofs.HappenLemmas.{or_right, sealed_tells}
 
 pub open_the_next : PeersOpenTheNext
 open_the_next a b n at now user conf frame outcome peers suits seals in_time =
@@ -26,7 +26,7 @@ open_the_next a b n at now user conf frame outcome peers suits seals in_time =
     let mine : Seals b.etype b.key s n user at conf frame = rw (← peers.etype, ← peers.key) seals in
     let its : Authenticates o frame (Ok body) = sealed_is_authentic b.etype b.key s x n at user conf frame mine peers.mode in
     let number : number_meets d (Some n) ≡ true = or_right (nat_eq b.demand.how_number 0) (nat_eq n n) (eq-eqb n n refl) in
-    let met : AsDemanded d now (Ok body) (Ok body) = all_met (demand_checks d now body) (GivesBody body) (Ok body) (suits.room, (suits.addresses, (in_time, (number, tt)))) refl in (
+    let met : AsDemanded d now (Ok body) (Ok body) = all_met (demand_checks d now body) (GivesBody body) (Ok body) (suits.room, (suits.addresses, (in_time, (number, (sealed_tells d s n user at, tt))))) refl in (
       λ is. passes_unique (demand_checks d now body) (GivesBody body) (λ y z p r. p ∙ sym r) outcome (Ok body) (subst (λ (y : Authenticity). AsDemanded d now y outcome) (one_authenticity o frame is.0 (Ok body) is.1 its) is.2) met,
       λ is. (Ok body, its, subst (λ (y : Authenticity). AsDemanded d now (Ok body) y) (sym is) met),
     )

@@ -3,7 +3,7 @@ use Rattle.std.proofs.Common.{◌≡◌, ℕ, List, [], ◌∷◌, Bool, true, f
 use Rattle.std.specs.Prelude.{◌&&◌, IsErrAnd}
 use Rattle.krb_der.specs.declared.body.Body.{Body}
 use Rattle.krb_seal.specs.declared.refusal.Refusal.{Refusal}
-use Rattle.krb_seal.specs.declared.refusal.Refusal.TheVariants.{BadAddr, BadOrder, Memory, Skew}
+use Rattle.krb_seal.specs.declared.refusal.Refusal.TheVariants.{BadAddr, BadOrder, Memory, Modified, Skew}
 use Rattle.krb_seal.specs.Opens.{OpenerState}
 use Rattle.krb_seal.specs.Authentic.{Authenticity, Authenticates, GivesBody}
 use Rattle.krb_seal.specs.Unseals.{OrMemory, first_unmet, refusal_of}
@@ -11,7 +11,7 @@ use Rattle.krb_seal.proofs.Checking.{not_passed, all_passed}
 use Rattle.krb_structs.specs.declared.demand.KrbDemand.{KrbDemand}
 use Rattle.krb_structs.specs.declared.carried.KrbCarried.{KrbCarried}
 use Rattle.krb_structs.specs.Carried.{carried_of}
-use Rattle.krb_structs.specs.Demand.{AsDemanded, MeetsAllButNumber, OpensWith, all_have_room, demand_checks, number_meets, receiver_meets, sender_meets, time_meets}
+use Rattle.krb_structs.specs.Demand.{AsDemanded, MeetsAllButNumber, OpensWith, all_have_room, demand_checks, needs_meet, number_meets, receiver_meets, sender_meets, time_meets}
 use Rattle.krb_structs.specs.Opening.{Misorders}
 
 goes_on : (o : OpenerState) (d : KrbDemand) (now : ℕ) (frame : List ℕ) (made : Authenticity) (b : Body) (result : Authenticity)
@@ -35,17 +35,18 @@ demand_met o d now frame made b checked x (inr h) is met was =
 
 -- ---- refused for the number alone
 
-last_unmet : (room addresses time number : Bool) → first_unmet ((room, BadAddr) ∷ (addresses, BadAddr) ∷ (time, Skew) ∷ (number, BadOrder) ∷ []) ≡ Some BadOrder
+number_unmet : (room addresses time number needs : Bool) → first_unmet ((room, BadAddr) ∷ (addresses, BadAddr) ∷ (time, Skew) ∷ (number, BadOrder) ∷ (needs, Modified) ∷ []) ≡ Some BadOrder
     → (room ≡ true) × (addresses ≡ true) × (time ≡ true) × (number ≡ false)
-last_unmet false addresses time number e = absurd cc
-last_unmet true false time number e = absurd cc
-last_unmet true true false number e = absurd cc
-last_unmet true true true true e = absurd cc
-last_unmet true true true false e = (refl, refl, refl, refl)
+number_unmet false addresses time number needs e = absurd cc
+number_unmet true false time number needs e = absurd cc
+number_unmet true true false number needs e = absurd cc
+number_unmet true true true true false e = absurd cc
+number_unmet true true true true true e = absurd cc
+number_unmet true true true false needs e = (refl, refl, refl, refl)
 
 but_number : {A : Type 0} (d : KrbDemand) (now : ℕ) (b : Body) (checked : Result A Refusal) → first_unmet (demand_checks d now b) ≡ refusal_of checked → checked ≡ Err BadOrder → MeetsAllButNumber d now b
 but_number d now b checked unmet was =
-    let met = last_unmet (all_have_room b.s_addr b.r_addr) (sender_meets d b.s_addr && receiver_meets d b.r_addr) (time_meets d now b) (number_meets d b.seq) (unmet ∙ ap refusal_of was) in
+    let met = number_unmet (all_have_room b.s_addr b.r_addr) (sender_meets d b.s_addr && receiver_meets d b.r_addr) (time_meets d now b) (number_meets d b.seq) (needs_meet d b) (unmet ∙ ap refusal_of was) in
     record { room = met.0; addresses = met.1; time = met.2; number = met.3 }
 
 pub misorders : {A : Type 0} (o : OpenerState) (d : KrbDemand) (now : ℕ) (frame : List ℕ) (made : Authenticity) (b : Body) (checked : Result A Refusal) (told : KrbCarried)

@@ -18,7 +18,7 @@ use Rattle.krb_seal.specs.OpensParts.{Outcome, Checks}
 use Rattle.krb_seal.specs.Authentic.{Authenticity, Authenticates, GivesBody}
 use Rattle.krb_seal.specs.Laws.{OpensTheAuthentic}
 use Rattle.krb_structs.specs.declared.demand.KrbDemand.{KrbDemand}
-use Rattle.krb_structs.specs.Demand.{AsDemanded, IsDemand, OpensWith, all_have_room, demand_checks, has_room, is_within, number_meets, receiver_meets, sender_meets, time_meets}
+use Rattle.krb_structs.specs.Demand.{AsDemanded, IsDemand, OpensWith, all_have_room, demand_checks, has_room, is_within, needs_meet, number_meets, receiver_meets, sender_meets, tells_number, tells_time, time_meets}
 use Rattle.krb_structs.specs.Session.{address_of, address_room}
 use Rattle.krb_structs.specs.Laws.{DemandedIsUnsealed, Demands, how_of}
 
@@ -63,6 +63,15 @@ absent : (how : ℕ) (required : Bool) → how ≡ how_of required → not (nat_
 absent how true e = rw e refl
 absent how false e = rw e refl
 
+untold : (how : ℕ) (required : Bool) → how ≡ how_of required → nat_le how 1 ≡ not required
+untold how true e = rw e refl
+untold how false e = rw e refl
+
+-- whole seconds aren't demanded
+no_seconds : (how : ℕ) (required t : Bool) → how ≡ how_of required → (nat_eq how 3 && t) ≡ false
+no_seconds how true t e = rw e refl
+no_seconds how false t e = rw e refl
+
 sender_same : (d : KrbDemand) (x : Expect) (a : HostAddress) → d.how_sender ≡ 2 → address_of d.sender ≡ x.s_addr → sender_meets d a ≡ same_address a x.s_addr
 sender_same d x a how is = asked d.how_sender true (same_address a (address_of d.sender)) how ∙ ap (λ (e : HostAddress). same_address a e) is
 
@@ -72,13 +81,27 @@ receiver_same d x (Some a) how is = asked d.how_receiver x.require_r (same_addre
 
 within_same : (d : KrbDemand) (x : Expect) (now : ℕ) (secs usec : Option ℕ) → d.how_time ≡ how_of x.expect_time → d.skew ≡ x.skew → is_within d now secs usec ≡ is_current x now secs usec
 within_same d x now (Some s) (Some u) how is = ap (λ (k : ℕ). nat_le (abs_diff now (moment_of s u)) (micros_per_second * k)) is
-within_same d x now None None how is = absent d.how_time x.expect_time how
-within_same d x now (Some s) None how is = refl
+within_same d x now None None how is = untold d.how_time x.expect_time how
+within_same d x now (Some s) None how is = no_seconds d.how_time x.expect_time (nat_le (abs_diff now (moment_of s 0)) (micros_per_second * d.skew)) how
 within_same d x now None (Some u) how is = refl
 
 number_same : (d : KrbDemand) (n : ℕ) (seq : Option ℕ) → d.how_number ≡ 2 → d.number ≡ n → number_meets d seq ≡ is_number n seq
 number_same d n None how is = rw how refl
 number_same d n (Some q) how is = asked d.how_number true (nat_eq q d.number) how ∙ ap (λ (k : ℕ). nat_eq q k) is
+
+-- a number that is the demanded one is told
+told_number : (d : KrbDemand) (n : ℕ) (seq : Option ℕ) → is_number n seq ≡ true → tells_number d seq ≡ true
+told_number d n None h = absurd cc
+told_number d n (Some q) h = refl
+
+or_true : (a b : Bool) → b ≡ true → (a || b) ≡ true
+or_true true b h = refl
+or_true false b h = h
+
+needs_met : (d : KrbDemand) (n : ℕ) (b : Body) → is_number n b.seq ≡ true → needs_meet d b ≡ true
+needs_met d n b h =
+    let number = told_number d n b.seq h in
+    or_true (nat_eq d.needs_time_or_number 0) (tells_time d b.time b.usec || tells_number d b.seq) (or_true (tells_time d b.time b.usec) (tells_number d b.seq) number)
 
 -- ---- an address that is the one of a demand has room
 
@@ -120,7 +143,7 @@ to_demand d x n now b is h met =
     let time = time_same d x now b h.how_time h.skew ∙ met.1.0 in
     let number = number_same d n b.seq h.how_number h.number ∙ met.1.1.0 in
     let room = all_room d x b.s_addr b.r_addr is h.sender h.receiver addresses.0 addresses.1 in
-    (room, (and_true (sender_meets d b.s_addr) (receiver_meets d b.r_addr) sender receiver, (time, (number, tt))))
+    (room, (and_true (sender_meets d b.s_addr) (receiver_meets d b.r_addr) sender receiver, (time, (number, (needs_met d n b met.1.1.0, tt)))))
 
 -- ---- the law
 

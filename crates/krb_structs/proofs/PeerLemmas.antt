@@ -26,7 +26,7 @@ renumbered d n is fits =
     let hows = is.is_demand.hows in let addresses = is.is_demand.addresses in let numbers = is.is_demand.numbers in
     record {
       is_demand = record {
-        hows = record { sender = hows.sender; receiver = hows.receiver; time = hows.time; number = hows.number };
+        hows = record { sender = hows.sender; receiver = hows.receiver; time = hows.time; number = hows.number; needs = hows.needs };
         addresses = record { sender = addresses.sender; receiver = addresses.receiver; no_sender = addresses.no_sender; no_receiver = addresses.no_receiver };
         numbers = record { no_time = numbers.no_time; no_number = λ zero. absurd (demanded d.how_number is.how_number zero); reserved = numbers.reserved };
       };

@@ -1,6 +1,6 @@
 -- What a caller demands of an authentic message, each demand with a number that says how: 0
--- nothing, 1 that what the message tells fits, 2 that the message tells it and it fits. Of the
--- sequence number 3 says that a message without one has the number 0.
+-- nothing, 1 that what the message tells fits, 2 that the message tells it and it fits. 3 says so
+-- of a number and a time, and counts an absent integer as 0 (RFC 4120 section 5.1.2).
 use Rattle.std.specs.Prelude.{◌≡◌, ℕ, ◌*◌, ◌≤◌, Bool, true, false, not, ◌&&◌, ◌||◌, [], ◌∷◌, List, length}
 use Rattle.std.specs.Prelude.{Option, Some, None, Ok, Err, nat_le, nat_eq}
 use Rattle.std.specs.Option.{ForSome}
@@ -8,7 +8,7 @@ use Rattle.krb_der.specs.declared.address.HostAddress.{HostAddress}
 use Rattle.krb_der.specs.declared.body.Body.{Body}
 use Rattle.krb_der.specs.Moment.{micros_per_second, moment_of}
 use Rattle.krb_der.specs.Address.{same_address}
-use Rattle.krb_seal.specs.declared.refusal.Refusal.TheVariants.{BadAddr, Skew, BadOrder}
+use Rattle.krb_seal.specs.declared.refusal.Refusal.TheVariants.{BadAddr, Skew, BadOrder, Modified}
 use Rattle.krb_seal.specs.Session.{IsShortAddress}
 use Rattle.krb_seal.specs.Opens.{OpenerState, Passes}
 use Rattle.std.specs.Int.{abs_diff}
@@ -21,8 +21,9 @@ use Rattle.krb_structs.specs.Session.{AreZeros, IsNoAddress, address_of, address
 pub record AreHows (d : KrbDemand) : Type 0 where
   pub sender : d.how_sender ≤ 2
   pub receiver : d.how_receiver ≤ 2
-  pub time : d.how_time ≤ 2
+  pub time : d.how_time ≤ 3
   pub number : d.how_number ≤ 3
+  pub needs : d.needs_time_or_number ≤ 1
 
 -- the addresses fit, and are zeros where none is demanded
 pub record AreAddresses (d : KrbDemand) : Type 0 where
@@ -64,11 +65,13 @@ receiver_meets d None = not (nat_eq d.how_receiver 2)
 receiver_meets d (Some a) = nat_eq d.how_receiver 0 || same_address a (address_of d.receiver)
 
 -- in whole microseconds, and both ends of the window are in it
+abbrev pub is_near : KrbDemand → ℕ → ℕ → Bool
+is_near d now at = nat_le (abs_diff now at) (micros_per_second * d.skew)
+
 abbrev pub is_within : KrbDemand → ℕ → Option ℕ → Option ℕ → Bool
-is_within d now (Some secs) (Some usec) =
-    nat_le (abs_diff now (moment_of secs usec)) (micros_per_second * d.skew)
-is_within d now None None = not (nat_eq d.how_time 2)
-is_within d now (Some secs) None = false
+is_within d now (Some secs) (Some usec) = is_near d now (moment_of secs usec)
+is_within d now (Some secs) None = nat_eq d.how_time 3 && is_near d now (moment_of secs 0)
+is_within d now None None = nat_le d.how_time 1
 is_within d now None (Some usec) = false
 
 abbrev pub time_meets : KrbDemand → ℕ → Body → Bool
@@ -79,6 +82,23 @@ number_meets d None =
     not (nat_eq d.how_number 2) && (not (nat_eq d.how_number 3) || nat_eq d.number 0)
 number_meets d (Some n) = nat_eq d.how_number 0 || nat_eq n d.number
 
+-- the message tells its time, as far as it is demanded
+abbrev pub tells_time : KrbDemand → Option ℕ → Option ℕ → Bool
+tells_time d (Some secs) (Some usec) = true
+tells_time d (Some secs) None = nat_eq d.how_time 3
+tells_time d None (Some usec) = false
+tells_time d None None = false
+
+-- the message tells its number, or it is counted as 0
+abbrev pub tells_number : KrbDemand → Option ℕ → Bool
+tells_number d None = nat_eq d.how_number 3
+tells_number d (Some n) = true
+
+-- the message tells its time or its number, where one of both is needed
+abbrev pub needs_meet : KrbDemand → Body → Bool
+needs_meet d b =
+    nat_eq d.needs_time_or_number 0 || (tells_time d b.time b.usec || tells_number d b.seq)
+
 -- ---- the checks, in their order
 
 abbrev pub demand_checks : KrbDemand → ℕ → Body → Checks
@@ -87,6 +107,7 @@ demand_checks d now b =
     ∷ (sender_meets d b.s_addr && receiver_meets d b.r_addr, BadAddr)
     ∷ (time_meets d now b, Skew)
     ∷ (number_meets d b.seq, BadOrder)
+    ∷ (needs_meet d b, Modified)
     ∷ []
 
 -- The body meets all of a demand but its number.

@@ -8,7 +8,7 @@ ghost use Rattle.krb_seal.specs.Unseals.{OrMemory, first_unmet, refusal_of};
 ghost use Rattle.krb_structs.specs.Carried.{carried_of};
 ghost use Rattle.krb_structs.specs.Opening.{Misorders};
 ghost use Rattle.krb_structs.specs.Session.{address_of, address_room};
-ghost use Rattle.krb_structs.specs.Demand.{AreAddresses, AreHows, AreNumbers, AreShort, IsDemand, OpensWith, all_have_room, demand_checks, has_room, is_within, number_meets, receiver_meets, sender_meets, time_meets};
+ghost use Rattle.krb_structs.specs.Demand.{AreAddresses, AreHows, AreNumbers, AreShort, IsDemand, OpensWith, all_have_room, demand_checks, has_room, is_near, is_within, needs_meet, number_meets, receiver_meets, sender_meets, tells_number, tells_time, time_meets};
 
 use crate::carried::{KrbCarried, carried};
 use crate::session::{ADDRESS_ROOM, KrbAddress, are_zeros, is_no_address};
@@ -19,7 +19,9 @@ use std::alloc::Global;
 
 /// What is demanded of the addresses, the time and the number of a message, each by a number that
 /// says how: 0 nothing, 1 that what the message tells fits, 2 that the message tells it and it
-/// fits. Of the sequence number 3 says that a message without one has the number 0.
+/// fits. 3 says so of a number and a time, and counts an absent integer as 0 (RFC 4120 section
+/// 5.1.2): a message without a number has the number 0, and a time without microseconds is a whole
+/// second.
 #[repr(C)]
 #[derive(Clone, Copy)]
 pub struct KrbDemand {
@@ -39,8 +41,11 @@ pub struct KrbDemand {
     pub sender: KrbAddress,
     /// The receiver's address, where one is demanded; else zeros.
     pub receiver: KrbAddress,
+    /// 1 refuses a message that tells neither its time nor a number (RFC 4120 sections 3.4.2 and
+    /// 3.5.2); else 0.
+    pub needs_time_or_number: u32,
     /// Zeros.
-    pub reserved: [u32; 5],
+    pub reserved: [u32; 4],
 }
 
 /// Whether the demands are ones that there are.
@@ -49,8 +54,9 @@ fn are_hows(demand: &KrbDemand) -> bool
 {
     demand.how_sender <= 2
         && demand.how_receiver <= 2
-        && demand.how_time <= 2
+        && demand.how_time <= 3
         && demand.how_number <= 3
+        && demand.needs_time_or_number <= 1
 }
 
 /// Whether the addresses fit, and are zeros where none is demanded.
@@ -121,17 +127,25 @@ fn receiver_meets(demand: &KrbDemand, receiver: &Option<HostAddress>) -> bool
     }
 }
 
+/// Whether a moment, in microseconds, is off by at most the skew.
+fn is_near(demand: &KrbDemand, now: u64, at: u64) -> bool
+    ensures { result ≡ is_near demand.now now at }
+{
+    now.abs_diff(at) <= MICROS_PER_SECOND * u64::from(demand.skew)
+}
+
 fn is_within(demand: &KrbDemand, now: u64, body: &Body) -> bool
     requires { InRange body.now }
     ensures { result ≡ is_within demand.now now body.now.time body.now.usec }
 {
     match (body.time, body.usec) {
         (Some(secs), Some(usec)) => {
-            let at = MICROS_PER_SECOND * secs + u64::from(usec);
-            now.abs_diff(at) <= MICROS_PER_SECOND * u64::from(demand.skew)
+            is_near(demand, now, MICROS_PER_SECOND * secs + u64::from(usec))
         }
-        (None, None) => demand.how_time != 2,
-        (Some(_), None) => false,
+        (Some(secs), None) => {
+            demand.how_time == 3 && is_near(demand, now, MICROS_PER_SECOND * secs)
+        }
+        (None, None) => demand.how_time <= 1,
         (None, Some(_)) => false,
     }
 }
@@ -150,6 +164,31 @@ fn number_meets(demand: &KrbDemand, seq: Option<u32>) -> bool
         None => demand.how_number != 2 && (demand.how_number != 3 || demand.number == 0),
         Some(n) => demand.how_number == 0 || u64::from(n) == demand.number,
     }
+}
+
+fn tells_time(demand: &KrbDemand, body: &Body) -> bool
+    ensures { result ≡ tells_time demand.now body.now.time body.now.usec }
+{
+    match (body.time, body.usec) {
+        (Some(_), Some(_)) => true,
+        (Some(_), None) => demand.how_time == 3,
+        (None, _) => false,
+    }
+}
+
+fn tells_number(demand: &KrbDemand, seq: Option<u32>) -> bool
+    ensures { result ≡ tells_number demand.now seq }
+{
+    match seq {
+        None => demand.how_number == 3,
+        Some(_) => true,
+    }
+}
+
+fn needs_meet(demand: &KrbDemand, body: &Body) -> bool
+    ensures { result ≡ needs_meet demand.now body.now }
+{
+    demand.needs_time_or_number == 0 || tells_time(demand, body) || tells_number(demand, body.seq)
 }
 
 /// The addresses, the time and the number of an authentic body.
@@ -172,6 +211,9 @@ fn check_demand(demand: &KrbDemand, now: u64, body: &Body) -> Result<(), Refusal
     }
     if !number_meets(demand, body.seq) {
         return Err(Refusal::BadOrder);
+    }
+    if !needs_meet(demand, body) {
+        return Err(Refusal::Modified);
     }
     Ok(())
 }

@@ -89,7 +89,8 @@ const DEMANDS_7: KrbDemand = KrbDemand {
     skew: 0,
     sender: NO_ADDRESS,
     receiver: NO_ADDRESS,
-    reserved: [0; 5],
+    needs_time_or_number: 0,
+    reserved: [0; 4],
 };
 
 const NO_ADDRESS: KrbAddress = KrbAddress {
