@@ -225,6 +225,12 @@ static uint32_t place_take(void)
     return krbrelay_place_take(&place, 9, &taken, &told.kind);
 }
 
+static uint32_t history_add(void)
+{
+    uint8_t history[KRBRELAY_HISTORY_SIZE] = { 0 };
+    return krbrelay_history_add(history, given.body, given.body_len);
+}
+
 static struct krbrelay_window window;
 static uint32_t window_new(void) { krbrelay_window_new(&window, NUMBER); return KRBRELAY_OK; }
 
@@ -270,7 +276,7 @@ struct call calls[] = {
     NONE(batch_next, NO_HANDLE), NONE(progress_new, NO_HANDLE), NONE(progress_store, NO_HANDLE),
     NONE(progress_publish, NO_HANDLE), NONE(progress_confirm, NO_HANDLE), NONE(progress_rewind, NO_HANDLE),
     NONE(place_take, NO_HANDLE), NONE(place_read_again, NO_HANDLE), NONE(window_new, NO_HANDLE),
-    NONE(window_take, NO_HANDLE),
+    NONE(window_take, NO_HANDLE), NONE(history_add, NO_HANDLE),
 };
 const int call_count = sizeof calls / sizeof *calls;
 
