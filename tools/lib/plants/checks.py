@@ -54,16 +54,15 @@ def c_test(copy: Copy, name: str) -> Told:
 
 # ---- the program
 
-def pytest(copy: Copy, *words: str) -> Told:
-    return copy.run(["python3", "-m", "pytest", "-q", "-x", *words], cwd=copy.top)
+OF_PROGRAM = {"tests": ["pytest", "-q", "-x", "tests/test_program.py"],
+              "sweep": ["tests/sweep", "program"], "residue": ["tests/residue", "--program"],
+              "job_costs": ["tests/job_costs", "--check"], "costs": ["tests/program_costs"]}
 
 
 def of_program(copy: Copy, what: str) -> Told:
-    words = {"tests": ["python3", "-m", "pytest", "-q", "-x", "tests/test_program.py"],
-             "sweep": ["tests/sweep", "program"], "residue": ["tests/residue", "--program"],
-             "costs": ["tests/job_costs", "--check"]}[what]
-    return copy.run([*words, *([] if what == "tests" else [copy.program])], cwd=copy.top,
-                    env={**os.environ, "KRBRELAY": copy.program})
+    if not copy.program:
+        return False, "there is no program"
+    return copy.run(OF_PROGRAM[what], cwd=copy.top)
 
 
 # ---- the carrier
@@ -83,7 +82,7 @@ def carrier(copy: Copy, what: str) -> Told:
 # ---- tools, and the prover
 
 def tool(copy: Copy, what: str) -> Told:
-    return copy.run({"self": ["python3", "-m", "pytest", "-q", "-x", "tests/test_tools.py"],
+    return copy.run({"self": ["pytest", "-q", "-x", "tests/test_tools.py"],
                      "test_building": ["tools/test_building"]}[what], cwd=copy.top)
 
 
@@ -93,8 +92,10 @@ def crate(copy: Copy, name: str) -> Told:
 
 
 def prover(copy: Copy, name: str, function: str) -> Told:
-    """Whether the prover takes one function of a crate. What stands below is proved first."""
-    return copy.run(["rt", "check", "--only", function], cwd=f"{copy.top}/crates/{name}")
+    """Whether the prover takes a crate, of which this function is changed. What it has kept of the crates
+    below is not proved again."""
+    proved, said = copy.run(["rt", "ci", name], cwd=copy.top)
+    return proved, f"error: {function}: {said}"
 
 
 CHECKS: dict[str, Callable[..., Told]] = {"c": c_test, "program": of_program, "carrier": carrier,
@@ -108,6 +109,6 @@ def run(copy: Copy, check: str) -> Told:
 
 def last_words(said: str) -> str:
     """The first line that tells a fault, or the last line."""
-    lines = [it.strip() for it in said.splitlines() if it.strip()]
+    lines = [it.strip() for it in said.splitlines() if it.strip() and not it.startswith("time=")]
     told = [it for it in lines if re.search(r"not so|FAILED|wrong|error|differs", it)]
     return (told or lines or [""])[0][:150]
