@@ -33,6 +33,8 @@ ANY = "fn any<T>() -> T {\n    loop {}\n}\n"
 SECONDS = 300
 WORDS = ["-march=x86-64-v2", "--no-default-config", "-c", "-O3", "-ffunction-sections", "-fdata-sections"]
 CHECKS = re.compile(r'(?m)^  call void @"rattle-llvm-checks::\w+"\(.*\n')
+# Of each variable: `rt try` fills it, so that what isn't written is seen.
+FILLED = re.compile(r"(?m)^  call void @llvm\.memset\.p0\.i64\(ptr %\w+, i8 -86, .*\n")
 WATCHED = re.compile(r' sanitize_address|"frame-pointer"="all"|"probe-stack"="inline-asm"|"stack-probe-size"="\d+"')
 
 
@@ -84,7 +86,7 @@ def module_of(top, crate, folder):
 
 
 def without_checks(text):
-    text = CHECKS.sub("", WATCHED.sub("", text))
+    text = FILLED.sub("", CHECKS.sub("", WATCHED.sub("", text)))
     return re.sub(r"(?m)^(attributes #\d+ = )\{ *\}", r"\1{ nounwind }", text)
 
 

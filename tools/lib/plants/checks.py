@@ -71,8 +71,8 @@ def carrier(copy: Copy, what: str) -> Told:
     """One of the units."""
     made, folder = f"{copy.place('programs')}/{what}", copy.place("stores")
     built, said = copy.run(["make", "-s", "-C", f"{copy.top}/carrier/tests", f"SOURCES={copy.top}/carrier",
-                            f"OUT={os.path.dirname(made)}", f"PREFIX={copy.installed}", "WITH_NATS=no",
-                            "WITH_POSTGRESQL=no", made])
+                            f"OUT={os.path.dirname(made)}", f"PREFIX={copy.installed}",
+                            *(f"WITH_{it}=no" for it in ("NATS", "POSTGRESQL")), made])
     if not built:
         return built, said
     os.makedirs(folder, exist_ok=True)

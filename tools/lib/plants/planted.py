@@ -26,8 +26,12 @@ class Plant:
 def all_plants() -> dict[str, Plant]:
     with open(os.path.join(building.TOP, TABLE), "rb") as file:
         rows = tomllib.load(file)
-    return {name: Plant(name, row["harm"], tuple(row["by"]), tuple(map(tuple, row["edits"])))
-            for name, row in rows.items()}
+    plants = {name: Plant(name, row["harm"], tuple(row["by"]), tuple(map(tuple, row["edits"])))
+              for name, row in rows.items()}
+    idle = [it.name for it in plants.values() if not it.edits or not it.checks]
+    if idle:
+        raise NoPlant(f"without an edit or a check: {', '.join(idle)}")
+    return plants
 
 
 def edited(text: str, old: str, new: str, where: str) -> str:
