@@ -10,7 +10,7 @@
 #include <string.h>
 #include <valgrind/callgrind.h>
 
-enum { NUMBER = 7, MOST = 262144, FRAME = MOST + 500, LINE = 200 };
+enum { NUMBER = 7, MOST = 262144, FRAME = MOST + 500, LINE = 200, CODE = 12 };
 
 /* ---- the allocator, which counts; the library's calls come here too */
 
@@ -187,6 +187,14 @@ static void measure(const struct call *call, const char *what)
     end_all();
 }
 
+/* The frame ends by its checksum or code. */
+static void measure_changed(const struct call *call, size_t at, const char *what)
+{
+    frame[at] ^= 1;
+    measure(call, what);
+    frame[at] ^= 1;
+}
+
 static void measure_all(void)
 {
     seal_frame();
@@ -196,9 +204,8 @@ static void measure_all(void)
         measure(&calls[i], "done");
         if (!calls[i].opens || calls[i].made == header)
             continue;
-        frame[frame_len - 1] ^= 1;
-        measure(&calls[i], "changed");
-        frame[frame_len - 1] ^= 1;
+        measure_changed(&calls[i], frame_len - CODE, "first of the code changed");
+        measure_changed(&calls[i], frame_len - 1, "last of the code changed");
         demanded++;
         measure(&calls[i], "another number");
         demanded--;

@@ -45,11 +45,33 @@ def inline(copy: Copy) -> Told:
     return True, ""
 
 
+def costs(copy: Copy) -> Told:
+    return copy.run(["c/costs", "--unproved", f"{copy.library}/libkrbrelay.so.1"], cwd=copy.top)
+
+
+# The part of c/signatures that asks for no proved module.
+VERSIONS = """import sys
+sys.path[:0] = ["c/tests", "tools"]
+from lib import report
+from signatures import compared, given, header
+count, of = report.Count(), given.Given({given.MODULE: ""}, "")
+compared.compare_versions(count, of, header.read(of))
+sys.exit(count.end(needs_one=True))
+"""
+
+
+def signatures(copy: Copy) -> Told:
+    return copy.run(["python3", "-c", VERSIONS], cwd=copy.top)
+
+
 def c_test(copy: Copy, name: str) -> Told:
-    if name in ("matrix", "inline"):
-        return {"matrix": matrix, "inline": inline}[name](copy)
+    if name in OF_C:
+        return OF_C[name](copy)
     words = {"dead_stack": secrets_of(copy), "fuzz": ["20000"], "sequences": ["200000"]}
     return c_program(copy, name, *words.get(name, ()))
+
+
+OF_C = {"matrix": matrix, "inline": inline, "costs": costs, "signatures": signatures}
 
 
 # ---- the program
