@@ -12,6 +12,7 @@ import pytest
 
 from lib import parts, report, scripts
 from lib.build import building, c_tools
+from lib.plants import checks, planted
 
 # What each of these plants in each run, and has to report.
 OWN_CONTROLS = {
@@ -166,3 +167,21 @@ def test_fuzz_compares_each_line_of_a_batch(fuzz, monkeypatch, got, ended, wrong
 def test_a_tool_with_a_control_of_its_own_is_a_part(name):
     assert any(part.command.split()[0] == name for part in parts.PARTS)
     assert os.path.exists(os.path.join(building.TOP, scripts.path_of(name)))
+
+
+# ---- the faults that tools/plants plants
+
+PLANTS = planted.all_plants()
+
+
+@pytest.mark.parametrize("name", PLANTS)
+def test_a_plant_applies_and_names_checks(name):
+    plant = PLANTS[name]
+    assert all(text != building.text_of(path) for path, text in planted.applied(plant, building.text_of).items())
+    assert {it.split()[0] for it in plant.checks} <= set(checks.CHECKS)
+
+
+@pytest.mark.parametrize("edit", [("tests/README.md", "no such text", "x"), ("tests/README.md", "e", "x")])
+def test_a_plant_that_does_not_apply_is_told(edit):
+    with pytest.raises(planted.NoPlant):
+        planted.applied(planted.Plant("planted", "none", ("c matrix",), (edit,)), building.text_of)

@@ -54,7 +54,7 @@ VERSIONS = """import sys
 sys.path[:0] = ["c/tests", "tools"]
 from lib import report
 from signatures import compared, given, header
-count, of = report.Count(), given.Given({given.MODULE: ""}, "")
+count, of = report.Count(), given.Given({given.MODULE: 'target triple = "x86_64-unknown-linux-gnu"'}, "")
 compared.compare_versions(count, of, header.read(of))
 sys.exit(count.end(needs_one=True))
 """

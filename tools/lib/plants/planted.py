@@ -2,6 +2,7 @@
 import dataclasses
 import os
 import tomllib
+from collections.abc import Callable
 
 from lib.build import building
 
@@ -38,6 +39,15 @@ def edited(text: str, old: str, new: str, where: str) -> str:
     if text.count(old) != 1:
         raise NoPlant(f"{where}: the old text stands there {text.count(old)} times")
     return text.replace(old, new)
+
+
+def applied(plant: Plant, text_of: Callable[[str], str]) -> dict[str, str | None]:
+    """The files that a plant changes, as they are then; None of one that is removed."""
+    texts = {}
+    for path, *change in plant.edits:
+        text = texts.get(path) or text_of(path)
+        texts[path] = edited(text, *change, path) if change else None
+    return texts
 
 
 def make(edit: tuple, top: str) -> None:
