@@ -38,7 +38,7 @@ void is_so(int fact, const char *what)
 
 /* ---- what a call that succeeded has to have done */
 
-/* The user data that a frame was sealed of: those given, behind the letter of a record. */
+/* The user data that a frame was sealed of: those given, after the letter of a record. */
 static int holds_what_was_sealed(const struct call *call, const uint8_t *opened, size_t size)
 {
     static const uint8_t letters[] = { 0, 'D', 'B', 'C' };
