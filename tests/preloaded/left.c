@@ -1,15 +1,27 @@
-/* Leaves a string in a block that it frees, for tests/residue to find. */
+/* Leaves a string in a block that it frees, and another one in a block that realloc leaves, for
+ * tests/residue to find. */
 #include <stdlib.h>
 #include <string.h>
 
+enum { SIZE = 200, PLACE = 50 };
+
+static char *block_with(const char *text)
+{
+    char *block = calloc(1, SIZE);
+    if (block == NULL)
+        exit(1);
+    memcpy(block + PLACE, text, strlen(text));
+    return block;
+}
+
 int main(void)
 {
-    static const char text[] = "left in a freed block";
-    char *block = malloc(200);
-    if (block == NULL)
+    char *moved;
+    free(block_with("left in a freed block"));
+    moved = realloc(block_with("left by a realloc"), 100 * SIZE);
+    if (moved == NULL)
         return 1;
-    memset(block, 0, 200);
-    memcpy(block + 50, text, sizeof text);
-    free(block);
+    memset(moved, 0, 100 * SIZE);
+    free(moved);
     return 0;
 }

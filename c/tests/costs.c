@@ -1,0 +1,230 @@
+/* What calls cost: under callgrind, linked with the shared library, so that its instructions stand alone.
+ * A line for each case on standard output: call, what happens, mode, encryption type, size, answer, and of
+ * the allocations how many, the bytes asked for, the largest, and the frame's bytes. Callgrind dumps the
+ * instructions of each under the same line (c/costs reads both). */
+#include "krbrelay.h"
+#include "session.h"
+
+#include <stdio.h>
+#include <stdlib.h>
+#include <string.h>
+#include <valgrind/callgrind.h>
+
+enum { NUMBER = 7, MOST = 262144, FRAME = MOST + 500, LINE = 200, CODE = 12 };
+
+/* ---- the allocator, which counts; the library's calls come here too */
+
+void *__libc_malloc(size_t size);
+void *__libc_realloc(void *block, size_t size);
+
+static struct { size_t times, bytes, largest; } asked;
+
+static void note(size_t size)
+{
+    asked.times++;
+    asked.bytes += size;
+    asked.largest = size > asked.largest ? size : asked.largest;
+}
+
+void *malloc(size_t size)
+{
+    note(size);
+    return __libc_malloc(size);
+}
+
+void *realloc(void *block, size_t size)
+{
+    note(size);
+    return __libc_realloc(block, size);
+}
+
+/* ---- the calls, at number 7 */
+
+static uint8_t key[32], data[MOST], frame[FRAME], out[FRAME];
+static const uint8_t confounder[16] = { 1, 2, 3 };
+static size_t data_len, frame_len, told;
+static uint32_t kind, mode;
+static int32_t etype;
+static uint64_t demanded = NUMBER;
+static struct krbrelay_moment now;
+static struct krbrelay_sealer sealer;
+static struct krbrelay_opener opener;
+static struct krbrelay_receiver receiver;
+static struct krbrelay_peer peer;
+
+static enum krbrelay_answer new_sealer(void)
+{
+    struct krbrelay_session session = session_of(mode, NUMBER);
+    tell_receiver(&session);
+    return krbrelay_sealer_new(&sealer, etype, key, key_size(etype), &session);
+}
+
+static enum krbrelay_answer new_opener(void)
+{
+    struct krbrelay_expect expect = expect_of(mode);
+    return krbrelay_opener_new(&opener, etype, key, key_size(etype), &expect);
+}
+
+static enum krbrelay_answer new_receiver(void)
+{
+    struct krbrelay_expect expect = expect_of(mode);
+    return krbrelay_receiver_new(&receiver, etype, key, key_size(etype), &expect, demanded, 0);
+}
+
+static enum krbrelay_answer new_peer(void)
+{
+    struct krbrelay_session session = session_of(mode, NUMBER);
+    struct krbrelay_demand demand = demand_of(1, 255, demanded);
+    tell_receiver(&session);
+    return krbrelay_peer_new(&peer, etype, key, key_size(etype), &session, &demand);
+}
+
+static enum krbrelay_answer seal(void)
+{
+    return krbrelay_sealer_seal(&sealer, data, data_len, &now, confounder, out, FRAME, &told);
+}
+
+static enum krbrelay_answer seal_record(void)
+{
+    return krbrelay_sealer_seal_record(&sealer, KRBRELAY_TEXT, data, data_len, &now, confounder, out, FRAME, &told);
+}
+
+static enum krbrelay_answer frame_size(void)
+{
+    return krbrelay_sealer_frame_size(&sealer, data_len, &now, &told);
+}
+
+static enum krbrelay_answer unseal(void)
+{
+    return krbrelay_opener_unseal(&opener, frame, frame_len, demanded, &now, out, FRAME, &told);
+}
+
+static enum krbrelay_answer open_it(void)
+{
+    struct krbrelay_demand demand = demand_of(1, 255, demanded);
+    struct krbrelay_carried carried;
+    return krbrelay_opener_open(&opener, frame, frame_len, &demand, &now, out, FRAME, &told, &carried);
+}
+
+static enum krbrelay_answer take(void)
+{
+    return krbrelay_receiver_take(&receiver, frame, frame_len, &now, &kind, out, FRAME, &told);
+}
+
+static enum krbrelay_answer peer_seal(void)
+{
+    return krbrelay_peer_seal(&peer, data, data_len, &now, confounder, out, FRAME, &told);
+}
+
+static enum krbrelay_answer peer_open(void)
+{
+    struct krbrelay_carried carried;
+    return krbrelay_peer_open(&peer, frame, frame_len, &now, out, FRAME, &told, &carried);
+}
+
+static enum krbrelay_answer header(void)
+{
+    struct krbrelay_header it;
+    return krbrelay_message_header(frame, frame_len, &it);
+}
+
+static const struct call { const char *name; enum krbrelay_answer (*made)(void); int makes, opens; } calls[] = {
+    { "sealer_new", new_sealer, 1, 0 }, { "opener_new", new_opener, 1, 0 },
+    { "receiver_new", new_receiver, 1, 0 }, { "peer_new", new_peer, 1, 0 },
+    { "sealer_seal", seal, 0, 0 }, { "sealer_seal_record", seal_record, 0, 0 },
+    { "sealer_frame_size", frame_size, 0, 0 }, { "peer_seal", peer_seal, 0, 0 },
+    { "opener_unseal", unseal, 0, 1 }, { "opener_open", open_it, 0, 1 }, { "receiver_take", take, 0, 1 },
+    { "peer_open", peer_open, 0, 1 }, { "message_header", header, 0, 1 },
+};
+
+/* ---- cases */
+
+static void require(int is_so, const char *what)
+{
+    if (!is_so) {
+        fprintf(stderr, "costs: %s\n", what);
+        exit(1);
+    }
+}
+
+static void make_all(void)
+{
+    require(new_sealer() == KRBRELAY_OK && new_opener() == KRBRELAY_OK && new_receiver() == KRBRELAY_OK
+            && new_peer() == KRBRELAY_OK, "no handles");
+}
+
+static void end_all(void)
+{
+    krbrelay_sealer_free(&sealer);
+    krbrelay_opener_free(&opener);
+    krbrelay_receiver_free(&receiver);
+    krbrelay_peer_free(&peer);
+}
+
+static void seal_frame(void)
+{
+    make_all();
+    require(krbrelay_sealer_seal_record(&sealer, KRBRELAY_TEXT, data, data_len, &now, confounder, frame, FRAME,
+                                        &frame_len) == KRBRELAY_OK, "no frame");
+    end_all();
+}
+
+static void measure(const struct call *call, const char *what)
+{
+    char line[LINE];
+    enum krbrelay_answer answer;
+    if (!call->makes)
+        make_all();
+    memset(&asked, 0, sizeof asked);
+    CALLGRIND_ZERO_STATS;
+    CALLGRIND_TOGGLE_COLLECT;
+    answer = call->made();
+    CALLGRIND_TOGGLE_COLLECT;
+    snprintf(line, sizeof line, "%s|%s|%u|%d|%zu|%u|%zu|%zu|%zu|%zu", call->name, what, mode, (int)etype, data_len,
+             (unsigned)answer, asked.times, asked.bytes, asked.largest, frame_len);
+    CALLGRIND_DUMP_STATS_AT(line);
+    puts(line);
+    end_all();
+}
+
+/* The frame ends by its checksum or code. */
+static void measure_changed(const struct call *call, size_t at, const char *what)
+{
+    frame[at] ^= 1;
+    measure(call, what);
+    frame[at] ^= 1;
+}
+
+static void measure_all(void)
+{
+    seal_frame();
+    for (size_t i = 0; i < sizeof calls / sizeof *calls; i++) {
+        if (calls[i].makes && data_len > 0)
+            continue;
+        measure(&calls[i], "done");
+        if (!calls[i].opens || calls[i].made == header)
+            continue;
+        measure_changed(&calls[i], frame_len - CODE, "first of the code changed");
+        measure_changed(&calls[i], frame_len - 1, "last of the code changed");
+        demanded++;
+        measure(&calls[i], "another number");
+        demanded--;
+    }
+}
+
+int main(int count, char **words)
+{
+    now = moment(SECS, USEC);
+    for (int i = 0; i < 32; i++)
+        key[i] = (uint8_t)(i * 7 + 1);
+    for (size_t i = 0; i < MOST; i++)
+        data[i] = (uint8_t)(i * 31 + i / 256);
+    for (mode = KRBRELAY_SAFE; mode <= KRBRELAY_PRIV; mode++)
+        for (etype = 17; etype <= 18; etype++)
+            for (int i = 1; i < count; i++) {
+                data_len = strtoul(words[i], NULL, 10);
+                require(data_len <= MOST, "the size");
+                measure_all();
+            }
+    return 0;
+}

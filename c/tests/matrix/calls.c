@@ -1,0 +1,343 @@
+#include "calls.h"
+
+#include <ctype.h>
+#include <stdio.h>
+#include <stdlib.h>
+#include <string.h>
+#include <sys/socket.h>
+#include <netinet/in.h>
+
+/* ---- the calls that make a handle */
+
+static uint32_t sealer_new(void)
+{
+    return krbrelay_sealer_new(&handles.sealer, given.etype, key, given.key_len, &given.session);
+}
+
+static uint32_t opener_new(void)
+{
+    return krbrelay_opener_new(&handles.opener, given.etype, key, given.key_len, &given.expect);
+}
+
+static uint32_t receiver_new(void)
+{
+    return krbrelay_receiver_new(&handles.receiver, given.etype, key, given.key_len, &given.expect,
+                                 given.expected, given.closed);
+}
+
+static uint32_t peer_new(void)
+{
+    return krbrelay_peer_new(&handles.peer, given.etype, key, given.key_len, &given.session, &given.demand);
+}
+
+static uint32_t peer_resume(void)
+{
+    static const uint8_t state[KRBRELAY_PEER_STATE_SIZE] = { 0x6b, 0x72, 0x73, 1, [11] = NUMBER, [19] = NUMBER };
+    struct krbrelay_session session = given.session;
+    struct krbrelay_demand demand = given.demand;
+    session.first = 0;
+    demand.number -= NUMBER;
+    return krbrelay_peer_resume(&handles.peer, given.etype, key, given.key_len, &session, &demand, state);
+}
+
+/* ---- those that seal */
+
+static uint32_t sealer_seal(void)
+{
+    return krbrelay_sealer_seal(&handles.sealer, given.body, given.body_len, &given.at, confounder, out,
+                                given.room, &told.size);
+}
+
+static uint32_t sealer_seal_record(void)
+{
+    return krbrelay_sealer_seal_record(&handles.sealer, given.kind, given.body, given.body_len, &given.at,
+                                       confounder, out, given.room, &told.size);
+}
+
+static uint32_t peer_seal(void)
+{
+    return krbrelay_peer_seal(&handles.peer, given.body, given.body_len, &given.at, confounder, out,
+                              given.room, &told.size);
+}
+
+static uint32_t sealer_seal_now(void)
+{
+    return krbrelay_sealer_seal_now(&handles.sealer, given.body, given.body_len, out, given.room, &told.size);
+}
+
+static uint32_t sealer_seal_record_now(void)
+{
+    return krbrelay_sealer_seal_record_now(&handles.sealer, given.kind, given.body, given.body_len, out,
+                                           given.room, &told.size);
+}
+
+static uint32_t peer_seal_now(void)
+{
+    return krbrelay_peer_seal_now(&handles.peer, given.body, given.body_len, out, given.room, &told.size);
+}
+
+/* ---- those that open */
+
+static uint32_t opener_unseal(void)
+{
+    return krbrelay_opener_unseal(&handles.opener, frame, given.frame_len, given.number, &given.at, out,
+                                  given.room, &told.size);
+}
+
+/* The frame's own bytes are the buffer: they are put into `out`, and taken out again where they stay. */
+static uint32_t opener_unseal_in_place(void)
+{
+    static uint8_t before[BIG];
+    uint32_t answer;
+    memcpy(before, out, given.frame_len);
+    memcpy(out, frame, given.frame_len);
+    answer = krbrelay_opener_unseal_in_place(&handles.opener, out, given.frame_len, given.number, &given.at,
+                                             &told.size);
+    if (answer != KRBRELAY_OK && memcmp(out, frame, given.frame_len) == 0)
+        memcpy(out, before, given.frame_len);
+    return answer;
+}
+
+static uint32_t opener_open(void)
+{
+    return krbrelay_opener_open(&handles.opener, frame, given.frame_len, &given.demand, &given.at, out,
+                                given.room, &told.size, &told.carried);
+}
+
+static uint32_t receiver_take(void)
+{
+    return krbrelay_receiver_take(&handles.receiver, frame, given.frame_len, &given.at, &told.kind, out,
+                                  given.room, &told.size);
+}
+
+static uint32_t receiver_take_numbered(void)
+{
+    return krbrelay_receiver_take_numbered(&handles.receiver, frame, given.frame_len, &given.at, &told.kind,
+                                           out, given.room, &told.size, &told.number);
+}
+
+static uint32_t peer_open(void)
+{
+    return krbrelay_peer_open(&handles.peer, frame, given.frame_len, &given.at, out, given.room, &told.size,
+                              &told.carried);
+}
+
+static uint32_t message_header(void)
+{
+    return krbrelay_message_header(frame, given.frame_len, &told.header);
+}
+
+/* ---- those that ask the allocator for nothing */
+
+static uint32_t sealer_next(void) { return krbrelay_sealer_next(&handles.sealer, &told.next); }
+static uint32_t sealer_set_mode(void) { return krbrelay_sealer_set_mode(&handles.sealer, given.mode); }
+static uint32_t peer_export(void) { return krbrelay_peer_export(&handles.peer, told.state); }
+static uint32_t version(void) { return krbrelay_version() == KRBRELAY_VERSION ? KRBRELAY_OK : KRBRELAY_ARGUMENT; }
+static uint32_t now(void) { return krbrelay_now(&given.at); }
+
+static uint32_t sealer_frame_size(void)
+{
+    return krbrelay_sealer_frame_size(&handles.sealer, given.body_len, &given.at, &told.size);
+}
+
+static uint32_t receiver_state(void)
+{
+    return krbrelay_receiver_state(&handles.receiver, &told.number, &told.closed);
+}
+
+static uint32_t peer_state(void) { return krbrelay_peer_state(&handles.peer, &told.next, &told.number); }
+
+static uint32_t answer_name(void)
+{
+    return krbrelay_answer_name(KRBRELAY_BADORDER, (char *)out, given.room, &told.size);
+}
+
+static uint32_t answer_text(void)
+{
+    return krbrelay_answer_text(KRBRELAY_BADORDER, (char *)out, given.room, &told.size);
+}
+
+static uint32_t frame_size(void)
+{
+    return krbrelay_frame_size(given.body_len) >= given.body_len ? KRBRELAY_OK : KRBRELAY_TOO_LONG;
+}
+
+static uint32_t sealer_wipe(void) { krbrelay_sealer_wipe(&handles.sealer); return KRBRELAY_OK; }
+static uint32_t opener_wipe(void) { krbrelay_opener_wipe(&handles.opener); return KRBRELAY_OK; }
+static uint32_t sealer_free(void) { krbrelay_sealer_free(&handles.sealer); return KRBRELAY_OK; }
+static uint32_t opener_free(void) { krbrelay_opener_free(&handles.opener); return KRBRELAY_OK; }
+static uint32_t receiver_free(void) { krbrelay_receiver_free(&handles.receiver); return KRBRELAY_OK; }
+static uint32_t peer_free(void) { krbrelay_peer_free(&handles.peer); return KRBRELAY_OK; }
+static uint32_t clear_stack(void) { krbrelay_clear_stack(); return KRBRELAY_OK; }
+static uint32_t is_supported(void) { return krbrelay_is_supported() ? KRBRELAY_OK : KRBRELAY_PROCESSOR; }
+static uint32_t is_refusal(void) { return krbrelay_is_refusal(KRBRELAY_BADORDER) ? KRBRELAY_OK : KRBRELAY_ARGUMENT; }
+static uint32_t text_of(void) { return krbrelay_strerror(KRBRELAY_BADORDER) != NULL ? KRBRELAY_OK : KRBRELAY_ARGUMENT; }
+
+static uint32_t class_of(void)
+{
+    return krbrelay_class_of(KRBRELAY_BADORDER) == KRBRELAY_CLASS_REFUSAL ? KRBRELAY_OK : KRBRELAY_ARGUMENT;
+}
+
+static uint32_t sealer_is_empty(void) { return krbrelay_sealer_is_empty(&handles.sealer) ? KRBRELAY_EMPTY : KRBRELAY_OK; }
+static uint32_t opener_is_empty(void) { return krbrelay_opener_is_empty(&handles.opener) ? KRBRELAY_EMPTY : KRBRELAY_OK; }
+static uint32_t receiver_is_empty(void) { return krbrelay_receiver_is_empty(&handles.receiver) ? KRBRELAY_EMPTY : KRBRELAY_OK; }
+static uint32_t peer_is_empty(void) { return krbrelay_peer_is_empty(&handles.peer) ? KRBRELAY_EMPTY : KRBRELAY_OK; }
+
+static uint32_t address_from(void)
+{
+    struct sockaddr_in from = { .sin_family = AF_INET };
+    struct krbrelay_address to;
+    return krbrelay_address_from(&to, (const struct sockaddr *)&from, sizeof from);
+}
+
+static uint32_t batch_add(void)
+{
+    size_t size = 0;
+    return krbrelay_batch_add(out, given.room, &size, given.body, given.body_len);
+}
+
+static uint32_t batch_next(void)
+{
+    static const uint8_t batch[] = { 0, 0, 0, 1, 'x' };
+    const uint8_t *text;
+    size_t at = 0, len;
+    return krbrelay_batch_next(batch, sizeof batch, &at, &text, &len);
+}
+
+static uint32_t progress_new(void)
+{
+    struct krbrelay_progress it;
+    return krbrelay_progress_new(&it, 9, 7, 5);
+}
+
+static struct krbrelay_progress progress = { 9, 7, 5, 7 };
+static uint32_t progress_store(void) { return krbrelay_progress_store(&progress, 1); }
+static uint32_t progress_publish(void) { return krbrelay_progress_publish(&progress, 0); }
+static uint32_t progress_confirm(void) { return krbrelay_progress_confirm(&progress, 0, 0, &told.kind); }
+static uint32_t progress_rewind(void) { return krbrelay_progress_rewind(&progress, &told.number); }
+
+static struct krbrelay_place place = { 5, 0, 1 };
+static uint32_t place_read_again(void) { return krbrelay_place_read_again(&place); }
+
+static uint32_t place_take(void)
+{
+    struct krbrelay_taken taken = { .demanded = NUMBER, .accepted = 1 };
+    return krbrelay_place_take(&place, 9, &taken, &told.kind);
+}
+
+static uint32_t history_add(void)
+{
+    uint8_t history[KRBRELAY_HISTORY_SIZE] = { 0 };
+    return krbrelay_history_add(history, given.body, given.body_len);
+}
+
+static struct krbrelay_window window;
+static uint32_t window_new(void) { krbrelay_window_new(&window, NUMBER); return KRBRELAY_OK; }
+
+static uint32_t window_take(void)
+{
+    krbrelay_window_new(&window, NUMBER);
+    return krbrelay_window_take(&window, NUMBER);
+}
+
+/* ---- the table */
+
+#define ROW(name, does, uses, ...) { #name, name, does, uses, __VA_ARGS__ }
+#define NONE(name, uses) { #name, name, ASKS_NOTHING, uses, OF_DATA, 0, 0, 0 }
+
+struct call calls[] = {
+    ROW(sealer_new, MAKES, SEALER, OF_DATA, 0, 0, 0),
+    ROW(opener_new, MAKES, OPENER, OF_DATA, 0, 0, 0),
+    ROW(receiver_new, MAKES, RECEIVER, OF_RECORDS, 0, 0, 0),
+    ROW(peer_new, MAKES, PEER, OF_DATA, 0, 0, 0),
+    ROW(peer_resume, MAKES, PEER, OF_DATA, 0, 0, 0),
+    ROW(sealer_seal, SEALS, SEALER, OF_DATA, 0, 0, 0),
+    ROW(sealer_seal_record, SEALS, SEALER, OF_RECORDS, 0, 0, 0),
+    ROW(peer_seal, SEALS, PEER, OF_DATA, 0, 0, 0),
+    ROW(sealer_seal_now, SEALS, SEALER, OF_DATA, 1, 0, 0),
+    ROW(sealer_seal_record_now, SEALS, SEALER, OF_RECORDS, 1, 0, 0),
+    ROW(peer_seal_now, SEALS, PEER, OF_DATA, 1, 0, 0),
+    ROW(opener_unseal, OPENS, OPENER, OF_DATA, 0, 0, 0),
+    ROW(opener_unseal_in_place, OPENS, OPENER, OF_DATA, 0, 1, 0),
+    ROW(opener_open, OPENS, OPENER, OF_DATA, 0, 0, 0),
+    ROW(receiver_take, OPENS, RECEIVER, OF_RECORDS, 0, 0, 0),
+    ROW(receiver_take_numbered, OPENS, RECEIVER, OF_RECORDS, 0, 0, 0),
+    ROW(peer_open, OPENS, PEER, OF_DATA, 0, 0, 0),
+    ROW(message_header, OPENS, NO_HANDLE, OF_DATA, 0, 0, 0),
+    NONE(sealer_frame_size, SEALER), NONE(sealer_next, SEALER), NONE(sealer_set_mode, SEALER),
+    NONE(receiver_state, RECEIVER), NONE(peer_state, PEER), NONE(peer_export, PEER),
+    NONE(sealer_wipe, SEALER), NONE(opener_wipe, OPENER), NONE(sealer_free, SEALER), NONE(opener_free, OPENER),
+    NONE(receiver_free, RECEIVER), NONE(peer_free, PEER), NONE(sealer_is_empty, SEALER),
+    NONE(opener_is_empty, OPENER), NONE(receiver_is_empty, RECEIVER), NONE(peer_is_empty, PEER),
+    NONE(version, NO_HANDLE), NONE(now, NO_HANDLE), NONE(answer_name, NO_HANDLE), NONE(answer_text, NO_HANDLE),
+    NONE(frame_size, NO_HANDLE), NONE(clear_stack, NO_HANDLE), NONE(is_supported, NO_HANDLE),
+    NONE(is_refusal, NO_HANDLE), { "strerror", text_of, ASKS_NOTHING, NO_HANDLE, OF_DATA, 0, 0, 0 },
+    NONE(class_of, NO_HANDLE), NONE(address_from, NO_HANDLE), NONE(batch_add, NO_HANDLE),
+    NONE(batch_next, NO_HANDLE), NONE(progress_new, NO_HANDLE), NONE(progress_store, NO_HANDLE),
+    NONE(progress_publish, NO_HANDLE), NONE(progress_confirm, NO_HANDLE), NONE(progress_rewind, NO_HANDLE),
+    NONE(place_take, NO_HANDLE), NONE(place_read_again, NO_HANDLE), NONE(window_new, NO_HANDLE),
+    NONE(window_take, NO_HANDLE), NONE(history_add, NO_HANDLE),
+};
+const int call_count = sizeof calls / sizeof *calls;
+
+struct call *call_of(const char *name)
+{
+    for (int i = 0; i < call_count; i++)
+        if (strcmp(calls[i].name, name) == 0)
+            return &calls[i];
+    return NULL;
+}
+
+/* ---- the table beside the header */
+
+/* Reads on to the end of a comment, of which the beginning was read. */
+static void read_comment(FILE *file)
+{
+    int before = 0, at;
+    while ((at = fgetc(file)) != EOF && !(before == '*' && at == '/'))
+        before = at;
+}
+
+/* The next word, or one other character as a word; what is in comments is passed by. Answers whether there
+ * is one. */
+static int read_word(FILE *file, char *word, size_t room)
+{
+    size_t len = 0;
+    int at = fgetc(file), next;
+    while (at == '/' && (next = fgetc(file)) == '*') {
+        read_comment(file);
+        at = fgetc(file);
+    }
+    while ((isalnum(at) || at == '_') && len + 1 < room) {
+        word[len++] = (char)at;
+        at = fgetc(file);
+    }
+    if (len == 0)
+        word[len++] = (char)at;
+    else
+        ungetc(at, file);
+    word[len] = 0;
+    return at != EOF;
+}
+
+int calls_compared(const char *header)
+{
+    char before[100] = "", word[100];
+    int faults = 0, declared = 0;
+    FILE *file = fopen(header, "r");
+    while (file != NULL && read_word(file, word, sizeof word)) {
+        int is_call = strcmp(word, "(") == 0 && strncmp(before, "krbrelay_", 9) == 0;
+        if (is_call && call_of(before + 9) == NULL)
+            faults++, printf("matrix: no row has %s, which the header declares\n", before);
+        declared += is_call;
+        strcpy(before, word);
+    }
+    if (file == NULL || declared != call_count)
+        faults++, printf("matrix: the header declares %d functions, and there are %d rows\n", declared, call_count);
+    if (file != NULL)
+        fclose(file);
+    for (int i = 0; i < call_count; i++)
+        if (calls[i].cases == 0)
+            faults++, printf("matrix: nothing tried krbrelay_%s\n", calls[i].name);
+    return faults;
+}

@@ -1,0 +1,79 @@
+/* Files of keys: who may use them, and that no two sessions have a key in common:  files_test FOLDER
+ * The last line is 'passed' or 'FAILED ..'. */
+#include "check.h"
+#include "private.h"
+#include "sessions.h"
+
+#include <string.h>
+#include <unistd.h>
+
+static char path[4096];
+
+static void write_file(const char *text, mode_t mode)
+{
+    FILE *file = fopen(path, "w");
+    check(file != NULL && fputs(text, file) >= 0 && fclose(file) == 0 && chmod(path, mode) == 0,
+          "a file is written");
+}
+
+/* Each bit that lets others read, write or run it is a fault; none of the owner's is. */
+static void test_modes(void)
+{
+    mode_t mode;
+    for (mode = 0; mode <= 0777; mode++) {
+        struct stat is;
+        size_t size = 0;
+        char *text;
+        write_file("secret\n", 0600);
+        check(chmod(path, mode) == 0, "its mode is set");
+        text = private_read(path, &size, &is);
+        check((mode & 077) == 0 || text == NULL, "a file that others may use is refused");
+        check((mode & 0477) != 0400 || (text != NULL && size == 7 && strcmp(text, "secret\n") == 0),
+              "a file of its owner alone is read");
+        private_forget(text, size);
+    }
+}
+
+/* Writes two sessions with these keys, and says whether the file is taken. A key of 0 is none. */
+static int is_taken(int key, int back, int other_key, int other_back)
+{
+    char text[1000];
+    struct sessions *read;
+    int at = snprintf(text, sizeof text, "ann 0 17 safe %032d 1 10.0.0.1 10.0.0.255", key);
+    if (back != 0)
+        at += snprintf(text + at, sizeof text - (size_t)at, " %032d", back);
+    at += snprintf(text + at, sizeof text - (size_t)at, "\ntom 0 17 safe %032d 1 10.0.0.2 10.0.0.255", other_key);
+    if (other_back != 0)
+        at += snprintf(text + at, sizeof text - (size_t)at, " %032d", other_back);
+    snprintf(text + at, sizeof text - (size_t)at, "\n");
+    write_file(text, 0600);
+    read = sessions_read(path);
+    sessions_forget(read);
+    return read != NULL;
+}
+
+/* Keys and keys of the way back, of one session and of the other, in each order. */
+static void test_keys(void)
+{
+    int which;
+    check(is_taken(1, 2, 3, 4) && is_taken(1, 0, 3, 0) && is_taken(1, 2, 3, 0) && is_taken(1, 0, 3, 4),
+          "sessions without a common key are taken");
+    for (which = 1; which <= 2; which++) {
+        check(!is_taken(which, 3 - which, 1, 3) && !is_taken(which, 3 - which, 3, 1),
+              "a key that both have is refused, in each place");
+        check(!is_taken(1, 3, which, 3 - which) && !is_taken(3, 1, which, 3 - which),
+              "and in each order");
+    }
+    check(!is_taken(1, 0, 1, 0) && !is_taken(1, 0, 3, 1) && !is_taken(3, 1, 1, 0), "with one way back, or none");
+    check(!is_taken(1, 1, 3, 4) && !is_taken(1, 2, 3, 3), "a session's two keys differ");
+}
+
+int main(int count, char **words)
+{
+    check(count == 2, "files_test FOLDER");
+    snprintf(path, sizeof path, "%s/file", words[1]);
+    test_modes();
+    test_keys();
+    puts("passed");
+    return 0;
+}

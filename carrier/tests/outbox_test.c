@@ -1,0 +1,212 @@
+/* Seals texts from an outbox, and opens each of the frames:  outbox_test FOLDER
+ * Texts of no bytes up to the longest, the close, confounders, the last number, and the next number's
+ * compare-and-set. The last line is 'passed' or 'FAILED ..'. */
+#include "check.h"
+#include "clock.h"
+#include "seal.h"
+
+#include <string.h>
+
+enum { LONGEST = 1000000, SAME = 40, TEXTS = 6 };
+
+static uint8_t bytes[LONGEST], frame[KRBRELAY_FRAME_LIMIT];
+static const size_t lens[TEXTS] = { 0, 1, 16, 0, LONGEST, 5 };
+
+/* A session whose frames are from 10.0.0.1. */
+static struct session session_of(const char *name, uint32_t mode, uint32_t first)
+{
+    struct session it = { .shard = 3, .etype = 17, .mode = mode, .key_len = 16, .first = first,
+                          .from = { .kind = KRBRELAY_IPV4, .len = 4, .bytes = { 10, 0, 0, 1 } } };
+    strcpy(it.name, name);
+    memset(it.key, name[0], it.key_len);
+    return it;
+}
+
+static void put(struct outbox *outbox, const char *session, const void *text, size_t len)
+{
+    sqlite3_stmt *insert = NULL;
+    check(sqlite3_prepare_v2(outbox->db, "INSERT INTO text (session, body) VALUES (?, ?)", -1, &insert, NULL)
+          == SQLITE_OK, "an insertion is prepared");
+    sqlite3_bind_text(insert, 1, session, -1, SQLITE_STATIC);
+    if (text != NULL)
+        sqlite3_bind_blob(insert, 2, text, (int)len, SQLITE_STATIC);
+    check(sqlite3_step(insert) == SQLITE_DONE, "a text is put in");
+    sqlite3_finalize(insert);
+}
+
+/* Seals all that waits, each text alone, in one transaction. Answers what the last one did. */
+static enum seal_answer seal_all(struct outbox *outbox, struct sending *sending)
+{
+    struct sealing sealing = { .outbox = outbox, .batch = 1, .frame = frame };
+    struct waiting_text text;
+    enum seal_answer answer = SEAL_OK;
+    check(outbox_begin(outbox) == OUTBOX_OK, "a transaction begins");
+    outbox_select_texts(outbox, 0, INT64_MAX, 1000);
+    while (answer == SEAL_OK && outbox_next_text(outbox, &text) == 1)
+        answer = seal_text(&sealing, sending, &text);
+    outbox_end_texts(outbox);
+    check(outbox_commit(outbox) == 0, "it is committed");
+    return answer;
+}
+
+static struct sending sending_of(struct session of)
+{
+    struct sending it = { .of = of, .sealed = of.first };
+    check(progress_begin(&it.progress, of.first, of.first, 0) == 0, "a progress begins");
+    return it;
+}
+
+/* ---- each frame of a session, taken by a receiver */
+
+static void check_record(struct krbrelay_receiver *receiver, const uint8_t *given, size_t len,
+                         uint32_t wanted, const uint8_t *text, size_t text_len)
+{
+    static uint8_t taken[KRBRELAY_FRAME_LIMIT];
+    struct krbrelay_moment now = read_clock();
+    uint32_t kind = 0;
+    size_t size = 0;
+    check(krbrelay_receiver_take(receiver, given, len, &now, &kind, taken, sizeof taken, &size)
+          == KRBRELAY_OK, "a frame is taken");
+    check(kind == wanted, "it is of the kind that was put in");
+    check(size == text_len && memcmp(taken, text, size) == 0, "and of the text");
+}
+
+/* Texts of no bytes are texts, and the close comes last. */
+static void test_texts(struct outbox *outbox)
+{
+    struct session of = session_of("texts", KRBRELAY_PRIV, 1);
+    struct sending sending = sending_of(of);
+    struct krbrelay_expect expect = { .mode = of.mode, .sender = of.from, .skew = 100 };
+    struct krbrelay_receiver receiver = KRBRELAY_INIT;
+    const uint8_t *found = NULL;
+    uint64_t number = 0;
+    size_t len = 0, i;
+    for (i = 0; i < TEXTS; i++)
+        put(outbox, of.name, bytes, lens[i]);
+    put(outbox, of.name, NULL, 0);
+    check(seal_all(outbox, &sending) == SEAL_OK, "all is sealed");
+    check(krbrelay_receiver_new(&receiver, of.etype, of.key, of.key_len, &expect, 1, 0) == KRBRELAY_OK,
+          "a receiver is made");
+    outbox_select_frames(outbox, of.name, 0, 1000);
+    for (i = 0; i <= TEXTS; i++) {
+        check(outbox_next_frame(outbox, &number, &found, &len) == 1 && number == i + 1, "a frame for each text");
+        check_record(&receiver, found, len, i < TEXTS ? KRBRELAY_TEXT : KRBRELAY_CLOSE, bytes,
+                     i < TEXTS ? lens[i] : 0);
+    }
+    outbox_end_frames(outbox);
+    krbrelay_receiver_free(&receiver);
+    seal_free(&sending);
+}
+
+/* Where the encrypted bytes of a KRB-PRIV begin: after the tag a2 of its cipher, a length, the tag 04 of
+ * octets and another length, each of one byte here (RFC 4120 sections 5.2.9 and 5.7.1). */
+static const uint8_t *cipher_of(const uint8_t *found, size_t len)
+{
+    size_t at;
+    for (at = 0; at + 4 + 16 <= len; at++)
+        if (found[at] == 0xa2 && found[at + 2] == 0x04 && found[at + 1] == found[at + 3] + 2)
+            return found + at + 4;
+    check(0, "a frame has a cipher");
+    return NULL;
+}
+
+/* The first block that is encrypted is the confounder: of equal texts it differs each time. */
+static void test_confounders(struct outbox *outbox)
+{
+    static uint8_t first[SAME][16];
+    struct session of = session_of("confounders", KRBRELAY_PRIV, 1);
+    struct sending sending = sending_of(of);
+    const uint8_t *found = NULL;
+    uint64_t number = 0;
+    size_t len = 0, i, k;
+    for (i = 0; i < SAME; i++)
+        put(outbox, of.name, bytes, 4);
+    check(seal_all(outbox, &sending) == SEAL_OK, "equal texts are sealed");
+    outbox_select_frames(outbox, of.name, 0, 1000);
+    for (i = 0; i < SAME && outbox_next_frame(outbox, &number, &found, &len) == 1; i++) {
+        memcpy(first[i], cipher_of(found, len), 16);
+        for (k = 0; k < i; k++)
+            check(memcmp(first[i], first[k], 16) != 0, "confounders differ");
+    }
+    check(i == SAME, "a frame for each of the equal texts");
+    outbox_end_frames(outbox);
+    seal_free(&sending);
+}
+
+/* The last number is kept for the close. */
+static void test_last_number(struct outbox *outbox)
+{
+    struct session of = session_of("last", KRBRELAY_SAFE, UINT32_MAX - 1);
+    struct sending sending = sending_of(of);
+    put(outbox, of.name, bytes, 1);
+    check(seal_all(outbox, &sending) == SEAL_OK, "the number before the last is a text's");
+    check(sqlite3_exec(outbox->db, "DELETE FROM text", NULL, NULL, NULL) == SQLITE_OK, "it is taken");
+    put(outbox, of.name, bytes, 1);
+    check(seal_all(outbox, &sending) == SEAL_STOP, "no text has the last number");
+    seal_reset(&sending);
+    sending.sealed = UINT32_MAX;
+    check(sqlite3_exec(outbox->db, "DELETE FROM text", NULL, NULL, NULL) == SQLITE_OK, "it is dropped");
+    put(outbox, of.name, NULL, 0);
+    check(seal_all(outbox, &sending) == SEAL_OK && sending.sealed == UINT64_C(1) << 32, "the close has it");
+    seal_free(&sending);
+}
+
+static uint64_t next_of(struct outbox *outbox, const struct session *of)
+{
+    struct outbox_progress it;
+    check(outbox_load(outbox, of, &it) == 0, "the outbox tells how far a session is");
+    return it.next;
+}
+
+/* A number that isn't the stored one moves nothing. */
+static void test_compare(struct outbox *outbox)
+{
+    struct session of = session_of("compare", KRBRELAY_SAFE, 5);
+    static const uint64_t wrong[] = { 5, 8, 10, 0, UINT32_MAX };
+    size_t i;
+    check(outbox_begin(outbox) == OUTBOX_OK, "a transaction begins");
+    check(outbox_set_next(outbox, &of, 5, 9) == 0 && next_of(outbox, &of) == 9, "the next number is stored");
+    for (i = 0; i < sizeof wrong / sizeof *wrong; i++) {
+        check(outbox_set_next(outbox, &of, wrong[i], 20) != 0, "another number than the stored one is refused");
+        check(next_of(outbox, &of) == 9, "and moves nothing");
+    }
+    check(outbox_set_next(outbox, &of, 9, 10) == 0 && next_of(outbox, &of) == 10, "the stored one moves");
+    outbox_rollback(outbox);
+}
+
+static int take_number(void *given, int count, char **values, char **names)
+{
+    (void)count, (void)names;
+    *(int *)given = atoi(values[0]);
+    return 0;
+}
+
+/* What is committed stands after a power failure: each commit is synced (2 is FULL). */
+static void test_synced(struct outbox *outbox)
+{
+    int synchronous = 0;
+    check(sqlite3_exec(outbox->db, "PRAGMA synchronous", take_number, &synchronous, NULL) == SQLITE_OK
+          && synchronous == 2, "each commit is synced");
+}
+
+int main(int count, char **words)
+{
+    struct outbox outbox = { 0 };
+    char path[4096];
+    size_t i;
+    check(count == 2, "outbox_test FOLDER");
+    for (i = 0; i < LONGEST; i++)
+        bytes[i] = (uint8_t)(i * 7 + i / 256);
+    snprintf(path, sizeof path, "%s/outbox.db", words[1]);
+    check(outbox_open(&outbox, path) == 0, "an outbox is opened");
+    test_synced(&outbox);
+    test_texts(&outbox);
+    check(sqlite3_exec(outbox.db, "DELETE FROM text", NULL, NULL, NULL) == SQLITE_OK, "texts are taken");
+    test_confounders(&outbox);
+    check(sqlite3_exec(outbox.db, "DELETE FROM text", NULL, NULL, NULL) == SQLITE_OK, "texts are taken");
+    test_last_number(&outbox);
+    test_compare(&outbox);
+    outbox_close(&outbox);
+    puts("passed");
+    return 0;
+}

@@ -1,0 +1,187 @@
+"""Each tool of the gate reports a fault that is planted for it: what a tool never reports, it doesn't test.
+
+Those that have a control of their own in each run are named in OWN_CONTROLS. The tools of tools/ have
+theirs in tools/test_building, tools/test_parts, tools/test_picture, tools/test_bench and
+tools/test_reference.
+"""
+import os
+import subprocess
+import sys
+
+import pytest
+
+from lib import parts, report, scripts
+from lib.build import building, c_tools
+from lib.plants import checks, planted
+
+# What each of these plants in each run, and has to report.
+OWN_CONTROLS = {
+    "c/signatures": "faults in the header, the sources and the map (c/tests/signatures/plants.py)",
+    "tests/residue": "strings in a freed block and in what realloc leaves (tests/preloaded/left.c)",
+    "tests/secret_places": "an address and a branch by a secret (tests/secrets/src/control.rattle)",
+}
+LINES = ["lane 0 text 61", "lane 1 text 62", "lane 0 closed", "lane 1 closed"]
+
+
+def compiled(folder, name, text, *words):
+    source, made = folder / f"{name}.c", folder / name
+    source.write_text(text, encoding="ascii")
+    subprocess.run([*c_tools.c_compiler(), *words, str(source), "-o", str(made)], check=True)
+    return str(made)
+
+
+def status(*words, **how):
+    return subprocess.run(words, check=False, stdout=subprocess.DEVNULL, stderr=subprocess.DEVNULL,
+                          **how).returncode
+
+
+# ---- counts and statuses
+
+@pytest.mark.parametrize("passed, failed, needs_one, ended", [
+    (1, 0, False, 0), (0, 0, False, 0), (0, 0, True, 1), (1, 0, True, 0), (0, 1, False, 1),
+    (5, 1, False, 1), (5, 1, True, 1), (5, 2000, False, 1)])
+def test_a_count_with_a_failure_ends_with_1(passed, failed, needs_one, ended, capsys):
+    count = report.Count()
+    for good in (True,) * passed + (False,) * failed:
+        count.right(good, "planted")
+    assert count.end(needs_one=needs_one) == ended
+    assert capsys.readouterr().out.splitlines()[-1] == f"{passed} passed, {failed} failed"
+
+
+@pytest.mark.parametrize("how", ["right", "told", "check"])
+def test_each_way_of_counting_counts_a_failure(how, capsys):
+    count = report.Count()
+    {"right": lambda: count.right(False, "planted"), "told": lambda: count.told(False, "planted"),
+     "check": lambda: count.check("planted", True, False)}[how]()
+    assert count.failed == 1 and count.passed == 0 and "planted" in capsys.readouterr().out
+
+
+@pytest.mark.parametrize("checks, fails", [("CHECK(1);", False), ("CHECK(0);", True),
+                                           ("CHECK(1); CHECK(0); CHECK(1);", True)])
+def test_a_c_test_with_a_failed_check_ends_with_1(tmp_path, checks, fails):
+    program = compiled(tmp_path, "planted", f"""#include "check.h"
+int main(void) {{ {checks} return check_status("planted"); }}
+""", f"-I{building.TOP}/c/tests")
+    assert status(program) == (1 if fails else 0)
+
+
+@pytest.mark.parametrize("fact, fails", [("1", False), ("0", True)])
+def test_a_unit_of_the_carrier_with_a_failed_check_ends_with_1(tmp_path, fact, fails):
+    program = compiled(tmp_path, "planted", f"""#include "check.h"
+int main(void) {{ check({fact}, "planted"); return 0; }}
+""", f"-I{building.TOP}/carrier/tests")
+    assert status(program) == (1 if fails else 0)
+
+
+# ---- the object that is compared with the kit's
+
+CODE = "extern int other(int); int shown = {data}; int planted(int a) {{ return {call}(a) + {more}; }}\n"
+
+
+def compared(folder, **changed):
+    """Compares an object with one in which this is another."""
+    plain = {"data": 7, "call": "other", "more": 300}
+    objects = [compiled(folder, f"object{at}.o", CODE.format(**it), "-c", "-O2", "-Wno-implicit")
+               for at, it in enumerate((plain, plain | changed))]
+    return status(sys.executable, f"{building.TOP}/c/tests/same_code.py", *objects)
+
+
+def test_the_same_object_is_taken(tmp_path):
+    assert compared(tmp_path) == 0
+
+
+@pytest.mark.parametrize("changed", [{"more": 301}, {"more": 300_000}, {"data": 8}, {"call": "another"},
+                                     {"call": "other(1) + other"}])
+def test_another_object_is_refused(tmp_path, changed):
+    assert compared(tmp_path, **changed) == 1
+
+
+# ---- what is searched in freed blocks
+
+@pytest.mark.parametrize("text, found", [("left in a freed block", 1), ("left by a realloc", 1),
+                                         ("left in no block at all", 0)])
+def test_residue_ends_with_1_where_a_string_is_left(tmp_path, text, found):
+    left = c_tools.program(str(tmp_path), "tests", "preloaded", "left.c")
+    assert status(f"{building.TOP}/tests/residue", f"planted={text.encode().hex()}", left) == found
+
+
+# ---- the sweep
+
+@pytest.fixture(scope="module")
+def sweep():
+    return scripts.load("tests/sweep")
+
+
+def text_of(lines):
+    return "".join(f"{line}\n" for line in lines)
+
+
+@pytest.mark.parametrize("command, lines", [
+    ("show", []), ("show", LINES[:2]), ("relay", []), ("relay", LINES[:1]), ("relay", [LINES[1]]),
+    ("relay", [LINES[1], LINES[0], LINES[3]])])
+def test_sweep_takes_a_prefix_before_a_fault(sweep, command, lines):
+    assert sweep.is_right(command, 4, text_of(lines), sweep.NO_MEMORY, LINES)
+
+
+@pytest.mark.parametrize("command, ended, output, fault", [
+    ("show", 4, text_of(["planted"]), "krbrelay: out of memory\n"),
+    ("show", 4, text_of([LINES[1]]), "krbrelay: out of memory\n"),
+    ("show", 4, text_of([*LINES, LINES[0]]), "krbrelay: out of memory\n"),
+    ("relay", 4, text_of([LINES[2]]), "krbrelay: out of memory\n"),
+    ("relay", 4, text_of([LINES[0], LINES[0]]), "krbrelay: out of memory\n"),
+    ("show", 4, LINES[0], "krbrelay: out of memory\n"),
+    ("show", 4, "", "krbrelay: thread fault\n"), ("show", 4, "", ""), ("show", 3, "", "krbrelay: out of memory\n"),
+    ("show", 0, text_of(LINES[:3]), ""), ("show", 0, text_of(LINES), "krbrelay: out of memory\n"),
+    ("show", None, "", "it hung")])
+def test_sweep_reports_what_may_not_come(sweep, command, ended, output, fault):
+    assert not sweep.is_right(command, ended, output, fault, LINES)
+
+
+# ---- the fuzzer
+
+@pytest.fixture
+def fuzz(monkeypatch):
+    loaded = scripts.load("tests/fuzz")
+    monkeypatch.setattr(loaded, "agrees", lambda *_: True)
+    return loaded
+
+
+@pytest.mark.parametrize("got, ended, right", [
+    (LINES, 0, True), (LINES, 3, False), (LINES[:3], 0, False), ([*LINES, "planted"], 0, False),
+    ([*LINES[:3], "lane 1 planted"], 0, False), ([LINES[1], LINES[0], *LINES[2:]], 0, False), ([], None, False)])
+def test_fuzz_compares_each_line_of_a_job(fuzz, monkeypatch, got, ended, right):
+    monkeypatch.setattr(fuzz, "run", lambda *_: (got, ended))
+    assert fuzz.is_right("relay", 0, "a job", LINES) == right
+
+
+@pytest.mark.parametrize("got, ended, wrong", [
+    (["a", "refused b"], 2, 0), (["a", "planted"], 2, 1), (["a"], 2, 2), (["a", "refused b"], 0, 2)])
+def test_fuzz_compares_each_line_of_a_batch(fuzz, monkeypatch, got, ended, wrong):
+    monkeypatch.setattr(fuzz, "run", lambda *_: (got, ended))
+    assert fuzz.compare_batch([b"1", b"2"], 0, ["a", "refused b"]) == wrong
+
+
+# ---- the tools with a control of their own
+
+@pytest.mark.parametrize("name", OWN_CONTROLS)
+def test_a_tool_with_a_control_of_its_own_is_a_part(name):
+    assert any(part.command.split()[0] == name for part in parts.PARTS)
+    assert os.path.exists(os.path.join(building.TOP, scripts.path_of(name)))
+
+
+# ---- the faults that tools/plants plants
+
+PLANTS = planted.all_plants()
+
+
+@pytest.mark.parametrize("name", PLANTS)
+def test_a_plant_applies_and_names_checks(name):
+    plant = PLANTS[name]
+    assert all(text != building.text_of(path) for path, text in planted.applied(plant, building.text_of).items())
+    assert {it.split()[0] for it in plant.checks} <= set(checks.CHECKS)
+
+
+@pytest.mark.parametrize("edit", [("tests/README.md", "no such text", "x"), ("tests/README.md", "e", "x")])
+def test_a_plant_that_does_not_apply_is_told(edit):
+    with pytest.raises(planted.NoPlant):
+        planted.applied(planted.Plant("planted", "none", ("c matrix",), (edit,)), building.text_of)

@@ -1,0 +1,136 @@
+"""The checks that see planted faults: each runs tests of the gate over a copy of the repository. A check
+answers whether the tests passed, and what they said. Crates are built without their proofs, but for the
+check `prover`."""
+import os
+import re
+from collections.abc import Callable
+
+from lib.plants.copies import Copy
+
+Told = tuple[bool, str]
+WRAPS = ["-Wl,--wrap=malloc", "-Wl,--wrap=realloc", "-Wl,--wrap=free"]
+LINKED = {"calls": ["-Wl,--wrap=clock_gettime", "-Wl,--wrap=getrandom"], "residue": WRAPS[2:]}
+OF_32_BITS = ["-m32", "-ffreestanding", "-nostdlib", "-static", "-fno-pic", "-no-pie", "-fno-stack-protector"]
+
+
+# ---- the C library
+
+def c_program(copy: Copy, name: str, *words: str) -> Told:
+    source = f"{copy.top}/c/tests/{name}.c"
+    return copy.run([copy.compiled(name, [source], *LINKED.get(name, ())), *words])
+
+
+def secrets_of(copy: Copy) -> list[str]:
+    return [f"{copy.top}/c/tests/{it}" for it in ("residue_strings", "round_keys")]
+
+
+def matrix(copy: Copy) -> Told:
+    folder = f"{copy.top}/c/tests/matrix"
+    program = copy.compiled("matrix", sorted(f"{folder}/{it}" for it in os.listdir(folder)
+                                             if it.endswith(".c")), *WRAPS)
+    made, said = copy.run(["python3", f"{copy.top}/c/tests/inside.py", "inside.bin"])
+    if not made:
+        return made, said
+    return copy.run([program, f"{copy.top}/c/krbrelay.h", "inside.bin", *secrets_of(copy), "-"])
+
+
+def inline(copy: Copy) -> Told:
+    """The header's inline functions, on 64 bits and on 32."""
+    source, header = f"{copy.top}/c/tests/inline.c", f"-I{copy.top}/c"
+    for made, words in (("inline64", ["-DHOSTED"]), ("inline32", OF_32_BITS)):
+        for command in (["cc", "-std=c99", "-O2", *words, header, source, "-o", made], [f"./{made}"]):
+            passed, said = copy.run(command)
+            if not passed:
+                return passed, said or f"{made} failed"
+    return True, ""
+
+
+def costs(copy: Copy) -> Told:
+    return copy.run(["c/costs", "--unproved", f"{copy.library}/libkrbrelay.so.1"], cwd=copy.top)
+
+
+# The part of c/signatures that asks for no proved module.
+VERSIONS = """import sys
+sys.path[:0] = ["c/tests", "tools"]
+from lib import report
+from signatures import compared, given, header
+count, of = report.Count(), given.Given({given.MODULE: 'target triple = "x86_64-unknown-linux-gnu"'}, "")
+compared.compare_versions(count, of, header.read(of))
+sys.exit(count.end(needs_one=True))
+"""
+
+
+def signatures(copy: Copy) -> Told:
+    return copy.run(["python3", "-c", VERSIONS], cwd=copy.top)
+
+
+def c_test(copy: Copy, name: str) -> Told:
+    if name in OF_C:
+        return OF_C[name](copy)
+    words = {"dead_stack": secrets_of(copy), "fuzz": ["20000"], "sequences": ["200000"]}
+    return c_program(copy, name, *words.get(name, ()))
+
+
+OF_C = {"matrix": matrix, "inline": inline, "costs": costs, "signatures": signatures}
+
+
+# ---- the program
+
+OF_PROGRAM = {"tests": ["pytest", "-q", "-x", "tests/test_program.py"],
+              "sweep": ["tests/sweep", "program"], "residue": ["tests/residue", "--program"],
+              "job_costs": ["tests/job_costs", "--check"], "costs": ["tests/program_costs"]}
+
+
+def of_program(copy: Copy, what: str) -> Told:
+    if not copy.program:
+        return False, "there is no program"
+    return copy.run(OF_PROGRAM[what], cwd=copy.top)
+
+
+# ---- the carrier
+
+def carrier(copy: Copy, what: str) -> Told:
+    """One of the units."""
+    made, folder = f"{copy.place('programs')}/{what}", copy.place("stores")
+    built, said = copy.run(["make", "-s", "-C", f"{copy.top}/carrier/tests", f"SOURCES={copy.top}/carrier",
+                            f"OUT={os.path.dirname(made)}", f"PREFIX={copy.installed}",
+                            *(f"WITH_{it}=no" for it in ("NATS", "POSTGRESQL")), made])
+    if not built:
+        return built, said
+    os.makedirs(folder, exist_ok=True)
+    return copy.run([made, f"sqlite:{folder}/store.db" if what == "store_test" else folder])
+
+
+# ---- tools, and the prover
+
+def tool(copy: Copy, what: str) -> Told:
+    return copy.run({"self": ["pytest", "-q", "-x", "tests/test_tools.py"],
+                     "test_building": ["tools/test_building"]}[what], cwd=copy.top)
+
+
+def crate(copy: Copy, name: str) -> Told:
+    """The tests of a crate, without proofs."""
+    return copy.run(["rt", "try", "--test", "--seconds", "300"], cwd=f"{copy.top}/crates/{name}")
+
+
+def prover(copy: Copy, name: str, function: str) -> Told:
+    """Whether the prover takes a crate, of which this function is changed. What it has kept of the crates
+    below is not proved again."""
+    proved, said = copy.run(["rt", "ci", name], cwd=copy.top)
+    return proved, f"error: {function}: {said}"
+
+
+CHECKS: dict[str, Callable[..., Told]] = {"c": c_test, "program": of_program, "carrier": carrier,
+                                          "tools": tool, "crate": crate, "prover": prover}
+
+
+def run(copy: Copy, check: str) -> Told:
+    kind, *words = check.split()
+    return CHECKS[kind](copy, *words)
+
+
+def last_words(said: str) -> str:
+    """The first line that tells a fault, or the last line."""
+    lines = [it.strip() for it in said.splitlines() if it.strip() and not it.startswith("time=")]
+    told = [it for it in lines if re.search(r"not so|FAILED|wrong|error|differs", it)]
+    return (told or lines or [""])[0][:150]

@@ -1,0 +1,91 @@
+"""A copy of the repository in which a fault may be planted, and what is built of it without proofs."""
+import functools
+import os
+import shutil
+import subprocess
+
+from lib.build import building, c_tools, without_proofs
+from lib.plants import planted
+
+LIBRARY = without_proofs.LIBRARY
+PROVED = os.path.join(building.folder_of(LIBRARY), "out", "c_library")
+FLAGS = ["-std=gnu11", "-O2", "-w"]
+SECONDS = 900
+NOTE = ("from lib.build import building;"
+        " building.note(building.KRBRELAY, building.digest_of('krbrelay'))")
+
+
+def committed() -> list[str]:
+    """The files of the repository, as they stand here."""
+    found = subprocess.run(["git", "-C", building.TOP, "ls-files", "-z"], check=True,
+                           stdout=subprocess.PIPE, text=True).stdout
+    return [it for it in found.split("\0")[:-1] if os.path.exists(os.path.join(building.TOP, it))]
+
+
+class Copy:
+    """A copy with a plant, or with none."""
+
+    def __init__(self, folder: str, plant: planted.Plant | None = None):
+        self.top, self.folder = os.path.join(folder, "copy"), folder
+        self.changes_crates = any(it.startswith("crates/") for it in plant.files()) if plant else False
+        for name in committed():
+            place = os.path.join(self.top, name)
+            os.makedirs(os.path.dirname(place), exist_ok=True)
+            shutil.copy(os.path.join(building.TOP, name), place)
+        subprocess.run(["git", "init", "-q", self.top], check=True)
+        for edit in plant.edits if plant else ():
+            planted.make(edit, self.top)
+
+    def place(self, name: str) -> str:
+        return os.path.join(self.folder, name)
+
+    def run(self, words: list, **how) -> tuple[bool, str]:
+        """Whether a command ends with 0, and the end of what it said."""
+        how.setdefault("cwd", self.folder)
+        try:
+            done = subprocess.run(words, stdin=subprocess.DEVNULL, stdout=subprocess.PIPE, check=False,
+                                  stderr=subprocess.STDOUT, timeout=SECONDS, **how)
+        except subprocess.TimeoutExpired:
+            return False, f"not at its end after {SECONDS} seconds"
+        return done.returncode == 0, done.stdout.decode(errors="replace")[-3000:]
+
+    @functools.cached_property
+    def library(self) -> str:
+        """The folder with libkrbrelay: of the proved code, if no crate is changed and that is built."""
+        folder = self.place("library")
+        if self.changes_crates or not building.is_built(LIBRARY, building.top_of(LIBRARY)):
+            without_proofs.library(self.top, folder)
+        else:
+            without_proofs.make_library(self.top, folder, os.path.join(PROVED, "krbrelay.s"))
+        return folder
+
+    @functools.cached_property
+    def program(self) -> str:
+        """The program krbrelay, in the place of the copy's proved one, so that all tests take it."""
+        made = os.path.join(self.top, "crates", "krbrelay", "out", "krbrelay")
+        os.makedirs(os.path.dirname(made))
+        without_proofs.program(self.top, made)
+        noted, said = self.run(["python3", "-c", NOTE], cwd=os.path.join(self.top, "tools"))
+        if not noted:
+            raise without_proofs.NotCompiled(said)
+        return made
+
+    @functools.cached_property
+    def installed(self) -> str:
+        """The folder at which libkrbrelay is installed."""
+        prefix = self.place("installed")
+        done, said = self.run(["make", "-s", "-f", f"{self.top}/c/Makefile", f"SOURCES={self.top}/c",
+                               f"PROVED={self.library}/proved.o", f"PREFIX={prefix}", "install"],
+                              cwd=self.library)
+        if not done:
+            raise without_proofs.NotCompiled(said)
+        return prefix
+
+    def compiled(self, name: str, sources: list[str], *words: str) -> str:
+        """A C program over the library."""
+        made = self.place(name)
+        done, said = self.run([*c_tools.c_compiler(), *FLAGS, f"-I{self.top}/c", f"-I{self.top}/c/tests",
+                               *sources, f"{self.library}/libkrbrelay.a", *words, "-o", made])
+        if not done:
+            raise without_proofs.NotCompiled(said)
+        return made

@@ -1,0 +1,62 @@
+"""The planted faults of tests/plants.toml."""
+import dataclasses
+import os
+import tomllib
+from collections.abc import Callable
+
+from lib.build import building
+
+TABLE = "tests/plants.toml"
+
+
+class NoPlant(Exception):
+    """Why an edit can't be made."""
+
+
+@dataclasses.dataclass(frozen=True)
+class Plant:
+    name: str
+    harm: str           # what a user suffers
+    checks: tuple       # those that have to see it, by their names in checks.py
+    edits: tuple        # of each a file, what stands in it once, and what stands there then
+
+    def files(self) -> set[str]:
+        return {edit[0] for edit in self.edits}
+
+
+def all_plants() -> dict[str, Plant]:
+    with open(os.path.join(building.TOP, TABLE), "rb") as file:
+        rows = tomllib.load(file)
+    plants = {name: Plant(name, row["harm"], tuple(row["by"]), tuple(map(tuple, row["edits"])))
+              for name, row in rows.items()}
+    idle = [it.name for it in plants.values() if not it.edits or not it.checks]
+    if idle:
+        raise NoPlant(f"without an edit or a check: {', '.join(idle)}")
+    return plants
+
+
+def edited(text: str, old: str, new: str, where: str) -> str:
+    if text.count(old) != 1:
+        raise NoPlant(f"{where}: the old text stands there {text.count(old)} times")
+    return text.replace(old, new)
+
+
+def applied(plant: Plant, text_of: Callable[[str], str]) -> dict[str, str | None]:
+    """The files that a plant changes, as they are then; None of one that is removed."""
+    texts = {}
+    for path, *change in plant.edits:
+        text = texts.get(path) or text_of(path)
+        texts[path] = edited(text, *change, path) if change else None
+    return texts
+
+
+def make(edit: tuple, top: str) -> None:
+    """Makes one edit in the repository at `top`."""
+    path = os.path.join(top, edit[0])
+    if len(edit) == 1:
+        os.remove(path)
+        return
+    with open(path, encoding="utf-8") as file:
+        text = edited(file.read(), edit[1], edit[2], edit[0])
+    with open(path, "w", encoding="utf-8") as file:
+        file.write(text)
