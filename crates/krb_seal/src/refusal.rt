@@ -21,7 +21,7 @@ pub enum Refusal {
     MsgType,
     /// 14: the encryption type isn't the session's.
     EtypeNoSupp,
-    /// 31: the encrypted part is too short, or its integrity check fails.
+    /// 31: the encrypted part is too short, or its authentication code differs.
     BadIntegrity,
     /// 50: the checksum's type isn't that of the session's encryption type.
     InappCksum,
