@@ -24,7 +24,7 @@ FOUND = {
     "receipts aren't sealed again": "the outbox keeps 100 frames",
     "receipts of other frames count": "the copy keeps (0, 0) frames and texts",
     "frames leave before they are looked at": "0 texts wait",
-    "no memory is nobody's frame": "of {'ann': 3}",
+    "no memory is nobody's frame": "delivered {'ann': 2, ",
     "confirmations counted singly": "not all is closed, though all counts as carried",
     "no compare-and-set": "doubled",
     "deduplication on": "not all is carried",
