@@ -10,6 +10,7 @@ import urllib.error
 import urllib.request
 
 import engines
+import jetstream
 import repro
 from repro import Case, require_stopped, texts
 
@@ -17,6 +18,7 @@ ANN = repro.ANN
 WITH_RECEIPTS = ANN.rstrip("\n") + f" {'33' * 16}\n"
 OTHERS = 60_000         # frames of others
 MANY = 40               # sessions that wait for a receipt
+SHARDS, IN_EACH = 32, 1_000
 LATER = 5_000           # frames after others, more than are read again at a shard's end
 
 
@@ -49,7 +51,7 @@ def drain(place, receiver=True, **more):
     status, _ = place.run("sender", "--drain", seconds=8, **more)
     if receiver:
         it = place.start("receiver")
-        time.sleep(1)
+        time.sleep(1 if place.nats is None else 3)
         place.end(it)
     return status
 
@@ -133,6 +135,26 @@ def restored_and_receipted(place):
     deliver_after_a_backup(place)
     change(place, "carrier", "DELETE FROM carried")
     require_unlost(place, drain(place), "all below 31 took effect")
+
+
+def restored_and_purged_stream(place):
+    """The same over JetStream, whose stream of frames was purged."""
+    deliver_after_a_backup(place)
+    jetstream.request(place.nats.ports[0], "STREAM.PURGE.KRB_0")
+    require_unlost(place, drain(place), "all below 31 took effect")
+
+
+def restored_without_receipts(place):
+    """The same without receipts: the carrier has lost the frames by which it could be seen."""
+    deliver_after_a_backup(place)
+    jetstream.request(place.nats.ports[0], "STREAM.PURGE.KRB_0")
+    require_unlost(place, drain(place), "hasn't all frames after offset")
+
+
+def restored_beside_frames(place):
+    """The same, and all frames are there: the last of them is an old one."""
+    deliver_after_a_backup(place)
+    require_unlost(place, drain(place), "older than what has left")
 
 
 # ---- an outbox that is copied
@@ -297,6 +319,22 @@ def short_lines():
 
 # ---- a broker that is away
 
+def backlog_of_shards(place):
+    """A backlog in each of 32 shards: all of it is confirmed without a stall, and hardly anything twice."""
+    place.put([row for it in range(SHARDS) for row in texts(f"t{it}", 0, IN_EACH)])
+    place.began = time.monotonic()
+    status, told = place.run("sender", "--drain", seconds=25)
+    place.require(status == 0, f"sender --drain: status {status}")
+    published = sum(jetstream.stream(place.nats.ports[0], it)["state"]["messages"]
+                    for it in range(SHARDS))
+    place.require(published < 1.5 * SHARDS * IN_EACH, f"{published} frames: {told[-300:]}")
+
+
+def shard_lines():
+    return tuple(ANN.replace("ann 0", f"t{it} {it}").replace("11" * 16, f"{it + 1:032x}")
+                 for it in range(SHARDS))
+
+
 def health_of_both(place):
     """The broker is away for longer than ten seconds: /healthz says so at both ends, and then that it is
     there."""
@@ -357,6 +395,11 @@ CASES = (
          (ANN,)),
     Case(restored_and_receipted, "it is restored, and its last receipt is all that is left", {"ann": 30},
          20, (WITH_RECEIPTS,)),
+    Case(restored_and_purged_stream, "it is restored, its stream was purged; receipts", {"ann": 30}, 30,
+         (WITH_RECEIPTS,), nats=""),
+    Case(restored_without_receipts, "it is restored, its stream was purged; no receipts", {"ann": 30}, 30,
+         (ANN,), nats=""),
+    Case(restored_beside_frames, "it is restored over JetStream", {"ann": 30}, 30, (ANN,), nats=""),
     Case(copied_with_receipts, "a copy of an outbox seals the same numbers; receipts", {"ann": 15}, 25,
          (WITH_RECEIPTS,)),
     Case(copied_without_receipts, "a copy of an outbox seals the same numbers; no receipts", {"ann": 15},
@@ -369,6 +412,7 @@ CASES = (
     Case(receipts_unanswered, "40 sessions wait for receipts, of which the carrier tells nothing",
          {"ann": 20}, 20, (ANN, *many_lines())),
     Case(first_texts, "first texts of 300 sessions beside 60,000 frames", {}, 30, short_lines()),
+    Case(backlog_of_shards, "32 shards with a backlog of 1,000 texts each", {}, 60, shard_lines(), nats=""),
     Case(credentials_refused, "a node refuses the password for some seconds", {"ann": 2}, 60, (ANN,),
          nats='authorization { user: "krb", password: "one" }\n'),
     Case(health_of_both, "the broker is away for more than ten seconds", {"ann": 2}, 40, (ANN,), nats=""),
