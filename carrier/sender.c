@@ -69,6 +69,17 @@ enum outbox_answer sender_stop(struct sender *s, const char *session, const char
     return OUTBOX_AGAIN;
 }
 
+enum outbox_answer sender_end_stop(struct sender *s, const char *session)
+{
+    enum outbox_answer begun = outbox_begin(&s->outbox);
+    if (begun != OUTBOX_OK)
+        return begun;
+    if (outbox_end_stopped(&s->outbox, session) == 0 && outbox_commit(&s->outbox) == 0)
+        return OUTBOX_OK;
+    outbox_rollback(&s->outbox);
+    return OUTBOX_AGAIN;
+}
+
 void sender_activate(struct sender *s, struct sending *it)
 {
     if (!it->is_active)

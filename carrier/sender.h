@@ -96,6 +96,9 @@ int sender_tell_stopped(struct sender *s, const char *session, const char *reaso
 /* The same in a transaction of its own. */
 enum outbox_answer sender_stop(struct sender *s, const char *session, const char *reason);
 
+/* It isn't any more: the outbox says so, in a transaction of its own. */
+enum outbox_answer sender_end_stop(struct sender *s, const char *session);
+
 /* Puts a session into the list of active ones. */
 void sender_activate(struct sender *s, struct sending *it);
 

@@ -515,10 +515,12 @@ def wrapping_key_later(place):
     shutil.copy(new, place.keytab)
     place.start("sender")
     place.put(streams_of(place, 2, 1))
-    place.require(place.wait(lambda: place.count("outbox", "stopped") == 1, 10), "it isn't told")
+    place.require(place.wait(lambda: place.ask("outbox", "SELECT 1 FROM stopped WHERE session = 'orders'"),
+                             10), "the table `stopped` hasn't the stream")
     os.replace(both_keys, place.keytab)
     place.put(streams_of(place, 3, 2))
     place.await_delivered()
+    place.require(place.count("outbox", "stopped") == 0, "something is stopped still")
 
 
 def closed_anew(place):
