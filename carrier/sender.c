@@ -319,9 +319,9 @@ static int step(struct sender *s, struct looked *before, size_t *rose, enum outb
     *rose = publish_count_carried(s, backlog > 0 && !(texts && backlog < WINDOW / 2) ? IDLE : 0);
     report_silence(s, *rose);
     *rose += receipts_hear(s);
+    s->carrying += nanoseconds() - began;
     if (!texts && *rose == 0)
         pause_milliseconds(1);
-    s->carrying += nanoseconds() - began;
     return 0;
 }
 
