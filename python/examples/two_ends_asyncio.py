@@ -15,8 +15,8 @@ async def write_frame(writer, frame):
 
 
 async def read_frame(reader):
-    """The next frame. EOFError where the stream ends before it does, ConnectionError where it can't be
-    one: what follows can't be read either."""
+    """The next frame. EOFError where the stream ends before it does, ConnectionError where it
+    can't be one: what follows can't be read either."""
     size = int.from_bytes(await reader.readexactly(4), "big")
     if size > 1_005_000:
         raise ConnectionError(f"a frame of {size} bytes: 1,005,000 is the most")

@@ -104,15 +104,16 @@ class TwoEnds(unittest.TestCase):
                           file.read())
 
     def test_over_asyncio_a_sender_is_cut_off(self):
-        """The example ends and says why, where the stream ends in a frame, and where a length can't be one."""
+        """The example ends and says why: in a frame, and at a length that can't be one."""
         with open(os.path.join(EXAMPLES, "two_ends_asyncio.py"), encoding="utf-8") as file:
             example = file.read()
         for length, fault in ((500, "IncompleteReadError"), (1_005_001, "ConnectionError")):
             cut = CUT.format(length=length)
             self.assertEqual(example.count("\nasyncio.run(main())\n"), 1)
             program = example.replace("\nasyncio.run(main())\n", f"\n{cut}\nasyncio.run(main())\n")
-            done = subprocess.run([sys.executable, "-c", program], capture_output=True, text=True, timeout=30,
-                                  env={**os.environ, "PYTHONPATH": PYTHON}, stdin=subprocess.DEVNULL)
+            done = subprocess.run([sys.executable, "-c", program], capture_output=True, text=True,
+                                  timeout=30, env={**os.environ, "PYTHONPATH": PYTHON},
+                                  stdin=subprocess.DEVNULL)
             self.assertEqual((done.returncode, done.stdout), (1, ""))
             self.assertIn(fault, done.stderr.splitlines()[-1])
 
