@@ -27,7 +27,7 @@ __version__ = "1.0.0"
 __all__ = [
     "ADDRESS_LIMIT", "Address", "Batch", "Body", "Closed", "Code", "Demand", "Error", "Exhausted",
     "FRAME_LIMIT", "Freed", "HISTORY_SIZE", "Header", "History", "How", "LibraryError", "Mode",
-    "Moment", "Numbers", "Opener", "Peer", "Receiver", "Record", "Refusal", "Sealer", "State", "Taken", "Text",
-    "USER_DATA_LIMIT", "Window", "Wiped",
+    "Moment", "Numbers", "Opener", "Peer", "Receiver", "Record", "Refusal", "Sealer", "State",
+    "Taken", "Text", "USER_DATA_LIMIT", "Window", "Wiped",
     "answer_name", "answer_text", "library_version", "message_header",
 ]
