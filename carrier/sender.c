@@ -296,6 +296,7 @@ static int may_get_tickets(struct sender *s)
 static int step(struct sender *s, struct looked *before, size_t *rose, enum outbox_answer *answer)
 {
     uint64_t began = nanoseconds(), sealing = s->sealing.nanoseconds;
+    unsigned long receipts = s->receipts;
     size_t backlog;
     int texts;
     *answer = look(s);
@@ -318,7 +319,8 @@ static int step(struct sender *s, struct looked *before, size_t *rose, enum outb
     backlog = publish_backlog(s);
     *rose = publish_count_carried(s, backlog > 0 && !(texts && backlog < WINDOW / 2) ? IDLE : 0);
     report_silence(s, *rose);
-    *rose += receipts_hear(s);
+    receipts_hear(s);
+    *rose += (size_t)(s->receipts - receipts); /* those that were asked for are stored at once too */
     s->carrying += nanoseconds() - began;
     if (!texts && *rose == 0)
         pause_milliseconds(1);

@@ -186,8 +186,8 @@ void publish_note_done(struct sender *s, struct sending *it);
 
 /* ---- sender_receipts.c */
 
-/* Takes the receipts that came, and answers how many counted. */
-size_t receipts_hear(struct sender *s);
+/* Takes the receipts that came. */
+void receipts_hear(struct sender *s);
 
 /* Looks whether a session has waited for too long for one. */
 void receipts_look(struct sender *s, struct sending *it);

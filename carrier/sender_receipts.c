@@ -92,15 +92,13 @@ static void take(void *given, const char *name, const uint8_t *bytes, size_t len
     s->receipts++;
 }
 
-size_t receipts_hear(struct sender *s)
+void receipts_hear(struct sender *s)
 {
-    unsigned long before = s->receipts;
     if (!s->has_receipts || nanoseconds() - s->heard < PAUSE)
-        return 0;
+        return;
     s->heard = nanoseconds();
     if (carrier_receipts(s->carrier, take, s) != 0)
         s->heard += SECOND; /* which is reported */
-    return (size_t)(s->receipts - before);
 }
 
 int receipts_ask_last(struct sender *s, const struct sending *it)

@@ -5,6 +5,7 @@ import fnmatch
 import glob
 import os
 import re
+import tomllib
 
 import pytest
 
@@ -259,6 +260,9 @@ def of_limits():
         yield f"{path}, {number:,}", number in known | NO_LIMITS.get(path, set()), True
     batch = re.search(r"BATCH_TEXTS = (\d+)", building.text_of("carrier/seal.h"))
     yield "carrier/seal.h, BATCH_TEXTS", int(batch[1]), limits["BATCH_LIMIT"]
+    size = int(re.search(r"#define KRBRELAY_TEXT_SIZE (\d+)", building.text_of("c/krbrelay.h"))[1])
+    for name, row in tomllib.loads(building.text_of("tables/answers.toml")).items():
+        yield f"the text of {name} has room", len(row["text"].encode()) < size, True
 
 
 def of_structs():

@@ -436,7 +436,7 @@ static const struct named known_answers[] = {
     { KRBRELAY_EXHAUSTED, "EXHAUSTED", "no sequence number is left" },
     { KRBRELAY_ETYPE_NOSUPP, "ETYPE_NOSUPP", "the encryption type isn't the expected one" },
     { KRBRELAY_BAD_INTEGRITY, "BAD_INTEGRITY",
-      "the encrypted part is too short, or its authentication code differs" },
+      "the encrypted part is too short, or its integrity check fails" },
     { KRBRELAY_SKEW, "SKEW", "the time is off by more than the skew, or is missing" },
     { KRBRELAY_BADADDR, "BADADDR", "an address isn't the expected one, or is missing" },
     { KRBRELAY_BADVERSION, "BADVERSION", "the protocol version isn't 5" },

@@ -56,7 +56,7 @@ const char *krbrelay_strerror(uint32_t answer)
     case KRBRELAY_TOO_LONG: return "the user data are longer than a message may carry";
     case KRBRELAY_EXHAUSTED: return "no sequence number is left";
     case KRBRELAY_ETYPE_NOSUPP: return "the encryption type isn't the expected one";
-    case KRBRELAY_BAD_INTEGRITY: return "the encrypted part is too short, or its authentication code differs";
+    case KRBRELAY_BAD_INTEGRITY: return "the encrypted part is too short, or its integrity check fails";
     case KRBRELAY_SKEW: return "the time is off by more than the skew, or is missing";
     case KRBRELAY_BADADDR: return "an address isn't the expected one, or is missing";
     case KRBRELAY_BADVERSION: return "the protocol version isn't 5";

@@ -12,7 +12,7 @@ import re
 # Functions of libraries that answer nothing, or a place that they were given.
 NOTHING = {
     "memcpy", "memset", "memmove", "strcpy", "explicit_bzero", "free", "qsort", "srand", "exit",
-    "_exit", "abort", "tdestroy", "va_start", "va_end", "freeaddrinfo", "umask",
+    "_exit", "abort", "tdestroy", "twalk", "va_start", "va_end", "freeaddrinfo", "umask",
     "krbrelay_sealer_free", "krbrelay_opener_free", "krbrelay_receiver_free",
     "MHD_stop_daemon", "MHD_destroy_response",
     "PQclear", "PQfinish", "PQconninfoFree", "PQsetNoticeProcessor",

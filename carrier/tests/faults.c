@@ -4,9 +4,9 @@
  *
  * CARRIER_FAULTS is one number: so many of 1,000 frames are lost, as many stored twice, and so
  * many confirmations lost. With RECEIPTS_UNANSWERED the question for a last receipt is waited for, so many
- * milliseconds, in vain. CLOCK_OFFSET are seconds by which the clock is ahead, and the file CLOCK_FILE has
- * others, which may change. OPENS_WITHOUT_MEMORY of the calls of krbrelay_opener_open have no memory: the
- * first ones of messages that are refused. */
+ * milliseconds, in vain. CLOCK_OFFSET are seconds by which the clock is ahead. The TAKEN_AHEAD'th frame that
+ * a receiver takes meets a clock that is twelve days ahead. So many of the first calls of
+ * krbrelay_opener_open as OPENS_WITHOUT_MEMORY says have no memory: those of messages that are refused. */
 #include "carrier.h"
 #include "clock.h"
 
@@ -39,25 +39,11 @@ enum krbrelay_answer __wrap_krbrelay_opener_open(struct krbrelay_opener *handle,
                                                  size_t room, size_t *size,
                                                  struct krbrelay_carried *carried);
 
-/* The seconds that the file has, 0 if there is none. */
-static uint64_t ahead_in_file(void)
-{
-    const char *path = getenv("CLOCK_FILE");
-    FILE *file = path != NULL ? fopen(path, "r") : NULL;
-    char text[32] = "";
-    if (file == NULL)
-        return 0;
-    if (fgets(text, sizeof text, file) == NULL)
-        text[0] = 0;
-    fclose(file);
-    return (uint64_t)atoll(text);
-}
-
 struct krbrelay_moment __wrap_read_clock(void)
 {
     struct krbrelay_moment now = __real_read_clock();
     const char *ahead = getenv("CLOCK_OFFSET");
-    now.seconds += (ahead != NULL ? (uint64_t)atoll(ahead) : 0) + ahead_in_file();
+    now.seconds += ahead != NULL ? (uint64_t)atoll(ahead) : 0;
     return now;
 }
 
@@ -72,6 +58,28 @@ enum krbrelay_answer __wrap_krbrelay_opener_open(struct krbrelay_opener *handle,
     if (without != NULL && __sync_fetch_and_add(&had, 1) < atoi(without))
         return KRBRELAY_MEMORY;
     return __real_krbrelay_opener_open(handle, frame, len, demand, at, user_data, room, size, carried);
+}
+
+enum krbrelay_answer __real_krbrelay_receiver_take(struct krbrelay_receiver *handle,
+                                                   const uint8_t *frame, size_t len,
+                                                   const struct krbrelay_moment *at, uint32_t *kind,
+                                                   uint8_t *bytes, size_t room, size_t *size);
+enum krbrelay_answer __wrap_krbrelay_receiver_take(struct krbrelay_receiver *handle,
+                                                   const uint8_t *frame, size_t len,
+                                                   const struct krbrelay_moment *at, uint32_t *kind,
+                                                   uint8_t *bytes, size_t room, size_t *size);
+
+enum krbrelay_answer __wrap_krbrelay_receiver_take(struct krbrelay_receiver *handle,
+                                                   const uint8_t *frame, size_t len,
+                                                   const struct krbrelay_moment *at, uint32_t *kind,
+                                                   uint8_t *bytes, size_t room, size_t *size)
+{
+    static int had;
+    const char *ahead = getenv("TAKEN_AHEAD");
+    struct krbrelay_moment now = *at;
+    if (ahead != NULL && __sync_add_and_fetch(&had, 1) == atoi(ahead))
+        now.seconds += 1000000;
+    return __real_krbrelay_receiver_take(handle, frame, len, &now, kind, bytes, room, size);
 }
 
 static int happens(const struct faulty *c)

@@ -10,6 +10,9 @@ CASES = {
     "places stay those of another list": "carrier_replaced",
     "frames go once they are carried": "receipts_before_reading",
     "receipts aren't sealed again": "receipts_lost",
+    "receipts of other frames count": "copied_with_receipts",
+    "frames leave before they are looked at": "restored_with_its_frames",
+    "no memory is nobody's frame": "no_memory_at_a_refusal",
 }
 
 # What has to be said of each: that it fails for another reason isn't enough.
@@ -19,6 +22,9 @@ FOUND = {
     "places stay those of another list": "delivered {'ann': 5000} of {'ann': 5010}",
     "frames go once they are carried": "delivered {} of {'ann': 300}",
     "receipts aren't sealed again": "the outbox keeps 100 frames",
+    "receipts of other frames count": "the copy keeps (0, 0) frames and texts",
+    "frames leave before they are looked at": "0 texts wait",
+    "no memory is nobody's frame": "delivered {'ann': 2, ",
     "confirmations counted singly": "not all is closed, though all counts as carried",
     "no compare-and-set": "doubled",
     "deduplication on": "not all is carried",
@@ -67,9 +73,26 @@ EDITS = {
 """),
     "frames go once they are carried": ("sender.c", """\
         now.done = it->of.has_back ? it->done : it->progress.carried;
-        if (""", """\
+        now.history""", """\
         now.done = it->progress.carried;
-        if ("""),
+        now.history"""),
+    "receipts of other frames count": ("sender_receipts.c", """\
+    if (own.is_known && receipt.history.is_known && !history_is(&own, &receipt.history)) {
+""", """\
+    if (own.is_known && receipt.history.is_known && receipt.n > it->progress.next) {
+"""),
+    "frames leave before they are looked at": ("publish.c", """\
+    if (!it->is_checked)
+        texts_want""", """\
+    if (it->progress.next == 0)
+        texts_want"""),
+    "no memory is nobody's frame": ("shard.c", """\
+    if (opens < 0)
+        return -1; /* the frames are read again */
+""", """\
+    if (opens < 0)
+        opens = 0;
+"""),
     "receipts aren't sealed again": ("shard.c", """\
     s->counts.repeats++;
     shard_owe(s, of);
@@ -100,6 +123,7 @@ TICKETS = {
     "the name isn't compared with the key": ("a name that isn't the key's", "opened: ["),
     "each client is allowed": ("a client that isn't allowed", "opened: ["),
     "no session waits for the one before": ("before_its_turn", "delivered"),
+    "a stream goes on without its key": ("keytab_moment", "delivered"),
 }
 TICKET_EDITS = {
     "the checksum of the text isn't compared": ("opening.c", """\
@@ -116,6 +140,9 @@ TICKET_EDITS = {
 """, """\
     return is_found || client != NULL;
 """),
+    "a stream goes on without its key": ("sender_streams.c", """\
+        stream->left = STREAM_LEFT; /* so that no later text of it is taken before this one */
+""", ""),
     "no session waits for the one before": ("shard_open.c", """\
     if (of->opened == NULL || of->opened->before[0] == 0)
         return 1;

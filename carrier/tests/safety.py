@@ -10,14 +10,16 @@ import urllib.error
 import urllib.request
 
 import engines
+import jetstream
 import repro
 from repro import Case, require_stopped, texts
 
 ANN = repro.ANN
 WITH_RECEIPTS = ANN.rstrip("\n") + f" {'33' * 16}\n"
-AHEAD = 200_000         # seconds, more than the skew
 OTHERS = 60_000         # frames of others
 MANY = 40               # sessions that wait for a receipt
+SHARDS, IN_EACH = 32, 1_000
+LATER = 5_000           # frames after others, more than are read again at a shard's end
 
 
 def new_texts(name, count):
@@ -49,7 +51,7 @@ def drain(place, receiver=True, **more):
     status, _ = place.run("sender", "--drain", seconds=8, **more)
     if receiver:
         it = place.start("receiver")
-        time.sleep(1)
+        time.sleep(1 if place.nats is None else 3)
         place.end(it)
     return status
 
@@ -135,6 +137,26 @@ def restored_and_receipted(place):
     require_unlost(place, drain(place), "all below 31 took effect")
 
 
+def restored_and_purged_stream(place):
+    """The same over JetStream, whose stream of frames was purged."""
+    deliver_after_a_backup(place)
+    jetstream.request(place.nats.ports[0], "STREAM.PURGE.KRB_0")
+    require_unlost(place, drain(place), "all below 31 took effect")
+
+
+def restored_without_receipts(place):
+    """The same without receipts: the carrier has lost the frames by which it could be seen."""
+    deliver_after_a_backup(place)
+    jetstream.request(place.nats.ports[0], "STREAM.PURGE.KRB_0")
+    require_unlost(place, drain(place), "hasn't all frames after offset")
+
+
+def restored_beside_frames(place):
+    """The same, and all frames are there: the last of them is an old one."""
+    deliver_after_a_backup(place)
+    require_unlost(place, drain(place), "older than what has left")
+
+
 # ---- an outbox that is copied
 
 def copied_and_cut_off(place):
@@ -187,21 +209,17 @@ def copied_without_receipts(place):
 # ---- a receiver without memory
 
 def no_memory_at_a_refusal(place):
-    """Nothing is known of a frame that couldn't be looked at: it is read again."""
-    clock = f"{place.folder}/clock"
-    place.env |= {"CLOCK_FILE": clock, "OPENS_WITHOUT_MEMORY": "1"}
-    place.write(clock, ["0"])
-    place.put(texts("ann", 0, 1))
-    place.run("sender", "--drain")
-    place.start("receiver")
-    place.require(place.wait(lambda: place.is_delivered({"ann": 1}), 5), "the first text isn't delivered")
-    place.write(clock, [str(AHEAD)])
-    place.env.pop("CLOCK_FILE")
-    for it in (1, 2):
+    """Nothing is known of a frame that couldn't be looked at: it is read again. If it were taken for
+    nobody's, the copy of it that comes later would move the place past the frame between them."""
+    for it in range(3):
         place.put(texts("ann", it, it + 1))
         place.run("sender", "--drain")
-        time.sleep(0.5)
-    place.write(clock, ["0"])
+    change(place, "carrier", "INSERT INTO carried (shard, session, frame)"
+                             " SELECT shard, session, frame FROM carried WHERE offset = 2")
+    place.put(texts("tom", 0, LATER))       # so that the shard's end isn't all of it
+    place.run("sender", "--drain", seconds=15)
+    place.env |= {"TAKEN_AHEAD": "2", "OPENS_WITHOUT_MEMORY": "1"}
+    place.start("receiver")
     place.await_delivered()
 
 
@@ -301,6 +319,22 @@ def short_lines():
 
 # ---- a broker that is away
 
+def backlog_of_shards(place):
+    """A backlog in each of 32 shards: all of it is confirmed without a stall, and hardly anything twice."""
+    place.put([row for it in range(SHARDS) for row in texts(f"t{it}", 0, IN_EACH)])
+    place.began = time.monotonic()
+    status, told = place.run("sender", "--drain", seconds=25)
+    place.require(status == 0, f"sender --drain: status {status}")
+    published = sum(jetstream.stream(place.nats.ports[0], it)["state"]["messages"]
+                    for it in range(SHARDS))
+    place.require(published < 1.5 * SHARDS * IN_EACH, f"{published} frames: {told[-300:]}")
+
+
+def shard_lines():
+    return tuple(ANN.replace("ann 0", f"t{it} {it}").replace("11" * 16, f"{it + 1:032x}")
+                 for it in range(SHARDS))
+
+
 def health_of_both(place):
     """The broker is away for longer than ten seconds: /healthz says so at both ends, and then that it is
     there."""
@@ -361,18 +395,24 @@ CASES = (
          (ANN,)),
     Case(restored_and_receipted, "it is restored, and its last receipt is all that is left", {"ann": 30},
          20, (WITH_RECEIPTS,)),
+    Case(restored_and_purged_stream, "it is restored, its stream was purged; receipts", {"ann": 30}, 30,
+         (WITH_RECEIPTS,), nats=""),
+    Case(restored_without_receipts, "it is restored, its stream was purged; no receipts", {"ann": 30}, 30,
+         (ANN,), nats=""),
+    Case(restored_beside_frames, "it is restored over JetStream", {"ann": 30}, 30, (ANN,), nats=""),
     Case(copied_with_receipts, "a copy of an outbox seals the same numbers; receipts", {"ann": 15}, 25,
          (WITH_RECEIPTS,)),
     Case(copied_without_receipts, "a copy of an outbox seals the same numbers; no receipts", {"ann": 15},
          25, (ANN,)),
     Case(no_memory_at_a_refusal, "a refused frame can't be looked at, since there is no memory",
-         {"ann": 3}, 40, (ANN,)),
+         {"ann": 3, "tom": LATER}, 30),
     Case(line_gone, "the line of a session with frames is taken out", {"ann": 3}, 25, (ANN, repro.TOM)),
     Case(outbox_replaced, "the outbox's file is replaced below a sender", {"ann": 6}, 15, (ANN,)),
     Case(stopped_names, "texts of two names without a line, in turns", {}, 15, (ANN,)),
     Case(receipts_unanswered, "40 sessions wait for receipts, of which the carrier tells nothing",
          {"ann": 20}, 20, (ANN, *many_lines())),
     Case(first_texts, "first texts of 300 sessions beside 60,000 frames", {}, 30, short_lines()),
+    Case(backlog_of_shards, "32 shards with a backlog of 1,000 texts each", {}, 60, shard_lines(), nats=""),
     Case(credentials_refused, "a node refuses the password for some seconds", {"ann": 2}, 60, (ANN,),
          nats='authorization { user: "krb", password: "one" }\n'),
     Case(health_of_both, "the broker is away for more than ten seconds", {"ann": 2}, 40, (ANN,), nats=""),

@@ -29,32 +29,19 @@ static int set_address(struct krbrelay_address *to, const struct host *from)
     return 1;
 }
 
-/* THE NEW DEMANDS. Build with -DWITH_NEW_DEMANDS once krbrelay.h has needs_time_or_number, and has
- * KRBRELAY_ABSENT_IS_0 for how_time. Until then implementations.toml doesn't say that this runner
- * can be asked them. */
-static int set_new_demands(const struct asked *asked)
-{
-#ifdef WITH_NEW_DEMANDS
-    demand.needs_time_or_number = (uint32_t)asked->time_or_number;
-    return 1;
-#else
-    return !asked->time_or_number && asked->time != TIME_ABSENT_MICROSECONDS_ARE_0;
-#endif
-}
-
 static int set_demand(const struct asked *asked)
 {
     demand = (struct krbrelay_demand){ .how_time = (uint32_t)asked->time,
                                        .skew = asked->time ? (uint32_t)asked->skew : 0,
-                                       .number = asked->numbered ? asked->number : 0 };
+                                       .number = asked->numbered ? asked->number : 0,
+                                       .needs_time_or_number = (uint32_t)asked->time_or_number };
     if (asked->sender.present)
         demand.how_sender = KRBRELAY_REQUIRED;
     if (asked->receiver.present)
         demand.how_receiver = asked->receiver_required ? KRBRELAY_REQUIRED : KRBRELAY_IF_PRESENT;
     if (asked->numbered)
         demand.how_number = way == ABSENT ? KRBRELAY_ABSENT_IS_0 : KRBRELAY_REQUIRED;
-    return set_address(&demand.sender, &asked->sender) && set_address(&demand.receiver, &asked->receiver)
-        && set_new_demands(asked);
+    return set_address(&demand.sender, &asked->sender) && set_address(&demand.receiver, &asked->receiver);
 }
 
 static int begin(const struct asked *asked)

@@ -7,10 +7,8 @@ import collections.abc
 
 from krbrelay import Address, Batch, Closed, Demand, How, Mode, Opener, Peer, Receiver, Refusal, Text
 
-from asked import ABSENT_MICROSECONDS_ARE_0, REQUIRED, Asked, run
+from asked import REQUIRED, Asked, run
 
-# Whether the package has Demand(needs_time_or_number=..) and How.ABSENT_IS_0 for the time.
-WITH_NEW_DEMANDS = False
 OWN = Address(3, bytes(4))
 
 Take = collections.abc.Callable[[bytes], bytes]
@@ -67,8 +65,6 @@ def verdict(take: Take, message: bytes) -> str:
 
 
 def read(asked: Asked) -> list[str] | None:
-    if not WITH_NEW_DEMANDS and (asked.time_or_number or asked.time == ABSENT_MICROSECONDS_ARE_0):
-        return None
     try:
         take = taker_of(asked)
     except ValueError:      # an address that is too long

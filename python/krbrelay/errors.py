@@ -16,7 +16,7 @@ class Code(enum.IntEnum):
     ETYPE_NOSUPP = 14
     """Another encryption type."""
     BAD_INTEGRITY = 31
-    """The encrypted part is too short, or its authentication code differs."""
+    """The encrypted part is too short, or its integrity check fails."""
     SKEW = 37
     """The time is off by more than the skew, or is missing."""
     BADADDR = 38

@@ -206,8 +206,8 @@ def body_of(user_data: bytes, carried: CarriedStruct) -> Body:
 @dataclasses.dataclass(frozen=True)
 class Demand:
     """What `Opener.open` and a Peer demand of an authentic message: of each field that isn't None,
-    that the message's fits. The checks come in the order of addresses, time, number, and whether one
-    of both is told: Code.BADADDR, Code.SKEW, Code.BADORDER, Code.MODIFIED."""
+    that the message's fits. The checks come in the order of addresses, time, number, and whether
+    one of both is told: Code.BADADDR, Code.SKEW, Code.BADORDER, Code.MODIFIED."""
     sender: Optional[Address] = None
     receiver: Optional[Address] = None
     skew: Optional[int] = None

@@ -58,6 +58,21 @@ class Directions(unittest.TestCase):
                     self.assertEqual(number_of(call, b"", MICROS), (Code.MALFORMED, None))
                 self.assertEqual(peer.numbers, Numbers(7, 8))
 
+    def test_passing_a_gap_by(self):
+        """As docs/C.md says: a new peer with the next number, and the number that came."""
+        for key, mode in KINDS:
+            frame = frame_of(key, mode, b"hi", 12)
+            with peer_of(key, mode, 3, 8) as peer:
+                peer.seal(b"")
+                code, number = number_of(peer.open, frame, MICROS)
+                self.assertEqual((code, number), (Code.BADORDER, 12))
+                following = peer.numbers.next
+            with peer_of(key, mode, following, number) as peer:
+                self.assertEqual(peer.open(frame, MICROS).user_data, b"hi")
+                self.assertEqual(peer.numbers, Numbers(4, 13))
+                self.assertEqual(number_of(peer.open, frame_of(key, mode, b"hi", 9), MICROS),
+                                 (Code.BADORDER, 9))
+
     def test_a_message_that_comes_back_to_its_maker(self):
         for key, mode in KINDS:
             with peer_of(key, mode) as peer:

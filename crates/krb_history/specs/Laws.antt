@@ -1,4 +1,4 @@
--- What a digest tells of the frames that it was made of.
+-- What a digest says about the frames that it was made of.
 use Rattle.std.specs.Prelude.{◌≡◌, ◌≤◌, ◌⊎◌, ℕ, List, ◌++◌, length, map, take}
 use Rattle.sha1.specs.Sha1.{sha1}
 use Rattle.krb_history.specs.History.{no_history, tag, with_frames}

@@ -112,8 +112,7 @@ fn refusal_text(refusal: &Refusal) -> &'static str
         Refusal::BadVersion => "the protocol version isn't 5",
         Refusal::MsgType => "the message isn't of the expected kind, KRB-SAFE or KRB-PRIV",
         Refusal::EtypeNoSupp => "the encryption type isn't the expected one",
-        Refusal::BadIntegrity =>
-            "the encrypted part is too short, or its authentication code differs",
+        Refusal::BadIntegrity => "the encrypted part is too short, or its integrity check fails",
         Refusal::InappCksum => "the checksum's type isn't the expected one",
         Refusal::BadAddr => "an address isn't the expected one, or is missing",
         Refusal::Skew => "the time is off by more than the skew, or is missing",
