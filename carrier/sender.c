@@ -332,9 +332,9 @@ static int step(struct sender *s, struct looked *before, size_t *rose, enum outb
     report_silence(s, *rose);
     receipts_hear(s);
     *rose += (size_t)(s->receipts - receipts); /* those that were asked for are stored at once too */
+    s->carrying += nanoseconds() - began;
     if (!texts && *rose == 0)
         pause_milliseconds(1);
-    s->carrying += nanoseconds() - began;
     return 0;
 }
 

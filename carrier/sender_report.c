@@ -17,7 +17,7 @@ static const struct metric metrics[] = {
     { NAME "republished_frames_total", "counter", "Frames among them that were once more", NULL },
     { NAME "sealing_seconds_total", "counter", "Time for sealing", NULL },
     { NAME "outbox_seconds_total", "counter", "Time for the outbox", NULL },
-    { NAME "carrier_seconds_total", "counter", "Time for the carrier", NULL },
+    { NAME "carrier_seconds_total", "counter", "Time for the carrier, with waits for its confirmations", NULL },
     { NAME "waiting_texts", "gauge", "Texts in the outbox, of the first 100,000", NULL },
     { NAME "oldest_text_seconds", "gauge", "Since the oldest of them was put in, if that is known",
       NULL },

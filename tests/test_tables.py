@@ -47,9 +47,12 @@ PLACES = [
     (HEADER, r"^#define KRBRELAY_VERSION_MINOR (\d+)$", "library", "minor"),
     (HEADER, r"^#define KRBRELAY_VERSION_PATCH (\d+)$", "library", "patch"),
     ("c/Makefile", r"^VERSION = (.*)$", "library", "whole"),
+    ("c/Makefile", r"Version: ([^' ]+)", "library", "by_make"),
+    ("c/Makefile", r"set\(PACKAGE_VERSION (\S+)\)'", "library", "by_make"),
     ("c/Makefile", r"libkrbrelay\.so\.(\d+)", "library", "major"),
     ("packaging/debian/changelog", r"^krbrelay \((.*)-\d+\)", "library", "whole"),
     ("packaging/debian/libkrbrelay1.symbols", r"libkrbrelay\.so\.(\d+)", "library", "major"),
+    ("packaging/debian/libkrbrelay1.symbols", r"\(symver\)KRBRELAY_\S+ (\S+)$", "library", "whole"),
     ("c/library", r"libkrbrelay\.so\.(\d+)", "library", "major"),
     (SYMBOLS, r"KRBRELAY_(\d+)\.", "library", "major"),
     ("python/pyproject.toml", r'^version = "(.*)"$', "library", "whole"),
@@ -62,7 +65,11 @@ PLACES = [
     ("docs/C.md", r"libkrbrelay\.so\.(\d+)", "library", "major"),
     ("docs/C.md", r"Within major number (\d+)", "library", "major"),
     ("docs/PYTHON.md", r"as \((\d+, \d+, \d+)\)", "library", "listed"),
+    ("docs/krbrelay.1", r'^\.TH KRBRELAY 1 \S+ "krbrelay (.*?)"', "program", "whole"),
+    ("CONTRIBUTING.md", r"`krbrelay-(\S+)` for the program", "program", "whole"),
+    ("CONTRIBUTING.md", r"`libkrbrelay-(\S+)` for the library", "library", "whole"),
 ]
+OTHER_VERSION = "7.8.9"         # no part of which is one of a version here
 # Prose whose numbers of a thousand and more are limits, but for the limit before the present one.
 # Tests and benchmarks have other sizes.
 PROSE = ("crates/*/src/**/*.rt", HEADER, "docs/C.md", "docs/PYTHON.md", "docs/USE.md",
@@ -176,7 +183,8 @@ def spellings(version):
     """What may stand for a version, by how much of it stands there."""
     major, minor, patch = map(int, version.split("."))
     return {"whole": version, "major": str(major), "minor": str(minor), "patch": str(patch),
-            "listed": f"{major}, {minor}, {patch}", "packed": major << 16 | minor << 8 | patch}
+            "listed": f"{major}, {minor}, {patch}", "packed": hex(major << 16 | minor << 8 | patch),
+            "by_make": "$(VERSION)"}
 
 
 def versions():
@@ -271,11 +279,29 @@ def of_structs():
         yield f"python/krbrelay/library.py, {name}", found, crates.get(name)
 
 
+def said(text, around, part):
+    """What stands for a version in a text, once each."""
+    found = set(re.findall(around, text, re.M))
+    return {hex(int(it, 0)) for it in found} if part == "packed" else found
+
+
 def of_versions():
     known = {name: spellings(version) for name, version in versions().items()}
     for path, around, name, part in places():
-        found = set(re.findall(around, building.text_of(path), re.M))
-        yield f"{path}, {around}", {int(it, 0) for it in found} if part == "packed" else found, {known[name][part]}
+        yield f"{path}, {around}", said(building.text_of(path), around, part), {known[name][part]}
+
+
+def of_other_versions():
+    """Each place once more, where its first and where its last word is another version: what is said
+    then, and what has to be."""
+    known = {name: spellings(version) for name, version in versions().items()}
+    other = {**spellings(OTHER_VERSION), "by_make": OTHER_VERSION}
+    for path, around, name, part in places():
+        text = building.text_of(path)
+        words = list(re.finditer(around, text, re.M))
+        for word in {words[0], words[-1]}:
+            planted = text[:word.start(1)] + other[part] + text[word.end(1):]
+            yield f"{path}, {around}, at {word.start(1)}", said(planted, around, part), {known[name][part]}
 
 
 def walk(heading):
@@ -403,6 +429,11 @@ def test_structs(found, wanted):
 @compared(of_versions)
 def test_versions(found, wanted):
     assert found == wanted
+
+
+@compared(of_other_versions)
+def test_another_version_is_seen(found, wanted):
+    assert found != wanted and found
 
 
 @compared(of_walks)

@@ -1095,6 +1095,15 @@ def require_age(place, port):
             numbers(port).get("krbrelay_sender_oldest_text_seconds{}")), 4), f"the age, {change}")
 
 
+def require_no_work(place, port):
+    """An idle sender waits: that is no time for the carrier."""
+    name = "krbrelay_sender_carrier_seconds_total{}"
+    before = float(numbers(port)[name])
+    time.sleep(2)
+    rose = float(numbers(port)[name]) - before
+    place.require(rose < 0.5, f"{name} rose by {rose} s in 2 s of an idle sender")
+
+
 def metrics(place):
     """The numbers are those that the files have; a session with a wrong key stands, by name."""
     sender, receiver = engines.free_ports(2)
@@ -1116,6 +1125,7 @@ def metrics(place):
     for (port, name), number in wanted.items():
         fine = place.wait(lambda: numbers(port).get(name) == number, 4)
         place.require(fine, f"{name} isn't {number}: {numbers(port).get(name)}")
+    require_no_work(place, sender)
     require_age(place, sender)
     for port in (sender, receiver):
         place.require(get(port, "/healthz")[0] == 200, f"/healthz: {get(port, '/healthz')}")

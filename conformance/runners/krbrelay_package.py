@@ -51,7 +51,7 @@ def taker_of(asked: Asked) -> Take:
         return lambda message: user_data(receiver.take(message, asked.now))
     demand = demand_of(asked)
     if len(asked.messages) > 1 and asked.number is not None:
-        peer = Peer(asked.etype, asked.key, mode=mode, sender=OWN, demand=demand)
+        peer = Peer(asked.etype, asked.key, mode=mode, sender=OWN, demand=demand, skew=None)
         return lambda message: peer.open(message, asked.now).user_data
     opener = Opener(asked.etype, asked.key, mode=mode)
     return lambda message: opener.open(message, demand, asked.now).user_data

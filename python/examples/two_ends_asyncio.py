@@ -15,11 +15,15 @@ async def write_frame(writer, frame):
 
 
 async def read_frame(reader):
+    """The next frame. EOFError where the stream ends before it does, ConnectionError where it
+    can't be one: what follows can't be read either."""
     size = int.from_bytes(await reader.readexactly(4), "big")
-    return await reader.readexactly(min(size, 1_005_000))
+    if size > 1_005_000:
+        raise ConnectionError(f"a frame of {size} bytes: 1,005,000 is the most")
+    return await reader.readexactly(size)
 
 
-async def receive(reader, writer, received):
+async def take_all(reader):
     """Takes records up to the close. A frame that is refused is dropped."""
     with Receiver(17, KEY, mode=Mode.PRIV, sender=ALICE, receiver=BOB, expected=1) as receiver:
         while not receiver.state.closed:
@@ -28,8 +32,18 @@ async def receive(reader, writer, received):
                 print("closed" if isinstance(record, Closed) else record.data.decode())
             except Refusal as refusal:
                 print(f"refused: {refusal.name}")
-    writer.close()
-    received.set_result(None)
+
+
+async def receive(reader, writer, received):
+    """Tells how the stream ended: by the close, or by a fault. Whoever waits gets an answer."""
+    try:
+        await take_all(reader)
+    except (EOFError, OSError) as fault:
+        received.set_exception(fault)
+    else:
+        received.set_result(None)
+    finally:
+        writer.close()
 
 
 async def send(port):

@@ -14,7 +14,7 @@ from krbrelay.library import HandleStruct, library
 from krbrelay.values import ranged
 
 Self = TypeVar("Self", bound="Handle")
-Key = Union[bytes, bytearray]
+Key = Union[bytes, bytearray, memoryview]
 
 # A child doesn't wait for the lock: a thread of its parent may have held it.
 OF_A_PARENT = "the handle was made before a fork, by the parent process"
@@ -87,10 +87,14 @@ class Handle:
 
 
 def _copy_of(key: Key) -> ctypes.Array[c_uint8]:
-    """A copy of the key that can be overwritten."""
-    if not isinstance(key, (bytes, bytearray)):
-        raise TypeError(f"the key is {type(key).__name__}: it has to be bytes or bytearray")
-    return (c_uint8 * len(key)).from_buffer_copy(key)
+    """A copy of the key that can be overwritten: no other is made."""
+    if not isinstance(key, (bytes, bytearray, memoryview)):
+        raise TypeError(f"the key is {type(key).__name__}: it has to be bytes, bytearray or "
+                        "memoryview")
+    with memoryview(key) as view:
+        if not view.c_contiguous:
+            raise TypeError("the key is a memoryview whose bytes don't lie one after the other")
+        return (c_uint8 * view.nbytes).from_buffer_copy(view)
 
 
 def _end(free: Callable[..., Any], struct: HandleStruct, lock: Any, process: int) -> None:

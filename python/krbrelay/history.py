@@ -1,5 +1,5 @@
-"""Histories: one digest of the frames of a session that took effect, by which both ends see whether they
-speak of the same frames."""
+"""Histories: one digest of the frames of a session that took effect, by which both ends see whether
+they speak of the same frames."""
 from __future__ import annotations
 
 from ctypes import c_uint8
@@ -12,9 +12,9 @@ from krbrelay.values import Bytes, bytes_of
 class History:
     """One digest of the frames of a session that took effect, in their order.
 
-    Numbers don't tell two senders apart: one whose store was restored or copied seals other messages
-    under numbers that were used. A receiver stores the digest beside the number that it demands, and
-    sends both back; a sender adds the frames that it sealed, and compares.
+    Numbers don't tell two senders apart: one whose store was restored or copied seals other
+    messages under numbers that were used. A receiver stores the digest beside the number that it
+    demands, and sends both back; a sender adds the frames that it sealed, and compares.
 
     ValueError, TypeError, LibraryError.
     """

@@ -3,6 +3,7 @@ from __future__ import annotations
 
 import os
 from ctypes import c_uint8, c_uint64
+from dataclasses import replace
 from typing import NamedTuple, Optional
 
 from krbrelay.errors import Code, Refusal
@@ -10,7 +11,10 @@ from krbrelay.handle import Handle, Key
 from krbrelay.library import CONFOUNDER_SIZE, PEER_STATE_SIZE, CarriedStruct
 from krbrelay.sealer import UNUSED, confounder_of, session_struct
 from krbrelay.values import (
-    Address, Body, Bytes, Demand, Mode, Moment, body_of, bytes_of, demand_struct, moment_struct)
+    LAST_NUMBER, Address, Body, Bytes, Demand, How, Mode, Moment, body_of, bytes_of, demand_struct,
+    moment_struct, ranged)
+
+STATE_HEAD = b"krs\1"           # what an export begins with, before two numbers of eight bytes
 
 
 class Numbers(NamedTuple):
@@ -29,10 +33,11 @@ class Peer(Handle):
     `sender`, this end's, and that of the `receiver` if there is one, and begin at the number
     `first`. Those of the other end have to meet the `demand`, whose number is the first that is
     expected, at most 2**32, with How.REQUIRED or How.ABSENT_IS_0. One key serves both directions:
-    so the ends need different addresses, and each demands the other's.
+    so the ends need different addresses, and each demands the other's. Where the demand has no
+    skew, a time is demanded that is off by at most `skew` seconds; with neither, no time is.
 
-    With `state`, what `export` returned, a peer goes on where another stopped: `first` and the
-    demand's number are 0.
+    With `state`, what `export` returned, a peer goes on where another stopped: the demand's number
+    is None or 0, and `first` is 0.
 
     ValueError, TypeError, Exhausted, MemoryError, LibraryError.
     """
@@ -41,9 +46,12 @@ class Peer(Handle):
 
     def __init__(self, etype: int, key: Key, *, mode: Mode, sender: Address, demand: Demand,
                  first: int = 0, receiver: Optional[Address] = None,
-                 state: Optional[Bytes] = None) -> None:
+                 state: Optional[Bytes] = None, skew: Optional[int] = 300) -> None:
         self._draws = Mode(mode) is Mode.PRIV
-        ends = session_struct(mode, sender, first, receiver), demand_struct(demand)
+        demanded = _demand_of(demand, skew, state is not None)
+        if state is not None and first:
+            raise ValueError(f"first is {first}: it has to be 0 with a state, which has the number")
+        ends = session_struct(mode, sender, first, receiver), demand_struct(demanded)
         if state is None:
             super().__init__(etype, key, *ends)
         else:
@@ -97,8 +105,29 @@ class Peer(Handle):
         return bytes(state)
 
 
+def _demand_of(demand: Demand, skew: Optional[int], has_state: bool) -> Demand:
+    """What a peer demands, or ValueError with the field that can't be, and what it may be."""
+    if not isinstance(demand, Demand):
+        raise TypeError(f"the demand is {type(demand).__name__}: it has to be a Demand")
+    number = demand.number
+    if How(demand.how_number) is How.IF_PRESENT:
+        raise ValueError("the demand's how_number is How.IF_PRESENT: it has to be How.REQUIRED or"
+                         " How.ABSENT_IS_0, since a peer opens each number once")
+    if has_state and number:
+        raise ValueError(f"the demand's number is {number}: it has to be None with a state, which "
+                         "has it")
+    if not has_state and number is None:
+        raise ValueError(f"the demand's number is None: it has to be 0 to {LAST_NUMBER + 1}, the "
+                         "first that is expected of the other end")
+    return replace(demand, skew=skew if demand.skew is None else demand.skew,
+                   number=ranged("the demand's number", number or 0, 0, LAST_NUMBER + 1))
+
+
 def _state_of(state: Bytes) -> object:
     content = bytes_of("the state", state)
     if len(content) != PEER_STATE_SIZE:
         raise ValueError(f"the state has {len(content)} bytes: it has to have {PEER_STATE_SIZE}")
+    if not (content.startswith(STATE_HEAD) and all(
+            int.from_bytes(content[it:it + 8], "big") <= LAST_NUMBER + 1 for it in (4, 12))):
+        raise ValueError("the state is none that Peer.export returned")
     return (c_uint8 * PEER_STATE_SIZE).from_buffer_copy(content)

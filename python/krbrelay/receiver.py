@@ -37,7 +37,7 @@ class Receiver(Handle):
         if sender is None or receiver is None:
             raise TypeError("a receiver demands the addresses of sender and receiver")
         expect = expect_struct(mode, sender, receiver, require_receiver, require_time, skew)
-        first = ranged("the expected number", expected, 0, 2**64 - 1)
+        first = ranged("the expected number", expected, 0, LAST_NUMBER + 1)
         super().__init__(etype, key, expect, first, bool(closed))
 
     def take(self, frame: Bytes, at: Optional[Moment] = None) -> Record:

@@ -5,6 +5,7 @@ import dataclasses
 import datetime
 import enum
 import ipaddress
+import math
 import operator
 import time
 from typing import Iterable, Optional, Tuple, Union
@@ -13,8 +14,9 @@ from krbrelay.library import (
     ADDRESS_LIMIT, AddressStruct, CarriedStruct, DemandStruct, HeaderStruct, MomentStruct)
 
 Bytes = Union[bytes, bytearray, memoryview]
-Moment = Union[datetime.datetime, int]
-"""An aware datetime, or microseconds since 1970-01-01T00:00:00Z, of the years 1970 to 9999."""
+Moment = Union[datetime.datetime, int, float]
+"""An aware datetime; an int, microseconds since 1970-01-01T00:00:00Z; or a float, seconds since
+then, as time.time() has them. Of the years 1970 to 9999."""
 
 EPOCH = datetime.datetime(1970, 1, 1, tzinfo=datetime.timezone.utc)
 MICROSECOND = datetime.timedelta(microseconds=1)
@@ -44,7 +46,11 @@ class How(enum.IntEnum):
 
 def ranged(name: str, number: int, low: int, high: int) -> int:
     """The number, which is at least `low` and at most `high`, or ValueError."""
-    found = operator.index(number)
+    try:
+        found = operator.index(number)
+    except TypeError:
+        raise TypeError(f"{name} is {type(number).__name__}: it has to be an int, {low} to "
+                        f"{high}") from None
     if not low <= found <= high:
         raise ValueError(f"{name} is {found}: it has to be {low} to {high}")
     return found
@@ -68,7 +74,15 @@ def micros_of(at: Optional[Moment]) -> int:
         if at.utcoffset() is None:
             raise ValueError("the moment is a datetime with no time zone")
         return (at - EPOCH) // MICROSECOND
-    return operator.index(at)
+    if isinstance(at, float):
+        if not math.isfinite(at):
+            raise ValueError(f"the moment is {at}: it has to be finite")
+        return round(at * 1_000_000)
+    try:
+        return operator.index(at)
+    except TypeError:
+        raise TypeError(f"the moment is {type(at).__name__}: it has to be an aware datetime, "
+                        "microseconds as an int, or seconds as a float") from None
 
 
 def moment_struct(at: Optional[Moment]) -> MomentStruct:
@@ -112,7 +126,8 @@ class Address:
 def address_struct(name: str, address: Address) -> AddressStruct:
     """The address as C has it, or TypeError."""
     if not isinstance(address, Address):
-        raise TypeError(f"{name} is {type(address).__name__}: it has to be an Address")
+        raise TypeError(f"{name} is {type(address).__name__}: it has to be an Address,"
+                        ' such as Address.ip("10.0.0.1")')
     struct = AddressStruct(address.kind, len(address.data))
     struct.bytes[:len(address.data)] = address.data
     return struct
@@ -191,8 +206,8 @@ def body_of(user_data: bytes, carried: CarriedStruct) -> Body:
 @dataclasses.dataclass(frozen=True)
 class Demand:
     """What `Opener.open` and a Peer demand of an authentic message: of each field that isn't None,
-    that the message's fits. The checks come in the order of addresses, time, number, and whether one
-    of both is told: Code.BADADDR, Code.SKEW, Code.BADORDER, Code.MODIFIED."""
+    that the message's fits. The checks come in the order of addresses, time, number, and whether
+    one of both is told: Code.BADADDR, Code.SKEW, Code.BADORDER, Code.MODIFIED."""
     sender: Optional[Address] = None
     receiver: Optional[Address] = None
     skew: Optional[int] = None

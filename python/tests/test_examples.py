@@ -72,6 +72,16 @@ class Show(unittest.TestCase):
         self.assertEqual(shown("--help")[0], 0)
 
 
+# A sender that ends after four bytes of a frame.
+CUT = """
+async def send(port):
+    _, writer = await asyncio.open_connection("127.0.0.1", port)
+    writer.write(({length}).to_bytes(4, "big") + b"half")
+    await writer.drain()
+    writer.close()
+"""
+
+
 class TwoEnds(unittest.TestCase):
     PRINTED = "message 7: hello\nopen: 42 BADORDER\n"
     BY_ASYNCIO = "hello\nrefused: BADORDER\nagain\nclosed\n"
@@ -92,6 +102,20 @@ class TwoEnds(unittest.TestCase):
         with open(os.path.join(TOP, "docs", "PYTHON.md"), encoding="utf-8") as file:
             self.assertIn("".join(f"    {line}\n" for line in self.BY_ASYNCIO.splitlines()),
                           file.read())
+
+    def test_over_asyncio_a_sender_is_cut_off(self):
+        """The example ends and says why: in a frame, and at a length that can't be one."""
+        with open(os.path.join(EXAMPLES, "two_ends_asyncio.py"), encoding="utf-8") as file:
+            example = file.read()
+        for length, fault in ((500, "IncompleteReadError"), (1_005_001, "ConnectionError")):
+            cut = CUT.format(length=length)
+            self.assertEqual(example.count("\nasyncio.run(main())\n"), 1)
+            program = example.replace("\nasyncio.run(main())\n", f"\n{cut}\nasyncio.run(main())\n")
+            done = subprocess.run([sys.executable, "-c", program], capture_output=True, text=True,
+                                  timeout=30, env={**os.environ, "PYTHONPATH": PYTHON},
+                                  stdin=subprocess.DEVNULL)
+            self.assertEqual((done.returncode, done.stdout), (1, ""))
+            self.assertIn(fault, done.stderr.splitlines()[-1])
 
     def test_the_page_names_each_call(self):
         import krbrelay

@@ -58,6 +58,21 @@ class Directions(unittest.TestCase):
                     self.assertEqual(number_of(call, b"", MICROS), (Code.MALFORMED, None))
                 self.assertEqual(peer.numbers, Numbers(7, 8))
 
+    def test_passing_a_gap_by(self):
+        """As docs/C.md says: a new peer with the next number, and the number that came."""
+        for key, mode in KINDS:
+            frame = frame_of(key, mode, b"hi", 12)
+            with peer_of(key, mode, 3, 8) as peer:
+                peer.seal(b"")
+                code, number = number_of(peer.open, frame, MICROS)
+                self.assertEqual((code, number), (Code.BADORDER, 12))
+                following = peer.numbers.next
+            with peer_of(key, mode, following, number) as peer:
+                self.assertEqual(peer.open(frame, MICROS).user_data, b"hi")
+                self.assertEqual(peer.numbers, Numbers(4, 13))
+                self.assertEqual(number_of(peer.open, frame_of(key, mode, b"hi", 9), MICROS),
+                                 (Code.BADORDER, 9))
+
     def test_a_message_that_comes_back_to_its_maker(self):
         for key, mode in KINDS:
             with peer_of(key, mode) as peer:
@@ -100,7 +115,60 @@ class Exports(unittest.TestCase):
                     state=good[:4] + (2**32).to_bytes(8, "big") + good[12:])
 
 
+class Times(unittest.TestCase):
+    def codes(self, demanded, **named):
+        """Of a message that is 300 s old, one of a microsecond more, and one without its time."""
+        for at, left_out in ((0, ()), (1, ()), (0, (0xA1, 0xA2))):
+            frame = frame_of(KEYS[0], Mode.PRIV, b"hi", left_out=left_out)
+            demand = Demand(sender=SENDER, number=7, skew=demanded)
+            with Peer(17, KEYS[0], mode=Mode.PRIV, sender=RECEIVER, demand=demand, **named) as peer:
+                got = outcome(peer.open, frame, MICROS + 300 * 10**6 + at)
+                yield got if isinstance(got, int) else None
+
+    def test_a_skew_by_default(self):
+        """As an Opener demands it, unless the demand has a skew or there is to be none."""
+        for demanded, named, wanted in (
+                (None, {}, [None, Code.SKEW, Code.SKEW]),
+                (None, {"skew": 301}, [None, None, Code.SKEW]),
+                (None, {"skew": None}, [None, None, None]),
+                (0, {}, [Code.SKEW, Code.SKEW, Code.SKEW]),
+                (301, {"skew": None}, [None, None, Code.SKEW])):
+            self.assertEqual(list(self.codes(demanded, **named)), wanted, (demanded, named))
+
+    def test_seconds_as_a_float(self):
+        for mode in Mode:
+            with peer_of(KEYS[0], mode) as one, peer_of(KEYS[0], mode) as other:
+                self.assertEqual(one.seal(b"hi", MICROS / 10**6, CONFOUNDER),
+                                 other.seal(b"hi", MICROS, CONFOUNDER))
+
+
 class Arguments(unittest.TestCase):
+    def said(self, demand, **named):
+        with self.assertRaises(ValueError) as raised:
+            Peer(17, KEYS[0], mode=Mode.PRIV, sender=OTHER, demand=demand, **named)
+        return str(raised.exception)
+
+    def test_errors_name_the_field(self):
+        with peer_of(KEYS[0], Mode.PRIV) as peer:
+            state = peer.export()
+        number, how = "the demand's number is", "the demand's how_number is How.IF_PRESENT"
+        for demand, named, words in (
+                (Demand(sender=SENDER), {}, f"{number} None: it has to be 0 to 4294967296"),
+                (Demand(number=2**32 + 1), {}, f"{number} 4294967297: it has to be 0 to"),
+                (Demand(number=7, how_number=How.IF_PRESENT), {}, f"{how}: it has to be"),
+                (Demand(number=8), {"state": state}, f"{number} 8: it has to be None"),
+                (Demand(), {"state": state, "first": 4}, "first is 4: it has to be 0"),
+                (Demand(), {"state": b"x" + state[1:]}, "the state is none that Peer.export"),
+                (Demand(), {"state": state[:-1]}, "the state has 19 bytes")):
+            self.assertIn(words, self.said(demand, **named))
+
+    def test_no_number_with_a_state(self):
+        with peer_of(KEYS[0], Mode.PRIV, 3, 9) as peer:
+            state = peer.export()
+        with Peer(17, KEYS[0], mode=Mode.PRIV, sender=OTHER, demand=Demand(sender=SENDER),
+                  state=state) as peer:
+            self.assertEqual(peer.numbers, Numbers(3, 9))
+
     def test_demands(self):
         for demand in (Demand(), Demand(number=7, how_number=How.IF_PRESENT),
                        Demand(number=2**32 + 1)):

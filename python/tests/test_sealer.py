@@ -124,12 +124,20 @@ class Moments(unittest.TestCase):
             self.assertEqual(self.sealed_at(at), frame)
             self.assertEqual(self.sealed_at(micros), frame)
 
+    def test_seconds_as_a_float(self):
+        for seconds, micros in ((0.0, 0), (1.5, 1_500_000), (1_700_000_000.000_005, MICROS),
+                                (4_102_444_800.123_456, 4_102_444_800_123_456)):
+            self.assertEqual(self.sealed_at(seconds), self.sealed_at(micros))
+        for wrong in (-0.5, 1e300, float("inf"), float("nan"), float(MICROS)):
+            with self.assertRaises(ValueError):
+                self.sealed_at(wrong)
+
     def test_no_moments(self):
         for at in (-1, 253402300800000000, 2**64, 10**30, datetime.datetime(2023, 11, 14),
                    datetime.datetime(1969, 12, 31, tzinfo=datetime.timezone.utc)):
             with self.assertRaises(ValueError):
                 self.sealed_at(at)
-        for at in (1.5, "now", b"", (1, 2)):
+        for at in ("now", b"", (1, 2), 1j):
             with self.assertRaises(TypeError):
                 self.sealed_at(at)
 

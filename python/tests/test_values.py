@@ -1,6 +1,8 @@
 import unittest
 
-from support import KEYS, KINDS, MICROS, OTHER, SENDER, etype_of, opener, opener_of, sealer_of
+from support import (
+    KEYS, KINDS, MICROS, OTHER, SENDER, etype_of, frame_of, opener, opener_of, receiver_of,
+    sealer_of)
 
 import krbrelay
 from krbrelay import Address, Batch, Code, Demand, Mode, Opener, Receiver, Sealer
@@ -97,8 +99,34 @@ class WrongArguments(unittest.TestCase):
         for etype, size in ((17, 0), (17, 15), (17, 17), (17, 32), (18, 16), (18, 31), (18, 33),
                             (18, 10**6)):
             self.assert_raises(ValueError, etype=etype, key=bytes(size))
-        for key in ("k" * 16, 16, None, [0] * 16, memoryview(KEYS[0])):
+        for key in ("k" * 16, 16, None, [0] * 16, memoryview(KEYS[0] * 2)[::2]):
             self.assert_raises(TypeError, key=key)
+
+    def test_kinds_of_keys(self):
+        """The same frame under a key as bytes, bytearray and memoryview, also of larger items."""
+        wanted = frame_of(KEYS[0], Mode.SAFE, b"hi")
+        part, words = memoryview(b"x" + KEYS[0] + b"y")[1:-1], memoryview(KEYS[0]).cast("I")
+        for key in (KEYS[0], bytearray(KEYS[0]), memoryview(KEYS[0]), part, words):
+            with Sealer(17, key, mode=Mode.SAFE, sender=SENDER, first=7) as sealer:
+                self.assertEqual(sealer.seal(b"hi", MICROS), wanted)
+
+    def test_messages_name_the_argument(self):
+        """What is wrong, and what it has to be."""
+        def sealing(**changed):
+            return Sealer(17, **{"key": KEYS[0], "mode": Mode.SAFE, "sender": SENDER, "first": 7,
+                                 **changed})
+
+        for call, words in (
+                (lambda: sealing(first=None), "the first number is NoneType: it has to be an int"),
+                (lambda: sealing(sender="10.0.0.1"), 'such as Address.ip("10.0.0.1")'),
+                (lambda: sealing(key="key"), "the key is str: it has to be bytes,"),
+                (lambda: sealing().seal(b"", "now"), "the moment is str: it has to be an aware"),
+                (lambda: sealing().seal(b"", float("nan")), "the moment is nan: it has to be"),
+                (lambda: receiver_of(KEYS[0], Mode.SAFE, 2**32 + 1),
+                 "the expected number is 4294967297: it has to be 0 to 4294967296")):
+            with self.assertRaises((TypeError, ValueError)) as raised:
+                call()
+            self.assertIn(words, str(raised.exception))
 
     def test_encryption_types(self):
         for etype in (0, 16, 19, 23, -17, 2**31, 2**32 + 17, -2**63):

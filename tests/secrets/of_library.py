@@ -10,6 +10,7 @@ import memcheck
 
 KINDS = [(name, etype, mode) for etype in (17, 18) for name, mode in (("safe", 20), ("priv", 21))]
 CONTROL = 3             # the places of the part `control`: one of each secret
+PLANTED = "krbrelay_receiver_take"      # what branches on a key where a frame is large, if it is planted
 # Those of `refuse`, of each mode: the branch on the outcome of the comparison. Of KRB-SAFE one where a
 # call demands nothing first and one where it demands the body; and the use of the outcome in each of the
 # seven calls, whose answer it is.
@@ -23,11 +24,11 @@ READERS = ("krb_der.", "krb_tlv.", "krb_time.", "krb_seal.checks.check_body",
            "krb_structs.opening.open_telling", "core.cmp.", "std_alloc.vec.", "malloc", "memmove")
 
 
-def build(folder, prefix):
-    program = os.path.join(folder, "library")
+def build(folder, prefix, name="library", plant=()):
+    program = os.path.join(folder, name)
     words = [*c_tools.c_compiler(), "-std=gnu11", "-O1", "-Wall", "-Wextra", "-Werror", "-no-pie",
              "-I" + os.path.join(prefix, "include"),
-             os.path.join(building.TOP, "tests", "secrets", "c", "library.c"),
+             os.path.join(building.TOP, "tests", "secrets", "c", "library.c"), *plant,
              os.path.join(prefix, "lib", "libkrbrelay.a"), "-o", program]
     if subprocess.run(words, check=False).returncode:
         raise c_tools.NotBuilt("the C compiler failed")
@@ -78,9 +79,20 @@ class Calls:
         self.opening(self.has("refuse", OUTCOMES[self.name]))
 
 
+def planted(folder, prefix, count):
+    """A branch on a key that large frames alone get to is reported."""
+    plant = os.path.join(building.TOP, "tests", "secrets", "c", "large.c")
+    words = [plant, *(f"-Wl,--wrap={it}" for it in ("krbrelay_receiver_new", PLANTED))]
+    calls = Calls(folder, build(folder, prefix, "planted", words), count, KINDS[-1])
+    found = {it for it in calls.places("refuse") if it.function == f"__wrap_{PLANTED}"}
+    count.told(len(found) == 1, f"planted for frames of over 512 bytes, {calls.what}: {len(found)} of 1"
+               " places is reported")
+
+
 def watch(folder, prefix):
     count = report.Count()
     program = build(folder, prefix)
     for kind in KINDS:
         Calls(folder, program, count, kind).watch()
+    planted(folder, prefix, count)
     return count

@@ -16,7 +16,7 @@ NONE = -1       # stands for the number of a name that the header doesn't have
 # close has none.
 RECORDS = {b"a": ("TEXT",), bytes(8): ("TEXT", "BATCH"), b"": ("TEXT", "CLOSE")}
 HOWS = "IGNORE", "IF_PRESENT", "REQUIRED", "ABSENT_IS_0"
-DEMANDS = {"sender": HOWS[:3], "receiver": HOWS[:3], "time": HOWS[:3], "number": HOWS}
+DEMANDS = {"sender": HOWS[:3], "receiver": HOWS[:3], "time": HOWS, "number": HOWS}
 # An answer of each class.
 CLASSES = {"OK": "OK", "REFUSAL": "BADORDER", "CALLER": "ROOM", "STATE": "EMPTY",
            "MEMORY": "MEMORY", "SYSTEM": "CLOCK"}

@@ -12,10 +12,12 @@
 #include <valgrind/memcheck.h>
 
 #define NUMBER 7u
-#define LONGEST 4097u
+#define LONGEST 5000u
 
 static const struct krbrelay_moment now = { .seconds = 1700000000u, .microseconds = 5 };
-static const size_t sizes[] = { 0, 1, 15, 16, 17, 31, 32, 33, 64, 100, 1000, LONGEST };
+static const size_t sizes[] = { 0, 1, 15, 16, 17, 31, 32, 33, 64, 100, 1000, 4097, LONGEST };
+/* Of the texts that are opened: what a call does with many bytes may be other code. */
+static const size_t opened_sizes[] = { 16, 160, 1000, LONGEST };
 
 static uint8_t key[32], confounder[16], text[LONGEST];
 static uint8_t frame[KRBRELAY_FRAME_SIZE(LONGEST + 1)], opened[sizeof frame];
@@ -214,22 +216,28 @@ static void take_by_receiver(size_t len, enum krbrelay_answer wanted)
     krbrelay_receiver_free(&receiver);
 }
 
-/* Frames of a text and of a batch, with their last byte as it is or changed by `mask`. */
+/* A frame that was just sealed, with its last byte as it is or changed by `mask`, by each call. */
+static void open_by_all(size_t len, uint8_t mask, enum krbrelay_answer wanted)
+{
+    frame[len - 1] ^= mask;
+    take_by_receiver(len, wanted);
+    open_by_peer(len, wanted);
+    open_by_opener(len, wanted);
+}
+
+/* Frames of a text of each size and of a batch, each of which has the first number. */
 static void open_all(uint8_t mask, enum krbrelay_answer wanted)
 {
     struct krbrelay_sealer sealer = { 0 };
     uint8_t batch[200];
-    size_t len;
-    for (int is_batch = 0; is_batch <= 1; is_batch++) {
+    for (size_t i = 0; i < sizeof opened_sizes / sizeof opened_sizes[0]; i++) {
         make_sealer(&sealer);
-        len = is_batch ? sealed_record(&sealer, KRBRELAY_BATCH, batch, two_texts(batch, sizeof batch))
-                       : sealed_record(&sealer, KRBRELAY_TEXT, text, 100);
+        open_by_all(sealed_record(&sealer, KRBRELAY_TEXT, text, opened_sizes[i]), mask, wanted);
         krbrelay_sealer_free(&sealer);
-        frame[len - 1] ^= mask;
-        take_by_receiver(len, wanted);
-        open_by_peer(len, wanted);
-        open_by_opener(len, wanted);
     }
+    make_sealer(&sealer);
+    open_by_all(sealed_record(&sealer, KRBRELAY_BATCH, batch, two_texts(batch, sizeof batch)), mask, wanted);
+    krbrelay_sealer_free(&sealer);
 }
 
 int main(int count, char **words)

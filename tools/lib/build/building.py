@@ -94,12 +94,17 @@ def is_proved(crate, program):
 
 # ---- what a crate stands on
 
-def below():
-    """Each crate of the repository with the crates of the repository that it stands on."""
+def table():
+    """The words of each crate's line in crates.txt: its name, its options, and what it stands on."""
     with open(os.path.join(TOP, "crates.txt"), encoding="utf-8") as file:
         lines = [line.split("#")[0].partition(":") for line in file]
-    found = {head.split()[0]: words.split() for head, _, words in lines if head.strip()}
-    return {crate: [it for it in deps if it in found] for crate, deps in found.items()}
+    return {head.split()[0]: (head.split(), words.split()) for head, _, words in lines if head.strip()}
+
+
+def below():
+    """Each crate of the repository with the crates of the repository that it stands on."""
+    found = table()
+    return {crate: [it for it in deps if it in found] for crate, (_, deps) in found.items()}
 
 
 def write_crates(crates, folder):
@@ -148,8 +153,11 @@ def digest(paths):
 
 
 def digest_of(crate):
-    """A digest of all sources that the crate is proved and built from."""
-    return digest(sources(in_order(crate)))
+    """A digest of all sources that the crate is proved and built from: the files of it and of the crates
+    below it, and their lines of crates.txt, without comments and without those of other crates."""
+    crates, lines = in_order(crate), table()
+    told = repr([lines[it] for it in crates]) + digest(files(crates, "src", "specs", "proofs"))
+    return hashlib.sha256(told.encode()).hexdigest()
 
 
 def stamp_of(built):

@@ -69,7 +69,7 @@ pre i { color: var(--aside); font-style: normal; }
 .clause .said { grid-column: 2; color: var(--muted); font-size: 0.9rem; }
 table { border-collapse: collapse; width: 100%; font-size: 0.9rem; }
 th, td { text-align: left; vertical-align: top; padding: 0.3rem 0.6rem;
-  border-bottom: 1px solid var(--line); }
+  border-bottom: 1px solid var(--line); overflow-wrap: break-word; }
 td:last-child, th:last-child { text-align: right; }
 th:nth-child(3):not(:last-child) { min-width: 8.5rem; }
 @media (max-width: 50rem) {
