@@ -5,11 +5,10 @@ place of an object, with the very words that it was given. On x86-64 unwind tabl
 which leave the code as it is; on aarch64 they would change it, and most functions keep a chain of
 frames anyway.
 
-Of x86-64 there are two: the kit's own level, x86-64-v2, and x86-64-v3. The prover proves for a level
-that it is given, and what it then gives its compiler differs in the name of the level alone. So the
-gate writes the code for x86-64-v3 of the module that was kept for the kit's own level
-(`of_other_level`); the tarball has what was proved for x86-64-v3 (`written`), and `c/dist --check`
-compares both.
+Of x86-64 there are two: of the kit's own level, x86-64-v2, and of x86-64-v3. For another level or
+machine the prover proves the library again, and gives the compiler another module: a vector's place in
+memory and what a vector of 32 bytes is lowered to depend on the level. What it checked when the library
+was built (over_gate.py) it takes as checked then.
 """
 import dataclasses
 import os
@@ -21,7 +20,6 @@ import tempfile
 from lib.build import building, kit_compiler, over_gate
 
 CRATE = "krb_c"
-OWN_LEVEL = "x86-64-v2"
 
 
 @dataclasses.dataclass(frozen=True)
@@ -60,8 +58,7 @@ def prove_and_keep(architecture, folder):
     words = over_gate.words_for(CRATE, over_gate.MOST_JOBS, kit_compiler.keeping(folder),
                                      os.path.join(folder, f"lib{CRATE}.a"))
     level = ["--cpu", architecture.level] if architecture.level else []
-    said = run([*words, "--target", architecture.target, *level, "--incremental",
-                os.path.join("out", "incremental")], cwd=building.folder_of(CRATE))
+    said = run([*words, "--target", architecture.target, *level, *over_gate.taking_checked()], cwd=building.folder_of(CRATE))
     if architecture.level and not is_proved_for(architecture.level, said):
         raise NotWritten(f"{CRATE} isn't proved for {architecture.level}: {said[-2000:]}")
 
@@ -131,40 +128,20 @@ def plain_lines(text, mark):
         yield line
 
 
-def levelled(text, level):
-    """A module, or the compiler's words for it, of another level than the kit's own."""
-    return re.sub(rf"{OWN_LEVEL}\b", level, text)
-
-
-def compiled(architecture, module, words, folder):
-    """The assembly of a module, a file of text, in the form that the tarball has."""
-    if architecture.machine == OWN.machine:
-        ask_for_tables(module)
-    path = os.path.join(folder, "proved.s")
-    run([kit_compiler.clang(), *words, "-S", module, "-o", path])
-    with open(path, encoding="utf-8") as file:
-        text = file.read()
-    mark = "#" if architecture.machine == OWN.machine else "//"
+def written(architecture):
+    """The assembly of the proved code for an architecture."""
+    is_x86 = architecture.machine == OWN.machine
+    with tempfile.TemporaryDirectory() as folder:
+        fetch(architecture, folder)
+        module = module_text(folder, architecture)
+        if is_x86:
+            ask_for_tables(module)
+        path = os.path.join(folder, "proved.s")
+        run([kit_compiler.clang(), *compiler_words(folder), "-S", module, "-o",
+             path])
+        with open(path, encoding="utf-8") as file:
+            text = file.read()
+    mark = "#" if is_x86 else "//"
     head = [f"{mark} The proved code of libkrbrelay for {architecture.name} Linux, as the Rattle kit's",
             f"{mark} compiler prints what it compiles of the crate {CRATE} and those below it.", ""]
     return "\n".join([*head, *plain_lines(text, mark), ""])
-
-
-def written(architecture):
-    """The assembly of the proved code for an architecture."""
-    with tempfile.TemporaryDirectory() as folder:
-        fetch(architecture, folder)
-        return compiled(architecture, module_text(folder, architecture), compiler_words(folder), folder)
-
-
-def of_other_level(architecture):
-    """The same of another level, of the module that was kept for the kit's own."""
-    with tempfile.TemporaryDirectory() as folder:
-        fetch(OWN, folder)
-        module = module_text(folder, OWN)
-        with open(module, encoding="utf-8") as file:
-            text = file.read()
-        with open(module, "w", encoding="utf-8") as file:
-            file.write(levelled(text, architecture.level))
-        words = [levelled(word, architecture.level) for word in compiler_words(folder)]
-        return compiled(architecture, module, words, folder)
