@@ -173,7 +173,8 @@ def levels() -> Tuple[str, ...]:
         return ()
     ran = subprocess.run([LOADER, "--help"], check=False, stdin=subprocess.DEVNULL,
                          capture_output=True, text=True)
-    return tuple(re.findall(r"^ +(x86-64-v\d+) \(supported, searched\)$", ran.stdout, re.MULTILINE))
+    searched = re.compile(r"^ +(x86-64-v\d+) \(supported, searched\)$", re.MULTILINE)
+    return tuple(searched.findall(ran.stdout))
 
 
 def in_folder(folder: str) -> Iterator[str]:
