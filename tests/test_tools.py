@@ -11,7 +11,7 @@ import sys
 import pytest
 
 from lib import parts, report, scripts
-from lib.build import building, c_tools
+from lib.build import assembly, building, c_tools
 from lib.plants import checks, planted
 
 # What each of these plants in each run, and has to report.
@@ -33,6 +33,18 @@ def compiled(folder, name, text, *words):
 def status(*words, **how):
     return subprocess.run(words, check=False, stdout=subprocess.DEVNULL, stderr=subprocess.DEVNULL,
                           **how).returncode
+
+
+# ---- proofs for a level of the processor
+
+@pytest.mark.parametrize("said, is_proved", [
+    ("logic=proved functions=77 target=x86_64-unknown-linux-gnu cpu=x86-64-v3 sum=1", True),
+    ("logic=proved functions=77 target=x86_64-unknown-linux-gnu cpu=x86-64-v2 sum=1", False),
+    ("logic=proved functions=77 target=x86_64-unknown-linux-gnu sum=1", False),
+    ("logic=rejected functions=77 cpu=x86-64-v3 sum=1", False),
+    ("logic=proved functions=77 cpu=x86-64-v2 sum=1\ncpu=x86-64-v3", False)])
+def test_a_verdict_of_another_level_is_none(said, is_proved):
+    assert assembly.is_proved_for("x86-64-v3", f"axioms none\n{said}\n") == is_proved
 
 
 # ---- counts and statuses

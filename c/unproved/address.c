@@ -39,12 +39,20 @@ static enum krbrelay_answer from_ipv6(struct krbrelay_address *to, const void *f
     return KRBRELAY_OK;
 }
 
+/* It may lie at any address, so it is copied. */
+static sa_family_t family_of(const void *from)
+{
+    sa_family_t family;
+    memcpy(&family, (const uint8_t *)from + offsetof(struct sockaddr, sa_family), sizeof family);
+    return family;
+}
+
 enum krbrelay_answer krbrelay_address_from(struct krbrelay_address *to, const struct sockaddr *from,
                                            size_t len)
 {
     if (len < offsetof(struct sockaddr, sa_data))
         return KRBRELAY_ARGUMENT;
-    switch (from->sa_family) {
+    switch (family_of(from)) {
     case AF_INET: return from_ipv4(to, from, len);
     case AF_INET6: return from_ipv6(to, from, len);
     default: return KRBRELAY_ARGUMENT;

@@ -1,13 +1,52 @@
-/* The proved code of x86-64 is compiled for x86-64-v2. This file is compiled for any x86-64, and so
- * asks before that code runs: a handle is made, and a message read, on no other processor. */
+/* The proved code of x86-64 is compiled for x86-64-v2, and a second time for x86-64-v3, where this file is
+ * compiled with KRBRELAY_X86_64_V3. This file itself is compiled for any x86-64, and so asks before that
+ * code runs: a handle is made, and a message read, on no other processor. */
 #include "proved.h"
+
+#if defined(__x86_64__) && defined(KRBRELAY_X86_64_V3)
+#include <cpuid.h>
+
+/* What __builtin_cpu_supports doesn't know in each compiler. */
+static int has_the_rest(void)
+{
+    const unsigned of_basic = bit_F16C | bit_MOVBE, of_extended = bit_LZCNT;
+    unsigned a, b, basic, extended, d;
+    if (!__get_cpuid(1, &a, &b, &basic, &d) || !__get_cpuid(0x80000001, &a, &b, &extended, &d))
+        return 0;
+    return (basic & of_basic) == of_basic && (extended & of_extended) == of_extended;
+}
+
+/* As the compiler's library does, it asks once: the instruction is slow in a virtual machine. Threads that
+ * ask at the same time find the same. */
+static int has_the_rest_once(void)
+{
+    enum { UNKNOWN, LACKING, THERE };
+    static int known = UNKNOWN;
+    int found = __atomic_load_n(&known, __ATOMIC_RELAXED);
+    if (found == UNKNOWN) {
+        found = has_the_rest() ? THERE : LACKING;
+        __atomic_store_n(&known, found, __ATOMIC_RELAXED);
+    }
+    return found == THERE;
+}
+
+/* The compiler's library knows the features of AVX only where the system saves their registers too. */
+static int is_of_level(void)
+{
+    return __builtin_cpu_supports("avx") && __builtin_cpu_supports("avx2") &&
+           __builtin_cpu_supports("bmi") && __builtin_cpu_supports("bmi2") &&
+           __builtin_cpu_supports("fma") && has_the_rest_once();
+}
+#elif defined(__x86_64__)
+static int is_of_level(void) { return 1; }
+#endif
 
 int krbrelay_is_supported(void)
 {
 #if defined(__x86_64__)
     __builtin_cpu_init();               /* for a caller that runs before the program's main */
     return __builtin_cpu_supports("ssse3") && __builtin_cpu_supports("sse4.1") &&
-           __builtin_cpu_supports("sse4.2") && __builtin_cpu_supports("popcnt");
+           __builtin_cpu_supports("sse4.2") && __builtin_cpu_supports("popcnt") && is_of_level();
 #else
     return 1;
 #endif

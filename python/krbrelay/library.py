@@ -5,6 +5,7 @@ import ctypes
 import functools
 import os
 import pathlib
+import re
 import shutil
 import subprocess
 from ctypes import (
@@ -14,6 +15,7 @@ from typing import Any, Dict, Iterator, List, Optional, Tuple
 MAJOR = 1
 NAME = f"libkrbrelay.so.{MAJOR}"
 VARIABLE = "KRBRELAY_LIBRARY"
+LOADER = "/lib64/ld-linux-x86-64.so.2"
 
 USER_DATA_LIMIT = 1_000_001
 """The most bytes of user data that are sealed."""
@@ -163,14 +165,35 @@ def pkg_config_folder() -> Optional[str]:
     return ran.stdout.strip() or None if ran.returncode == 0 else None
 
 
+@functools.lru_cache(maxsize=None)
+def levels() -> Tuple[str, ...]:
+    """The levels of the processor, the best first, whose objects the system's loader takes before the
+    plain one: those that it says it searches. () where there is no such loader."""
+    if not os.path.exists(LOADER):
+        return ()
+    ran = subprocess.run([LOADER, "--help"], check=False, stdin=subprocess.DEVNULL,
+                         capture_output=True, text=True)
+    searched = re.compile(r"^ +(x86-64-v\d+) \(supported, searched\)$", re.MULTILINE)
+    return tuple(searched.findall(ran.stdout))
+
+
+def in_folder(folder: str) -> Iterator[str]:
+    """Where the shared object may be in a folder of libraries, in the loader's order."""
+    subfolders = os.path.join(folder, "glibc-hwcaps")
+    if os.path.isdir(subfolders):
+        for level in levels():
+            yield os.path.join(subfolders, level, NAME)
+    yield os.path.join(folder, NAME)
+
+
 def places() -> Iterator[str]:
     """Where the shared object may be, the first place first."""
     package = pathlib.Path(__file__).resolve().parent
-    yield str(package / NAME)
+    yield from in_folder(str(package))
     yield str(package.parents[1] / "crates" / "krb_c" / "out" / "c_library" / NAME)
     folder = pkg_config_folder()
     if folder is not None:
-        yield os.path.join(folder, NAME)
+        yield from in_folder(folder)
 
 
 def find() -> str:

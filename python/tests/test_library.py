@@ -54,6 +54,22 @@ class Places(unittest.TestCase):
         place = self.copy_to(f"site/lib/krbrelay/{library.NAME}")
         self.assertEqual(self.says(), f"{place} (1, 0, 0)")
 
+    def test_of_the_loaders_level(self):
+        plain = self.copy_to(f"site/lib/krbrelay/{library.NAME}")
+        folder = "site/lib/krbrelay/glibc-hwcaps"
+        self.copy_to(f"{folder}/x86-64-v9/{library.NAME}")
+        self.assertEqual(self.says(), f"{plain} (1, 0, 0)")
+        for level in reversed(library.levels()):
+            place = self.copy_to(f"{folder}/{level}/{library.NAME}")
+            self.assertEqual(self.says(), f"{place} (1, 0, 0)")
+
+    @unittest.skipUnless(library.levels(), "the system's loader has no levels of a processor")
+    def test_of_no_level_that_the_loader_leaves_out(self):
+        place = self.copy_to(f"site/lib/krbrelay/{library.NAME}")
+        self.copy_to(f"site/lib/krbrelay/glibc-hwcaps/x86-64-v3/{library.NAME}")
+        self.assertEqual(self.says(GLIBC_TUNABLES="glibc.cpu.hwcaps=-AVX2_Usable,-AVX2"),
+                         f"{place} (1, 0, 0)")
+
     def test_where_the_repository_builds_it(self):
         place = self.copy_to(f"site/crates/krb_c/out/c_library/{library.NAME}")
         self.assertEqual(self.says(), f"{place} (1, 0, 0)")
@@ -63,7 +79,13 @@ class Places(unittest.TestCase):
     @unittest.skipUnless(shutil.which("pkg-config"), "there is no pkg-config here")
     def test_by_pkg_config(self):
         place = self.copy_to(f"prefix/lib/{library.NAME}")
-        os.makedirs(self.path("prefix/lib/pkgconfig"))
+        self.by_pkg_config(place)
+        for level in library.levels()[:1]:
+            self.by_pkg_config(self.copy_to(f"prefix/lib/glibc-hwcaps/{level}/{library.NAME}"))
+
+    def by_pkg_config(self, place):
+        """What is found at a prefix is this place."""
+        os.makedirs(self.path("prefix/lib/pkgconfig"), exist_ok=True)
         with open(self.path("prefix/lib/pkgconfig/krbrelay.pc"), "w", encoding="utf-8") as file:
             file.write(f"prefix={self.path('prefix')}\nlibdir=${{prefix}}/lib\n\nName: krbrelay\n"
                        "Description: a test\nVersion: 1.0.0\n")

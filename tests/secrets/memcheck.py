@@ -31,14 +31,14 @@ def reported(folder, words, **given):
 
 
 def reached(words):
-    """The addresses of all instructions of a run."""
+    """The addresses of all instructions of a run, and what was written, which is little."""
     found = set()
     with subprocess.Popen(["valgrind", "--tool=lackey", "--trace-mem=yes", *words],
-                          stderr=subprocess.PIPE) as process:
+                          stdout=subprocess.PIPE, stderr=subprocess.PIPE) as process:
         for line in process.stderr:
             if line.startswith(b"I "):
                 found.add(line[3:].split(b",")[0])
-    return {int(it, 16) for it in found}
+        return {int(it, 16) for it in found}, process.stdout.read()
 
 
 def by_function(places):

@@ -1,5 +1,7 @@
 """The calls of libkrbrelay, watched by memcheck with their keys, confounders and user data marked as
-undefined. The program is linked to the archive, so that its places are the same in each run."""
+undefined. The program is linked to the archive, and where the processor has x86-64-v3 also to the shared
+object for it. Each run tells where that one was loaded: a place in it is the distance from there, and so
+the same in each run."""
 import os
 import subprocess
 
@@ -24,15 +26,48 @@ READERS = ("krb_der.", "krb_tlv.", "krb_time.", "krb_seal.checks.check_body",
            "krb_structs.opening.open_telling", "core.cmp.", "std_alloc.vec.", "malloc", "memmove")
 
 
-def build(folder, prefix, name="library", plant=()):
+V3 = os.path.join("lib", "glibc-hwcaps", "x86-64-v3")
+LOADER = "/lib64/ld-linux-x86-64.so.2"
+TO_ASK = 60             # seconds
+
+
+def has_v3():
+    """Whether the loader takes objects for x86-64-v3 here."""
+    told = subprocess.run([LOADER, "--help"], check=False, stdout=subprocess.PIPE, text=True,
+                          timeout=TO_ASK).stdout
+    return "x86-64-v3 (supported" in told
+
+
+def archive_of(prefix):
+    """The words that link the archive."""
+    return [os.path.join(prefix, "lib", "libkrbrelay.a")]
+
+
+def object_of_v3(prefix):
+    """The words that link the shared object for x86-64-v3."""
+    folder = os.path.join(prefix, V3)
+    return [os.path.join(folder, "libkrbrelay.so.1"), f"-Wl,-rpath,{folder}"]
+
+
+def build(folder, prefix, linked, name="library"):
     program = os.path.join(folder, name)
     words = [*c_tools.c_compiler(), "-std=gnu11", "-O1", "-Wall", "-Wextra", "-Werror", "-no-pie",
              "-I" + os.path.join(prefix, "include"),
-             os.path.join(building.TOP, "tests", "secrets", "c", "library.c"), *plant,
-             os.path.join(prefix, "lib", "libkrbrelay.a"), "-o", program]
+             os.path.join(building.TOP, "tests", "secrets", "c", "library.c"),
+             *linked, "-o", program]
     if subprocess.run(words, check=False).returncode:
         raise c_tools.NotBuilt("the C compiler failed")
     return program
+
+
+def base_of(said):
+    """Where a run says that the shared object was loaded: 0 of the archive."""
+    return int(said, 16)
+
+
+def within(at, base):
+    """A place in the shared object, or in what is loaded above it; the program lies below it."""
+    return at - base if at >= base else at
 
 
 class Calls:
@@ -48,7 +83,14 @@ class Calls:
         places, done = memcheck.reported(self.folder, [self.program, part, *self.words])
         self.count.right(done.returncode == 0,
                          f"FAILED {part}, {self.what}: a call answered otherwise")
-        return set(places)
+        base = base_of(done.stdout)
+        return {memcheck.Place(within(it.at, base), it.function) for it in places}
+
+    def reached(self, part):
+        """The instructions that a part gets to."""
+        places, said = memcheck.reached([self.program, part, *self.words])
+        base = base_of(said)
+        return {within(it, base) for it in places}
 
     def has(self, part, wanted):
         """A part has so many places, each in what may have some. Returns them."""
@@ -62,7 +104,7 @@ class Calls:
     def opening(self, outcomes):
         """A text whose code was right is read by those that may, and after the comparison alone."""
         places = self.places("open")
-        reached = memcheck.reached([self.program, "refuse", *self.words])
+        reached = self.reached("refuse")
         before = {it for it in places if it.is_of(HOLDERS) and it.at in reached}
         wrong = before - outcomes | {it for it in places - before
                                      if not it.is_of(HOLDERS + RECEIVERS + READERS)}
@@ -83,7 +125,8 @@ def planted(folder, prefix, count):
     """A branch on a key that large frames alone get to is reported."""
     plant = os.path.join(building.TOP, "tests", "secrets", "c", "large.c")
     words = [plant, *(f"-Wl,--wrap={it}" for it in ("krbrelay_receiver_new", PLANTED))]
-    calls = Calls(folder, build(folder, prefix, "planted", words), count, KINDS[-1])
+    program = build(folder, prefix, [*words, *archive_of(prefix)], "planted")
+    calls = Calls(folder, program, count, KINDS[-1])
     found = {it for it in calls.places("refuse") if it.function == f"__wrap_{PLANTED}"}
     count.told(len(found) == 1, f"planted for frames of over 512 bytes, {calls.what}: {len(found)} of 1"
                " places is reported")
@@ -91,8 +134,16 @@ def planted(folder, prefix, count):
 
 def watch(folder, prefix):
     count = report.Count()
-    program = build(folder, prefix)
-    for kind in KINDS:
-        Calls(folder, program, count, kind).watch()
+    watch_one(folder, build(folder, prefix, archive_of(prefix)), count)
+    if has_v3():
+        print("for x86-64-v3:")
+        watch_one(folder, build(folder, prefix, object_of_v3(prefix)), count)
+    else:
+        print("skipped: the object for x86-64-v3, which this processor or its loader doesn't have")
     planted(folder, prefix, count)
     return count
+
+
+def watch_one(folder, program, count):
+    for kind in KINDS:
+        Calls(folder, program, count, kind).watch()

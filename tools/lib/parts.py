@@ -99,7 +99,7 @@ GATE = Part("rt ci", 174, ("rt",))
 BUILD = Part("tools/krbrelay --prove", 60, ("rt",))
 # The first builds the C library, which those after it take then. It stands on what krb_c stands on:
 # `rt ci` proves krb_c as one of the last crates, and compiles none of it.
-LIBRARY = Part("c/library --build", 60, ("rt", COMPILER, MAKE),
+LIBRARY = Part("c/library --build", 80, ("rt", COMPILER, MAKE),
                over=tuple(building.below()["krb_c"]))
 PARTS = [
     LIBRARY,

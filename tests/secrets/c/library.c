@@ -3,9 +3,13 @@
  *
  *     library PART ETYPE MODE      PART is control, seal, refuse or open
  *
- * It ends with 0 if each call answered as it has to. */
+ * It prints the address at which the shared object of libkrbrelay was loaded, or 0 where it is linked to
+ * the archive, and ends with 0 if each call answered as it has to. */
+#define _GNU_SOURCE
 #include "krbrelay.h"
 
+#include <inttypes.h>
+#include <link.h>
 #include <stdio.h>
 #include <stdlib.h>
 #include <string.h>
@@ -240,12 +244,23 @@ static void open_all(uint8_t mask, enum krbrelay_answer wanted)
     krbrelay_sealer_free(&sealer);
 }
 
+static int note_base(struct dl_phdr_info *loaded, size_t size, void *base)
+{
+    (void)size;
+    if (strstr(loaded->dlpi_name, "/libkrbrelay.so") != NULL)
+        *(uintptr_t *)base = loaded->dlpi_addr;
+    return 0;
+}
+
 int main(int count, char **words)
 {
+    uintptr_t base = 0;
     if (count != 4)
         end("PART ETYPE MODE");
     etype = atoi(words[2]);
     mode = (uint32_t)atoi(words[3]);
+    dl_iterate_phdr(note_base, &base);
+    printf("%" PRIxPTR "\n", base);
     draw_secrets();
     if (strcmp(words[1], "control") == 0)
         control();

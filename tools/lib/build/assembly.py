@@ -4,7 +4,13 @@ From the module that the kit's prover gives that compiler (kit_compiler.py) it w
 place of an object, with the very words that it was given. On x86-64 unwind tables are asked for,
 which leave the code as it is; on aarch64 they would change it, and most functions keep a chain of
 frames anyway.
+
+Of x86-64 there are two: of the kit's own level, x86-64-v2, and of x86-64-v3. For another level or
+machine the prover proves the library again, and gives the compiler another module: a vector's place in
+memory and what a vector of 32 bytes is lowered to depend on the level. What it checked when the library
+was built (over_gate.py) it takes as checked then.
 """
+import dataclasses
 import os
 import re
 import shutil
@@ -14,8 +20,24 @@ import tempfile
 from lib.build import building, kit_compiler, over_gate
 
 CRATE = "krb_c"
-OWN = "x86_64"                     # what the kit builds for
-ARCHITECTURES = (OWN, "aarch64")
+
+
+@dataclasses.dataclass(frozen=True)
+class Architecture:
+    """What code is compiled for: the name that it has in files, the machine, and the level of the
+    machine, where that isn't the kit's own."""
+    name: str
+    machine: str
+    level: str = ""
+
+    @property
+    def target(self):
+        return f"{self.machine}-unknown-linux-gnu"
+
+
+OWN = Architecture("x86_64", "x86_64")                     # what the kit builds for
+V3 = Architecture("x86_64-v3", "x86_64", "x86-64-v3")
+ARCHITECTURES = (OWN, V3, Architecture("aarch64", "aarch64"))
 
 
 class NotWritten(OSError):
@@ -27,6 +49,7 @@ def run(words, **how):
                           stderr=subprocess.STDOUT, text=True, **how)
     if done.returncode:
         raise NotWritten(f"{words[0]} failed: {done.stdout[-2000:]}")
+    return done.stdout
 
 
 def prove_and_keep(architecture, folder):
@@ -34,8 +57,16 @@ def prove_and_keep(architecture, folder):
     it gave the compiler is in `folder` then."""
     words = over_gate.words_for(CRATE, over_gate.MOST_JOBS, kit_compiler.keeping(folder),
                                      os.path.join(folder, f"lib{CRATE}.a"))
-    run([*words, "--target", f"{architecture}-unknown-linux-gnu", "--incremental",
-         os.path.join("out", "incremental")], cwd=building.folder_of(CRATE))
+    level = ["--cpu", architecture.level] if architecture.level else []
+    said = run([*words, "--target", architecture.target, *level, *over_gate.taking_checked()], cwd=building.folder_of(CRATE))
+    if architecture.level and not is_proved_for(architecture.level, said):
+        raise NotWritten(f"{CRATE} isn't proved for {architecture.level}: {said[-2000:]}")
+
+
+def is_proved_for(level, said):
+    """Whether the verdict, which is one line of what the prover said, is of this level."""
+    return any(line.startswith("logic=proved ") and f"cpu={level}" in line.split()
+               for line in said.splitlines())
 
 
 def fetch(architecture, folder):
@@ -63,7 +94,7 @@ def compiler_words(folder):
 def module_text(folder, architecture):
     """The module as text."""
     module, text = os.path.join(folder, kit_compiler.MODULE), os.path.join(folder, "module.ll")
-    run([kit_compiler.clang(), f"--target={architecture}-unknown-linux-gnu",
+    run([kit_compiler.clang(), f"--target={architecture.target}",
          "-S", "-emit-llvm", "-Xclang", "-disable-llvm-passes", "-x", "ir", module, "-o", text])
     return text
 
@@ -99,17 +130,18 @@ def plain_lines(text, mark):
 
 def written(architecture):
     """The assembly of the proved code for an architecture."""
+    is_x86 = architecture.machine == OWN.machine
     with tempfile.TemporaryDirectory() as folder:
         fetch(architecture, folder)
         module = module_text(folder, architecture)
-        if architecture == OWN:
+        if is_x86:
             ask_for_tables(module)
         path = os.path.join(folder, "proved.s")
         run([kit_compiler.clang(), *compiler_words(folder), "-S", module, "-o",
              path])
         with open(path, encoding="utf-8") as file:
             text = file.read()
-    mark = "#" if architecture == OWN else "//"
-    head = [f"{mark} The proved code of libkrbrelay for {architecture} Linux, as the Rattle kit's",
+    mark = "#" if is_x86 else "//"
+    head = [f"{mark} The proved code of libkrbrelay for {architecture.name} Linux, as the Rattle kit's",
             f"{mark} compiler prints what it compiles of the crate {CRATE} and those below it.", ""]
     return "\n".join([*head, *plain_lines(text, mark), ""])

@@ -8,6 +8,7 @@ nothing, and only then compiles it. `rt lib` and `rt run` take no library of `rt
 of them again.
 """
 import os
+import shutil
 import subprocess
 import tempfile
 
@@ -15,6 +16,8 @@ from lib.build import building, kit_compiler
 
 MOST_JOBS = 4
 TARGET = "x86_64-unknown-linux-gnu"
+# What the prover checked of a static library, in its crate's folder.
+CHECKED = os.path.join("out", "incremental")
 # What the kit links a program with, beside what is compiled.
 KITS_C = ("libos_c.a", "liblibc_c.a")
 
@@ -65,13 +68,22 @@ def words_for(crate, jobs, toolchain, output):
     return [*words, "--crate-type", "staticlib", "--toolchain", toolchain, "-o", output]
 
 
+def taking_checked():
+    """The words that have the prover take what it checked before of the same sources, and keep what it
+    checks, run in the crate's folder."""
+    return ["--incremental", CHECKED]
+
+
 def build(crate, cores, log):
-    """Proves and builds the static library, with what is said in a file. Returns whether it is
-    proved; then it is noted, and what the compiler was given is kept."""
+    """Proves and builds the static library from nothing, with what is said in a file. Returns whether
+    it is proved; then it is noted, and what the compiler was given is kept. What was checked stays, so
+    that the same is soon proved for another processor (assembly.py)."""
     built_from, output = building.digest_of(crate), building.top_of(crate)
     os.makedirs(os.path.dirname(output), exist_ok=True)
+    shutil.rmtree(os.path.join(building.folder_of(crate), CHECKED), ignore_errors=True)
     with tempfile.TemporaryDirectory() as folder, open(log, "w", encoding="utf-8") as file:
-        words = words_for(crate, min(cores, MOST_JOBS), kit_compiler.keeping(folder), output)
+        words = [*words_for(crate, min(cores, MOST_JOBS), kit_compiler.keeping(folder), output),
+                 *taking_checked()]
         done = subprocess.run(words, check=False, stdout=file, cwd=building.folder_of(crate),
                               stdin=subprocess.DEVNULL, stderr=subprocess.STDOUT)
         if done.returncode == 0:

@@ -45,6 +45,14 @@ def inline(copy: Copy) -> Told:
     return True, ""
 
 
+def supported_v3(copy: Copy) -> Told:
+    """Which features the object for x86-64-v3 asks for, without the proved code, which isn't called."""
+    sources = [f"{copy.top}/c/{it}.c" for it in ("tests/supported", "unproved/processor")]
+    made, said = copy.run(["cc", "-std=gnu11", "-O2", "-DKRBRELAY_X86_64_V3", f"-I{copy.top}/c",
+                           "-ffunction-sections", "-Wl,--gc-sections", *sources, "-o", "supported_v3"])
+    return copy.run(["./supported_v3"]) if made else (made, said)
+
+
 def costs(copy: Copy) -> Told:
     return copy.run(["c/costs", "--unproved", f"{copy.library}/libkrbrelay.so.1"], cwd=copy.top)
 
@@ -71,7 +79,8 @@ def c_test(copy: Copy, name: str) -> Told:
     return c_program(copy, name, *words.get(name, ()))
 
 
-OF_C = {"matrix": matrix, "inline": inline, "costs": costs, "signatures": signatures}
+OF_C = {"matrix": matrix, "inline": inline, "supported_v3": supported_v3, "costs": costs,
+        "signatures": signatures}
 
 
 # ---- the program
