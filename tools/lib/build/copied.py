@@ -66,16 +66,18 @@ ci)
     exit "${CI_STATUS:-0}" ;;
 esac
 '''
-# Likewise for the prover: it formats every text, and what it builds is the last of its words, after it
-# has given a module to the compiler among its tools.
+# Likewise for the prover: it formats every text, and what it builds follows its word -o, after it has
+# given a module to the compiler among its tools.
 PROVER = r'''#!/bin/sh
 [ "$1" = build ] || exit 0
 echo "build $*" >> "$NOTES"
 [ "$FAILS" != krb_c ] || { echo goal left; exit 1; }
-for made; do :; done
-while [ "$1" != --toolchain ]; do shift; done
+while [ $# -gt 1 ]; do
+    case "$1" in --toolchain) tools=$2 ;; -o) made=$2 ;; esac
+    shift
+done
 echo a module > "$made.bc"
-"$2/bin/clang" -c "$made.bc" -o "$made.o" && echo of the prover > "$made"
+"$tools/bin/clang" -c "$made.bc" -o "$made.o" && echo of the prover > "$made"
 '''
 COMPILER = "#!/bin/sh\nexit 0\n"
 
