@@ -167,8 +167,8 @@ def pkg_config_folder() -> Optional[str]:
 
 @functools.lru_cache(maxsize=None)
 def levels() -> Tuple[str, ...]:
-    """The levels of the processor, the best first, whose objects the system's loader takes before the
-    plain one: those that it says it searches. () where there is no such loader."""
+    """The levels of the processor, the best first, whose objects the system's loader takes before
+    the plain one: those that it says it searches. () where there is no such loader."""
     if not os.path.exists(LOADER):
         return ()
     ran = subprocess.run([LOADER, "--help"], check=False, stdin=subprocess.DEVNULL,
