@@ -28,10 +28,12 @@ static int report(sqlite3 *db, const char *what)
     return -1;
 }
 
-/* If another process does the same at the same time, SQLite doesn't wait here by itself. */
+/* With EXTRA also the folder is synced where the journal is deleted by which a new file becomes one with a
+ * WAL. Else the journal may be there again after a loss of power, and takes back what was committed since.
+ * If another process does the same at the same time, SQLite doesn't wait here by itself. */
 static int set_journal(sqlite3 *db)
 {
-    static const char sql[] = "PRAGMA journal_mode = WAL; PRAGMA synchronous = FULL;"
+    static const char sql[] = "PRAGMA synchronous = EXTRA; PRAGMA journal_mode = WAL;"
                               " PRAGMA wal_autocheckpoint = 4000; PRAGMA cache_size = -16000";
     int tries, answer = SQLITE_BUSY;
     for (tries = 0; tries < PATIENCE / RETRY && answer == SQLITE_BUSY && !is_ending(); tries++) {

@@ -174,21 +174,6 @@ static void test_compare(struct outbox *outbox)
     outbox_rollback(outbox);
 }
 
-static int take_number(void *given, int count, char **values, char **names)
-{
-    (void)count, (void)names;
-    *(int *)given = atoi(values[0]);
-    return 0;
-}
-
-/* What is committed stands after a power failure: each commit is synced (2 is FULL). */
-static void test_synced(struct outbox *outbox)
-{
-    int synchronous = 0;
-    check(sqlite3_exec(outbox->db, "PRAGMA synchronous", take_number, &synchronous, NULL) == SQLITE_OK
-          && synchronous == 2, "each commit is synced");
-}
-
 int main(int count, char **words)
 {
     struct outbox outbox = { 0 };
@@ -199,7 +184,6 @@ int main(int count, char **words)
         bytes[i] = (uint8_t)(i * 7 + i / 256);
     snprintf(path, sizeof path, "%s/outbox.db", words[1]);
     check(outbox_open(&outbox, path) == 0, "an outbox is opened");
-    test_synced(&outbox);
     test_texts(&outbox);
     check(sqlite3_exec(outbox.db, "DELETE FROM text", NULL, NULL, NULL) == SQLITE_OK, "texts are taken");
     test_confounders(&outbox);
