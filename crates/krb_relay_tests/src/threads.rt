@@ -1,6 +1,8 @@
 //! Relays of real senders and receivers in threads: what is reported, what a fault names and its
 //! log has, that each sealer is dropped once after it was wiped, that each seal call stands within
-//! its own lane, and how far a sender seals ahead.
+//! its own lane, how far a sender seals ahead, and faults of two threads at once.
+
+mod sweep;
 
 use crate::asserts::{assert_log, assert_same, assert_sender};
 use crate::lanes::Lanes;

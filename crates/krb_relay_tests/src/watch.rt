@@ -28,6 +28,8 @@ pub(crate) struct Counts {
     inside: AtomicU64,
     /// Sealers that were dropped after they were wiped.
     drops: AtomicU64,
+    /// Seal calls that gave a frame.
+    sealed: AtomicU64,
 }
 
 impl Counts {
@@ -61,6 +63,7 @@ impl Watch {
                 left: AtomicU64::new(0),
                 inside: AtomicU64::new(0),
                 drops: AtomicU64::new(0),
+                sealed: AtomicU64::new(0),
             };
             lanes.push(Arc::new(alloc, counts)?)?;
         }
@@ -76,6 +79,14 @@ impl Watch {
         match self.lanes.get(lane) {
             Some(counts) => counts.all(),
             None => [0; 4],
+        }
+    }
+
+    /// How many frames were sealed of a lane.
+    pub(crate) fn sealed(&self, lane: usize) -> u64 {
+        match self.lanes.get(lane) {
+            Some(counts) => counts.sealed.load(Ordering::SeqCst),
+            None => 0,
         }
     }
 
@@ -202,7 +213,9 @@ impl Sealer for OddSealer {
         if may_refuse && self.calls == self.fails_at {
             return Err(SealError::Memory);
         }
-        self.inner.seal(alloc, bytes, at, confounder)
+        let frame = self.inner.seal(alloc, bytes, at, confounder);
+        self.counts.sealed.fetch_add(u64::from(frame.is_ok()), Ordering::SeqCst);
+        frame
     }
 
     fn wipe(&mut self) {

@@ -69,10 +69,10 @@ def links_to_kit(folder):
     return place
 
 
-def module_of(top, crate, folder):
-    """The text of the module of a crate with a `main`, in a copy of the repository at `top`."""
+def module_of(top, crate, folder, *words):
+    """The text of the module of a crate with a `main`, or with tests, in a copy of the repository at `top`."""
     place = links_to_kit(folder)
-    tried = subprocess.run([os.path.join(place, "bin", "rt"), "try", "--steps", "1", "--seconds", "1"],
+    tried = subprocess.run([os.path.join(place, "bin", "rt"), "try", *words, "--steps", "1", "--seconds", "1"],
                            cwd=os.path.join(top, "crates", crate), stdin=subprocess.DEVNULL,
                            capture_output=True, text=True, check=False, timeout=SECONDS,
                            env={**os.environ, "TMPDIR": folder})
@@ -176,11 +176,11 @@ def make_library(top, folder, code):
 
 # ---- the program
 
-def program(top, made):
-    """Builds the program of the repository at `top`."""
+def program(top, made, crate=PROGRAM, *words):
+    """Builds the program of the repository at `top`, or of a crate there; with the word --test, its tests."""
     with tempfile.TemporaryDirectory() as room:
         sources = copy_of_sources(top, room)
         code = os.path.join(room, "code.o")
-        compile_module(module_of(sources, PROGRAM, room), room, code, "-fPIE")
+        compile_module(module_of(sources, crate, room, *words), room, code, "-fPIE")
         run(["cc", "-pie", code, *(os.path.join(kit(), "c", it) for it in ("libos_c.a", "liblibc_c.a")),
              "-pthread", "-o", made])

@@ -122,6 +122,11 @@ def crate(copy: Copy, name: str) -> Told:
     return copy.run(["rt", "try", "--test", "--seconds", "300"], cwd=f"{copy.top}/crates/{name}")
 
 
+def sweep(copy: Copy, name: str) -> Told:
+    """The tests of a crate in which each allocation fails in turn."""
+    return copy.run(["tests/sweep", name], cwd=copy.top) if copy.tests(name) else (False, "no tests")
+
+
 def prover(copy: Copy, name: str, function: str) -> Told:
     """Whether the prover takes a crate, of which this function is changed. What it has kept of the crates
     below is not proved again."""
@@ -130,7 +135,8 @@ def prover(copy: Copy, name: str, function: str) -> Told:
 
 
 CHECKS: dict[str, Callable[..., Told]] = {"c": c_test, "program": of_program, "carrier": carrier,
-                                          "tools": tool, "crate": crate, "prover": prover}
+                                          "tools": tool, "crate": crate, "sweep": sweep,
+                                          "prover": prover}
 
 
 def run(copy: Copy, check: str) -> Told:

@@ -11,8 +11,7 @@ LIBRARY = without_proofs.LIBRARY
 PROVED = os.path.join(building.folder_of(LIBRARY), "out", "c_library")
 FLAGS = ["-std=gnu11", "-O2", "-w"]
 SECONDS = 900
-NOTE = ("from lib.build import building;"
-        " building.note(building.KRBRELAY, building.digest_of('krbrelay'))")
+NOTE = "from lib.build import building; building.note({made!r}, building.digest_of({crate!r}))"
 
 
 def committed() -> list[str]:
@@ -62,10 +61,20 @@ class Copy:
     @functools.cached_property
     def program(self) -> str:
         """The program krbrelay, in the place of the copy's proved one, so that all tests take it."""
-        made = os.path.join(self.top, "crates", "krbrelay", "out", "krbrelay")
-        os.makedirs(os.path.dirname(made))
-        without_proofs.program(self.top, made)
-        noted, said = self.run(["python3", "-c", NOTE], cwd=os.path.join(self.top, "tools"))
+        return self.built("krbrelay", "krbrelay")
+
+    @functools.cache
+    def tests(self, crate: str) -> str:
+        """The test program of a crate, likewise."""
+        return self.built(crate, f"{crate}_tests", "--test")
+
+    def built(self, crate: str, name: str, *words: str) -> str:
+        """A program of a crate, which is noted as built from the copy's sources."""
+        made = os.path.join(self.top, "crates", crate, "out", name)
+        os.makedirs(os.path.dirname(made), exist_ok=True)
+        without_proofs.program(self.top, made, crate, *words)
+        noted, said = self.run(["python3", "-c", NOTE.format(made=made, crate=crate)],
+                               cwd=os.path.join(self.top, "tools"))
         if not noted:
             raise without_proofs.NotCompiled(said)
         return made
