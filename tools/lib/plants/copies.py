@@ -63,7 +63,6 @@ class Copy:
         """The program krbrelay, in the place of the copy's proved one, so that all tests take it."""
         return self.built("krbrelay", "krbrelay")
 
-    @functools.cache
     def tests(self, crate: str) -> str:
         """The test program of a crate, likewise."""
         return self.built(crate, f"{crate}_tests", "--test")
