@@ -3,7 +3,7 @@ what it does where a stream is closed, full, a directory or too long.
 
 Jobs and the lines that they print are the rows of tests/jobs/runs.toml, and jobs of which a line is
 another those of keys.toml. The frames that are expected are those of tests/frames.py and of the
-examples. A C compiler makes the library that interrupts reads.
+examples. A C compiler makes the libraries that interrupt reads and count naps.
 """
 import collections
 import os
@@ -16,6 +16,7 @@ import job_lines
 import pytest
 import runs
 
+from lib import jobs
 from lib.build import building, c_tools
 
 
@@ -222,6 +223,41 @@ def test_interrupted_reads(t):
             out, err = running.communicate(timeout=60)
         check((running.returncode, out, err), *wanted)
         assert os.path.exists(report_of)
+
+
+LONGEST_NAP = 5_120     # microseconds
+
+
+def naps(t, job, pause=0):
+    """How often the threads of `relay` that seal wait for a time, and the longest that they ask for. Its
+    output is read after a pause."""
+    with tempfile.TemporaryDirectory() as folder:
+        told = os.path.join(folder, 'told')
+        given = dict(os.environ, NAPS_TO=told, LD_PRELOAD=c_tools.preloaded(folder, 'tests', 'preloaded', 'naps.c'))
+        with subprocess.Popen([t.program, 'relay'], env=given, stdin=subprocess.PIPE, stdout=subprocess.PIPE) as running:
+            running.stdin.write(job)
+            running.stdin.close()
+            time.sleep(pause)
+            running.stdout.read()
+        assert running.returncode == 0
+        with open(told, encoding='ascii') as file:
+            return tuple(map(int, file.read().split()))
+
+
+def lane_of(texts, capacity):
+    session = jobs.session(17, 'safe', b'\1' * 16)
+    return (f'capacity = {capacity}\n' + jobs.sender(session, texts=texts)).encode()
+
+
+def test_no_nap_where_there_is_room(t):
+    """61 texts, their close and the end of the lane fit it."""
+    assert naps(t, lane_of([b'hi'] * 61, 64)) == (0, 0)
+
+
+def test_naps_are_short(t):
+    """A sender whose lane is full looks again soon, however long nobody reads."""
+    times, longest = naps(t, lane_of([b'x' * 10_000] * 100, 1), pause=1)
+    assert times > 0 and longest <= LONGEST_NAP
 
 
 def test_nothing_is_read(t):

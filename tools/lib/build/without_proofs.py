@@ -157,13 +157,18 @@ def exported(text):
     return text.replace("@main(", "@unproved_main(")
 
 
-def library(top, folder):
-    """Builds libkrbrelay of the repository at `top` in a folder, by the tarball's Makefile."""
+def library_code(top, made):
+    """Compiles the code of libkrbrelay of the repository at `top` to an object."""
     with tempfile.TemporaryDirectory() as room:
         sources = copy_of_sources(top, room)
         as_program(sources)
-        compile_module(exported(module_of(sources, LIBRARY, room)), room,
-                       os.path.join(room, "code.o"), "-fPIC")
+        compile_module(exported(module_of(sources, LIBRARY, room)), room, made, "-fPIC")
+
+
+def library(top, folder):
+    """Builds libkrbrelay of the repository at `top` in a folder, by the tarball's Makefile."""
+    with tempfile.TemporaryDirectory() as room:
+        library_code(top, os.path.join(room, "code.o"))
         make_library(top, folder, os.path.join(room, "code.o"))
 
 

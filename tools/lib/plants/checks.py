@@ -87,7 +87,7 @@ OF_C = {"matrix": matrix, "inline": inline, "supported_v3": supported_v3, "costs
 
 OF_PROGRAM = {"tests": ["pytest", "-q", "-x", "tests/test_program.py"],
               "sweep": ["tests/sweep", "program"], "residue": ["tests/residue", "--program"],
-              "job_costs": ["tests/job_costs", "--check"], "costs": ["tests/program_costs"]}
+              "job_costs": ["tests/job_costs", "--check"], "costs": ["tests/program_costs", "--growth"]}
 
 
 def of_program(copy: Copy, what: str) -> Told:

@@ -3,9 +3,11 @@ import functools
 import os
 import shutil
 import subprocess
+import tempfile
+import threading
 
 from lib.build import building, c_tools, without_proofs
-from lib.plants import planted
+from lib.plants import planted, wrapped
 
 LIBRARY = without_proofs.LIBRARY
 PROVED = os.path.join(building.folder_of(LIBRARY), "out", "c_library")
@@ -21,11 +23,27 @@ def committed() -> list[str]:
     return [it for it in found.split("\0")[:-1] if os.path.exists(os.path.join(building.TOP, it))]
 
 
+ROOM = tempfile.TemporaryDirectory()     # for what all copies stand on
+ONE = threading.Lock()
+
+
+def code_of_library() -> str:
+    """The library's own code, as it stands here: proved, if that is built, else compiled once without proofs."""
+    if building.is_built(LIBRARY, building.top_of(LIBRARY)):
+        return os.path.join(PROVED, "krbrelay.s")
+    made = os.path.join(ROOM.name, "code.o")
+    with ONE:
+        if not os.path.exists(made):
+            without_proofs.library_code(building.TOP, made)
+    return made
+
+
 class Copy:
     """A copy with a plant, or with none."""
 
     def __init__(self, folder: str, plant: planted.Plant | None = None):
         self.top, self.folder = os.path.join(folder, "copy"), folder
+        self.wraps = plant.wraps if plant else ()
         self.changes_crates = any(it.startswith("crates/") for it in plant.files()) if plant else False
         for name in committed():
             place = os.path.join(self.top, name)
@@ -52,10 +70,15 @@ class Copy:
     def library(self) -> str:
         """The folder with libkrbrelay: of the proved code, if no crate is changed and that is built."""
         folder = self.place("library")
-        if self.changes_crates or not building.is_built(LIBRARY, building.top_of(LIBRARY)):
+        if self.changes_crates:
             without_proofs.library(self.top, folder)
-        else:
-            without_proofs.make_library(self.top, folder, os.path.join(PROVED, "krbrelay.s"))
+            return folder
+        code = code_of_library()
+        if self.wraps:
+            os.makedirs(folder)
+            wrapped.wrap(code, self.top, self.wraps, self.place("wrapped.o"))
+            code = self.place("wrapped.o")
+        without_proofs.make_library(self.top, folder, code)
         return folder
 
     @functools.cached_property

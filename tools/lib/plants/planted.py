@@ -1,4 +1,4 @@
-"""The planted faults of tests/plants.toml."""
+"""The planted faults of tests/plants.toml and tests/wrapped_plants.toml."""
 import dataclasses
 import os
 import tomllib
@@ -6,7 +6,7 @@ from collections.abc import Callable
 
 from lib.build import building
 
-TABLE = "tests/plants.toml"
+TABLES = ("tests/plants.toml", "tests/wrapped_plants.toml")
 
 
 class NoPlant(Exception):
@@ -19,17 +19,24 @@ class Plant:
     harm: str           # what a user suffers
     checks: tuple       # those that have to see it, by their names in checks.py
     edits: tuple        # of each a file, what stands in it once, and what stands there then
+    wraps: tuple = ()   # a call of the library, and what a function around it does before and after it
 
     def files(self) -> set[str]:
         return {edit[0] for edit in self.edits}
 
 
+def around(row: dict) -> tuple:
+    return (row["around"], row.get("before", ""), row.get("after", "")) if "around" in row else ()
+
+
 def all_plants() -> dict[str, Plant]:
-    with open(os.path.join(building.TOP, TABLE), "rb") as file:
-        rows = tomllib.load(file)
-    plants = {name: Plant(name, row["harm"], tuple(row["by"]), tuple(map(tuple, row["edits"])))
+    rows = {}
+    for table in TABLES:
+        with open(os.path.join(building.TOP, table), "rb") as file:
+            rows |= tomllib.load(file)
+    plants = {name: Plant(name, row["harm"], tuple(row["by"]), tuple(map(tuple, row.get("edits", ()))), around(row))
               for name, row in rows.items()}
-    idle = [it.name for it in plants.values() if not it.edits or not it.checks]
+    idle = [it.name for it in plants.values() if not (it.edits or it.wraps) or not it.checks]
     if idle:
         raise NoPlant(f"without an edit or a check: {', '.join(idle)}")
     return plants

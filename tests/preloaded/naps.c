@@ -1,0 +1,71 @@
+/* Preloaded: how often threads other than the first wait for at most some time, and the longest time that
+ * they ask for, in microseconds. At the end both are written to the file that NAPS_TO names. */
+#define _GNU_SOURCE
+#include <dlfcn.h>
+#include <linux/futex.h>
+#include <stdarg.h>
+#include <stdatomic.h>
+#include <stdio.h>
+#include <stdlib.h>
+#include <sys/syscall.h>
+#include <time.h>
+#include <unistd.h>
+
+enum { WORDS = 6, OPERATION = 1, TIMEOUT = 3 };
+
+static atomic_ulong naps, longest;
+
+static unsigned long microseconds(const struct timespec *at)
+{
+    return (unsigned long)at->tv_sec * 1000000 + (unsigned long)at->tv_nsec / 1000;
+}
+
+/* A wait with a bit set is given a time of a clock, and another one a length (futex(2)). */
+static unsigned long length_of(long operation, const struct timespec *timeout)
+{
+    struct timespec now;
+    if ((operation & FUTEX_CMD_MASK) == FUTEX_WAIT)
+        return microseconds(timeout);
+    clock_gettime(operation & FUTEX_CLOCK_REALTIME ? CLOCK_REALTIME : CLOCK_MONOTONIC, &now);
+    return microseconds(timeout) > microseconds(&now) ? microseconds(timeout) - microseconds(&now) : 0;
+}
+
+static int is_nap(long number, const long *words)
+{
+    long operation = words[OPERATION] & FUTEX_CMD_MASK;
+    return number == SYS_futex && (operation == FUTEX_WAIT || operation == FUTEX_WAIT_BITSET)
+        && words[TIMEOUT] != 0 && gettid() != getpid();
+}
+
+long syscall(long number, ...)
+{
+    static long (*real)(long, ...);
+    long words[WORDS];
+    va_list list;
+    va_start(list, number);
+    for (int i = 0; i < WORDS; i++)
+        words[i] = va_arg(list, long);
+    va_end(list);
+    if (is_nap(number, words)) {
+        unsigned long length = length_of(words[OPERATION], (const struct timespec *)words[TIMEOUT]);
+        unsigned long most = longest;
+        naps++;
+        while (length > most && !atomic_compare_exchange_weak(&longest, &most, length)) { }
+    }
+    if (real == NULL)
+        real = (long (*)(long, ...))dlsym(RTLD_NEXT, "syscall");
+    return real(number, words[0], words[1], words[2], words[3], words[4], words[5]);
+}
+
+/* The program ends by this, and then no destructor is called. */
+void _exit(int status)
+{
+    const char *path = getenv("NAPS_TO");
+    FILE *file = path != NULL ? fopen(path, "w") : NULL;
+    if (file != NULL) {
+        fprintf(file, "%lu %lu\n", (unsigned long)naps, (unsigned long)longest);
+        fclose(file);
+    }
+    for (;;) /* by the system's call itself: the one above needs what is dying */
+        __asm__ volatile("syscall" : : "a"((long)SYS_exit_group), "D"((long)status) : "rcx", "r11", "memory");
+}

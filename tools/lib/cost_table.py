@@ -1,0 +1,61 @@
+"""Tables of costs that were measured: a line for each case, with its words, the instructions, and what was
+asked of the allocator. A test compares what it measures with them, so that a loss is seen where it came in.
+Instructions differ a little with the C compiler; what is asked of the allocator doesn't.
+"""
+import os
+from collections.abc import Iterable
+
+from lib import report
+from lib.build import building
+
+SHARE, MORE = 0.03, 64      # of the instructions
+HEAD = ("instructions", "asked", "bytes", "largest")
+
+Figures = tuple[int, ...]
+Table = dict[str, Figures]
+
+
+def read(path: str) -> Table:
+    """The figures by the words of a case, which are joined by tabs."""
+    table = {}
+    with open(os.path.join(building.TOP, path), encoding="utf-8") as file:
+        for line in file.read().splitlines()[1:]:
+            *words, instructions, asked, size, largest = line.split("\t")
+            table["\t".join(words)] = (int(instructions), int(asked), int(size), int(largest))
+    return table
+
+
+def write(path: str, head: Iterable[str], table: Table) -> None:
+    with open(os.path.join(building.TOP, path), "w", encoding="utf-8") as file:
+        file.write("\t".join([*head, *HEAD]) + "\n")
+        for words, figures in table.items():
+            file.write("\t".join([words, *map(str, figures)]) + "\n")
+
+
+def is_near(found: int, noted: int, share: float) -> bool:
+    return abs(found - noted) <= share * noted + MORE
+
+
+def compare(count: report.Count, path: str, noted: Table, found: Table, share: float = SHARE) -> None:
+    """Each case has about the instructions of its line, and asks the allocator for what stands there."""
+    for words in noted.keys() - found.keys():
+        count.right(False, f"FAILED {path} has a case that isn't measured: {words}")
+    for words, figures in found.items():
+        of = noted.get(words)
+        count.right(of is not None and is_near(figures[0], of[0], share) and figures[1:] == of[1:],
+                    f"FAILED {words}: {figures}, and in {path} {of}: where that is meant, --write writes it anew")
+
+
+def control(count: report.Count) -> None:
+    """Each difference that is planted has to be reported."""
+    noted: Table = {"one": (10_000, 2, 300, 200), "other": (20_000, 0, 0, 0)}
+    for planted in ({"one": (10_500, 2, 300, 200)}, {"one": (9_500, 2, 300, 200)}, {"one": (10_000, 3, 300, 200)},
+                    {"one": (10_000, 2, 301, 200)}, {"one": (10_000, 2, 300, 201)}, {"third": (1, 0, 0, 0)}):
+        quiet = report.Count()
+        quiet.right = lambda passed, _, of=quiet: of.add(bool(passed), not passed)
+        compare(quiet, "", noted, {**noted, **planted})
+        count.right(quiet.failed == 1, f"FAILED a planted cost isn't reported: {planted}")
+    quiet = report.Count()
+    quiet.right = lambda passed, _, of=quiet: of.add(bool(passed), not passed)
+    compare(quiet, "", noted, {"one": noted["one"]})
+    count.right(quiet.failed == 1, "FAILED a case that isn't measured isn't reported")
