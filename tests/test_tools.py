@@ -12,7 +12,7 @@ import pytest
 
 from lib import parts, report, scripts
 from lib.build import assembly, building, c_tools
-from lib.plants import checks, planted
+from lib.plants import checks, planted, wrapped
 
 # What each of these plants in each run, and has to report.
 OWN_CONTROLS = {
@@ -191,6 +191,18 @@ def test_a_plant_applies_and_names_checks(name):
     plant = PLANTS[name]
     assert all(text != building.text_of(path) for path, text in planted.applied(plant, building.text_of).items())
     assert {it.split()[0] for it in plant.checks} <= set(checks.CHECKS)
+
+
+@pytest.mark.parametrize("name", [it for it in PLANTS if PLANTS[it].wraps])
+def test_a_plant_around_a_call_is_c(name):
+    text = wrapped.source(building.text_of("c/krbrelay.h"), *PLANTS[name].wraps)
+    subprocess.run([*c_tools.c_compiler(), "-std=gnu11", "-fsyntax-only", f"-I{building.TOP}/c", "-x", "c", "-"],
+                   input=text, text=True, check=True)
+
+
+def test_a_plant_around_no_call_is_told():
+    with pytest.raises(wrapped.NoCall):
+        wrapped.source(building.text_of("c/krbrelay.h"), "no_such_call", "", "")
 
 
 @pytest.mark.parametrize("edit", [("tests/README.md", "no such text", "x"), ("tests/README.md", "e", "x")])
