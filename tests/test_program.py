@@ -229,17 +229,13 @@ LONGEST_NAP = 5_120     # microseconds
 
 
 def naps(t, job, pause=0):
-    """How often the threads of `relay` that seal wait for a time, and the longest that they ask for. Its
-    output is read after a pause."""
+    """How often the threads of `relay` that seal wait for a time, and the longest that they ask for. The
+    thread that takes frames pauses for so many microseconds after each wait."""
     with tempfile.TemporaryDirectory() as folder:
         told = os.path.join(folder, 'told')
-        given = dict(os.environ, NAPS_TO=told, LD_PRELOAD=c_tools.preloaded(folder, 'tests', 'preloaded', 'naps.c'))
-        with subprocess.Popen([t.program, 'relay'], env=given, stdin=subprocess.PIPE, stdout=subprocess.PIPE) as running:
-            running.stdin.write(job)
-            running.stdin.close()
-            time.sleep(pause)
-            running.stdout.read()
-        assert running.returncode == 0
+        given = dict(os.environ, LD_PRELOAD=c_tools.preloaded(folder, 'tests', 'preloaded', 'naps.c'),
+                     NAPS_TO=told, NAPS_PAUSE=str(pause))
+        assert t.run(['relay'], job, env=given)[0] == 0
         with open(told, encoding='ascii') as file:
             return tuple(map(int, file.read().split()))
 
@@ -255,8 +251,8 @@ def test_no_nap_where_there_is_room(t):
 
 
 def test_naps_are_short(t):
-    """A sender whose lane is full looks again soon, however long nobody reads."""
-    times, longest = naps(t, lane_of([b'x' * 10_000] * 100, 1), pause=1)
+    """A sender whose lane is full looks again soon, however long it stays so."""
+    times, longest = naps(t, lane_of([b'hi'] * 5, 1), pause=100_000)
     assert times > 0 and longest <= LONGEST_NAP
 
 

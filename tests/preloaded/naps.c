@@ -1,5 +1,6 @@
 /* Preloaded: how often threads other than the first wait for at most some time, and the longest time that
- * they ask for, in microseconds. At the end both are written to the file that NAPS_TO names. */
+ * they ask for, in microseconds. At the end both are written to the file that NAPS_TO names. The first
+ * thread pauses for the microseconds that NAPS_PAUSE gives, after each of its waits. */
 #define _GNU_SOURCE
 #include <dlfcn.h>
 #include <linux/futex.h>
@@ -11,7 +12,7 @@
 #include <time.h>
 #include <unistd.h>
 
-enum { WORDS = 6, OPERATION = 1, TIMEOUT = 3 };
+enum { WORDS = 6, OPERATION = 1, TIMEOUT = 3, EVER = 1000000000 /* seconds */ };
 
 static atomic_ulong naps, longest;
 
@@ -30,31 +31,47 @@ static unsigned long length_of(long operation, const struct timespec *timeout)
     return microseconds(timeout) > microseconds(&now) ? microseconds(timeout) - microseconds(&now) : 0;
 }
 
-static int is_nap(long number, const long *words)
+static int is_wait(long number, const long *words)
 {
     long operation = words[OPERATION] & FUTEX_CMD_MASK;
-    return number == SYS_futex && (operation == FUTEX_WAIT || operation == FUTEX_WAIT_BITSET)
-        && words[TIMEOUT] != 0 && gettid() != getpid();
+    return number == SYS_futex && (operation == FUTEX_WAIT || operation == FUTEX_WAIT_BITSET);
+}
+
+static void note(long operation, const struct timespec *timeout)
+{
+    unsigned long length, most = longest;
+    if (timeout == NULL || timeout->tv_sec > EVER)
+        return;
+    length = length_of(operation, timeout);
+    naps++;
+    while (length > most && !atomic_compare_exchange_weak(&longest, &most, length)) { }
 }
 
 long syscall(long number, ...)
 {
     static long (*real)(long, ...);
-    long words[WORDS];
+    const char *pause = getenv("NAPS_PAUSE");
+    int is_first = gettid() == getpid();
+    long words[WORDS], answer;
     va_list list;
     va_start(list, number);
     for (int i = 0; i < WORDS; i++)
         words[i] = va_arg(list, long);
     va_end(list);
-    if (is_nap(number, words)) {
-        unsigned long length = length_of(words[OPERATION], (const struct timespec *)words[TIMEOUT]);
-        unsigned long most = longest;
-        naps++;
-        while (length > most && !atomic_compare_exchange_weak(&longest, &most, length)) { }
-    }
+    if (is_wait(number, words) && !is_first)
+        note(words[OPERATION], (const struct timespec *)words[TIMEOUT]);
     if (real == NULL)
         real = (long (*)(long, ...))dlsym(RTLD_NEXT, "syscall");
-    return real(number, words[0], words[1], words[2], words[3], words[4], words[5]);
+    answer = real(number, words[0], words[1], words[2], words[3], words[4], words[5]);
+    if (is_wait(number, words) && is_first && pause != NULL)
+        usleep((useconds_t)atoi(pause));
+    return answer;
+}
+
+/* A look gives way to nobody, so that naps begin soon on a busy machine too. */
+int sched_yield(void)
+{
+    return 0;
 }
 
 /* The program ends by this, and then no destructor is called. */

@@ -3,3 +3,4 @@ pub mod Items
 pub mod Rule
 pub mod Side
 pub mod Steps
+pub mod Waiting

@@ -1,10 +1,11 @@
 //! How a sender of a full lane waits: it looks again for a while before it sleeps.
 
-ghost use Rattle.std.specs.Prelude.{◌≡◌, true, false, length, MatchResult};
+ghost use Rattle.std.specs.Prelude.{◌≡◌, ◌≤◌, true, false, length, MatchResult};
 ghost use Rattle.crossbeam_channel.specs.Claims.{view, IsSeatAt};
 ghost use Rattle.crossbeam_channel.specs.Ends.{sends_on, ruled_capacity};
 ghost use Rattle.krb_lane.specs.Items.{frames_of, has_end, IsNext};
 ghost use Rattle.krb_lane.specs.Rule.{puts};
+ghost use Rattle.krb_lane.specs.Waiting.{longest_nap};
 
 use crate::item::Item;
 use crate::passes::Sends;
@@ -29,8 +30,10 @@ const FIRST_NAP: u64 = 10;
 /// Before this nap, or a longer one, no time is spent on looks.
 const LONG: u32 = 3;
 
-/// The longest nap, of some 5 milliseconds.
+/// The longest nap, and its microseconds.
 const LONGEST: u32 = 9;
+
+const LONGEST_MICROS: u64 = 5_120;
 
 /// How a sender that finds its lane full waits before it sleeps until a take wakes it.
 ///
@@ -90,8 +93,8 @@ impl Patience {
         if look < self.looks() {
             thread::yield_now();
         } else {
-            let nap = FIRST_NAP << self.nap_after(look).min(LONGEST);
-            Parker::new().park_timeout(rt, Duration::from_micros(nap));
+            let micros = micros_of(self.nap_after(look));
+            Parker::new().park_timeout(rt, Duration::from_micros(micros));
         }
     }
 
@@ -119,6 +122,13 @@ impl Patience {
             self.nap = self.nap.saturating_sub(1);
         }
     }
+}
+
+/// The microseconds of a nap, so that a sender looks again soon.
+fn micros_of(nap: u32) -> u64
+    ensures bounded { result ≤ longest_nap }
+{
+    (FIRST_NAP << nap.min(LONGEST)).min(LONGEST_MICROS)
 }
 
 /// Sends an item, and waits while the lane is full. If the receiving end is gone, nothing is sent

@@ -214,7 +214,9 @@ impl Sealer for OddSealer {
             return Err(SealError::Memory);
         }
         let frame = self.inner.seal(alloc, bytes, at, confounder);
-        self.counts.sealed.fetch_add(u64::from(frame.is_ok()), Ordering::SeqCst);
+        self.counts
+            .sealed
+            .fetch_add(u64::from(frame.is_ok()), Ordering::SeqCst);
         frame
     }
 

@@ -28,7 +28,10 @@ fn own_fault_is_told_and_each_lane_counts_what_it_sealed(rt: HostRuntime) -> Res
         assert_same(&rt, fault.sealed[lane] as u64, gate.sealed(lane));
     }
     if matches!(fault.cause, Cause::Spawn) || fault.lane == 1 {
-        println!(rt; "refused: relay in threads, {} at lane {}", fault.cause, fault.lane)?;
+        println!(rt;
+            "refused: relay in threads, {} at lane {}",
+            fault.cause, fault.lane
+        )?;
     }
     Ok(())
 }
