@@ -1,3 +1,4 @@
+"""The examples of python/examples, and `python3 -m krbrelay show`."""
 import os
 import re
 import subprocess

@@ -1,3 +1,4 @@
+"""How sealers, openers, receivers and peers live and end: none is copied, and none shows its key."""
 import copy
 import gc
 import os

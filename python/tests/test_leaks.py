@@ -1,3 +1,4 @@
+"""Seals and opens leave nothing behind, however often they are done."""
 import gc
 import os
 import unittest

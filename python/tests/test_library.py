@@ -1,3 +1,4 @@
+"""Where the package looks for libkrbrelay, and in which order."""
 import ctypes
 import os
 import re

@@ -1,3 +1,4 @@
+"""What an opener opens and refuses, beside the independent sealer."""
 import datetime
 import itertools
 import unittest

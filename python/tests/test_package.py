@@ -1,3 +1,4 @@
+"""The package's sources: for Python 3.9, typed, with docstrings, and with no need but the interpreter."""
 import ast
 import glob
 import importlib.metadata

@@ -1,3 +1,4 @@
+"""A peer in both directions, beside the independent sealer, and what it exports."""
 import unittest
 
 from support import (

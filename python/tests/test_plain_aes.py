@@ -1,3 +1,4 @@
+"""The AES of the independent oracle without a library, by published vectors."""
 import unittest
 
 import plain_aes

@@ -1,3 +1,4 @@
+"""What a receiver takes and refuses, beside the independent sender."""
 import random
 import unittest
 

@@ -1,3 +1,4 @@
+"""What a sealer seals, beside the independent sealer."""
 import datetime
 import threading
 import time

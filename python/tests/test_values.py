@@ -1,3 +1,4 @@
+"""Addresses, and the names and texts of answers."""
 import unittest
 
 from support import (
