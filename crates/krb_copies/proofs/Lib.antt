@@ -1,0 +1,4 @@
+pub mod CopyLemmas
+pub mod ClaimLemmas
+pub mod TextLemmas
+pub mod ForkLemmas

@@ -1,0 +1,47 @@
+//! What is claimed of an outbox that is restored and copied, over the definitions alone.
+
+ghost use Rattle.krb_copies.specs.Laws.{OneFinding, ReceiptsStayTrue, DeliveredTookEffect, TextsTookEffect, OthersAreStopped};
+ghost use Rattle.krb_copies.specs.Laws.{NothingFromThereOn, EachIsAnOutbox, OneSessionTakesEffect, NoNumberIsUsedAgain, ForksHappen};
+
+use krb_history::histories_laws;
+
+/// What holds however often an outbox is restored or copied.
+///
+/// Each copy goes on by itself: an application puts in texts, and processes seal them under the copy's
+/// next number. At any time a copy may become a state that a copy was in (a file is restored), and
+/// another copy of such a state may be used beside them (on a second machine). Whatever they sealed may
+/// take effect whenever the carrier brings it, in the order of the numbers, each number once and nothing
+/// after a close. A true receipt may come to any copy, late, or more than once: it stays true
+/// (`receipts`). A copy compares it with its own frames, as [`compare_receipt`](crate::compare_receipt)
+/// does. It is one of four things (`findings`): nothing new, or the copy takes texts for delivered, or it is
+/// stopped as an older one or as a fork. A copy that is stopped seals nothing more.
+///
+/// Then of all that any copy takes for delivered its own frames took effect: those of each number have
+/// one tag (`delivered`), and so one text (`texts`). A receipt for frames that a copy hasn't sealed, or
+/// has sealed otherwise, stops it (`stopped`), and from the number of another's frame on it never takes
+/// anything for delivered (`forked`). This holds unless two texts with one SHA-1 are found, or two frames
+/// of one number that differ and have one tag. It says something: a text is taken for delivered, and a
+/// copy and a restored outbox are stopped, whatever two texts they seal (`happen`).
+///
+/// Each copy is an outbox of which [`outbox_laws`](krb_carry::outbox_laws) speak (`outboxes`). What takes
+/// effect is sealed of the records of one session, so what [`store_laws`](krb_carry::store_laws) claim of
+/// a store holds with these records (`session`).
+///
+/// Without receipts a sender that begins asks the carrier for all frames of the session. It goes on above
+/// the highest number of these, and where it isn't above or the carrier can't say, it is stopped
+/// (`After`). Whatever it does then, it seals none of their numbers (`begun`). Frames that the carrier
+/// has lost, and those of a copy that is used at the same time, only a receipt shows.
+pub fn copies_laws()
+    ensures findings { OneFinding }
+    ensures receipts { ReceiptsStayTrue }
+    ensures delivered { DeliveredTookEffect }
+    ensures texts { TextsTookEffect }
+    ensures stopped { OthersAreStopped }
+    ensures forked { NothingFromThereOn }
+    ensures outboxes { EachIsAnOutbox }
+    ensures session { OneSessionTakesEffect }
+    ensures begun { NoNumberIsUsedAgain }
+    ensures happen { ForksHappen }
+{
+    histories_laws();
+}
