@@ -1,7 +1,7 @@
 -- What is claimed of copies: receipts, what takes effect, and numbers without receipts.
-use Rattle.std.proofs.Common.{◌≡◌, ℕ, zero, suc, ◌-◌, ◌+◌, ◌<◌, ◌≤◌, nat_le, Bool, true, false, List, [], ◌∷◌, length, map, take, slice_get, Some, refl, sym, ap, subst, ◌∙◌, ◌⊎◌, arith, inl, inr, length-append}
+use Rattle.std.proofs.Common.{◌≡◌, ℕ, zero, suc, ◌-◌, ◌+◌, ◌<◌, ◌≤◌, nat_le, Bool, true, false, List, [], ◌∷◌, length, map, take, drop, slice_get, Some, refl, sym, ap, subst, ◌∙◌, ◌⊎◌, arith, inl, inr, length-append}
 use Rattle.std.specs.Prelude.{All}
-use Rattle.std.proofs.lemmas.List.{take-map, take-take}
+use Rattle.std.proofs.lemmas.List.{take-map, take-take, take-append-drop}
 use Rattle.std.proofs.lemmas.Option.{slice_get_within, get_or_from_slice_get, slice_get-map}
 use Rattle.std.specs.Option.{option_map}
 use Rattle.std.proofs.lemmas.Bool.{leb-true, leb-false}
@@ -12,14 +12,14 @@ use Rattle.krb_peers.proofs.FrameLemmas.{all_readable}
 use Rattle.krb_peers.specs.Session.{Sealed, FitLimits, frames_in}
 use Rattle.krb_carry.specs.Outbox.{Kept, numbered, Outbox, new_outbox, records_in, sealed_in, Act, Insert, Seal, IsAct, Acts, LeadsOutbox}
 use Rattle.krb_carry.proofs.OutboxLemmas.{stands_in, first, second, sealed_record, length-records}
-use Rattle.krb_history.specs.History.{tag}
-use Rattle.krb_history.specs.Laws.{Collision, ReceiptsNameTheHistory}
+use Rattle.krb_history.specs.History.{tag, no_history, with_frames}
+use Rattle.krb_history.specs.Laws.{Collision, GoesOn, ReceiptsNameTheHistory}
 use Rattle.krb_copies.specs.declared.receipt.Finding.{Finding}
 use Rattle.krb_copies.specs.declared.receipt.Finding.TheVariants.{Repeat, Delivered, Older, Forked}
 use Rattle.krb_copies.specs.declared.receipt.Receipt.{Receipt}
-use Rattle.krb_copies.specs.Receipt.{history_below, IsTrue, Finds}
+use Rattle.krb_copies.specs.Receipt.{below, history_of, history_below, IsTrue, Finds}
 use Rattle.krb_copies.specs.Copies.{Copy, own_frames, stopped, World, with_state, after_finding}
-use Rattle.krb_copies.specs.Laws.{OneFinding, ReceiptsStayTrue, AreItsOwn, DeliveredTookEffect, NothingFromThereOn, OthersAreStopped, EachIsAnOutbox, OneSessionTakesEffect, NoNumberIsUsedAgain}
+use Rattle.krb_copies.specs.Laws.{OneFinding, OneDigestIsEnough, ReceiptsStayTrue, AreItsOwn, DeliveredTookEffect, NothingFromThereOn, OthersAreStopped, EachIsAnOutbox, OneSessionTakesEffect, NoNumberIsUsedAgain}
 use Rattle.krb_copies.proofs.CopyLemmas.{more_history, all_at, all_too, contains_at, slice_get-set, length-frames, IsSound, next_is, in_numbered, IsSoundWorld, world_sound}
 
 -- ---- a receipt
@@ -41,6 +41,14 @@ one_finding done next own receipt Delivered Older a b = absurd (omega (arith, b.
 one_finding done next own receipt Forked Older a b = absurd (omega (arith, b.1, a.1))
 one_finding done next own receipt Delivered Forked a b = absurd (b.2 a.2)
 one_finding done next own receipt Forked Delivered a b = absurd (a.2 b.2)
+
+pub one_digest : GoesOn → OneDigestIsEnough
+one_digest goes_on start done number frames begun later =
+    let first_ones : take (done - start) (below start frames number) ≡ below start frames done =
+    take-take (done - start) (number - start) frames (omega (arith, begun, later)) in
+    ap (λ l. with_frames (history_of l) (drop (done - start) (below start frames number))) (sym first_ones)
+    ∙ (sym (goes_on no_history (take (done - start) (below start frames number)) (drop (done - start) (below start frames number)))
+    ∙ ap (λ l. history_of l) (take-append-drop (done - start) (below start frames number)))
 
 pub stay_true : ReceiptsStayTrue
 stay_true start took more receipt is = record {

@@ -83,7 +83,8 @@ after_finding copy number Forked = stopped copy
 abbrev pub IsAbove : Outbox → List Kept → Type 0
 IsAbove outbox seen = (kept : Kept) → Contains seen kept → kept.number < outbox.next
 
--- it goes on above all that was seen, and stops where it isn't above, or nobody can say
+-- It goes on if it is above all that was seen. If it isn't, or the carrier couldn't be asked, it is
+-- stopped.
 abbrev pub After : Copy → Option (List Kept) → Copy → Type 0
 After old (Some seen) new =
     (IsAbove old.outbox seen × (new ≡ old)) ⊎ ((¬ IsAbove old.outbox seen) × (new ≡ stopped old))

@@ -1,5 +1,5 @@
 -- What the laws state.
-use Rattle.std.specs.Prelude.{◌≡◌, ◌≢◌, ◌⊎◌, ℕ, ◌-◌, ◌+◌, ◌<◌, ◌≤◌, true, false, List, [], ◌∷◌, ◌++◌, length, map, take}
+use Rattle.std.specs.Prelude.{◌≡◌, ◌≢◌, ◌⊎◌, ℕ, ◌-◌, ◌+◌, ◌<◌, ◌≤◌, true, false, List, [], ◌∷◌, ◌++◌, length, map, take, drop}
 use Rattle.std.specs.Prelude.{slice_get, Some, All}
 use Rattle.std.specs.List.{Contains}
 use Rattle.krb_record.specs.declared.record.Record.TheVariants.{Text}
@@ -9,11 +9,11 @@ use Rattle.krb_peers.specs.Session.{AreRecords, FitLimits, Sealed, SealsAt, AreS
 use Rattle.krb_peers.specs.Texts.{texts_of_all}
 use Rattle.krb_carry.specs.Outbox.{Kept, Outbox, new_outbox, records_in, sealed_in, stored_records}
 use Rattle.krb_carry.specs.Outbox.{Act, Insert, Seal, IsAct, LeadsOutbox}
-use Rattle.krb_history.specs.History.{tag}
+use Rattle.krb_history.specs.History.{tag, with_frames}
 use Rattle.krb_history.specs.Laws.{Collision}
 use Rattle.krb_copies.specs.declared.receipt.Finding.{Finding}
 use Rattle.krb_copies.specs.declared.receipt.Receipt.{Receipt}
-use Rattle.krb_copies.specs.Receipt.{below, IsTrue, Finds}
+use Rattle.krb_copies.specs.Receipt.{below, history_below, IsTrue, Finds}
 use Rattle.krb_copies.specs.Copies.{Copy, own_frames, stopped, World, new_world}
 use Rattle.krb_copies.specs.Copies.{Event, Does, Restores, Copies, Takes, Hears, IsAbove, Steps, LeadsCopies}
 
@@ -30,7 +30,14 @@ abbrev pub OneFinding : Type 0
 OneFinding = (done next : ℕ) (own : List ℕ) (receipt : Receipt) (one other : Finding)
     → Finds done next own receipt one → Finds done next own receipt other → one ≡ other
 
--- and stays true, whatever takes effect after it
+-- A sender may keep the digest of its frames below `done` and no frame of these: with those from there
+-- on it is the digest of all.
+abbrev pub OneDigestIsEnough : Type 0
+OneDigestIsEnough = (first done number : ℕ) (frames : List (List ℕ)) → first ≤ done → done ≤ number
+    → with_frames (history_below first frames done) (drop (done - first) (below first frames number))
+    ≡ history_below first frames number
+
+-- a true receipt stays true, whatever takes effect after it
 abbrev pub ReceiptsStayTrue : Type 0
 ReceiptsStayTrue = (first : ℕ) (took more : List (List ℕ)) (receipt : Receipt)
     → IsTrue first took receipt → IsTrue first (took ++ more) receipt

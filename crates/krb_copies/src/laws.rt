@@ -1,7 +1,7 @@
 //! What is claimed of an outbox that is restored and copied, over the definitions alone.
 
-ghost use Rattle.krb_copies.specs.Laws.{OneFinding, ReceiptsStayTrue, DeliveredTookEffect, TextsTookEffect, OthersAreStopped};
-ghost use Rattle.krb_copies.specs.Laws.{NothingFromThereOn, EachIsAnOutbox, OneSessionTakesEffect, NoNumberIsUsedAgain, ForksHappen};
+ghost use Rattle.krb_copies.specs.Laws.{OneFinding, OneDigestIsEnough, ReceiptsStayTrue, DeliveredTookEffect, TextsTookEffect};
+ghost use Rattle.krb_copies.specs.Laws.{OthersAreStopped, NothingFromThereOn, EachIsAnOutbox, OneSessionTakesEffect, NoNumberIsUsedAgain, ForksHappen};
 
 use krb_history::histories_laws;
 
@@ -13,8 +13,9 @@ use krb_history::histories_laws;
 /// take effect whenever the carrier brings it, in the order of the numbers, each number once and nothing
 /// after a close. A true receipt may come to any copy, late, or more than once: it stays true
 /// (`receipts`). A copy compares it with its own frames, as [`compare_receipt`](crate::compare_receipt)
-/// does. It is one of four things (`findings`): nothing new, or the copy takes texts for delivered, or it is
-/// stopped as an older one or as a fork. A copy that is stopped seals nothing more.
+/// does, and needs to keep none that it took for delivered (`digest`). It is one of four things
+/// (`findings`): nothing new, or the copy takes texts for delivered, or it is stopped as an older one or as
+/// a fork. A copy that is stopped seals nothing more.
 ///
 /// Then of all that any copy takes for delivered its own frames took effect: those of each number have
 /// one tag (`delivered`), and so one text (`texts`). A receipt for frames that a copy hasn't sealed, or
@@ -27,12 +28,14 @@ use krb_history::histories_laws;
 /// effect is sealed of the records of one session, so what [`store_laws`](krb_carry::store_laws) claim of
 /// a store holds with these records (`session`).
 ///
-/// Without receipts a sender that begins asks the carrier for all frames of the session. It goes on above
-/// the highest number of these, and where it isn't above or the carrier can't say, it is stopped
-/// (`After`). Whatever it does then, it seals none of their numbers (`begun`). Frames that the carrier
-/// has lost, and those of a copy that is used at the same time, only a receipt shows.
+/// Without receipts a sender that begins asks the carrier for all frames of the session. It goes on if it
+/// seals above the highest number of these; if it doesn't, or the carrier can't be asked, it is stopped
+/// (`After`). Whatever it does then, it seals none of their numbers (`begun`). Frames that the carrier has
+/// lost, and those of a copy that is used at the same time, only a receipt shows. That the outbox goes
+/// on so after each restore is [`outbox_tables_laws`](krb_tables::outbox_tables_laws)' law.
 pub fn copies_laws()
     ensures findings { OneFinding }
+    ensures digest { OneDigestIsEnough }
     ensures receipts { ReceiptsStayTrue }
     ensures delivered { DeliveredTookEffect }
     ensures texts { TextsTookEffect }
