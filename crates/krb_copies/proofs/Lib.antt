@@ -2,3 +2,4 @@ pub mod CopyLemmas
 pub mod ClaimLemmas
 pub mod TextLemmas
 pub mod ForkLemmas
+pub mod ExampleLemmas

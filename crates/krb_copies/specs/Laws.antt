@@ -1,10 +1,13 @@
 -- What the laws state.
 use Rattle.std.specs.Prelude.{◌≡◌, ◌≢◌, ◌⊎◌, ℕ, ◌-◌, ◌+◌, ◌<◌, ◌≤◌, true, false, List, [], ◌∷◌, ◌++◌, length, map, take, drop}
-use Rattle.std.specs.Prelude.{slice_get, Some, All}
+use Rattle.std.specs.Prelude.{slice_get, Some, None, All, pos}
 use Rattle.std.specs.List.{Contains}
 use Rattle.krb_record.specs.declared.record.Record.TheVariants.{Text}
 use Rattle.krb_record.specs.Record.{FitsLimits}
-use Rattle.krb_seal.specs.Sealer.{SealerState}
+use Rattle.krb_etype.specs.Etype.{number_of}
+use Rattle.krb_etype.specs.declared.etype.Etype.{Etype}
+use Rattle.krb_seal.specs.declared.session.Mode.TheVariants.{Safe}
+use Rattle.krb_seal.specs.Sealer.{SealerState, new_state}
 use Rattle.krb_peers.specs.Session.{AreRecords, FitLimits, Sealed, SealsAt, AreSealed, frames_in}
 use Rattle.krb_peers.specs.Texts.{texts_of_all}
 use Rattle.krb_carry.specs.Outbox.{Kept, Outbox, new_outbox, records_in, sealed_in, stored_records}
@@ -153,3 +156,21 @@ ForksHappen =
     → FitsLimits one.carried → FitsLimits other.carried
     → SealsAt sealer sealer.next one → SealsAt sealer sealer.next other
     → HasFork sealer one_text other_text one other ⊎ (Collision ⊎ TagsMeet sealer)
+
+-- a session of KRB-SAFE from 10.0.0.1, whose first number is 0, under any key
+abbrev pub example_sealer : Etype → List ℕ → SealerState
+example_sealer etype key =
+    new_state (number_of etype) key (record {
+      mode = Safe;
+      s_addr = record { kind = pos 2; bytes = 10 ∷ 0 ∷ 0 ∷ 1 ∷ [] };
+      r_addr = None;
+      first = 0;
+    })
+
+-- in it there are two such frames, of the texts 01 and 02
+abbrev pub ForkExists : Type 0
+ForkExists =
+    (etype : Etype) (key : List ℕ)
+    → let sealer = example_sealer etype key in
+    (one : Sealed) × (other : Sealed)
+    × (HasFork sealer (1 ∷ []) (2 ∷ []) one other ⊎ (Collision ⊎ TagsMeet sealer))

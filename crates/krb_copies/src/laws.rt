@@ -1,7 +1,7 @@
 //! What is claimed of an outbox that is restored and copied, over the definitions alone.
 
 ghost use Rattle.krb_copies.specs.Laws.{OneFinding, OneDigestIsEnough, ReceiptsStayTrue, DeliveredTookEffect, TextsTookEffect};
-ghost use Rattle.krb_copies.specs.Laws.{OthersAreStopped, NothingFromThereOn, EachIsAnOutbox, OneSessionTakesEffect, NoNumberIsUsedAgain, ForksHappen};
+ghost use Rattle.krb_copies.specs.Laws.{OthersAreStopped, NothingFromThereOn, EachIsAnOutbox, OneSessionTakesEffect, NoNumberIsUsedAgain, ForksHappen, ForkExists};
 
 use krb_history::histories_laws;
 
@@ -22,7 +22,8 @@ use krb_history::histories_laws;
 /// has sealed otherwise, stops it (`stopped`), and from the number of another's frame on it never takes
 /// anything for delivered (`forked`). This holds unless two texts with one SHA-1 are found, or two frames
 /// of one number that differ and have one tag. It says something: a text is taken for delivered, and a
-/// copy and a restored outbox are stopped, whatever two texts they seal (`happen`).
+/// copy and a restored outbox are stopped, whatever two texts they seal (`happen`), and there are two
+/// frames of which this holds, under any key (`example`).
 ///
 /// Each copy is an outbox of which [`outbox_laws`](krb_carry::outbox_laws) speak (`outboxes`). What takes
 /// effect is sealed of the records of one session, so what [`store_laws`](krb_carry::store_laws) claim of
@@ -45,6 +46,7 @@ pub fn copies_laws()
     ensures session { OneSessionTakesEffect }
     ensures begun { NoNumberIsUsedAgain }
     ensures happen { ForksHappen }
+    ensures example { ForkExists }
 {
     histories_laws();
 }
