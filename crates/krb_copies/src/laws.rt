@@ -1,7 +1,8 @@
 //! What is claimed of an outbox that is restored and copied, over the definitions alone.
 
-ghost use Rattle.krb_copies.specs.Laws.{OneFinding, OneDigestIsEnough, ReceiptsStayTrue, DeliveredTookEffect, TextsTookEffect};
-ghost use Rattle.krb_copies.specs.Laws.{OthersAreStopped, NothingFromThereOn, EachIsAnOutbox, OneSessionTakesEffect, NoNumberIsUsedAgain, ForksHappen, ForkExists};
+ghost use Rattle.krb_copies.specs.Laws.{OneFinding, OneDigestIsEnough, ReceiptsStayTrue};
+ghost use Rattle.krb_copies.specs.Laws.{DeliveredTookEffect, TextsTookEffect, OthersAreStopped, NothingFromThereOn};
+ghost use Rattle.krb_copies.specs.Laws.{EachIsAnOutbox, OneSessionTakesEffect, NoNumberIsUsedAgain, ForksHappen, ForkExists};
 
 use krb_history::histories_laws;
 
@@ -15,7 +16,8 @@ use krb_history::histories_laws;
 /// (`receipts`). A copy compares it with its own frames, as [`compare_receipt`](crate::compare_receipt)
 /// does, and needs to keep none that it took for delivered (`digest`). It is one of four things
 /// (`findings`): nothing new, or the copy takes texts for delivered, or it is stopped as an older one or as
-/// a fork. A copy that is stopped seals nothing more.
+/// a fork. A copy that is stopped seals nothing more. It is assumed that no forgery takes effect, that
+/// receipts are true, and that the store isn't restored.
 ///
 /// Then of all that any copy takes for delivered its own frames took effect: those of each number have
 /// one tag (`delivered`), and so one text (`texts`). A receipt for frames that a copy hasn't sealed, or
@@ -32,8 +34,9 @@ use krb_history::histories_laws;
 /// Without receipts a sender that begins asks the carrier for all frames of the session. It goes on if it
 /// seals above the highest number of these; if it doesn't, or the carrier can't be asked, it is stopped
 /// (`After`). Whatever it does then, it seals none of their numbers (`begun`). Frames that the carrier has
-/// lost, and those of a copy that is used at the same time, only a receipt shows. That the outbox goes
-/// on so after each restore is [`outbox_tables_laws`](krb_tables::outbox_tables_laws)' law.
+/// lost, and those of a copy that is used at the same time, only a receipt shows. Where a sender begins so
+/// after each restore of the one outbox, [`outbox_tables_laws`](krb_tables::outbox_tables_laws) say that no
+/// number leaves for two records.
 pub fn copies_laws()
     ensures findings { OneFinding }
     ensures digest { OneDigestIsEnough }

@@ -15,7 +15,7 @@
 //! }
 //! ```
 //!
-//! [`copies_laws`] say what that is good for.
+//! [`copies_laws`] say what follows.
 #![tactic(auto)]
 
 mod laws;
