@@ -42,14 +42,6 @@ one_finding done next own receipt Forked Older a b = absurd (omega (arith, b.1, 
 one_finding done next own receipt Delivered Forked a b = absurd (b.2 a.2)
 one_finding done next own receipt Forked Delivered a b = absurd (a.2 b.2)
 
-pub one_digest : GoesOn → OneDigestIsEnough
-one_digest goes_on start done number frames begun later =
-    let first_ones : take (done - start) (below start frames number) ≡ below start frames done =
-    take-take (done - start) (number - start) frames (omega (arith, begun, later)) in
-    ap (λ l. with_frames (history_of l) (drop (done - start) (below start frames number))) (sym first_ones)
-    ∙ (sym (goes_on no_history (take (done - start) (below start frames number)) (drop (done - start) (below start frames number)))
-    ∙ ap (λ l. history_of l) (take-append-drop (done - start) (below start frames number)))
-
 pub stay_true : ReceiptsStayTrue
 stay_true start took more receipt is = record {
   took_effect = omega (arith, is.took_effect, length-append took more);
@@ -165,6 +157,16 @@ one_session sealer events world leads = (
     fits k r at =
         let its = image (λ (s : Sealed). s.carried) world.took k r at in
         subst FitsLimits (sym its.is) (sound.took k its.source its.at).fits
+
+-- ---- what a sender keeps
+
+pub one_digest : GoesOn → OneDigestIsEnough
+one_digest goes_on start done number frames begun later =
+    let first_ones : take (done - start) (below start frames number) ≡ below start frames done =
+    take-take (done - start) (number - start) frames (omega (arith, begun, later)) in
+    ap (λ l. with_frames (history_of l) (drop (done - start) (below start frames number))) (sym first_ones)
+    ∙ (sym (goes_on no_history (take (done - start) (below start frames number)) (drop (done - start) (below start frames number)))
+    ∙ ap (λ l. history_of l) (take-append-drop (done - start) (below start frames number)))
 
 -- ---- without receipts
 
