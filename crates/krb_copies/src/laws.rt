@@ -21,11 +21,11 @@ use krb_history::histories_laws;
 ///
 /// Then of all that any copy takes for delivered its own frames took effect: those of each number have
 /// one tag (`delivered`), and so one text (`texts`). A receipt for frames that a copy hasn't sealed, or
-/// has sealed otherwise, stops it (`stopped`), and from the number of another's frame on it never takes
-/// anything for delivered (`forked`). This holds unless two texts with one SHA-1 are found, or two frames
-/// of one number that differ and have one tag. It says something: a text is taken for delivered, and a
-/// copy and a restored outbox are stopped, whatever two texts they seal (`happen`), and there are two
-/// frames of which this holds, under any key (`example`).
+/// has sealed otherwise, stops it (`stopped`). Where another copy's frame took effect under a number, a
+/// copy takes nothing from that number on for delivered (`forked`). This holds unless two texts with one
+/// SHA-1 are found, or two frames of one number that differ and have one tag. It says something: a text
+/// is taken for delivered, and a copy and a restored outbox are stopped, whatever two texts they seal
+/// (`happen`), and there are two frames of which this holds, under any key (`example`).
 ///
 /// Each copy is an outbox of which [`outbox_laws`](krb_carry::outbox_laws) speak (`outboxes`). What takes
 /// effect is sealed of the records of one session, so what [`store_laws`](krb_carry::store_laws) claim of

@@ -6,12 +6,12 @@ ghost use Rattle.krb_copies.specs.Receipt.{Finds};
 
 use krb_history::{HISTORY_SIZE, with_frame};
 
-/// What a receiver says of a session: all frames below a number took effect.
+/// What a receiver says of a session.
 #[derive(Clone, Copy, Debug, PartialEq, Eq)]
 pub struct Receipt {
-    /// The number.
+    /// All frames below this number took effect.
     pub number: u64,
-    /// The digest of these frames.
+    /// Their digest, from the session's first frame on.
     pub history: [u8; HISTORY_SIZE],
 }
 
@@ -28,7 +28,7 @@ pub enum Finding {
     Forked,
 }
 
-/// The digest of a sender's own frames, from that of those before and these.
+/// Adds a sender's own frames, in their order, to the digest of its frames before them.
 pub fn own_history(before: &[u8; HISTORY_SIZE], frames: &[&[u8]]) -> [u8; HISTORY_SIZE]
     ensures { result ≡ with_frames before.now (map (λ frame. frame.now) frames.now) }
 {
@@ -39,9 +39,9 @@ pub fn own_history(before: &[u8; HISTORY_SIZE], frames: &[&[u8]]) -> [u8; HISTOR
     history
 }
 
-/// Compares a receipt with the digest of the sender's own frames below the receipt's number, of which
-/// it took those below `done` for delivered; `next` is the number that it seals next. Where the receipt
-/// has a number above `next`, or not above `done`, `own` isn't looked at.
+/// Compares a receipt with a sender's own frames: `own` is the digest of those below the receipt's
+/// number. The sender took all texts below `done` for delivered, and seals `next` next. If the receipt's
+/// number is above `next`, or isn't above `done`, `own` isn't read.
 pub fn compare_receipt(done: u64, next: u64, own: &[u8; HISTORY_SIZE], receipt: &Receipt) -> Finding
     ensures { Finds done next own.now receipt.now result }
 {
