@@ -1,8 +1,9 @@
-//! Peers and receivers, and the laws of their calls.
+//! Peers, receivers and receipts, and the laws of their calls.
 
 ghost use Rattle.std.specs.Prelude.{IfOk};
 ghost use Rattle.krb_seal.specs.Session.{IsShortAddress};
 
+use krb_copies::{Finding, Receipt, compare_receipt, copies_laws, own_history};
 use krb_der::{Bytes, HostAddress, Moment};
 use krb_peer_laws::{
     calls_in_c_laws, demand_fields_laws, open_peer, peer_laws, reflection_laws, resume_peer,
@@ -32,6 +33,21 @@ const SAFE_17: [u8; 96] = [
     0x06, 0x04, 0x04, 0x0a, 0x00, 0x00, 0x01, 0xa3, 0x17, 0x30, 0x15, 0xa0, 0x03, 0x02, 0x01, 0x0f,
     0xa1, 0x0e, 0x04, 0x0c, 0xb0, 0xc4, 0x46, 0x36, 0x32, 0x64, 0xcc, 0xe7, 0x02, 0x29, 0x52, 0x91,
 ];
+
+/// SHA-1 of 20 zeros and the last 12 bytes of that frame.
+const HISTORY_OF_ONE: [u8; 20] = [
+    0xd6, 0x24, 0x0c, 0xe1, 0xbf, 0x87, 0xf7, 0x25, 0x39, 0x29, 0xa8, 0xcb, 0x1c, 0xf4, 0xf1, 0xfa,
+    0xb6, 0x5a, 0xf9, 0xdb,
+];
+
+/// SHA-1 of these 20 bytes and the last 12 of `SHORT`.
+const HISTORY_OF_TWO: [u8; 20] = [
+    0xaf, 0x02, 0xe5, 0x01, 0x12, 0x4c, 0x17, 0x79, 0x10, 0x57, 0x2c, 0x23, 0x22, 0xcf, 0xb4, 0xff,
+    0x76, 0xa0, 0xfe, 0x5a,
+];
+
+/// Bytes in place of another sender's frame.
+const SHORT: [u8; 17] = *b"of another sender";
 
 const AT: KrbMoment = KrbMoment {
     seconds: 1_700_000_000,
@@ -234,5 +250,24 @@ fn all_frames_are_taken(rt: HostRuntime) -> Result<(), Fail> {
     let frames = vec![in alloc; junk, frame]?;
     take_each(&mut one, alloc, frames.as_slice(), at);
     assert_eq!(rt; (one.expected(), one.closed()), (8, false));
+    Ok(())
+}
+
+#[test]
+fn a_copy_of_an_outbox_is_stopped(rt: HostRuntime) -> Result<(), Fail> {
+    copies_laws();
+    let frames: [&[u8]; 2] = [&SAFE_17, &SHORT];
+    assert_eq!(rt; own_history(&[0; 20], &frames), HISTORY_OF_TWO);
+    assert_eq!(rt; own_history(&HISTORY_OF_ONE, &frames[1..]), HISTORY_OF_TWO);
+    let receipt = Receipt {
+        number: 9,
+        history: HISTORY_OF_TWO,
+    };
+    let both = compare_receipt(7, 9, &HISTORY_OF_TWO, &receipt);
+    let again = compare_receipt(9, 9, &HISTORY_OF_TWO, &receipt);
+    let restored = compare_receipt(7, 8, &HISTORY_OF_ONE, &receipt);
+    let copied = compare_receipt(7, 9, &HISTORY_OF_ONE, &receipt);
+    assert_eq!(rt; (both, again), (Finding::Delivered, Finding::Repeat));
+    assert_eq!(rt; (restored, copied), (Finding::Older, Finding::Forked));
     Ok(())
 }

@@ -1,0 +1,9 @@
+use Rattle.std.proofs.Common.{◌≡◌, map, drop}
+use Rattle.krb_history.specs.History.{with_frames}
+use Rattle.krb_copies.proofs.receipt.own_history.Given as goal
+
+-- the rest makes of what was made what all make
+abbrev pub invariant-loop-frame : goal.invariant-loop-frame
+invariant-loop-frame l =
+    with_frames l.history (drop l.frame-index (map (λ frame. frame.now) l.frames))
+    ≡ with_frames l.fn.before (map (λ frame. frame.now) l.fn.frames)

@@ -1,0 +1,3 @@
+pub mod Receipt
+pub mod Copies
+pub mod Laws
