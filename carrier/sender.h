@@ -178,8 +178,10 @@ void publish_all(struct sender *s);
 /* Counts the frames that are carried now, and answers how many. */
 size_t publish_count_carried(struct sender *s, int milliseconds);
 
-/* How many frames wait that may be carried; how many sessions are held (seal.h). */
+/* How many frames wait that may be carried; how many are carried and wait for a receipt; how many sessions
+ * are held (seal.h). */
 size_t publish_backlog(const struct sender *s);
+uint64_t publish_count_unreceipted(const struct sender *s);
 size_t publish_count_held(const struct sender *s);
 
 /* The session's publishing ends; begins again after what is done; what is done counts as carried. */

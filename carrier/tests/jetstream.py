@@ -29,8 +29,8 @@ HELLO = b'CONNECT {"verbose":false,"headers":true,"no_responders":true}\r\n'
 class Connection:
     """One connection to a node."""
 
-    def __init__(self, port, host="127.0.0.1"):
-        self.socket = socket.create_connection((host, port), PATIENCE)
+    def __init__(self, port, host="127.0.0.1", patience=PATIENCE):
+        self.socket = socket.create_connection((host, port), patience)
         self.file = self.socket.makefile("rwb")
         self.file.readline()
         self.file.write(HELLO)
@@ -95,10 +95,10 @@ def stream(port, shard):
     return request(port, f"STREAM.INFO.KRB_{shard}")
 
 
-def frames(port, shard, host="127.0.0.1"):
+def frames(port, shard, host="127.0.0.1", patience=PATIENCE):
     """Each message that the stream of a shard has, asked for by its offset: the offset, the session
     and the frame. A fault if one can't be asked for."""
-    connection, found = Connection(port, host), []
+    connection, found = Connection(port, host, patience), []
     try:
         connection.subscribe(INBOX)
         state = member(connection.ask(f"$JS.API.STREAM.INFO.KRB_{shard}"), "state")
@@ -143,8 +143,8 @@ def takes(port, shard, host="127.0.0.1"):
 
 
 def repeat(port, shard, times, host="127.0.0.1"):
-    """Publishes each frame of a shard so many times more."""
-    found, connection = frames(port, shard, host), Connection(port, host)
+    """Publishes each frame of a shard so many times more, however slow that makes the node."""
+    found, connection = frames(port, shard, host, LOOKING), Connection(port, host, LOOKING)
     try:
         for _, name, frame in found * times:
             connection.file.write(b"PUB krb.%d.%s %d\r\n%s\r\n"
