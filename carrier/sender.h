@@ -82,8 +82,8 @@ struct sender {
     uint32_t has_receipts;      /* a session has them, */
     uint64_t heard;             /* and it was looked for some at this moment */
     uint64_t storing, carrying; /* nanoseconds */
-    uint64_t rose;              /* when a frame was carried last, or there was none to be carried */
-    uint64_t told;              /* when it was reported that none is, or `rose` */
+    uint64_t rose;              /* when a frame was carried last, or the carrier was there and none waited, */
+    uint64_t told;              /* and when it was reported that none is, or there was no reason to */
     uint64_t ask_moment;        /* no last receipt is asked for before this moment */
     uint64_t left_moment;       /* keys that couldn't be read are tried again then; 0: all could be, */
     unsigned left_tries;        /* and so often they were tried in vain */

@@ -25,7 +25,8 @@ static const struct metric metrics[] = {
     { NAME "frames_without_receipt", "gauge", "Frames that are carried and wait for a receipt", NULL },
     { NAME "held_sessions", "gauge", "Sessions that wait for a ticket, or for the one before", NULL },
     { NAME "stopped_sessions", "gauge", "Sessions that are stopped", NULL },
-    { NAME "silent_seconds", "gauge", "Since a frame was carried, if any waits", NULL },
+    { NAME "silent_seconds", "gauge", "Since a frame was carried, if any waits or the carrier is away",
+      NULL },
     { NAME "waiting_frames", "gauge", "Frames of a shard that aren't carried", NULL },
 };
 

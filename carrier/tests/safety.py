@@ -25,18 +25,18 @@ def new_texts(name, count):
     return [(name, f"new {it}".encode()) for it in range(count)]
 
 
-def backup(place, name="backup"):
-    """A copy of the outbox as it is now."""
-    source, copy = sqlite3.connect(place.outbox), sqlite3.connect(f"{place.folder}/{name}.db")
+def backup(place, name="backup", of="outbox"):
+    """A copy of the outbox as it is now, or of another file."""
+    source, copy = (sqlite3.connect(f"{place.folder}/{it}.db") for it in (of, name))
     source.backup(copy)
     source.close()
     copy.close()
 
 
-def restore(place, name="backup"):
-    for path in glob.glob(f"{place.outbox}*"):
+def restore(place, name="backup", of="outbox"):
+    for path in glob.glob(f"{place.folder}/{of}.db*"):
         os.unlink(path)
-    shutil.copy(f"{place.folder}/{name}.db", place.outbox)
+    shutil.copy(f"{place.folder}/{name}.db", f"{place.folder}/{of}.db")
 
 
 def change(place, name, sql, rows=((),)):
@@ -181,6 +181,80 @@ def restored_beside_frames(place):
     """The same, and all frames are there: the last of them is an old one."""
     deliver_after_a_backup(place)
     require_unlost(place, drain(place), "older than what has left")
+
+
+def restored_and_all_purged(place):
+    """The last receipt is lost too: the next one stops the session. Its texts stay in `sealed`, whether they
+    took effect or not."""
+    deliver_after_a_backup(place)
+    for stream in ("KRB_0", "KRB_RECEIPTS"):
+        jetstream.request(place.nats.ports[0], f"STREAM.PURGE.{stream}")
+    receiver, sender = place.start("receiver"), place.start("sender", "--patience", "1")
+    place.require(place.wait(lambda: place.count("outbox", "stopped") > 0, 15), "it isn't stopped")
+    require_stopped(place, "ann", "not all frames below number")
+    for it in (sender, receiver):
+        place.end(it)
+    kept = place.count("outbox", "text") + place.count("outbox", "sealed")
+    place.require(kept == 100, f"of 100 texts it keeps {kept}")
+
+
+# ---- all of it is restored, from copies that were made in their order
+
+IN_ORDER = ("store", "outbox", "carrier")
+
+
+def restore_all(place):
+    for it in IN_ORDER:
+        restore(place, f"{it}.copy", it)
+
+
+def copied_in_order(place):
+    """Copies of the store, the outbox and the carrier while no sender runs: once all is restored, all goes on."""
+    place.put(texts("ann", 0, 10))
+    drain(place)
+    place.put(texts("ann", 10, 20))
+    for it in IN_ORDER:
+        backup(place, f"{it}.copy", it)
+    drain(place)
+    restore_all(place)
+    place.start("sender")
+    place.start("receiver")
+    place.await_delivered({"ann": 20})
+    place.put(texts("ann", 20, 30))
+    place.await_delivered()
+    place.require(place.count("outbox", "stopped") == 0, "the session is stopped")
+
+
+def copied_amid_texts(place):
+    """Frames leave between the copies of the outbox and of the carrier: all that left takes effect, and the
+    session is stopped."""
+    place.put(texts("ann", 0, 10))
+    drain(place)
+    for it in IN_ORDER[:2]:
+        backup(place, f"{it}.copy", it)
+    place.put(texts("ann", 10, 20))
+    drain(place)
+    backup(place, "carrier.copy", "carrier")
+    place.put(texts("ann", 20, 30))
+    drain(place)
+    restore_all(place)
+    place.put(new_texts("ann", 100))
+    require_unlost(place, drain(place), "older than what has left")
+
+
+def copied_amid_texts_receipted(place):
+    """The same with receipts, which say it."""
+    place.put(texts("ann", 0, 10))
+    drain(place)
+    await_no_frames(place)
+    for it in IN_ORDER[:2]:
+        backup(place, f"{it}.copy", it)
+    place.put(texts("ann", 10, 20))
+    drain(place)
+    backup(place, "carrier.copy", "carrier")
+    restore_all(place)
+    place.put(new_texts("ann", 100))
+    require_unlost(place, drain(place), "all below 21 took effect")
 
 
 # ---- an outbox that is copied
@@ -474,9 +548,11 @@ def health_of_both(place):
     place.start("receiver", metrics=f"127.0.0.1:{ports[1]}")
     place.require(place.wait(lambda: place.is_delivered({"ann": 1}), 8), "nothing is delivered")
     place.nats.kill(0)
-    place.put(texts("ann", 1, 2))
     place.require(place.wait(lambda: health(ports) == [503, 503], 20),
-                  "it isn't told that the broker is away")
+                  "it isn't told that the broker is away, where nothing waits")
+    place.put(texts("ann", 1, 2))
+    time.sleep(2)
+    place.require(health(ports) == [503, 503], "it isn't told that the broker is away, where a text waits")
     silent = shown(ports[0], "silent_seconds")
     place.require(silent and silent > 10, f"silent_seconds is {silent}")
     place.nats.start(0)
@@ -534,6 +610,12 @@ CASES = (
     Case(restored_without_receipts, "it is restored, its stream was purged; no receipts", {"ann": 30}, 30,
          (ANN,), nats=""),
     Case(restored_beside_frames, "it is restored over JetStream", {"ann": 30}, 30, (ANN,), nats=""),
+    Case(restored_and_all_purged, "it is restored, and no frame and no receipt is left", {}, 40,
+         (WITH_RECEIPTS,), nats=""),
+    Case(copied_in_order, "store, outbox and carrier are restored, of one moment", {"ann": 30}, 30,
+         (WITH_RECEIPTS,)),
+    Case(copied_amid_texts, "they are restored; frames left between the copies", {"ann": 20}, 20, (ANN,)),
+    Case(copied_amid_texts_receipted, "the same with receipts", {"ann": 20}, 20, (WITH_RECEIPTS,)),
     Case(copied_with_receipts, "a copy of an outbox seals the same numbers; receipts", {"ann": 15}, 25,
          (WITH_RECEIPTS,)),
     Case(copied_without_receipts, "a copy of an outbox seals the same numbers; no receipts", {"ann": 15},

@@ -122,7 +122,7 @@ def deleted_and_receiver_away(world):
 def frames_repeated(world):
     time.sleep(3)
     for shard in range(world.options.shards):
-        note(world, world.ask_node("n0", "repeat", shard, REPEATS) is not None, f"{shard} isn't repeated")
+        note(world, ask_any(world, "repeat", shard, REPEATS) is not None, f"{shard} isn't repeated")
 
 
 def purge_kill_clock(world):
