@@ -26,6 +26,7 @@ import engines
 import errors
 import evidence
 import jetstream
+import repro
 
 NODES = ("n0", "n1", "n2")
 SENDERS = ("s0", "s1")
@@ -43,7 +44,6 @@ LOOK = 0.3                          # seconds between looks at the effects
 IMAGE = 400                         # megabytes
 AGAIN = 3                           # seconds after which what has no receipt is published again
 METRICS = 9464                      # the port at which a program shows its numbers
-STATUS = os.path.join(os.path.dirname(os.path.abspath(__file__)), "../status")
 # Prints what the program at a port of the loopback answers: the status and the text.
 ASK = """
 import http.client, sys
@@ -608,7 +608,7 @@ class World:
     def status(self):
         """Each session that stands or is stopped, with what carrier/status says of it."""
         outboxes = (word for it in SENDERS for word in ("--outbox", self.outbox(it)))
-        done = subprocess.run(self.network.command(DATABASE, STATUS, *outboxes, "--store", self.store,
+        done = subprocess.run(self.network.command(DATABASE, repro.STATUS, *outboxes, "--store", self.store,
                                                    "--standing"), check=False, stdout=subprocess.PIPE,
                               text=True, timeout=PATIENCE)
         return {line.split()[0]: line for line in done.stdout.splitlines()

@@ -209,7 +209,8 @@ def restore_all(place):
 
 
 def copied_in_order(place):
-    """Copies of the store, the outbox and the carrier while no sender runs: once all is restored, all goes on."""
+    """Copies of the store, the outbox and the carrier while no sender runs: once all is restored, all
+    goes on."""
     place.put(texts("ann", 0, 10))
     drain(place)
     place.put(texts("ann", 10, 20))
@@ -276,7 +277,7 @@ def copied_and_cut_off(place):
 
 def copied_and_both_run(place):
     """Senders of two copies run side by side, and both get texts: those of one take effect, and those of the
-    other wait, which is told."""
+    other wait, with the reason."""
     place.put(texts("ann", 0, 10))
     receiver = place.start("receiver")
     await_no_frames(place)
@@ -351,10 +352,10 @@ def no_memory_at_a_refusal(place):
     place.await_delivered()
 
 
-# ---- what is told
+# ---- what the outbox, the numbers and carrier/status say
 
 def line_gone(place):
-    """Frames whose line was taken out wait, and that is told."""
+    """Frames whose line was taken out wait, with the reason."""
     place.put(texts("ann", 0, 3))
     seal_only(place, 3)
     place.replace(place.sessions, [repro.TOM])
@@ -461,7 +462,7 @@ def receipts_node_away(place):
     place.put(texts("w0", 1, 2))
     running = place.start("sender", **wanted), place.start("receiver", **wanted)
     told = place.wait(lambda: all("receipts_unfit" in place.log(it) for it in running), 20)
-    place.require(told, "it isn't told that the stream of receipts has one replica")
+    place.require(told, "neither says that the stream of receipts has one replica")
     place.end(running[1])
     place.nats.kill(int(leader.removeprefix("n")))
     place.put([row for it in range(1, MANY) for row in texts(f"w{it}", 0, 1)])
@@ -549,16 +550,16 @@ def health_of_both(place):
     place.require(place.wait(lambda: place.is_delivered({"ann": 1}), 8), "nothing is delivered")
     place.nats.kill(0)
     place.require(place.wait(lambda: health(ports) == [503, 503], 20),
-                  "it isn't told that the broker is away, where nothing waits")
+                  "/healthz doesn't say that the broker is away, where nothing waits")
     place.put(texts("ann", 1, 2))
     time.sleep(2)
-    place.require(health(ports) == [503, 503], "it isn't told that the broker is away, where a text waits")
+    place.require(health(ports) == [503, 503], "/healthz doesn't say that it is away, where a text waits")
     silent = shown(ports[0], "silent_seconds")
     place.require(silent and silent > 10, f"silent_seconds is {silent}")
     place.nats.start(0)
     place.await_delivered()
     place.require(place.wait(lambda: health(ports) == [200, 200], 5),
-                  "it isn't told that the broker is there")
+                  "/healthz doesn't say that it is there")
 
 
 def credentials_refused(place):
@@ -597,8 +598,8 @@ CASES = (
          (ANN,)),
     Case(restored_and_repeated, "it is restored, and the last frame is an old one", {"ann": 30}, 20,
          (ANN,)),
-    Case(restored_unread_junk, "it is restored, no receipt has come, and the last frame is junk", {"ann": 3}, 20,
-         (WITH_RECEIPTS,)),
+    Case(restored_unread_junk, "it is restored, no receipt has come, and the last frame is junk",
+         {"ann": 3}, 20, (WITH_RECEIPTS,)),
     Case(restored_unread_repeat, "it is restored, no receipt has come, and the last frame is an old one",
          {"ann": 3}, 20, (WITH_RECEIPTS,)),
     Case(restored_with_its_frames, "it is restored with frames, which leave again", {"ann": 30}, 25,

@@ -502,8 +502,8 @@ CASES = (
     Case(sender_year_back, "a sender's clock is back by a year for 5 s; then --skew is two years", 75,
          made=R | {"seconds": 18}),
     Case(receiver_year_on, "both receivers' clocks are on by a year for 8 s", 75, 25),
-    Case(everything_at_once, "a leader is cut from its peers, the store stopped for 12 s, receivers and a sender"
-         " killed", 75, 30, made=R | {"seconds": 20}),
+    Case(everything_at_once, "a leader is cut from its peers, the store stopped for 12 s, receivers and a"
+         " sender killed", 75, 30, made=R | {"seconds": 20}),
     Case(loss_and_store_killed, "a fifth of all packets is lost, and the store is killed three times", 75, 25,
          made=R | {"seconds": 18}),
     Case(rolling_upgrade, "each program is ended by SIGTERM and started again", 75,
