@@ -451,7 +451,7 @@ def receipts_node_away(place):
     """The stream of receipts has as many replicas as its receiver said, which is one: a sender and a receiver
     that want three tell so. Its node is away, and 40 sessions wait for receipts: another session goes on."""
     start_three_nodes(place)
-    wanted = {"replicas": "3"}
+    wanted, waiting = {"replicas": "3"}, [f"w{it}" for it in range(MANY)]
     place.put(texts("w0", 0, 1) + texts("ann", 0, 1), given=wanted)
     receiver = place.start("receiver")
     place.run("sender", "--drain", seconds=20, **wanted)
@@ -459,13 +459,15 @@ def receipts_node_away(place):
     time.sleep(1)
     place.end(receiver)
     leader = jetstream.request(place.nats.ports[0], "STREAM.INFO.KRB_RECEIPTS")["cluster"]["leader"]
-    place.put(texts("w0", 1, 2))
+    place.put(texts("w0", 1, 2) + [row for name in waiting[1:] for row in texts(name, 0, 2)])
     running = place.start("sender", **wanted), place.start("receiver", **wanted)
     told = place.wait(lambda: all("receipts_unfit" in place.log(it) for it in running), 20)
-    place.require(told, "neither says that the stream of receipts has one replica")
+    place.require(told, "not both say that the stream of receipts has one replica")
+    place.require(place.wait(lambda: place.is_delivered(dict.fromkeys(waiting, 2))
+                             and place.count("outbox", "frame") == 0, 20), "no receipts came")
     place.end(running[1])
     place.nats.kill(int(leader.removeprefix("n")))
-    place.put([row for it in range(1, MANY) for row in texts(f"w{it}", 0, 1)])
+    place.put([row for name in waiting for row in texts(name, 2, 3)])
     time.sleep(3)
     place.start("receiver", sessions=place.other([ANN]))
     for it in range(1, 21):
