@@ -120,6 +120,11 @@ int carrier_last_receipt(struct carrier *carrier, unsigned shard, const char *se
     return carrier->last_receipt(carrier, shard, session, take, given);
 }
 
+int carrier_is_away(struct carrier *carrier)
+{
+    return carrier->is_away != NULL && carrier->is_away(carrier);
+}
+
 int carrier_is_closed(struct carrier *carrier)
 {
     return carrier->is_closed != NULL && carrier->is_closed(carrier);

@@ -137,6 +137,9 @@ int carrier_receipts(struct carrier *carrier, carrier_receipt *take, void *given
 int carrier_last_receipt(struct carrier *carrier, unsigned shard, const char *session,
                          carrier_receipt *take, void *given);
 
+/* Whether there is no connection now: another one is tried all the time. */
+int carrier_is_away(struct carrier *carrier);
+
 /* Whether the connection has ended for good, as where a server refused the credentials twice: that is
  * reported, and the program ends, so that it is started again and reads them anew. */
 int carrier_is_closed(struct carrier *carrier);
@@ -158,7 +161,7 @@ struct carrier {
     int (*acknowledge)(struct carrier *, unsigned, const struct carried *, size_t);
     int (*receipts)(struct carrier *, carrier_receipt *, void *);
     int (*last_receipt)(struct carrier *, unsigned, const char *, carrier_receipt *, void *);
-    int (*is_closed)(struct carrier *); /* NULL: it never is */
+    int (*is_away)(struct carrier *), (*is_closed)(struct carrier *); /* NULL: it never is */
     void (*close)(struct carrier *);
 };
 

@@ -12,8 +12,11 @@ const char effect_tables_postgresql[] =
     "CREATE TABLE IF NOT EXISTS effect (id bigserial PRIMARY KEY,"
     " session text NOT NULL, number bigint NOT NULL, part int NOT NULL, text bytea NOT NULL,"
     " client text NOT NULL DEFAULT '', stream text NOT NULL DEFAULT '');"
-    "ALTER TABLE effect ADD COLUMN IF NOT EXISTS client text NOT NULL DEFAULT '',"
-    " ADD COLUMN IF NOT EXISTS stream text NOT NULL DEFAULT '';";
+    "DO $$ BEGIN IF NOT EXISTS (SELECT FROM pg_attribute WHERE attrelid = 'effect'::regclass"
+    " AND attname = 'stream') THEN"
+    " ALTER TABLE effect ADD COLUMN IF NOT EXISTS client text NOT NULL DEFAULT '',"
+    " ADD COLUMN stream text NOT NULL DEFAULT '';"
+    " END IF; END $$;";
 
 const char *const effect_columns[][2] = {
     { "effect", "client TEXT NOT NULL DEFAULT ''" },

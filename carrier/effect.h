@@ -20,7 +20,8 @@ struct arrived {
  * again. */
 int take_effect(struct store *store, const struct arrived *it);
 
-/* Its tables, unless they exist. */
+/* Its tables, unless they exist. Those of PostgreSQL aren't altered where all is there, since that would lock
+ * them against the transactions of other receivers. */
 extern const char effect_tables_sqlite[], effect_tables_postgresql[];
 
 /* Columns that tables of SQLite of an older version don't have (database.h). */

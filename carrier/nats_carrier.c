@@ -107,6 +107,11 @@ static int incarnation(struct carrier *base, unsigned shard, uint64_t *incarnati
     return status == NATS_ERR ? CARRIER_FAULT : nats_report("a stream", status);
 }
 
+static int is_away(struct carrier *base)
+{
+    return natsConnection_Status(((struct nats_carrier *)base)->connection) != NATS_CONN_STATUS_CONNECTED;
+}
+
 static int is_closed(struct carrier *base)
 {
     struct nats_carrier *c = (struct nats_carrier *)base;
@@ -271,6 +276,7 @@ struct carrier *nats_carrier_open(const struct carrier_options *options)
     c->base.acknowledge = nats_acknowledge;
     c->base.receipts = nats_receipts;
     c->base.last_receipt = nats_last_receipt;
+    c->base.is_away = is_away;
     c->base.is_closed = is_closed;
     c->base.close = close_it;
     c->replicas = options->replicas;

@@ -49,7 +49,8 @@ struct nats_carrier {
     int is_silent;                      /* 1: the consumer's heartbeats are missed */
     natsSubscription *receipts;         /* all that are published, from the first look on */
     uint64_t receipts_moment;           /* their stream isn't asked for before this moment */
-    int has_told_replicas;              /* that it has too few of them */
+    int has_seen_receipts;              /* a sender has asked what it is, */
+    int has_told_replicas;              /* and told that it has too few replicas */
 };
 
 /* Logs a fault of a call; CARRIER_FAULT. */

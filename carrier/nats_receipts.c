@@ -42,26 +42,40 @@ static void check_replicas(struct nats_carrier *c, const jsStreamInfo *info)
              field_text("text", "it has fewer replicas than --replicas asks for: change the stream"));
 }
 
-/* Makes the stream, unless it is there, and looks for it again after a while: what is published
- * meanwhile is heard all the same. */
-static void make_stream(struct nats_carrier *c)
+/* Asks what the stream is, and not again for a while. */
+static natsStatus ask_stream(struct nats_carrier *c)
 {
     jsStreamInfo *info = NULL;
     jsOptions options;
     jsErrCode code = 0;
-    natsStatus status;
-    if (nanoseconds() < c->receipts_moment)
-        return;
-    status = nats_begin_to_ask(c, &options);
+    natsStatus status = nats_begin_to_ask(c, &options);
     if (status == NATS_OK)
         status = js_GetStreamInfo(&info, c->js, STREAM, &options, &code);
     nats_note_asked(c, status);
     if (status == NATS_OK)
         check_replicas(c, info);
     jsStreamInfo_Destroy(info);
+    c->receipts_moment = nanoseconds() + 10 * SECOND;
+    return status;
+}
+
+/* What a sender hears of a stream that has too few replicas may be lost with a node: it is told once. */
+static void look_at_stream(struct nats_carrier *c)
+{
+    if (!c->has_seen_receipts && nanoseconds() >= c->receipts_moment)
+        c->has_seen_receipts = ask_stream(c) == NATS_OK;
+}
+
+/* Makes the stream, unless it is there, and looks for it again after a while: what is published
+ * meanwhile is heard all the same. */
+static void make_stream(struct nats_carrier *c)
+{
+    natsStatus status;
+    if (nanoseconds() < c->receipts_moment)
+        return;
+    status = ask_stream(c);
     if (status == NATS_NOT_FOUND)
         status = add_stream(c);
-    c->receipts_moment = nanoseconds() + 10 * SECOND;
     if (status != NATS_OK)
         (void)nats_report("the stream of receipts", status); /* CARRIER_FAULT, as for each fault */
 }
@@ -130,7 +144,9 @@ int nats_last_receipt(struct carrier *base, unsigned shard, const char *session,
     if (status == NATS_OK)
         give(message, take, given);
     natsMsg_Destroy(message);
-    if (status == NATS_OK || status == NATS_NOT_FOUND || code == JSStreamNotFoundErr)
+    if (status == NATS_OK || status == NATS_NOT_FOUND || code == JSStreamNotFoundErr) {
+        look_at_stream(c);
         return 0;
+    }
     return nats_report("the last receipt of a session", status);
 }

@@ -453,7 +453,8 @@ static void close_it(struct store *base)
 }
 
 /* In one transaction under a lock, so that two processes may make the tables at once: IF NOT EXISTS
- * alone fails then. */
+ * alone fails then. Where all is there nothing is changed: ALTER TABLE and CREATE INDEX lock a table also if
+ * there is nothing to do, and transactions of receivers that run would end by a deadlock. */
 static const char tables[] =
     "SET client_min_messages = warning; BEGIN; SELECT pg_advisory_xact_lock(20);"
     "CREATE TABLE IF NOT EXISTS shard (shard bigint PRIMARY KEY, at bigint NOT NULL,"
@@ -466,14 +467,21 @@ static const char tables[] =
     " ALTER TABLE shard ADD COLUMN incarnation bigint NOT NULL DEFAULT 0;"
     " ALTER TABLE session ADD COLUMN missed int NOT NULL DEFAULT 0,"
     " ADD COLUMN at bigint NOT NULL DEFAULT 0, ADD COLUMN shard int NOT NULL DEFAULT -1;"
-    " END IF; END $$; CREATE INDEX IF NOT EXISTS standing ON session (shard) WHERE missed <> 0;"
+    " END IF; IF NOT EXISTS (SELECT FROM pg_attribute WHERE attrelid = 'session'::regclass"
+    " AND attname = 'history') THEN"
+    " ALTER TABLE session ADD COLUMN IF NOT EXISTS since bigint NOT NULL DEFAULT 0,"
+    " ADD COLUMN IF NOT EXISTS history text NOT NULL DEFAULT '';"
+    " END IF; IF to_regclass('standing') IS NULL THEN"
+    " CREATE INDEX standing ON session (shard) WHERE missed <> 0;"
+    " END IF; END $$;"
     "CREATE TABLE IF NOT EXISTS passed (shard int NOT NULL, session text NOT NULL,"
-    " at bigint NOT NULL, PRIMARY KEY (shard, session));"
-    "ALTER TABLE session ADD COLUMN IF NOT EXISTS since bigint NOT NULL DEFAULT 0;"
-    "ALTER TABLE session ADD COLUMN IF NOT EXISTS history text NOT NULL DEFAULT '';";
+    " at bigint NOT NULL, PRIMARY KEY (shard, session));";
 
 static const char opened_columns[] =
-    "ALTER TABLE opened ADD COLUMN IF NOT EXISTS history text NOT NULL DEFAULT '';";
+    "DO $$ BEGIN IF NOT EXISTS (SELECT FROM pg_attribute WHERE attrelid = 'opened'::regclass"
+    " AND attname = 'history') THEN"
+    " ALTER TABLE opened ADD COLUMN history text NOT NULL DEFAULT '';"
+    " END IF; END $$;";
 
 /* A role that may not make tables may use those that are there. */
 static int make_tables(struct postgresql_store *s)

@@ -259,6 +259,18 @@ size_t publish_backlog(const struct sender *s)
     return frames;
 }
 
+uint64_t publish_count_unreceipted(const struct sender *s)
+{
+    size_t i;
+    uint64_t frames = 0;
+    for (i = 0; i < s->active.count; i++) {
+        const struct sending *it = s->active.at[i];
+        if (waits(it))
+            frames += it->progress.carried - it->done;
+    }
+    return frames;
+}
+
 size_t publish_count_held(const struct sender *s)
 {
     size_t i, count = 0;

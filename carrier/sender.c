@@ -217,18 +217,22 @@ static enum outbox_answer store(struct sender *s, int with_texts, struct looked 
 
 /* ---- The loop */
 
-/* Reports, each ten seconds, that nothing is carried though frames wait. */
+/* Reports, each ten seconds, that nothing is carried though frames wait. That the connection is away is
+ * shown where none waits, too. */
 static void report_silence(struct sender *s, size_t rose)
 {
     size_t backlog = publish_backlog(s);
+    uint64_t now = nanoseconds();
+    if (rose > 0 || (backlog == 0 && !carrier_is_away(s->carrier)))
+        s->rose = now;
     if (rose > 0 || backlog == 0)
-        s->rose = s->told = nanoseconds();
-    if (nanoseconds() - s->told < SILENCE)
+        s->told = now;
+    if (now - s->told < SILENCE)
         return;
     log_fact(LEVEL_WARNING, "nothing_confirmed", field_number("frames", backlog),
              field_number("seconds", SILENCE / SECOND),
              field_text("text", "are most nodes of the carrier up? They are published again"));
-    s->told = nanoseconds();
+    s->told = now;
 }
 
 /* Begins anew if the file of sessions has changed: those that were stopped are tried again. */

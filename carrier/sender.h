@@ -82,8 +82,8 @@ struct sender {
     uint32_t has_receipts;      /* a session has them, */
     uint64_t heard;             /* and it was looked for some at this moment */
     uint64_t storing, carrying; /* nanoseconds */
-    uint64_t rose;              /* when a frame was carried last, or there was none to be carried */
-    uint64_t told;              /* when it was reported that none is, or `rose` */
+    uint64_t rose;              /* when a frame was carried last, or the carrier was there and none waited, */
+    uint64_t told;              /* and when it was reported that none is, or there was no reason to */
     uint64_t ask_moment;        /* no last receipt is asked for before this moment */
     uint64_t left_moment;       /* keys that couldn't be read are tried again then; 0: all could be, */
     unsigned left_tries;        /* and so often they were tried in vain */
@@ -178,8 +178,10 @@ void publish_all(struct sender *s);
 /* Counts the frames that are carried now, and answers how many. */
 size_t publish_count_carried(struct sender *s, int milliseconds);
 
-/* How many frames wait that may be carried; how many sessions are held (seal.h). */
+/* How many frames wait that may be carried; how many are carried and wait for a receipt; how many sessions
+ * are held (seal.h). */
 size_t publish_backlog(const struct sender *s);
+uint64_t publish_count_unreceipted(const struct sender *s);
 size_t publish_count_held(const struct sender *s);
 
 /* The session's publishing ends; begins again after what is done; what is done counts as carried. */

@@ -22,9 +22,11 @@ static const struct metric metrics[] = {
     { NAME "oldest_text_seconds", "gauge", "Since the oldest of them was put in, if that is known",
       NULL },
     { NAME "receipts_total", "counter", "Receipts that covered more than those before", NULL },
+    { NAME "frames_without_receipt", "gauge", "Frames that are carried and wait for a receipt", NULL },
     { NAME "held_sessions", "gauge", "Sessions that wait for a ticket, or for the one before", NULL },
     { NAME "stopped_sessions", "gauge", "Sessions that are stopped", NULL },
-    { NAME "silent_seconds", "gauge", "Since a frame was carried, if any waits", NULL },
+    { NAME "silent_seconds", "gauge", "Since a frame was carried, if any waits or the carrier is away",
+      NULL },
     { NAME "waiting_frames", "gauge", "Frames of a shard that aren't carried", NULL },
 };
 
@@ -63,7 +65,8 @@ void sender_show(struct sender *s)
     const double values[METRICS] = {
         (double)s->sealing.frames, (double)s->published, (double)s->again,
         (double)s->sealing.nanoseconds / 1e9, (double)s->storing / 1e9, (double)s->carrying / 1e9,
-        (double)texts, age_of_oldest(s, texts), (double)s->receipts, (double)publish_count_held(s),
+        (double)texts, age_of_oldest(s, texts), (double)s->receipts,
+        (double)publish_count_unreceipted(s), (double)publish_count_held(s),
         (double)outbox_count_stopped(&s->outbox), silent, NAN,
     };
     unsigned i;

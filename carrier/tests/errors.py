@@ -178,6 +178,25 @@ def test_store_away(count, ends, postgres):
                loglines.faults(text))
 
 
+def test_store_used(count, ends, postgres):
+    """Another receiver's transaction has changed rows of each table: one that starts doesn't wait for it."""
+    ends.put_all()
+    ends.run("sender", "--drain")
+    other = subprocess.Popen(["psql", "-q", postgres.where, "-c", "BEGIN; LOCK TABLE shard, session, passed,"
+                              " opened, effect IN ROW EXCLUSIVE MODE; SELECT pg_sleep(20); ROLLBACK"],
+                             stdout=subprocess.DEVNULL, stderr=subprocess.DEVNULL)
+    time.sleep(1)
+    done = ends.run("receiver", "--until-closed")
+    found = postgres.ask("SELECT count(DISTINCT text) FROM effect GROUP BY session")
+    is_used = other.poll() is None
+    other.kill()
+    other.wait()
+    count.told(done.returncode == 0 and is_used and found == [[str(len(TEXTS))]] * 2,
+               f"error: another transaction is open; all texts arrive: {found}", [done.stdout[-500:]])
+    count.told(not loglines.has(done.stdout, "store_away"), "error: and nothing waits for it",
+               [done.stdout[-500:]])
+
+
 def test_privileges(count, ends, postgres):
     """A role that may not make tables, as by default in PostgreSQL 15, uses those that are there."""
     ends.put_all()

@@ -29,20 +29,22 @@ LOCKED = 30             # seconds to wait for an outbox
 
 @dataclasses.dataclass
 class Sending:
-    """A session in its sender's outbox: numbers from `first` to below `sealed` have frames, those from
-    `carried` on are there, so many; so many texts and closes wait."""
+    """A session in its sender's outbox: numbers from `first` to below `sealed` have frames, those below
+    `carried` are carried, those from `kept` on are there, so many; so many texts and closes wait. Without
+    receipts `kept` is `carried`; with them a receipt says that all below it took effect."""
     first: int
     sealed: int
     carried: int
+    kept: int
     frames: int
     texts: int
     closes: int
 
     def accounts_for(self, texts):
         """Whether each of so many texts and a close waits, or has a number of its own, and each frame
-        that isn't carried is there: of one text a frame."""
+        that is kept is there: of one text a frame."""
         has_all = self.sealed - self.first + self.texts + self.closes == texts + 1
-        return has_all and self.frames == self.sealed - self.carried
+        return has_all and self.frames == self.sealed - self.kept
 
 
 @dataclasses.dataclass
@@ -59,10 +61,10 @@ def read_outbox(path, name, first):
     found = []
     with contextlib.closing(sqlite3.connect(path, timeout=LOCKED)) as file:
         file.execute("BEGIN")
-        for sql in ("SELECT next, carried FROM session WHERE name = ?",
+        for sql in ("SELECT next, carried, iif(done < 0, carried, done) FROM session WHERE name = ?",
                     "SELECT count(*) FROM frame WHERE session = ?",
                     "SELECT count(body), count(*) - count(body) FROM text WHERE session = ?"):
-            found += file.execute(sql, (name,)).fetchone() or (first, first)
+            found += file.execute(sql, (name,)).fetchone() or (first, first, first)
     return Sending(first, *found)
 
 
@@ -150,7 +152,7 @@ def verdict(name, demanded, sending, shard, confirmed):
     here = shard.places[name][demanded] if shard.places is not None else []
     if here:
         return FAULT, f"{what}, which stands at {here[:5]} of its stream"
-    if demanded >= sending.carried:
+    if demanded >= sending.kept:
         return (FAULT if shard.takes else DOWN), (
             f"{what}, which waits at its sender; its shard takes"
             f" {'frames' if shard.takes else 'none, from anybody'}")
@@ -189,7 +191,8 @@ def expect(count, what, wanted, **changed):
     if places is not None:
         places = collections.defaultdict(lambda: collections.defaultdict(list), {
             "tom": collections.defaultdict(list, places)})
-    sending = Sending(1, given["sealed"], given["carried"], given["sealed"] - given["carried"], 0, 0)
+    sending = Sending(1, given["sealed"], given["carried"], given["carried"],
+                      given["sealed"] - given["carried"], 0, 0)
     told, why = verdict("tom", 2, sending, Shard(given["takes"], places, {6: "ann 4"}),
                         given["confirmed"])
     count.told(told == wanted, f"evidence: {what}: {told}", [why])
@@ -213,9 +216,11 @@ def test(count):
     expect(count, "it isn't confirmed, and the shard is down", FAULT, places=None, takes=False,
            confirmed={1: {(7, 5)}, 3: {(7, 9)}})
     for what, sending, wanted in (
-            ("two texts and the close wait", Sending(1, 4, 3, 1, 2, 1), True),
-            ("all are sealed", Sending(1, 7, 7, 0, 0, 0), True),
-            ("a text is away", Sending(1, 4, 3, 1, 1, 1), False),
-            ("the close is away", Sending(1, 6, 6, 0, 0, 0), False),
-            ("a frame is away", Sending(1, 4, 3, 0, 2, 1), False)):
+            ("two texts and the close wait", Sending(1, 4, 3, 3, 1, 2, 1), True),
+            ("all are sealed", Sending(1, 7, 7, 7, 0, 0, 0), True),
+            ("two frames wait for a receipt", Sending(1, 7, 7, 5, 2, 0, 0), True),
+            ("a text is away", Sending(1, 4, 3, 3, 1, 1, 1), False),
+            ("the close is away", Sending(1, 6, 6, 6, 0, 0, 0), False),
+            ("a frame is away", Sending(1, 4, 3, 3, 0, 2, 1), False),
+            ("a frame that has no receipt is away", Sending(1, 7, 7, 5, 1, 0, 0), False)):
         count.told(sending.accounts_for(5) == wanted, f"evidence: of five texts, {what}")

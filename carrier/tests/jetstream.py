@@ -4,6 +4,9 @@
     jetstream.py HOST PORT frames SHARD     each message that it has: OFFSET SESSION FRAME
     jetstream.py HOST PORT takes SHARD      publishes a frame of nobody until it is confirmed
     jetstream.py HOST PORT delete SHARD OFFSET      deletes a frame
+    jetstream.py HOST PORT purge SHARD      deletes all frames
+    jetstream.py HOST PORT unmake SHARD     deletes the stream; of the receipts with the word RECEIPTS
+    jetstream.py HOST PORT repeat SHARD TIMES       publishes each frame so many times more
 
 The status is 0 if the answer is whole.
 """
@@ -26,8 +29,8 @@ HELLO = b'CONNECT {"verbose":false,"headers":true,"no_responders":true}\r\n'
 class Connection:
     """One connection to a node."""
 
-    def __init__(self, port, host="127.0.0.1"):
-        self.socket = socket.create_connection((host, port), PATIENCE)
+    def __init__(self, port, host="127.0.0.1", patience=PATIENCE):
+        self.socket = socket.create_connection((host, port), patience)
         self.file = self.socket.makefile("rwb")
         self.file.readline()
         self.file.write(HELLO)
@@ -92,10 +95,10 @@ def stream(port, shard):
     return request(port, f"STREAM.INFO.KRB_{shard}")
 
 
-def frames(port, shard, host="127.0.0.1"):
+def frames(port, shard, host="127.0.0.1", patience=PATIENCE):
     """Each message that the stream of a shard has, asked for by its offset: the offset, the session
     and the frame. A fault if one can't be asked for."""
-    connection, found = Connection(port, host), []
+    connection, found = Connection(port, host, patience), []
     try:
         connection.subscribe(INBOX)
         state = member(connection.ask(f"$JS.API.STREAM.INFO.KRB_{shard}"), "state")
@@ -139,6 +142,21 @@ def takes(port, shard, host="127.0.0.1"):
     return True
 
 
+def repeat(port, shard, times, host="127.0.0.1"):
+    """Publishes each frame of a shard so many times more, however slow that makes the node."""
+    found, connection = frames(port, shard, host, LOOKING), Connection(port, host, LOOKING)
+    try:
+        for _, name, frame in found * times:
+            connection.file.write(b"PUB krb.%d.%s %d\r\n%s\r\n"
+                                  % (shard, name.encode(), len(frame), frame))
+        connection.file.write(b"PING\r\n")
+        connection.file.flush()
+        while not connection.file.readline().startswith(b"PONG"):
+            pass
+    finally:
+        connection.close()
+
+
 def run(host, port, what, *more, command=()):
     """What this program prints, where `command` runs it; None if the answer isn't whole."""
     words = [*command, sys.executable, os.path.abspath(__file__), host, str(port), what,
@@ -150,17 +168,26 @@ def run(host, port, what, *more, command=()):
         return None
 
 
-def main(host, port, what, shard, *offset):
+def succeeds(port, subject, host, **body):
+    return request(port, subject, host, **body).get("success", False)
+
+
+def main(host, port, what, shard, *more):
+    port = int(port)
     if what == "delete":
-        answer = request(int(port), f"STREAM.MSG.DELETE.KRB_{shard}", host, seq=int(offset[0]))
-        return 0 if answer.get("success") else 1
+        return 0 if succeeds(port, f"STREAM.MSG.DELETE.KRB_{shard}", host, seq=int(more[0])) else 1
+    if what in ("purge", "unmake"):
+        word = {"purge": "PURGE", "unmake": "DELETE"}[what]
+        return 0 if succeeds(port, f"STREAM.{word}.KRB_{shard}", host) else 1
     if what == "info":
-        print(json.dumps(request(int(port), f"STREAM.INFO.KRB_{shard}", host=host)))
+        print(json.dumps(request(port, f"STREAM.INFO.KRB_{shard}", host=host)))
     elif what == "frames":
-        for offset, name, frame in frames(int(port), int(shard), host):
+        for offset, name, frame in frames(port, int(shard), host):
             print(offset, name, frame.hex())
+    elif what == "repeat":
+        repeat(port, int(shard), int(more[0]), host)
     else:
-        return 0 if takes(int(port), int(shard), host) else 1
+        return 0 if takes(port, int(shard), host) else 1
     return 0
 
 

@@ -172,12 +172,17 @@ def ends_stopped(world):
     world.signal(["s0", "r1"], signal.SIGCONT)
 
 
+def stream_of(world, shard):
+    """What the stream of a shard is, or that of RECEIPTS."""
+    return json.loads(world.ask_node(world.leader(), "info", shard))
+
+
 def frame_deleted(world):
     """One that was confirmed and not read. Its session stands, and evidence.py has to show why."""
     for receiver in RECEIVERS:
         world.stop(receiver)
     time.sleep(2)
-    end = json.loads(world.ask_node(world.leader(), "info", 0))["state"]["last_seq"]
+    end = stream_of(world, 0)["state"]["last_seq"]
     time.sleep(2)
     if world.ask_node(world.leader(), "delete", 0, end) is None:
         world.notes.append(f"frame {end} isn't deleted")
@@ -414,7 +419,8 @@ class Case:
 
     `loses` says why the carrier may lose what it confirmed, and `stays_down` why a shard may take no
     frame any more; if it is empty, that may not be. A session may stand for these reasons alone, and
-    only if evidence.py shows of it that it does."""
+    only if evidence.py shows of it that it does. Where not all can take effect, `judged` says what has
+    to hold in its place."""
     run: typing.Callable
     done: str
     seconds: float = 60
@@ -422,11 +428,14 @@ class Case:
     loses: str = ""
     stays_down: str = ""
     stand: int = None       # so many sessions have to stand
+    judged: typing.Callable = None
     seed: int = 0
+    variant: str = ""       # where the table has a function twice
     made: dict = dataclasses.field(default_factory=dict)
 
     def name(self):
-        return self.run.__name__ + (f"_{self.seed}" if self.seed else "")
+        return "_".join([self.run.__name__, *([str(self.seed)] if self.seed else ()),
+                         *([self.variant] if self.variant else ())])
 
 
 IMAGES = dict.fromkeys(NODES, "image")
@@ -530,21 +539,33 @@ def judge_texts(world, found, faults):
             faults.append(f"{name}: its outbox doesn't account for {len(texts)} texts: {sending}")
 
 
-def judge(world, case, since):
-    """What went wrong, and the line of what was seen."""
-    took, gap = world.await_whole(case.seconds), world.longest_gap(since)
-    faults, whole = list(world.notes), f"whole after {took or 0:.1f} s"
+def judge_whole(world, case, faults):
+    """All takes effect, or what doesn't is what the case allows."""
+    took = world.await_whole(case.seconds)
+    whole = f"whole after {took or 0:.1f} s"
     if took is None:
         whole = judge_standing(world, case, faults)
     elif case.stand:
         faults.append("no session stands")
-    found = world.effects()
-    judge_texts(world, found, faults)
+    judge_texts(world, world.effects(), faults)
+    return whole
+
+
+def judge(world, case, since):
+    """What went wrong, and the line of what was seen."""
+    faults = list(world.notes)
+    whole = (case.judged or judge_whole)(world, case, faults)
+    found, gap = world.effects(), world.longest_gap(since)
     doubled = sum(len(texts) - len(set(texts)) for texts in found.values())
     lost = sum(len(set(texts) - set(found[name])) for name, texts in world.sent.items())
     sent, delivered = (sum(map(len, it.values())) for it in (world.sent, found))
+    if doubled:
+        faults.append(f"{doubled} effects came twice")
     if gap > case.gap:
         faults.append(f"nothing took effect for {gap:.1f} s")
+    noted = len(world.notes)
+    world.require_end([*SENDERS, *RECEIVERS])
+    faults += world.notes[noted:]
     faults += [f"{what}: {count}" for what, count in world.counts.items()] if faults else []
     return faults, (f"{sent} texts sent, {delivered} delivered, {lost} lost, {doubled} doubled;"
                     f" longest gap {gap:.1f} s; {whole}")

@@ -16,7 +16,9 @@ import random
 import shutil
 import signal
 import sqlite3
+import struct
 import subprocess
+import sys
 import threading
 import time
 
@@ -24,6 +26,7 @@ import engines
 import errors
 import evidence
 import jetstream
+import repro
 
 NODES = ("n0", "n1", "n2")
 SENDERS = ("s0", "s1")
@@ -39,6 +42,16 @@ FIRST = 1                           # the first number of each session
 STEP = 0.1                          # seconds between insertions
 LOOK = 0.3                          # seconds between looks at the effects
 IMAGE = 400                         # megabytes
+AGAIN = 3                           # seconds after which what has no receipt is published again
+METRICS = 9464                      # the port at which a program shows its numbers
+# Prints what the program at a port of the loopback answers: the status and the text.
+ASK = """
+import http.client, sys
+connection = http.client.HTTPConnection("127.0.0.1", int(sys.argv[1]), timeout=5)
+connection.request("GET", sys.argv[2])
+answer = connection.getresponse()
+print(answer.status, answer.read().decode())
+"""
 AS_POSTGRES = ("setpriv", "--reuid", "postgres", "--regid", "postgres", "--clear-groups")
 TURNS = itertools.count()
 MAKING = threading.Lock()           # of the database that is copied
@@ -198,7 +211,11 @@ class Options:
     sessions: int = 12
     shards: int = 4
     replicas: int = 3
-    is_shared: bool = False     # receivers share shards; else each serves all
+    is_shared: bool = False     # receivers share shards; else each serves all, or those of `shards_of`
+    has_receipts: bool = False  # each session has a key of the way back
+    receipt_replicas: int = 3   # of the stream of receipts, which receivers make
+    skew: int = 86400           # seconds by which a frame's time may be off
+    shards_of: dict = dataclasses.field(default_factory=dict)   # of a receiver
     disks: dict = dataclasses.field(default_factory=dict)   # the kind of a machine's disk
     clocks: dict = dataclasses.field(default_factory=dict)  # seconds by which it is ahead at first
 
@@ -216,6 +233,7 @@ class World:
     def __init__(self, folder, programs, network, options):
         self.folder, self.programs, self.network, self.options = folder, programs, network, options
         self.processes, self.disks, self.clocks = {}, {}, dict(options.clocks)
+        self.shards_of = dict(options.shards_of)
         self.counts, self.lock, self.ending = collections.Counter(), threading.RLock(), False
         self.feeding = threading.Lock()
         self.sent, self.samples, self.notes = collections.defaultdict(list), [], []
@@ -234,6 +252,19 @@ class World:
         return SENDERS[int(name[1:]) % len(SENDERS)]
 
     # ---- processes
+
+    def set_conditions(self, name, ahead=0, slow=0):
+        """By so many seconds the clock of a sender or receiver is ahead, and by so many milliseconds
+        each sync of its files takes longer."""
+        with open(os.open(f"{self.folder}/{name}.conditions", os.O_WRONLY | os.O_CREAT), "wb") as file:
+            file.write(struct.pack("qq", ahead, slow))
+
+    def conditioned(self, name):
+        """The words before a program whose clock and disk a case may change."""
+        path = f"{self.folder}/{name}.conditions"
+        if not os.path.exists(path):
+            self.set_conditions(name)
+        return ("env", f"LD_PRELOAD={self.programs}/conditions.so", f"CONDITIONS={path}")
 
     def spawn(self, name, *words, is_tended=False):
         """Starts the process of a machine."""
@@ -371,25 +402,45 @@ class World:
     def outbox(self, sender):
         return f"{self.disks[sender].path}/outbox.db"
 
-    def start_sender(self, name):
-        self.spawn(name, f"{self.programs}/sender", "--sessions", f"{self.folder}/sessions-{name}",
-                   "--outbox", self.outbox(name), "--carrier", self.where, "--replicas",
-                   str(self.options.replicas), is_tended=True)
+    def start_sender(self, name, outbox=None, sessions_of=None):
+        """With its own outbox and sessions, or those of another machine."""
+        self.spawn(name, *self.conditioned(name), f"{self.programs}/sender", "--sessions",
+                   self.sessions_of(sessions_of or name), "--outbox", outbox or self.outbox(name),
+                   "--carrier", self.where, "--replicas", str(self.options.replicas), "--patience",
+                   str(AGAIN), "--metrics", f"127.0.0.1:{METRICS}", is_tended=True)
 
     def start_receiver(self, name):
-        shards = "auto" if self.options.is_shared else f"0-{self.options.shards - 1}"
-        self.spawn(name, f"{self.programs}/receiver", "--sessions", f"{self.folder}/sessions",
-                   "--store", self.store, "--carrier", self.where, "--shards", shards,
-                   "--replicas", str(self.options.replicas), is_tended=True)
+        every = "auto" if self.options.is_shared else f"0-{self.options.shards - 1}"
+        self.spawn(name, *self.conditioned(name), f"{self.programs}/receiver", "--sessions",
+                   f"{self.folder}/sessions", "--store", self.store, "--carrier", self.where,
+                   "--shards", self.shards_of.get(name, every), "--replicas",
+                   str(min(self.options.replicas, self.options.receipt_replicas)), "--skew",
+                   str(self.options.skew), "--metrics", f"127.0.0.1:{METRICS}", is_tended=True)
+
+    def sessions_of(self, sender):
+        return f"{self.folder}/sessions-{sender}"
+
+    def lines(self):
+        """Each session's line."""
+        dice, back = random.Random(7), random.Random(8)
+        return {name: f"{name} {self.shard_of(name)} 18 priv {dice.randbytes(32).hex()} {FIRST}"
+                      f" 10.0.0.1 10.0.0.2"
+                      + (f" {back.randbytes(32).hex()}" if self.options.has_receipts else "") + "\n"
+                for name in self.names}
+
+    def write_lines(self, path, names):
+        """Puts a file with the lines of these sessions in the place of one that may be there."""
+        lines = self.lines()
+        errors.Ends.write(path + ".new", [lines[name] for name in names])
+        os.rename(path + ".new", path)
 
     def write_sessions(self):
-        dice = random.Random(7)
-        lines = {name: f"{name} {self.shard_of(name)} 18 priv {dice.randbytes(32).hex()} {FIRST}"
-                       " 10.0.0.1 10.0.0.2\n" for name in self.names}
-        errors.Ends.write(f"{self.folder}/sessions", lines.values())
+        self.write_lines(f"{self.folder}/sessions", self.names)
         for sender in SENDERS:
-            errors.Ends.write(f"{self.folder}/sessions-{sender}", [
-                line for name, line in lines.items() if self.sender_of(name) == sender])
+            self.write_lines(self.sessions_of(sender), self.names_of(sender))
+
+    def names_of(self, sender):
+        return [name for name in self.names if self.sender_of(name) == sender]
 
     def start(self, template):
         self.disks = {name: Disk(self.folder, name, self.options.disks.get(name, ""))
@@ -426,6 +477,33 @@ class World:
             return False
         finally:
             file.close()
+
+    # ---- copies, and what is restored
+
+    def copy_outbox(self, sender, path):
+        """What the outbox has at one moment."""
+        with contextlib.closing(sqlite3.connect(self.outbox(sender), timeout=PATIENCE)) as source, \
+                contextlib.closing(sqlite3.connect(path)) as target:
+            source.backup(target)
+
+    def restore_outbox(self, sender, path):
+        with self.feeding:
+            self.stop(sender)
+            for it in glob.glob(self.outbox(sender) + "*"):
+                os.unlink(it)
+            shutil.copy(path, self.outbox(sender))
+            self.start_sender(sender)
+
+    def copy_store(self):
+        self.end_database()
+        run("cp", "-a", f"{self.folder}/data", f"{self.folder}/data.backup")
+        self.start_database()
+
+    def restore_store(self):
+        self.end_database()
+        run("rm", "-rf", f"{self.folder}/data")
+        run("cp", "-a", f"{self.folder}/data.backup", f"{self.folder}/data")
+        self.start_database()
 
     # ---- the application
 
@@ -515,6 +593,33 @@ class World:
                 return time.monotonic() - began
             time.sleep(LOOK)
         return None
+
+    def await_quiet(self, seconds, quiet):
+        """Waits until nothing took effect for so long, or all did."""
+        began, last, since = time.monotonic(), None, time.monotonic()
+        while time.monotonic() - began < seconds and time.monotonic() - since < quiet:
+            now = self.count()
+            if now != last:
+                last, since = now, time.monotonic()
+            if self.is_whole():
+                return
+            time.sleep(LOOK)
+
+    def status(self):
+        """Each session that stands or is stopped, with what carrier/status says of it."""
+        outboxes = (word for it in SENDERS for word in ("--outbox", self.outbox(it)))
+        done = subprocess.run(self.network.command(DATABASE, repro.STATUS, *outboxes, "--store", self.store,
+                                                   "--standing"), check=False, stdout=subprocess.PIPE,
+                              text=True, timeout=PATIENCE)
+        return {line.split()[0]: line for line in done.stdout.splitlines()
+                if line.split()[0] in self.names}
+
+    def shown(self, name, path="/metrics"):
+        """What a program answers at its machine: the status and the text, or None where it doesn't."""
+        done = subprocess.run(self.network.command(name, sys.executable, "-c", ASK, str(METRICS), path),
+                              check=False, stdout=subprocess.PIPE, text=True, timeout=PATIENCE)
+        status, _, text = done.stdout.partition(" ")
+        return (int(status), text) if done.returncode == 0 else None
 
     def sending(self, name):
         return evidence.read_outbox(self.outbox(self.sender_of(name)), name, FIRST)

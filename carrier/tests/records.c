@@ -8,6 +8,7 @@
 #include <fcntl.h>
 #include <stdio.h>
 #include <stdlib.h>
+#include <string.h>
 #include <unistd.h>
 
 enum { LINE = 1024 };
@@ -34,12 +35,12 @@ static int record(void)
     return file;
 }
 
-/* What doesn't fit into a line is what a stream says of itself, and is left out. */
+/* What doesn't fit into a line is what a stream says of itself, and is left out, as receipts are. */
 static void note(char kind, const char *subject, const char *text, int len)
 {
     char line[LINE];
     int size;
-    if (record() < 0)
+    if (record() < 0 || strncmp(subject, "krbr.", 5) == 0)
         return;
     size = snprintf(line, sizeof line, "%c %s %.*s\n", kind, subject, len, text);
     if (size < LINE && write(record(), line, (size_t)size) != size)

@@ -1151,12 +1151,12 @@ def status(place):
     place.wait(lambda: place.ask("store", "SELECT offset FROM shard") == [(11,)], 5)
     where = ("--outbox", place.outbox, "--store", place.store, "--carrier", place.carrier)
     code, lines = ask_status(place, *where)
-    told = {name: line[1:8] for name, line in lines.items()}
-    place.require(code == 0 and lines["ann"][7:] == ["closed"], f"{code}: {lines}")
-    place.require(told["ann"] == ["0", "7", "7", "0", "0", "7", "closed"], f"ann: {told['ann']}")
-    place.require(told["tom"] == ["0", "6", "6", "0", "0", "1", "stands"], f"tom: {told['tom']}")
+    told = {name: line[1:9] for name, line in lines.items()}
+    place.require(code == 0 and lines["ann"][8:] == ["closed"], f"{code}: {lines}")
+    place.require(told["ann"] == ["0", "7", "7", "7", "0", "0", "7", "closed"], f"ann: {told['ann']}")
+    place.require(told["tom"] == ["0", "6", "6", "6", "0", "0", "1", "stands"], f"tom: {told['tom']}")
     place.require("integrity check fails" in " ".join(lines["tom"]), f"tom: {lines['tom']}")
-    place.require(told["nobody"][4:] == ["2", "-", "stopped"], f"nobody: {told['nobody']}")
+    place.require(told["nobody"][5:] == ["2", "-", "stopped"], f"nobody: {told['nobody']}")
     place.require(lines["0"] == ["0", "11", "11", "0"], f"shard 0: {lines['0']}")
     code, lines = ask_status(place, *where, "--standing")
     place.require(code == 1 and {"tom", "nobody"} == set(lines) - {"NAME", "SHARD", "0"},

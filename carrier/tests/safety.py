@@ -6,8 +6,6 @@ import shutil
 import signal
 import sqlite3
 import time
-import urllib.error
-import urllib.request
 
 import engines
 import jetstream
@@ -16,7 +14,8 @@ from repro import Case, require_stopped, texts
 
 ANN = repro.ANN
 WITH_RECEIPTS = ANN.rstrip("\n") + f" {'33' * 16}\n"
-OTHERS = 60_000         # frames of others
+OTHERS = 65_536         # frames of others
+FIRST_TEXTS, MANY_FIRST = 2_048, 20_000     # sessions with a text each
 MANY = 40               # sessions that wait for a receipt
 SHARDS, IN_EACH = 32, 1_000
 LATER = 5_000           # frames after others, more than are read again at a shard's end
@@ -26,18 +25,18 @@ def new_texts(name, count):
     return [(name, f"new {it}".encode()) for it in range(count)]
 
 
-def backup(place, name="backup"):
-    """A copy of the outbox as it is now."""
-    source, copy = sqlite3.connect(place.outbox), sqlite3.connect(f"{place.folder}/{name}.db")
+def backup(place, name="backup", of="outbox"):
+    """A copy of the outbox as it is now, or of another file."""
+    source, copy = (sqlite3.connect(f"{place.folder}/{it}.db") for it in (of, name))
     source.backup(copy)
     source.close()
     copy.close()
 
 
-def restore(place, name="backup"):
-    for path in glob.glob(f"{place.outbox}*"):
+def restore(place, name="backup", of="outbox"):
+    for path in glob.glob(f"{place.folder}/{of}.db*"):
         os.unlink(path)
-    shutil.copy(f"{place.folder}/{name}.db", place.outbox)
+    shutil.copy(f"{place.folder}/{name}.db", f"{place.folder}/{of}.db")
 
 
 def change(place, name, sql, rows=((),)):
@@ -130,6 +129,33 @@ def restored_with_its_frames(place):
     require_unlost(place, drain(place), "older than what has left")
 
 
+def restore_unread(place, sql):
+    """The same of a session with receipts, of which there is none yet, and this is the last frame. Nothing that
+    is put in afterwards leaves, the close neither."""
+    place.put(texts("ann", 0, 1))
+    place.run("sender", "--drain")
+    backup(place)
+    place.put(texts("ann", 1, 3))
+    place.run("sender", "--drain")
+    restore(place)
+    change(place, "carrier", f"INSERT INTO carried (shard, session, frame) {sql}")
+    place.put(new_texts("ann", 2) + repro.close("ann"))
+    status, _ = place.run("sender", "--drain", seconds=8)
+    place.require(status == 4, f"sender --drain: status {status}")
+    require_stopped(place, "ann", "older than what has left")
+    place.start("receiver")
+    place.await_delivered()
+    place.require(place.ask("store", "SELECT next, closed FROM session") == [(4, 0)], "more took effect")
+
+
+def restored_unread_junk(place):
+    restore_unread(place, "VALUES (0, 'ann', x'00')")
+
+
+def restored_unread_repeat(place):
+    restore_unread(place, "SELECT shard, session, frame FROM carried WHERE offset = 1")
+
+
 def restored_and_receipted(place):
     """The last receipt is there, and nothing else is."""
     deliver_after_a_backup(place)
@@ -157,6 +183,81 @@ def restored_beside_frames(place):
     require_unlost(place, drain(place), "older than what has left")
 
 
+def restored_and_all_purged(place):
+    """The last receipt is lost too: the next one stops the session. Its texts stay in `sealed`, whether they
+    took effect or not."""
+    deliver_after_a_backup(place)
+    for stream in ("KRB_0", "KRB_RECEIPTS"):
+        jetstream.request(place.nats.ports[0], f"STREAM.PURGE.{stream}")
+    receiver, sender = place.start("receiver"), place.start("sender", "--patience", "1")
+    place.require(place.wait(lambda: place.count("outbox", "stopped") > 0, 15), "it isn't stopped")
+    require_stopped(place, "ann", "not all frames below number")
+    for it in (sender, receiver):
+        place.end(it)
+    kept = place.count("outbox", "text") + place.count("outbox", "sealed")
+    place.require(kept == 100, f"of 100 texts it keeps {kept}")
+
+
+# ---- all of it is restored, from copies that were made in their order
+
+IN_ORDER = ("store", "outbox", "carrier")
+
+
+def restore_all(place):
+    for it in IN_ORDER:
+        restore(place, f"{it}.copy", it)
+
+
+def copied_in_order(place):
+    """Copies of the store, the outbox and the carrier while no sender runs: once all is restored, all
+    goes on."""
+    place.put(texts("ann", 0, 10))
+    drain(place)
+    place.put(texts("ann", 10, 20))
+    for it in IN_ORDER:
+        backup(place, f"{it}.copy", it)
+    drain(place)
+    restore_all(place)
+    place.start("sender")
+    place.start("receiver")
+    place.await_delivered({"ann": 20})
+    place.put(texts("ann", 20, 30))
+    place.await_delivered()
+    place.require(place.count("outbox", "stopped") == 0, "the session is stopped")
+
+
+def copied_amid_texts(place):
+    """Frames leave between the copies of the outbox and of the carrier: all that left takes effect, and the
+    session is stopped."""
+    place.put(texts("ann", 0, 10))
+    drain(place)
+    for it in IN_ORDER[:2]:
+        backup(place, f"{it}.copy", it)
+    place.put(texts("ann", 10, 20))
+    drain(place)
+    backup(place, "carrier.copy", "carrier")
+    place.put(texts("ann", 20, 30))
+    drain(place)
+    restore_all(place)
+    place.put(new_texts("ann", 100))
+    require_unlost(place, drain(place), "older than what has left")
+
+
+def copied_amid_texts_receipted(place):
+    """The same with receipts, which say it."""
+    place.put(texts("ann", 0, 10))
+    drain(place)
+    await_no_frames(place)
+    for it in IN_ORDER[:2]:
+        backup(place, f"{it}.copy", it)
+    place.put(texts("ann", 10, 20))
+    drain(place)
+    backup(place, "carrier.copy", "carrier")
+    restore_all(place)
+    place.put(new_texts("ann", 100))
+    require_unlost(place, drain(place), "all below 21 took effect")
+
+
 # ---- an outbox that is copied
 
 def copied_and_cut_off(place):
@@ -172,6 +273,34 @@ def copied_and_cut_off(place):
     place.put(texts("ann", 10, 15))
     drain(place)
     return copy
+
+
+def copied_and_both_run(place):
+    """Senders of two copies run side by side, and both get texts: those of one take effect, and those of the
+    other wait, with the reason."""
+    place.put(texts("ann", 0, 10))
+    receiver = place.start("receiver")
+    await_no_frames(place)
+    backup(place, "copy")
+    copy = f"{place.folder}/copy.db"
+    senders = place.start("sender", "--patience", "1"), place.start("sender", "--patience", "1", outbox=copy)
+    for it in range(50):
+        place.put([("ann", f"one {it}".encode())])
+        place.put([("ann", f"two {it}".encode())], outbox=copy)
+        time.sleep(0.02)
+    is_stopped = place.wait(lambda: place.count("outbox", "stopped") + place.count("copy", "stopped") > 0, 8)
+    place.require(is_stopped, "neither is stopped")
+    place.wait(lambda: place.count("store", "effect") >= 60, 5)
+    for it in (*senders, receiver):
+        place.end(it)
+    effects = place.delivered()["ann"]
+    for name, word in (("outbox", "one"), ("copy", "two")):
+        took = [it for it in effects if it.startswith(word)]
+        place.require(took == [f"{word} {it}" for it in range(50) if f"{word} {it}" in took],
+                      f"{name}: out of order: {took}")
+        kept = place.count(name, "text") + place.count(name, "sealed")
+        place.require(len(took) + kept >= 50, f"{name}: {len(took)} took effect, and it keeps {kept}")
+        place.require(len(took) == 50 or place.count(name, "stopped") == 1, f"{name} isn't stopped")
 
 
 def await_no_frames(place):
@@ -223,16 +352,18 @@ def no_memory_at_a_refusal(place):
     place.await_delivered()
 
 
-# ---- what is told
+# ---- what the outbox, the numbers and carrier/status say
 
 def line_gone(place):
-    """Frames whose line was taken out wait, and that is told."""
+    """Frames whose line was taken out wait, with the reason."""
     place.put(texts("ann", 0, 3))
     seal_only(place, 3)
     place.replace(place.sessions, [repro.TOM])
     status, _ = place.run("sender", "--drain", seconds=8)
     place.require(status == 4, f"sender --drain: status {status}")
     require_stopped(place, "ann", "no line among the sessions")
+    code, lines = repro.ask_status(place, "--outbox", place.outbox, "--standing")
+    place.require(code == 1 and lines["ann"][8:10] == ["stopped", "since"], f"status: {code}: {lines}")
     place.replace(place.sessions, [ANN])
     place.require(place.run("sender", "--drain", seconds=8)[0] == 0, "it isn't sent with its line")
     place.require(place.count("outbox", "stopped") == 0, "it is stopped though it has a line")
@@ -253,17 +384,14 @@ def outbox_replaced(place):
     place.await_delivered()
 
 
-def shown(port, name, path="/metrics"):
-    """A number that a program shows, or the status of its health."""
-    try:
-        with urllib.request.urlopen(f"http://127.0.0.1:{port}{path}", timeout=5) as answer:
-            if path == "/healthz":
-                return answer.status
-            lines = answer.read().decode().splitlines()
-    except urllib.error.HTTPError as fault:
-        return fault.code
-    return next(float(line.split()[-1]) for line in lines
-                if line.split()[0] in (name, name + "{}"))
+def shown(port, name):
+    """A number that a sender shows, or None."""
+    number = repro.numbers(port).get(f"krbrelay_sender_{name}{{}}")
+    return number and float(number)
+
+
+def health(ports):
+    return [repro.get(it, "/healthz")[0] for it in ports]
 
 
 def stopped_names(place):
@@ -274,8 +402,23 @@ def stopped_names(place):
     place.require(place.wait(lambda: place.count("outbox", "text") == 500
                              and place.count("outbox", "stopped") == 2, 8), "two aren't stopped")
     time.sleep(1.2)
-    stopped = shown(port, "krbrelay_sender_stopped_sessions")
+    stopped = shown(port, "stopped_sessions")
     place.require(stopped == 2, f"stopped_sessions is {stopped}")
+
+
+def waiting_shown(place):
+    """Frames that are carried and wait for a receipt: the numbers and carrier/status say so, until it comes."""
+    port, name = engines.free_ports(1)[0], "frames_without_receipt"
+    place.put(texts("ann", 0, 500))
+    place.start("sender", metrics=f"127.0.0.1:{port}")
+    place.require(place.wait(lambda: shown(port, name) == 500, 8), f"{name} is {shown(port, name)}")
+    _, lines = repro.ask_status(place, "--outbox", place.outbox)
+    place.require(lines["ann"][:7] == ["ann", "0", "501", "501", "1", "500", "0"], f"status: {lines['ann']}")
+    place.start("receiver")
+    place.require(place.wait(lambda: shown(port, name) == 0, 8), f"{name} is {shown(port, name)}")
+    _, lines = repro.ask_status(place, "--outbox", place.outbox)
+    place.require(lines["ann"][:7] == ["ann", "0", "501", "501", "501", "0", "0"], f"status: {lines['ann']}")
+    place.await_delivered()
 
 
 # ---- questions that nobody answers, and what has to be looked at
@@ -298,23 +441,68 @@ def receipts_unanswered(place):
     place.await_delivered()
 
 
+def start_three_nodes(place):
+    os.mkdir(f"{place.folder}/nats")
+    place.nats = engines.Nats(f"{place.folder}/nats", 3)
+    place.carrier = place.nats.where
+
+
+def receipts_node_away(place):
+    """The stream of receipts has as many replicas as its receiver said, which is one: a sender and a receiver
+    that want three tell so. Its node is away, and 40 sessions wait for receipts: another session goes on."""
+    start_three_nodes(place)
+    wanted, waiting = {"replicas": "3"}, [f"w{it}" for it in range(MANY)]
+    place.put(texts("w0", 0, 1) + texts("ann", 0, 1), given=wanted)
+    receiver = place.start("receiver")
+    place.run("sender", "--drain", seconds=20, **wanted)
+    place.require(place.wait(lambda: place.is_delivered({"ann": 1, "w0": 1}), 20), "nothing is delivered")
+    time.sleep(1)
+    place.end(receiver)
+    leader = jetstream.request(place.nats.ports[0], "STREAM.INFO.KRB_RECEIPTS")["cluster"]["leader"]
+    place.put(texts("w0", 1, 2) + [row for name in waiting[1:] for row in texts(name, 0, 2)])
+    running = place.start("sender", **wanted), place.start("receiver", **wanted)
+    told = place.wait(lambda: all("receipts_unfit" in place.log(it) for it in running), 20)
+    place.require(told, "not both say that the stream of receipts has one replica")
+    place.require(place.wait(lambda: place.is_delivered(dict.fromkeys(waiting, 2))
+                             and place.count("outbox", "frame") == 0, 20), "no receipts came")
+    place.end(running[1])
+    place.nats.kill(int(leader.removeprefix("n")))
+    place.put([row for name in waiting for row in texts(name, 2, 3)])
+    time.sleep(3)
+    place.start("receiver", sessions=place.other([ANN]))
+    for it in range(1, 21):
+        place.put(texts("ann", it, it + 1))
+        time.sleep(0.1)
+    place.require(place.wait(lambda: place.is_delivered(place.case.wanted), 5), "another session stands")
+
+
 def first_texts(place):
-    """The first texts of 300 sessions beside many frames of one shard."""
+    """The first texts of 2,048 sessions beside many frames of one shard."""
     change_to = f"{place.folder}/carrier.db"
     place.run("sender", "--drain")
     with sqlite3.connect(change_to, timeout=30) as file:
         file.executemany("INSERT INTO carried (shard, session, frame) VALUES (0, 'others', ?)",
                          ((b"x" * 100,) for _ in range(OTHERS)))
     file.close()
-    place.put([row for it in range(300) for row in texts(f"s{it}", 0, 1)])
+    place.put([row for it in range(FIRST_TEXTS) for row in texts(f"s{it}", 0, 1)])
     place.began = time.monotonic()
-    status, _ = place.run("sender", "--drain", seconds=15)
+    status, _ = place.run("sender", "--drain", seconds=25)
     place.require(status == 0, f"sender --drain: status {status}")
-    place.require(place.count("carrier", "carried") == OTHERS + 300, "not all are carried")
+    place.require(place.count("carrier", "carried") == OTHERS + FIRST_TEXTS, "not all are carried")
 
 
-def short_lines():
-    return tuple(ANN.replace("ann 0", f"s{it} 0").replace("11" * 16, f"{it:032x}") for it in range(300))
+def many_first_texts(place):
+    """A text of each of 20,000 sessions with receipts: none waits for a look at all the others."""
+    place.put([row for it in range(MANY_FIRST) for row in texts(f"s{it}", 0, 1)])
+    place.began = time.monotonic()
+    status, _ = place.run("sender", "--drain", seconds=50)
+    place.require(status == 0, f"sender --drain: status {status}")
+    place.require(place.count("carrier", "carried") == MANY_FIRST, "not all are carried")
+
+
+def short_lines(count, line=ANN):
+    return tuple(line.replace("ann 0", f"s{it} 0").replace("11" * 16, f"{it:032x}")
+                 .replace("33" * 16, f"{2**64 + it:032x}") for it in range(count))
 
 
 # ---- a broker that is away
@@ -328,6 +516,25 @@ def backlog_of_shards(place):
     published = sum(jetstream.stream(place.nats.ports[0], it)["state"]["messages"]
                     for it in range(SHARDS))
     place.require(published < 1.5 * SHARDS * IN_EACH, f"{published} frames: {told[-300:]}")
+
+
+def node_stopped_with_backlogs(place):
+    """A node stands for 12 s while the windows of 32 shards fill: then all is confirmed without a stall, and
+    what waited leaves twice at most."""
+    place.put([row for it in range(SHARDS) for row in texts(f"t{it}", 0, 1)])
+    sender = place.start("sender")
+    place.require(place.wait(lambda: place.count("outbox", "session") == SHARDS
+                             and place.count("outbox", "frame") == 0, 20), "the first aren't carried")
+    place.nats.running[0].send_signal(signal.SIGSTOP)
+    place.put([row for it in range(SHARDS) for row in texts(f"t{it}", 1, IN_EACH)])
+    time.sleep(12)
+    place.nats.running[0].send_signal(signal.SIGCONT)
+    place.require(place.wait(lambda: place.count("outbox", "text") + place.count("outbox", "frame") == 0, 30),
+                  "not all is carried 30 s after the node goes on")
+    place.end(sender)
+    place.require("confirmation_false" not in place.log(sender), "a true confirmation is taken for a false one")
+    published = sum(jetstream.stream(place.nats.ports[0], it)["state"]["messages"] for it in range(SHARDS))
+    place.require(published < 3 * SHARDS * IN_EACH, f"{published} frames")
 
 
 def shard_lines():
@@ -344,15 +551,17 @@ def health_of_both(place):
     place.start("receiver", metrics=f"127.0.0.1:{ports[1]}")
     place.require(place.wait(lambda: place.is_delivered({"ann": 1}), 8), "nothing is delivered")
     place.nats.kill(0)
+    place.require(place.wait(lambda: health(ports) == [503, 503], 20),
+                  "/healthz doesn't say that the broker is away, where nothing waits")
     place.put(texts("ann", 1, 2))
-    place.require(place.wait(lambda: [shown(it, "", "/healthz") for it in ports] == [503, 503], 20),
-                  "it isn't told that the broker is away")
-    silent = shown(ports[0], "krbrelay_sender_silent_seconds")
-    place.require(silent > 10, f"silent_seconds is {silent}")
+    time.sleep(2)
+    place.require(health(ports) == [503, 503], "/healthz doesn't say that it is away, where a text waits")
+    silent = shown(ports[0], "silent_seconds")
+    place.require(silent and silent > 10, f"silent_seconds is {silent}")
     place.nats.start(0)
     place.await_delivered()
-    place.require(place.wait(lambda: [shown(it, "", "/healthz") for it in ports] == [200, 200], 5),
-                  "it isn't told that the broker is there")
+    place.require(place.wait(lambda: health(ports) == [200, 200], 5),
+                  "/healthz doesn't say that it is there")
 
 
 def credentials_refused(place):
@@ -391,6 +600,10 @@ CASES = (
          (ANN,)),
     Case(restored_and_repeated, "it is restored, and the last frame is an old one", {"ann": 30}, 20,
          (ANN,)),
+    Case(restored_unread_junk, "it is restored, no receipt has come, and the last frame is junk",
+         {"ann": 3}, 20, (WITH_RECEIPTS,)),
+    Case(restored_unread_repeat, "it is restored, no receipt has come, and the last frame is an old one",
+         {"ann": 3}, 20, (WITH_RECEIPTS,)),
     Case(restored_with_its_frames, "it is restored with frames, which leave again", {"ann": 30}, 25,
          (ANN,)),
     Case(restored_and_receipted, "it is restored, and its last receipt is all that is left", {"ann": 30},
@@ -400,19 +613,34 @@ CASES = (
     Case(restored_without_receipts, "it is restored, its stream was purged; no receipts", {"ann": 30}, 30,
          (ANN,), nats=""),
     Case(restored_beside_frames, "it is restored over JetStream", {"ann": 30}, 30, (ANN,), nats=""),
+    Case(restored_and_all_purged, "it is restored, and no frame and no receipt is left", {}, 40,
+         (WITH_RECEIPTS,), nats=""),
+    Case(copied_in_order, "store, outbox and carrier are restored, of one moment", {"ann": 30}, 30,
+         (WITH_RECEIPTS,)),
+    Case(copied_amid_texts, "they are restored; frames left between the copies", {"ann": 20}, 20, (ANN,)),
+    Case(copied_amid_texts_receipted, "the same with receipts", {"ann": 20}, 20, (WITH_RECEIPTS,)),
     Case(copied_with_receipts, "a copy of an outbox seals the same numbers; receipts", {"ann": 15}, 25,
          (WITH_RECEIPTS,)),
     Case(copied_without_receipts, "a copy of an outbox seals the same numbers; no receipts", {"ann": 15},
          25, (ANN,)),
+    Case(copied_and_both_run, "senders of two copies of an outbox run side by side", {}, 40, (WITH_RECEIPTS,)),
     Case(no_memory_at_a_refusal, "a refused frame can't be looked at, since there is no memory",
          {"ann": 3, "tom": LATER}, 30),
     Case(line_gone, "the line of a session with frames is taken out", {"ann": 3}, 25, (ANN, repro.TOM)),
     Case(outbox_replaced, "the outbox's file is replaced below a sender", {"ann": 6}, 15, (ANN,)),
     Case(stopped_names, "texts of two names without a line, in turns", {}, 15, (ANN,)),
+    Case(waiting_shown, "500 frames wait for receipts", {"ann": 500}, 25, (WITH_RECEIPTS,)),
     Case(receipts_unanswered, "40 sessions wait for receipts, of which the carrier tells nothing",
          {"ann": 20}, 20, (ANN, *many_lines())),
-    Case(first_texts, "first texts of 300 sessions beside 60,000 frames", {}, 30, short_lines()),
+    Case(first_texts, "first texts of 2,048 sessions beside 65,536 frames", {}, 40,
+         short_lines(FIRST_TEXTS)),
+    Case(many_first_texts, "first texts of 20,000 sessions with receipts", {}, 60,
+         short_lines(MANY_FIRST, WITH_RECEIPTS)),
     Case(backlog_of_shards, "32 shards with a backlog of 1,000 texts each", {}, 60, shard_lines(), nats=""),
+    Case(node_stopped_with_backlogs, "a node stands for 12 s, and 32 shards have texts", {}, 90, shard_lines(),
+         nats=""),
+    Case(receipts_node_away, "the stream of receipts has one replica, whose node is away", {"ann": 21}, 90,
+         (ANN, *many_lines()), "0,1"),
     Case(credentials_refused, "a node refuses the password for some seconds", {"ann": 2}, 60, (ANN,),
          nats='authorization { user: "krb", password: "one" }\n'),
     Case(health_of_both, "the broker is away for more than ten seconds", {"ann": 2}, 40, (ANN,), nats=""),

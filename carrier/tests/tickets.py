@@ -20,6 +20,7 @@ import loglines
 import realms
 import receipts
 import repro
+import safety
 
 DAY = 86400             # seconds
 STREAMS = 5000
@@ -345,21 +346,37 @@ def ticket_ended(place):
     place.require(not place.opened(), f"opened: {place.opened()}")
 
 
+def require_held(place, port):
+    """The numbers and carrier/status say that one session waits."""
+    name = "krbrelay_sender_held_sessions{}"
+    place.require(place.wait(lambda: repro.numbers(port).get(name) == "1", 5),
+                  f"held_sessions is {repro.numbers(port).get(name)}")
+
+    def lines():
+        return [it for it in repro.ask_status(place, "--outbox", place.outbox, "--standing")[1].values()
+                if it[8:10] == ["held", "since"] and it[-1] == "orders"]
+    place.require(place.wait(lambda: len(lines()) == 1, 20), f"status: {lines()}")
+
+
 def no_kdc(place):
     """The KDC isn't there at first: sessions of the file go on, and streams once it is."""
     place.realm.stop()
     try:
         place.put([("tom", b"tom 0"), ("orders", b"orders 0")])
-        sender = place.start("sender")
+        port = engines.free_ports(1)[0]
+        sender = place.start("sender", metrics=f"127.0.0.1:{port}")
         place.start("receiver")
         place.require(place.wait(lambda: place.is_delivered({"tom": 1}), 5),
                       "the file's session is held up")
         place.require(place.wait(lambda: loglines.has(place.log(sender), "ticket_missing"), 5),
                       "nothing says that there is no ticket")
         place.require(not place.delivered()["orders"], "a stream without a ticket")
+        require_held(place, port)
     finally:
         place.realm.start()
     place.await_delivered()
+    place.require(place.wait(lambda: repro.numbers(port).get("krbrelay_sender_held_sessions{}") == "0", 5),
+                  "it is held still")
 
 
 def two_clients(place):
@@ -551,6 +568,38 @@ def closed_anew(place):
     stopped = place.wait(lambda: place.count("outbox", "stopped") > 0, 10)
     place.require(stopped, "the sender doesn't stop")
     place.await_delivered()
+
+
+def restored_streams(place):
+    """An outbox of streams is restored from a copy of some seconds ago, while both ends run and each stream
+    begins a session every two seconds: nothing takes effect twice or is overtaken, and the sender stops the
+    sessions."""
+    rows = {name: 0 for name in place.case.wanted}
+
+    def put(count):
+        for _ in range(count):
+            place.put([(name, f"{name} {it}".encode()) for name, it in rows.items()])
+            rows.update({name: it + 1 for name, it in rows.items()})
+            time.sleep(0.1)
+    place.put([])
+    sender = place.start("sender", "--patience", "1", life="2")
+    place.start("receiver")
+    put(40)
+    safety.backup(place)
+    put(60)
+    sender.kill()
+    sender.wait()
+    safety.restore(place)
+    before = dict(rows)
+    place.start("sender", "--patience", "1", life="2")
+    put(20)
+    stopped = place.wait(lambda: place.count("outbox", "stopped") > 0
+                         or any(place.refused(it, "OPENING_FORKED") for it in place.running), 15)
+    place.require(stopped, "nothing is told")
+    time.sleep(2)
+    for name, texts in place.delivered().items():
+        sent = [f"{name} {it}" for it in range(before[name])]
+        place.require(texts == sent[:len(texts)] and len(texts) >= 40, f"{name}: {texts[-5:]} of {before}")
 
 
 def short_life(place):
@@ -808,6 +857,8 @@ CASES = (
     Case(keytab_moment, "the sender's keytab is away for a second", {"orders": 4}, 25),
     Case(wrapping_key_later, "the sender's keytab lacks a key for a while", {"orders": 3}, 30),
     Case(closed_anew, "a restored outbox closes a session once more", {"orders": 10}, 40),
+    Case(restored_streams, "an outbox of streams is restored while both ends run", {"orders": 0, "bills": 0},
+         60),
     Case(short_life, "--life 1, and both ends are killed", {"orders": 400}, 25),
     Case(at_rest, "keys at rest, and newer keys in the keytabs", {"orders": 100, "bills": 100}, 30),
     Case(exchanged_rows, "wrapped keys of two rows are exchanged", {"one": 20, "two": 20}, 25),
