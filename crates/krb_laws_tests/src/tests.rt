@@ -1,13 +1,13 @@
 //! Peers, receivers and receipts, and the laws of their calls.
 
-ghost use Rattle.std.specs.Prelude.{IfOk};
+ghost use Rattle.std.specs.Prelude.{◌≡◌, length, IfOk};
 ghost use Rattle.krb_seal.specs.Session.{IsShortAddress};
 
 use krb_copies::{Finding, Receipt, compare_receipt, copies_laws, own_history};
 use krb_der::{Bytes, HostAddress, Moment};
 use krb_peer_laws::{
-    calls_in_c_laws, demand_fields_laws, open_peer, peer_laws, reflection_laws, resume_peer,
-    seal_peer, sealed_records_laws, take_each, take_frame,
+    calls_in_c_laws, demand_fields_laws, frame_sizes_laws, open_each, open_frame, open_peer,
+    peer_laws, reflection_laws, resume_peer, seal_peer, sealed_records_laws, take_each, take_frame,
 };
 use krb_peers::{Delivery, Receiver};
 use krb_seal::{Expect, Mode, Opener, Refusal, SessionKey, exists_laws};
@@ -248,8 +248,56 @@ fn all_frames_are_taken(rt: HostRuntime) -> Result<(), Fail> {
     let junk = Vec::from_slice(alloc, &[0])?;
     let frame = Vec::from_slice(alloc, &SAFE_17)?;
     let frames = vec![in alloc; junk, frame]?;
-    take_each(&mut one, alloc, frames.as_slice(), at);
+    let mut answers = [Err(Refusal::Memory), Err(Refusal::Memory)];
+    take_each(&mut one, alloc, frames.as_slice(), at, &mut answers);
     assert_eq!(rt; (one.expected(), one.closed()), (8, false));
+    assert!(rt; matches!(&answers[0], Err(Refusal::Malformed)));
+    assert!(rt;
+        matches!(&answers[1], Ok(Delivery::Text(text)) if text.as_slice() == b"hi".as_slice())
+    );
+    Ok(())
+}
+
+/// Whether the answer is these user data.
+fn is_user(answer: &Result<Vec<u8>, Fault>, user: &[u8]) -> bool {
+    match answer {
+        Ok(opened) => opened.as_slice() == user,
+        Err(_) => false,
+    }
+}
+
+#[test]
+fn a_peer_gives_the_data_of_a_frame(rt: HostRuntime) -> Result<(), Fail> {
+    frame_sizes_laws();
+    let alloc = rt.alloc();
+    let mut other = peer(alloc, 2, 1)?;
+    let opened = open_frame(&mut *other, alloc, &SAFE_17, &AT);
+    assert!(rt; is_user(&opened, b"Dhi"));
+    let again = open_frame(&mut *other, alloc, &SAFE_17, &AT);
+    assert_eq!(rt; (code_of(&again), other.expected()), (42, 8));
+    Ok(())
+}
+
+/// One byte that is no message, the frame of another, and it once more.
+fn three(alloc: Global) -> Result<Vec<Vec<u8>>, AllocError>
+    ensures { IfOk result (λ frames. length frames.items ≡ 3) }
+{
+    let junk = Vec::from_slice(alloc, &[0])?;
+    let frame = Vec::from_slice(alloc, &SAFE_17)?;
+    let again = Vec::from_slice(alloc, &SAFE_17)?;
+    Ok(vec![in alloc; junk, frame, again]?)
+}
+
+#[test]
+fn a_peer_opens_each_frame_once(rt: HostRuntime) -> Result<(), Fail> {
+    let alloc = rt.alloc();
+    let mut other = peer(alloc, 2, 1)?;
+    let frames = three(alloc)?;
+    let mut answers = [Err(Fault::Empty), Err(Fault::Empty), Err(Fault::Empty)];
+    open_each(&mut *other, alloc, frames.as_slice(), &AT, &mut answers);
+    assert_eq!(rt; (code_of(&answers[0]), code_of(&answers[2])), (901, 42));
+    assert!(rt; is_user(&answers[1], b"Dhi"));
+    assert_eq!(rt; (other.next(), other.expected()), (7, 8));
     Ok(())
 }
 

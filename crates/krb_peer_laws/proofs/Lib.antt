@@ -5,3 +5,5 @@ pub mod SealedRecordLemmas
 pub mod InCLemmas
 pub mod HappenLemmas
 pub mod TurnLemmas
+pub mod OpenedLemmas
+pub mod FrameSizeLemmas

@@ -23,7 +23,7 @@ use Rattle.krb_structs.specs.PeerExport.{OneExport}
 use Rattle.krb_structs.specs.Session.{expect_of, session_of}
 use Rattle.krb_peer_laws.specs.Peers.{PeerEnd, PeerCall, Sealing, Opening, IsPeerAt, IsPeerCall, ArePeerCalls, Hears, IsSealedOf, OpenNoForgery, opened_by, opened_in, sealed_by, sealed_in, sealings_in, ArePeers, TellsApart, OpenOfBoth}
 use Rattle.krb_peer_laws.specs.Peers.PeerCall.{Sealed, Opened, Resumed, Failed}
-use Rattle.krb_peer_laws.specs.PeerLaws.{PeersBegin, PeersKeepNumbers, PeersOpenInOrder, PeersAgree}
+use Rattle.krb_peer_laws.specs.PeerLaws.{PeersBegin, PeerCallsGoOn, PeersKeepNumbers, PeersOpenInOrder, PeersAgree}
 use Rattle.krb_peer_laws.proofs.ReflectionLemmas.{peers_refuse}
 
 -- ---- one call
@@ -31,11 +31,11 @@ use Rattle.krb_peer_laws.proofs.ReflectionLemmas.{peers_refuse}
 pub begin : PeersBegin
 begin e = record { first = e.session.first; is = refl }
 
-renumbered : (e : PeerEnd) (n m k l : ℕ) (p : PeerState) → n ≡ m → k ≡ l → IsPeerAt e n k p → IsPeerAt e m l p
+pub renumbered : (e : PeerEnd) (n m k l : ℕ) (p : PeerState) → n ≡ m → k ≡ l → IsPeerAt e n k p → IsPeerAt e m l p
 renumbered e n m k l p one two at = subst (λ (x : ℕ). IsPeerAt e x l p) one (subst (λ (x : ℕ). IsPeerAt e n x p) two at)
 
 -- the numbers after one call
-after_call : OneExport → (e : PeerEnd) (p q : PeerState) (call : PeerCall) (n x : ℕ) → IsPeerAt e n x p → IsPeerCall e p call q
+pub after_call : OneExport → (e : PeerEnd) (p q : PeerState) (call : PeerCall) (n x : ℕ) → IsPeerAt e n x p → IsPeerCall e p call q
     → IsPeerAt e (n + length (sealed_by call)) (x + length (opened_by call)) q
 after_call law e p q (Sealed s) n x at is =
     let more = ap (λ (r : PeerState). record r { sealer = record r.sealer { next = r.sealer.next + 1 } }) at.is in
@@ -50,6 +50,10 @@ after_call law e p q (Resumed state) n x at is =
     let its_number : expected ≡ x = sym same.1 ∙ ap (λ (r : PeerState). r.demand.number) at.is in
     renumbered e next (n + 0) expected (x + 0) q (omega (arith, its_next)) (omega (arith, its_number)) (record { first = next; is = is.1.1.2 })
 after_call law e p q Failed n x at is = renumbered e n (n + 0) x (x + 0) q (omega arith) (omega arith) (record { first = at.first; is = is ∙ at.is })
+
+pub calls_go_on : PeerCallsGoOn
+calls_go_on e p q r [] more are then = subst (λ (z : PeerState). ArePeerCalls e z more r) are then
+calls_go_on e p q r (call ∷ calls) more are then = (are.0, are.1, calls_go_on e are.0 q r calls more are.2 then)
 
 pub keep_numbers : OneExport → PeersKeepNumbers
 keep_numbers law e p q [] n x at are = renumbered e n (n + 0) x (x + 0) q (omega arith) (omega arith) (record { first = at.first; is = are ∙ at.is })
@@ -118,7 +122,7 @@ GivesAt e number o =
 given_here : (e : PeerEnd) (p q : PeerState) (o : Opening) (n x : ℕ) → IsPeerAt e n x p → IsPeerCall e p (Opened o) q → GivesAt e x o
 given_here e p q o n x at is = subst (λ (r : PeerState). GivesTo (Some r.opener) r.demand o.now o.frame o.user o.told) at.is is.0
 
-own_data : (e : PeerEnd) (sealer : SealerState) (all : List (List ℕ)) (c : ℕ) (o : Opening) → Hears e sealer → IsSealedOf sealer all o.frame → GivesAt e (sealer.next + c) o → slice_get all c ≡ Some o.user
+pub own_data : (e : PeerEnd) (sealer : SealerState) (all : List (List ℕ)) (c : ℕ) (o : Opening) → Hears e sealer → IsSealedOf sealer all o.frame → GivesAt e (sealer.next + c) o → slice_get all c ≡ Some o.user
 own_data e sealer all c o hears own (b, (x, authentic, as_demanded), user_is, told_is) =
     let expect = expect_of (peer_expect e.session e.demand) in
     let opener = opener_of e.etype e.key expect in

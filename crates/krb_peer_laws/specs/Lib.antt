@@ -7,3 +7,5 @@ pub mod InC
 pub mod PeersHappen
 pub mod PeerTurn
 pub mod TakenFrames
+pub mod OpenedFrames
+pub mod FrameSizes

@@ -18,6 +18,13 @@ PeersKeepNumbers =
     → IsPeerAt e next expected start → ArePeerCalls e start calls end
     → IsPeerAt e (next + length (sealings_in calls)) (expected + length (opened_in calls)) end
 
+-- some calls and those that go on from them are calls
+abbrev pub PeerCallsGoOn : Type 0
+PeerCallsGoOn =
+    (e : PeerEnd) (start between end : PeerState) (calls more : List PeerCall)
+    → ArePeerCalls e start calls between → ArePeerCalls e between more end
+    → ArePeerCalls e start (calls ++ more) end
+
 -- whatever comes, what is opened continues the first data, in order and each once
 abbrev pub PeersOpenInOrder : Type 0
 PeersOpenInOrder =

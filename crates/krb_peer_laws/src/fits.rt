@@ -1,13 +1,14 @@
 //! Each call that succeeds is one of the calls that the laws speak of.
 
-ghost use Rattle.std.specs.Prelude.{◌≡◌, ℕ, List, Option, Some, IfOk, OnErr, All, length, take};
+ghost use Rattle.std.specs.Prelude.{◌≡◌, ◌≤◌, ℕ, List, Option, Some, IfOk, OnErr, All, drop, length, take};
 ghost use Rattle.krb_structs.specs.Fault.{answer_of};
 ghost use Rattle.krb_structs.specs.Moment.{micros_of};
+ghost use Rattle.krb_structs.specs.Opening.{MisordersTo};
 ghost use Rattle.krb_structs.specs.PeerExport.{export_of};
 ghost use Rattle.krb_structs.specs.Reasons.{DemandAnswer, ResumeAnswer, SealAnswer};
 ghost use Rattle.krb_peers.specs.Calls.{Answers, AreCalls, Call, Moves};
 ghost use Rattle.krb_peers.specs.Plan.{contents};
-ghost use Rattle.krb_peer_laws.specs.TakenFrames.{frames_of};
+ghost use Rattle.krb_peer_laws.specs.TakenFrames.{AreAnswers, frames_of};
 ghost use Rattle.krb_peer_laws.specs.Peers.{PeerEnd, IsPeerCall};
 ghost use Rattle.krb_peer_laws.specs.Peers.PeerCall.{Sealed, Opened, Resumed};
 
@@ -31,8 +32,10 @@ pub fn take_frame(
     receiver.take(alloc, frame, now)
 }
 
-/// Seals user data. It answers 0 if and only if no condition of `SealAnswer` holds and memory was available,
-/// and else the number of the first that does.
+/// Seals user data at the peer's next number, and answers the size of the frame, with which `out` begins then.
+///
+/// It succeeds if and only if all conditions of `SealAnswer` hold and memory was available, and else its fault is
+/// that of the first that doesn't hold, and nothing has changed.
 pub fn seal_peer(
     peer: &mut Peer,
     alloc: Global,
@@ -48,14 +51,20 @@ pub fn seal_peer(
       frame = take size out.new;
     })) peer.new) }
     ensures none { OnErr result (peer.new ≡ peer.old) }
+    ensures size { IfOk result (λ size. size ≤ length out.new) }
+    ensures rest { IfOk result (λ size. drop size out.new ≡ drop size out.old) }
+    ensures kept { OnErr result (out.new ≡ out.old) }
     ensures answer { SealAnswer peer.old.sealer (length user.now) at.now (length out.old)
         (answer_of result) }
 {
     peer.seal(alloc, user, at, confounder, out)
 }
 
-/// Opens a frame. It answers 0 if and only if no condition of `DemandAnswer` holds and memory was available,
-/// and else the number of the first that does.
+/// Opens a frame, and answers the size of its user data, with which `out` begins then.
+///
+/// It succeeds if and only if all conditions of `DemandAnswer` hold and memory was available, and else its fault is
+/// that of the first that doesn't hold. Then nothing has changed, but that `told` says what a message carried
+/// that was refused for its number alone (BADORDER).
 pub fn open_peer(
     peer: &mut Peer,
     alloc: Global,
@@ -71,14 +80,22 @@ pub fn open_peer(
       told = told.new;
     })) peer.new) }
     ensures none { OnErr result (peer.new ≡ peer.old) }
+    ensures size { IfOk result (λ size. size ≤ length out.new) }
+    ensures rest { IfOk result (λ size. drop size out.new ≡ drop size out.old) }
+    ensures kept { OnErr result (out.new ≡ out.old) }
+    ensures misordered { answer_of result ≡ 42 → MisordersTo (Some peer.old.opener)
+        peer.old.demand (micros_of at.now) frame.now told.new }
+    ensures untold { ¬ (answer_of result ≡ 0) → ¬ (answer_of result ≡ 42) → told.new ≡ told.old }
     ensures answer { DemandAnswer (Some peer.old.opener) peer.old.demand at.now frame.now
         (length out.old) (answer_of result) }
 {
     peer.open(alloc, frame, at, out, told)
 }
 
-/// Goes on from the export of a peer. It answers 0 if and only if no condition of `ResumeAnswer` holds and
-/// memory was available, and else the number of the first that does.
+/// Goes on from the export of a peer.
+///
+/// It succeeds if and only if all conditions of `ResumeAnswer` hold and memory was available, and else its fault is
+/// that of the first that doesn't hold.
 pub fn resume_peer(
     peer: &Peer,
     alloc: Global,
@@ -101,18 +118,24 @@ pub fn resume_peer(
     Peer::resume(alloc, etype, key, session, demand, &state)
 }
 
-/// Takes frames one after another, whatever each call answers.
+/// Takes frames one after another, whatever each call answers, and writes each answer.
 ///
-/// There is one call for each frame, in their order, and each is made at `now`.
-pub fn take_each(receiver: &mut Receiver, alloc: Global, frames: &[Vec<u8>], now: Moment)
+/// There is one call for each frame, in their order, and each is made at `now`. Its answer is its verdict, or
+/// out of memory: then nothing changed, and the frame may be taken again.
+pub fn take_each(
+    receiver: &mut Receiver,
+    alloc: Global,
+    frames: &[Vec<u8>],
+    now: Moment,
+    answers: &mut [Result<Delivery, Refusal>],
+)
+    requires { length answers.old ≡ length frames.now }
     ensures { (calls : List Call) × AreCalls receiver.old calls receiver.new
-        × (frames_of calls ≡ contents frames.now) × All (λ call. call.now ≡ now) calls }
+        × (frames_of calls ≡ contents frames.now) × All (λ call. call.now ≡ now) calls
+        × AreAnswers answers.new calls }
 {
     calls_laws();
-    for frame in frames {
-        match receiver.take(alloc, frame.as_slice(), now) {
-            Ok(_) => {}
-            Err(_) => {}
-        }
+    for k in 0..frames.len() {
+        answers[k] = receiver.take(alloc, frames[k].as_slice(), now);
     }
 }

@@ -1,7 +1,7 @@
 //! Two peers, of which each opens what the other one sealed.
 
 ghost use Rattle.krb_peer_laws.specs.Reflection.{OpenersRefuseOwn, PeersRefuseOwn, AddressesTell};
-ghost use Rattle.krb_peer_laws.specs.PeerLaws.{PeersBegin, PeersKeepNumbers, PeersOpenInOrder, PeersAgree};
+ghost use Rattle.krb_peer_laws.specs.PeerLaws.{PeersBegin, PeerCallsGoOn, PeersKeepNumbers, PeersOpenInOrder, PeersAgree};
 ghost use Rattle.krb_peer_laws.specs.PeersHappen.{PeersHappen};
 ghost use Rattle.krb_peer_laws.specs.PeerTurn.{PeersOpenTheNext};
 
@@ -24,7 +24,8 @@ pub fn reflection_laws()
 /// exports, from which a peer is resumed.
 ///
 /// A new peer and one that is resumed are those of their key, session and demand at some numbers
-/// (`begins`), and calls lead from numbers to numbers (`numbers`). What is opened continues, in order
+/// (`begins`). Calls and those that go on from where they lead are calls (`goes_on`), and lead from numbers to
+/// numbers (`numbers`). What is opened continues, in order
 /// and each once, what the other end sealed from the first demanded number on, if none is a forgery:
 /// each was sealed there, or carries the data of its number (`in_order`). Of two peers, each of which
 /// demands another sender's address than its own, each opens a prefix of what the other one sealed,
@@ -34,6 +35,7 @@ pub fn reflection_laws()
 /// peer seals all, and the other one opens all (`met`).
 pub fn peer_laws()
     ensures begins { PeersBegin }
+    ensures goes_on { PeerCallsGoOn }
     ensures numbers { PeersKeepNumbers }
     ensures in_order { PeersOpenInOrder }
     ensures both { PeersAgree }
