@@ -120,7 +120,9 @@ def deleted_and_receiver_away(world):
 
 
 def frames_repeated(world):
-    time.sleep(3)
+    until = time.monotonic() + machines.PATIENCE
+    while not all(world.of_shards(world.effects())) and time.monotonic() < until:
+        time.sleep(1)
     for shard in range(world.options.shards):
         note(world, ask_any(world, "repeat", shard, REPEATS) is not None, f"{shard} isn't repeated")
 
