@@ -119,9 +119,14 @@ def deleted_and_receiver_away(world):
     time.sleep(2)
 
 
+def has_effects(world):
+    """Whether texts of each shard took effect."""
+    return bool(world.count()) and all(world.of_shards(world.effects()))
+
+
 def frames_repeated(world):
     until = time.monotonic() + machines.PATIENCE
-    while not all(world.of_shards(world.effects())) and time.monotonic() < until:
+    while not has_effects(world) and time.monotonic() < until:
         time.sleep(1)
     for shard in range(world.options.shards):
         note(world, ask_any(world, "repeat", shard, REPEATS) is not None, f"{shard} isn't repeated")
