@@ -503,7 +503,7 @@ CASES = (
          made={"seconds": 70}),
     Case(disks_and_outbox_full, "all nodes' disks and an outbox's are full for 9 s", 75, 60,
          stays_down=STUCK, made=R | {"disks": FULL, "rate": 600, "size": 1000}),
-    Case(frames_repeated, "each frame of the streams is published 20 times more", 150, 40,
+    Case(frames_repeated, "each frame of the streams is published 20 times more", 240, 40,
          made=R | {"seconds": 25}),
     Case(poison_effect, "300 sessions; the store refuses the effect of one text for 12 s", 75,
          made=MANY | {"seconds": 20}),
