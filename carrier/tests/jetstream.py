@@ -102,7 +102,7 @@ def frames(port, shard, host="127.0.0.1", patience=PATIENCE):
     try:
         connection.subscribe(INBOX)
         state = member(connection.ask(f"$JS.API.STREAM.INFO.KRB_{shard}"), "state")
-        for offset in range(state["first_seq"], state["last_seq"] + 1):
+        for offset in range(max(1, state["first_seq"]), state["last_seq"] + 1):   # 0: it is empty
             answer = connection.ask(f"$JS.API.STREAM.MSG.GET.KRB_{shard}", b'{"seq":%d}' % offset)
             if answer.get("error", {}).get("err_code") == NOT_THERE:
                 continue

@@ -564,7 +564,7 @@ def judge(world, case, since):
     if gap > case.gap:
         faults.append(f"nothing took effect for {gap:.1f} s")
     noted = len(world.notes)
-    world.require_end([*SENDERS, *RECEIVERS])
+    world.require_end([it for it in (*SENDERS, *RECEIVERS) if world.processes[it].is_tended])
     faults += world.notes[noted:]
     faults += [f"{what}: {count}" for what, count in world.counts.items()] if faults else []
     return faults, (f"{sent} texts sent, {delivered} delivered, {lost} lost, {doubled} doubled;"

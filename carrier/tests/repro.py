@@ -1208,9 +1208,10 @@ def terminate(place):
         require_end(place, process, f"a {name} whose {file} is locked")
         thread.join()
     sender, receiver = place.start("sender"), place.start("receiver")
-    place.await_delivered({"ann": 6})
-    place.nats.running[0].send_signal(signal.SIGSTOP)
     place.put(texts("ann", 6, 7))
+    place.await_delivered({"ann": 7})       # so both are connected
+    place.nats.running[0].send_signal(signal.SIGSTOP)
+    place.put(texts("ann", 7, 8))
     time.sleep(1)
     require_end(place, receiver, "a receiver whose node is silent")
     require_end(place, sender, "a sender whose node is silent")
