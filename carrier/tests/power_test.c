@@ -237,7 +237,7 @@ static void find_carrier(void)
 
 static void remove_all(const char *folder)
 {
-    static const char *const files[] = { "outbox.db", "store.db", "carrier.db" };
+    static const char *const files[] = { "power_outbox.db", "power_store.db", "power_carrier.db" };
     static const char *const ends[] = { "", "-wal", "-shm", "-journal" };
     char path[PATH];
     size_t i, k;
@@ -276,9 +276,9 @@ int main(int count, char **words)
     uint64_t step, seed;
     int is_at_end = 0;
     check(count == 2, "power_test FOLDER");
-    snprintf(outbox_path, sizeof outbox_path, "%s/outbox.db", words[1]);
-    snprintf(store_path, sizeof store_path, "sqlite:%s/store.db", words[1]);
-    snprintf(carrier_path, sizeof carrier_path, "sqlite:%s/carrier.db", words[1]);
+    snprintf(outbox_path, sizeof outbox_path, "%s/power_outbox.db", words[1]);
+    snprintf(store_path, sizeof store_path, "sqlite:%s/power_store.db", words[1]);
+    snprintf(carrier_path, sizeof carrier_path, "sqlite:%s/power_carrier.db", words[1]);
     for (step = 1; !is_at_end && step < MOST; step++)
         for (seed = 0; seed < SEEDS; seed++) {
             remove_all(words[1]);
