@@ -12,7 +12,7 @@
 #include <sys/wait.h>
 #include <unistd.h>
 
-enum { TEXTS = 6, SHARD = 900, LIST = 77, SEEDS = 4, MOST = 2000, PATH = 512 };
+enum { TEXTS = 4, SHARD = 900, LIST = 77, SEEDS = 3, MOST = 2000, PATH = 512 };
 enum kind { PUT = 'p', LEFT = 'l', TOOK = 't', CONFIRMED = 'c' };
 
 /* What a process says before the power fails: of its kind, this number, with the frame's last bytes. */
