@@ -54,7 +54,8 @@ def supported_v3(copy: Copy) -> Told:
 
 
 def costs(copy: Copy) -> Told:
-    return copy.run(["c/costs", "--unproved", f"{copy.library}/libkrbrelay.so.1"], cwd=copy.top)
+    library = f"{copy.library}/libkrbrelay.so.1"
+    return copy.run(["c/costs", "--of" if copy.is_of_proved_code() else "--unproved", library], cwd=copy.top)
 
 
 # The part of c/signatures that asks for no proved module.

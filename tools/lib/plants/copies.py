@@ -27,9 +27,14 @@ ROOM = tempfile.TemporaryDirectory()     # for what all copies stand on
 ONE = threading.Lock()
 
 
+def is_proved() -> bool:
+    """Whether the library is proved and built of these sources."""
+    return building.is_built(LIBRARY, building.top_of(LIBRARY))
+
+
 def code_of_library() -> str:
     """The library's own code, as it stands here: proved, if that is built, else compiled once without proofs."""
-    if building.is_built(LIBRARY, building.top_of(LIBRARY)):
+    if is_proved():
         return os.path.join(PROVED, "krbrelay.s")
     made = os.path.join(ROOM.name, "code.o")
     with ONE:
@@ -65,6 +70,10 @@ class Copy:
         except subprocess.TimeoutExpired:
             return False, f"not at its end after {SECONDS} seconds"
         return done.returncode == 0, done.stdout.decode(errors="replace")[-3000:]
+
+    def is_of_proved_code(self) -> bool:
+        """Whether the library has the proved code, if with a function around a call of it."""
+        return not self.changes_crates and is_proved()
 
     @functools.cached_property
     def library(self) -> str:
