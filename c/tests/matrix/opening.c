@@ -16,6 +16,16 @@ static void cut(void) { given.frame_len--; }
 static void longer(void) { given.frame_len++; }
 static void closed(void) { given.closed = 1; }
 
+/* Another version of the protocol: pvno, field 0 of both messages (RFC 4120 sections 5.6.1 and 5.7.1). */
+static void other_version(void)
+{
+    static const uint8_t field[] = { 0xa0, 3, 2, 1 };
+    uint8_t *at = frame;
+    while (memcmp(at, field, sizeof field) != 0)
+        at++;
+    at[sizeof field] ^= 5 ^ 6;
+}
+
 static void number_of(uint64_t number)
 {
     given.number = given.demand.number = given.at_handle.number = number;
@@ -41,6 +51,7 @@ static const struct reason reasons[] = {
     { "late", KRBRELAY_SKEW, late },
     { "other sender", KRBRELAY_BADADDR, other_sender },
     { "other mode", KRBRELAY_MSG_TYPE, other_mode },
+    { "other version", KRBRELAY_BADVERSION, other_version },
     { "cut", KRBRELAY_MALFORMED, cut },
     { "longer", KRBRELAY_MALFORMED, longer },
     { "moment", KRBRELAY_MOMENT, moment_of_a_million },
@@ -97,8 +108,8 @@ static void try_reasons(struct call *call, const struct given *from, const struc
             continue;
         of[i].change();
         try_call(call, of[i].why, of[i].answer);
-        if (of[i].change == changed)
-            changed();
+        if (of[i].change == changed || of[i].change == other_version)
+            of[i].change();
     }
 }
 
