@@ -6,7 +6,8 @@ ghost use Rattle.krb_seal.specs.Session.{IsShortAddress};
 use krb_der::{Bytes, HostAddress, Moment};
 use krb_peer_laws::{
     calls_in_c_laws, demand_fields_laws, frame_sizes_laws, open_each, open_frame, open_peer,
-    peer_laws, reflection_laws, resume_peer, seal_peer, sealed_records_laws, take_each, take_frame,
+    open_through_export, peer_laws, reflection_laws, resume_peer, seal_peer, sealed_records_laws,
+    take_each, take_frame,
 };
 use krb_peers::{Delivery, Receiver};
 use krb_seal::{Expect, Mode, Opener, Refusal, SessionKey, exists_laws};
@@ -282,5 +283,31 @@ fn a_peer_opens_each_frame_once(rt: HostRuntime) -> Result<(), Fail> {
     assert_eq!(rt; (code_of(&answers[0]), code_of(&answers[2])), (901, 42));
     assert!(rt; is_user(&answers[1], b"Dhi"));
     assert_eq!(rt; (other.next(), other.expected()), (7, 8));
+    Ok(())
+}
+
+#[test]
+fn a_resumed_peer_opens_no_frame_again(rt: HostRuntime) -> Result<(), Fail> {
+    let alloc = rt.alloc();
+    let (mut other, frames) = (peer(alloc, 2, 1)?, three(alloc)?);
+    let mut answers = [Err(Fault::Empty), Err(Fault::Empty), Err(Fault::Empty)];
+    let (of, from) = (session(2, 0), demand(1, 0));
+    let frames = frames.as_slice();
+    let resumed = open_through_export(
+        &mut *other,
+        alloc,
+        17,
+        &KEY,
+        &of,
+        &from,
+        frames,
+        2,
+        &AT,
+        &mut answers,
+    );
+    let later = made(resumed)?;
+    assert_eq!(rt; (code_of(&answers[0]), code_of(&answers[2])), (901, 42));
+    assert!(rt; is_user(&answers[1], b"Dhi"));
+    assert_eq!(rt; (later.next(), later.expected()), (7, 8));
     Ok(())
 }
