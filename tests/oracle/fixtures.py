@@ -1,7 +1,7 @@
 """The keys, addresses and frames that the tests expect: of krb_seal and krb_peers (in
 krb_peers_tests), krb_core (in krb_relay_tests), krb_commands, krbrelay, krb_structs (in
-krb_structs_tests), of the C programs, of the program example_seal and of the package in python/. The
-sealer is frames.py."""
+krb_structs_tests), krb_peer_laws (in krb_laws_tests), of the C programs, of the program example_seal
+and of the package in python/. The sealer is frames.py."""
 from lib.jobs import MICROS
 from oracle.frames import (
     batch, body, checksum_of, groups, record, safe, seal_part, seal_priv, seal_safe, tlv)

@@ -7,7 +7,8 @@ use krb_copies::{Finding, Receipt, compare_receipt, copies_laws, own_history};
 use krb_der::{Bytes, HostAddress, Moment};
 use krb_peer_laws::{
     calls_in_c_laws, demand_fields_laws, frame_sizes_laws, open_each, open_frame, open_peer,
-    peer_laws, reflection_laws, resume_peer, seal_peer, sealed_records_laws, take_each, take_frame,
+    open_through_export, peer_laws, reflection_laws, resume_peer, seal_peer, sealed_records_laws,
+    take_each, take_frame,
 };
 use krb_peers::{Delivery, Receiver};
 use krb_seal::{Expect, Mode, Opener, Refusal, SessionKey, exists_laws};
@@ -48,6 +49,15 @@ const HISTORY_OF_TWO: [u8; 20] = [
 
 /// Bytes in place of another sender's frame.
 const SHORT: [u8; 17] = *b"of another sender";
+
+/// The same user data and address, with neither timestamp nor number.
+const BARE_17: [u8; 67] = [
+    0x74, 0x41, 0x30, 0x3f, 0xa0, 0x03, 0x02, 0x01, 0x05, 0xa1, 0x03, 0x02, 0x01, 0x14, 0xa2, 0x1a,
+    0x30, 0x18, 0xa0, 0x05, 0x04, 0x03, 0x44, 0x68, 0x69, 0xa4, 0x0f, 0x30, 0x0d, 0xa0, 0x03, 0x02,
+    0x01, 0x02, 0xa1, 0x06, 0x04, 0x04, 0x0a, 0x00, 0x00, 0x01, 0xa3, 0x17, 0x30, 0x15, 0xa0, 0x03,
+    0x02, 0x01, 0x0f, 0xa1, 0x0e, 0x04, 0x0c, 0xf3, 0x16, 0x4d, 0x72, 0xa6, 0x54, 0xd1, 0xdc, 0x94,
+    0xfb, 0x5e, 0x1a,
+];
 
 const AT: KrbMoment = KrbMoment {
     seconds: 1_700_000_000,
@@ -317,5 +327,61 @@ fn a_copy_of_an_outbox_is_stopped(rt: HostRuntime) -> Result<(), Fail> {
     let copied = compare_receipt(7, 9, &HISTORY_OF_ONE, &receipt);
     assert_eq!(rt; (both, again), (Finding::Delivered, Finding::Repeat));
     assert_eq!(rt; (restored, copied), (Finding::Older, Finding::Forked));
+    Ok(())
+}
+
+#[test]
+fn a_resumed_peer_opens_no_frame_again(rt: HostRuntime) -> Result<(), Fail> {
+    let alloc = rt.alloc();
+    let (mut other, frames) = (peer(alloc, 2, 1)?, three(alloc)?);
+    let mut answers = [Err(Fault::Empty), Err(Fault::Empty), Err(Fault::Empty)];
+    let (of, from) = (session(2, 0), demand(1, 0));
+    let frames = frames.as_slice();
+    let resumed = open_through_export(
+        &mut *other,
+        alloc,
+        17,
+        &KEY,
+        &of,
+        &from,
+        frames,
+        2,
+        &AT,
+        &mut answers,
+    );
+    let later = made(resumed)?;
+    assert_eq!(rt; (code_of(&answers[0]), code_of(&answers[2])), (901, 42));
+    assert!(rt; is_user(&answers[1], b"Dhi"));
+    assert_eq!(rt; (later.next(), later.expected()), (7, 8));
+    Ok(())
+}
+
+/// A demand that ignores the sender's address, takes a message without a timestamp, and begins with the number 0.
+/// If `how_number` is 3, a message without a number counts as the number 0 (RFC 4120 section 5.1.2).
+fn partial_demand(how_number: u32) -> KrbDemand {
+    let mut partial = demand(1, 0);
+    partial.how_sender = 0;
+    partial.sender = NO_ADDRESS;
+    partial.how_time = 1;
+    partial.how_number = how_number;
+    partial
+}
+
+#[test]
+fn a_partial_demand_is_met(rt: HostRuntime) -> Result<(), Fail> {
+    let (alloc, mut text, mut told) = (rt.alloc(), [0u8; 3], nothing_carried());
+    let mut other = made(Peer::new(alloc, 17, &KEY, &session(2, 7), &partial_demand(3)))?;
+    let size = open_peer(&mut *other, alloc, &BARE_17, &AT, &mut text, &mut told);
+    assert_eq!(rt; (size.ok(), &text), (Some(3), b"Dhi"));
+    assert_eq!(rt;
+        (told.has_seconds, told.has_microseconds, told.has_number),
+        (0, 0, 0)
+    );
+    assert_eq!(rt; other.expected(), 1);
+    let again = open_frame(&mut *other, alloc, &BARE_17, &AT);
+    assert_eq!(rt; (code_of(&again), other.expected()), (42, 1));
+    let mut strict = made(Peer::new(alloc, 17, &KEY, &session(2, 7), &partial_demand(2)))?;
+    let none = open_frame(&mut *strict, alloc, &BARE_17, &AT);
+    assert_eq!(rt; (code_of(&none), strict.expected()), (42, 0));
     Ok(())
 }

@@ -1,6 +1,6 @@
 -- Demands that are met, field by field.
-use Rattle.std.proofs.Common.{◌≡◌, ◌≢◌, ◌⊎◌, ◌≤◌, ◌*◌, ℕ, zero, suc, inl, inr, arith, Bool, true, false, List, [], ◌∷◌, Option, Some, None, Result, Ok, Err, length, refl, sym, ap, ap₂, subst, ◌∙◌}
-use Rattle.std.specs.Prelude.{◌&&◌, ◌||◌, not, nat_eq, nat_le, is_some}
+use Rattle.std.proofs.Common.{◌≡◌, ◌≢◌, ◌⊎◌, ◌≤◌, ◌*◌, ℕ, zero, suc, inl, inr, arith, Bool, true, false, List, Option, Some, None, Ok, Err, length, refl, sym, ap, ap₂, subst, ◌∙◌}
+use Rattle.std.specs.Prelude.{◌&&◌, ◌||◌, not, nat_eq, is_some}
 use Rattle.std.specs.Int.{abs_diff}
 use Rattle.std.specs.Ordering.{int_eq}
 use Rattle.std.specs.Str.{bytes_eq}
@@ -20,7 +20,7 @@ use Rattle.krb_seal.proofs.SealedFrames.{all_met, met_all}
 use Rattle.krb_structs.specs.declared.demand.KrbDemand.{KrbDemand}
 use Rattle.krb_structs.specs.Demand.{AreShort, AsDemanded, all_have_room, demand_checks, has_room, is_near, is_within, needs_meet, number_meets, receiver_meets, sender_meets, tells_number, tells_time, time_meets}
 use Rattle.krb_structs.specs.Session.{address_of, address_room}
-use Rattle.krb_peer_laws.specs.Demands.{MeetsFields, DemandsMean, OpensAtItsNumberAlone, TellsNumber, TellsTime}
+use Rattle.krb_peer_laws.specs.Demands.{MeetsFields, DemandsMean, OpensAtItsNumberAlone}
 
 -- ---- one field
 

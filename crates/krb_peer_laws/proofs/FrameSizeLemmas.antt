@@ -1,9 +1,9 @@
 -- Zeros can be sealed, so there are frames of each size.
-use Rattle.std.proofs.Common.{◌≡◌, ◌<◌, ◌≤◌, ℕ, ℤ, List, get_or, length, replicate, refl, sym, subst, ◌∙◌, inl, inr, arith}
+use Rattle.std.proofs.Common.{◌≡◌, ◌<◌, ℕ, ℤ, get_or, replicate, refl, sym, subst, ◌∙◌, inl, inr, arith}
 use Rattle.std.proofs.lemmas.Bool.{cases_lt}
 use Rattle.std.proofs.lemmas.List.{get_or_past, get_or-replicate, length-replicate}
 use Rattle.krb_base.specs.Bytes.{AreBytes}
-use Rattle.krb_etype.specs.Etype.{confounder_size, number_of}
+use Rattle.krb_etype.specs.Etype.{confounder_size}
 use Rattle.krb_seal.specs.Exists.{CanBeSealed}
 use Rattle.krb_seal.specs.Sealer.{SealerState}
 use Rattle.krb_seal.specs.Seals.{Seals, sealed}

@@ -1,20 +1,22 @@
 -- What a peer opens of frames that come one after another.
-use Rattle.std.proofs.Common.{◌≡◌, ◌⊎◌, ℕ, suc, ◌+◌, ◌-◌, ◌≤◌, List, map, [], ◌∷◌, ◌++◌, length, take, drop, slice_get, Vec, Some, Result, Ok, Err, refl, sym, ap, subst, ◌∙◌, inl, inr, arith, append_assoc, length-append}
+use Rattle.std.proofs.Common.{◌≡◌, ◌⊎◌, ℕ, ℤ, suc, ◌+◌, ◌-◌, ◌≤◌, List, [], ◌∷◌, ◌++◌, length, take, drop, slice_get, Vec, Some, Result, Ok, Err, refl, sym, ap, subst, ◌∙◌, inl, inr, arith, append_assoc, length-append}
+use Rattle.std.specs.List.{drop-map}
 use Rattle.std.proofs.lemmas.Grind.{flat_map-append}
-use Rattle.std.proofs.lemmas.List.{append-nil, drop_all, drop_at, drop-drop, length-drop, length-map, length-take-le, take_all, take-append-drop, take-map, take_at}
+use Rattle.std.proofs.lemmas.List.{append-nil, drop_all, drop_at, drop-drop, length-drop, length-map, length-take-le, map-append, take_all, take-append-drop, take-map, take_at}
 use Rattle.krb_peers.specs.Plan.{contents}
 use Rattle.krb_base.specs.Prefix.{IsPrefix}
 use Rattle.krb_peers.proofs.ListLemmas.{drop_get}
-use Rattle.krb_seal.specs.Opens.{opener_of}
 use Rattle.krb_seal.specs.Sealer.{SealerState}
 use Rattle.krb_structs.specs.declared.fault.Fault.{Fault}
 use Rattle.krb_structs.specs.declared.moment.KrbMoment.{KrbMoment}
 use Rattle.krb_structs.specs.Moment.{micros_of}
 use Rattle.krb_structs.specs.Opening.{GivesTo}
-use Rattle.krb_structs.specs.Peer.{PeerState}
-use Rattle.krb_structs.specs.PeerExport.{OneExport}
-use Rattle.krb_peer_laws.specs.OpenedFrames.{AnswersAreCalls, AreCallsOf, IsCallOf, NoneForged, OpensEach, OpensFrame, OpensInOrder, opened_of, user_in}
-use Rattle.krb_peer_laws.specs.Peers.{PeerEnd, PeerCall, Opening, IsPeerAt, IsPeerCall, ArePeerCalls, Hears, IsSealedOf}
+use Rattle.krb_structs.specs.declared.demand.KrbDemand.{KrbDemand}
+use Rattle.krb_structs.specs.declared.session.KrbSession.{KrbSession}
+use Rattle.krb_structs.specs.Peer.{PeerState, Resumes}
+use Rattle.krb_structs.specs.PeerExport.{Exports, OneExport, export_of}
+use Rattle.krb_peer_laws.specs.OpenedFrames.{AnswersAreCalls, NoneForged, OpensEach, OpensFrame, OpensInOrder, opened_of, user_in}
+use Rattle.krb_peer_laws.specs.Peers.{PeerEnd, PeerCall, Opening, IsPeerAt, IsPeerCall, Hears, IsSealedOf}
 use Rattle.krb_peer_laws.specs.Peers.PeerCall.{Opened, Resumed, Failed}
 use Rattle.krb_peer_laws.proofs.PeerLemmas.{after_call, own_data, renumbered}
 
@@ -143,3 +145,33 @@ both_written one two old split long =
 
 pub rest_is : {X : Type 0} (xs : List X) (k : ℕ) → take (length xs - k) (drop k xs) ≡ drop k xs
 rest_is xs k = take_all (length xs - k) (drop k xs) (omega (arith, length-drop k xs))
+
+-- what is opened of the front of a list, by the answers that are written to its front
+pub front_part : {A B : Type 0} (frames : List (Vec ℕ A)) (answers written : List (Result (Vec ℕ B) Fault)) (split : ℕ) (p q : PeerState) (at : KrbMoment) → take split written ≡ answers
+    → OpensEach p at (contents (take split frames)) answers q → OpensEach p at (take split (contents frames)) (take split written) q
+front_part {A} {B} frames answers written split p q at is are =
+    let framed : OpensEach p at (take split (contents frames)) answers q = subst (λ (l : List (List ℕ)). OpensEach p at l answers q) (sym (take-map (λ (v : Vec ℕ A). v.items) split frames)) are in
+    subst (λ (l : List (Result (Vec ℕ B) Fault)). OpensEach p at (take split (contents frames)) l q) (sym is) framed
+
+-- and of the rest
+pub rest_part : {A B : Type 0} (frames fs : List (Vec ℕ A)) (answers written : List (Result (Vec ℕ B) Fault)) (split : ℕ) (p q : PeerState) (at : KrbMoment) → drop split written ≡ answers
+    → OpensEach p at (contents fs) answers q → fs ≡ drop split frames → OpensEach p at (drop split (contents frames)) (drop split written) q
+rest_part {A} {B} frames fs answers written split p q at is are those =
+    let framed : OpensEach p at (drop split (contents frames)) answers q =
+    subst (λ (l : List (List ℕ)). OpensEach p at l answers q) (ap (λ (l : List (Vec ℕ A)). contents l) those ∙ sym (drop-map (λ (v : Vec ℕ A). v.items) split frames)) are in
+    subst (λ (l : List (Result (Vec ℕ B) Fault)). OpensEach p at (drop split (contents frames)) l q) (sym is) framed
+
+contents_parts : {A : Type 0} (frames : List (Vec ℕ A)) (split : ℕ) → contents (take split frames) ++ contents (drop split frames) ≡ contents frames
+contents_parts {A} frames split = sym (map-append (λ (v : Vec ℕ A). v.items) (take split frames) (drop split frames)) ∙ ap (λ (l : List (Vec ℕ A)). contents l) (take-append-drop split frames)
+
+pub whole_in_order : {A B : Type 0} → OneExport → (e : PeerEnd) (frames fs : List (Vec ℕ A)) (one two written : List (Result (Vec ℕ B) Fault)) (split : ℕ) (p q between r : PeerState) (state : List ℕ) (at : KrbMoment) → written ≡ one ++ two
+    → OpensEach p at (contents (take split frames)) one q → IsPeerCall e q (Resumed state) between → OpensEach between at (contents fs) two r → fs ≡ drop split frames → OpensInOrder e p (contents frames) written
+whole_in_order {A} {B} law e frames fs one two written split p q between r state at is before resumes after those =
+    let rest : OpensEach between at (contents (drop split frames)) two r = subst (λ (l : List (Vec ℕ A)). OpensEach between at (contents l) two r) those after in
+    let parts : OpensInOrder e p (contents (take split frames) ++ contents (drop split frames)) (one ++ two) = in_order_through law e p q between r state at (contents (take split frames)) (contents (drop split frames)) one two before resumes rest in
+    let framed : OpensInOrder e p (contents frames) (one ++ two) = subst (λ (l : List (List ℕ)). OpensInOrder e p l (one ++ two)) (contents_parts frames split) parts in
+    subst (λ (l : List (Result (Vec ℕ B) Fault)). OpensInOrder e p (contents frames) l) (sym is) framed
+
+-- a peer that is resumed from an export is resumed from the export of these numbers
+pub from_its_export : (etype : ℤ) (key : List ℕ) (told : KrbSession) (d : KrbDemand) (state : List ℕ) (next expected : ℕ) (p : PeerState) → Exports state next expected → Resumes etype key told d state p → Resumes etype key told d (export_of next expected) p
+from_its_export etype key told d state next expected p exports resumes = subst (λ (s : List ℕ). Resumes etype key told d s p) exports.bytes resumes

@@ -1,12 +1,20 @@
 //! Frames that a peer opens one after another.
 
-ghost use Rattle.std.specs.Prelude.{◌≡◌, length};
+ghost use Rattle.std.specs.Prelude.{◌≡◌, ◌≤◌, List, Ok, drop, length, take, IfOk, OnErr, OnOk};
+ghost use Rattle.krb_structs.specs.Fault.{answer_of};
+ghost use Rattle.krb_structs.specs.Peer.{PeerState, Resumes};
+ghost use Rattle.krb_structs.specs.PeerExport.{export_of};
+ghost use Rattle.krb_structs.specs.Reasons.{ResumeAnswer};
 ghost use Rattle.krb_peers.specs.Plan.{contents};
 ghost use Rattle.krb_peer_laws.specs.OpenedFrames.{AnswersAreCalls, OpensEach, OpensFrame, OpensInOrder};
 ghost use Rattle.krb_peer_laws.specs.Peers.{PeerEnd};
 
+use crate::fits::resume_peer;
 use krb_seal::Refusal;
-use krb_structs::{ADDRESS_ROOM, Fault, KrbAddress, KrbCarried, KrbMoment, Peer, export_laws};
+use krb_structs::{
+    ADDRESS_ROOM, Fault, KrbAddress, KrbCarried, KrbDemand, KrbMoment, KrbSession, Peer,
+    export_laws,
+};
 use std::alloc::Global;
 
 const NO_ADDRESS: KrbAddress = KrbAddress {
@@ -75,4 +83,57 @@ pub fn open_each(
     for k in 0..frames.len() {
         answers[k] = open_frame(peer, alloc, frames[k].as_slice(), at);
     }
+}
+
+/// Opens frames one after another: the peer opens the first of them, up to `split`, and a peer that is resumed from
+/// its export opens the others. Gives that peer.
+///
+/// Each frame has one answer, as [`open_each`] says (`before`, `after`). What is opened continues, in order and
+/// each once, what the other end sealed, as if no export came between (`headline`). Where the peer can't be
+/// resumed the other frames have no answer (`rest`).
+pub fn open_through_export(
+    peer: &mut Peer,
+    alloc: Global,
+    etype: i32,
+    key: &[u8],
+    session: &KrbSession,
+    demand: &KrbDemand,
+    frames: &[Vec<u8>],
+    split: usize,
+    at: &KrbMoment,
+    answers: &mut [Result<Vec<u8>, Fault>],
+) -> Result<Box<Peer>, Fault>
+    requires split { split ≤ length frames.now }
+    requires answers { length answers.old ≡ length frames.now }
+    ensures before { OpensEach peer.old at.now (take split (contents frames.now))
+        (take split answers.new) peer.new }
+    ensures after { IfOk result (λ b. (resumed : PeerState)
+        × Resumes etype key.now session.now demand.now
+        (export_of peer.new.sealer.next peer.new.demand.number) resumed
+        × OpensEach resumed at.now (drop split (contents frames.now)) (drop split answers.new) b.value) }
+    ensures rest { OnErr result (drop split answers.new ≡ drop split answers.old) }
+    ensures answer { ResumeAnswer etype (length key.now) session.now demand.now
+        (export_of peer.new.sealer.next peer.new.demand.number) (answer_of result) }
+    ensures headline { OnOk result (OpensInOrder (record {
+      etype = etype;
+      key = key.now;
+      session = session.now;
+      demand = demand.now;
+    })
+        peer.old (contents frames.now) answers.new) }
+{
+    export_laws();
+    open_each(peer, alloc, &frames[..split], at, &mut answers[..split]);
+    let mut resumed = match resume_peer(peer, alloc, etype, key, session, demand) {
+        Ok(resumed) => resumed,
+        Err(fault) => return Err(fault),
+    };
+    open_each(
+        &mut *resumed,
+        alloc,
+        &frames[split..],
+        at,
+        &mut answers[split..],
+    );
+    Ok(resumed)
 }
