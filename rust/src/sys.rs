@@ -539,7 +539,7 @@ pub fn library_version() -> (u32, u32, u32) {
     (version >> 16, version >> 8 & 0xff, version & 0xff)
 }
 
-#[cfg(test)]
+#[cfg(all(test, feature = "std"))]
 mod tests {
     use core::mem::size_of;
     use std::ffi::CStr;
