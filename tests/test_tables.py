@@ -83,9 +83,9 @@ NO_LIMITS = {"crates/krb_der/src/laws.rt": {65_000}}
 WALKS = "CONTRIBUTING.md"
 SOURCES = ("tables/*", "crates/**/*", "python/**/*", "tools/**/*", "docs/*.md", "docs/*.1",
            "c/**/*", "tests/**/*", "conformance/**/*", "kerberos/**/*", "carrier/**/*",
-           "examples/**/*")
-OF_TESTS = re.compile(r"/out/|/must-fail|mutants\.toml|_tests/|(python|carrier|kerberos)/tests/|^c/tests/(?!answers\.c)|/test_|^tests/(?!oracle/|job_check)"
-                      r"|__pycache__")
+           "examples/**/*", "rust/src/*", "go/*")
+OF_TESTS = re.compile(r"/out/|/must-fail|mutants\.toml|_tests/|(python|carrier|kerberos|rust)/tests/|^c/tests/(?!answers\.c)|/test_|^tests/(?!oracle/|job_check)"
+                      r"|__pycache__|^go/\w+_test\.go|^go/testdata")
 # Running out of memory is no answer of the independent opener, and an exception of its own in
 # Python.
 UNTOLD = {"MEMORY"}
@@ -307,6 +307,8 @@ def of_limits():
     yield HEADER, of_header()[1], wanted | {"FRAME_OVERHEAD": room["FRAME_OVERHEAD"]}
     library = of_python("python/krbrelay/library.py")
     yield "python/krbrelay/library.py", {it: library[it] for it in wanted}, wanted
+    for path, known in limits_of_bindings():
+        yield path, known, wanted | {"FRAME_OVERHEAD": room["FRAME_OVERHEAD"]}
     for path, copy, name in [(f"{ORACLE}/reader.py", "LIMIT", "FRAME_LIMIT"),
                              (f"{ORACLE}/frames.py", "MOST_TEXTS", "BATCH_LIMIT"),
                              (f"{ORACLE}/frames.py", "MOST_BYTES", "BATCH_SIZE_LIMIT"),
@@ -322,6 +324,14 @@ def of_limits():
     size = int(re.search(r"#define KRBRELAY_TEXT_SIZE (\d+)", building.text_of("c/krbrelay.h"))[1])
     for name, row in tomllib.loads(building.text_of("tables/answers.toml")).items():
         yield f"the text of {name} has room", len(row["text"].encode()) < size, True
+
+
+def limits_of_bindings():
+    """The limits that the Rust crate and the Go package name, as the header names them."""
+    for path, pattern in (("rust/src/lib.rs", r"const (\w+): usize = ([\d_]+);"), ("go/krbrelay.go", r"^\t(\w+) += ([\d_]+)$")):
+        found = re.findall(pattern, building.text_of(path), re.M)
+        named = {re.sub(r"(?<=[a-z])(?=[A-Z])", "_", name).upper(): int(number) for name, number in found}
+        yield path, {name: number for name, number in named.items() if not name.endswith("_SIZE")}
 
 
 def of_structs():
@@ -378,7 +388,7 @@ def walk(heading):
 
 def named_files(text):
     """The paths of files that a text names in backquotes, or as docs/*.md."""
-    return set(re.findall(r"`([\w./-]+\.(?:rt|antt|h|c|py|3|1|toml|json))`", text)
+    return set(re.findall(r"`([\w./-]+\.(?:rt|antt|h|c|py|rs|go|3|1|toml|json))`", text)
                + re.findall(r"\bdocs/\w+\.md", text))
 
 
