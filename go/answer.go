@@ -165,9 +165,9 @@ func (o OutOfOrder) Unwrap() error {
 	return ErrBadOrder
 }
 
-func checked(answer C.enum_krbrelay_answer) error {
-	if answer == C.KRBRELAY_OK {
+func checked(told answer) error {
+	if told == C.KRBRELAY_OK {
 		return nil
 	}
-	return Answer(answer)
+	return Answer(told)
 }

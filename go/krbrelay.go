@@ -63,11 +63,20 @@ func at(bytes []byte) *C.uint8_t {
 	return (*C.uint8_t)(unsafe.Pointer(&bytes[0]))
 }
 
-// written is what a call writes into a buffer, whose place, room and place of the written size it is given.
-func written(room int, call func(to *C.uint8_t, room C.size_t, size *C.size_t) C.enum_krbrelay_answer) ([]byte, error) {
+type answer = C.enum_krbrelay_answer
+
+// place is where a call writes bytes: the buffer, its room, and what takes their size.
+type place struct {
+	at   *C.uint8_t
+	room C.size_t
+	size *C.size_t
+}
+
+// written is what a call writes into a buffer of this room.
+func written(room int, call func(to place) answer) ([]byte, error) {
 	buffer := make([]byte, room)
 	var size C.size_t
-	if err := checked(call(at(buffer), C.size_t(room), &size)); err != nil {
+	if err := checked(call(place{at(buffer), C.size_t(room), &size})); err != nil {
 		return nil, err
 	}
 	return buffer[:size:size], nil

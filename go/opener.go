@@ -35,8 +35,9 @@ func (o *Opener) Unseal(frame []byte, number uint64, t time.Time) ([]byte, error
 	}
 	o.lock.Lock()
 	defer o.lock.Unlock()
-	return written(roomOfData(frame), func(to *C.uint8_t, room C.size_t, size *C.size_t) C.enum_krbrelay_answer {
-		return C.krbrelay_opener_unseal(&o.raw, at(frame), C.size_t(len(frame)), C.uint64_t(number), &now, to, room, size)
+	return written(roomOfData(frame), func(to place) answer {
+		return C.krbrelay_opener_unseal(&o.raw, at(frame), C.size_t(len(frame)), C.uint64_t(number), &now,
+			to.at, to.room, to.size)
 	})
 }
 
@@ -52,8 +53,9 @@ func (o *Opener) Open(frame []byte, demand Demand, t time.Time) (*Body, error) {
 	defer o.lock.Unlock()
 	told := demand.raw()
 	var carried C.struct_krbrelay_carried
-	data, err := written(roomOfData(frame), func(to *C.uint8_t, room C.size_t, size *C.size_t) C.enum_krbrelay_answer {
-		return C.krbrelay_opener_open(&o.raw, at(frame), C.size_t(len(frame)), &told, &now, to, room, size, &carried)
+	data, err := written(roomOfData(frame), func(to place) answer {
+		return C.krbrelay_opener_open(&o.raw, at(frame), C.size_t(len(frame)), &told, &now,
+			to.at, to.room, to.size, &carried)
 	})
 	if err != nil {
 		return nil, err

@@ -54,8 +54,8 @@ func makePeer(etype int32, key []byte, session Session, demand Demand, state []b
 func (p *Peer) Seal(userData []byte) ([]byte, error) {
 	p.lock.Lock()
 	defer p.lock.Unlock()
-	return written(roomOfFrame(len(userData)), func(to *C.uint8_t, room C.size_t, size *C.size_t) C.enum_krbrelay_answer {
-		return C.krbrelay_peer_seal_now(&p.raw, at(userData), C.size_t(len(userData)), to, room, size)
+	return written(roomOfFrame(len(userData)), func(to place) answer {
+		return C.krbrelay_peer_seal_now(&p.raw, at(userData), C.size_t(len(userData)), to.at, to.room, to.size)
 	})
 }
 
@@ -68,8 +68,9 @@ func (p *Peer) SealAt(userData []byte, t time.Time, confounder [16]byte) ([]byte
 	}
 	p.lock.Lock()
 	defer p.lock.Unlock()
-	return written(roomOfFrame(len(userData)), func(to *C.uint8_t, room C.size_t, size *C.size_t) C.enum_krbrelay_answer {
-		return C.krbrelay_peer_seal(&p.raw, at(userData), C.size_t(len(userData)), &now, at(confounder[:]), to, room, size)
+	return written(roomOfFrame(len(userData)), func(to place) answer {
+		return C.krbrelay_peer_seal(&p.raw, at(userData), C.size_t(len(userData)), &now, at(confounder[:]),
+			to.at, to.room, to.size)
 	})
 }
 
@@ -84,8 +85,8 @@ func (p *Peer) Open(frame []byte, t time.Time) (*Body, error) {
 	p.lock.Lock()
 	defer p.lock.Unlock()
 	var carried C.struct_krbrelay_carried
-	data, err := written(roomOfData(frame), func(to *C.uint8_t, room C.size_t, size *C.size_t) C.enum_krbrelay_answer {
-		return C.krbrelay_peer_open(&p.raw, at(frame), C.size_t(len(frame)), &now, to, room, size, &carried)
+	data, err := written(roomOfData(frame), func(to place) answer {
+		return C.krbrelay_peer_open(&p.raw, at(frame), C.size_t(len(frame)), &now, to.at, to.room, to.size, &carried)
 	})
 	if err == ErrBadOrder && carried.has_number != 0 {
 		return nil, OutOfOrder{uint32(carried.number)}

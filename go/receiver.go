@@ -48,8 +48,9 @@ func (r *Receiver) Take(frame []byte, t time.Time) (Record, error) {
 	defer r.lock.Unlock()
 	var kind C.uint32_t
 	number := C.uint64_t(lastNumber + 1)
-	bytes, err := written(roomOfData(frame), func(to *C.uint8_t, room C.size_t, size *C.size_t) C.enum_krbrelay_answer {
-		return C.krbrelay_receiver_take_numbered(&r.raw, at(frame), C.size_t(len(frame)), &now, &kind, to, room, size, &number)
+	bytes, err := written(roomOfData(frame), func(to place) answer {
+		return C.krbrelay_receiver_take_numbered(&r.raw, at(frame), C.size_t(len(frame)), &now, &kind,
+			to.at, to.room, to.size, &number)
 	})
 	if err == ErrBadOrder && number <= lastNumber {
 		return nil, OutOfOrder{uint32(number)}

@@ -224,7 +224,7 @@ func TestAPeerGoesOnFromItsExport(t *testing.T) {
 	}
 	writes, demands := ends(krbrelay.Client, krbrelay.Server)
 	one := must[*krbrelay.Peer](t)(krbrelay.NewPeer(18, key256, writes, demands))
-	other := must[*krbrelay.Peer](t)(krbrelay.NewPeer(18, key256, session2(krbrelay.Server), krbrelay.DemandOf(krbrelay.Client)))
+	other := must[*krbrelay.Peer](t)(krbrelay.NewPeer(18, key256, sessionOf(krbrelay.Server), krbrelay.DemandOf(krbrelay.Client)))
 	must[*krbrelay.Body](t)(other.Open(must[[]byte](t)(one.SealAt([]byte("a"), then, drawn[0])), then))
 	state := must[[krbrelay.PeerStateSize]byte](t)(one.Export())
 	one.Close()
@@ -248,7 +248,7 @@ func TestAPeerGoesOnFromItsExport(t *testing.T) {
 	}
 }
 
-func session2(own krbrelay.Address) krbrelay.Session {
+func sessionOf(own krbrelay.Address) krbrelay.Session {
 	return krbrelay.Session{Mode: krbrelay.Priv, Sender: own}
 }
 

@@ -31,8 +31,8 @@ func NewSealer(etype int32, key []byte, session Session) (*Sealer, error) {
 func (s *Sealer) Seal(userData []byte) ([]byte, error) {
 	s.lock.Lock()
 	defer s.lock.Unlock()
-	return written(roomOfFrame(len(userData)), func(to *C.uint8_t, room C.size_t, size *C.size_t) C.enum_krbrelay_answer {
-		return C.krbrelay_sealer_seal_now(&s.raw, at(userData), C.size_t(len(userData)), to, room, size)
+	return written(roomOfFrame(len(userData)), func(to place) answer {
+		return C.krbrelay_sealer_seal_now(&s.raw, at(userData), C.size_t(len(userData)), to.at, to.room, to.size)
 	})
 }
 
@@ -45,8 +45,9 @@ func (s *Sealer) SealAt(userData []byte, t time.Time, confounder [16]byte) ([]by
 	}
 	s.lock.Lock()
 	defer s.lock.Unlock()
-	return written(roomOfFrame(len(userData)), func(to *C.uint8_t, room C.size_t, size *C.size_t) C.enum_krbrelay_answer {
-		return C.krbrelay_sealer_seal(&s.raw, at(userData), C.size_t(len(userData)), &now, at(confounder[:]), to, room, size)
+	return written(roomOfFrame(len(userData)), func(to place) answer {
+		return C.krbrelay_sealer_seal(&s.raw, at(userData), C.size_t(len(userData)), &now, at(confounder[:]),
+			to.at, to.room, to.size)
 	})
 }
 
@@ -59,8 +60,9 @@ func (s *Sealer) SealRecord(record Record) ([]byte, error) {
 	}
 	s.lock.Lock()
 	defer s.lock.Unlock()
-	return written(roomOfFrame(len(bytes)+1), func(to *C.uint8_t, room C.size_t, size *C.size_t) C.enum_krbrelay_answer {
-		return C.krbrelay_sealer_seal_record_now(&s.raw, C.uint32_t(kind), at(bytes), C.size_t(len(bytes)), to, room, size)
+	return written(roomOfFrame(len(bytes)+1), func(to place) answer {
+		return C.krbrelay_sealer_seal_record_now(&s.raw, C.uint32_t(kind), at(bytes), C.size_t(len(bytes)),
+			to.at, to.room, to.size)
 	})
 }
 
@@ -76,9 +78,9 @@ func (s *Sealer) SealRecordAt(record Record, t time.Time, confounder [16]byte) (
 	}
 	s.lock.Lock()
 	defer s.lock.Unlock()
-	return written(roomOfFrame(len(bytes)+1), func(to *C.uint8_t, room C.size_t, size *C.size_t) C.enum_krbrelay_answer {
+	return written(roomOfFrame(len(bytes)+1), func(to place) answer {
 		return C.krbrelay_sealer_seal_record(&s.raw, C.uint32_t(kind), at(bytes), C.size_t(len(bytes)), &now,
-			at(confounder[:]), to, room, size)
+			at(confounder[:]), to.at, to.room, to.size)
 	})
 }
 

@@ -209,8 +209,8 @@ def crate_type(parameter):
 def calls_of_crate():
     """The same of the declarations in the Rust crate, without those of its tests."""
     text = building.text_of(CRATE).partition("mod tests")[0]
-    for name, parameters, gives in re.findall(r"^    fn (krbrelay_\w+)\((.*)\)(.*);$", text, re.M):
-        yield name, ([it.split(": ")[1] for it in parameters.split(", ") if it], gives)
+    for name, parameters, gives in re.findall(r"^    fn (krbrelay_\w+)\((.*?)\)(.*?);$", text, re.M | re.S):
+        yield name, (re.findall(r": (.*?)(?:,|$)", parameters), gives)
 
 
 def of_crate():

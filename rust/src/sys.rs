@@ -131,32 +131,137 @@ struct Raw {
 
 // ---- the calls of krbrelay.h
 
-#[rustfmt::skip]
 extern "C" {
     fn krbrelay_version() -> u32;
     fn krbrelay_is_supported() -> i32;
     fn krbrelay_clear_stack();
-    fn krbrelay_sealer_new(handle: *mut Raw, etype: i32, key: *const u8, key_len: usize, session: *const Session) -> u32;
-    fn krbrelay_sealer_seal(handle: *mut Raw, user_data: *const u8, len: usize, at: *const Moment, confounder: *const u8, frame: *mut u8, room: usize, size: *mut usize) -> u32;
-    fn krbrelay_sealer_seal_record(handle: *mut Raw, kind: u32, bytes: *const u8, len: usize, at: *const Moment, confounder: *const u8, frame: *mut u8, room: usize, size: *mut usize) -> u32;
+    fn krbrelay_sealer_new(
+        handle: *mut Raw,
+        etype: i32,
+        key: *const u8,
+        key_len: usize,
+        session: *const Session,
+    ) -> u32;
+    fn krbrelay_sealer_seal(
+        handle: *mut Raw,
+        user_data: *const u8,
+        len: usize,
+        at: *const Moment,
+        confounder: *const u8,
+        frame: *mut u8,
+        room: usize,
+        size: *mut usize,
+    ) -> u32;
+    fn krbrelay_sealer_seal_record(
+        handle: *mut Raw,
+        kind: u32,
+        bytes: *const u8,
+        len: usize,
+        at: *const Moment,
+        confounder: *const u8,
+        frame: *mut u8,
+        room: usize,
+        size: *mut usize,
+    ) -> u32;
     fn krbrelay_sealer_next(handle: *mut Raw, next: *mut u64) -> u32;
-    fn krbrelay_sealer_frame_size(handle: *mut Raw, len: usize, at: *const Moment, size: *mut usize) -> u32;
+    fn krbrelay_sealer_frame_size(
+        handle: *mut Raw,
+        len: usize,
+        at: *const Moment,
+        size: *mut usize,
+    ) -> u32;
     fn krbrelay_sealer_set_mode(handle: *mut Raw, mode: u32) -> u32;
     fn krbrelay_sealer_wipe(handle: *mut Raw);
     fn krbrelay_sealer_free(handle: *mut Raw);
-    fn krbrelay_opener_new(handle: *mut Raw, etype: i32, key: *const u8, key_len: usize, expect: *const Expect) -> u32;
-    fn krbrelay_opener_unseal(handle: *mut Raw, frame: *const u8, len: usize, number: u64, at: *const Moment, user_data: *mut u8, room: usize, size: *mut usize) -> u32;
-    fn krbrelay_opener_open(handle: *mut Raw, frame: *const u8, len: usize, demand: *const Demand, at: *const Moment, user_data: *mut u8, room: usize, size: *mut usize, carried: *mut Carried) -> u32;
+    fn krbrelay_opener_new(
+        handle: *mut Raw,
+        etype: i32,
+        key: *const u8,
+        key_len: usize,
+        expect: *const Expect,
+    ) -> u32;
+    fn krbrelay_opener_unseal(
+        handle: *mut Raw,
+        frame: *const u8,
+        len: usize,
+        number: u64,
+        at: *const Moment,
+        user_data: *mut u8,
+        room: usize,
+        size: *mut usize,
+    ) -> u32;
+    fn krbrelay_opener_open(
+        handle: *mut Raw,
+        frame: *const u8,
+        len: usize,
+        demand: *const Demand,
+        at: *const Moment,
+        user_data: *mut u8,
+        room: usize,
+        size: *mut usize,
+        carried: *mut Carried,
+    ) -> u32;
     fn krbrelay_opener_wipe(handle: *mut Raw);
     fn krbrelay_opener_free(handle: *mut Raw);
-    fn krbrelay_receiver_new(handle: *mut Raw, etype: i32, key: *const u8, key_len: usize, expect: *const Expect, expected: u64, closed: u32) -> u32;
-    fn krbrelay_receiver_take_numbered(handle: *mut Raw, frame: *const u8, len: usize, at: *const Moment, kind: *mut u32, bytes: *mut u8, room: usize, size: *mut usize, number: *mut u64) -> u32;
+    fn krbrelay_receiver_new(
+        handle: *mut Raw,
+        etype: i32,
+        key: *const u8,
+        key_len: usize,
+        expect: *const Expect,
+        expected: u64,
+        closed: u32,
+    ) -> u32;
+    fn krbrelay_receiver_take_numbered(
+        handle: *mut Raw,
+        frame: *const u8,
+        len: usize,
+        at: *const Moment,
+        kind: *mut u32,
+        bytes: *mut u8,
+        room: usize,
+        size: *mut usize,
+        number: *mut u64,
+    ) -> u32;
     fn krbrelay_receiver_state(handle: *mut Raw, expected: *mut u64, closed: *mut u32) -> u32;
     fn krbrelay_receiver_free(handle: *mut Raw);
-    fn krbrelay_peer_new(handle: *mut Raw, etype: i32, key: *const u8, key_len: usize, session: *const Session, demand: *const Demand) -> u32;
-    fn krbrelay_peer_resume(handle: *mut Raw, etype: i32, key: *const u8, key_len: usize, session: *const Session, demand: *const Demand, state: *const u8) -> u32;
-    fn krbrelay_peer_seal(handle: *mut Raw, user_data: *const u8, len: usize, at: *const Moment, confounder: *const u8, frame: *mut u8, room: usize, size: *mut usize) -> u32;
-    fn krbrelay_peer_open(handle: *mut Raw, frame: *const u8, len: usize, at: *const Moment, user_data: *mut u8, room: usize, size: *mut usize, carried: *mut Carried) -> u32;
+    fn krbrelay_peer_new(
+        handle: *mut Raw,
+        etype: i32,
+        key: *const u8,
+        key_len: usize,
+        session: *const Session,
+        demand: *const Demand,
+    ) -> u32;
+    fn krbrelay_peer_resume(
+        handle: *mut Raw,
+        etype: i32,
+        key: *const u8,
+        key_len: usize,
+        session: *const Session,
+        demand: *const Demand,
+        state: *const u8,
+    ) -> u32;
+    fn krbrelay_peer_seal(
+        handle: *mut Raw,
+        user_data: *const u8,
+        len: usize,
+        at: *const Moment,
+        confounder: *const u8,
+        frame: *mut u8,
+        room: usize,
+        size: *mut usize,
+    ) -> u32;
+    fn krbrelay_peer_open(
+        handle: *mut Raw,
+        frame: *const u8,
+        len: usize,
+        at: *const Moment,
+        user_data: *mut u8,
+        room: usize,
+        size: *mut usize,
+        carried: *mut Carried,
+    ) -> u32;
     fn krbrelay_peer_state(handle: *mut Raw, next: *mut u64, expected: *mut u64) -> u32;
     fn krbrelay_peer_export(handle: *mut Raw, state: *mut u8) -> u32;
     fn krbrelay_peer_free(handle: *mut Raw);
@@ -167,12 +272,33 @@ extern "C" {
 }
 
 #[cfg(feature = "std")]
-#[rustfmt::skip]
 extern "C" {
     fn krbrelay_now(now: *mut Moment) -> u32;
-    fn krbrelay_sealer_seal_now(handle: *mut Raw, user_data: *const u8, len: usize, frame: *mut u8, room: usize, size: *mut usize) -> u32;
-    fn krbrelay_sealer_seal_record_now(handle: *mut Raw, kind: u32, bytes: *const u8, len: usize, frame: *mut u8, room: usize, size: *mut usize) -> u32;
-    fn krbrelay_peer_seal_now(handle: *mut Raw, user_data: *const u8, len: usize, frame: *mut u8, room: usize, size: *mut usize) -> u32;
+    fn krbrelay_sealer_seal_now(
+        handle: *mut Raw,
+        user_data: *const u8,
+        len: usize,
+        frame: *mut u8,
+        room: usize,
+        size: *mut usize,
+    ) -> u32;
+    fn krbrelay_sealer_seal_record_now(
+        handle: *mut Raw,
+        kind: u32,
+        bytes: *const u8,
+        len: usize,
+        frame: *mut u8,
+        room: usize,
+        size: *mut usize,
+    ) -> u32;
+    fn krbrelay_peer_seal_now(
+        handle: *mut Raw,
+        user_data: *const u8,
+        len: usize,
+        frame: *mut u8,
+        room: usize,
+        size: *mut usize,
+    ) -> u32;
 }
 
 fn checked(answer: u32) -> Result<(), Error> {
