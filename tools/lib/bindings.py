@@ -1,8 +1,10 @@
 """What the packages of other languages (rust/, go/) take of the library's tarball, and how they are
 tested: in a new folder, by commands that find nothing of the repository and of the kit."""
+import gzip
 import os
 import shutil
 import subprocess
+import sys
 import tarfile
 
 from lib import scripts
@@ -31,7 +33,10 @@ def tarball(words, folder):
 
 
 def take(sources, folder):
-    """Copies what a package takes of an unpacked tarball."""
+    """Copies what a package takes of an unpacked tarball, which has to have all of it."""
+    lacking = [it for it in TAKEN if not os.path.exists(os.path.join(sources, it))]
+    if lacking:
+        sys.exit(f"the tarball has no {', '.join(lacking)}")
     for at, _, names in os.walk(sources):
         for name in names:
             place = os.path.relpath(os.path.join(at, name), sources)
@@ -48,6 +53,34 @@ def copy_committed(room, folder):
         to = os.path.join(folder, os.path.relpath(path, room))
         os.makedirs(os.path.dirname(to), exist_ok=True)
         shutil.copy(os.path.join(building.TOP, path), to)
+
+
+def pack(place, path):
+    """Writes a folder as a tarball, whose bytes are those of the same files: each has the time of the last
+    commit and no owner."""
+    time = scripts.load("c/dist").committed_at()
+
+    def plain(member):
+        member.mtime, member.uid, member.gid, member.uname, member.gname = time, 0, 0, "", ""
+        member.mode = 0o755 if member.isdir() else 0o644
+        return member
+
+    with open(path, "wb") as file, gzip.GzipFile("", "wb", 9, file, mtime=0) as zipped:
+        with tarfile.open(fileobj=zipped, mode="w", format=tarfile.GNU_FORMAT) as tar:
+            tar.add(place, os.path.basename(place), filter=plain)
+
+
+def packed_twice(count, packed, words, folder):
+    """What `packed` makes of the tarball, the second time of the same bytes. Returns it, and the library's
+    sources."""
+    path, made = tarball(words, folder), []
+    for name in ("once", "again"):
+        made.append(packed(path, os.path.join(folder, name)))
+    with open(made[0], "rb") as one, open(made[1], "rb") as other:
+        count.told(one.read() == other.read(), f"{os.path.basename(made[0])}: {os.path.getsize(made[0])} bytes, the "
+                   "same twice")
+    sources = os.path.join(folder, "once", "tarball")
+    return made[0], os.path.join(sources, os.listdir(sources)[0])
 
 
 def environment(folder, commands, **more):
