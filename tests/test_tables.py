@@ -62,6 +62,10 @@ PLACES = [
     ("python/tests/test_values.py", r"library_version\(\)\[0\], (\d+)\)", "library", "major"),
     (PACKAGE, r"Version: (\S+)\\n", "library", "whole"),
     (PACKAGE, r"\((\d+, \d+, \d+)\)", "library", "listed"),
+    ("rust/Cargo.toml", r'^version = "(.*)"$', "library", "whole"),
+    ("go/krbrelay.go", r'^const Version = "(.*)"$', "library", "whole"),
+    ("go/README.md", r"-go-(\d\S*)$", "library", "whole"),
+    ("go/README.md", r"krbrelay@v(\S+)", "library", "whole"),
     ("docs/C.md", r"libkrbrelay\.so\.(\d+)", "library", "major"),
     ("docs/C.md", r"Within major number (\d+)", "library", "major"),
     ("docs/PYTHON.md", r"as \((\d+, \d+, \d+)\)", "library", "listed"),
@@ -79,9 +83,9 @@ NO_LIMITS = {"crates/krb_der/src/laws.rt": {65_000}}
 WALKS = "CONTRIBUTING.md"
 SOURCES = ("tables/*", "crates/**/*", "python/**/*", "tools/**/*", "docs/*.md", "docs/*.1",
            "c/**/*", "tests/**/*", "conformance/**/*", "kerberos/**/*", "carrier/**/*",
-           "examples/**/*")
-OF_TESTS = re.compile(r"/out/|/must-fail|mutants\.toml|_tests/|(python|carrier|kerberos)/tests/|^c/tests/(?!answers\.c)|/test_|^tests/(?!oracle/|job_check)"
-                      r"|__pycache__")
+           "examples/**/*", "rust/src/*", "go/*")
+OF_TESTS = re.compile(r"/out/|/must-fail|mutants\.toml|_tests/|(python|carrier|kerberos|rust)/tests/|^c/tests/(?!answers\.c)|/test_|^tests/(?!oracle/|job_check)"
+                      r"|__pycache__|^go/\w+_test\.go|^go/testdata")
 # Running out of memory is no answer of the independent opener, and an exception of its own in
 # Python.
 UNTOLD = {"MEMORY"}
@@ -170,6 +174,61 @@ def structs_of_python():
     return {name: fields for name, fields in found.items() if name != "handle"}
 
 
+def structs_of_crate():
+    """The same of the structs in the Rust crate."""
+    return {name.lower(): [(field, kind.replace("Address", "KrbAddress")) for field, kind in re.findall(r"    pub (\w+): (.*),", body)]
+            for name, body in re.findall(r"pub\(crate\) struct (\w+) \{\n(.*?)\n\}", building.text_of(CRATE), re.S)
+            if name != "Handle"}
+
+
+CRATE, NAMES = "rust/src/sys.rs", "go/names.h"
+POINTED = {"void": "c_void", "krbrelay_sealer": "Raw", "krbrelay_opener": "Raw", "krbrelay_receiver": "Raw",
+           "krbrelay_peer": "Raw", "char": "u8", "size_t": "usize", "uint64_t": "u64", "uint32_t": "u32",
+           "int32_t": "i32", "uint8_t": "u8", "int": "i32"}
+
+
+def calls_of_header():
+    """What each function of the header takes and returns, as the Rust crate declares it."""
+    text = re.sub(r"/\*.*?\*/", "", building.text_of(HEADER), flags=re.S)
+    declared = r"^(enum krbrelay_\w+|\w+) (krbrelay_\w+)\(([^{}]*?)\)(?:\s*KRBRELAY_\w+(?:\([\d, ]*\))?)*;"
+    for returned, name, parameters in re.findall(declared, text, re.M):
+        takes = [crate_type(it) for it in parameters.split(",") if it.strip() != "void"]
+        gives = "" if returned == "void" else " -> u32" if returned.startswith("enum") else f" -> {POINTED[returned]}"
+        yield name, (takes, gives)
+
+
+def crate_type(parameter):
+    """The type of a parameter of the header, which has its name, as Rust writes it."""
+    words = re.sub(r"\[\w*\]", "", parameter).replace("*", " * ").split()
+    name = next(it for it in words if it not in ("const", "struct"))
+    known = POINTED.get(name) or name.removeprefix("krbrelay_").title()
+    points = "*" in words or "[" in parameter
+    return ("*const " if "const" in words else "*mut ") * points + known
+
+
+def calls_of_crate():
+    """The same of the declarations in the Rust crate, without those of its tests."""
+    text = building.text_of(CRATE).partition("mod tests")[0]
+    for name, parameters, gives in re.findall(r"^    fn (krbrelay_\w+)\((.*?)\)(.*?);$", text, re.M | re.S):
+        yield name, (re.findall(r": (.*?)(?:,|$)", parameters), gives)
+
+
+def of_crate():
+    header = dict(calls_of_header())
+    found = dict(calls_of_crate())
+    yield f"{CRATE} has calls", len(found) > 30, True
+    for name, call in found.items():
+        yield f"{CRATE}, {name}", call, header.get(name)
+
+
+def of_names():
+    """Go renames each function that the C beside the proved code comes before, and no other."""
+    wanted = re.findall(r"krbrelay_proved_(\w+)\(", building.text_of("c/unproved/proved.h"))
+    renamed = re.findall(r"^#pragma redefine_extname krbrelay_(\w+) krbrelay_(\w+)$", building.text_of(NAMES), re.M)
+    yield f"{NAMES} renames", len(wanted) > 5, True
+    yield NAMES, renamed, [pair for it in wanted for pair in ((it, f"asking_{it}"), (f"proved_{it}", it))]
+
+
 def quoted():
     """Each refusal that the help and the documents print: its place, number and name."""
     paths = [HELP, "README.md"] + [os.path.relpath(it, building.TOP) for it in
@@ -248,6 +307,8 @@ def of_limits():
     yield HEADER, of_header()[1], wanted | {"FRAME_OVERHEAD": room["FRAME_OVERHEAD"]}
     library = of_python("python/krbrelay/library.py")
     yield "python/krbrelay/library.py", {it: library[it] for it in wanted}, wanted
+    for path, known in limits_of_bindings():
+        yield path, known, wanted | {"FRAME_OVERHEAD": room["FRAME_OVERHEAD"]}
     for path, copy, name in [(f"{ORACLE}/reader.py", "LIMIT", "FRAME_LIMIT"),
                              (f"{ORACLE}/frames.py", "MOST_TEXTS", "BATCH_LIMIT"),
                              (f"{ORACLE}/frames.py", "MOST_BYTES", "BATCH_SIZE_LIMIT"),
@@ -265,6 +326,14 @@ def of_limits():
         yield f"the text of {name} has room", len(row["text"].encode()) < size, True
 
 
+def limits_of_bindings():
+    """The limits that the Rust crate and the Go package name, as the header names them."""
+    for path, pattern in (("rust/src/lib.rs", r"const (\w+): usize = ([\d_]+);"), ("go/krbrelay.go", r"^\t(\w+) += ([\d_]+)$")):
+        found = re.findall(pattern, building.text_of(path), re.M)
+        named = {re.sub(r"(?<=[a-z])(?=[A-Z])", "_", name).upper(): int(number) for name, number in found}
+        yield path, {name: number for name, number in named.items() if not name.endswith("_SIZE")}
+
+
 def of_structs():
     room = str(constants(SIZES[1])["ADDRESS_ROOM"])
     crates = {name: [(field, kind.replace("ADDRESS_ROOM", room)) for field, kind in fields]
@@ -277,6 +346,13 @@ def of_structs():
     for name, fields in package.items():
         found = [(field, kind.replace("ADDRESS_ROOM", room)) for field, kind in fields]
         yield f"python/krbrelay/library.py, {name}", found, crates.get(name)
+
+
+def of_crate_structs():
+    header, crate = structs_of_header(), structs_of_crate()
+    yield f"{CRATE} has structs", len(crate) > 7, True
+    for name, fields in crate.items():
+        yield f"{CRATE}, {name}", fields, header.get(name)
 
 
 def said(text, around, part):
@@ -312,7 +388,7 @@ def walk(heading):
 
 def named_files(text):
     """The paths of files that a text names in backquotes, or as docs/*.md."""
-    return set(re.findall(r"`([\w./-]+\.(?:rt|antt|h|c|py|3|1|toml|json))`", text)
+    return set(re.findall(r"`([\w./-]+\.(?:rt|antt|h|c|py|rs|go|3|1|toml|json))`", text)
                + re.findall(r"\bdocs/\w+\.md", text))
 
 
@@ -360,7 +436,8 @@ def of_walk(heading):
         yield f"{WALKS}: {heading}, in {path}", is_named(path, names), True
 
 
-ROOMS = "tools/", "c/", "carrier/", "conformance/", "kerberos/", "python/", "tests/", "pytest "
+ROOMS = ("tools/", "c/", "carrier/", "conformance/", "kerberos/", "python/", "rust/", "go/", "tests/",
+         "pytest ")
 PROVED, TESTED = "docs/PROVED.md", "## What is only tested"
 ROW = re.compile(r"^\| `([^`]+)` \| (?:([\d,]+) \| )?(.+) \|$", re.M)
 
@@ -423,6 +500,21 @@ def test_limits(found, wanted):
 
 @compared(of_structs)
 def test_structs(found, wanted):
+    assert found == wanted
+
+
+@compared(of_crate_structs)
+def test_structs_of_the_crate(found, wanted):
+    assert found == wanted
+
+
+@compared(of_crate)
+def test_calls_of_the_crate(found, wanted):
+    assert found == wanted
+
+
+@compared(of_names)
+def test_names_of_the_go_package(found, wanted):
     assert found == wanted
 
 

@@ -102,11 +102,20 @@ def built(of: Implementation, library: Library, folder: pathlib.Path, sanitized:
                        "PYTHONPATH": os.path.join(building.TOP, "python"), "PYTHONDONTWRITEBYTECODE": "1"}
         return Runner((sys.executable, str(source)), environment)
     if of.build:
-        out = folder / of.name
-        run_or_fail(of.build.format(out=out, source=source, folder=folder), of.name, shell=True)
+        out, environment = folder / of.name, found_by_pkg_config(library, folder) if of.library else {}
+        run_or_fail(of.build.format(out=out, source=source, folder=folder), of.name, shell=True,
+                    env={**os.environ, **environment})
         command = of.command.format(folder=folder) if of.command else str(out)
-        return Runner(tuple(shlex.split(command)), {})
+        return Runner(tuple(shlex.split(command)), environment)
     return Runner((str(compiled(of, source, library, folder, sanitized)), *of.words), {})
+
+
+def found_by_pkg_config(library: Library, folder: pathlib.Path) -> dict[str, str]:
+    """The variables by which pkg-config and the system's loader find the library."""
+    lines = ("Name: krbrelay", "Description: libkrbrelay", "Version: 0", f"Cflags: -I{library.include}",
+             f"Libs: -L{library.folder} -lkrbrelay")
+    (folder / "krbrelay.pc").write_text("".join(f"{line}\n" for line in lines), encoding="utf-8")
+    return {"PKG_CONFIG_PATH": str(folder), "LD_LIBRARY_PATH": str(library.folder)}
 
 
 def compiled(of: Implementation, source: pathlib.Path, library: Library, folder: pathlib.Path,

@@ -27,6 +27,8 @@ CROSS = "Debian's gdb, gcc-aarch64-linux-gnu, libc6-dev-arm64-cross and qemu-use
 PACKAGING = ("Debian's debhelper, dh-python, dpkg-dev, lintian, isa-support and debootstrap, and"
              " root")
 PKG_CONFIG = "pkg-config"
+CARGO = "Debian's cargo, or later"
+GO = "Debian's golang-go, or later"
 
 
 def has(command):
@@ -60,6 +62,8 @@ IS_THERE = {
     PACKAGING: lambda: all(map(has, ("dh", "dh_python3", "dpkg-buildpackage", "lintian",
                                      "debootstrap"))) and os.geteuid() == 0,
     PKG_CONFIG: lambda: has("pkg-config"),
+    CARGO: lambda: has("cargo") and has("rustc"),
+    GO: lambda: has("go"),
     MAKE: lambda: has("make"),
     SQLITE: lambda: os.path.exists("/usr/include/sqlite3.h"),
     SERVERS: lambda: has("nats-server") and os.path.exists("/usr/lib/postgresql")
@@ -147,6 +151,8 @@ MORE = [
     Part("c/library", 60, ("rt", COMPILER, MIT, "clang", "valgrind", MAKE)),
     Part("tests/program_costs", 30, (PROGRAM, COMPILER, "valgrind")),
     Part("c/dist --check", 60, ("rt", COMPILER, "clang", MAKE, CROSS)),
+    Part("rust/test", 40, ("rt", COMPILER, CRYPTOGRAPHY, MAKE, PKG_CONFIG, CARGO), "c/dist --check"),
+    Part("go/test", 20, ("rt", COMPILER, CRYPTOGRAPHY, MAKE, PKG_CONFIG, GO), "c/dist --check"),
     Part("tools/debian --check", 60, (PROGRAM, "rt", COMPILER, MAKE, PACKAGING)),
     Part("python/test --all", 20, (COMPILER, CRYPTOGRAPHY)),
     Part("kerberos/test", 75, ("rt", COMPILER, MIT, HEIMDAL, REALM)),

@@ -1,0 +1,7 @@
+module krbrelay_runner
+
+go 1.19
+
+require krbrelay v1.0.0
+
+replace krbrelay => ../../../go

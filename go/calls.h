@@ -1,0 +1,73 @@
+// krbrelay.h for this package, and calls that are made with others in one function of C.
+#ifndef KRBRELAY_CALLS_H
+#define KRBRELAY_CALLS_H
+
+#ifdef KRBRELAY_INSIDE
+#include "names.h"
+#endif
+#include <krbrelay.h>
+
+// Go may run the next call of C on another stack: so the one that had a key is overwritten in the same
+// function.
+static inline enum krbrelay_answer new_sealer(struct krbrelay_sealer *handle, int32_t etype, const uint8_t *key,
+                                              size_t len, const struct krbrelay_session *session)
+{
+    enum krbrelay_answer answer = krbrelay_sealer_new(handle, etype, key, len, session);
+    krbrelay_clear_stack();
+    return answer;
+}
+
+static inline enum krbrelay_answer new_opener(struct krbrelay_opener *handle, int32_t etype, const uint8_t *key,
+                                              size_t len, const struct krbrelay_expect *expect)
+{
+    enum krbrelay_answer answer = krbrelay_opener_new(handle, etype, key, len, expect);
+    krbrelay_clear_stack();
+    return answer;
+}
+
+static inline enum krbrelay_answer new_receiver(struct krbrelay_receiver *handle, int32_t etype,
+                                                const uint8_t *key, size_t len,
+                                                const struct krbrelay_expect *expect, uint64_t expected,
+                                                uint32_t closed)
+{
+    enum krbrelay_answer answer = krbrelay_receiver_new(handle, etype, key, len, expect, expected, closed);
+    krbrelay_clear_stack();
+    return answer;
+}
+
+static inline enum krbrelay_answer new_peer(struct krbrelay_peer *handle, int32_t etype, const uint8_t *key,
+                                            size_t len, const struct krbrelay_session *session,
+                                            const struct krbrelay_demand *demand, const uint8_t *state)
+{
+    enum krbrelay_answer answer = state == NULL
+        ? krbrelay_peer_new(handle, etype, key, len, session, demand)
+        : krbrelay_peer_resume(handle, etype, key, len, session, demand, state);
+    krbrelay_clear_stack();
+    return answer;
+}
+
+static inline void free_sealer(struct krbrelay_sealer *handle)
+{
+    krbrelay_sealer_free(handle);
+    krbrelay_clear_stack();
+}
+
+static inline void free_opener(struct krbrelay_opener *handle)
+{
+    krbrelay_opener_free(handle);
+    krbrelay_clear_stack();
+}
+
+static inline void free_receiver(struct krbrelay_receiver *handle)
+{
+    krbrelay_receiver_free(handle);
+    krbrelay_clear_stack();
+}
+
+static inline void free_peer(struct krbrelay_peer *handle)
+{
+    krbrelay_peer_free(handle);
+    krbrelay_clear_stack();
+}
+
+#endif

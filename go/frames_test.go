@@ -1,0 +1,131 @@
+package krbrelay_test
+
+import (
+	"bytes"
+	"errors"
+	"reflect"
+	"testing"
+
+	"krbrelay"
+)
+
+type row struct {
+	names   []string
+	mode    krbrelay.Mode
+	key     []byte
+	number  uint32
+	records []krbrelay.Record
+}
+
+var (
+	hi    = []krbrelay.Record{krbrelay.Text("hi"), krbrelay.Closed{}}
+	batch = []krbrelay.Record{krbrelay.Batch{[]byte("a"), []byte("b")}, krbrelay.Text("c"), krbrelay.Closed{}}
+	rows  = []row{
+		{[]string{"safe 17", "safe 17, the close behind it"}, krbrelay.Safe, key128, first, hi},
+		{[]string{"safe 18", "safe 18, the close behind it"}, krbrelay.Safe, key256, first, hi},
+		{[]string{"priv 17, first drawn confounder", "priv 17, the close behind it"}, krbrelay.Priv, key128, first, hi},
+		{[]string{"priv 18, first drawn confounder", "priv 18, the close behind it"}, krbrelay.Priv, key256, first, hi},
+		{[]string{"safe 17, the batch of 61 and 62", "safe 17, the text 63 behind it", "safe 17, the close behind both"},
+			krbrelay.Safe, key128, first, batch},
+		{[]string{"priv 17, the batch, first drawn confounder", "priv 17, the text 63 behind it",
+			"priv 17, the close behind both"}, krbrelay.Priv, key128, first, batch},
+		{[]string{"safe 17, the text 61 before the last number"}, krbrelay.Safe, key128, last - 1,
+			[]krbrelay.Record{krbrelay.Text("a")}},
+		{[]string{"safe 17, the batch before the last number"}, krbrelay.Safe, key128, last - 1, batch[:1]},
+		{[]string{"safe 17, last number"}, krbrelay.Safe, key128, last, []krbrelay.Record{krbrelay.Closed{}}},
+	}
+)
+
+// What is sealed is what the independent sealer makes, byte for byte.
+func TestSealingMakesTheseFrames(t *testing.T) {
+	known := frames(t)
+	for _, row := range rows {
+		sealer := must[*krbrelay.Sealer](t)(krbrelay.NewSealer(etypeOf(row.key), row.key, session(row.mode, row.number)))
+		for place, record := range row.records {
+			frame := must[[]byte](t)(sealer.SealRecordAt(record, then, drawn[place]))
+			if !bytes.Equal(frame, known[row.names[place]]) {
+				t.Errorf("%s: %x", row.names[place], frame)
+			}
+			if next := must[uint64](t)(sealer.Next()); next != uint64(row.number)+uint64(place)+1 {
+				t.Errorf("%s: then %d", row.names[place], next)
+			}
+		}
+		sealer.Close()
+	}
+}
+
+func TestReceiversTakeThem(t *testing.T) {
+	known := frames(t)
+	for _, row := range rows {
+		from := krbrelay.State{Expected: uint64(row.number)}
+		taker := must[*krbrelay.Receiver](t)(krbrelay.NewReceiver(etypeOf(row.key), row.key, expect(row.mode), from))
+		closed := false
+		for place, record := range row.records {
+			taken := must[krbrelay.Record](t)(taker.Take(known[row.names[place]], then))
+			if !reflect.DeepEqual(taken, record) {
+				t.Errorf("%s: %v", row.names[place], taken)
+			}
+			_, closed = record.(krbrelay.Closed)
+		}
+		state := must[krbrelay.State](t)(taker.State())
+		if state != (krbrelay.State{Expected: uint64(row.number) + uint64(len(row.records)), Closed: closed}) {
+			t.Errorf("%s: %v", row.names[0], state)
+		}
+		taker.Close()
+	}
+}
+
+func TestOpenersOpenThem(t *testing.T) {
+	known := frames(t)
+	for _, row := range rows {
+		opener := must[*krbrelay.Opener](t)(krbrelay.NewOpener(etypeOf(row.key), row.key, expect(row.mode)))
+		data := must[[]byte](t)(opener.Unseal(known[row.names[0]], uint64(row.number), then))
+		body := must[*krbrelay.Body](t)(opener.Open(known[row.names[0]], krbrelay.Demand{}, then))
+		moment, _ := body.Moment()
+		if !bytes.Equal(data, body.UserData) || *body.Number != row.number || !moment.Equal(then) ||
+			body.Sender != sender || body.Receiver != nil {
+			t.Errorf("%s: %+v", row.names[0], body)
+		}
+		opener.Close()
+	}
+}
+
+func TestWhatIsGivenAndLeftOut(t *testing.T) {
+	known := frames(t)
+	to := session(krbrelay.Safe, first)
+	to.Receiver = &receiver
+	sealer := must[*krbrelay.Sealer](t)(krbrelay.NewSealer(17, key128, to))
+	frame := must[[]byte](t)(sealer.SealRecordAt(krbrelay.Text("hi"), then, [16]byte{}))
+	if !bytes.Equal(frame, known["safe 17, to the receiver"]) {
+		t.Errorf("%x", frame)
+	}
+	opener := must[*krbrelay.Opener](t)(krbrelay.NewOpener(17, key128, krbrelay.Expect{Mode: krbrelay.Safe}))
+	if body := must[*krbrelay.Body](t)(opener.Open(frame, krbrelay.Demand{}, then)); *body.Receiver != receiver {
+		t.Error(body.Receiver)
+	}
+	body := must[*krbrelay.Body](t)(opener.Open(known["safe 17, neither time nor number"], krbrelay.Demand{}, then))
+	if _, has := body.Moment(); has || body.Seconds != nil || body.Microseconds != nil || body.Number != nil {
+		t.Errorf("%+v", body)
+	}
+	sealer = must[*krbrelay.Sealer](t)(krbrelay.NewSealer(18, key256, session(krbrelay.Priv, first)))
+	confounder := [16]byte{7, 7, 7, 7, 7, 7, 7, 7, 7, 7, 7, 7, 7, 7, 7, 7}
+	frame = must[[]byte](t)(sealer.SealAt([]byte("hi"), then, confounder))
+	if !bytes.Equal(frame, known["priv 18, the data hi of example_seal"]) {
+		t.Errorf("%x", frame)
+	}
+}
+
+func TestAHeaderSaysWhatStandsInClear(t *testing.T) {
+	known := frames(t)
+	safe := must[*krbrelay.Header](t)(krbrelay.MessageHeader(known["safe 18"]))
+	if safe.Kind != krbrelay.Safe || safe.Etype != nil || *safe.ChecksumType != 16 || *safe.Number != first || safe.KeyVersion != nil {
+		t.Errorf("%+v", safe)
+	}
+	priv := must[*krbrelay.Header](t)(krbrelay.MessageHeader(known["priv 17, first drawn confounder"]))
+	if priv.Kind != krbrelay.Priv || *priv.Etype != 17 || priv.ChecksumType != nil || priv.Number != nil {
+		t.Errorf("%+v", priv)
+	}
+	if _, err := krbrelay.MessageHeader(nil); !errors.Is(err, krbrelay.ErrMalformed) {
+		t.Error(err)
+	}
+}

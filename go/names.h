@@ -1,0 +1,26 @@
+// The names of the functions that the C beside the proved code comes before, where the library is compiled
+// in this package: the assembly has the proved ones under the names of krbrelay.h, so those in C, which
+// ask first what the processor has, are given other names.
+#ifndef KRBRELAY_NAMES_H
+#define KRBRELAY_NAMES_H
+
+#pragma redefine_extname krbrelay_sealer_new krbrelay_asking_sealer_new
+#pragma redefine_extname krbrelay_proved_sealer_new krbrelay_sealer_new
+#pragma redefine_extname krbrelay_opener_new krbrelay_asking_opener_new
+#pragma redefine_extname krbrelay_proved_opener_new krbrelay_opener_new
+#pragma redefine_extname krbrelay_receiver_new krbrelay_asking_receiver_new
+#pragma redefine_extname krbrelay_proved_receiver_new krbrelay_receiver_new
+#pragma redefine_extname krbrelay_peer_new krbrelay_asking_peer_new
+#pragma redefine_extname krbrelay_proved_peer_new krbrelay_peer_new
+#pragma redefine_extname krbrelay_peer_resume krbrelay_asking_peer_resume
+#pragma redefine_extname krbrelay_proved_peer_resume krbrelay_peer_resume
+#pragma redefine_extname krbrelay_message_header krbrelay_asking_message_header
+#pragma redefine_extname krbrelay_proved_message_header krbrelay_message_header
+#pragma redefine_extname krbrelay_history_add krbrelay_asking_history_add
+#pragma redefine_extname krbrelay_proved_history_add krbrelay_history_add
+#pragma redefine_extname krbrelay_answer_name krbrelay_asking_answer_name
+#pragma redefine_extname krbrelay_proved_answer_name krbrelay_answer_name
+#pragma redefine_extname krbrelay_answer_text krbrelay_asking_answer_text
+#pragma redefine_extname krbrelay_proved_answer_text krbrelay_answer_text
+
+#endif

@@ -1,0 +1,138 @@
+package krbrelay_test
+
+import (
+	"bufio"
+	"bytes"
+	"encoding/binary"
+	"fmt"
+	"io"
+	"net"
+	"os"
+	"os/exec"
+	"strings"
+	"testing"
+	"time"
+
+	"krbrelay"
+)
+
+const (
+	texts  = 1000
+	number = 7 // the client's, whose key has 32 times this byte
+)
+
+// echo is the program that the library has, compiled: KRBRELAY_ECHO names it.
+func echo(t *testing.T, words ...string) (*exec.Cmd, *bufio.Reader) {
+	program := os.Getenv("KRBRELAY_ECHO")
+	if program == "" {
+		t.Fatal("KRBRELAY_ECHO has to name the compiled program examples/echo.c of the library")
+	}
+	command := exec.Command(program, words...)
+	out := must[io.ReadCloser](t)(command.StdoutPipe())
+	if err := command.Start(); err != nil {
+		t.Fatal(err)
+	}
+	return command, bufio.NewReader(out)
+}
+
+func end(t *testing.T, own, other krbrelay.Address) *krbrelay.Peer {
+	key := bytes.Repeat([]byte{number}, 32)
+	writes := krbrelay.Session{Mode: krbrelay.Priv, Sender: own}
+	return must[*krbrelay.Peer](t)(krbrelay.NewPeer(18, key, writes, krbrelay.DemandOf(other)))
+}
+
+// put seals the text and sends it after four bytes of its length, in one write.
+func put(t *testing.T, to io.Writer, peer *krbrelay.Peer, text string) {
+	frame := must[[]byte](t)(peer.Seal([]byte(text)))
+	must[int](t)(to.Write(append(binary.BigEndian.AppendUint32(nil, uint32(len(frame))), frame...)))
+}
+
+func get(t *testing.T, from io.Reader, peer *krbrelay.Peer) string {
+	var head [4]byte
+	must[int](t)(io.ReadFull(from, head[:]))
+	frame := make([]byte, binary.BigEndian.Uint32(head[:]))
+	must[int](t)(io.ReadFull(from, frame))
+	return string(must[*krbrelay.Body](t)(peer.Open(frame, time.Now())).UserData)
+}
+
+func endsWell(t *testing.T, command *exec.Cmd, out *bufio.Reader, peer *krbrelay.Peer) {
+	line := must[string](t)(out.ReadString('\n'))
+	if line != fmt.Sprintf("client %d: %d texts, closed\n", number, texts) {
+		t.Error(line)
+	}
+	if err := command.Wait(); err != nil {
+		t.Error(err)
+	}
+	if numbers := must[krbrelay.Numbers](t)(peer.Numbers()); numbers != (krbrelay.Numbers{Next: texts + 1, Expected: texts + 1}) {
+		t.Error(numbers)
+	}
+	peer.Close()
+}
+
+func TestTheServerIsInC(t *testing.T) {
+	command, out := echo(t, "server", "1")
+	port := strings.TrimPrefix(strings.TrimSpace(must[string](t)(out.ReadString('\n'))), "port ")
+	stream := must[net.Conn](t)(net.Dial("tcp", "127.0.0.1:"+port))
+	must[int](t)(stream.Write([]byte{number}))
+	client := end(t, krbrelay.Client, krbrelay.Server)
+	for count := 0; count <= texts; count++ {
+		text := fmt.Sprint("text ", count)
+		if count == texts {
+			text = ""
+		}
+		put(t, stream, client, text)
+		if found := get(t, stream, client); found != text {
+			t.Fatal(found)
+		}
+	}
+	endsWell(t, command, out, client)
+}
+
+func TestTheClientIsInC(t *testing.T) {
+	listener := must[net.Listener](t)(net.Listen("tcp", "127.0.0.1:0"))
+	port := listener.Addr().(*net.TCPAddr).Port
+	command, out := echo(t, "client", fmt.Sprint(port), fmt.Sprint(number), fmt.Sprint(texts))
+	stream := must[net.Conn](t)(listener.Accept())
+	must[int](t)(io.ReadFull(stream, make([]byte, 1)))
+	server := end(t, krbrelay.Server, krbrelay.Client)
+	for count := 0; count <= texts; count++ {
+		text := get(t, stream, server)
+		if wanted := fmt.Sprint("line ", count); text != wanted && (count < texts || text != "") {
+			t.Fatal(text)
+		}
+		put(t, stream, server, text)
+	}
+	endsWell(t, command, out, server)
+}
+
+// Goroutines share a peer: each text has a number of its own.
+func TestGoroutinesShareAPeer(t *testing.T) {
+	one, other := end(t, krbrelay.Client, krbrelay.Server), end(t, krbrelay.Server, krbrelay.Client)
+	sealed := make(chan []byte, 400)
+	done := make(chan bool)
+	for range [4]int{} {
+		go func() {
+			for count := 0; count < 100; count++ {
+				frame, err := one.Seal([]byte("text"))
+				if err != nil {
+					t.Error(err)
+				}
+				sealed <- frame
+			}
+			done <- true
+		}()
+	}
+	for range [4]int{} {
+		<-done
+	}
+	waiting := map[uint32]bool{}
+	opener := must[*krbrelay.Opener](t)(krbrelay.NewOpener(18, bytes.Repeat([]byte{number}, 32), krbrelay.Expect{Mode: krbrelay.Priv}))
+	for len(sealed) > 0 {
+		body := must[*krbrelay.Body](t)(opener.Open(<-sealed, krbrelay.Demand{}, time.Now()))
+		waiting[*body.Number] = true
+	}
+	if numbers := must[krbrelay.Numbers](t)(one.Numbers()); numbers.Next != 400 || len(waiting) != 400 {
+		t.Error(numbers, len(waiting))
+	}
+	other.Close()
+}

@@ -1,0 +1,8 @@
+//go:build krbrelay_system
+
+package krbrelay
+
+// The installed library.
+
+// #cgo pkg-config: krbrelay
+import "C"

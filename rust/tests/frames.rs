@@ -1,0 +1,167 @@
+//! What is sealed is what the independent sealer makes, byte for byte, and is opened.
+
+mod common;
+
+use common::{expect, frames, from, session, AES128, AES256, AT, DRAWN, FIRST, LAST, RECEIVER};
+use krbrelay::{message_header, Batch, Error, Key, Mode, Opener, Receiver, Record, Sealer, Session};
+
+type Row = (&'static str, Mode, Key<'static>, u32, Vec<Record>);
+
+fn text(bytes: &[u8]) -> Record {
+    Record::Text(bytes.to_vec())
+}
+
+fn batch(texts: &[&[u8]]) -> Record {
+    let mut batch = Batch::new();
+    texts.iter().for_each(|text| batch.push(text).unwrap());
+    Record::Batch(batch)
+}
+
+/// The first frame of each row, what follows it being named `, .. behind it`.
+fn rows() -> Vec<Row> {
+    vec![
+        ("safe 17", Mode::Safe, AES128, FIRST, vec![text(b"hi"), Record::Closed]),
+        ("safe 18", Mode::Safe, AES256, FIRST, vec![text(b"hi"), Record::Closed]),
+        (
+            "priv 17, first drawn confounder",
+            Mode::Priv,
+            AES128,
+            FIRST,
+            vec![text(b"hi"), Record::Closed],
+        ),
+        (
+            "priv 18, first drawn confounder",
+            Mode::Priv,
+            AES256,
+            FIRST,
+            vec![text(b"hi"), Record::Closed],
+        ),
+        (
+            "safe 17, the batch of 61 and 62",
+            Mode::Safe,
+            AES128,
+            FIRST,
+            vec![batch(&[b"a", b"b"]), text(b"c"), Record::Closed],
+        ),
+        (
+            "priv 17, the batch, first drawn confounder",
+            Mode::Priv,
+            AES128,
+            FIRST,
+            vec![batch(&[b"a", b"b"]), text(b"c"), Record::Closed],
+        ),
+        ("safe 17, the text 61 before the last number", Mode::Safe, AES128, LAST - 1, vec![text(b"a")]),
+        (
+            "safe 17, the batch before the last number",
+            Mode::Safe,
+            AES128,
+            LAST - 1,
+            vec![batch(&[b"a", b"b"])],
+        ),
+        ("safe 17, last number", Mode::Safe, AES128, LAST, vec![Record::Closed]),
+    ]
+}
+
+/// The names of a row's frames, in their order.
+fn names(first: &'static str, count: usize) -> Vec<String> {
+    let start = &first[..7];
+    let behind = match (first.contains("batch"), count) {
+        (_, 1) => vec![],
+        (false, _) => vec!["the close behind it"],
+        (true, _) => vec!["the text 63 behind it", "the close behind both"],
+    };
+    let rest = behind.into_iter().map(|it| format!("{start}, {it}"));
+    std::iter::once(first.to_string()).chain(rest).collect()
+}
+
+#[test]
+fn sealing_makes_these_frames() {
+    let known = frames();
+    for (first, mode, key, number, records) in rows() {
+        let mut sealer = Sealer::new(key, &session(mode, number)).unwrap();
+        for ((record, name), drawn) in records.iter().zip(names(first, records.len())).zip(DRAWN) {
+            let next = sealer.next();
+            let size = sealer.frame_size(record_size(record), AT).unwrap();
+            let frame = sealer.seal_record_at(record, AT, &drawn).unwrap();
+            assert_eq!(frame, known[&name], "{name}");
+            assert_eq!((frame.len(), sealer.next()), (size, next + 1), "{name}");
+        }
+    }
+}
+
+/// The user data of a record are a letter and its bytes.
+fn record_size(record: &Record) -> usize {
+    1 + match record {
+        Record::Text(text) => text.len(),
+        Record::Batch(batch) => batch.as_bytes().len(),
+        Record::Closed => 0,
+    }
+}
+
+#[test]
+fn receivers_take_them() {
+    let known = frames();
+    for (first, mode, key, number, records) in rows() {
+        let mut receiver = Receiver::new(key, &expect(mode), from(number)).unwrap();
+        for (record, name) in records.iter().zip(names(first, records.len())) {
+            assert_eq!(receiver.take_at(&known[&name], AT).as_ref(), Ok(record), "{name}");
+        }
+        let state = receiver.state();
+        assert_eq!(state.expected, u64::from(number) + records.len() as u64);
+        assert_eq!(state.closed, records.last() == Some(&Record::Closed));
+    }
+}
+
+#[test]
+fn openers_open_them() {
+    let known = frames();
+    for (name, mode, key, number, _) in rows() {
+        let mut opener = Opener::new(key, &expect(mode)).unwrap();
+        let data = opener.unseal_at(&known[name], u64::from(number), AT).unwrap();
+        let body = opener.open_at(&known[name], &Default::default(), AT).unwrap();
+        assert_eq!((&body.user_data, body.carried.number), (&data, Some(number)), "{name}");
+        assert_eq!((body.carried.moment(), body.carried.receiver), (Some(AT), None), "{name}");
+        assert_eq!(body.carried.sender, common::SENDER, "{name}");
+    }
+}
+
+#[test]
+fn addresses_and_data_are_those_that_are_given() {
+    let known = frames();
+    let to = Session { receiver: Some(RECEIVER), ..session(Mode::Safe, FIRST) };
+    let mut sealer = Sealer::new(AES128, &to).unwrap();
+    let frame = sealer.seal_record_at(&text(b"hi"), AT, &[0; 16]).unwrap();
+    assert_eq!(frame, known["safe 17, to the receiver"]);
+    let body = Opener::of_mode(AES128, Mode::Safe).unwrap().open_at(&frame, &Default::default(), AT);
+    assert_eq!(body.unwrap().carried.receiver, Some(RECEIVER));
+    let mut sealer = Sealer::new(AES256, &session(Mode::Priv, FIRST)).unwrap();
+    let frame = sealer.seal_at(b"hi", AT, &[7; 16]).unwrap();
+    assert_eq!(frame, known["priv 18, the data hi of example_seal"]);
+}
+
+#[test]
+fn what_a_message_leaves_out_is_none() {
+    let known = frames();
+    let mut opener = Opener::of_mode(AES128, Mode::Safe).unwrap();
+    let mut carried =
+        |name: &str| opener.open_at(&known[name], &Default::default(), AT).unwrap().carried;
+    let neither = carried("safe 17, neither time nor number");
+    assert_eq!((neither.seconds, neither.microseconds, neither.number), (None, None, None));
+    assert_eq!(neither.moment(), None);
+    let seconds = carried("safe 17, seconds and no number");
+    assert_eq!((seconds.seconds, seconds.microseconds), (Some(AT.seconds), None));
+    assert_eq!(carried("safe 17, no number").moment(), Some(AT));
+}
+
+#[test]
+fn a_header_says_what_stands_in_clear() {
+    let known = frames();
+    let safe = message_header(&known["safe 18"]).unwrap();
+    assert_eq!((safe.kind, safe.etype, safe.checksum_type), (Mode::Safe, None, Some(16)));
+    assert_eq!((safe.number, safe.key_version), (Some(FIRST), None));
+    let sealed = message_header(&known["priv 17, first drawn confounder"]).unwrap();
+    assert_eq!((sealed.kind, sealed.etype, sealed.checksum_type), (Mode::Priv, Some(17), None));
+    assert_eq!((sealed.number, sealed.key_version), (None, None));
+    assert_eq!(message_header(b""), Err(Error::Malformed));
+    assert_eq!(message_header(&vec![0; krbrelay::FRAME_LIMIT + 1]), Err(Error::FieldTooLong));
+}
