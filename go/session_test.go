@@ -9,6 +9,8 @@ import (
 	"net"
 	"os"
 	"os/exec"
+	"path/filepath"
+	"runtime"
 	"strings"
 	"testing"
 	"time"
@@ -21,13 +23,25 @@ const (
 	number = 7 // the client's, whose key has 32 times this byte
 )
 
-// echo is the program that the library has, compiled: KRBRELAY_ECHO names it.
-func echo(t *testing.T, words ...string) (*exec.Cmd, *bufio.Reader) {
-	program := os.Getenv("KRBRELAY_ECHO")
-	if program == "" {
-		t.Fatal("KRBRELAY_ECHO has to name the compiled program examples/echo.c of the library")
+// compiled is the library's example echo.c, over the library in this package where it is inside, else over the
+// installed one.
+func compiled(t *testing.T) string {
+	program := t.TempDir() + "/echo"
+	words := append([]string{"-std=gnu11", "-I.", "-include", "names.h", "testdata/echo.c", "library_" + runtime.GOARCH + ".s"},
+		must[[]string](t)(filepath.Glob("library_*.c"))...)
+	if _, err := os.Stat("testdata/echo.c"); err != nil {
+		flags := must[[]byte](t)(exec.Command("pkg-config", "--cflags", "--libs", "krbrelay").Output())
+		words = append([]string{"../c/examples/echo.c"}, strings.Fields(string(flags))...)
 	}
-	command := exec.Command(program, words...)
+	if said, err := exec.Command("cc", append(words, "-o", program)...).CombinedOutput(); err != nil {
+		t.Fatal(string(said))
+	}
+	return program
+}
+
+// echo starts it.
+func echo(t *testing.T, words ...string) (*exec.Cmd, *bufio.Reader) {
+	command := exec.Command(compiled(t), words...)
 	out := must[io.ReadCloser](t)(command.StdoutPipe())
 	if err := command.Start(); err != nil {
 		t.Fatal(err)
