@@ -22,7 +22,7 @@ def names():
 def files_of(room, before):
     folder = os.path.join(building.TOP, room)
     return [before + it for it in os.listdir(folder) if os.path.isfile(os.path.join(folder, it))
-            and not it.endswith((".md", ".toml")) and (room == "tools" or not it.startswith("test_"))]
+            and not it.endswith((".md", ".toml", ".tsv")) and (room == "tools" or not it.startswith("test_"))]
 
 
 def path_of(name):
