@@ -8,8 +8,9 @@
 //! keeps the outcomes of the frames of each lane.
 //!
 //! [`frames_laws`] says what is delivered and refused of a session, whatever frames come, in any
-//! order, whoever seals and brings them. A lane of this crate, with a [`Sending`] and its plan, is one
-//! instance ([`source_laws`]). There [`headline_laws`] says what is delivered and refused, whatever
+//! order, whoever seals and brings them. In a program of its own a session's records are those that it
+//! gave its sealer, one for each number, over all its starts. A lane of this crate, with a [`Sending`]
+//! and its plan, is one instance ([`source_laws`]). There [`headline_laws`] says what is delivered and refused, whatever
 //! the plan; [`carried_laws`] that all is delivered if each frame comes in its turn, whatever else
 //! comes, and [`going_on_laws`] what receivers that continue one after the other deliver together.
 //! [`relay_laws`] says it of the log of any relay, stepped or on threads, that has the verdicts of all
