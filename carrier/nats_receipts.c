@@ -59,7 +59,7 @@ static natsStatus ask_stream(struct nats_carrier *c)
     return status;
 }
 
-/* What a sender hears of a stream that has too few replicas may be lost with a node: it is told once. */
+/* What a sender hears of a stream that has too few replicas may be lost with a node: the log says so once. */
 static void look_at_stream(struct nats_carrier *c)
 {
     if (!c->has_seen_receipts && nanoseconds() >= c->receipts_moment)

@@ -23,7 +23,7 @@ static void fill(void)
         text[i] = (uint8_t)i;
 }
 
-/* A text is added where it fits behind the size, which has to be in the room. */
+/* A text is added where it fits after the first `size` bytes, which have to be in the room. */
 static void add(size_t room, size_t size, size_t len)
 {
     size_t now = size;

@@ -65,7 +65,7 @@ static void put_text(struct outbox *outbox, uint64_t number)
     tell(PUT, number, 0);
 }
 
-/* Its frame may leave when this is told. */
+/* Its frame may leave as soon as this is written to the pipe. */
 static uint64_t seal_one(struct outbox *outbox, struct sending *sending, uint8_t *frame)
 {
     struct sealing sealing = { .outbox = outbox, .batch = 1, .frame = frame };

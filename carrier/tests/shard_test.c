@@ -60,7 +60,7 @@ static void take(struct shard *shard)
         check(shard_step(shard, 10) >= 0, "a step of the shard");
 }
 
-/* A message of any age passes where none is told, so such a frame is refused. */
+/* A message that has no time could be of any age, so such a frame is refused. */
 static void test_times(struct shard *shard, struct carrier *carrier)
 {
     publish(carrier, safe_17_timeless, sizeof safe_17_timeless);
