@@ -1,0 +1,3 @@
+mod LaneLemmas
+mod EndLemmas
+mod DigestLemmas

@@ -1,0 +1,178 @@
+//! Digests of messages that begin with the same block.
+
+ghost use Rattle.std.specs.Prelude.{◌≡◌, ℕ, ◌+◌, ◌<◌, ◌≤◌, List, ◌++◌, length};
+ghost use Rattle.sha1.specs.Sha1.{digest_bytes, sha1};
+ghost use Rattle.krb_digests.specs.Lanes.{lane, message, texts};
+ghost use Rattle.krb_digests.specs.Rest.{after_block, rest_block, rest_blocks, wiped_hash};
+
+use crate::blocks::Rest;
+use crate::compression::compress;
+use std::marker::Model;
+use std::simd::u32x8;
+
+/// How many messages are hashed side by side.
+pub const MESSAGES: usize = 8;
+
+// The initial hash value (FIPS 180-4, section 5.3.1).
+const INITIAL_HASH: [u32; 5] = [
+    0x6745_2301,
+    0xefcd_ab89,
+    0x98ba_dcfe,
+    0x1032_5476,
+    0xc3d2_e1f0,
+];
+
+/// The hash value after a first block, from which the digests of messages that begin with this block
+/// go on.
+///
+/// HMAC's first block is its padded key (RFC 2104), so whoever has the hash values after both can make
+/// codes. So a `Prefix` isn't dropped: it ends by `wipe` and then `spend`.
+pub struct Prefix {
+    hash: [u32; 5],
+}
+
+impl Model for Prefix {
+    ghost use Rattle.std.specs.Prelude.{ℕ, List};
+
+    ghost Value = { List ℕ };
+
+    ghost view = { λ a. a.hash };
+}
+
+// The same hash value for each message.
+fn each(hash: &[u32; 5]) -> [u32x8; 5]
+    ensures { (j : ℕ) → j < 8 → lane j result ≡ hash.now }
+{
+    [
+        u32x8::splat(hash[0]),
+        u32x8::splat(hash[1]),
+        u32x8::splat(hash[2]),
+        u32x8::splat(hash[3]),
+        u32x8::splat(hash[4]),
+    ]
+}
+
+// The hash value of message `j`.
+fn hash_of(state: &[u32x8; 5], j: usize) -> [u32; 5]
+    requires { j < 8 }
+    ensures { result ≡ lane j state.now }
+{
+    [
+        state[0].to_array()[j],
+        state[1].to_array()[j],
+        state[2].to_array()[j],
+        state[3].to_array()[j],
+        state[4].to_array()[j],
+    ]
+}
+
+// The bytes of a hash value.
+fn bytes_of(hash: &[u32; 5]) -> [u8; 20]
+    ensures { result ≡ digest_bytes hash.now 5 }
+{
+    let mut bytes = [0u8; 20];
+    for i in 0..5 {
+        bytes[4 * i..4 * i + 4].copy_from_slice(&hash[i].to_be_bytes());
+    }
+    bytes
+}
+
+// What follows the first block of each message.
+fn rests<'a>(messages: &[&'a [u8]; 8]) -> [Rest<'a>; 8]
+    ensures { (j : ℕ) → j < 8 → message j result ≡ message j (texts messages.now) }
+{
+    [
+        Rest::new(messages[0]),
+        Rest::new(messages[1]),
+        Rest::new(messages[2]),
+        Rest::new(messages[3]),
+        Rest::new(messages[4]),
+        Rest::new(messages[5]),
+        Rest::new(messages[6]),
+        Rest::new(messages[7]),
+    ]
+}
+
+// Block `n` of each.
+fn blocks_at(rests: &[Rest<'_>; 8], n: usize) -> [[u8; 64]; 8]
+    ensures { (j : ℕ) → j < 8 → n < rest_blocks (message j rests.now)
+        → message j result ≡ rest_block (message j rests.now) n }
+{
+    [
+        rests[0].block(n),
+        rests[1].block(n),
+        rests[2].block(n),
+        rests[3].block(n),
+        rests[4].block(n),
+        rests[5].block(n),
+        rests[6].block(n),
+        rests[7].block(n),
+    ]
+}
+
+// How many blocks the longest has.
+fn most_blocks(rests: &[Rest<'_>; 8]) -> usize
+    ensures { (j : ℕ) → j < 8 → rest_blocks (message j rests.now) ≤ result }
+{
+    let mut most = 0;
+    for rest in rests {
+        most = most.max(rest.count());
+    }
+    most
+}
+
+// Notes the digests of the messages that have `n` blocks after the first.
+fn note_ended(digests: &mut [[u8; 20]; 8], state: &[u32x8; 5], rests: &[Rest<'_>; 8], n: usize)
+    ensures ended { (j : ℕ) → j < 8 → rest_blocks (message j rests.now) ≡ n
+        → message j digests.new ≡ digest_bytes (lane j state.now) 5 }
+    ensures kept { (j : ℕ) → ¬ (rest_blocks (message j rests.now) ≡ n)
+        → message j digests.new ≡ message j digests.old }
+{
+    for j in 0..8 {
+        if rests[j].count() == n {
+            digests[j] = bytes_of(&hash_of(state, j));
+        }
+    }
+}
+
+impl Prefix {
+    /// The hash value after this block.
+    pub fn new(block: &[u8; 64]) -> Prefix
+        ensures { result ≡ after_block block.now }
+    {
+        let mut state = each(&INITIAL_HASH);
+        compress(&mut state, &[*block; 8]);
+        Prefix {
+            hash: hash_of(&state, 0),
+        }
+    }
+
+    /// The digests of eight messages, of which each is the block followed by its bytes.
+    pub fn digests(&self, messages: &[&[u8]; 8]) -> [[u8; 20]; 8]
+        ensures { (block : List ℕ) (j : ℕ) → length block ≡ 64 → self.now ≡ after_block block → j < 8
+            → message j result ≡ sha1 (block ++ message j (texts messages.now)) }
+    {
+        let rests = rests(messages);
+        let mut state = each(&self.hash);
+        let mut digests = [[0u8; 20]; 8];
+        for n in 0..most_blocks(&rests) {
+            compress(&mut state, &blocks_at(&rests, n));
+            note_ended(&mut digests, &state, &rests, n + 1);
+        }
+        digests
+    }
+
+    /// Overwrites the hash value with zeros.
+    pub fn wipe(&mut self)
+        ensures { self.new ≡ wiped_hash }
+    {
+        self.hash = [0; 5];
+    }
+
+    /// Ends a prefix, which has to be wiped.
+    pub fn spend(self)
+        requires { self ≡ wiped_hash }
+    {
+        let Prefix { hash: _ } = self;
+    }
+}
