@@ -1,21 +1,22 @@
-use Rattle.std.proofs.Common.{rules, ◌≡◌, ◌∙◌, arith, inl, inr}
-use Rattle.std.proofs.lemmas.Bool.{cases_lt}
-use Rattle.krb_digests.proofs.LaneLemmas.{lane_set_same, lane_set_other}
+use Rattle.std.proofs.Common.{◌≡◌, ◌*◌, [], ◌∷◌, slice_index}
+use Rattle.sha1.specs.Sha1.{word_at}
+use Rattle.krb_digests.specs.Lanes.{message}
+use Rattle.krb_digests.proofs.LaneLemmas.{each_word}
 use Rattle.krb_digests.proofs.compression.words_of.Goals as goal
 
-pub loop-i-init : goal.loop-i-init
-loop-i-init c = (search rules, λ j k h lt. absurd (omega arith))
-
-pub loop-i-preserved : goal.loop-i-preserved
-loop-i-preserved c = (
-  search rules,
-  λ j k h lt. elim (cases_lt k c.loop-i.i) [
-    | inl below ↦ lane_set_other c.loop-i.w c.word_at.result j c.loop-i.i k (omega arith) ∙ c.loop-i.invariant.1 j k h below
-    | inr above ↦
-        let e : c.loop-i.i ≡ k = omega arith in
-        rw (← e) (lane_set_same c.loop-i.w c.word_at.result j c.loop-i.i (omega arith) ∙ c.word_at.ensures j h)
-  ],
-)
-
 pub returns-clause-words : goal.returns-clause-words
-returns-clause-words c j k h lt = c.loop-i.invariant.1 j k h (omega arith)
+returns-clause-words c j k h lt =
+    let words =
+    slice_index c.word_at.result j ∷ slice_index c.word_at-2.result j ∷ slice_index c.word_at-3.result j
+    ∷ slice_index c.word_at-4.result j ∷ slice_index c.word_at-5.result j ∷ slice_index c.word_at-6.result j
+    ∷ slice_index c.word_at-7.result j ∷ slice_index c.word_at-8.result j ∷ slice_index c.word_at-9.result j
+    ∷ slice_index c.word_at-10.result j ∷ slice_index c.word_at-11.result j ∷ slice_index c.word_at-12.result j
+    ∷ slice_index c.word_at-13.result j ∷ slice_index c.word_at-14.result j ∷ slice_index c.word_at-15.result j
+    ∷ slice_index c.word_at-16.result j
+    ∷ [] in
+    each_word (λ n. slice_index words n ≡ word_at (message j c.args.blocks.now) (4 * n))
+    (c.word_at.ensures j h) (c.word_at-2.ensures j h) (c.word_at-3.ensures j h) (c.word_at-4.ensures j h)
+    (c.word_at-5.ensures j h) (c.word_at-6.ensures j h) (c.word_at-7.ensures j h) (c.word_at-8.ensures j h)
+    (c.word_at-9.ensures j h) (c.word_at-10.ensures j h) (c.word_at-11.ensures j h) (c.word_at-12.ensures j h)
+    (c.word_at-13.ensures j h) (c.word_at-14.ensures j h) (c.word_at-15.ensures j h) (c.word_at-16.ensures j h)
+    k lt
