@@ -2,7 +2,7 @@ use Rattle.std.proofs.Common.{◌≡◌, ℕ, ◌/◌, bit_and, bit_xor, true, r
 use Rattle.krb_aes.proofs.Mixing.{all_below}
 use Rattle.krb_aes.specs.Nibbles.{is_place, inverses, scaled_inverses, entry, first_place, second_place}
 use Rattle.krb_aes.proofs.Lanes.{places_of_bytes, looked_of, sum_of}
-use Rattle.krb_aes.proofs.inverse_pairs.places.Goals as goal
+use Rattle.krb_aes.proofs.pairs.places.Goals as goal
 
 abbrev high : ℕ → ℕ
 high b = b / 16

@@ -1,5 +1,5 @@
 use Rattle.krb_aes.proofs.PairLanes.{twice_picked}
-use Rattle.krb_aes.proofs.inverse_pairs.twice.Goals as goal
+use Rattle.krb_aes.proofs.pairs.twice.Goals as goal
 
 pub returns-clause-value : goal.returns-clause-value
 returns-clause-value c = twice_picked c.args.block c.fits-block.0

@@ -1,7 +1,7 @@
 use Rattle.std.proofs.Common.{ℕ, List, ap, ◌∙◌, w8}
 use Rattle.std.proofs.lemmas.Simd.{swz_l}
 use Rattle.krb_aes.proofs.PairLanes.{places_ok, looked}
-use Rattle.krb_aes.proofs.inverse_pairs.look_up.Goals as goal
+use Rattle.krb_aes.proofs.pairs.look_up.Goals as goal
 
 pub swizzle : goal.swizzle
 swizzle c = places_ok c.args.places c.fits-places.0 c.requires
