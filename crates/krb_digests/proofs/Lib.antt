@@ -1,3 +1,3 @@
-mod LaneLemmas
+pub mod LaneLemmas
 mod EndLemmas
 mod DigestLemmas

@@ -1,7 +1,7 @@
 -- The key's block, and the hash under it.
-use Rattle.std.proofs.Common.{◌≡◌, List, ℕ, ◌-◌, ◌<◌, ◌≤◌, ◌++◌, length, replicate, drop, map, bit_xor, cond, ltb, Bool, true, false, ap, ◌∙◌, refl, sym, arith}
-use Rattle.std.proofs.lemmas.Bool.{lt-ltb, le-ltb}
-use Rattle.std.proofs.lemmas.List.{drop-replicate, length-take-le}
+use Rattle.std.proofs.Common.{◌≡◌, List, ℕ, ◌-◌, ◌<◌, ◌≤◌, ◌++◌, length, replicate, drop, map, bit_xor, cond, ltb, Bool, true, false, ap, ◌∙◌, refl, sym, arith, inl, inr}
+use Rattle.std.proofs.lemmas.Bool.{cases_lt, lt-ltb, le-ltb}
+use Rattle.std.proofs.lemmas.List.{drop-replicate, length-append, length-map, length-replicate, length-take-le}
 use Rattle.sha1.specs.Sha1.{sha1, digest_bytes}
 use Rattle.krb_keys.specs.Hmac.{key_block, pad, hmac, hmac96}
 
@@ -54,3 +54,15 @@ length-hmac key text = length-sha1 (pad 0x5c key ++ sha1 (pad 0x36 key ++ text))
 
 pub length-hmac96 : (key text : List ℕ) → length (hmac96 key text) ≡ 12
 length-hmac96 key text = length-take-le 12 (hmac key text) (omega (arith, length-hmac key text))
+
+-- a padded key is one block
+length-key_block : (key : List ℕ) → length (key_block key) ≡ 64
+unfolding key_block
+length-key_block key = elim (cases_lt 64 (length key)) [
+  | inl long ↦ rw (lt-ltb 64 (length key) long) (omega (arith, length-append (sha1 key) (replicate (64 - length (sha1 key)) 0), length-replicate {A = ℕ} (64 - length (sha1 key)) 0, length-sha1 key))
+  | inr short ↦ rw (le-ltb 64 (length key) short) (omega (arith, length-append key (replicate (64 - length key) 0), length-replicate {A = ℕ} (64 - length key) 0))
+]
+
+pub length-pad : (byte : ℕ) (key : List ℕ) → length (pad byte key) ≡ 64
+unfolding pad
+length-pad byte key = length-map (key_block key) (λ b. bit_xor b byte) ∙ length-key_block key

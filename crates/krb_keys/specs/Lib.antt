@@ -3,3 +3,4 @@ pub mod Stream
 pub mod Hmac
 pub mod MacKey
 pub mod Derivation
+pub mod BatchMac

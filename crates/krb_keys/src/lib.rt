@@ -11,12 +11,14 @@
 //! ```
 #![tactic(auto)]
 
+mod batch_mac;
 mod derivation;
 mod equality;
 mod fold;
 mod hmac;
 mod mac_key;
 
+pub use batch_mac::BatchMac;
 pub use derivation::{CHECKSUM_TAIL, ENCRYPTION_TAIL, INTEGRITY_TAIL, derive, derive_folded};
 pub use equality::mac_equal;
 pub use fold::{lcm_law, nfold};

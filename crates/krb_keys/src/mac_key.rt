@@ -5,10 +5,11 @@ ghost use Rattle.krb_keys.specs.MacKey.{HoldsKey, IsForgotten};
 
 use sha1::Sha1;
 
-// RFC 2104 calls these bytes, repeated over a block, ipad and opad.
-const INNER_PAD: u8 = 0x36;
+/// RFC 2104 calls this byte, repeated over a block, ipad.
+pub const INNER_PAD: u8 = 0x36;
 
-const OUTER_PAD: u8 = 0x5c;
+/// And this one opad.
+pub const OUTER_PAD: u8 = 0x5c;
 
 // The key as one block of the hash.
 fn key_block(key: &[u8]) -> [u8; 64]
@@ -33,14 +34,21 @@ fn mask(block: &mut [u8], byte: u8)
     }
 }
 
+/// The key, padded with `byte`.
+pub fn padded_key(byte: u8, key: &[u8]) -> [u8; 64]
+    ensures { result ≡ pad byte key.now }
+{
+    let mut block = key_block(key);
+    mask(&mut block, byte);
+    block
+}
+
 // A hash that has taken in the key, padded with `byte`.
 fn keyed(byte: u8, key: &[u8]) -> Sha1
     ensures { Holds result (pad byte key.now) }
 {
-    let mut block = key_block(key);
-    mask(&mut block, byte);
     let mut hash = Sha1::new();
-    hash.update(&block);
+    hash.update(&padded_key(byte, key));
     hash
 }
 

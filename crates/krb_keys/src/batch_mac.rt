@@ -1,0 +1,84 @@
+ghost use Rattle.std.specs.Prelude.{◌≡◌, ℕ, ◌<◌, List, take};
+ghost use Rattle.krb_digests.specs.Lanes.{message, texts};
+ghost use Rattle.krb_keys.specs.Hmac.{hmac, hmac96};
+ghost use Rattle.krb_keys.specs.BatchMac.{HoldsBatchKey, IsBatchForgotten};
+
+use crate::mac_key::{INNER_PAD, OUTER_PAD, padded_key};
+use krb_digests::Prefix;
+
+/// A key for HMAC-SHA1 (RFC 2104) that makes the codes of eight texts at a time: the hash values after
+/// both padded keys are kept, as in a [`MacKey`](crate::MacKey).
+///
+/// Whoever has them can make codes as the holder of the key can. So a `BatchMac` isn't dropped: it ends
+/// by `wipe` and then `spend`.
+pub struct BatchMac {
+    inner: Prefix,
+    outer: Prefix,
+}
+
+// The first 12 bytes of a code (RFC 3962, section 6).
+fn cut(code: &[u8; 20]) -> [u8; 12]
+    ensures { result ≡ take 12 code.now }
+{
+    let mut first = [0u8; 12];
+    first.copy_from_slice(&code[..12]);
+    first
+}
+
+impl BatchMac {
+    /// The key `key`, of any length.
+    pub fn new(key: &[u8]) -> BatchMac
+        ensures { HoldsBatchKey result key.now }
+    {
+        BatchMac {
+            inner: Prefix::new(&padded_key(INNER_PAD, key)),
+            outer: Prefix::new(&padded_key(OUTER_PAD, key)),
+        }
+    }
+
+    /// The codes of eight texts, of 20 bytes each.
+    fn codes(&self, messages: &[&[u8]; 8]) -> [[u8; 20]; 8]
+        ensures { (key : List ℕ) (j : ℕ) → HoldsBatchKey self.now key → j < 8
+            → message j result ≡ hmac key (message j (texts messages.now)) }
+    {
+        let first = self.inner.digests(messages);
+        self.outer.digests(&[
+            &first[0], &first[1], &first[2], &first[3], &first[4], &first[5], &first[6], &first[7],
+        ])
+    }
+
+    /// HMAC-SHA1-96 (RFC 3962, section 6) of eight texts: the first 12 bytes of each code.
+    pub fn hmac96(&self, messages: &[&[u8]; 8]) -> [[u8; 12]; 8]
+        ensures { (key : List ℕ) (j : ℕ) → HoldsBatchKey self.now key → j < 8
+            → message j result ≡ hmac96 key (message j (texts messages.now)) }
+    {
+        let codes = self.codes(messages);
+        [
+            cut(&codes[0]),
+            cut(&codes[1]),
+            cut(&codes[2]),
+            cut(&codes[3]),
+            cut(&codes[4]),
+            cut(&codes[5]),
+            cut(&codes[6]),
+            cut(&codes[7]),
+        ]
+    }
+
+    /// Forgets the key.
+    pub fn wipe(&mut self)
+        ensures { IsBatchForgotten self.new }
+    {
+        self.inner.wipe();
+        self.outer.wipe();
+    }
+
+    /// Ends a key that is wiped.
+    pub fn spend(self)
+        requires { IsBatchForgotten self }
+    {
+        let BatchMac { inner, outer } = self;
+        inner.spend();
+        outer.spend();
+    }
+}
