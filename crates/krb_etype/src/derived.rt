@@ -1,13 +1,14 @@
 //! The keys that a session key gives (RFC 3961 section 5.3).
 
 ghost use Rattle.std.specs.Prelude.{◌≡◌, length};
+ghost use Rattle.krb_keys.specs.BatchMac.{HoldsBatchKey};
 ghost use Rattle.krb_keys.specs.MacKey.{HoldsKey};
 ghost use Rattle.krb_keys.specs.Nfold.{nfold};
-ghost use Rattle.krb_keys.specs.Derivation.{constant};
+ghost use Rattle.krb_keys.specs.Derivation.{constant, dr};
 ghost use Rattle.krb_etype.specs.Keys.{checksum_key, encryption_key, integrity_key};
 
 use krb_aes::{CipherKey, Schedule};
-use krb_keys::{MacKey, derive_folded};
+use krb_keys::{BatchMac, MacKey, derive_folded};
 
 /// The constant of Kc, n-folded to a block: that of the key usage 15, the checksum of KRB-SAFE (RFC
 /// 4120 section 7.5.1).
@@ -43,15 +44,46 @@ fn ready(mut key: CipherKey) -> MacKey
     mac_key
 }
 
+/// The same for eight texts at a time.
+fn batch_ready(mut key: CipherKey) -> BatchMac
+    ensures { HoldsBatchKey result key }
+{
+    let mac = BatchMac::new(key.bytes());
+    key.wipe();
+    key.spend();
+    mac
+}
+
+/// The key that a session key gives for a constant, which is folded.
+fn derived(base: &CipherKey, folded: &[u8; 16]) -> CipherKey
+    ensures { result ≡ dr base.now folded.now }
+{
+    let mut schedule = Schedule::new(base);
+    let key = derive_folded(base, &schedule, folded);
+    schedule.wipe();
+    schedule.spend();
+    key
+}
+
 /// Kc of a session key, ready for the checksums of KRB-SAFE.
 pub fn checksum_key(base: &CipherKey) -> MacKey
     ensures { HoldsKey result (checksum_key base.now) }
 {
-    let mut schedule = Schedule::new(base);
-    let key = derive_folded(base, &schedule, &CHECKSUM_CONSTANT);
-    schedule.wipe();
-    schedule.spend();
-    ready(key)
+    ready(derived(base, &CHECKSUM_CONSTANT))
+}
+
+/// The same for eight messages at a time.
+pub fn checksum_batch(base: &CipherKey) -> BatchMac
+    ensures { HoldsBatchKey result (checksum_key base.now) }
+{
+    batch_ready(derived(base, &CHECKSUM_CONSTANT))
+}
+
+/// Ki of a session key, ready for the codes of eight messages at a time.
+pub fn integrity_batch(base: &CipherKey) -> BatchMac
+    ensures { HoldsBatchKey result (integrity_key base.now) }
+{
+    batch_ready(derived(base, &INTEGRITY_CONSTANT))
 }
 
 /// Ki of a session key, ready for the codes of KRB-PRIV, and Ke, under which its part is

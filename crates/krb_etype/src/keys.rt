@@ -4,20 +4,21 @@ ghost use Rattle.std.specs.Prelude.{◌≡◌, ◌↔◌, ◌≤◌, ◌+◌, �
 ghost use Rattle.krb_aes.specs.Keys.{expanded_key};
 ghost use Rattle.krb_aes.specs.Stealing.{cts};
 ghost use Rattle.krb_base.specs.Bytes.{AreBytes};
+ghost use Rattle.krb_keys.specs.BatchMac.{HoldsBatchKey};
 ghost use Rattle.krb_keys.specs.Hmac.{hmac96, joined};
 ghost use Rattle.krb_etype.specs.declared.private_keys.End.TheVariants.{Sealer, Opener};
 ghost use Rattle.krb_etype.specs.declared.keys.Purpose.TheVariants.{Checksum, Encryption};
 ghost use Rattle.krb_etype.specs.Etype.{code_size, confounder_size};
 ghost use Rattle.krb_etype.specs.Keys.{checksum_key, encryption_key, tag_of, IsEncryption};
-ghost use Rattle.krb_etype.specs.HeldKeys.{fresh_keys, keys_for, wiped_keys};
+ghost use Rattle.krb_etype.specs.HeldKeys.{code_key, fresh_keys, keys_for, wiped_keys};
 ghost use Rattle.krb_etype.specs.PrivateKeys.{ArePrivateKeys};
 
-use crate::derived::checksum_key;
+use crate::derived::{checksum_batch, checksum_key, integrity_batch};
 use crate::etype::CODE_SIZE;
 use crate::private_keys::{End, PrivateKeys};
 use krb_aes::CipherKey;
 use krb_base::Bytes;
-use krb_keys::{MacKey, mac_equal};
+use krb_keys::{BatchMac, MacKey, mac_equal};
 use std::marker::Model;
 
 /// What derived keys are for.
@@ -206,6 +207,35 @@ impl Keys {
         ensures { text.new ≡ cts (expanded_key (encryption_key self.now.key)) text.old }
     {
         self.private().encipher(text);
+    }
+
+    /// Enciphers four texts in place, side by side.
+    pub fn encipher_four(&self, a: &mut [u8], b: &mut [u8], c: &mut [u8], d: &mut [u8])
+        requires live { self.now.wiped ≡ false }
+        requires purpose { self.now.purpose ≡ Encryption }
+        requires end { self.now.end ≡ Sealer }
+        requires a { 16 ≤ length a.old }
+        requires b { 16 ≤ length b.old }
+        requires c { 16 ≤ length c.old }
+        requires d { 16 ≤ length d.old }
+        ensures a { a.new ≡ cts (expanded_key (encryption_key self.now.key)) a.old }
+        ensures b { b.new ≡ cts (expanded_key (encryption_key self.now.key)) b.old }
+        ensures c { c.new ≡ cts (expanded_key (encryption_key self.now.key)) c.old }
+        ensures d { d.new ≡ cts (expanded_key (encryption_key self.now.key)) d.old }
+    {
+        self.private().encipher_four(a, b, c, d);
+    }
+
+    /// The key of the codes that its purpose asks for, ready for eight messages at a time. It is derived
+    /// anew, so that what seals one message at a time doesn't pay for it.
+    pub fn batch_mac(&self) -> BatchMac
+        requires { self.now.wiped ≡ false }
+        ensures { HoldsBatchKey result (code_key self.now.purpose self.now.key) }
+    {
+        match self.purpose {
+            Purpose::Checksum => checksum_batch(&self.base),
+            Purpose::Encryption => integrity_batch(&self.base),
+        }
     }
 
     /// Deciphers a text in place.

@@ -3,7 +3,6 @@
 ghost use Rattle.std.specs.Prelude.{◌≡◌, ◌≤◌, ℕ, List, length};
 ghost use Rattle.krb_base.specs.Bytes.{AreZero, AreBytes};
 ghost use Rattle.krb_aes.specs.Keys.{expanded_key};
-ghost use Rattle.krb_aes.specs.Keys.{expanded_key};
 ghost use Rattle.krb_aes.specs.Stealing.{cts};
 ghost use Rattle.krb_etype.specs.Keys.{encryption_key, tag_of};
 ghost use Rattle.krb_etype.specs.PrivateKeys.{AreForgotten, AreOf, ArePrivateKeys, words_of};
@@ -12,6 +11,7 @@ ghost use Rattle.krb_etype.specs.declared.private_keys.End.TheVariants as ends;
 use crate::derived::private_keys;
 use crate::etype::CODE_SIZE;
 use krb_aes::{CipherKey, InverseSchedule, Schedule, cts_decrypt, cts_encrypt};
+use krb_chains::cts_encrypt_four;
 use krb_keys::MacKey;
 
 /// An end of a session.
@@ -124,6 +124,24 @@ impl PrivateKeys {
     {
         match &self.encryption {
             RoundKeys::Enciphering(schedule) => cts_encrypt(schedule, text),
+            RoundKeys::Deciphering(_) => unreachable!(),
+        }
+    }
+
+    /// Enciphers four texts in place, side by side.
+    pub fn encipher_four(&self, a: &mut [u8], b: &mut [u8], c: &mut [u8], d: &mut [u8])
+        requires end { AreOf ends.Sealer self.now.encryption }
+        requires a { 16 ≤ length a.old }
+        requires b { 16 ≤ length b.old }
+        requires c { 16 ≤ length c.old }
+        requires d { 16 ≤ length d.old }
+        ensures a { a.new ≡ cts (words_of self.now.encryption) a.old }
+        ensures b { b.new ≡ cts (words_of self.now.encryption) b.old }
+        ensures c { c.new ≡ cts (words_of self.now.encryption) c.old }
+        ensures d { d.new ≡ cts (words_of self.now.encryption) d.old }
+    {
+        match &self.encryption {
+            RoundKeys::Enciphering(schedule) => cts_encrypt_four(schedule, a, b, c, d),
             RoundKeys::Deciphering(_) => unreachable!(),
         }
     }

@@ -5,4 +5,4 @@ use Rattle.krb_etype.proofs.derived.checksum_key.Goals as goal
 
 pub returns : goal.returns
 returns c =
-    subst (λ (key : List ℕ). HoldsKey c.ready.result key) (c.derive_folded-key.ensures.value ∙ is_dk c.args.base.now _ 15 0x99 checksum_folded) c.ready.ensures
+    subst (λ (key : List ℕ). HoldsKey c.ready.result key) (c.derived.ensures ∙ is_dk c.args.base.now _ 15 0x99 checksum_folded) c.ready.ensures
