@@ -2,6 +2,7 @@
 
 use crate::stolen::STOLEN;
 use krb_aes::{CipherKey, InverseSchedule, Schedule, cts_decrypt, cts_encrypt};
+use krb_chains::cts_encrypt_four;
 use std::process::Abort;
 
 // The text of RFC 3962, appendix B, whose vectors are beginnings of it: of 17, 31, 32, 47, 48 and 64 bytes.
@@ -132,4 +133,51 @@ fn stealing_of_each_length_from_16_to_64(rt: HostRuntime) {
         0x4d, 0x67, 0xf8,
     ];
     assert_steals(&rt, wide_key(first, second), &wanted);
+}
+
+/// Asserts that four beginnings of the text are enciphered so side by side.
+fn assert_steals_four(rt: &impl Abort, schedule: &Schedule, ciphers: [&[u8]; 4]) {
+    let [a, b, c, d] = ciphers;
+    let sizes = (a.len(), b.len(), c.len(), d.len());
+    let mut texts = (SOUP, SOUP, SOUP, SOUP);
+    let are_in_range = sizes.0 >= 16
+        && sizes.0 <= 64
+        && sizes.1 >= 16
+        && sizes.1 <= 64
+        && sizes.2 >= 16
+        && sizes.2 <= 64
+        && sizes.3 >= 16
+        && sizes.3 <= 64;
+    assert!(rt; are_in_range);
+    cts_encrypt_four(
+        schedule,
+        &mut texts.0[..sizes.0],
+        &mut texts.1[..sizes.1],
+        &mut texts.2[..sizes.2],
+        &mut texts.3[..sizes.3],
+    );
+    assert!(rt; &texts.0[..sizes.0] == a, "the first of {sizes:?}");
+    assert!(rt; &texts.1[..sizes.1] == b, "the second of {sizes:?}");
+    assert!(rt; &texts.2[..sizes.2] == c, "the third of {sizes:?}");
+    assert!(rt; &texts.3[..sizes.3] == d, "the fourth of {sizes:?}");
+}
+
+// Each length in each place, beside others that are shorter and longer.
+#[test]
+fn stealing_of_four_texts_of_each_length(rt: HostRuntime) {
+    let mut key = CipherKey::from_128(*b"chicken teriyaki");
+    let mut schedule = Schedule::new(&key);
+    key.wipe();
+    key.spend();
+    for i in 0..49 {
+        let ciphers = [
+            STOLEN[i],
+            STOLEN[(i + 1) % 49],
+            STOLEN[(i + 17) % 49],
+            STOLEN[48 - i],
+        ];
+        assert_steals_four(&rt, &schedule, ciphers);
+    }
+    schedule.wipe();
+    schedule.spend();
 }

@@ -21,7 +21,7 @@ fn hex(alloc: Global, bytes: &[u8]) -> Result<String, AllocError> {
 }
 
 /// Asserts that the bytes are written with these digits.
-fn assert_hex(rt: &(impl Abort + Alloc<A = Global>), bytes: &[u8], digits: &str) {
+pub fn assert_hex(rt: &(impl Abort + Alloc<A = Global>), bytes: &[u8], digits: &str) {
     let written = hex(rt.alloc(), bytes).expect(rt, "memory");
     assert_same(rt, written.as_str(), digits);
 }

@@ -1,5 +1,5 @@
-//! The tests of the libraries that krb_seal stands on, [`krb_aes`], [`krb_base`], [`krb_keys`],
-//! [`krb_time`], [`krb_tlv`] and [`krb_der`], and of [`krb_record`], over what these have public:
+//! The tests of the libraries that krb_seal stands on, [`krb_aes`], [`krb_base`],
+//! [`krb_chains`], [`krb_digests`], [`krb_keys`], [`krb_time`], [`krb_tlv`] and [`krb_der`], and of [`krb_record`], over what these have public:
 //! vectors of the standards, and messages worked out by hand. What a reader refuses is in
 //! `tests/jobs`. They stand in a crate of their own, which has no public item, so that each
 //! library is proved once, and the tests are proved beside krb_seal.
@@ -15,6 +15,8 @@ mod batch;
 mod cipher;
 #[cfg(test)]
 mod codec;
+#[cfg(test)]
+mod eight;
 #[cfg(test)]
 mod keys;
 #[cfg(test)]
