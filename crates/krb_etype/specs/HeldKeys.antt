@@ -1,8 +1,7 @@
 -- What contracts see of a session key with the keys derived from it.
 use Rattle.std.specs.Prelude.{◌≡◌, ℕ, List, length, replicate, Bool, true, false}
 use Rattle.krb_etype.specs.declared.keys.Purpose.{Purpose}
-use Rattle.krb_etype.specs.declared.keys.Purpose.TheVariants.{Checksum, Encryption}
-use Rattle.krb_etype.specs.Keys.{checksum_key, integrity_key}
+use Rattle.krb_etype.specs.declared.keys.Purpose.TheVariants.{Encryption}
 use Rattle.krb_etype.specs.declared.private_keys.End.{End}
 use Rattle.krb_etype.specs.declared.private_keys.End.TheVariants.{Sealer}
 
@@ -21,11 +20,6 @@ keys_for keys purpose = record keys { purpose = purpose }
 
 abbrev pub wiped_keys : HeldKeys → HeldKeys
 wiped_keys keys = record keys { key = replicate (length keys.key) 0; wiped = true }
-
--- Under which key the codes are made that a purpose asks for.
-abbrev pub code_key : Purpose → List ℕ → List ℕ
-code_key Checksum key = checksum_key key
-code_key Encryption key = integrity_key key
 
 -- They are a sealer's live keys for encryption.
 abbrev pub IsEnciphering : HeldKeys → Type 0

@@ -4,6 +4,7 @@ pub mod Etype
 pub mod Keys
 pub mod TypedKey
 pub mod HeldKeys
+pub mod CodeKey
 pub mod SessionKeyInside
 pub mod PrivateKeys
 pub mod KeysInside

@@ -45,12 +45,12 @@ fn ready(mut key: CipherKey) -> MacKey
 }
 
 /// The same for eight texts at a time.
-fn batch_ready(mut key: CipherKey) -> BatchMac
-    ensures { HoldsBatchKey result key }
+fn batch_ready(mut derived: CipherKey) -> BatchMac
+    ensures { HoldsBatchKey result derived }
 {
-    let mac = BatchMac::new(key.bytes());
-    key.wipe();
-    key.spend();
+    let mac = BatchMac::new(derived.bytes());
+    derived.wipe();
+    derived.spend();
     mac
 }
 

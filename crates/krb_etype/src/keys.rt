@@ -10,7 +10,8 @@ ghost use Rattle.krb_etype.specs.declared.private_keys.End.TheVariants.{Sealer, 
 ghost use Rattle.krb_etype.specs.declared.keys.Purpose.TheVariants.{Checksum, Encryption};
 ghost use Rattle.krb_etype.specs.Etype.{code_size, confounder_size};
 ghost use Rattle.krb_etype.specs.Keys.{checksum_key, encryption_key, tag_of, IsEncryption};
-ghost use Rattle.krb_etype.specs.HeldKeys.{code_key, fresh_keys, keys_for, wiped_keys};
+ghost use Rattle.krb_etype.specs.CodeKey.{code_key};
+ghost use Rattle.krb_etype.specs.HeldKeys.{fresh_keys, keys_for, wiped_keys};
 ghost use Rattle.krb_etype.specs.PrivateKeys.{ArePrivateKeys};
 
 use crate::derived::{checksum_batch, checksum_key, integrity_batch};
