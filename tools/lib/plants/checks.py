@@ -5,6 +5,7 @@ import os
 import re
 from collections.abc import Callable
 
+from lib import bindings
 from lib.plants.copies import Copy
 
 Told = tuple[bool, str]
@@ -111,11 +112,28 @@ def carrier(copy: Copy, what: str) -> Told:
     return copy.run([made, f"sqlite:{folder}/store.db" if what == "store_test" else folder])
 
 
+# ---- the packages of other languages, over the installed library
+
+OF_PACKAGE = {"rust": ("tests/frames.txt", ["cargo", "test", "--offline", "--features", "system"]),
+              "go": ("testdata/frames.txt", ["go", "test", "-count=1", "-tags=krbrelay_system", "."])}
+
+
+def package(copy: Copy, room: str) -> Told:
+    frames, words = OF_PACKAGE[room]
+    place = f"{copy.top}/{room}/{frames}"
+    os.makedirs(os.path.dirname(place), exist_ok=True)
+    with open(place, "w", encoding="utf-8") as file:
+        file.write(bindings.frames())
+    return copy.run(words, cwd=f"{copy.top}/{room}",
+                    env={**os.environ, **bindings.by_prefix(copy.installed), "KRBRELAY_TARBALL": f"{copy.top}/c"})
+
+
 # ---- tools, and the prover
 
 def tool(copy: Copy, what: str) -> Told:
     return copy.run({"self": ["pytest", "-q", "-x", "tests/test_tools.py"],
-                     "test_building": ["tools/test_building"]}[what], cwd=copy.top)
+                     "test_building": ["tools/test_building"],
+                     "conformance": ["conformance/test", "--quick"]}[what], cwd=copy.top)
 
 
 def crate(copy: Copy, name: str) -> Told:
@@ -136,7 +154,7 @@ def prover(copy: Copy, name: str, function: str) -> Told:
 
 
 CHECKS: dict[str, Callable[..., Told]] = {"c": c_test, "program": of_program, "carrier": carrier,
-                                          "tools": tool, "crate": crate, "sweep": sweep,
+                                          "package": package, "tools": tool, "crate": crate, "sweep": sweep,
                                           "prover": prover}
 
 
