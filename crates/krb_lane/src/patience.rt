@@ -30,7 +30,7 @@ const FIRST_NAP: u64 = 10;
 /// Before this nap, or a longer one, no time is spent on looks.
 const LONG: u32 = 3;
 
-/// The longest nap, which is of 5,120 microseconds.
+/// The longest nap.
 const LONGEST: u32 = 9;
 
 /// How a sender that finds its lane full waits before it sleeps until a take wakes it.
