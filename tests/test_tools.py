@@ -243,6 +243,21 @@ def test_a_plant_around_a_call_is_c(name):
                    input=text, text=True, check=True)
 
 
+@pytest.mark.parametrize("said, goals", [
+    ("fn krb_carry::place::Place::take: no proof: expected answers in A; `search` did not prove `returns-clause-moved`",
+     "`returns-clause-moved`"),
+    ("fn krb_carry::place::Place::take_all: no proof: A; `search` did not prove `returns`", ""),
+    ("./proofs/place/Place/take/Answers.antt:9:5: error: `returns-clause-moved`: the two types differ\n"
+     "fn krb_carry::place::Place::take: not proved", "`returns-clause-moved`"),
+    ("./proofs/place/Place/gone/Answers.antt:9:5: error: `returns-clause-moved`: the two types differ\n"
+     "fn krb_carry::place::Place::take: not proved", ""),
+    ("fn krb_carry::place::Place::take: proved", ""),
+    ("src/place.rt is not in the layout\nrt: krb_carry NOT PROVED", ""),
+    ("fn krb_carry::place::follow: no proof: it calls `krb_carry::place::Place::take`, which is not proved", "")])
+def test_a_refusal_names_a_goal_of_the_function(said, goals):
+    assert checks.goals_of(f"== krb_carry\n{said}\n1 passed", "krb_carry", "Place::take") == goals
+
+
 def test_a_plant_around_no_call_is_told():
     with pytest.raises(wrapped.NoCall):
         wrapped.source(building.text_of("c/krbrelay.h"), "no_such_call", "", "")
