@@ -105,6 +105,41 @@ func TestAMessageOutOfOrderTellsItsNumber(t *testing.T) {
 	}
 }
 
+// All bits of a number count, and of a time: 2^32 more is another one.
+func TestNumbersAndTimesAreWhole(t *testing.T) {
+	const more = 1 << 32
+	safe := frames(t)["safe 17"]
+	opened := func(number uint64) error {
+		demand := krbrelay.DemandOf(sender)
+		demand.Number = krbrelay.Of(number)
+		opener := must[*krbrelay.Opener](t)(krbrelay.NewOpener(17, key128, expect(krbrelay.Safe)))
+		defer opener.Close()
+		_, err := opener.Open(safe, demand, then)
+		return err
+	}
+	late, early := krbrelay.NewWindow(more), krbrelay.NewWindow(0)
+	ends := must[*krbrelay.Receiver](t)(krbrelay.NewReceiver(17, key128, expect(krbrelay.Safe), krbrelay.State{Expected: last}))
+	_, err := ends.Take(frames(t)["safe 17, last number"], then)
+	for place, it := range []struct{ found, wanted error }{
+		{unsealed(t, krbrelay.Safe, safe, 7, then), nil},
+		{unsealed(t, krbrelay.Safe, safe, 7+more, then), krbrelay.ErrBadOrder},
+		{unsealed(t, krbrelay.Safe, safe, 7, then.Add(more*time.Second)), krbrelay.ErrSkew},
+		{opened(7), nil},
+		{opened(7 + more), krbrelay.ErrBadOrder},
+		{late.Take(5), krbrelay.ErrTooOld},
+		{early.Take(5 + more), nil},
+		{early.Take(5), krbrelay.ErrTooOld},
+		{err, nil},
+	} {
+		if !errors.Is(it.found, it.wanted) {
+			t.Errorf("%d: %v, not %v", place, it.found, it.wanted)
+		}
+	}
+	if state, err := ends.State(); err != nil || state.Expected != more {
+		t.Error(state, err)
+	}
+}
+
 // No change of one bit is taken, and none does anything else than refuse.
 func TestEachBitCounts(t *testing.T) {
 	frame := frames(t)["priv 17, first drawn confounder"]

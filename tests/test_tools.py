@@ -4,6 +4,7 @@ Those that have a control of their own in each run are named in OWN_CONTROLS. Th
 theirs in tools/test_building, tools/test_parts, tools/test_picture, tools/test_bench and
 tools/test_reference.
 """
+import dataclasses
 import os
 import subprocess
 import sys
@@ -13,6 +14,8 @@ import pytest
 from lib import parts, report, scripts
 from lib.build import assembly, building, c_tools
 from lib.plants import checks, planted, wrapped
+from vectors import held, judging, model, readers
+from vectors.judging import Class
 
 # What each of these plants in each run, and has to report.
 OWN_CONTROLS = {
@@ -173,6 +176,46 @@ def test_fuzz_compares_each_line_of_a_batch(fuzz, monkeypatch, got, ended, wrong
     assert fuzz.compare_batch([b"1", b"2"], 0, ["a", "refused b"]) == wrong
 
 
+# ---- the judgements of the conformance suite
+
+OPENER = readers.implementations()["oracle"]
+TAKEN, OTHER = f"ok:{model.TEXT.hex()}", "ok:00"
+JUDGED = [
+    (model.valid(), TAKEN, Class.PASS), (model.valid(), OTHER, Class.OTHER_DATA), (model.valid(), "no:31", Class.REFUSED),
+    (model.valid(), "crash: 11", Class.CRASH), (model.invalid("integrity"), "no:31", Class.PASS),
+    (model.invalid("integrity"), "no:42", Class.OTHER_NAME), (model.invalid("integrity"), TAKEN, Class.ACCEPTED),
+    (model.invalid("integrity"), "crash: 11", Class.CRASH), (model.acceptable(), TAKEN, Class.TAKES),
+    (model.acceptable(), OTHER, Class.OTHER_DATA), (model.acceptable(), "no:31", Class.REFUSES)]
+
+
+def suite_of(*verdicts):
+    """A suite of one case, a message of each verdict."""
+    now = model.Moment(1_700_000_000, 0)
+    group = model.Group("planted", "priv", bytes(16), model.Demand(None, None, now))
+    steps = tuple(model.Step(b"", verdict) for verdict in verdicts)
+    group.cases.append(model.Case(1, "planted", "3.5.2", ("Normal",), steps, group.demand, len(steps) > 1))
+    return group, group.cases[0]
+
+
+@pytest.mark.parametrize("wanted, verdict, class_", JUDGED)
+def test_a_verdict_is_judged_by_the_suite(wanted, verdict, class_):
+    assert judging.class_of(OPENER, *suite_of(wanted), [verdict]) is class_
+
+
+@pytest.mark.parametrize("verdicts", [[TAKEN], [TAKEN] * 3, [TAKEN, "crash: 11"]])
+def test_a_stream_without_a_verdict_each_is_a_crash(verdicts):
+    assert judging.class_of(OPENER, *suite_of(model.valid(), model.valid()), verdicts) is Class.CRASH
+
+
+@pytest.mark.parametrize("wanted, verdict, class_", JUDGED)
+def test_what_a_reader_does_otherwise_is_a_fault(wanted, verdict, class_):
+    group, case = suite_of(wanted)
+    of = dataclasses.replace(OPENER, can=frozenset(judging.needs_of(group, case)))
+    passed, faults = held.faults(of, [group], {case.number: [verdict]})
+    right = class_ in (Class.PASS, Class.REFUSES)
+    assert (passed, len(faults)) == ((1, 0) if right else (0, 1))
+
+
 # ---- the tools with a control of their own
 
 @pytest.mark.parametrize("name", OWN_CONTROLS)
@@ -198,6 +241,21 @@ def test_a_plant_around_a_call_is_c(name):
     text = wrapped.source(building.text_of("c/krbrelay.h"), *PLANTS[name].wraps)
     subprocess.run([*c_tools.c_compiler(), "-std=gnu11", "-fsyntax-only", f"-I{building.TOP}/c", "-x", "c", "-"],
                    input=text, text=True, check=True)
+
+
+@pytest.mark.parametrize("said, goals", [
+    ("fn krb_carry::place::Place::take: no proof: expected answers in A; `search` did not prove `returns-clause-moved`",
+     "`returns-clause-moved`"),
+    ("fn krb_carry::place::Place::take_all: no proof: A; `search` did not prove `returns`", ""),
+    ("./proofs/place/Place/take/Answers.antt:9:5: error: `returns-clause-moved`: the two types differ\n"
+     "fn krb_carry::place::Place::take: not proved", "`returns-clause-moved`"),
+    ("./proofs/place/Place/gone/Answers.antt:9:5: error: `returns-clause-moved`: the two types differ\n"
+     "fn krb_carry::place::Place::take: not proved", ""),
+    ("fn krb_carry::place::Place::take: proved", ""),
+    ("src/place.rt is not in the layout\nrt: krb_carry NOT PROVED", ""),
+    ("fn krb_carry::place::follow: no proof: it calls `krb_carry::place::Place::take`, which is not proved", "")])
+def test_a_refusal_names_a_goal_of_the_function(said, goals):
+    assert checks.goals_of(f"== krb_carry\n{said}\n1 passed", "krb_carry", "Place::take") == goals
 
 
 def test_a_plant_around_no_call_is_told():

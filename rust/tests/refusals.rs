@@ -93,6 +93,29 @@ fn a_message_out_of_order_tells_its_number() {
     assert_eq!(peer.numbers(), Numbers { next: 0, expected: 9 });
 }
 
+/// All bits of a number count, and of a time: 2^32 more is another one.
+#[test]
+fn numbers_and_times_are_whole() {
+    const MORE: u64 = 1 << 32;
+    let safe = &frames()["safe 17"];
+    let opened = |number| {
+        let demand = Demand { number: Some(number), ..Demand::of_sender(SENDER) };
+        Opener::of_mode(AES128, Mode::Safe).unwrap().open_at(safe, &demand, AT)
+    };
+    let later = Moment { seconds: AT.seconds + MORE, ..AT };
+    assert!(unsealed(Mode::Safe, safe, 7, AT).is_ok() && opened(7).is_ok());
+    assert_eq!(unsealed(Mode::Safe, safe, 7 + MORE, AT), Err(OUT_OF_ORDER));
+    assert!(matches!(opened(7 + MORE), Err(Error::BadOrder { .. })));
+    assert_eq!(unsealed(Mode::Safe, safe, 7, later), Err(Error::Skew));
+    assert_eq!(Window::new(MORE).take(5), Err(Error::TooOld));
+    let mut window = Window::new(0);
+    window.take(5 + MORE).unwrap();
+    assert_eq!(window.take(5), Err(Error::TooOld));
+    let mut receiver = Receiver::new(AES128, &expect(Mode::Safe), from(LAST)).unwrap();
+    receiver.take_at(&frames()["safe 17, last number"], AT).unwrap();
+    assert_eq!(receiver.state().expected, MORE);
+}
+
 /// No change of one bit is taken, and none does anything else than refuse.
 #[test]
 fn each_bit_counts() {

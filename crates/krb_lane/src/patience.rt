@@ -5,7 +5,7 @@ ghost use Rattle.crossbeam_channel.specs.Claims.{view, IsSeatAt};
 ghost use Rattle.crossbeam_channel.specs.Ends.{sends_on, ruled_capacity};
 ghost use Rattle.krb_lane.specs.Items.{frames_of, has_end, IsNext};
 ghost use Rattle.krb_lane.specs.Rule.{puts};
-ghost use Rattle.krb_lane.specs.Waiting.{longest_nap};
+ghost use Rattle.krb_lane.specs.Waiting.{longest_nap, nap_micros};
 
 use crate::item::Item;
 use crate::passes::Sends;
@@ -30,10 +30,8 @@ const FIRST_NAP: u64 = 10;
 /// Before this nap, or a longer one, no time is spent on looks.
 const LONG: u32 = 3;
 
-/// The longest nap, and its microseconds.
+/// The longest nap.
 const LONGEST: u32 = 9;
-
-const LONGEST_MICROS: u64 = 5_120;
 
 /// How a sender that finds its lane full waits before it sleeps until a take wakes it.
 ///
@@ -125,10 +123,12 @@ impl Patience {
 }
 
 /// The microseconds of a nap, so that a sender looks again soon.
+#[tactic(auto, using(crate::proofs::Naps::capped, crate::proofs::Naps::bounded))]
 fn micros_of(nap: u32) -> u64
+    ensures value { result ≡ nap_micros nap }
     ensures bounded { result ≤ longest_nap }
 {
-    (FIRST_NAP << nap.min(LONGEST)).min(LONGEST_MICROS)
+    FIRST_NAP << nap.min(LONGEST)
 }
 
 /// Sends an item, and waits while the lane is full. If the receiving end is gone, nothing is sent

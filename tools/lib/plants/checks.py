@@ -5,6 +5,8 @@ import os
 import re
 from collections.abc import Callable
 
+from lib import bindings
+from lib.build.without_proofs import NotCompiled
 from lib.plants.copies import Copy
 
 Told = tuple[bool, str]
@@ -111,11 +113,29 @@ def carrier(copy: Copy, what: str) -> Told:
     return copy.run([made, f"sqlite:{folder}/store.db" if what == "store_test" else folder])
 
 
+# ---- the packages of other languages, over the installed library
+
+OF_PACKAGE = {"rust": ("tests/frames.txt", ["cargo", "test", "--offline", "--features", "system"]),
+              "go": ("testdata/frames.txt", ["go", "test", "-count=1", "-tags=krbrelay_system", "."])}
+
+
+def package(copy: Copy, room: str) -> Told:
+    frames, words = OF_PACKAGE[room]
+    place = f"{copy.top}/{room}/{frames}"
+    os.makedirs(os.path.dirname(place), exist_ok=True)
+    with open(place, "w", encoding="utf-8") as file:
+        file.write(bindings.frames())
+    return copy.run(words, cwd=f"{copy.top}/{room}",
+                    env={**os.environ, **bindings.by_prefix(copy.installed), "KRBRELAY_TARBALL": f"{copy.top}/c"})
+
+
 # ---- tools, and the prover
 
 def tool(copy: Copy, what: str) -> Told:
     return copy.run({"self": ["pytest", "-q", "-x", "tests/test_tools.py"],
-                     "test_building": ["tools/test_building"]}[what], cwd=copy.top)
+                     "tables": ["pytest", "-q", "-x", "tests/test_tables.py"],
+                     "test_building": ["tools/test_building"],
+                     "conformance": ["conformance/test", "--quick"]}[what], cwd=copy.top)
 
 
 def crate(copy: Copy, name: str) -> Told:
@@ -128,15 +148,32 @@ def sweep(copy: Copy, name: str) -> Told:
     return copy.run(["tests/sweep", name], cwd=copy.top) if copy.tests(name) else (False, "no tests")
 
 
+def goals_of(said: str, crate: str, function: str) -> str:
+    """The goals of a function for which the prover found no proof, or takes the answer no more that is
+    written for it, as it names them."""
+    own = rf"^fn {crate}::(?:\w+::)*?{function}: (?:no proof: .* did not prove (.*)|not proved.*)$"
+    found = re.search(own, said, re.M)
+    if not found or found[1]:
+        return found[1].strip() if found else ""
+    place = function.replace("::", "/")
+    wrong = re.findall(rf"^\./proofs/(?:\w+/)*{place}/\w+\.antt:[\d:]+ error: (`[\w+-]+`)", said, re.M)
+    return ", ".join(dict.fromkeys(wrong))
+
+
 def prover(copy: Copy, name: str, function: str) -> Told:
     """Whether the prover takes a crate, of which this function is changed. What it has kept of the crates
-    below is not proved again."""
-    proved, said = copy.run(["rt", "ci", name], cwd=copy.top)
-    return proved, f"error: {function}: {said}"
+    below is not proved again. The crate is laid out before, since `rt ci` refuses another layout too: it
+    is a goal of the function at which it has to refuse."""
+    copy.run(["rt", "fmt"], cwd=f"{copy.top}/crates/{name}")
+    proved, said = copy.run(["rt", "ci", name], cwd=copy.top, most=1_000_000)
+    goals = goals_of(said, name, function)
+    if not proved and not goals:
+        raise NotCompiled(f"rt ci {name} doesn't refuse {function} at a goal: {said[-2000:]}")
+    return proved, f"error: {function}: {goals}"
 
 
 CHECKS: dict[str, Callable[..., Told]] = {"c": c_test, "program": of_program, "carrier": carrier,
-                                          "tools": tool, "crate": crate, "sweep": sweep,
+                                          "package": package, "tools": tool, "crate": crate, "sweep": sweep,
                                           "prover": prover}
 
 

@@ -61,7 +61,7 @@ class Copy:
     def place(self, name: str) -> str:
         return os.path.join(self.folder, name)
 
-    def run(self, words: list, **how) -> tuple[bool, str]:
+    def run(self, words: list, most: int = 3000, **how) -> tuple[bool, str]:
         """Whether a command ends with 0, and the end of what it said."""
         how.setdefault("cwd", self.folder)
         try:
@@ -69,7 +69,7 @@ class Copy:
                                   stderr=subprocess.STDOUT, timeout=SECONDS, **how)
         except subprocess.TimeoutExpired:
             return False, f"not at its end after {SECONDS} seconds"
-        return done.returncode == 0, done.stdout.decode(errors="replace")[-3000:]
+        return done.returncode == 0, done.stdout.decode(errors="replace")[-most:]
 
     def is_of_proved_code(self) -> bool:
         """Whether the library has the proved code, if with a function around a call of it."""

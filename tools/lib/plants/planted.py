@@ -1,4 +1,4 @@
-"""The planted faults of tests/plants.toml and tests/wrapped_plants.toml."""
+"""The planted faults of the tables in tests/."""
 import dataclasses
 import os
 import tomllib
@@ -6,7 +6,8 @@ from collections.abc import Callable
 
 from lib.build import building
 
-TABLES = ("tests/plants.toml", "tests/wrapped_plants.toml")
+TABLES = ("tests/plants.toml", "tests/wrapped_plants.toml", "tests/package_plants.toml",
+          "tests/carrier_plants.toml")
 
 
 class NoPlant(Exception):
