@@ -117,6 +117,7 @@ PARTS = [
     Part("tools/test_reference", 1, over=()),
     Part("pytest tests/test_tables.py", 1, (PYTEST,), over=()),
     Part("pytest tests/test_tools.py", 2, (PYTEST, COMPILER, CRYPTOGRAPHY), over=()),
+    Part("pytest tests/test_release.py", 1, (PYTEST,), over=()),
     Part("tools/tables --check", 1, over=()),
     Part("pytest carrier/tests/test_statements.py", 1, (PYTEST,), over=()),
     Part("tests/job_check", 1, (CRYPTOGRAPHY,), over=()),
@@ -153,7 +154,9 @@ MORE = [
     Part("c/dist --check", 60, ("rt", COMPILER, "clang", MAKE, CROSS)),
     Part("rust/test", 40, ("rt", COMPILER, CRYPTOGRAPHY, MAKE, PKG_CONFIG, CARGO), "c/dist --check"),
     Part("go/test", 20, ("rt", COMPILER, CRYPTOGRAPHY, MAKE, PKG_CONFIG, GO), "c/dist --check"),
-    Part("tools/debian --check", 60, (PROGRAM, "rt", COMPILER, MAKE, PACKAGING)),
+    Part("tools/debian --check", 60, ("rt", COMPILER, MAKE, PACKAGING, SERVERS, MIT)),
+    Part("tools/release --check", 90, ("rt", COMPILER, CRYPTOGRAPHY, MAKE, PKG_CONFIG, PACKAGING, SERVERS, MIT, CROSS,
+                                       CARGO, GO), "tools/debian --check"),
     Part("python/test --all", 20, (COMPILER, CRYPTOGRAPHY)),
     Part("kerberos/test", 75, ("rt", COMPILER, MIT, HEIMDAL, REALM)),
     Part("carrier/test --all", 60, (PROGRAM, "rt", COMPILER, "clang", MAKE, SQLITE, SERVERS,
@@ -181,7 +184,7 @@ QUICK = [
 # What tools are for, in the order of the table. Those that aren't named check something.
 VERBS = {
     "run": ("krbrelay", "relay", "show", "picture", "check_job", "conformance/run"),
-    "make": ("install", "c/library", "c/dist", "debian", "reference", "figure"),
+    "make": ("install", "c/library", "c/dist", "debian", "release", "reference", "figure"),
     "prove": ("test", "proving.py", "wrong_bodies"),
     "bench": ("bench", "bench_aes", "bench_lane", "tests/job_costs"),
 }
