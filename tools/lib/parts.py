@@ -22,6 +22,7 @@ MAKE = "make"
 SQLITE = "Debian's libsqlite3-dev"
 SERVERS = ("Debian's nats-server, libnats-dev, postgresql, libpq-dev, libmicrohttpd-dev and"
            " libsystemd-dev")
+PROMETHEUS = "Debian's prometheus and systemd"
 REALM = "Debian's krb5-kdc, krb5-admin-server, krb5-kpropd and krb5-user"
 CROSS = "Debian's gdb, gcc-aarch64-linux-gnu, libc6-dev-arm64-cross and qemu-user-static"
 PACKAGING = ("Debian's debhelper, dh-python, dpkg-dev, lintian, isa-support and debootstrap, and"
@@ -62,6 +63,7 @@ IS_THERE = {
     PACKAGING: lambda: all(map(has, ("dh", "dh_python3", "dpkg-buildpackage", "lintian",
                                      "debootstrap"))) and os.geteuid() == 0,
     PKG_CONFIG: lambda: has("pkg-config"),
+    PROMETHEUS: lambda: has("prometheus") and has("promtool") and has("systemd-analyze"),
     CARGO: lambda: has("cargo") and has("rustc"),
     GO: lambda: has("go"),
     MAKE: lambda: has("make"),
@@ -120,6 +122,7 @@ PARTS = [
     Part("pytest tests/test_release.py", 1, (PYTEST,), over=()),
     Part("tools/tables --check", 1, over=()),
     Part("pytest carrier/tests/test_statements.py", 1, (PYTEST,), over=()),
+    Part("pytest carrier/tests/test_packages.py", 1, (PYTEST,), over=()),
     Part("tests/job_check", 1, (CRYPTOGRAPHY,), over=()),
     Part("tests/vector_tables.py --check", 1, over=()),
     Part("tools/test_building", 5, (COMPILER, CRYPTOGRAPHY), over=()),
@@ -159,6 +162,7 @@ MORE = [
                                        CARGO, GO), "tools/debian --check"),
     Part("python/test --all", 20, (COMPILER, CRYPTOGRAPHY)),
     Part("kerberos/test", 75, ("rt", COMPILER, MIT, HEIMDAL, REALM)),
+    Part("pytest carrier/tests/test_prometheus.py", 10, (PYTEST, "rt", COMPILER, MAKE, SQLITE, SERVERS, PROMETHEUS)),
     Part("carrier/test --all", 60, (PROGRAM, "rt", COMPILER, "clang", MAKE, SQLITE, SERVERS,
                                        MIT, REALM)),
 ]

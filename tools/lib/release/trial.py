@@ -172,8 +172,8 @@ def try_row(count, system, row, words):
         count.told(good, f"{row.what}: {command}", said[-12:])
     place = f"{WORK}/user" if row.what in ("Rust", "Go") else WORK
     good, said = system.run(row.example, place)
-    last = said[-len(row.prints):]
-    right = len(last) == len(row.prints) and all(re.fullmatch(wanted, line) for wanted, line in zip(row.prints, last))
+    last = sorted(said[-len(row.prints):])      # what goes to standard output may come after what goes to the other
+    right = len(last) == len(row.prints) and all(re.fullmatch(wanted, line) for wanted, line in zip(sorted(row.prints), last))
     count.told(right, f"{row.what}: its first example prints {last}", said[-12:])
     good, said = system.run(row.remove)
     left = sorted(system.files() - before)
