@@ -6,6 +6,19 @@
 #include <string.h>
 #include <sys/stat.h>
 
+/* Where there is a bound, texts that wait are counted only if their ids lie far enough apart. A close is always
+ * taken, so that a session can end. */
+#define TOO_MANY \
+    "CREATE TRIGGER IF NOT EXISTS too_many BEFORE INSERT ON text" \
+    " WHEN NEW.body IS NOT NULL AND (SELECT texts FROM bound) > 0" \
+    " AND (SELECT max(id) FROM (SELECT max(id) AS id FROM text UNION ALL SELECT max(text) FROM sealed))" \
+    " - (SELECT min(id) FROM (SELECT min(id) AS id FROM text UNION ALL SELECT min(text) FROM sealed))" \
+    " >= (SELECT texts FROM bound) - 1" \
+    " AND (SELECT count(*) FROM (SELECT 1 FROM text LIMIT (SELECT texts FROM bound)))" \
+    " + (SELECT count(*) FROM (SELECT 1 FROM sealed LIMIT (SELECT texts FROM bound)))" \
+    " >= (SELECT texts FROM bound)" \
+    " BEGIN SELECT RAISE(ABORT, 'the outbox is full: as many texts wait as --max-waiting allows'); END;"
+
 static const char tables[] =
     "CREATE TABLE IF NOT EXISTS session (name TEXT PRIMARY KEY, next INTEGER NOT NULL,"
     " carried INTEGER NOT NULL, at INTEGER NOT NULL) WITHOUT ROWID;"
@@ -20,6 +33,9 @@ static const char tables[] =
     "CREATE TRIGGER IF NOT EXISTS too_long BEFORE INSERT ON text"
     " WHEN length(CAST(NEW.body AS BLOB)) > 1000000"
     " BEGIN SELECT RAISE(ABORT, 'a text has 1,000,000 bytes at most'); END;"
+    "CREATE TABLE IF NOT EXISTS bound (one INTEGER PRIMARY KEY CHECK (one = 1), texts INTEGER NOT NULL);"
+    "INSERT OR IGNORE INTO bound (one, texts) VALUES (1, 0);"
+    TOO_MANY
     "CREATE TABLE IF NOT EXISTS stopped (session TEXT PRIMARY KEY, reason TEXT NOT NULL,"
     " since INTEGER NOT NULL) WITHOUT ROWID;"
     "CREATE TABLE IF NOT EXISTS frame (session TEXT NOT NULL, number INTEGER NOT NULL,"
@@ -144,6 +160,13 @@ int outbox_open(struct outbox *o, const char *path)
         return -1;
     o->turn = owner(o);
     return o->turn > 0 ? run(o->db, "COMMIT") : -1;
+}
+
+int outbox_bound(struct outbox *o, unsigned texts)
+{
+    char text[64];
+    write_whole(text, sizeof text, "UPDATE bound SET texts = %u", texts);
+    return run(o->db, text);
 }
 
 void outbox_close(struct outbox *o)

@@ -4,7 +4,7 @@
  * An application puts texts into the table `text`, in transactions of its own:
  *     INSERT INTO text (session, body) VALUES ('tom-7', 'hello')
  * A body that is NULL is the close. A text after it, and one of more than 1,000,000 bytes, is
- * refused at its insertion. The table `stopped` has each session that waits for somebody to do
+ * refused at its insertion, and so is one for which there is no room (outbox_bound). The table `stopped` has each session that waits for somebody to do
  * something, and the reason; a sender that starts empties it and tries again.
  *
  * A text of a session with receipts is in the table `sealed` from then on, under the same id, with the
@@ -64,6 +64,10 @@ struct outbox_progress {
 /* Opens it, makes its tables, and becomes its owner. 0, or -1 after a fault. */
 int outbox_open(struct outbox *outbox, const char *path);
 void outbox_close(struct outbox *outbox);
+
+/* Has an insertion be refused while so many texts wait, in `text` or, for a receipt, in `sealed`; 0: any
+ * number may wait. It stays so in the file until the next call. 0, or -1 after a fault. */
+int outbox_bound(struct outbox *outbox, unsigned texts);
 
 /* How far a session is: as its line says, if nothing of it was sealed yet. */
 int outbox_load(struct outbox *outbox, const struct session *session, struct outbox_progress *it);

@@ -32,6 +32,8 @@ static const char usage[] =
     CARRIER_USAGE
     "  --replicas N     so many replicas has a stream that is made; one with fewer isn't used (1)\n"
     "  --batch N        so many texts go into a frame at most (1)\n"
+    "  --max-waiting N  while so many texts wait, for being sealed or for a receipt, the outbox refuses\n"
+    "                   another one with the error `the outbox is full` (0: any number may wait)\n"
     "  --retry MILLISECONDS  what isn't carried by then is published again (2000): more than the\n"
     "                   time in which the carrier confirms\n"
     "  --patience SECONDS  what has no receipt by then is published again (30), then after twice as\n"
@@ -392,7 +394,8 @@ static int start(struct sender *s)
         return -1;
     if (s->options.kerberos.keytab != NULL && open_kerberos(s) != 0)
         return -1;
-    if (outbox_open(&s->outbox, s->options.outbox) != 0)
+    if (outbox_open(&s->outbox, s->options.outbox) != 0
+        || outbox_bound(&s->outbox, s->options.most_waiting) != 0)
         return -1;
     if (s->kerberos != NULL && outbox_wrap_anew(&s->outbox, s->kerberos) != 0)
         return -1;
@@ -457,6 +460,7 @@ static const struct option words_of_options[] = {
     { "sessions", required_argument, NULL, 's' }, { "outbox", required_argument, NULL, 'o' },
     { "batch", required_argument, NULL, 'b' },    { "retry", required_argument, NULL, 't' },
     { "metrics", required_argument, NULL, 'm' },  { "drain", no_argument, NULL, 'd' },
+    { "max-waiting", required_argument, NULL, 'w' },
     { "help", no_argument, NULL, 'h' },           { "version", no_argument, NULL, 'v' },
     { NULL, 0, NULL, 0 }
 };
@@ -469,6 +473,7 @@ static int read_option(struct options *o, int letter)
     case 'b': o->batch = option_number("sender", "batch", optarg, 1, BATCH_TEXTS); break;
     case 't': o->retry = option_number("sender", "retry", optarg, 1, 86400000); break;
     case 'm': o->metrics = optarg; break;
+    case 'w': o->most_waiting = option_number("sender", "max-waiting", optarg, 0, INT32_MAX); break;
     case 'd': o->drain = 1; break;
     case 'h': end_with(0, "%s", usage);
     case 'v': end_with_version("sender");

@@ -25,7 +25,7 @@ struct options {
     uint64_t patience; /* seconds after which what has no receipt is published again */
     uint64_t life; /* seconds after which a stream's next text begins another session */
     const char *sessions, *outbox, *metrics;
-    unsigned batch, retry;
+    unsigned batch, retry, most_waiting;
     int drain;
 };
 

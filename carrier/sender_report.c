@@ -19,6 +19,7 @@ static const struct metric metrics[] = {
     { NAME "outbox_seconds_total", "counter", "Time for the outbox", NULL },
     { NAME "carrier_seconds_total", "counter", "Time for the carrier, with waits for its confirmations", NULL },
     { NAME "waiting_texts", "gauge", "Texts in the outbox, of the first 100,000", NULL },
+    { NAME "waiting_texts_limit", "gauge", "Texts that may wait, as --max-waiting says; 0: any number", NULL },
     { NAME "oldest_text_seconds", "gauge", "Since the oldest of them was put in, if that is known",
       NULL },
     { NAME "receipts_total", "counter", "Receipts that covered more than those before", NULL },
@@ -65,7 +66,7 @@ void sender_show(struct sender *s)
     const double values[METRICS] = {
         (double)s->sealing.frames, (double)s->published, (double)s->again,
         (double)s->sealing.nanoseconds / 1e9, (double)s->storing / 1e9, (double)s->carrying / 1e9,
-        (double)texts, age_of_oldest(s, texts), (double)s->receipts,
+        (double)texts, (double)s->options.most_waiting, age_of_oldest(s, texts), (double)s->receipts,
         (double)publish_count_unreceipted(s), (double)publish_count_held(s),
         (double)outbox_count_stopped(&s->outbox), silent, NAN,
     };

@@ -254,9 +254,9 @@ def versions():
 def places():
     """Each place that says a version, of which the pages of the manual are one a page."""
     yield from PLACES
-    for path in sorted(glob.glob(os.path.join(building.TOP, PAGES, "*.[37]"))):
+    for path in sorted(it for place in (PAGES, "carrier/man") for it in glob.glob(os.path.join(building.TOP, place, "*.[378]"))):
         page = os.path.relpath(path, building.TOP)
-        yield page, r'^\.TH \S+ [37] \S+ "krbrelay (.*?)"', "library", "whole"
+        yield page, r'^\.TH \S+ [378] \S+ "krbrelay (.*?)"', "library", "whole"
 
 
 def written():
@@ -473,19 +473,28 @@ def body_of(text, name):
 
 
 def of_tarball():
-    """The tarball of the C library has what its Makefile and Debian's packages take of it."""
+    """The tarball has what its Makefiles and Debian's packages take of it."""
     there = [*scripts.load("c/dist").sources(), "krbrelay-x86_64.s"]
     tests = re.search(r"^TESTS = (.*)$", building.text_of("c/Makefile"), re.M)[1].split()
     wanted = ["Makefile", "heap.c", "krbrelay.h", "krbrelay.map", "man/links", "unproved/answers.c",
               *(f"tests/{name}.c" for name in tests)]
     wanted += re.findall(r"tests/\w+", " ".join(re.findall(r"^WORDS_\w+ = (.*)$", building.text_of("c/Makefile"), re.M)))
-    for name in ("krbrelay.manpages", "libkrbrelay-dev.docs", "libkrbrelay-dev.examples",
-                 "python3-krbrelay.examples"):
+    wanted += ["program/host.c", "program/check/stdout", "program/completions/krbrelay.bash", "man/krbrelay.1"]
+    wanted += [f"carrier/{it}" for it in carrier_files()]
+    for name in ("krbrelay.examples", "krbrelay-carrier.docs", "krbrelay-carrier.examples",
+                 "libkrbrelay-dev.docs", "libkrbrelay-dev.examples", "python3-krbrelay.examples"):
         wanted += building.text_of(f"packaging/debian/{name}").split()
     for page, _ in map(str.split, building.text_of("c/man/links").splitlines()):
         wanted.append(f"man/{page}.3")
     for name in dict.fromkeys(wanted):
         yield f"the tarball has {name}", bool(fnmatch.filter(there, name)), True
+
+
+def carrier_files():
+    """What the carrier's Makefile compiles and installs."""
+    text = building.text_of("carrier/Makefile")
+    installed = re.findall(r"systemd/\w+\.conf|systemd/\*\.service|man/\*\.8", text)
+    return [*re.findall(r"\b\w+\.c\b", text), *installed, "status", "carrier.h"]
 
 
 @compared(of_refusals)

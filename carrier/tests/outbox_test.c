@@ -1,6 +1,6 @@
 /* Seals texts from an outbox, and opens each of the frames:  outbox_test FOLDER
- * Texts of no bytes up to the longest, the close, confounders, the last number, and the next number's
- * compare-and-set. The last line is 'passed' or 'FAILED ..'. */
+ * Texts of no bytes up to the longest, the close, confounders, the last number, the next number's
+ * compare-and-set, and the bound of texts that wait. The last line is 'passed' or 'FAILED ..'. */
 #include "check.h"
 #include "clock.h"
 #include "seal.h"
@@ -174,6 +174,54 @@ static void test_compare(struct outbox *outbox)
     outbox_rollback(outbox);
 }
 
+/* ---- the bound of texts that wait */
+
+/* What an insertion of a text, or of the close, answers: its error, or "" for none. */
+static const char *insertion(struct outbox *outbox, const char *body)
+{
+    static char told[200];
+    char *error = NULL, text[200];
+    snprintf(text, sizeof text, "INSERT INTO text (session, body) VALUES ('many', %s)", body);
+    sqlite3_exec(outbox->db, text, NULL, NULL, &error);
+    snprintf(told, sizeof told, "%s", error != NULL ? error : "");
+    sqlite3_free(error);
+    return told;
+}
+
+static void run_text(struct outbox *outbox, const char *text)
+{
+    check(sqlite3_exec(outbox->db, text, NULL, NULL, NULL) == SQLITE_OK, text);
+}
+
+static void check_full(struct outbox *outbox, const char *what)
+{
+    check(strcmp(insertion(outbox, "'more'"), "the outbox is full: as many texts wait as --max-waiting allows") == 0,
+          what);
+}
+
+/* Texts that wait for being sealed or for a receipt count alike, and a hole in their ids doesn't count. */
+static void test_bound(struct outbox *outbox)
+{
+    int i;
+    run_text(outbox, "DELETE FROM text; DELETE FROM sealed");
+    check(outbox_bound(outbox, 3) == 0, "a bound is set");
+    for (i = 0; i < 3; i++)
+        check(insertion(outbox, "'text'")[0] == 0, "a text within the bound is taken");
+    check_full(outbox, "one more is refused");
+    run_text(outbox, "DELETE FROM text WHERE id = (SELECT min(id) FROM text) + 1");
+    check(insertion(outbox, "'text'")[0] == 0, "once one is sealed, one more is taken");
+    check_full(outbox, "and no second one");
+    run_text(outbox, "INSERT INTO sealed SELECT id, session, 1, 0 FROM text; DELETE FROM text");
+    check_full(outbox, "texts that wait for a receipt count");
+    run_text(outbox, "DELETE FROM sealed WHERE text = (SELECT max(text) FROM sealed)");
+    check(insertion(outbox, "'text'")[0] == 0, "a receipt makes room");
+    check_full(outbox, "for one text");
+    check(outbox_bound(outbox, 1) == 0 && insertion(outbox, "NULL")[0] == 0, "the close is taken in any case");
+    check(outbox_bound(outbox, 0) == 0, "the bound is taken away");
+    run_text(outbox, "DELETE FROM closed");
+    check(insertion(outbox, "'text'")[0] == 0, "then any number may wait");
+}
+
 int main(int count, char **words)
 {
     struct outbox outbox = { 0 };
@@ -190,6 +238,7 @@ int main(int count, char **words)
     check(sqlite3_exec(outbox.db, "DELETE FROM text", NULL, NULL, NULL) == SQLITE_OK, "texts are taken");
     test_last_number(&outbox);
     test_compare(&outbox);
+    test_bound(&outbox);
     outbox_close(&outbox);
     puts("passed");
     return 0;

@@ -1,6 +1,12 @@
 """What `pip install` calls (PEP 517, PEP 660) to make the wheel (PEP 427). It needs the interpreter
-alone, so an install needs no network."""
+alone, so an install needs no network.
+
+A wheel has the library inside if its setting `library` names the folder where libkrbrelay.so.1 is
+installed, with that of x86-64-v3 in glibc-hwcaps below it; the setting `platform` is its tag then
+(PEP 600). The same files give the same bytes; SOURCE_DATE_EPOCH is the time of the sdist's files.
+"""
 import base64
+import gzip
 import hashlib
 import io
 import os
@@ -10,11 +16,13 @@ import zipfile
 
 TOP = os.path.dirname(os.path.dirname(os.path.realpath(__file__)))
 PACKAGE = "krbrelay"
+LIBRARY = "libkrbrelay.so.1"
+OBJECTS = (LIBRARY, f"glibc-hwcaps/x86-64-v3/{LIBRARY}")    # in a folder of libraries
 WHEEL = """\
 Wheel-Version: 1.0
 Generator: wheel_backend
-Root-Is-Purelib: true
-Tag: py3-none-any
+Root-Is-Purelib: {}
+Tag: py3-none-{}
 """
 
 
@@ -67,23 +75,33 @@ def sources():
                 yield f"{PACKAGE}/{name}", file.read()
 
 
+def shared_objects(folder):
+    """The library of this folder, by its names in the wheel: there the package looks first."""
+    for name in OBJECTS:
+        path = os.path.join(folder, name)
+        if name == LIBRARY or os.path.exists(path):
+            with open(path, "rb") as file:
+                yield f"{PACKAGE}/{name}", file.read()
+
+
 def recorded(name, content):
     """A line of RECORD."""
     digest = base64.urlsafe_b64encode(hashlib.sha256(content).digest()).rstrip(b"=").decode()
     return f"{name},sha256={digest},{len(content)}\n"
 
 
-def write_wheel(wheel_directory, files):
+def write_wheel(wheel_directory, files, platform="any"):
     """Writes the wheel with these files and what describes them, and gives its name."""
     stem = f"{PACKAGE}-{project()['version']}"
     with open(license_path(), "rb") as file:
         files[f"{stem}.dist-info/LICENSE"] = file.read()
     files[f"{stem}.dist-info/METADATA"] = metadata().encode()
-    files[f"{stem}.dist-info/WHEEL"] = WHEEL.encode()
+    is_pure = str(platform == "any").lower()
+    files[f"{stem}.dist-info/WHEEL"] = WHEEL.format(is_pure, platform).encode()
     record = f"{stem}.dist-info/RECORD"
     lines = "".join(recorded(name, content) for name, content in files.items())
     files[record] = f"{lines}{record},,\n".encode()
-    wheel = f"{stem}-py3-none-any.whl"
+    wheel = f"{stem}-py3-none-{platform}.whl"
     with zipfile.ZipFile(os.path.join(wheel_directory, wheel), "w", zipfile.ZIP_DEFLATED) as zipped:
         for name, content in files.items():
             zipped.writestr(zipfile.ZipInfo(name), content, zipfile.ZIP_DEFLATED)
@@ -91,7 +109,11 @@ def write_wheel(wheel_directory, files):
 
 
 def build_wheel(wheel_directory, config_settings=None, metadata_directory=None):
-    return write_wheel(wheel_directory, dict(sources()))
+    given = config_settings or {}
+    if "library" not in given:
+        return write_wheel(wheel_directory, dict(sources()))
+    files = dict([*sources(), *shared_objects(given["library"])])
+    return write_wheel(wheel_directory, files, given["platform"])
 
 
 def build_editable(wheel_directory, config_settings=None, metadata_directory=None):
@@ -101,13 +123,18 @@ def build_editable(wheel_directory, config_settings=None, metadata_directory=Non
 
 def build_sdist(sdist_directory, config_settings=None):
     stem = f"{PACKAGE}-{project()['version']}"
-    parts = [f"{PACKAGE}/{os.path.basename(name)}" for name, _ in sources()]
-    with tarfile.open(os.path.join(sdist_directory, f"{stem}.tar.gz"), "w:gz") as archive:
-        for part in ["pyproject.toml", "README.md", "backend/wheel_backend.py", *parts]:
-            archive.add(os.path.join(TOP, part), f"{stem}/{part}")
-        archive.add(license_path(), f"{stem}/LICENSE")
-        described = metadata().encode()
-        info = tarfile.TarInfo(f"{stem}/PKG-INFO")
-        info.size = len(described)
-        archive.addfile(info, io.BytesIO(described))
+    names = "pyproject.toml", "README.md", "backend/wheel_backend.py"
+    files = {part: text_of(part).encode() for part in names}
+    files.update(sources())
+    with open(license_path(), "rb") as file:
+        files["LICENSE"] = file.read()
+    files["PKG-INFO"] = metadata().encode()
+    time = int(os.environ.get("SOURCE_DATE_EPOCH", 0))
+    with open(os.path.join(sdist_directory, f"{stem}.tar.gz"), "wb") as file, \
+            gzip.GzipFile("", "wb", 9, file, mtime=0) as zipped, \
+            tarfile.open(fileobj=zipped, mode="w", format=tarfile.PAX_FORMAT) as archive:
+        for name, content in sorted(files.items()):
+            info = tarfile.TarInfo(f"{stem}/{name}")
+            info.size, info.mtime = len(content), time
+            archive.addfile(info, io.BytesIO(content))
     return f"{stem}.tar.gz"

@@ -104,10 +104,10 @@ def copy_to(folder):
     return copied
 
 
-def built(copied, kind):
+def built(copied, kind, settings=None):
     """What the project's backend makes: its path."""
     place = os.path.join(copied, "backend")
-    code = f"import wheel_backend as it; print(it.{kind}('.'))"
+    code = f"import wheel_backend as it; print(it.{kind}('.', {settings!r}))"
     ran = subprocess.run([sys.executable, "-c", code], cwd=place, capture_output=True, text=True,
                          check=True)
     return os.path.join(place, ran.stdout.strip())
@@ -127,6 +127,18 @@ class Building(unittest.TestCase):
         self.assertLessEqual({"LICENSE", "PKG-INFO", "README.md", "backend/wheel_backend.py",
                               "krbrelay/__init__.py", "krbrelay/py.typed", "pyproject.toml"}, names)
         self.assertIn(f"\nVersion: {krbrelay.__version__}\n", described)
+
+    def test_the_same_files_give_the_same_bytes(self):
+        made = []
+        for moment in (1_000_000_000, 1_700_000_000):
+            with tempfile.TemporaryDirectory() as folder:
+                copied = copy_to(folder)
+                for path in glob.glob(os.path.join(folder, "**"), recursive=True):
+                    os.utime(path, (moment, moment))
+                for kind in ("build_sdist", "build_wheel"):
+                    with open(built(copied, kind), "rb") as file:
+                        made.append(file.read())
+        self.assertEqual(made[:2], made[2:])
 
     def test_no_wheel_is_built_without_the_licence(self):
         with tempfile.TemporaryDirectory() as folder:
@@ -169,6 +181,25 @@ class Installing(unittest.TestCase):
                                  capture_output=True, text=True)
             init = os.path.join(os.path.realpath(copied), "krbrelay", "__init__.py")
             self.assertEqual(ran.stdout, f"{init}\n", ran.stderr)
+
+    def test_a_wheel_with_the_library_is_enough(self):
+        """It is installed by its name alone, and finds its own library, that of x86-64-v3 too."""
+        with tempfile.TemporaryDirectory() as folder:
+            libraries, target = os.path.join(folder, "lib"), os.path.join(folder, "installed")
+            names = [f"glibc-hwcaps/x86-64-v3/{library.NAME}", library.NAME]
+            for name in names:
+                os.makedirs(os.path.dirname(os.path.join(libraries, name)), exist_ok=True)
+                shutil.copy(library.library()._name, os.path.join(libraries, name))
+            platform = f"manylinux_2_25_{os.uname().machine}"
+            settings = {"library": libraries, "platform": platform}
+            wheel = built(copy_to(folder), "build_wheel", settings)
+            self.assertTrue(wheel.endswith(f"-py3-none-{platform}.whl"), wheel)
+            self.install("--target", target, wheel)
+            ran = subprocess.run([sys.executable, "-c", "import krbrelay.library as it; "
+                                  "print(it.find(), it.library_version()[0])"], cwd=folder,
+                                 env={"PYTHONPATH": target}, capture_output=True, text=True)
+            places = [f"{os.path.join(target, 'krbrelay', name)} 1\n" for name in names]
+            self.assertIn(ran.stdout, places, ran.stderr)
 
     def test_pip_installs_it(self):
         with tempfile.TemporaryDirectory() as folder:

@@ -22,6 +22,7 @@ MAKE = "make"
 SQLITE = "Debian's libsqlite3-dev"
 SERVERS = ("Debian's nats-server, libnats-dev, postgresql, libpq-dev, libmicrohttpd-dev and"
            " libsystemd-dev")
+PROMETHEUS = "Debian's prometheus and systemd"
 REALM = "Debian's krb5-kdc, krb5-admin-server, krb5-kpropd and krb5-user"
 CROSS = "Debian's gdb, gcc-aarch64-linux-gnu, libc6-dev-arm64-cross and qemu-user-static"
 PACKAGING = ("Debian's debhelper, dh-python, dpkg-dev, lintian, isa-support and debootstrap, and"
@@ -62,6 +63,7 @@ IS_THERE = {
     PACKAGING: lambda: all(map(has, ("dh", "dh_python3", "dpkg-buildpackage", "lintian",
                                      "debootstrap"))) and os.geteuid() == 0,
     PKG_CONFIG: lambda: has("pkg-config"),
+    PROMETHEUS: lambda: has("prometheus") and has("promtool") and has("systemd-analyze"),
     CARGO: lambda: has("cargo") and has("rustc"),
     GO: lambda: has("go"),
     MAKE: lambda: has("make"),
@@ -117,8 +119,10 @@ PARTS = [
     Part("tools/test_reference", 1, over=()),
     Part("pytest tests/test_tables.py", 1, (PYTEST,), over=()),
     Part("pytest tests/test_tools.py", 2, (PYTEST, COMPILER, CRYPTOGRAPHY), over=()),
+    Part("pytest tests/test_release.py", 1, (PYTEST,), over=()),
     Part("tools/tables --check", 1, over=()),
     Part("pytest carrier/tests/test_statements.py", 1, (PYTEST,), over=()),
+    Part("pytest carrier/tests/test_packages.py", 1, (PYTEST,), over=()),
     Part("tests/job_check", 1, (CRYPTOGRAPHY,), over=()),
     Part("tests/vector_tables.py --check", 1, over=()),
     Part("tools/test_building", 5, (COMPILER, CRYPTOGRAPHY), over=()),
@@ -153,9 +157,12 @@ MORE = [
     Part("c/dist --check", 60, ("rt", COMPILER, "clang", MAKE, CROSS)),
     Part("rust/test", 40, ("rt", COMPILER, CRYPTOGRAPHY, MAKE, PKG_CONFIG, CARGO), "c/dist --check"),
     Part("go/test", 20, ("rt", COMPILER, CRYPTOGRAPHY, MAKE, PKG_CONFIG, GO), "c/dist --check"),
-    Part("tools/debian --check", 60, (PROGRAM, "rt", COMPILER, MAKE, PACKAGING)),
+    Part("tools/debian --check", 60, ("rt", COMPILER, MAKE, PACKAGING, SERVERS, MIT)),
+    Part("tools/release --check", 90, ("rt", COMPILER, CRYPTOGRAPHY, MAKE, PKG_CONFIG, PACKAGING, SERVERS, MIT, CROSS,
+                                       CARGO, GO), "tools/debian --check"),
     Part("python/test --all", 20, (COMPILER, CRYPTOGRAPHY)),
     Part("kerberos/test", 75, ("rt", COMPILER, MIT, HEIMDAL, REALM)),
+    Part("pytest carrier/tests/test_prometheus.py", 10, (PYTEST, "rt", COMPILER, MAKE, SQLITE, SERVERS, PROMETHEUS)),
     Part("carrier/test --all", 60, (PROGRAM, "rt", COMPILER, "clang", MAKE, SQLITE, SERVERS,
                                        MIT, REALM)),
 ]
@@ -181,7 +188,7 @@ QUICK = [
 # What tools are for, in the order of the table. Those that aren't named check something.
 VERBS = {
     "run": ("krbrelay", "relay", "show", "picture", "check_job", "conformance/run"),
-    "make": ("install", "c/library", "c/dist", "debian", "reference", "figure"),
+    "make": ("install", "c/library", "c/dist", "debian", "release", "reference", "figure"),
     "prove": ("test", "proving.py", "wrong_bodies"),
     "bench": ("bench", "bench_aes", "bench_lane", "tests/job_costs"),
 }

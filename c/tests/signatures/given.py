@@ -6,7 +6,7 @@ from typing import Dict, List
 
 from lib.build import assembly, building
 
-CRATE = assembly.CRATE
+CRATE = assembly.LIBRARY
 HEADER, PROVED, MAP = "c/krbrelay.h", "c/unproved/proved.h", "c/krbrelay.map"
 RELEASED, PYTHON = "c/released_names", "python/krbrelay/library.py"
 MODULE = "the module"       # stands for a path

@@ -1,14 +1,14 @@
-"""The proved code of the C library as assembly, as the kit's own compiler prints it.
+"""The proved code of the C library and of the program as assembly, as the kit's own compiler prints it.
 
 From the module that the kit's prover gives that compiler (kit_compiler.py) it writes assembly in
 place of an object, with the very words that it was given. On x86-64 unwind tables are asked for,
 which leave the code as it is; on aarch64 they would change it, and most functions keep a chain of
 frames anyway.
 
-Of x86-64 there are two: of the kit's own level, x86-64-v2, and of x86-64-v3. For another level or
-machine the prover proves the library again, and gives the compiler another module: a vector's place in
-memory and what a vector of 32 bytes is lowered to depend on the level. What it checked when the library
-was built (over_gate.py) it takes as checked then.
+Of x86-64 the library has two: of the kit's own level, x86-64-v2, and of x86-64-v3. For another level or
+machine the prover proves it again, and gives the compiler another module: a vector's place in
+memory and what a vector of 32 bytes is lowered to depend on the level. What it checked when it was built first
+(over_gate.py) it takes as checked then.
 """
 import dataclasses
 import os
@@ -19,7 +19,7 @@ import tempfile
 
 from lib.build import building, kit_compiler, over_gate
 
-CRATE = "krb_c"
+LIBRARY, PROGRAM = "krb_c", "krbrelay"
 
 
 @dataclasses.dataclass(frozen=True)
@@ -37,7 +37,10 @@ class Architecture:
 
 OWN = Architecture("x86_64", "x86_64")                     # what the kit builds for
 V3 = Architecture("x86_64-v3", "x86_64", "x86-64-v3")
-ARCHITECTURES = (OWN, V3, Architecture("aarch64", "aarch64"))
+AARCH64 = Architecture("aarch64", "aarch64")
+# Of which architectures there is assembly, by crate; and what that is in the words of its head.
+ARCHITECTURES = {LIBRARY: (OWN, V3, AARCH64), PROGRAM: (OWN, AARCH64)}
+NAMES = {LIBRARY: "libkrbrelay", PROGRAM: "the program krbrelay"}
 
 
 class NotWritten(OSError):
@@ -52,15 +55,16 @@ def run(words, **how):
     return done.stdout
 
 
-def prove_and_keep(architecture, folder):
-    """Has the prover build the library for an architecture, over the libraries that are built. What
-    it gave the compiler is in `folder` then."""
-    words = over_gate.words_for(CRATE, over_gate.MOST_JOBS, kit_compiler.keeping(folder),
-                                     os.path.join(folder, f"lib{CRATE}.a"))
+def prove_and_keep(crate, architecture, folder):
+    """Has the prover build a crate for an architecture, over the libraries that are built. What it gave
+    the compiler is in `folder` then."""
+    words = over_gate.words_to_build(crate, over_gate.MOST_JOBS, kit_compiler.keeping(folder),
+                                     os.path.join(folder, "built"))
     level = ["--cpu", architecture.level] if architecture.level else []
-    said = run([*words, "--target", architecture.target, *level, *over_gate.taking_checked()], cwd=building.folder_of(CRATE))
+    said = run([*words, "--target", architecture.target, *level, *over_gate.taking_checked()],
+               cwd=building.folder_of(crate))
     if architecture.level and not is_proved_for(architecture.level, said):
-        raise NotWritten(f"{CRATE} isn't proved for {architecture.level}: {said[-2000:]}")
+        raise NotWritten(f"{crate} isn't proved for {architecture.level}: {said[-2000:]}")
 
 
 def is_proved_for(level, said):
@@ -69,17 +73,17 @@ def is_proved_for(level, said):
                for line in said.splitlines())
 
 
-def fetch(architecture, folder):
-    """Has module and words in `folder`: those that were kept when the library was proved, or what
-    the prover gives once more."""
-    if architecture == OWN and kit_compiler.is_kept(CRATE):
+def fetch(crate, architecture, folder):
+    """Has module and words in `folder`: those that were kept when the crate was proved, or what the
+    prover gives once more."""
+    if architecture == OWN and kit_compiler.is_kept(crate):
         for name in (kit_compiler.MODULE, kit_compiler.WORDS):
-            shutil.copy(os.path.join(kit_compiler.place_of(CRATE), name), folder)
+            shutil.copy(os.path.join(kit_compiler.place_of(crate), name), folder)
         return
-    built_from = building.digest_of(CRATE)
-    prove_and_keep(architecture, folder)
+    built_from = building.digest_of(crate)
+    prove_and_keep(crate, architecture, folder)
     if architecture == OWN:
-        kit_compiler.keep(CRATE, folder, built_from)
+        kit_compiler.keep(crate, folder, built_from)
 
 
 def compiler_words(folder):
@@ -128,11 +132,11 @@ def plain_lines(text, mark):
         yield line
 
 
-def written(architecture):
-    """The assembly of the proved code for an architecture."""
+def written(crate, architecture):
+    """The assembly of the proved code of a crate for an architecture."""
     is_x86 = architecture.machine == OWN.machine
     with tempfile.TemporaryDirectory() as folder:
-        fetch(architecture, folder)
+        fetch(crate, architecture, folder)
         module = module_text(folder, architecture)
         if is_x86:
             ask_for_tables(module)
@@ -142,6 +146,6 @@ def written(architecture):
         with open(path, encoding="utf-8") as file:
             text = file.read()
     mark = "#" if is_x86 else "//"
-    head = [f"{mark} The proved code of libkrbrelay for {architecture.name} Linux, as the Rattle kit's",
-            f"{mark} compiler prints what it compiles of the crate {CRATE} and those below it.", ""]
+    head = [f"{mark} The proved code of {NAMES[crate]} for {architecture.name} Linux, as the Rattle kit's",
+            f"{mark} compiler prints what it compiles of the crate {crate} and those below it.", ""]
     return "\n".join([*head, *plain_lines(text, mark), ""])

@@ -68,6 +68,18 @@ def words_for(crate, jobs, toolchain, output):
     return [*words, "--crate-type", "staticlib", "--toolchain", toolchain, "-o", output]
 
 
+def words_for_program(crate, jobs, toolchain, output):
+    """The words for the object of which a program is linked, likewise."""
+    words = words_over(crate, "src/main.rt", building.below()[crate], jobs)
+    return [*words, "--backend", "llvm", "--toolchain", toolchain, "-o", output]
+
+
+def words_to_build(crate, jobs, toolchain, output):
+    """The words for what is built of a crate that no other stands on."""
+    is_program = building.has_program(crate)
+    return (words_for_program if is_program else words_for)(crate, jobs, toolchain, output)
+
+
 def taking_checked():
     """The words that have the prover take what it checked before of the same sources, and keep what it
     checks, run in the crate's folder."""
@@ -98,8 +110,8 @@ def build_program(folder, name, crates, jobs):
     program, or None, and what was said of one that isn't proved or isn't linked."""
     program, tools = os.path.join(folder, name), kit_compiler.toolchain()
     linked = [os.path.join(kit(), "c", it) for it in KITS_C]
-    proves = [*words_over(name, "src/main.rt", crates, jobs), "--toolchain", tools,
-              "--backend", "llvm", "-o", f"{program}.o"]
+    proves = [*words_over(name, "src/main.rt", crates, jobs), "--backend", "llvm", "--toolchain", tools,
+              "-o", f"{program}.o"]
     links = [building.prover() + "-link", "--target", TARGET, "--toolchain", tools,
              "-o", program, f"{program}.o", *linked]
     for words in (proves, links):

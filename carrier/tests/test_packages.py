@@ -1,0 +1,120 @@
+"""What a package of the carrier has beside its programs says what they say: the pages of the manual their options,
+the rules and the dashboard of Prometheus their metrics, and the units how little they may do."""
+import json
+import os
+import re
+
+import pytest
+import units
+
+HERE = os.path.dirname(os.path.abspath(__file__))
+SOURCES = os.path.dirname(HERE)
+OPTION = re.compile(r"--[a-z][a-z-]+")
+OF_BOTH = {"sender": ("carrier.h", "kerberos.h"), "receiver": ("carrier.h", "kerberos.h")}
+METRIC = re.compile(r"\bkrbrelay_(?:sender|receiver)_\w+")
+
+
+def text_of(name):
+    with open(os.path.join(SOURCES, name), encoding="utf-8") as file:
+        return file.read()
+
+
+def usage_options(program):
+    """The options that a program's usage names."""
+    texts = "".join(text_of(name) for name in (f"{program}.c", *OF_BOTH[program]))
+    return {it for line in re.findall(r'^ +"(  --.*?)\\n"', texts, re.M) for it in OPTION.findall(line)}
+
+
+def page_options(page):
+    lines = re.findall(r"^\.TP\n\.B (.*)$", text_of(f"man/{page}.8"), re.M)
+    return {it for line in lines for it in OPTION.findall(line.replace("\\", ""))}
+
+
+@pytest.mark.parametrize("program", OF_BOTH)
+def test_the_manual_has_each_option(program):
+    assert len(usage_options(program)) > 15
+    assert page_options(f"krbrelay-{program}") == usage_options(program)
+
+
+def test_the_manual_of_status_has_each_option():
+    said = re.findall(r"^  (--.*)$", text_of("status").split('"""')[1], re.M)
+    assert page_options("krbrelay-status") == {it for line in said for it in OPTION.findall(line.split("  ")[0])}
+
+
+def metrics():
+    """The metrics that the programs have."""
+    found = set()
+    for source in ("sender_report.c", "shard_report.c"):
+        text = text_of(source)
+        begin = re.search(r'^#define NAME "(\w+)"', text, re.M)[1]
+        found |= {begin + it for it in re.findall(r'\{ NAME "(\w+)"', text)}
+    return found
+
+
+@pytest.mark.parametrize("name", ["alerts.yml", "alerts_test.yml", "dashboard.json"])
+def test_metrics_that_are_named_are_there(name):
+    named = set(METRIC.findall(text_of(f"monitoring/{name}")))
+    assert len(named) > 8 and named <= metrics(), named - metrics()
+
+
+def test_each_rule_is_tried():
+    rules = set(re.findall(r"- alert: (\w+)", text_of("monitoring/alerts.yml")))
+    assert rules == set(re.findall(r'alertname="(\w+)"', text_of("monitoring/alerts_test.yml"))) and len(rules) > 10
+
+
+def test_the_dashboard_is_one():
+    board = json.loads(text_of("monitoring/dashboard.json"))
+    ids = [it["id"] for it in board["panels"]]
+    assert len(set(ids)) == len(ids) > 8 and all(it["targets"] for it in board["panels"])
+
+
+# ---- the page of the tables
+
+def tables():
+    """Each table that the programs make, with the columns that the page has to name."""
+    for source in ("outbox.c", "sqlite_store.c", "store.c", "effect.c", "sqlite_carrier.c"):
+        text = re.sub(r'"\n\s*"', "", text_of(source))
+        for name, columns in re.findall(r"CREATE TABLE IF NOT EXISTS (\w+) \((.*?)\)[; ]", text):
+            yield source, name, columns
+
+
+def test_the_page_names_each_table():
+    page = text_of("SCHEMA.md")
+    found = {name for _, name, _ in tables()}
+    assert len(found) > 12 and [it for it in found if not re.search(rf"`{it}[` ]", page)] == []
+
+
+@pytest.mark.parametrize("name", ["text", "sealed", "stopped", "bound", "effect"])
+def test_the_page_has_an_applications_columns(name):
+    listed = re.search(rf"`{name} \((.*?)\)`", text_of("SCHEMA.md"))[1].split(", ")
+    sources = re.sub(r'"\n\s*"', "", text_of("outbox.c") + text_of("effect.c"))
+    made = re.search(rf"CREATE TABLE IF NOT EXISTS {name} \((.*?)\)(?:;| WITHOUT)", sources)[1]
+    assert listed == [it for it in re.findall(r"(?:^|, )(\w+) [A-Z]", made)]
+
+
+@pytest.mark.parametrize("said", re.findall(r"RAISE\(ABORT, '([^']*)'\)", text_of("outbox.c")))
+def test_the_page_has_each_error(said):
+    assert said in " ".join(text_of("SCHEMA.md").split())
+
+
+# ---- units
+
+HARDENED = ("CapabilityBoundingSet", "NoNewPrivileges", "ProtectSystem", "ProtectHome", "PrivateTmp", "PrivateDevices",
+            "ProtectKernelTunables", "ProtectProc", "RestrictAddressFamilies", "RestrictNamespaces",
+            "MemoryDenyWriteExecute", "SystemCallFilter", "SystemCallArchitectures", "UMask")
+
+
+@pytest.mark.parametrize("unit", ["sender", "receiver"])
+def test_units_may_do_little(unit):
+    says = units.read(os.path.join(SOURCES, "systemd", f"krbrelay-{unit}@.service"))
+    assert [it for it in HARDENED if it not in says] == []
+    assert says["ExecStart"].startswith(f"/usr/local/bin/krbrelay-{unit} ") and says["CapabilityBoundingSet"] == ""
+
+
+@pytest.mark.parametrize("unit", ["sender", "receiver"])
+def test_the_example_sets_what_the_unit_takes(unit):
+    says = units.read(os.path.join(SOURCES, "systemd", f"krbrelay-{unit}@.service"))
+    given = dict(line.split("=", 1) for line in text_of(f"systemd/example.{unit}").splitlines() if line[0] != "#")
+    words = units.Unit.expand(says["ExecStart"].split(), given)
+    assert "--carrier" in words and not any("$" in it for it in words)
+    assert set(re.findall(r"\$\{?([A-Z]+)", says["ExecStart"])) == set(given)

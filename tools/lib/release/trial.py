@@ -1,0 +1,195 @@
+"""Tries a release's folder in a new Debian that has no kit: each artefact is installed by the command that the
+release's page has for it, runs its first example, and is removed. What a new system has besides is a compiler,
+make, pkg-config, Python, cargo and Go. It needs root and Debian's archive."""
+import contextlib
+import dataclasses
+import os
+import re
+import shutil
+import subprocess
+import tempfile
+
+from lib import report, scripts
+
+RELEASE = "bookworm"
+BESIDES = ("gcc", "libc6-dev", "make", "pkg-config", "python3", "python3-venv", "cargo", "golang-go", "man-db")
+AT, WORK = "/root/release", "/root/work"        # the release's folder in the system, and one to work in
+ROW = re.compile(r"^\| (?P<what>[^|]+) \| (?P<how>[^|]+) \|", re.M)
+# Where an install leaves what isn't its own: caches and notes of the package tools.
+NOT_KEPT = ("/proc", "/sys", "/dev", "/run", "/tmp", AT, WORK, "/root/.cache", "/root/.cargo", "/root/go", "/var/cache",
+            "/var/log", "/var/lib/apt", "/var/lib/dpkg", "/var/lib/systemd", "/etc/ld.so.cache", "/etc/passwd",
+            "/etc/group", "/etc/shadow", "/etc/gshadow", "/etc/.pwd.lock", "/root/.config")
+SEALS = """\
+import sqlite3, sys
+with sqlite3.connect("outbox.db") as file:
+    file.executemany("INSERT INTO text (session, body) VALUES ('tom', ?)", [(b"one",), (b"two",), (None,)])
+"""
+SHOWS = """\
+import sqlite3
+print(*(text.decode() for text, in sqlite3.connect("store.db").execute("SELECT text FROM effect ORDER BY id")))
+"""
+CARRIES = f"""\
+umask 077
+echo "tom 0 18 priv $(head -c 32 /dev/urandom | od -An -vtx1 | tr -d ' \\n') 1 10.0.0.2 10.0.0.255" > sessions
+sender="krbrelay-sender --sessions sessions --outbox outbox.db --carrier sqlite:carrier.db --drain"
+$sender 2> log && python3 -c '{SEALS}' && $sender 2>> log
+krbrelay-receiver --sessions sessions --store sqlite:store.db --carrier sqlite:carrier.db --shards 0 --until-closed 2>> log
+krbrelay-status --outbox outbox.db --store sqlite:store.db | head -n 1
+python3 -c '{SHOWS}'
+"""
+CARRIED = [r"tom 0 4 4 4 0 0 4 closed.*", "one two"]
+C_EXAMPLE = "cc {}/examples/two_ends.c $(pkg-config --cflags --libs krbrelay) -o two_ends && LD_LIBRARY_PATH=/usr/local/lib ./two_ends"
+OPENED = ["message 7: hello", "open: 42: the sequence number isn't the expected one"]
+RELAYED = "krbrelay relay < {} | tail -n 1"
+CLOSED = [r"lane 0 sent 3 of 3 DONE CLOSED"]
+GO_PROGRAM = """\
+package main
+
+import ("fmt"; "time"; "krbrelay")
+
+func main() {
+	key := []byte("chicken teriyaki")
+	sealer, err := krbrelay.NewSealer(17, key, krbrelay.Session{Mode: krbrelay.Priv, Sender: krbrelay.Client})
+	if err != nil { panic(err) }
+	defer sealer.Close()
+	opener, err := krbrelay.NewOpener(17, key, krbrelay.NewExpect(krbrelay.Priv, krbrelay.Client, krbrelay.Server))
+	if err != nil { panic(err) }
+	defer opener.Close()
+	frame, err := sealer.Seal([]byte("hello"))
+	if err != nil { panic(err) }
+	text, err := opener.Unseal(frame, 0, time.Now())
+	fmt.Println(string(text), err)
+}
+"""
+
+
+@dataclasses.dataclass(frozen=True)
+class Row:
+    """A row of the release's page: what is tried after it, what that has to print, and how it is removed."""
+    what: str           # how its first column begins
+    example: str
+    prints: list
+    remove: str
+    before: str = ""    # what has to be there first
+
+
+def purge(*names):
+    return f"apt-get -qq purge -y {' '.join(names)} && apt-get -qq autoremove --purge -y"
+
+
+def rows(version):
+    tree = f"{AT}/krbrelay-{version}"
+    unpack = f"tar xf {tree}.tar.gz -C {AT}"
+    library = f"{unpack} && make -s -C {tree} install PREFIX=/usr/local > /dev/null"
+    return [
+        Row("the library, on Debian", C_EXAMPLE.format("/usr/share/doc/libkrbrelay-dev"), OPENED,
+            purge("libkrbrelay1", "libkrbrelay-dev")),
+        Row("the library, elsewhere", C_EXAMPLE.format(tree), OPENED, f"make -s -C {tree} uninstall PREFIX=/usr/local && rm -r {tree}"),
+        Row("the program `krbrelay`", RELAYED.format("/usr/share/doc/krbrelay/examples/batches.toml"), CLOSED, purge("krbrelay")),
+        Row("the program, elsewhere", RELAYED.format(f"{tree}/program/jobs/batches.toml"), CLOSED,
+            f"make -s -C {tree}/program uninstall PREFIX=/usr/local && rm -r {tree}", unpack),
+        Row("Python", f"{unpack} && {WORK}/env/bin/python3 {tree}/python/examples/two_ends.py", OPENED[:1],
+            f"{WORK}/env/bin/pip uninstall -qy krbrelay && rm -r {WORK}/env {tree}",
+            f"python3 -m venv {WORK}/env"),
+        Row("Rust", f"cp {tree}/examples/two_ends.rs src/main.rs && cargo run -q --offline", OPENED, f"rm -r {tree}",
+            f"cargo new -q --vcs none --name user {WORK}/user"),
+        Row("Go", f"cat > main.go <<'END'\n{GO_PROGRAM}END\ngo run .", ["hello <nil>"], f"rm -r {AT}/krbrelay-go-{version}",
+            f"mkdir {WORK}/user && cd {WORK}/user && go mod init user"),
+        Row("senders and receivers over a queue, on", CARRIES, CARRIED, purge("krbrelay-carrier", "libkrbrelay1")),
+        Row("the same, elsewhere", f"export LD_LIBRARY_PATH=/usr/local/lib\n{CARRIES}", CARRIED,
+            f"make -s -C {tree}/carrier uninstall PREFIX=/usr/local && make -s -C {tree} uninstall PREFIX=/usr/local && rm -r {tree}"
+            f" && {purge('libsqlite3-dev')}", f"apt-get -qq install -y --no-install-recommends libsqlite3-dev && {library}"),
+    ]
+
+
+# ---- the commands of the page
+
+def commands(folder, version):
+    """The commands of each row of the page: where it says `in your crate`, the second is run in a user's folder.
+    Other folders beside a user's are those of the release."""
+    with open(os.path.join(folder, "README.md"), encoding="utf-8") as file:
+        text = file.read()
+    found = {}
+    for row in ROW.finditer(text):
+        first, *more = re.findall(r"`([^`]+)`", row["how"]) or [""]
+        found[row["what"].strip()] = [f"cd {AT} && {typed(first)}"] + [f"cd {WORK}/user && {it}" for it in more]
+    return {what: [it.replace("../krbrelay-", f"{AT}/krbrelay-") for it in words] for what, words in found.items()}
+
+
+def typed(command):
+    """The command as it is run here: without questions, and pip as that of an environment."""
+    command = command.replace("apt-get install", "apt-get -qq install -y --no-install-recommends")
+    return re.sub(r"^pip ", f"{WORK}/env/bin/pip ", command)
+
+
+# ---- the system
+
+class System:
+    """A new Debian below a folder."""
+
+    def __init__(self, root):
+        self.root = root
+
+    def run(self, command, folder=WORK):
+        """Runs a command in a shell. Returns whether it ended well, and its lines."""
+        given = {"PATH": "/usr/local/sbin:/usr/local/bin:/usr/sbin:/usr/bin:/sbin:/bin", "HOME": "/root", "LC_ALL": "C.UTF-8",
+                 "DEBIAN_FRONTEND": "noninteractive", "GOFLAGS": "-mod=mod", "GOPROXY": "off"}
+        words = ["chroot", self.root, "sh", "-ec", f"mkdir -p {folder} && cd {folder}\n{command}"]
+        done = subprocess.run(words, env=given, check=False, text=True, errors="replace", stdin=subprocess.DEVNULL,
+                              stdout=subprocess.PIPE, stderr=subprocess.STDOUT)
+        return done.returncode == 0, done.stdout.splitlines()
+
+    def files(self):
+        """What is there, but for what an install leaves to others."""
+        left_out = " -o ".join(f"-path {it} -o -path '{it}-'" for it in NOT_KEPT)
+        return set(self.run(f"find / \\( {left_out} \\) -prune -o -not -name '*.pyc' -not -name __pycache__ -print", "/tmp")[1])
+
+
+@contextlib.contextmanager
+def new_system(count):
+    with tempfile.TemporaryDirectory() as root:
+        made = subprocess.run(["debootstrap", "--variant=minbase", RELEASE, root], check=False, stdin=subprocess.DEVNULL,
+                              stdout=subprocess.PIPE, stderr=subprocess.STDOUT, text=True)
+        count.told(made.returncode == 0, f"debootstrap: a new {RELEASE}", made.stdout.splitlines()[-5:])
+        subprocess.run(["mount", "-t", "proc", "proc", os.path.join(root, "proc")], check=True)
+        try:
+            system = System(root)
+            system.run("rm -f /etc/dpkg/dpkg.cfg.d/* && apt-get -qq update", "/tmp")
+            good, said = system.run(f"apt-get -qq install -y --no-install-recommends {' '.join(BESIDES)}", "/tmp")
+            count.told(good, f"what a user has besides: {' '.join(BESIDES)}", said[-5:])
+            yield system
+        finally:
+            subprocess.run(["umount", os.path.join(root, "proc")], check=False)
+
+
+def try_row(count, system, row, words):
+    """Installs, runs and removes an artefact."""
+    system.run(f"rm -rf {WORK}", "/tmp")
+    before = system.files()
+    good, said = system.run(row.before) if row.before else (True, [])
+    for command in words if good else ():
+        good, said = system.run(command)
+        count.told(good, f"{row.what}: {command}", said[-12:])
+    place = f"{WORK}/user" if row.what in ("Rust", "Go") else WORK
+    good, said = system.run(row.example, place)
+    last = sorted(said[-len(row.prints):])      # what goes to standard output may come after what goes to the other
+    right = len(last) == len(row.prints) and all(re.fullmatch(wanted, line) for wanted, line in zip(sorted(row.prints), last))
+    count.told(right, f"{row.what}: its first example prints {last}", said[-12:])
+    good, said = system.run(row.remove)
+    left = sorted(system.files() - before)
+    count.told(good and not left, f"{row.what}: removed, and nothing is left", said[-8:] + left[:12])
+
+
+def check(folder):
+    dist, count = scripts.load("c/dist"), report.Count()
+    with new_system(count) as system:
+        shutil.copytree(folder, system.root + AT)
+        good, said = system.run("sha256sum --check --quiet SHA256SUMS", AT)
+        count.told(good, "sha256sum: all files are whole", said[-5:])
+        count.told(not system.run("command -v rt", "/tmp")[0], "there is no command of the kit")
+        of_page = commands(folder, dist.version())
+        for row in rows(dist.version()):
+            named = [what for what in of_page if what.startswith(row.what)]
+            count.told(len(named) == 1, f"the page has a row for {row.what}", list(of_page))
+            try_row(count, system, row, of_page[named[0]] if named else [])
+    return count.end(needs_one=True)
