@@ -31,7 +31,7 @@ one_more first n = ap (λ k. k * 2 ^ n) (mul_comm 2 first) ∙ (mul_assoc first 
 doubled : (cap first tries : ℕ) → pause_after cap (min (2 * first) cap) tries ≡ pause_after cap first (suc tries)
 doubled cap first tries = capped (2 * first) cap (2 ^ tries) (positive tries) ∙ ap (λ k. min k cap) (one_more first tries)
 
-undoubled : (cap first : ℕ) → first ≤ cap → pause_after cap first 0 ≡ first
+pub undoubled : (cap first : ℕ) → first ≤ cap → pause_after cap first 0 ≡ first
 undoubled cap first fits = (let once : first * 2 ^ 0 ≡ first = omega arith in ap (λ k. min k cap) once ∙ min-eq_left fits)
 
 pub pauses_double : PausesDouble
@@ -42,7 +42,7 @@ pauses_double cap old (now ∷ times) new fits tries =
 -- ---- the sum of them
 
 -- the first pause, and those after it
-pauses_from : (cap first tries : ℕ) → pauses cap first (suc tries) ≡ pause_after cap first 0 + pauses cap (min (2 * first) cap) tries
+pub pauses_from : (cap first tries : ℕ) → pauses cap first (suc tries) ≡ pause_after cap first 0 + pauses cap (min (2 * first) cap) tries
 pauses_from cap first zero = omega arith
 pauses_from cap first (suc tries) = omega (arith, pauses_from cap first tries, doubled cap first tries)
 

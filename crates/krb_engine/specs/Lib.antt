@@ -1,0 +1,6 @@
+pub mod Limits
+pub mod SendingState
+pub mod Sending
+pub mod Receiving
+pub mod Calls
+pub mod Laws
