@@ -4,15 +4,15 @@ use Rattle.std.specs.Prelude.{All, is_some}
 use Rattle.std.proofs.lemmas.List.{take_all}
 use Rattle.krb_record.specs.declared.record.Record.{Record}
 use Rattle.krb_seal.specs.Sealer.{SealerState}
-use Rattle.krb_peers.specs.Attempt.{IsAttempt}
+use Rattle.krb_peers.specs.Attempt.{Attempt, IsAttempt}
 use Rattle.krb_peers.specs.Demand.{Demand}
 use Rattle.krb_peers.specs.Session.{frames_in}
 use Rattle.krb_peers.specs.Texts.{texts_of_all}
 use Rattle.krb_peers.specs.Order.{first_demand, demand_after}
 use Rattle.krb_carry.specs.ProgressState.{ProgressState}
 use Rattle.krb_carry.specs.Progress.{resumed}
-use Rattle.krb_carry.specs.Outbox.{Outbox, Sealing, with_frames, sealed_in, stored_records, texts_put}
-use Rattle.krb_carry.specs.Store.{Stored, IsAfter}
+use Rattle.krb_carry.specs.Outbox.{Outbox, new_outbox, Act, IsAct, LeadsOutbox, Sealing, with_frames, sealed_in, stored_records, texts_put}
+use Rattle.krb_carry.specs.Store.{Stored, new_session, Leads, IsAfter, IsReceipt}
 use Rattle.krb_carry.proofs.OutboxLemmas.{outbox_sound, sound_records, length-sealed_in, length-records, texts_are}
 use Rattle.krb_carry.proofs.StoreLemmas.{first_take_effect, number_is}
 use Rattle.krb_copies.specs.declared.receipt.Finding.{Finding}
@@ -32,17 +32,23 @@ use Rattle.krb_engine.specs.Laws.{IsEndOf, copy_of, HearsAsACopy, DeletedTookEff
 
 -- ---- all is done
 
-pub delivers_by_receipts : DeliversByReceipts
-delivers_by_receipts sealer acts outbox each leads state attempts stored tries lead receipt none done =
+-- all took effect, where a receipt for all that is sealed is true, and nothing waits
+pub all_took_effect : (sealer : SealerState) (acts : List Act) (outbox : Outbox) → All (IsAct sealer) acts → LeadsOutbox (new_outbox sealer) acts outbox → (attempts : List Attempt) (stored : Stored)
+    → All (IsAttempt sealer (stored_records outbox)) attempts → Leads (new_session sealer) attempts stored → IsReceipt stored outbox.next → outbox.waiting ≡ [] → stored.effects ≡ texts_put outbox.inserted
+all_took_effect sealer acts outbox each leads attempts stored tries lead receipt none =
     let sound = outbox_sound sealer acts outbox each leads in
     let records = stored_records outbox in
     let are = sound_records sealer outbox sound in
     let first = first_take_effect sealer records are attempts stored tries lead in
     let all : length records ≤ first.0 =
-    omega (arith, number_is sealer records are first.0 stored first.1, receipt, done, sound.number, length-sealed_in outbox, length-records (sealed_in outbox)) in
+    omega (arith, number_is sealer records are first.0 stored first.1, receipt, sound.number, length-sealed_in outbox, length-records (sealed_in outbox)) in
     (first.1).effects
     ∙ (ap (λ l. texts_of_all l) (take_all first.0 records all)
     ∙ sym (texts_are sealer outbox sound ∙ (ap (λ waiting. texts_of_all records ++ texts_put waiting) none ∙ append-nil (texts_of_all records))))
+
+pub delivers_by_receipts : DeliversByReceipts
+delivers_by_receipts sealer acts outbox each leads state attempts stored tries lead receipt none done =
+    all_took_effect sealer acts outbox each leads attempts stored tries lead (omega (arith, receipt, done)) none
 
 -- ---- a copy
 

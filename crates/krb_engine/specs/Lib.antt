@@ -4,3 +4,6 @@ pub mod Sending
 pub mod Receiving
 pub mod Calls
 pub mod Laws
+pub mod ReceivingLaws
+pub mod Stream
+pub mod StreamLaws

@@ -1,6 +1,7 @@
-//! What is claimed of a session's end at a sender, over the definitions alone.
+//! What is claimed of a session's ends, over the definitions alone.
 
 ghost use Rattle.krb_engine.specs.Laws.{CarriedStandInTurn, CopiesAreFew, DeletedTookEffect, DeliversByReceipts, DeliversByTheShard, EachListBegins, EachRunIsAHistory, EachServiceIsSmall, HearsAsACopy, LoadsGoOn, NothingStandsStill, ProbesAreRare, RepeatsAreRare, SealsOneAfterAnother};
+ghost use Rattle.krb_engine.specs.ReceivingLaws.{AcceptsInTurn, GoesWithTheStore, ReceiptsAreTrue, RefusesByNumber};
 
 use krb_carry::{delivery_laws, progress_laws};
 use krb_copies::copies_laws;
@@ -47,3 +48,17 @@ pub fn sending_laws()
     delivery_laws();
     copies_laws();
 }
+
+/// What holds of a session's end at a receiver, whatever frames come and whichever transactions take effect.
+///
+/// What it has for stored and for the transaction under way is what the store has and would have (`store`):
+/// the number that is demanded, and the digest of all frames that took effect. So each receipt that leaves
+/// is true of what is stored then (`receipts`), and none leaves while a transaction is under way; it stays
+/// true, by [`copies_laws`](krb_copies::copies_laws). A frame is accepted in its turn alone, and none after
+/// the close (`accepts`); what isn't accepted is told by the number at which it opens (`refuses`).
+pub fn receiving_laws()
+    ensures store { GoesWithTheStore }
+    ensures receipts { ReceiptsAreTrue }
+    ensures accepts { AcceptsInTurn }
+    ensures refuses { RefusesByNumber }
+{}

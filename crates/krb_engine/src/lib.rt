@@ -20,7 +20,9 @@
 mod laws;
 mod receiving;
 mod sending;
+mod stream;
 
-pub use laws::sending_laws;
+pub use laws::{receiving_laws, sending_laws};
 pub use receiving::{Receiving, Row, Seen};
 pub use sending::{Asks, Command, Ended, Heard, Sending};
+pub use stream::{Head, Judged, Opening, judge, stream_laws};
