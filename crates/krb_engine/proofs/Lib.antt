@@ -1,0 +1,5 @@
+pub mod HistoryLemmas
+pub mod ReceiptLemmas
+pub mod ServiceLemmas
+pub mod ReceivingLemmas
+pub mod StreamLemmas

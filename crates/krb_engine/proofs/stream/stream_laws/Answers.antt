@@ -1,0 +1,9 @@
+use Rattle.krb_engine.proofs.StreamLemmas.{begins_after_the_close, in_order, whole_streams}
+use Rattle.krb_engine.proofs.stream.stream_laws.Goals as goal
+
+pub returns : goal.returns
+returns c = record {
+  begins = begins_after_the_close;
+  order = in_order c.delivery_laws.ensures.at_most_once;
+  all = whole_streams;
+}

@@ -1,0 +1,9 @@
+pub mod Limits
+pub mod SendingState
+pub mod Sending
+pub mod Receiving
+pub mod Calls
+pub mod Laws
+pub mod ReceivingLaws
+pub mod Stream
+pub mod StreamLaws

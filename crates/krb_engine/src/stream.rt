@@ -1,0 +1,82 @@
+//! Sessions of a stream at a receiver, which come one after the other.
+
+ghost use Rattle.std.specs.Prelude.{◌≡◌};
+ghost use Rattle.krb_engine.specs.Stream.{judged};
+ghost use Rattle.krb_engine.specs.StreamLaws.{BeginsAfterTheClose, StreamsTakeEffectInOrder, WholeStreamsTakeEffect};
+
+use krb_carry::delivery_laws;
+use krb_history::HISTORY_SIZE;
+
+/// The last session of a stream that a store has.
+#[derive(Clone, Copy, Debug, PartialEq, Eq)]
+pub struct Head {
+    /// Which session of the stream it is, from 1 on.
+    pub turn: u64,
+    /// Whether its close took effect.
+    pub closed: bool,
+    /// The digest of all that took effect in it.
+    pub history: [u8; HISTORY_SIZE],
+}
+
+/// What an opening says of its session.
+#[derive(Clone, Copy, Debug, PartialEq, Eq)]
+pub struct Opening {
+    /// Which session of the stream it is, from 1 on.
+    pub turn: u64,
+    /// The digest of all that was sealed in the session before it.
+    pub before: [u8; HISTORY_SIZE],
+}
+
+/// What an opening is taken for.
+#[derive(Clone, Copy, Debug, PartialEq, Eq)]
+pub enum Judged {
+    /// Its session begins.
+    Begins,
+    /// Its turn comes later: it has to come again.
+    Later,
+    /// Another session had its turn, or what took effect before it isn't what it continues.
+    Forked,
+}
+
+/// Judges an opening by the last session of its stream, if the store has one.
+pub fn judge(head: Option<Head>, opening: &Opening) -> Judged
+    ensures { result ≡ judged head opening.now }
+{
+    let Some(head) = head else {
+        return if opening.turn == 1 {
+            Judged::Begins
+        } else {
+            Judged::Later
+        };
+    };
+    if opening.turn <= head.turn {
+        return Judged::Forked;
+    }
+    if opening.turn - head.turn > 1 || !head.closed {
+        return Judged::Later;
+    }
+    if opening.before == head.history {
+        Judged::Begins
+    } else {
+        Judged::Forked
+    }
+}
+
+/// What holds of a stream, whose sessions come one after the other.
+///
+/// A session begins only after the close of the one before it took effect, on the digest that its opening
+/// names (`begins`). Then what takes effect of all sessions together is a prefix of the texts that were put
+/// in, over all sessions, in their order and each once (`order`), whatever processes of both ends died,
+/// were slow or came twice, and whatever the carrier does. It is all of them, once nothing waits in any
+/// session and each is done, by receipts (`all`).
+///
+/// Each session has one outbox. Where an outbox is restored or copied,
+/// [`copies_laws`](krb_copies::copies_laws) speak of one session: that no session of another copy begins
+/// after this one's close rests on the digest, and is not stated here.
+pub fn stream_laws()
+    ensures begins { BeginsAfterTheClose }
+    ensures order { StreamsTakeEffectInOrder }
+    ensures all { WholeStreamsTakeEffect }
+{
+    delivery_laws();
+}

@@ -1,0 +1,2 @@
+pub mod QueueLemmas
+pub mod PauseLemmas
