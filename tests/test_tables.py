@@ -29,49 +29,47 @@ JOB_LIMITS = ("TEXTS_LIMIT", "TEXT_LIMIT", "BATCH_LIMIT", "ENTRIES_LIMIT", "RAW_
               "ADDRESS_LIMIT", "CAPACITY_LIMIT", "LANE_LIMIT", "SKEW_LIMIT", "LAST_NUMBER")
 SIZES = ("crates/krb_structs/src/room.rt", "crates/krb_structs/src/session.rt",
          "crates/krb_commands/src/input.rt")
-VERSIONS, PAGES = "VERSION", "c/man"
+VERSION, PAGES = "VERSION", "c/man"
 CALLS, PACKAGE = "crates/krb_c/src/message_calls.rt", "python/tests/test_library.py"
-# Where a version stands: the file, the words around it, whose it is, and what of it stands there. A
-# symbol's version is that of the library which brought it: its major number alone is compared.
+# Where the version stands: the file, the words around it, and what of it stands there. A symbol's
+# version is that of the library which brought it: its major number alone is compared.
 PLACES = [
-    ("README.md", r"^\*\*Version\*\*: library (\S+), program", "library", "whole"),
-    ("README.md", r"^\*\*Version\*\*: library \S+, program (\S+),", "program", "whole"),
-    ("crates/krb_program/src/command.rt", r'\.version\("(.*)"\)', "program", "whole"),
-    ("tools/lib/build/copied.py", r"echo krbrelay (\S+)", "program", "whole"),
-    (CALLS, r"^/// The version of the library: (\w+) is ", "library", "packed"),
-    (CALLS, r"^/// The version of the library: \w+ is (.*)\.$", "library", "whole"),
-    (CALLS, r"^const VERSION: u32 = (\w+);$", "library", "packed"),
-    (CALLS, r"krbrelay_version\(\) -> u32\n    ensures { result ≡ (\w+) }", "library", "packed"),
-    (HEADER, r"^#define KRBRELAY_VERSION (\w+)u$", "library", "packed"),
-    (HEADER, r"^#define KRBRELAY_VERSION_MAJOR (\d+)$", "library", "major"),
-    (HEADER, r"^#define KRBRELAY_VERSION_MINOR (\d+)$", "library", "minor"),
-    (HEADER, r"^#define KRBRELAY_VERSION_PATCH (\d+)$", "library", "patch"),
-    ("c/Makefile", r"^VERSION = (.*)$", "library", "whole"),
-    ("c/Makefile", r"Version: ([^' ]+)", "library", "by_make"),
-    ("c/Makefile", r"set\(PACKAGE_VERSION (\S+)\)'", "library", "by_make"),
-    ("c/Makefile", r"libkrbrelay\.so\.(\d+)", "library", "major"),
-    ("packaging/debian/changelog", r"^krbrelay \((.*)-\d+\)", "library", "whole"),
-    ("packaging/debian/libkrbrelay1.symbols", r"libkrbrelay\.so\.(\d+)", "library", "major"),
-    ("packaging/debian/libkrbrelay1.symbols", r"\(symver\)KRBRELAY_\S+ (\S+)$", "library", "whole"),
-    ("c/library", r"libkrbrelay\.so\.(\d+)", "library", "major"),
-    (SYMBOLS, r"KRBRELAY_(\d+)\.", "library", "major"),
-    ("python/pyproject.toml", r'^version = "(.*)"$', "library", "whole"),
-    ("python/krbrelay/__init__.py", r'^__version__ = "(.*)"$', "library", "whole"),
-    ("python/krbrelay/library.py", r"^MAJOR = (\d+)$", "library", "major"),
-    ("python/tests/test_package.py", r"krbrelay-(\S+)\.dist-info", "library", "whole"),
-    ("python/tests/test_values.py", r"library_version\(\)\[0\], (\d+)\)", "library", "major"),
-    (PACKAGE, r"Version: (\S+)\\n", "library", "whole"),
-    (PACKAGE, r"\((\d+, \d+, \d+)\)", "library", "listed"),
-    ("rust/Cargo.toml", r'^version = "(.*)"$', "library", "whole"),
-    ("go/krbrelay.go", r'^const Version = "(.*)"$', "library", "whole"),
-    ("go/README.md", r"-go-(\d\S*)$", "library", "whole"),
-    ("go/README.md", r"krbrelay@v(\S+)", "library", "whole"),
-    ("docs/C.md", r"libkrbrelay\.so\.(\d+)", "library", "major"),
-    ("docs/C.md", r"Within major number (\d+)", "library", "major"),
-    ("docs/PYTHON.md", r"as \((\d+, \d+, \d+)\)", "library", "listed"),
-    ("docs/krbrelay.1", r'^\.TH KRBRELAY 1 \S+ "krbrelay (.*?)"', "program", "whole"),
-    ("CONTRIBUTING.md", r"`krbrelay-(\S+)` for the program", "program", "whole"),
-    ("CONTRIBUTING.md", r"`libkrbrelay-(\S+)` for the library", "library", "whole"),
+    ("README.md", r"^\*\*Version\*\*: (\S+),", "whole"),
+    ("crates/krb_program/src/command.rt", r'\.version\("(.*)"\)', "whole"),
+    ("tools/lib/build/copied.py", r"echo krbrelay (\S+)", "whole"),
+    (CALLS, r"^/// The version of the library: (\w+) is ", "packed"),
+    (CALLS, r"^/// The version of the library: \w+ is (.*)\.$", "whole"),
+    (CALLS, r"^const VERSION: u32 = (\w+);$", "packed"),
+    (CALLS, r"krbrelay_version\(\) -> u32\n    ensures { result ≡ (\w+) }", "packed"),
+    (HEADER, r"^#define KRBRELAY_VERSION (\w+)u$", "packed"),
+    (HEADER, r"^#define KRBRELAY_VERSION_MAJOR (\d+)$", "major"),
+    (HEADER, r"^#define KRBRELAY_VERSION_MINOR (\d+)$", "minor"),
+    (HEADER, r"^#define KRBRELAY_VERSION_PATCH (\d+)$", "patch"),
+    ("c/Makefile", r"^VERSION = (.*)$", "whole"),
+    ("c/Makefile", r"Version: ([^' ]+)", "by_make"),
+    ("c/Makefile", r"set\(PACKAGE_VERSION (\S+)\)'", "by_make"),
+    ("c/Makefile", r"libkrbrelay\.so\.(\d+)", "major"),
+    ("packaging/debian/changelog", r"^krbrelay \((.*)-\d+\)", "whole"),
+    ("packaging/debian/libkrbrelay1.symbols", r"libkrbrelay\.so\.(\d+)", "major"),
+    ("packaging/debian/libkrbrelay1.symbols", r"\(symver\)KRBRELAY_\S+ (\S+)$", "whole"),
+    ("c/library", r"libkrbrelay\.so\.(\d+)", "major"),
+    (SYMBOLS, r"KRBRELAY_(\d+)\.", "major"),
+    ("python/pyproject.toml", r'^version = "(.*)"$', "whole"),
+    ("python/krbrelay/__init__.py", r'^__version__ = "(.*)"$', "whole"),
+    ("python/krbrelay/library.py", r"^MAJOR = (\d+)$", "major"),
+    ("python/tests/test_package.py", r"krbrelay-(\S+)\.dist-info", "whole"),
+    ("python/tests/test_values.py", r"library_version\(\)\[0\], (\d+)\)", "major"),
+    (PACKAGE, r"Version: (\S+)\\n", "whole"),
+    (PACKAGE, r"\((\d+, \d+, \d+)\)", "listed"),
+    ("rust/Cargo.toml", r'^version = "(.*)"$', "whole"),
+    ("go/krbrelay.go", r'^const Version = "(.*)"$', "whole"),
+    ("go/README.md", r"-go-(\d\S*)$", "whole"),
+    ("go/README.md", r"krbrelay@v(\S+)", "whole"),
+    ("docs/C.md", r"libkrbrelay\.so\.(\d+)", "major"),
+    ("docs/C.md", r"Within major number (\d+)", "major"),
+    ("docs/PYTHON.md", r"as \((\d+, \d+, \d+)\)", "listed"),
+    ("docs/krbrelay.1", r'^\.TH KRBRELAY 1 \S+ "krbrelay (.*?)"', "whole"),
+    ("CONTRIBUTING.md", r"tag it: `krbrelay-(\S+)`", "whole"),
 ]
 OTHER_VERSION = "7.8.9"         # no part of which is one of a version here
 # Prose whose numbers of a thousand and more are limits, but for the limit before the present one.
@@ -246,17 +244,17 @@ def spellings(version):
             "by_make": "$(VERSION)"}
 
 
-def versions():
-    """The version of each thing that the file VERSION names."""
-    return dict(line.split() for line in building.text_of(VERSIONS).splitlines())
+def version():
+    """What the file VERSION says."""
+    return building.text_of(VERSION).strip()
 
 
 def places():
-    """Each place that says a version, of which the pages of the manual are one a page."""
+    """Each place that says the version, of which the pages of the manual are one a page."""
     yield from PLACES
     for path in sorted(it for place in (PAGES, "carrier/man") for it in glob.glob(os.path.join(building.TOP, place, "*.[378]"))):
         page = os.path.relpath(path, building.TOP)
-        yield page, r'^\.TH \S+ [378] \S+ "krbrelay (.*?)"', "library", "whole"
+        yield page, r'^\.TH \S+ [378] \S+ "krbrelay (.*?)"', "whole"
 
 
 def written():
@@ -362,22 +360,22 @@ def said(text, around, part):
 
 
 def of_versions():
-    known = {name: spellings(version) for name, version in versions().items()}
-    for path, around, name, part in places():
-        yield f"{path}, {around}", said(building.text_of(path), around, part), {known[name][part]}
+    known = spellings(version())
+    for path, around, part in places():
+        yield f"{path}, {around}", said(building.text_of(path), around, part), {known[part]}
 
 
 def of_other_versions():
     """Each place once more, where its first and where its last word is another version: what is said
     then, and what has to be."""
-    known = {name: spellings(version) for name, version in versions().items()}
+    known = spellings(version())
     other = {**spellings(OTHER_VERSION), "by_make": OTHER_VERSION}
-    for path, around, name, part in places():
+    for path, around, part in places():
         text = building.text_of(path)
         words = list(re.finditer(around, text, re.M))
         for word in {words[0], words[-1]}:
             planted = text[:word.start(1)] + other[part] + text[word.end(1):]
-            yield f"{path}, {around}, at {word.start(1)}", said(planted, around, part), {known[name][part]}
+            yield f"{path}, {around}, at {word.start(1)}", said(planted, around, part), {known[part]}
 
 
 def walk(heading):

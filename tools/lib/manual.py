@@ -62,7 +62,7 @@ def verbatim(text):
 
 
 def version():
-    return dict(line.split() for line in building.text_of("VERSION").splitlines())["program"]
+    return building.text_of("VERSION").strip()
 
 
 def page(program, date):

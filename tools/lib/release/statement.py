@@ -98,7 +98,7 @@ def of(folder, known):
     inside = of_tarball(os.path.join(folder, f"{dist.name()}.tar.gz"))
     return {
         "form": FORM,
-        "versions": dict(line.split() for line in building.text_of("VERSION").splitlines()),
+        "version": dist.version(),
         "commit": commit(),
         "kit": kit(),
         "artefacts": {path: {"sha256": sha256(bytes_of(folder, path)),

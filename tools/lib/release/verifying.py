@@ -17,7 +17,7 @@ LOG = os.path.join(building.TOP, "out", "release", "rt_ci.log")
 CODE_OF = {"rust": re.compile(r"/vendor/(krbrelay-\w+\.s)$"),
            "go": re.compile(r"/library_(amd64|arm64)\.s$")}
 MACHINES = {"amd64": "krbrelay-x86_64.s", "arm64": "krbrelay-aarch64.s"}
-KEYS = {"form", "versions", "commit", "kit", "artefacts", "proved_code", "sources", "crates", "trusted"}
+KEYS = {"form", "version", "commit", "kit", "artefacts", "proved_code", "sources", "crates", "trusted"}
 
 
 # ---- by hashes
@@ -62,7 +62,7 @@ def the_statement(folder):
 
 def inside_tarball(folder, told):
     """Whether the tarball has the stated sources and proved code."""
-    path = f"krbrelay-{told['versions']['library']}.tar.gz"
+    path = f"krbrelay-{told['version']}.tar.gz"
     try:
         inside = statement.of_tarball(os.path.join(folder, path))
     except (OSError, EOFError, tarfile.TarError) as fault:
