@@ -21,7 +21,7 @@ import "C"
 import "unsafe"
 
 // Version is the version of this package, which is that of the library it was written for.
-const Version = "1.0.0"
+const Version = "1.1.0"
 
 const (
 	// UserDataLimit is the most bytes of user data that are sealed.

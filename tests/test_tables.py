@@ -65,6 +65,8 @@ PLACES = [
     ("go/krbrelay.go", r'^const Version = "(.*)"$', "whole"),
     ("go/README.md", r"-go-(\d\S*)$", "whole"),
     ("go/README.md", r"krbrelay@v(\S+)", "whole"),
+    ("go/test", r"require krbrelay v(.*?)\\n", "whole"),
+    ("conformance/runners/go/go.mod", r"^require krbrelay v(.*)$", "whole"),
     ("docs/C.md", r"libkrbrelay\.so\.(\d+)", "major"),
     ("docs/C.md", r"Within major number (\d+)", "major"),
     ("docs/PYTHON.md", r"as \((\d+, \d+, \d+)\)", "listed"),

@@ -22,7 +22,7 @@ from krbrelay.values import (
     Address, Batch, Body, Closed, Demand, Header, How, Mode, Moment, Record, Text)
 from krbrelay.window import Taken, Window
 
-__version__ = "1.0.0"
+__version__ = "1.1.0"
 
 __all__ = [
     "ADDRESS_LIMIT", "Address", "Batch", "Body", "Closed", "Code", "Demand", "Error", "Exhausted",

@@ -49,31 +49,31 @@ class Places(unittest.TestCase):
     def test_the_variable_comes_first(self):
         place = self.copy_to("named/of-another-name.so")
         self.copy_to(f"site/lib/krbrelay/{library.NAME}")
-        self.assertEqual(self.says(KRBRELAY_LIBRARY=place), f"{place} (1, 0, 0)")
+        self.assertEqual(self.says(KRBRELAY_LIBRARY=place), f"{place} (1, 1, 0)")
 
     def test_beside_the_package(self):
         place = self.copy_to(f"site/lib/krbrelay/{library.NAME}")
-        self.assertEqual(self.says(), f"{place} (1, 0, 0)")
+        self.assertEqual(self.says(), f"{place} (1, 1, 0)")
 
     def test_of_the_loaders_level(self):
         plain = self.copy_to(f"site/lib/krbrelay/{library.NAME}")
         folder = "site/lib/krbrelay/glibc-hwcaps"
         self.copy_to(f"{folder}/x86-64-v9/{library.NAME}")
-        self.assertEqual(self.says(), f"{plain} (1, 0, 0)")
+        self.assertEqual(self.says(), f"{plain} (1, 1, 0)")
         for level in reversed(library.levels()):
             place = self.copy_to(f"{folder}/{level}/{library.NAME}")
-            self.assertEqual(self.says(), f"{place} (1, 0, 0)")
+            self.assertEqual(self.says(), f"{place} (1, 1, 0)")
 
     @unittest.skipUnless(library.levels(), "the system's loader has no levels of a processor")
     def test_of_no_level_that_the_loader_leaves_out(self):
         place = self.copy_to(f"site/lib/krbrelay/{library.NAME}")
         self.copy_to(f"site/lib/krbrelay/glibc-hwcaps/x86-64-v3/{library.NAME}")
         self.assertEqual(self.says(GLIBC_TUNABLES="glibc.cpu.hwcaps=-AVX2_Usable,-AVX2"),
-                         f"{place} (1, 0, 0)")
+                         f"{place} (1, 1, 0)")
 
     def test_where_the_repository_builds_it(self):
         place = self.copy_to(f"site/crates/krb_c/out/c_library/{library.NAME}")
-        self.assertEqual(self.says(), f"{place} (1, 0, 0)")
+        self.assertEqual(self.says(), f"{place} (1, 1, 0)")
         self.assertIn(os.path.join(TOP, "crates", "krb_c", "out", "c_library", library.NAME),
                       library.places())
 
@@ -89,18 +89,18 @@ class Places(unittest.TestCase):
         os.makedirs(self.path("prefix/lib/pkgconfig"), exist_ok=True)
         with open(self.path("prefix/lib/pkgconfig/krbrelay.pc"), "w", encoding="utf-8") as file:
             file.write(f"prefix={self.path('prefix')}\nlibdir=${{prefix}}/lib\n\nName: krbrelay\n"
-                       "Description: a test\nVersion: 1.0.0\n")
+                       "Description: a test\nVersion: 1.1.0\n")
         self.assertEqual(self.says(PKG_CONFIG_PATH=self.path("prefix/lib/pkgconfig")),
-                         f"{place} (1, 0, 0)")
+                         f"{place} (1, 1, 0)")
 
     def test_by_the_loader(self):
         self.copy_to(f"other/{library.NAME}")
         self.assertEqual(self.says(LD_LIBRARY_PATH=self.path("other")),
-                         f"{library.NAME} (1, 0, 0)")
+                         f"{library.NAME} (1, 1, 0)")
 
     def test_nowhere(self):
         said = self.says()
-        if library.NAME in said and "(1, 0, 0)" in said:
+        if library.NAME in said and "(1, 1, 0)" in said:
             self.skipTest("the system's loader finds an installed library")
         self.assertRegex(said, r"LibraryError: libkrbrelay can't be loaded: .*c/library "
                                r"--install PREFIX.*KRBRELAY_LIBRARY=")

@@ -208,7 +208,7 @@ class Installing(unittest.TestCase):
             installed = os.path.join(target, "krbrelay")
             names = {it for it in os.listdir(PACKAGE) if it != "__pycache__"}
             self.assertEqual(names, set(os.listdir(installed)) - {"__pycache__"})
-            self.assertIn("krbrelay-1.0.0.dist-info", os.listdir(target))
+            self.assertIn("krbrelay-1.1.0.dist-info", os.listdir(target))
             given = {**os.environ, "PYTHONPATH": target,
                      "KRBRELAY_LIBRARY": library.library()._name}
             ran = subprocess.run([sys.executable, "-c", "import krbrelay; "

@@ -8,13 +8,13 @@ ghost use Rattle.krb_structs.specs.Reasons.{HeaderAnswer, TextAnswer};
 use krb_structs::{KrbHeader, answer, message_header, name_into, text_into};
 use std::alloc::Global;
 
-/// The version of the library: 0x010000 is 1.0.0.
-const VERSION: u32 = 0x01_0000;
+/// The version of the library: 0x010100 is 1.1.0.
+const VERSION: u32 = 0x01_0100;
 
 /// The version of the library: its major number, and a byte each for minor number and patch.
 #[unsafe(no_mangle)]
 pub extern "C" fn krbrelay_version() -> u32
-    ensures { result ≡ 65536 }
+    ensures { result ≡ 65792 }
 {
     VERSION
 }

@@ -69,7 +69,7 @@ fn command_line<'a>(alloc: Global) -> Result<Command<'a>, AllocError>
     ensures { IfOk result (λ command. app_of command ≡ krbrelay_app) }
 {
     let line = Command::new(alloc, "krbrelay")
-        .version("1.0.0")
+        .version("1.1.0")
         .about(help::PROGRAM)
         .after_help(help::EXIT_STATUS)
         .subcommand_required(true)

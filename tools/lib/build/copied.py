@@ -21,7 +21,7 @@ KIT = r'''#!/bin/sh
 name=$(basename "$PWD")
 note() { echo "$*" >> "$NOTES"; }
 program() {
-    printf '#!/bin/sh\n[ "$1" = --version ] && echo krbrelay 1.0.0 && exit\n' > "$1"
+    printf '#!/bin/sh\n[ "$1" = --version ] && echo krbrelay 1.1.0 && exit\n' > "$1"
     printf 'echo %s "$*" >> "$NOTES"\necho %s\nexit 3\n' "$2" "$2" >> "$1"
     chmod 755 "$1"
 }
