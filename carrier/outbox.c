@@ -8,6 +8,10 @@
 
 /* Where there is a bound, texts that wait are counted only if their ids lie far enough apart. A close is always
  * taken, so that a session can end. */
+/* The digits of a number that a macro names, for a statement. */
+#define DIGITS(number) #number
+#define DIGITS_OF(number) DIGITS(number)
+
 #define TOO_MANY \
     "CREATE TRIGGER IF NOT EXISTS too_many BEFORE INSERT ON text" \
     " WHEN NEW.body IS NOT NULL AND (SELECT texts FROM bound) > 0" \
@@ -31,7 +35,7 @@ static const char tables[] =
     "CREATE TRIGGER IF NOT EXISTS the_close AFTER INSERT ON text WHEN NEW.body IS NULL"
     " BEGIN INSERT INTO closed VALUES (NEW.session); END;"
     "CREATE TRIGGER IF NOT EXISTS too_long BEFORE INSERT ON text"
-    " WHEN length(CAST(NEW.body AS BLOB)) > 1000000"
+    " WHEN length(CAST(NEW.body AS BLOB)) > " DIGITS_OF(TEXT_BYTES)
     " BEGIN SELECT RAISE(ABORT, 'a text has 1,000,000 bytes at most'); END;"
     "CREATE TABLE IF NOT EXISTS bound (one INTEGER PRIMARY KEY CHECK (one = 1), texts INTEGER NOT NULL);"
     "INSERT OR IGNORE INTO bound (one, texts) VALUES (1, 0);"

@@ -27,6 +27,11 @@
 #include "progress.h"
 #include "sessions.h"
 
+/* tables/limits.toml: limits, by tools/tables */
+#define BATCH_TEXTS 1000         /* the most texts of a batch */
+#define TEXT_BYTES 1000000       /* the most bytes of a text */
+/* end of limits */
+
 enum outbox_statement {
     LOAD_SESSION, SELECT_TEXTS, HAS_TEXT, DROP_TEXTS, ADD_FRAME, SELECT_FRAMES, DROP_FRAMES,
     ADD_SEALED, DROP_SEALED,

@@ -9,7 +9,7 @@
 
 #include "outbox.h"
 
-enum { BATCH_TEXTS = 1000, BATCH_BYTES = 60000, TEXT_BYTES = 1000000 };
+enum { BATCH_BYTES = 60000 };      /* of a batch at most, so that its message passes by any carrier */
 enum seal_answer { SEAL_OK = 0, SEAL_STOP = 1, SEAL_FAULT = -1 };
 
 /* One session of a sender, from its first text or frame on. */

@@ -24,12 +24,14 @@ import "unsafe"
 const Version = "1.1.0"
 
 const (
+	// tables/limits.toml: limits, by tools/tables
 	// UserDataLimit is the most bytes of user data that are sealed.
 	UserDataLimit = 1_000_001
 	// FrameLimit is the most bytes of a message that is opened.
 	FrameLimit = 1_005_000
 	// AddressLimit is the most bytes of an address.
 	AddressLimit = 40
+	// end of limits
 	// PeerStateSize is the bytes of a peer's two numbers.
 	PeerStateSize = 20
 	// HistorySize is the bytes of a session's history.

@@ -23,10 +23,7 @@ C_TYPES = {"uint64_t": "u64", "uint32_t": "u32", "int32_t": "i32", "uint8_t": "u
            "struct krbrelay_address": "KrbAddress"}
 PYTHON_TYPES = {"c_uint64": "u64", "c_uint32": "u32", "c_int32": "i32", "c_uint8": "u8",
                 "AddressStruct": "KrbAddress", "ADDRESS_LIMIT": "ADDRESS_ROOM"}
-ORACLE, RELAYED = "tests/oracle", "tools/lib/picture/relayed.py"
-JOB_CHECK = "tools/lib/job_check.py"
-JOB_LIMITS = ("TEXTS_LIMIT", "TEXT_LIMIT", "BATCH_LIMIT", "ENTRIES_LIMIT", "RAW_LIMIT",
-              "ADDRESS_LIMIT", "CAPACITY_LIMIT", "LANE_LIMIT", "SKEW_LIMIT", "LAST_NUMBER")
+ORACLE = "tests/oracle"
 SIZES = ("crates/krb_structs/src/room.rt", "crates/krb_structs/src/session.rt",
          "crates/krb_commands/src/input.rt")
 VERSION, PAGES = "VERSION", "c/man"
@@ -302,25 +299,15 @@ def of_refusals():
 def of_limits():
     limits = constants(LIMITS)
     room, session, job = map(constants, SIZES)
-    wanted = {"USER_DATA_LIMIT": limits["USER_DATA_LIMIT"], "FRAME_LIMIT": limits["FRAME_LIMIT"],
-              "ADDRESS_LIMIT": session["ADDRESS_ROOM"]}
-    yield HEADER, of_header()[1], wanted | {"FRAME_OVERHEAD": room["FRAME_OVERHEAD"]}
-    library = of_python("python/krbrelay/library.py")
-    yield "python/krbrelay/library.py", {it: library[it] for it in wanted}, wanted
-    for path, known in limits_of_bindings():
-        yield path, known, wanted | {"FRAME_OVERHEAD": room["FRAME_OVERHEAD"]}
-    for path, copy, name in [(f"{ORACLE}/reader.py", "LIMIT", "FRAME_LIMIT"),
-                             (f"{ORACLE}/frames.py", "MOST_TEXTS", "BATCH_LIMIT"),
-                             (f"{ORACLE}/frames.py", "MOST_BYTES", "BATCH_SIZE_LIMIT"),
-                             (RELAYED, "MOST_TEXTS_BYTES", "BATCH_SIZE_LIMIT"),
-                             *((JOB_CHECK, it, it) for it in JOB_LIMITS)]:
-        yield f"{path}, {copy}", of_python(path)[copy], limits[name]
-    yield f"{JOB_CHECK}, INPUT_LIMIT", of_python(JOB_CHECK)["INPUT_LIMIT"], job["LIMIT"]
+    proved = limits | {"ADDRESS_ROOM": session["ADDRESS_ROOM"], "LIMIT": job["LIMIT"]}
+    for of, rows in tomllib.loads(building.text_of("tables/limits.toml")).items():
+        for name, row in rows.items():
+            yield f"tables/limits.toml, {of}.{name}", row["number"], proved[row.get("proved", name)]
+    for path, known in (HEADER, of_header()[1]), *limits_of_bindings():
+        yield f"{path}, FRAME_OVERHEAD", known["FRAME_OVERHEAD"], room["FRAME_OVERHEAD"]
     known = {*limits.values(), *job.values(), limits["LAST_NUMBER"] + 1}
     for path, number in written():
         yield f"{path}, {number:,}", number in known | NO_LIMITS.get(path, set()), True
-    batch = re.search(r"BATCH_TEXTS = (\d+)", building.text_of("carrier/seal.h"))
-    yield "carrier/seal.h, BATCH_TEXTS", int(batch[1]), limits["BATCH_LIMIT"]
     size = int(re.search(r"#define KRBRELAY_TEXT_SIZE (\d+)", building.text_of("c/krbrelay.h"))[1])
     for name, row in tomllib.loads(building.text_of("tables/answers.toml")).items():
         yield f"the text of {name} has room", len(row["text"].encode()) < size, True

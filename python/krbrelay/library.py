@@ -17,12 +17,14 @@ NAME = f"libkrbrelay.so.{MAJOR}"
 VARIABLE = "KRBRELAY_LIBRARY"
 LOADER = "/lib64/ld-linux-x86-64.so.2"
 
+# tables/limits.toml: limits, by tools/tables
 USER_DATA_LIMIT = 1_000_001
 """The most bytes of user data that are sealed."""
 FRAME_LIMIT = 1_005_000
 """The most bytes of a message that is opened."""
 ADDRESS_LIMIT = 40
 """The most bytes of an address."""
+# end of limits
 CONFOUNDER_SIZE = 16
 PEER_STATE_SIZE = 20
 HISTORY_SIZE = 20

@@ -95,12 +95,14 @@ pub use sys::{is_supported, library_version};
 pub use values::{Body, Carried, Confounder, Demand, Expect, How, Key, Mode, Moment, Session};
 pub use window::{Taken, Window};
 
+// tables/limits.toml: limits, by tools/tables
 /// The most bytes of user data that are sealed.
 pub const USER_DATA_LIMIT: usize = 1_000_001;
 /// The most bytes of a message that is opened.
 pub const FRAME_LIMIT: usize = 1_005_000;
 /// The most bytes of an address.
 pub const ADDRESS_LIMIT: usize = 40;
+// end of limits
 /// The bytes of a peer's two numbers ([`Peer::export`]).
 pub const PEER_STATE_SIZE: usize = 20;
 /// The bytes of a session's history ([`History::digest`]).

@@ -131,7 +131,9 @@ def seal_part(key, text):
 
 # ---- records
 
-MOST_TEXTS, MOST_BYTES = 1000, 1_000_000    # of a batch; a text takes four bytes more than it has
+# tables/limits.toml: limits, by tools/tables
+MOST_TEXTS, MOST_BYTES = 1_000, 1_000_000    # of a batch; a text takes four bytes more than it has
+# end of limits
 
 
 def groups(texts, most):

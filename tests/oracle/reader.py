@@ -6,7 +6,9 @@ fields of a SEQUENCE, with None for an absent one."""
 
 import datetime
 
+# tables/limits.toml: limits, by tools/tables
 LIMIT = 1_005_000
+# end of limits
 
 
 class Malformed(Exception):

@@ -10,8 +10,12 @@ import itertools
 
 from lib import log_lines
 
-LAST = 4_294_967_295                        # the last sequence number
-MOST_TEXTS_BYTES = 1_000_000                # of a batch, with four more bytes for each text
+# tables/limits.toml: limits, by tools/tables
+# The last sequence number (RFC 4120 section 5.2.4, UInt32).
+LAST = 4_294_967_295
+# The most bytes of a batch after its first byte: of each text its length and four.
+MOST_TEXTS_BYTES = 1_000_000
+# end of limits
 
 
 class Fault(Exception):
