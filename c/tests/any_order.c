@@ -5,23 +5,13 @@
 #undef main
 
 #include "check.h"
+#include "mit_library.h"
 
-#include <krb5.h>
 #include <stdlib.h>
 #include <string.h>
 #include <time.h>
 
 enum { MESSAGES = 5, TIMES = 3 };
-
-static krb5_context ctx;
-
-static void must(krb5_error_code error, const char *what)
-{
-    if (error == 0)
-        return;
-    printf("%s: %s\n", what, krb5_get_error_message(ctx, error));
-    exit(2);
-}
 
 /* Alice's end by MIT's library, with these flags, whose first number is 0. */
 static krb5_auth_context end_of_alice(int flags)

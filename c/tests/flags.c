@@ -8,9 +8,9 @@
  *   flags table    prints them, with what krbrelay_opener_unseal answers to MIT's first message */
 #include "check.h"
 #include "krbrelay.h"
+#include "mit_library.h"
 #include "session.h"
 
-#include <krb5.h>
 #include <stdlib.h>
 #include <string.h>
 #include <time.h>
@@ -18,17 +18,8 @@
 enum { MESSAGES = 3, DO_TIME = KRB5_AUTH_CONTEXT_DO_TIME, RET_TIME = KRB5_AUTH_CONTEXT_RET_TIME,
        DO_SEQUENCE = KRB5_AUTH_CONTEXT_DO_SEQUENCE, RET_SEQUENCE = KRB5_AUTH_CONTEXT_RET_SEQUENCE };
 
-static krb5_context ctx;
 static uint8_t key[32], frame[KRBRELAY_FRAME_LIMIT], data[KRBRELAY_FRAME_LIMIT];
 static const char text[] = "one text and another";
-
-static void must(krb5_error_code error, const char *what)
-{
-    if (error == 0)
-        return;
-    printf("%s: %s\n", what, krb5_get_error_message(ctx, error));
-    exit(2);
-}
 
 /* MIT's end at 10.0.0.1, with a key, flags, and no remote address. */
 static krb5_auth_context mit_end(int etype, int flags)

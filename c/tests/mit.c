@@ -4,8 +4,8 @@
  * messages. No KDC is asked: the ticket is made here, under a service key made here. */
 #include "check.h"
 #include "krbrelay.h"
+#include "mit_library.h"
 
-#include <krb5.h>
 #include <stdlib.h>
 #include <string.h>
 #include <time.h>
@@ -14,17 +14,6 @@
 krb5_error_code krb5_encrypt_tkt_part(krb5_context, const krb5_keyblock *, krb5_ticket *);
 krb5_error_code encode_krb5_ticket(const krb5_ticket *, krb5_data **);
 void krb5_free_address(krb5_context, krb5_address *);
-
-static krb5_context ctx;
-
-/* Ends the program where MIT's library fails in the exchange. */
-static void must(krb5_error_code error, const char *what)
-{
-    if (error == 0)
-        return;
-    printf("%s: %s\n", what, krb5_get_error_message(ctx, error));
-    exit(2);
-}
 
 /* One end: MIT's auth context, and ours made of it. */
 struct end {

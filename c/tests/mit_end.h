@@ -2,22 +2,10 @@
  * other end, which checks numbers and times. */
 #ifndef MIT_END_H
 #define MIT_END_H
+#include "mit_library.h"
 #include "session.h"
 
-#include <krb5.h>
-#include <stdio.h>
-#include <stdlib.h>
-
-static krb5_context ctx;
 static uint8_t key[32];
-
-static void must(long answer, const char *what)
-{
-    if (answer != 0) {
-        fprintf(stderr, "%s: %ld\n", what, answer);
-        exit(1);
-    }
-}
 
 static krb5_auth_context mit_end(int etype, uint8_t from, uint8_t to)
 {

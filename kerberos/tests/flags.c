@@ -6,9 +6,9 @@
  *
  * Prints 'CALL, SITUATION, FLAGS, type TYPE' with both sides where they differ, and the counts. */
 #define _GNU_SOURCE
+#include "../../c/tests/mit_library.h"
 #include <dlfcn.h>
 #include <errno.h>
-#include <krb5.h>
 #include <stdint.h>
 #include <stdio.h>
 #include <stdlib.h>
@@ -32,7 +32,6 @@ static message_call *const here[CALLS] = {
     krb5_mk_safe, krb5_rd_safe, krb5_mk_priv, krb5_rd_priv
 };
 static message_call *mit[CALLS];
-static krb5_context ctx;
 static uint8_t key[33], text[TEXT] = "one text and another";
 
 /* The first members of MIT's struct _krb5_auth_context, to set its numbers; see end.c. */
@@ -124,14 +123,6 @@ static const struct situation situations[] = {
     { .name = "old, the next number", .number = 5, .sent = 6, .sent_flags = FULL,
       .local = 255, .remote = 1, .shift = -3600 },
 };
-
-static void must(krb5_error_code error, const char *what)
-{
-    if (error == 0)
-        return;
-    fprintf(stderr, "flags: %s: %s\n", what, krb5_get_error_message(ctx, error));
-    exit(2);
-}
 
 static void find_mit_calls(void)
 {

@@ -9,9 +9,9 @@
  * MODE is safe or priv, an address KIND:BYTES, WRITE_TO 1 where messages tell the receiver's
  * address, and bytes are hexadecimal digits. Where the library fails, 'error NUMBER WORDS' is
  * printed. */
+#include "../../c/tests/mit_library.h"
 #include <ctype.h>
 #include <errno.h>
-#include <krb5.h>
 #include <stdio.h>
 #include <stdlib.h>
 #include <string.h>
@@ -19,16 +19,6 @@
 enum { LONGEST = 1010000, FLAGS = KRB5_AUTH_CONTEXT_DO_SEQUENCE | KRB5_AUTH_CONTEXT_DO_TIME };
 
 struct bytes { size_t size; unsigned char at[LONGEST]; };
-
-static krb5_context ctx;
-
-static void must(krb5_error_code error, const char *what)
-{
-    if (error == 0)
-        return;
-    fprintf(stderr, "%s: %s\n", what, krb5_get_error_message(ctx, error));
-    exit(2);
-}
 
 static void read_digits(struct bytes *to, const char *digits)
 {
