@@ -9,8 +9,22 @@
 
 enum { LONGEST = 1000000, SAME = 40, TEXTS = 6 };
 
-static uint8_t bytes[LONGEST], frame[KRBRELAY_FRAME_LIMIT];
+static uint8_t bytes[LONGEST], frame[KRBRELAY_FRAME_LIMIT], drawn[4096];
+static size_t drawn_len;
 static const size_t lens[TEXTS] = { 0, 1, 16, 0, LONGEST, 5 };
+
+/* In the place of the system's: what it gives for confounders is known, and no 16 bytes of it come twice. */
+ssize_t getrandom(void *to, size_t len, unsigned flags)
+{
+    size_t i;
+    (void)flags;
+    check(len <= sizeof drawn - drawn_len, "no more is drawn than the frames need");
+    for (i = drawn_len; i < drawn_len + len; i++)
+        drawn[i] = (uint8_t)(i * 167 + i / 16);
+    memcpy(to, drawn + drawn_len, len);
+    drawn_len += len;
+    return (ssize_t)len;
+}
 
 /* A session whose frames are from 10.0.0.1. */
 static struct session session_of(const char *name, uint32_t mode, uint32_t first)
@@ -34,10 +48,10 @@ static void put(struct outbox *outbox, const char *session, const void *text, si
     sqlite3_finalize(insert);
 }
 
-/* Seals all that waits, each text alone, in one transaction. Answers what the last one did. */
-static enum seal_answer seal_all(struct outbox *outbox, struct sending *sending)
+/* Seals all that waits, so many texts together, in one transaction. Answers what the last one did. */
+static enum seal_answer seal_all(struct outbox *outbox, struct sending *sending, unsigned together)
 {
-    struct sealing sealing = { .outbox = outbox, .batch = 1, .frame = frame };
+    struct sealing sealing = { .outbox = outbox, .batch = together, .frame = frame };
     struct waiting_text text;
     enum seal_answer answer = SEAL_OK;
     check(outbox_begin(outbox) == OUTBOX_OK, "a transaction begins");
@@ -84,7 +98,7 @@ static void test_texts(struct outbox *outbox)
     for (i = 0; i < TEXTS; i++)
         put(outbox, of.name, bytes, lens[i]);
     put(outbox, of.name, NULL, 0);
-    check(seal_all(outbox, &sending) == SEAL_OK, "all is sealed");
+    check(seal_all(outbox, &sending, 1) == SEAL_OK, "all is sealed");
     check(krbrelay_receiver_new(&receiver, of.etype, of.key, of.key_len, &expect, 1, 0) == KRBRELAY_OK,
           "a receiver is made");
     outbox_select_frames(outbox, of.name, 0, 1000);
@@ -110,8 +124,40 @@ static const uint8_t *cipher_of(const uint8_t *found, size_t len)
     return NULL;
 }
 
-/* The first block that is encrypted is the confounder: of equal texts it differs each time. */
-static void test_confounders(struct outbox *outbox)
+/* When a frame was sealed. */
+static struct krbrelay_moment moment_of(const struct session *of, const uint8_t *found, size_t len)
+{
+    struct krbrelay_expect expect = { .mode = of->mode, .sender = of->from };
+    struct krbrelay_opener opener = KRBRELAY_INIT;
+    struct krbrelay_demand none = { 0 };
+    struct krbrelay_carried told = { 0 };
+    struct krbrelay_moment now = read_clock();
+    size_t size = 0;
+    check(krbrelay_opener_new(&opener, of->etype, of->key, of->key_len, &expect) == KRBRELAY_OK
+          && krbrelay_opener_open(&opener, found, len, &none, &now, frame, sizeof frame, &size, &told)
+          == KRBRELAY_OK, "a frame opens");
+    krbrelay_opener_free(&opener);
+    return (struct krbrelay_moment){ .seconds = told.seconds, .microseconds = told.microseconds };
+}
+
+/* A frame has this confounder: sealed with it once more, it has the same bytes. */
+static void check_confounder(const struct session *of, uint64_t number, const uint8_t *found, size_t len,
+                             const uint8_t *confounder)
+{
+    struct krbrelay_session session = { .mode = of->mode, .first = (uint32_t)number, .sender = of->from };
+    struct krbrelay_sealer sealer = KRBRELAY_INIT;
+    struct krbrelay_moment at = moment_of(of, found, len);
+    size_t size = 0;
+    check(krbrelay_sealer_new(&sealer, of->etype, of->key, of->key_len, &session) == KRBRELAY_OK
+          && krbrelay_sealer_seal_record(&sealer, KRBRELAY_TEXT, bytes, 4, &at, confounder, frame, sizeof frame,
+                                         &size) == KRBRELAY_OK, "it is sealed once more");
+    check(size == len && memcmp(frame, found, len) == 0, "its confounder is the next 16 bytes that were drawn");
+    krbrelay_sealer_free(&sealer);
+}
+
+/* The first block that is encrypted is the confounder: of equal texts it differs each time. So many frames
+ * were sealed before. */
+static void test_confounders(struct outbox *outbox, size_t before)
 {
     static uint8_t first[SAME][16];
     struct session of = session_of("confounders", KRBRELAY_PRIV, 1);
@@ -121,12 +167,13 @@ static void test_confounders(struct outbox *outbox)
     size_t len = 0, i, k;
     for (i = 0; i < SAME; i++)
         put(outbox, of.name, bytes, 4);
-    check(seal_all(outbox, &sending) == SEAL_OK, "equal texts are sealed");
+    check(seal_all(outbox, &sending, 1) == SEAL_OK, "equal texts are sealed");
     outbox_select_frames(outbox, of.name, 0, 1000);
     for (i = 0; i < SAME && outbox_next_frame(outbox, &number, &found, &len) == 1; i++) {
         memcpy(first[i], cipher_of(found, len), 16);
         for (k = 0; k < i; k++)
             check(memcmp(first[i], first[k], 16) != 0, "confounders differ");
+        check_confounder(&of, number, found, len, drawn + 16 * (before + i));
     }
     check(i == SAME, "a frame for each of the equal texts");
     outbox_end_frames(outbox);
@@ -139,15 +186,19 @@ static void test_last_number(struct outbox *outbox)
     struct session of = session_of("last", KRBRELAY_SAFE, UINT32_MAX - 1);
     struct sending sending = sending_of(of);
     put(outbox, of.name, bytes, 1);
-    check(seal_all(outbox, &sending) == SEAL_OK, "the number before the last is a text's");
+    check(seal_all(outbox, &sending, 1) == SEAL_OK, "the number before the last is a text's");
     check(sqlite3_exec(outbox->db, "DELETE FROM text", NULL, NULL, NULL) == SQLITE_OK, "it is taken");
     put(outbox, of.name, bytes, 1);
-    check(seal_all(outbox, &sending) == SEAL_STOP, "no text has the last number");
+    check(seal_all(outbox, &sending, 1) == SEAL_STOP, "no text has the last number");
+    seal_reset(&sending);
+    sending.sealed = UINT32_MAX;
+    put(outbox, of.name, bytes, 1);
+    check(seal_all(outbox, &sending, 2) == SEAL_STOP, "nor has a batch");
     seal_reset(&sending);
     sending.sealed = UINT32_MAX;
     check(sqlite3_exec(outbox->db, "DELETE FROM text", NULL, NULL, NULL) == SQLITE_OK, "it is dropped");
     put(outbox, of.name, NULL, 0);
-    check(seal_all(outbox, &sending) == SEAL_OK && sending.sealed == UINT64_C(1) << 32, "the close has it");
+    check(seal_all(outbox, &sending, 1) == SEAL_OK && sending.sealed == UINT64_C(1) << 32, "the close has it");
     seal_free(&sending);
 }
 
@@ -186,7 +237,7 @@ int main(int count, char **words)
     check(outbox_open(&outbox, path) == 0, "an outbox is opened");
     test_texts(&outbox);
     check(sqlite3_exec(outbox.db, "DELETE FROM text", NULL, NULL, NULL) == SQLITE_OK, "texts are taken");
-    test_confounders(&outbox);
+    test_confounders(&outbox, TEXTS + 1);
     check(sqlite3_exec(outbox.db, "DELETE FROM text", NULL, NULL, NULL) == SQLITE_OK, "texts are taken");
     test_last_number(&outbox);
     test_compare(&outbox);
