@@ -48,8 +48,9 @@ static void put(struct outbox *outbox, const char *session, const void *text, si
     sqlite3_finalize(insert);
 }
 
-/* Seals all that waits, so many texts together, in one transaction. Answers what the last one did. */
-static enum seal_answer seal_all(struct outbox *outbox, struct sending *sending, unsigned together)
+/* Seals all that waits, so many texts together, in a transaction that it begins. Answers what the last one
+ * did. */
+static enum seal_answer seal_waiting(struct outbox *outbox, struct sending *sending, unsigned together)
 {
     struct sealing sealing = { .outbox = outbox, .batch = together, .frame = frame };
     struct waiting_text text;
@@ -59,6 +60,13 @@ static enum seal_answer seal_all(struct outbox *outbox, struct sending *sending,
     while (answer == SEAL_OK && outbox_next_text(outbox, &text) == 1)
         answer = seal_text(&sealing, sending, &text);
     outbox_end_texts(outbox);
+    return answer;
+}
+
+/* The same, committed. */
+static enum seal_answer seal_all(struct outbox *outbox, struct sending *sending, unsigned together)
+{
+    enum seal_answer answer = seal_waiting(outbox, sending, together);
     check(outbox_commit(outbox) == 0, "it is committed");
     return answer;
 }
@@ -202,6 +210,32 @@ static void test_last_number(struct outbox *outbox)
     seal_free(&sending);
 }
 
+/* What a transaction took back is sealed again, under the number that it had. */
+static void test_taken_back(struct outbox *outbox)
+{
+    struct session of = session_of("back", KRBRELAY_PRIV, 7);
+    struct sending sending = sending_of(of);
+    struct krbrelay_expect expect = { .mode = of.mode, .sender = of.from, .skew = 100 };
+    struct krbrelay_receiver receiver = KRBRELAY_INIT;
+    const uint8_t *found = NULL;
+    uint64_t number = 0;
+    size_t len = 0;
+    put(outbox, of.name, bytes, 5);
+    check(seal_waiting(outbox, &sending, 1) == SEAL_OK && sending.sealed == 8, "a text is sealed");
+    outbox_rollback(outbox);
+    seal_reset(&sending);
+    check(seal_all(outbox, &sending, 1) == SEAL_OK && sending.sealed == 8, "it is sealed again");
+    check(krbrelay_receiver_new(&receiver, of.etype, of.key, of.key_len, &expect, 7, 0) == KRBRELAY_OK,
+          "a receiver is made");
+    outbox_select_frames(outbox, of.name, 0, 1000);
+    check(outbox_next_frame(outbox, &number, &found, &len) == 1 && number == 7, "its frame has the same number");
+    check_record(&receiver, found, len, KRBRELAY_TEXT, bytes, 5);
+    check(outbox_next_frame(outbox, &number, &found, &len) == 0, "and is the only one");
+    outbox_end_frames(outbox);
+    krbrelay_receiver_free(&receiver);
+    seal_free(&sending);
+}
+
 static uint64_t next_of(struct outbox *outbox, const struct session *of)
 {
     struct outbox_progress it;
@@ -240,6 +274,8 @@ int main(int count, char **words)
     test_confounders(&outbox, TEXTS + 1);
     check(sqlite3_exec(outbox.db, "DELETE FROM text", NULL, NULL, NULL) == SQLITE_OK, "texts are taken");
     test_last_number(&outbox);
+    check(sqlite3_exec(outbox.db, "DELETE FROM text", NULL, NULL, NULL) == SQLITE_OK, "texts are taken");
+    test_taken_back(&outbox);
     test_compare(&outbox);
     outbox_close(&outbox);
     puts("passed");
