@@ -1,6 +1,6 @@
 /* Seals texts from an outbox, and opens each of the frames:  outbox_test FOLDER
- * Texts of no bytes up to the longest, the close, confounders, the last number, and the next number's
- * compare-and-set. The last line is 'passed' or 'FAILED ..'. */
+ * Texts of no bytes up to the longest, the close, confounders, the last number, what was taken back, what is
+ * noted for receipts, and the next number's compare-and-set. The last line is 'passed' or 'FAILED ..'. */
 #include "check.h"
 #include "clock.h"
 #include "seal.h"
@@ -236,6 +236,30 @@ static void test_taken_back(struct outbox *outbox)
     seal_free(&sending);
 }
 
+/* Of a session with receipts each text is noted with its number and its place in the record. */
+static void test_noted(struct outbox *outbox)
+{
+    static const int numbers[] = { 4, 4, 4, 5 }, parts[] = { 0, 1, 2, 0 };
+    struct session of = session_of("noted", KRBRELAY_PRIV, 4);
+    struct sending sending;
+    sqlite3_stmt *select = NULL;
+    int i;
+    of.has_back = 1;
+    sending = sending_of(of);
+    for (i = 0; i < 3; i++)
+        put(outbox, of.name, bytes, 5);
+    put(outbox, of.name, NULL, 0);
+    check(seal_all(outbox, &sending, 3) == SEAL_OK, "a batch and the close are sealed");
+    check(sqlite3_prepare_v2(outbox->db, "SELECT number, part FROM sealed WHERE session = 'noted' ORDER BY text",
+                             -1, &select, NULL) == SQLITE_OK, "what is noted is asked for");
+    for (i = 0; i < 4; i++)
+        check(sqlite3_step(select) == SQLITE_ROW && sqlite3_column_int(select, 0) == numbers[i]
+              && sqlite3_column_int(select, 1) == parts[i], "a text is noted at its number and place");
+    check(sqlite3_step(select) == SQLITE_DONE, "and nothing else is");
+    sqlite3_finalize(select);
+    seal_free(&sending);
+}
+
 static uint64_t next_of(struct outbox *outbox, const struct session *of)
 {
     struct outbox_progress it;
@@ -276,6 +300,8 @@ int main(int count, char **words)
     test_last_number(&outbox);
     check(sqlite3_exec(outbox.db, "DELETE FROM text", NULL, NULL, NULL) == SQLITE_OK, "texts are taken");
     test_taken_back(&outbox);
+    check(sqlite3_exec(outbox.db, "DELETE FROM text", NULL, NULL, NULL) == SQLITE_OK, "texts are taken");
+    test_noted(&outbox);
     test_compare(&outbox);
     outbox_close(&outbox);
     puts("passed");
