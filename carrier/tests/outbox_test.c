@@ -1,17 +1,33 @@
 /* Seals texts from an outbox, and opens each of the frames:  outbox_test FOLDER
  * Texts of no bytes up to the longest, the close, confounders, the last number, what was taken back, what is
- * noted for receipts, and the next number's compare-and-set. The last line is 'passed' or 'FAILED ..'. */
+ * noted for receipts, what freed blocks have, and the next number's compare-and-set. The last line is 'passed' or 'FAILED ..'. */
 #include "check.h"
 #include "clock.h"
 #include "seal.h"
 
+#include <malloc.h>
+#include <stdlib.h>
 #include <string.h>
 
 enum { LONGEST = 1000000, SAME = 40, TEXTS = 6 };
 
 static uint8_t bytes[LONGEST], frame[KRBRELAY_FRAME_LIMIT], drawn[4096];
 static size_t drawn_len;
+/* What is looked for in blocks that are freed while it is sought, and in how many it was. The compiler takes
+ * free for a function that changes neither. */
+static const char secret[] = "a text that waits to be sealed";
+static volatile int is_sought, left;
 static const size_t lens[TEXTS] = { 0, 1, 16, 0, LONGEST, 5 };
+
+void __real_free(void *block);
+void __wrap_free(void *block);
+
+void __wrap_free(void *block)
+{
+    if (is_sought && block != NULL)
+        left += memmem(block, malloc_usable_size(block), secret, sizeof secret - 1) != NULL;
+    __real_free(block);
+}
 
 /* In the place of the system's: what it gives for confounders is known, and no 16 bytes of it come twice. */
 ssize_t getrandom(void *to, size_t len, unsigned flags)
@@ -260,6 +276,29 @@ static void test_noted(struct outbox *outbox)
     seal_free(&sending);
 }
 
+/* A sender that ends leaves no text in the blocks that it frees. */
+static void test_nothing_left(struct outbox *outbox)
+{
+    struct session of = session_of("left", KRBRELAY_PRIV, 0);
+    struct sending sending = sending_of(of);
+    volatile char *control = malloc(sizeof secret); /* else what is written to it is left out */
+    size_t i;
+    check(control != NULL, "there is a block");
+    for (i = 0; i < sizeof secret; i++)
+        control[i] = secret[i];
+    is_sought = 1;
+    free((void *)control);
+    is_sought = 0;
+    check(left == 1, "it is found where it is left");
+    put(outbox, of.name, secret, sizeof secret - 1);
+    check(seal_waiting(outbox, &sending, 2) == SEAL_OK && sending.texts == 1, "a text waits for another one");
+    outbox_rollback(outbox);
+    is_sought = 1;
+    seal_free(&sending);
+    is_sought = 0;
+    check(left == 1, "a sender that ends leaves it nowhere");
+}
+
 static uint64_t next_of(struct outbox *outbox, const struct session *of)
 {
     struct outbox_progress it;
@@ -302,6 +341,8 @@ int main(int count, char **words)
     test_taken_back(&outbox);
     check(sqlite3_exec(outbox.db, "DELETE FROM text", NULL, NULL, NULL) == SQLITE_OK, "texts are taken");
     test_noted(&outbox);
+    check(sqlite3_exec(outbox.db, "DELETE FROM text", NULL, NULL, NULL) == SQLITE_OK, "texts are taken");
+    test_nothing_left(&outbox);
     test_compare(&outbox);
     outbox_close(&outbox);
     puts("passed");
