@@ -3,31 +3,17 @@
  * noted for receipts, what freed blocks have, and the next number's compare-and-set. The last line is 'passed' or 'FAILED ..'. */
 #include "check.h"
 #include "clock.h"
+#include "left.h"
 #include "seal.h"
 
-#include <malloc.h>
-#include <stdlib.h>
 #include <string.h>
 
 enum { LONGEST = 1000000, SAME = 40, TEXTS = 6 };
 
 static uint8_t bytes[LONGEST], frame[KRBRELAY_FRAME_LIMIT], drawn[4096];
 static size_t drawn_len;
-/* What is looked for in blocks that are freed while it is sought, and in how many it was. The compiler takes
- * free for a function that changes neither. */
 static const char secret[] = "a text that waits to be sealed";
-static volatile int is_sought, left;
 static const size_t lens[TEXTS] = { 0, 1, 16, 0, LONGEST, 5 };
-
-void __real_free(void *block);
-void __wrap_free(void *block);
-
-void __wrap_free(void *block)
-{
-    if (is_sought && block != NULL)
-        left += memmem(block, malloc_usable_size(block), secret, sizeof secret - 1) != NULL;
-    __real_free(block);
-}
 
 /* In the place of the system's: what it gives for confounders is known, and no 16 bytes of it come twice. */
 ssize_t getrandom(void *to, size_t len, unsigned flags)
@@ -281,22 +267,13 @@ static void test_nothing_left(struct outbox *outbox)
 {
     struct session of = session_of("left", KRBRELAY_PRIV, 0);
     struct sending sending = sending_of(of);
-    volatile char *control = malloc(sizeof secret); /* else what is written to it is left out */
-    size_t i;
-    check(control != NULL, "there is a block");
-    for (i = 0; i < sizeof secret; i++)
-        control[i] = secret[i];
-    is_sought = 1;
-    free((void *)control);
-    is_sought = 0;
-    check(left == 1, "it is found where it is left");
+    check_is_seen(secret);
     put(outbox, of.name, secret, sizeof secret - 1);
     check(seal_waiting(outbox, &sending, 2) == SEAL_OK && sending.texts == 1, "a text waits for another one");
     outbox_rollback(outbox);
-    is_sought = 1;
+    look_for(secret);
     seal_free(&sending);
-    is_sought = 0;
-    check(left == 1, "a sender that ends leaves it nowhere");
+    check(found_left() == 0, "a sender that ends leaves it nowhere");
 }
 
 static uint64_t next_of(struct outbox *outbox, const struct session *of)
