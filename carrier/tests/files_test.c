@@ -1,6 +1,8 @@
-/* Files of keys: who may use them, and that no two sessions have a key in common:  files_test FOLDER
+/* Files of keys: who may use them, that no two sessions have a key or a name in common, and that what was read
+ * isn't left in freed blocks:  files_test FOLDER
  * The last line is 'passed' or 'FAILED ..'. */
 #include "check.h"
+#include "left.h"
 #include "private.h"
 #include "sessions.h"
 
@@ -20,6 +22,7 @@ static void write_file(const char *text, mode_t mode)
 static void test_modes(void)
 {
     mode_t mode;
+    check_is_seen("secret");
     for (mode = 0; mode <= 0777; mode++) {
         struct stat is;
         size_t size = 0;
@@ -30,19 +33,23 @@ static void test_modes(void)
         check((mode & 077) == 0 || text == NULL, "a file that others may use is refused");
         check((mode & 0477) != 0400 || (text != NULL && size == 7 && strcmp(text, "secret\n") == 0),
               "a file of its owner alone is read");
+        look_for("secret");
         private_forget(text, size);
+        check(found_left() == 0, "what was read isn't left in memory");
     }
 }
 
-/* Writes two sessions with these keys, and says whether the file is taken. A key of 0 is none. */
-static int is_taken(int key, int back, int other_key, int other_back)
+/* Writes two sessions with these keys, the second of this name, and says whether the file is taken. A key of 0
+ * is none. */
+static int is_taken_as(const char *name, int key, int back, int other_key, int other_back)
 {
     char text[1000];
     struct sessions *read;
     int at = snprintf(text, sizeof text, "ann 0 17 safe %032d 1 10.0.0.1 10.0.0.255", key);
     if (back != 0)
         at += snprintf(text + at, sizeof text - (size_t)at, " %032d", back);
-    at += snprintf(text + at, sizeof text - (size_t)at, "\ntom 0 17 safe %032d 1 10.0.0.2 10.0.0.255", other_key);
+    at += snprintf(text + at, sizeof text - (size_t)at, "\n%s 0 17 safe %032d 1 10.0.0.2 10.0.0.255", name,
+                   other_key);
     if (other_back != 0)
         at += snprintf(text + at, sizeof text - (size_t)at, " %032d", other_back);
     snprintf(text + at, sizeof text - (size_t)at, "\n");
@@ -50,6 +57,18 @@ static int is_taken(int key, int back, int other_key, int other_back)
     read = sessions_read(path);
     sessions_forget(read);
     return read != NULL;
+}
+
+static int is_taken(int key, int back, int other_key, int other_back)
+{
+    return is_taken_as("tom", key, back, other_key, other_back);
+}
+
+/* A name is compared as a whole. */
+static void test_names(void)
+{
+    check(!is_taken_as("ann", 1, 0, 2, 0), "two sessions of one name are refused");
+    check(is_taken_as("anna", 1, 0, 2, 0) && is_taken_as("an", 1, 0, 2, 0), "a name that begins another is its own");
 }
 
 /* Keys and keys of the way back, of one session and of the other, in each order. */
@@ -73,6 +92,7 @@ int main(int count, char **words)
     check(count == 2, "files_test FOLDER");
     snprintf(path, sizeof path, "%s/file", words[1]);
     test_modes();
+    test_names();
     test_keys();
     puts("passed");
     return 0;

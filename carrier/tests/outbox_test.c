@@ -1,16 +1,33 @@
 /* Seals texts from an outbox, and opens each of the frames:  outbox_test FOLDER
- * Texts of no bytes up to the longest, the close, confounders, the last number, the next number's
- * compare-and-set, and the bound of texts that wait. The last line is 'passed' or 'FAILED ..'. */
+ * Texts of no bytes up to the longest, the close, confounders, the last number, what was taken back, what is
+ * noted for receipts, what freed blocks have, the next number's compare-and-set, and the bound of texts that
+ * wait. The last line is 'passed' or 'FAILED ..'. */
 #include "check.h"
 #include "clock.h"
+#include "left.h"
 #include "seal.h"
 
 #include <string.h>
 
 enum { LONGEST = 1000000, SAME = 40, TEXTS = 6 };
 
-static uint8_t bytes[LONGEST], frame[KRBRELAY_FRAME_LIMIT];
+static uint8_t bytes[LONGEST], frame[KRBRELAY_FRAME_LIMIT], drawn[4096];
+static size_t drawn_len;
+static const char secret[] = "a text that waits to be sealed";
 static const size_t lens[TEXTS] = { 0, 1, 16, 0, LONGEST, 5 };
+
+/* In the place of the system's: what it gives for confounders is known, and no 16 bytes of it come twice. */
+ssize_t getrandom(void *to, size_t len, unsigned flags)
+{
+    size_t i;
+    (void)flags;
+    check(len <= sizeof drawn - drawn_len, "no more is drawn than the frames need");
+    for (i = drawn_len; i < drawn_len + len; i++)
+        drawn[i] = (uint8_t)(i * 167 + i / 16);
+    memcpy(to, drawn + drawn_len, len);
+    drawn_len += len;
+    return (ssize_t)len;
+}
 
 /* A session whose frames are from 10.0.0.1. */
 static struct session session_of(const char *name, uint32_t mode, uint32_t first)
@@ -34,10 +51,11 @@ static void put(struct outbox *outbox, const char *session, const void *text, si
     sqlite3_finalize(insert);
 }
 
-/* Seals all that waits, each text alone, in one transaction. Answers what the last one did. */
-static enum seal_answer seal_all(struct outbox *outbox, struct sending *sending)
+/* Seals all that waits, so many texts together, in a transaction that it begins. Answers what the last one
+ * did. */
+static enum seal_answer seal_waiting(struct outbox *outbox, struct sending *sending, unsigned together)
 {
-    struct sealing sealing = { .outbox = outbox, .batch = 1, .frame = frame };
+    struct sealing sealing = { .outbox = outbox, .batch = together, .frame = frame };
     struct waiting_text text;
     enum seal_answer answer = SEAL_OK;
     check(outbox_begin(outbox) == OUTBOX_OK, "a transaction begins");
@@ -45,6 +63,13 @@ static enum seal_answer seal_all(struct outbox *outbox, struct sending *sending)
     while (answer == SEAL_OK && outbox_next_text(outbox, &text) == 1)
         answer = seal_text(&sealing, sending, &text);
     outbox_end_texts(outbox);
+    return answer;
+}
+
+/* The same, committed. */
+static enum seal_answer seal_all(struct outbox *outbox, struct sending *sending, unsigned together)
+{
+    enum seal_answer answer = seal_waiting(outbox, sending, together);
     check(outbox_commit(outbox) == 0, "it is committed");
     return answer;
 }
@@ -84,7 +109,7 @@ static void test_texts(struct outbox *outbox)
     for (i = 0; i < TEXTS; i++)
         put(outbox, of.name, bytes, lens[i]);
     put(outbox, of.name, NULL, 0);
-    check(seal_all(outbox, &sending) == SEAL_OK, "all is sealed");
+    check(seal_all(outbox, &sending, 1) == SEAL_OK, "all is sealed");
     check(krbrelay_receiver_new(&receiver, of.etype, of.key, of.key_len, &expect, 1, 0) == KRBRELAY_OK,
           "a receiver is made");
     outbox_select_frames(outbox, of.name, 0, 1000);
@@ -110,8 +135,40 @@ static const uint8_t *cipher_of(const uint8_t *found, size_t len)
     return NULL;
 }
 
-/* The first block that is encrypted is the confounder: of equal texts it differs each time. */
-static void test_confounders(struct outbox *outbox)
+/* When a frame was sealed. */
+static struct krbrelay_moment moment_of(const struct session *of, const uint8_t *found, size_t len)
+{
+    struct krbrelay_expect expect = { .mode = of->mode, .sender = of->from };
+    struct krbrelay_opener opener = KRBRELAY_INIT;
+    struct krbrelay_demand none = { 0 };
+    struct krbrelay_carried told = { 0 };
+    struct krbrelay_moment now = read_clock();
+    size_t size = 0;
+    check(krbrelay_opener_new(&opener, of->etype, of->key, of->key_len, &expect) == KRBRELAY_OK
+          && krbrelay_opener_open(&opener, found, len, &none, &now, frame, sizeof frame, &size, &told)
+          == KRBRELAY_OK, "a frame opens");
+    krbrelay_opener_free(&opener);
+    return (struct krbrelay_moment){ .seconds = told.seconds, .microseconds = told.microseconds };
+}
+
+/* A frame has this confounder: sealed with it once more, it has the same bytes. */
+static void check_confounder(const struct session *of, uint64_t number, const uint8_t *found, size_t len,
+                             const uint8_t *confounder)
+{
+    struct krbrelay_session session = { .mode = of->mode, .first = (uint32_t)number, .sender = of->from };
+    struct krbrelay_sealer sealer = KRBRELAY_INIT;
+    struct krbrelay_moment at = moment_of(of, found, len);
+    size_t size = 0;
+    check(krbrelay_sealer_new(&sealer, of->etype, of->key, of->key_len, &session) == KRBRELAY_OK
+          && krbrelay_sealer_seal_record(&sealer, KRBRELAY_TEXT, bytes, 4, &at, confounder, frame, sizeof frame,
+                                         &size) == KRBRELAY_OK, "it is sealed once more");
+    check(size == len && memcmp(frame, found, len) == 0, "its confounder is the next 16 bytes that were drawn");
+    krbrelay_sealer_free(&sealer);
+}
+
+/* The first block that is encrypted is the confounder: of equal texts it differs each time. So many frames
+ * were sealed before. */
+static void test_confounders(struct outbox *outbox, size_t before)
 {
     static uint8_t first[SAME][16];
     struct session of = session_of("confounders", KRBRELAY_PRIV, 1);
@@ -121,12 +178,13 @@ static void test_confounders(struct outbox *outbox)
     size_t len = 0, i, k;
     for (i = 0; i < SAME; i++)
         put(outbox, of.name, bytes, 4);
-    check(seal_all(outbox, &sending) == SEAL_OK, "equal texts are sealed");
+    check(seal_all(outbox, &sending, 1) == SEAL_OK, "equal texts are sealed");
     outbox_select_frames(outbox, of.name, 0, 1000);
     for (i = 0; i < SAME && outbox_next_frame(outbox, &number, &found, &len) == 1; i++) {
         memcpy(first[i], cipher_of(found, len), 16);
         for (k = 0; k < i; k++)
             check(memcmp(first[i], first[k], 16) != 0, "confounders differ");
+        check_confounder(&of, number, found, len, drawn + 16 * (before + i));
     }
     check(i == SAME, "a frame for each of the equal texts");
     outbox_end_frames(outbox);
@@ -139,16 +197,84 @@ static void test_last_number(struct outbox *outbox)
     struct session of = session_of("last", KRBRELAY_SAFE, UINT32_MAX - 1);
     struct sending sending = sending_of(of);
     put(outbox, of.name, bytes, 1);
-    check(seal_all(outbox, &sending) == SEAL_OK, "the number before the last is a text's");
+    check(seal_all(outbox, &sending, 1) == SEAL_OK, "the number before the last is a text's");
     check(sqlite3_exec(outbox->db, "DELETE FROM text", NULL, NULL, NULL) == SQLITE_OK, "it is taken");
     put(outbox, of.name, bytes, 1);
-    check(seal_all(outbox, &sending) == SEAL_STOP, "no text has the last number");
+    check(seal_all(outbox, &sending, 1) == SEAL_STOP, "no text has the last number");
+    seal_reset(&sending);
+    sending.sealed = UINT32_MAX;
+    put(outbox, of.name, bytes, 1);
+    check(seal_all(outbox, &sending, 2) == SEAL_STOP, "nor has a batch");
     seal_reset(&sending);
     sending.sealed = UINT32_MAX;
     check(sqlite3_exec(outbox->db, "DELETE FROM text", NULL, NULL, NULL) == SQLITE_OK, "it is dropped");
     put(outbox, of.name, NULL, 0);
-    check(seal_all(outbox, &sending) == SEAL_OK && sending.sealed == UINT64_C(1) << 32, "the close has it");
+    check(seal_all(outbox, &sending, 1) == SEAL_OK && sending.sealed == UINT64_C(1) << 32, "the close has it");
     seal_free(&sending);
+}
+
+/* What a transaction took back is sealed again, under the number that it had. */
+static void test_taken_back(struct outbox *outbox)
+{
+    struct session of = session_of("back", KRBRELAY_PRIV, 7);
+    struct sending sending = sending_of(of);
+    struct krbrelay_expect expect = { .mode = of.mode, .sender = of.from, .skew = 100 };
+    struct krbrelay_receiver receiver = KRBRELAY_INIT;
+    const uint8_t *found = NULL;
+    uint64_t number = 0;
+    size_t len = 0;
+    put(outbox, of.name, bytes, 5);
+    check(seal_waiting(outbox, &sending, 1) == SEAL_OK && sending.sealed == 8, "a text is sealed");
+    outbox_rollback(outbox);
+    seal_reset(&sending);
+    check(seal_all(outbox, &sending, 1) == SEAL_OK && sending.sealed == 8, "it is sealed again");
+    check(krbrelay_receiver_new(&receiver, of.etype, of.key, of.key_len, &expect, 7, 0) == KRBRELAY_OK,
+          "a receiver is made");
+    outbox_select_frames(outbox, of.name, 0, 1000);
+    check(outbox_next_frame(outbox, &number, &found, &len) == 1 && number == 7, "its frame has the same number");
+    check_record(&receiver, found, len, KRBRELAY_TEXT, bytes, 5);
+    check(outbox_next_frame(outbox, &number, &found, &len) == 0, "and is the only one");
+    outbox_end_frames(outbox);
+    krbrelay_receiver_free(&receiver);
+    seal_free(&sending);
+}
+
+/* Of a session with receipts each text is noted with its number and its place in the record. */
+static void test_noted(struct outbox *outbox)
+{
+    static const int numbers[] = { 4, 4, 4, 5 }, parts[] = { 0, 1, 2, 0 };
+    struct session of = session_of("noted", KRBRELAY_PRIV, 4);
+    struct sending sending;
+    sqlite3_stmt *select = NULL;
+    int i;
+    of.has_back = 1;
+    sending = sending_of(of);
+    for (i = 0; i < 3; i++)
+        put(outbox, of.name, bytes, 5);
+    put(outbox, of.name, NULL, 0);
+    check(seal_all(outbox, &sending, 3) == SEAL_OK, "a batch and the close are sealed");
+    check(sqlite3_prepare_v2(outbox->db, "SELECT number, part FROM sealed WHERE session = 'noted' ORDER BY text",
+                             -1, &select, NULL) == SQLITE_OK, "what is noted is asked for");
+    for (i = 0; i < 4; i++)
+        check(sqlite3_step(select) == SQLITE_ROW && sqlite3_column_int(select, 0) == numbers[i]
+              && sqlite3_column_int(select, 1) == parts[i], "a text is noted at its number and place");
+    check(sqlite3_step(select) == SQLITE_DONE, "and nothing else is");
+    sqlite3_finalize(select);
+    seal_free(&sending);
+}
+
+/* A sender that ends leaves no text in the blocks that it frees. */
+static void test_nothing_left(struct outbox *outbox)
+{
+    struct session of = session_of("left", KRBRELAY_PRIV, 0);
+    struct sending sending = sending_of(of);
+    check_is_seen(secret);
+    put(outbox, of.name, secret, sizeof secret - 1);
+    check(seal_waiting(outbox, &sending, 2) == SEAL_OK && sending.texts == 1, "a text waits for another one");
+    outbox_rollback(outbox);
+    look_for(secret);
+    seal_free(&sending);
+    check(found_left() == 0, "a sender that ends leaves it nowhere");
 }
 
 static uint64_t next_of(struct outbox *outbox, const struct session *of)
@@ -234,9 +360,15 @@ int main(int count, char **words)
     check(outbox_open(&outbox, path) == 0, "an outbox is opened");
     test_texts(&outbox);
     check(sqlite3_exec(outbox.db, "DELETE FROM text", NULL, NULL, NULL) == SQLITE_OK, "texts are taken");
-    test_confounders(&outbox);
+    test_confounders(&outbox, TEXTS + 1);
     check(sqlite3_exec(outbox.db, "DELETE FROM text", NULL, NULL, NULL) == SQLITE_OK, "texts are taken");
     test_last_number(&outbox);
+    check(sqlite3_exec(outbox.db, "DELETE FROM text", NULL, NULL, NULL) == SQLITE_OK, "texts are taken");
+    test_taken_back(&outbox);
+    check(sqlite3_exec(outbox.db, "DELETE FROM text", NULL, NULL, NULL) == SQLITE_OK, "texts are taken");
+    test_noted(&outbox);
+    check(sqlite3_exec(outbox.db, "DELETE FROM text", NULL, NULL, NULL) == SQLITE_OK, "texts are taken");
+    test_nothing_left(&outbox);
     test_compare(&outbox);
     test_bound(&outbox);
     outbox_close(&outbox);
