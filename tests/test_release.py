@@ -11,7 +11,7 @@ import zipfile
 import pytest
 
 from lib import scripts
-from lib.build import building, ci
+from lib.build import building, ci, over_gate
 from lib.release import statement, verifying
 
 dist = scripts.load("c/dist")
@@ -266,4 +266,14 @@ def test_another_verdict_is_reported(made, monkeypatch):
     monkeypatch.setattr(ci, "verdict_of", lambda crate: ci.Verdict(7, 1))
     assert list(verifying.of_proofs(told)) == []
     monkeypatch.setattr(ci, "verdict_of", lambda crate: ci.Verdict(6, 1) if crate == CRATE else None)
-    assert len(list(verifying.of_proofs(told))) == 1
+    monkeypatch.setattr(ci, "prove_alone", lambda crate: None if crate == "krb_tlv" else ci.Verdict(7, 1))
+    faults = list(verifying.of_proofs(told))
+    assert len(faults) == 2 and faults[0].startswith(f"{CRATE}: ") and faults[1] == "krb_tlv isn't proved"
+
+
+def test_a_crate_is_proved_over_the_kits_and_our_libraries(monkeypatch):
+    monkeypatch.setattr(over_gate, "kit", lambda: "/kit")
+    monkeypatch.setattr(building, "prover", lambda: "/kit/bin/rattle")
+    words = over_gate.words_to_check("krb_keys", 2)
+    assert words[:4] == ["/kit/bin/rattle", "check", "--crate-name", "krb_keys"]
+    assert f"krb_aes={building.library_of('krb_aes')}" in words and "sha1=/kit/rlibs/sha1.rlib" in words

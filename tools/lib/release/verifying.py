@@ -142,8 +142,10 @@ def of_checkout(told):
 def of_proofs(told):
     """What the prover says otherwise than the statement, of the crates that were proved here."""
     for crate, row in told["crates"].items():
-        verdict = ci.verdict_of(crate)
-        if verdict and (verdict.functions, verdict.may_wait) != (row["functions"], row["may_wait"]):
+        verdict = ci.verdict_of(crate) or ci.prove_alone(crate)
+        if verdict is None:
+            yield f"{crate} isn't proved"
+        elif (verdict.functions, verdict.may_wait) != (row["functions"], row["may_wait"]):
             yield f"{crate}: {verdict}, and the statement says {row}"
 
 
