@@ -69,7 +69,7 @@ class Ends:
         self.both = ["--sessions", f"{folder}/sessions", "--carrier", f"sqlite:{folder}/carrier.db"]
         with open(f"{folder}/sessions", "w", encoding="ascii", opener=lambda path, how: os.open(path, how, 0o600)) as file:
             file.write(f"tom {KEY}\n")
-        self.batch = "1"
+        self.batch, self.store = "1", f"sqlite:{folder}/store.db"
         self.sender("--drain").wait()
 
     def start(self, program, *words):
@@ -80,7 +80,7 @@ class Ends:
         return self.start("sender", "--outbox", f"{self.folder}/outbox.db", "--batch", self.batch, *words)
 
     def receiver(self, *words):
-        return self.start("receiver", "--store", f"sqlite:{self.folder}/store.db", "--shards", "0", *words)
+        return self.start("receiver", "--store", self.store, "--shards", "0", *words)
 
     def run(self, name, script, *values):
         with contextlib.closing(sqlite3.connect(f"{self.folder}/{name}.db", timeout=30)) as file, file:
@@ -107,9 +107,9 @@ class Ends:
     def killed_over_and_over(self, *words):
         """Kills both, each time once some frames more have taken effect, until the session is closed."""
         drawn, rounds = random.Random(7), 0
-        while not self.is_closed():
+        while not self.next()[1]:
             started = [self.sender(), self.receiver("--batch", "4", *words)]
-            self.await_frames(self.next() + drawn.randrange(1, 40))
+            self.await_frames(self.next()[0] + drawn.randrange(1, 40))
             for it in started:
                 it.send_signal(signal.SIGKILL)
                 it.wait()
@@ -118,20 +118,21 @@ class Ends:
 
     def await_frames(self, number):
         until = time.monotonic() + TO_WAIT
-        while self.next() < number and not self.is_closed():
+        while self.next()[0] < number and not self.next()[1]:
             assert time.monotonic() < until, self.log()[-2000:]
             time.sleep(0.01)
 
-    def next(self):
-        """The number that the store demands."""
-        with contextlib.suppress(sqlite3.OperationalError):
-            return next(iter(self.run("store", "SELECT next FROM session WHERE name = 'tom'")), (1,))[0]
-        return 1
+    def await_log(self, words):
+        until = time.monotonic() + TO_WAIT
+        while words not in self.log():
+            assert time.monotonic() < until, self.log()[-2000:]
+            time.sleep(0.1)
 
-    def is_closed(self):
+    def next(self):
+        """The number that the store demands, and whether the session is closed."""
         with contextlib.suppress(sqlite3.OperationalError):
-            return self.run("store", "SELECT closed FROM session WHERE name = 'tom'") == [(1,)]
-        return False
+            return next(iter(self.run("store", "SELECT next, closed FROM session WHERE name = 'tom'")), (1, 0))
+        return 1, 0
 
     def command(self, answers=None):
         script, path = f"{self.folder}/command.py", f"{self.folder}/written"

@@ -163,6 +163,7 @@ MORE = [
                                        CARGO, GO), "tools/debian --check"),
     Part("python/test --all", 20, (COMPILER, CRYPTOGRAPHY)),
     Part("kerberos/test", 75, ("rt", COMPILER, MIT, HEIMDAL, REALM)),
+    Part("pytest carrier/tests/test_effects_postgresql.py", 20, (PYTEST, "rt", COMPILER, MAKE, SQLITE, SERVERS)),
     Part("pytest carrier/tests/test_prometheus.py", 10, (PYTEST, "rt", COMPILER, MAKE, SQLITE, SERVERS, PROMETHEUS)),
     Part("carrier/test --all", 60, (PROGRAM, "rt", COMPILER, "clang", MAKE, SQLITE, SERVERS,
                                        MIT, REALM)),
