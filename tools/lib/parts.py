@@ -22,6 +22,7 @@ MAKE = "make"
 SQLITE = "Debian's libsqlite3-dev"
 SERVERS = ("Debian's nats-server, libnats-dev, postgresql, libpq-dev, libmicrohttpd-dev and"
            " libsystemd-dev")
+JAVA = "Debian's libjna-java and default-jdk-headless"
 PROMETHEUS = "Debian's prometheus and systemd"
 REALM = "Debian's krb5-kdc, krb5-admin-server, krb5-kpropd and krb5-user"
 CROSS = "Debian's gdb, gcc-aarch64-linux-gnu, libc6-dev-arm64-cross and qemu-user-static"
@@ -63,6 +64,7 @@ IS_THERE = {
     PACKAGING: lambda: all(map(has, ("dh", "dh_python3", "dpkg-buildpackage", "lintian",
                                      "debootstrap"))) and os.geteuid() == 0,
     PKG_CONFIG: lambda: has("pkg-config"),
+    JAVA: lambda: has("javac") and os.path.exists("/usr/share/java/jna.jar"),
     PROMETHEUS: lambda: has("prometheus") and has("promtool") and has("systemd-analyze"),
     CARGO: lambda: has("cargo") and has("rustc"),
     GO: lambda: has("go"),
@@ -158,6 +160,7 @@ MORE = [
     Part("c/dist --check", 60, ("rt", COMPILER, "clang", MAKE, CROSS)),
     Part("rust/test", 40, ("rt", COMPILER, CRYPTOGRAPHY, MAKE, PKG_CONFIG, CARGO), "c/dist --check"),
     Part("go/test", 20, ("rt", COMPILER, CRYPTOGRAPHY, MAKE, PKG_CONFIG, GO), "c/dist --check"),
+    Part("pytest tests/test_java.py", 10, (PYTEST, "rt", COMPILER, MAKE, JAVA)),
     Part("tools/debian --check", 60, ("rt", COMPILER, MAKE, PACKAGING, SERVERS, MIT)),
     Part("tools/release --check", 90, ("rt", COMPILER, CRYPTOGRAPHY, MAKE, PKG_CONFIG, PACKAGING, SERVERS, MIT, CROSS,
                                        CARGO, GO), "tools/debian --check"),
