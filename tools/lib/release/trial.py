@@ -13,12 +13,13 @@ from lib import report, scripts
 
 RELEASE = "bookworm"
 BESIDES = ("gcc", "libc6-dev", "make", "pkg-config", "python3", "python3-venv", "cargo", "golang-go", "man-db")
-AT, WORK = "/root/release", "/root/work"        # the release's folder in the system, and one to work in
+HERE = "/srv"               # of a new system: nothing is there
+AT, WORK, HOME = f"{HERE}/release", f"{HERE}/work", f"{HERE}/home"     # the release's folder, one to work in, the user's
 ROW = re.compile(r"^\| (?P<what>[^|]+) \| (?P<how>[^|]+) \|", re.M)
 # Where an install leaves what isn't its own: caches and notes of the package tools.
-NOT_KEPT = ("/proc", "/sys", "/dev", "/run", "/tmp", AT, WORK, "/root/.cache", "/root/.cargo", "/root/go", "/var/cache",
-            "/var/log", "/var/lib/apt", "/var/lib/dpkg", "/var/lib/systemd", "/etc/ld.so.cache", "/etc/passwd",
-            "/etc/group", "/etc/shadow", "/etc/gshadow", "/etc/.pwd.lock", "/root/.config")
+NOT_KEPT = ("/proc", "/sys", "/dev", "/run", "/tmp", HERE, "/var/cache", "/var/log",
+            "/var/lib/apt", "/var/lib/dpkg", "/var/lib/systemd", "/etc/ld.so.cache", "/etc/passwd",
+            "/etc/group", "/etc/shadow", "/etc/gshadow", "/etc/.pwd.lock")
 SEALS = """\
 import sqlite3, sys
 with sqlite3.connect("outbox.db") as file:
@@ -134,9 +135,9 @@ class System:
 
     def run(self, command, folder=WORK):
         """Runs a command in a shell. Returns whether it ended well, and its lines."""
-        given = {"PATH": "/usr/local/sbin:/usr/local/bin:/usr/sbin:/usr/bin:/sbin:/bin", "HOME": "/root", "LC_ALL": "C.UTF-8",
+        given = {"PATH": "/usr/local/sbin:/usr/local/bin:/usr/sbin:/usr/bin:/sbin:/bin", "HOME": HOME, "LC_ALL": "C.UTF-8",
                  "DEBIAN_FRONTEND": "noninteractive", "GOFLAGS": "-mod=mod", "GOPROXY": "off"}
-        words = ["chroot", self.root, "sh", "-ec", f"mkdir -p {folder} && cd {folder}\n{command}"]
+        words = ["chroot", self.root, "sh", "-ec", f"mkdir -p {HOME} {folder} && cd {folder}\n{command}"]
         done = subprocess.run(words, env=given, check=False, text=True, errors="replace", stdin=subprocess.DEVNULL,
                               stdout=subprocess.PIPE, stderr=subprocess.STDOUT)
         return done.returncode == 0, done.stdout.splitlines()
