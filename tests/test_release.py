@@ -231,6 +231,27 @@ def test_the_checkout_is_compared(made, monkeypatch):
     assert len(faults) == 3 and faults[0] == f"the checkout: {CRATE}/src/lib.rt has other bytes than is stated"
 
 
+def test_what_comes_out_otherwise_is_told(folder, monkeypatch, tmp_path):
+    """It is made again of new assembly: what was kept of it is removed first."""
+    kept = tmp_path / "dist"
+    kept.mkdir()
+    tool = scripts.load("c/dist")
+    tool.OUT = str(kept)
+    monkeypatch.setattr(verifying.scripts, "load", lambda name: tool)
+    monkeypatch.setattr(verifying.making, "make", lambda place: shutil.copytree(made_of(folder), place))
+    assert list(verifying.made_again(str(folder))) == [] and not kept.exists()
+    flip(str(folder), WHEEL, 30)
+    assert list(verifying.made_again(str(folder))) == [f"{WHEEL} comes out with other bytes"]
+
+
+def made_of(folder):
+    """A copy of a folder's artefacts as they were first."""
+    copy = f"{folder}.made"
+    if not os.path.exists(copy):
+        shutil.copytree(folder, copy, ignore=shutil.ignore_patterns("*.proof.json", statement.SUMS))
+    return copy
+
+
 # ---- what the prover says
 
 SAID = """== krb_base
