@@ -6,12 +6,20 @@
 const char effect_tables_sqlite[] =
     "CREATE TABLE IF NOT EXISTS effect (id INTEGER PRIMARY KEY AUTOINCREMENT,"
     " session TEXT NOT NULL, number INTEGER NOT NULL, part INTEGER NOT NULL, text BLOB NOT NULL,"
-    " client TEXT NOT NULL DEFAULT '', stream TEXT NOT NULL DEFAULT '');";
+    " client TEXT NOT NULL DEFAULT '', stream TEXT NOT NULL DEFAULT '');"
+    "CREATE TABLE IF NOT EXISTS aside (id INTEGER PRIMARY KEY AUTOINCREMENT,"
+    " session TEXT NOT NULL, number INTEGER NOT NULL, part INTEGER NOT NULL, text BLOB NOT NULL,"
+    " client TEXT NOT NULL, stream TEXT NOT NULL, reason TEXT NOT NULL,"
+    " since INTEGER NOT NULL DEFAULT (CAST(strftime('%s') AS INTEGER)));";
 
 const char effect_tables_postgresql[] =
     "CREATE TABLE IF NOT EXISTS effect (id bigserial PRIMARY KEY,"
     " session text NOT NULL, number bigint NOT NULL, part int NOT NULL, text bytea NOT NULL,"
     " client text NOT NULL DEFAULT '', stream text NOT NULL DEFAULT '');"
+    "CREATE TABLE IF NOT EXISTS aside (id bigserial PRIMARY KEY,"
+    " session text NOT NULL, number bigint NOT NULL, part int NOT NULL, text bytea NOT NULL,"
+    " client text NOT NULL, stream text NOT NULL, reason text NOT NULL,"
+    " since bigint NOT NULL DEFAULT extract(epoch FROM now()));"
     "DO $$ BEGIN IF NOT EXISTS (SELECT FROM pg_attribute WHERE attrelid = 'effect'::regclass"
     " AND attname = 'stream') THEN"
     " ALTER TABLE effect ADD COLUMN IF NOT EXISTS client text NOT NULL DEFAULT '',"

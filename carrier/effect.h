@@ -1,4 +1,5 @@
-/* The place where an application puts its own effect. */
+/* The effect of a text. An application's own is a shared object with this function (`--effect object:FILE`), which
+ * calls store_run of store.h. Here it is declared for both, and effect.c has the one that makes a row. */
 #ifndef EFFECT_H
 #define EFFECT_H
 

@@ -29,6 +29,7 @@ struct postgresql_store {
     unsigned char *expected;      /* of each answer that wasn't read, an enum expected */
     size_t asked, room;
     size_t unsynced;              /* bytes that were asked since the last sync */
+    char refusal[STORE_REFUSAL];  /* why values were refused; "" if they weren't */
     int is_open;                  /* a transaction is open */
 };
 
@@ -75,6 +76,21 @@ static int ask(struct postgresql_store *s, const char *name, int count, const ch
     return s->unsynced > SYNCED ? sync(s) : 0;
 }
 
+/* Keeps why values were refused, if that is what failed: data (class 22), integrity (23), a check option (44), or
+ * what a function raises. It may have parts of a text, so it isn't logged. */
+static int is_refusal(struct postgresql_store *s, const PGresult *result)
+{
+    const char *state = PQresultErrorField(result, PG_DIAG_SQLSTATE);
+    const char *why = PQresultErrorField(result, PG_DIAG_MESSAGE_PRIMARY);
+    int is_of_values = state != NULL && (strncmp(state, "22", 2) == 0 || strncmp(state, "23", 2) == 0
+                                         || strncmp(state, "44", 2) == 0 || strcmp(state, "P0001") == 0);
+    if (!is_of_values)
+        return 0;
+    write_cut(s->refusal, sizeof s->refusal, "%s", why != NULL ? why : state);
+    log_fact(LEVEL_WARNING, "values_refused", field_text("state", state));
+    return 1;
+}
+
 /* The first answer that isn't as it has to be decides: 0, 1 if no row was moved, -1 after a
  * fault. */
 static int judge(struct postgresql_store *s, const PGresult *result, enum expected expected)
@@ -83,7 +99,7 @@ static int judge(struct postgresql_store *s, const PGresult *result, enum expect
     if (status == PGRES_PIPELINE_ABORTED)
         return -1;
     if (status != PGRES_COMMAND_OK && status != PGRES_TUPLES_OK)
-        return report(s, "statement");
+        return is_refusal(s, result) ? -1 : report(s, "statement");
     if (expected == COMMITTED && strcmp(PQcmdStatus((PGresult *)result), "COMMIT") != 0)
         return -1;
     return expected == ONE_ROW && strcmp(PQcmdTuples((PGresult *)result), "1") != 0;
@@ -281,10 +297,17 @@ static int run_effect(struct store *base, const char *sql, const struct value *v
     struct postgresql_store *s = (struct postgresql_store *)base;
     struct given g;
     char name[32];
+    s->refusal[0] = 0;
     if (count > STORE_VALUES || prepared(s, sql, name) == NULL)
         return -1;
     give(&g, values, count);
     return ask(s, name, (int)count, g.texts, g.lengths, g.formats, ANY_ROWS);
+}
+
+static const char *refusal(struct store *base)
+{
+    const char *why = ((struct postgresql_store *)base)->refusal;
+    return why[0] != 0 ? why : NULL;
 }
 
 static int settle(struct store *base)
@@ -556,6 +579,7 @@ struct store *postgresql_store_open(const char *where)
     s->base.rollback = rollback;
     s->base.close = close_it;
     s->base.run = run_effect;
+    s->base.refusal = refusal;
     s->base.settle = settle;
     s->base.ask = ask_rows;
     s->db = postgresql_connect(where);

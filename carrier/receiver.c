@@ -4,6 +4,7 @@
  * A thread for each shard does what shard.h says. If the store is away for a moment it is opened
  * again until it is there. It may be killed at any time: start it again. */
 #include "clock.h"
+#include "effects.h"
 #include "ending.h"
 #include "log.h"
 #include "service.h"
@@ -34,6 +35,7 @@ static const char usage[] =
     "  --skew SECONDS   by so much a frame's time may be off (86400): more than the time for\n"
     "                   which the carrier keeps frames, or their session stands still\n"
     "  --metrics ADDRESS:PORT  answers GET /metrics (Prometheus's text) and GET /healthz\n"
+    EFFECTS_USAGE
     "  --until-closed   ends once all sessions are closed\n"
     KERBEROS_USAGE
     "  --allow FILE     the clients that may begin sessions: a principal each line\n"
@@ -43,7 +45,8 @@ static const char usage[] =
 
 struct options {
     struct shard_options shard;
-    const char *sessions, *metrics;
+    const char *sessions, *metrics, *effect;
+    unsigned refusals;    /* after so many a text is put aside; 0: never */
     unsigned char is_served[CARRIER_SHARDS];
     unsigned shard_count; /* 0: it shares those of the sessions with other receivers */
     int has_shards;
@@ -215,7 +218,8 @@ static void watch(void)
 /* 0, or 1 after a fault at the start. */
 static int work(void)
 {
-    int is_fine = serving_begin(&options.shard, sessions, options.shard_count == 0) == 0
+    int is_fine = effects_choose(options.effect, options.refusals) == 0
+                  && serving_begin(&options.shard, sessions, options.shard_count == 0) == 0
                   && (options.metrics == NULL || service_listen(options.metrics) == 0);
     if (is_fine && options.shard_count == 0)
         is_fine = (sharing = sharing_open(options.shard.store)) != NULL;
@@ -240,6 +244,7 @@ static const struct option words_of_options[] = {
     { "shards", required_argument, NULL, 'n' },   { "batch", required_argument, NULL, 'b' },
     { "skew", required_argument, NULL, 'k' },     { "metrics", required_argument, NULL, 'm' },
     { "until-closed", no_argument, NULL, 'u' },
+    { "effect", required_argument, NULL, 'e' },   { "put-aside", required_argument, NULL, 'a' },
     { "help", no_argument, NULL, 'h' },           { "version", no_argument, NULL, 'v' },
     { NULL, 0, NULL, 0 }
 };
@@ -265,6 +270,8 @@ static int read_option(struct options *o, int letter)
     case 'k': o->shard.skew = option_number("receiver", "skew", optarg, 0, UINT32_MAX); break;
     case 'm': o->metrics = optarg; break;
     case 'u': o->shard.until_closed = 1; break;
+    case 'e': o->effect = optarg; break;
+    case 'a': o->refusals = option_number("receiver", "put-aside", optarg, 0, UINT32_MAX); break;
     case 'h': end_with(0, "%s", usage);
     case 'v': end_with_version("receiver");
     default:

@@ -1,6 +1,6 @@
 #include "shard.h"
 #include "clock.h"
-#include "effect.h"
+#include "effects.h"
 #include "kept.h"
 #include "log.h"
 
@@ -173,10 +173,10 @@ static int take_effects(struct shard *s, const struct receiving *of, uint64_t nu
     size_t at = 0;
     int answer = 0;
     if (kind == KRBRELAY_TEXT)
-        answer = take_effect(s->store, &it);
+        answer = effects_take(s->store, &it);
     while (kind == KRBRELAY_BATCH && answer == 0
            && krbrelay_batch_next(s->bytes, size, &at, &it.text, &it.len) == KRBRELAY_OK) {
-        answer = take_effect(s->store, &it);
+        answer = effects_take(s->store, &it);
         it.part++;
     }
     s->counts.texts += kind == KRBRELAY_TEXT ? 1 : it.part;

@@ -3,6 +3,7 @@
 #include "effect.h"
 #include "log.h"
 #include "store.h"
+#include "text.h"
 
 #include <stdio.h>
 #include <stdlib.h>
@@ -20,6 +21,7 @@ struct sqlite_store {
     struct statement statements[STATEMENTS];
     const char *effects[EFFECTS]; /* those statements, and what they are prepared as */
     struct statement prepared[EFFECTS];
+    char refusal[STORE_REFUSAL];  /* why values were refused; "" if they weren't */
     int is_fenced;                /* something that this transaction moves stood elsewhere */
 };
 
@@ -280,8 +282,19 @@ static struct statement *bound(struct store *base, const char *sql, const struct
 static int run_effect(struct store *base, const char *sql, const struct value *values,
                       unsigned count)
 {
+    struct sqlite_store *s = (struct sqlite_store *)base;
     struct statement *statement = bound(base, sql, values, count);
-    return statement != NULL ? step_once(statement) : -1;
+    int answer = statement != NULL ? step_once(statement) : -1, why = sqlite3_errcode(s->db);
+    s->refusal[0] = 0;
+    if (answer != 0 && (why == SQLITE_CONSTRAINT || why == SQLITE_MISMATCH || why == SQLITE_TOOBIG))
+        write_cut(s->refusal, sizeof s->refusal, "%s", sqlite3_errmsg(s->db));
+    return answer;
+}
+
+static const char *refusal(struct store *base)
+{
+    const char *why = ((struct sqlite_store *)base)->refusal;
+    return why[0] != 0 ? why : NULL;
 }
 
 /* What isn't within a transaction has taken effect when it was run. */
@@ -384,6 +397,7 @@ struct store *sqlite_store_open(const char *path, unsigned shard)
     s->base.rollback = rollback;
     s->base.close = close_it;
     s->base.run = run_effect;
+    s->base.refusal = refusal;
     s->base.settle = settle;
     s->base.ask = ask;
     if (open_it(s, path, shard) == 0)

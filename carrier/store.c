@@ -96,6 +96,11 @@ int store_run(struct store *store, const char *sql, const struct value *values, 
     return store->run(store, sql, values, count);
 }
 
+const char *store_refusal(struct store *store)
+{
+    return store->refusal(store);
+}
+
 int store_settle(struct store *store)
 {
     return store->settle(store);

@@ -101,6 +101,11 @@ enum { STORE_VALUES = 11 }; /* the most of one statement */
 
 int store_run(struct store *store, const char *sql, const struct value *values, unsigned count);
 
+/* Why the values of the statement that failed last were refused: a constraint that they violate, what a trigger
+ * raises, or a value that a column can't have. NULL if that isn't why it failed. */
+const char *store_refusal(struct store *store);
+enum { STORE_REFUSAL = 256 };
+
 /* ---- The same outside of a transaction. */
 
 /* Waits until what store_run asked has taken effect. 0, or -1 after a fault. */
@@ -128,6 +133,7 @@ struct store {
     void (*rollback)(struct store *);
     void (*close)(struct store *);
     int (*run)(struct store *, const char *, const struct value *, unsigned);
+    const char *(*refusal)(struct store *);
     int (*settle)(struct store *);
     int (*ask)(struct store *, const char *, const struct value *, unsigned, store_row *, void *);
 };

@@ -11,7 +11,7 @@ import zipfile
 import pytest
 
 from lib import scripts
-from lib.build import building, ci
+from lib.build import building, ci, over_gate
 from lib.release import statement, verifying
 
 dist = scripts.load("c/dist")
@@ -231,6 +231,27 @@ def test_the_checkout_is_compared(made, monkeypatch):
     assert len(faults) == 3 and faults[0] == f"the checkout: {CRATE}/src/lib.rt has other bytes than is stated"
 
 
+def test_what_comes_out_otherwise_is_told(folder, monkeypatch, tmp_path):
+    """It is made again of new assembly: what was kept of it is removed first."""
+    kept = tmp_path / "dist"
+    kept.mkdir()
+    tool = scripts.load("c/dist")
+    tool.OUT = str(kept)
+    monkeypatch.setattr(verifying.scripts, "load", lambda name: tool)
+    monkeypatch.setattr(verifying.making, "make", lambda place: shutil.copytree(made_of(folder), place))
+    assert list(verifying.made_again(str(folder))) == [] and not kept.exists()
+    flip(str(folder), WHEEL, 30)
+    assert list(verifying.made_again(str(folder))) == [f"{WHEEL} comes out with other bytes"]
+
+
+def made_of(folder):
+    """A copy of a folder's artefacts as they were first."""
+    copy = f"{folder}.made"
+    if not os.path.exists(copy):
+        shutil.copytree(folder, copy, ignore=shutil.ignore_patterns("*.proof.json", statement.SUMS))
+    return copy
+
+
 # ---- what the prover says
 
 SAID = """== krb_base
@@ -266,4 +287,14 @@ def test_another_verdict_is_reported(made, monkeypatch):
     monkeypatch.setattr(ci, "verdict_of", lambda crate: ci.Verdict(7, 1))
     assert list(verifying.of_proofs(told)) == []
     monkeypatch.setattr(ci, "verdict_of", lambda crate: ci.Verdict(6, 1) if crate == CRATE else None)
-    assert len(list(verifying.of_proofs(told))) == 1
+    monkeypatch.setattr(ci, "prove_alone", lambda crate: None if crate == "krb_tlv" else ci.Verdict(7, 1))
+    faults = list(verifying.of_proofs(told))
+    assert len(faults) == 2 and faults[0].startswith(f"{CRATE}: ") and faults[1] == "krb_tlv isn't proved"
+
+
+def test_a_crate_is_proved_over_the_kits_and_our_libraries(monkeypatch):
+    monkeypatch.setattr(over_gate, "kit", lambda: "/kit")
+    monkeypatch.setattr(building, "prover", lambda: "/kit/bin/rattle")
+    words = over_gate.words_to_check("krb_keys", 2)
+    assert words[:4] == ["/kit/bin/rattle", "check", "--crate-name", "krb_keys"]
+    assert f"krb_aes={building.library_of('krb_aes')}" in words and "sha1=/kit/rlibs/sha1.rlib" in words

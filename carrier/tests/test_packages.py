@@ -10,7 +10,7 @@ import units
 HERE = os.path.dirname(os.path.abspath(__file__))
 SOURCES = os.path.dirname(HERE)
 OPTION = re.compile(r"--[a-z][a-z-]+")
-OF_BOTH = {"sender": ("carrier.h", "kerberos.h"), "receiver": ("carrier.h", "kerberos.h")}
+OF_BOTH = {"sender": ("carrier.h", "kerberos.h"), "receiver": ("carrier.h", "kerberos.h", "effects.h")}
 METRIC = re.compile(r"\bkrbrelay_(?:sender|receiver)_\w+")
 
 

@@ -22,6 +22,7 @@ MAKE = "make"
 SQLITE = "Debian's libsqlite3-dev"
 SERVERS = ("Debian's nats-server, libnats-dev, postgresql, libpq-dev, libmicrohttpd-dev and"
            " libsystemd-dev")
+JAVA = "Debian's libjna-java and default-jdk-headless"
 PROMETHEUS = "Debian's prometheus and systemd"
 REALM = "Debian's krb5-kdc, krb5-admin-server, krb5-kpropd and krb5-user"
 CROSS = "Debian's gdb, gcc-aarch64-linux-gnu, libc6-dev-arm64-cross and qemu-user-static"
@@ -63,6 +64,7 @@ IS_THERE = {
     PACKAGING: lambda: all(map(has, ("dh", "dh_python3", "dpkg-buildpackage", "lintian",
                                      "debootstrap"))) and os.geteuid() == 0,
     PKG_CONFIG: lambda: has("pkg-config"),
+    JAVA: lambda: has("javac") and os.path.exists("/usr/share/java/jna.jar"),
     PROMETHEUS: lambda: has("prometheus") and has("promtool") and has("systemd-analyze"),
     CARGO: lambda: has("cargo") and has("rustc"),
     GO: lambda: has("go"),
@@ -123,6 +125,7 @@ PARTS = [
     Part("tools/tables --check", 1, over=()),
     Part("pytest carrier/tests/test_statements.py", 1, (PYTEST,), over=()),
     Part("pytest carrier/tests/test_packages.py", 1, (PYTEST,), over=()),
+    Part("pytest carrier/tests/test_effects.py", 10, (PYTEST, "rt", COMPILER, MAKE, SQLITE), LIBRARY.command, over=()),
     Part("tests/job_check", 1, (CRYPTOGRAPHY,), over=()),
     Part("tests/vector_tables.py --check", 1, over=()),
     Part("tools/test_building", 5, (COMPILER, CRYPTOGRAPHY), over=()),
@@ -157,11 +160,13 @@ MORE = [
     Part("c/dist --check", 60, ("rt", COMPILER, "clang", MAKE, CROSS)),
     Part("rust/test", 40, ("rt", COMPILER, CRYPTOGRAPHY, MAKE, PKG_CONFIG, CARGO), "c/dist --check"),
     Part("go/test", 20, ("rt", COMPILER, CRYPTOGRAPHY, MAKE, PKG_CONFIG, GO), "c/dist --check"),
+    Part("pytest tests/test_java.py", 10, (PYTEST, "rt", COMPILER, MAKE, JAVA)),
     Part("tools/debian --check", 60, ("rt", COMPILER, MAKE, PACKAGING, SERVERS, MIT)),
     Part("tools/release --check", 90, ("rt", COMPILER, CRYPTOGRAPHY, MAKE, PKG_CONFIG, PACKAGING, SERVERS, MIT, CROSS,
                                        CARGO, GO), "tools/debian --check"),
     Part("python/test --all", 20, (COMPILER, CRYPTOGRAPHY)),
     Part("kerberos/test", 75, ("rt", COMPILER, MIT, HEIMDAL, REALM)),
+    Part("pytest carrier/tests/test_effects_postgresql.py", 20, (PYTEST, "rt", COMPILER, MAKE, SQLITE, SERVERS)),
     Part("pytest carrier/tests/test_prometheus.py", 10, (PYTEST, "rt", COMPILER, MAKE, SQLITE, SERVERS, PROMETHEUS)),
     Part("carrier/test --all", 60, (PROGRAM, "rt", COMPILER, "clang", MAKE, SQLITE, SERVERS,
                                        MIT, REALM)),

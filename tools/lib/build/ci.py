@@ -10,7 +10,7 @@ import os
 import re
 import subprocess
 
-from lib.build import building
+from lib.build import building, over_gate
 
 PROVED = re.compile(r"rt: (\w+) (proved$|is kept: )")
 BUILT = re.compile(r"rt: (\w+(?:: its tests are)?) (?:proved$|is kept: )")
@@ -88,6 +88,21 @@ def note_run(lines, passed, built_from):
                             (f"{crate}: its tests are", building.tests_of(crate))):
             if (passed or what in told) and os.path.exists(built):
                 building.note(built, of_sources)
+
+
+def prove_alone(crate):
+    """Proves a crate over the libraries that are built, and notes the verdict, which is returned; None if it isn't
+    proved. So a verdict is had of a crate whose proof `rt ci` keeps from a run elsewhere."""
+    built_from = building.digest_of(crate)
+    done = subprocess.run(over_gate.words_to_check(crate, over_gate.MOST_JOBS), cwd=building.folder_of(crate),
+                          check=False, stdin=subprocess.DEVNULL, stdout=subprocess.PIPE, stderr=subprocess.STDOUT,
+                          text=True, errors="replace")
+    said = [found for found in map(VERDICT.match, done.stdout.splitlines()) if found]
+    if done.returncode or len(said) != 1:
+        return None
+    verdict = Verdict(int(said[0][1]), int(said[0][2] or 0))
+    note_verdict(crate, built_from, verdict)
+    return verdict
 
 
 def run(log, *words):

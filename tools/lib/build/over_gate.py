@@ -61,6 +61,17 @@ def words_over(name, source, crates, jobs):
     return words
 
 
+def words_to_check(crate, jobs):
+    """The words that prove a crate alone, over the libraries that are built, with those of the kit that it names."""
+    source = "src/main.rt" if building.has_program(crate) else "src/lib.rt"
+    deps = building.table()[crate][1]
+    words = words_over(crate, source, building.below()[crate], jobs)
+    for it in deps:
+        if it not in building.table():
+            words += ["--extern", f"{it}={kit()}/rlibs/{it}.rlib"]
+    return [words[0], "check", *words[2:]]
+
+
 def words_for(crate, jobs, toolchain, output):
     """The words for a static library, with those of a compiler: the folder of its tools, and what
     it is to write."""

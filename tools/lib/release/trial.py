@@ -13,16 +13,17 @@ from lib import report, scripts
 
 RELEASE = "bookworm"
 BESIDES = ("gcc", "libc6-dev", "make", "pkg-config", "python3", "python3-venv", "cargo", "golang-go", "man-db")
-AT, WORK = "/root/release", "/root/work"        # the release's folder in the system, and one to work in
+HERE = "/srv"               # of a new system: nothing is there
+AT, WORK, HOME = f"{HERE}/release", f"{HERE}/work", f"{HERE}/home"     # the release's folder, one to work in, the user's
 ROW = re.compile(r"^\| (?P<what>[^|]+) \| (?P<how>[^|]+) \|", re.M)
 # Where an install leaves what isn't its own: caches and notes of the package tools.
-NOT_KEPT = ("/proc", "/sys", "/dev", "/run", "/tmp", AT, WORK, "/root/.cache", "/root/.cargo", "/root/go", "/var/cache",
-            "/var/log", "/var/lib/apt", "/var/lib/dpkg", "/var/lib/systemd", "/etc/ld.so.cache", "/etc/passwd",
-            "/etc/group", "/etc/shadow", "/etc/gshadow", "/etc/.pwd.lock", "/root/.config")
+NOT_KEPT = ("/proc", "/sys", "/dev", "/run", "/tmp", HERE, "/var/cache", "/var/log",
+            "/var/lib/apt", "/var/lib/dpkg", "/var/lib/systemd", "/etc/ld.so.cache", "/etc/passwd",
+            "/etc/group", "/etc/shadow", "/etc/gshadow", "/etc/.pwd.lock")
 SEALS = """\
 import sqlite3, sys
 with sqlite3.connect("outbox.db") as file:
-    file.executemany("INSERT INTO text (session, body) VALUES ('tom', ?)", [(b"one",), (b"two",), (None,)])
+    file.executemany("INSERT INTO text (session, body) VALUES (?, ?)", [("tom", it) for it in (b"one", b"two", None)])
 """
 SHOWS = """\
 import sqlite3
@@ -32,12 +33,14 @@ CARRIES = f"""\
 umask 077
 echo "tom 0 18 priv $(head -c 32 /dev/urandom | od -An -vtx1 | tr -d ' \\n') 1 10.0.0.2 10.0.0.255" > sessions
 sender="krbrelay-sender --sessions sessions --outbox outbox.db --carrier sqlite:carrier.db --drain"
-$sender 2> log && python3 -c '{SEALS}' && $sender 2>> log
-krbrelay-receiver --sessions sessions --store sqlite:store.db --carrier sqlite:carrier.db --shards 0 --until-closed 2>> log
-krbrelay-status --outbox outbox.db --store sqlite:store.db | head -n 1
+$sender 2> log
+python3 -c '{SEALS}'
+$sender 2>> log
+timeout 60 krbrelay-receiver --sessions sessions --store sqlite:store.db --carrier sqlite:carrier.db --shards 0 --until-closed 2>> log
+krbrelay-status --outbox outbox.db --store sqlite:store.db | sed -n 2p
 python3 -c '{SHOWS}'
 """
-CARRIED = [r"tom 0 4 4 4 0 0 4 closed.*", "one two"]
+CARRIED = [r"tom +0 +4 +4 +4 +0 +0 +4 +closed.*", "one two"]
 C_EXAMPLE = "cc {}/examples/two_ends.c $(pkg-config --cflags --libs krbrelay) -o two_ends && LD_LIBRARY_PATH=/usr/local/lib ./two_ends"
 OPENED = ["message 7: hello", "open: 42: the sequence number isn't the expected one"]
 RELAYED = "krbrelay relay < {} | tail -n 1"
@@ -88,7 +91,7 @@ def rows(version):
         Row("the program `krbrelay`", RELAYED.format("/usr/share/doc/krbrelay/examples/batches.toml"), CLOSED, purge("krbrelay")),
         Row("the program, elsewhere", RELAYED.format(f"{tree}/program/jobs/batches.toml"), CLOSED,
             f"make -s -C {tree}/program uninstall PREFIX=/usr/local && rm -r {tree}", unpack),
-        Row("Python", f"{unpack} && {WORK}/env/bin/python3 {tree}/python/examples/two_ends.py", OPENED[:1],
+        Row("Python", f"{unpack} && {WORK}/env/bin/python3 {tree}/python/examples/two_ends.py", ["message 7: hello", "open: 42 BADORDER"],
             f"{WORK}/env/bin/pip uninstall -qy krbrelay && rm -r {WORK}/env {tree}",
             f"python3 -m venv {WORK}/env"),
         Row("Rust", f"cp {tree}/examples/two_ends.rs src/main.rs && cargo run -q --offline", OPENED, f"rm -r {tree}",
@@ -132,9 +135,9 @@ class System:
 
     def run(self, command, folder=WORK):
         """Runs a command in a shell. Returns whether it ended well, and its lines."""
-        given = {"PATH": "/usr/local/sbin:/usr/local/bin:/usr/sbin:/usr/bin:/sbin:/bin", "HOME": "/root", "LC_ALL": "C.UTF-8",
+        given = {"PATH": "/usr/local/sbin:/usr/local/bin:/usr/sbin:/usr/bin:/sbin:/bin", "HOME": HOME, "LC_ALL": "C.UTF-8",
                  "DEBIAN_FRONTEND": "noninteractive", "GOFLAGS": "-mod=mod", "GOPROXY": "off"}
-        words = ["chroot", self.root, "sh", "-ec", f"mkdir -p {folder} && cd {folder}\n{command}"]
+        words = ["chroot", self.root, "sh", "-ec", f"mkdir -p {HOME} {folder} && cd {folder}\n{command}"]
         done = subprocess.run(words, env=given, check=False, text=True, errors="replace", stdin=subprocess.DEVNULL,
                               stdout=subprocess.PIPE, stderr=subprocess.STDOUT)
         return done.returncode == 0, done.stdout.splitlines()

@@ -1,0 +1,221 @@
+/* An effect that is a command, which runs as long as its shard is served. A text is a line for it:
+ *     {"session":"tom","client":"","stream":"","number":7,"part":0,"text":"6869"}
+ * with the text's bytes as hexadecimal digits, and it answers a line before it is given another one: `ok`,
+ * `refuse REASON`, or `again`. If it ends, answers something else or nothing for a minute, it is started again
+ * with the same text. So a text may come twice, under the same session, number and part. */
+#include "effects.h"
+#include "ending.h"
+#include "log.h"
+
+#include <errno.h>
+#include <poll.h>
+#include <pthread.h>
+#include <signal.h>
+#include <spawn.h>
+#include <stdio.h>
+#include <stdlib.h>
+#include <string.h>
+#include <sys/socket.h>
+#include <sys/wait.h>
+#include <unistd.h>
+
+enum { ANSWER = 512, WAIT = 100, MOST_WAITS = 600 }; /* bytes; milliseconds; a minute */
+
+struct child { pid_t pid; int socket; };
+
+static const char *command;
+static pthread_key_t of_thread;
+extern char **environ;
+
+static void end_child(void *given)
+{
+    struct child *child = given;
+    if (child->pid > 0) {
+        close(child->socket); /* its input ends */
+        kill(child->pid, SIGTERM);
+        waitpid(child->pid, NULL, 0);
+    }
+    free(child);
+}
+
+int command_choose(const char *words)
+{
+    command = words;
+    if (*words == 0) {
+        log_fact(LEVEL_ERROR, "effect_refused", field_text("text", "there is no command"));
+        return -1;
+    }
+    return pthread_key_create(&of_thread, end_child) == 0 ? 0 : -1;
+}
+
+/* ---- The command */
+
+static int spawn(struct child *child, int socket)
+{
+    char *const words[] = { "sh", "-c", (char *)command, NULL };
+    posix_spawn_file_actions_t actions;
+    posix_spawnattr_t attributes;
+    sigset_t none;
+    int answer;
+    sigemptyset(&none);
+    if (posix_spawn_file_actions_init(&actions) != 0)
+        return -1;
+    if (posix_spawnattr_init(&attributes) != 0) {
+        posix_spawn_file_actions_destroy(&actions);
+        return -1;
+    }
+    answer = posix_spawn_file_actions_adddup2(&actions, socket, 0) || posix_spawn_file_actions_adddup2(&actions, socket, 1)
+             || posix_spawnattr_setsigmask(&attributes, &none)
+             || posix_spawnattr_setflags(&attributes, POSIX_SPAWN_SETSIGMASK)
+             || posix_spawn(&child->pid, "/bin/sh", &actions, &attributes, words, environ);
+    posix_spawnattr_destroy(&attributes);
+    posix_spawn_file_actions_destroy(&actions);
+    return answer ? -1 : 0;
+}
+
+static int start(struct child *child)
+{
+    int pair[2];
+    if (socketpair(AF_UNIX, SOCK_STREAM | SOCK_CLOEXEC, 0, pair) != 0)
+        return -1;
+    child->socket = pair[0];
+    if (spawn(child, pair[1]) != 0) {
+        child->pid = 0;
+        close(pair[0]);
+    }
+    close(pair[1]);
+    return child->pid > 0 ? 0 : -1;
+}
+
+/* This thread's command, which is started if it doesn't run; NULL if it can't be. */
+static struct child *running(void)
+{
+    struct child *child = pthread_getspecific(of_thread);
+    if (child == NULL) {
+        child = calloc(1, sizeof *child);
+        if (child == NULL || pthread_setspecific(of_thread, child) != 0) {
+            free(child);
+            return NULL;
+        }
+    }
+    return child->pid > 0 || start(child) == 0 ? child : NULL;
+}
+
+static int fail(struct child *child, const char *why)
+{
+    log_fact(LEVEL_ERROR, "command_failed", field_text("text", why));
+    pthread_setspecific(of_thread, NULL);
+    end_child(child);
+    return -1;
+}
+
+/* ---- A line for it */
+
+static void add_name(FILE *to, const char *name, const char *text)
+{
+    fprintf(to, "\"%s\":\"", name);
+    for (; *text != 0; text++) {
+        if (*text == '"' || *text == '\\')
+            fprintf(to, "\\%c", *text);
+        else if ((unsigned char)*text < ' ')
+            fprintf(to, "\\u%04x", (unsigned)(unsigned char)*text);
+        else
+            putc(*text, to);
+    }
+    fputs("\",", to);
+}
+
+/* The line, which the caller frees; NULL if there is no memory. */
+static char *line_of(const struct arrived *it, size_t *len)
+{
+    static const char digits[] = "0123456789abcdef";
+    char *line = NULL;
+    FILE *to = open_memstream(&line, len);
+    size_t i;
+    if (to == NULL)
+        return NULL;
+    putc('{', to);
+    add_name(to, "session", it->session);
+    add_name(to, "client", it->client);
+    add_name(to, "stream", it->stream);
+    fprintf(to, "\"number\":%llu,\"part\":%u,\"text\":\"", (unsigned long long)it->number, it->part);
+    for (i = 0; i < it->len; i++) {
+        putc(digits[it->text[i] >> 4], to);
+        putc(digits[it->text[i] & 15], to);
+    }
+    fputs("\"}\n", to);
+    if (fclose(to) == 0)
+        return line;
+    free(line);
+    return NULL;
+}
+
+/* ---- Passing lines */
+
+/* Waits until the socket is ready: 0, or -1 if it isn't within a minute, or the receiver is to end. */
+static int await(int socket, short what)
+{
+    struct pollfd it = { socket, what, 0 };
+    int waits;
+    for (waits = 0; waits < MOST_WAITS && !is_ending(); waits++)
+        if (poll(&it, 1, WAIT) > 0)
+            return 0;
+    return -1;
+}
+
+static int send_all(int socket, const char *line, size_t len)
+{
+    size_t sent = 0;
+    while (sent < len) {
+        ssize_t more = await(socket, POLLOUT) == 0
+                           ? send(socket, line + sent, len - sent, MSG_NOSIGNAL | MSG_DONTWAIT) : -1;
+        if (more < 0 && errno != EAGAIN && errno != EINTR)
+            return -1;
+        if (more < 0 && is_ending())
+            return -1;
+        sent += more > 0 ? (size_t)more : 0;
+    }
+    return 0;
+}
+
+/* Reads the answer without its line feed: 0, or -1. */
+static int read_answer(int socket, char answer[ANSWER])
+{
+    size_t len = 0;
+    while (len < ANSWER) {
+        ssize_t more = await(socket, POLLIN) == 0 ? read(socket, answer + len, 1) : -1;
+        if (more <= 0)
+            return -1;
+        if (answer[len] == '\n') {
+            answer[len] = 0;
+            return 0;
+        }
+        len++;
+    }
+    return -1;
+}
+
+int command_take(struct store *store, const struct arrived *it, char *reason)
+{
+    struct child *child = running();
+    char answer[ANSWER], *line;
+    size_t len = 0;
+    int is_passed;
+    (void)store;
+    if (child == NULL)
+        return -1;
+    line = line_of(it, &len);
+    is_passed = line != NULL && send_all(child->socket, line, len) == 0;
+    if (line != NULL)
+        explicit_bzero(line, len);
+    free(line);
+    if (!is_passed || read_answer(child->socket, answer) != 0)
+        return fail(child, "it has ended, or answers nothing: it is started again");
+    if (strcmp(answer, "ok") == 0)
+        return 0;
+    if (strncmp(answer, "refuse", 6) == 0 && (answer[6] == ' ' || answer[6] == 0)) {
+        snprintf(reason, EFFECT_REASON, "%.*s", EFFECT_REASON - 1, answer[6] == ' ' ? answer + 7 : "");
+        return EFFECT_REFUSED;
+    }
+    return strcmp(answer, "again") == 0 ? -1 : fail(child, "it answers neither ok, refuse nor again");
+}

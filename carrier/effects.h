@@ -1,0 +1,43 @@
+/* Which effect a text has: the one that --effect names, or, without it, a row of `effect` (effect.c).
+ *
+ *   sql:STATEMENT   one statement of the store, in which :session, :client, :stream, :number, :part and :text
+ *                   stand for the text's own (effect_statement.c)
+ *   object:FILE     `take_effect` of a shared object, which has the form that effect.h declares
+ *   command:WORDS   a command for the shell, which answers each text (effect_command.c)
+ *
+ * A text that an effect refuses is tried again, with all of its transaction, since what refuses it now may take
+ * it later. With --put-aside N it becomes a row of the table `aside` once it was refused N times, with the
+ * reason, and its session goes on. Only what the text itself is the cause of counts as a refusal: a constraint
+ * that it violates, or an exception that a trigger raises (store_refusal), and what a command says. A store that
+ * is away, a table that isn't there, a command that ends: those are faults, and never put a text aside. */
+#ifndef EFFECTS_H
+#define EFFECTS_H
+
+#include "effect.h"
+
+#define EFFECTS_USAGE \
+    "  --effect sql:STATEMENT  has each text run this statement of the store, in place of being a row of\n" \
+    "                   `effect`: :session, :client, :stream, :number, :part and :text are the text's\n" \
+    "  --effect object:FILE  has each text be given to `take_effect` of a shared object (effect.h)\n" \
+    "  --effect command:WORDS  has each text be a line of JSON for this command, which answers a line:\n" \
+    "                   `ok`, `refuse REASON` or `again`\n" \
+    "  --put-aside N    a text that was refused N times is put into the table `aside`, with the reason (0:\n" \
+    "                   it is tried again for ever)\n"
+
+/* Chooses it, before any shard is served; NULL is the effect of effect.c. 0, or -1 with a report. */
+int effects_choose(const char *word, unsigned tries);
+
+/* The effect of one text, as take_effect. */
+int effects_take(struct store *store, const struct arrived *it);
+
+/* ---- For effects: one that refuses a text says why, and answers EFFECT_REFUSED. */
+
+enum { EFFECT_REFUSED = 1, EFFECT_REASON = 256 };
+typedef int effect_call(struct store *store, const struct arrived *it, char reason[EFFECT_REASON]);
+
+int statement_choose(const char *statement);
+effect_call statement_take;
+int command_choose(const char *words);
+effect_call command_take;
+
+#endif

@@ -1,0 +1,279 @@
+"""The effects of --effect and of --put-aside, over SQLite: how often each text's effect happens while both ends are
+killed over and over, what is put aside, and what isn't."""
+import contextlib
+import json
+import os
+import random
+import signal
+import sqlite3
+import subprocess
+import sys
+import time
+
+import pytest
+
+from lib.build import c_tools
+
+HERE = os.path.dirname(os.path.abspath(__file__))
+SOURCES = os.path.dirname(HERE)
+KEY = "0 18 priv " + "22" * 32 + " 1 10.0.0.2 10.0.0.255"
+TEXTS = 1500
+TO_WAIT = 60            # seconds
+STATEMENT = ("sql:INSERT INTO mine (session, number, part, text, again) -- :none, of a comment\n"
+             "VALUES (:session, :number, :part, :text, ':text' || :session);")
+OBJECT = """
+#include "effect.h"
+#include <string.h>
+int take_effect(struct store *store, const struct arrived *it)
+{
+    const struct value values[] = { { VALUE_TEXT, 0, it->session, strlen(it->session) },
+                                    { VALUE_NUMBER, it->number, NULL, 0 }, { VALUE_NUMBER, it->part, NULL, 0 },
+                                    { VALUE_BYTES, 0, it->text, it->len } };
+    return store_run(store, "INSERT INTO mine (session, number, part, text) VALUES ($1, $2, $3, $4)", values, 4);
+}
+"""
+# A command that writes down each text before it answers; WORDS has what it answers to some of them.
+COMMAND = """
+import json, os, sys
+answers = json.loads(sys.argv[2])
+for line in sys.stdin:
+    it = json.loads(line)
+    with open(sys.argv[1], "a", encoding="ascii") as file:
+        file.write(f"{it['session']} {it['number']} {it['part']} {it['text']}\\n")
+    said = answers.get(bytes.fromhex(it["text"]).decode(), "ok")
+    if isinstance(said, list):
+        once = sys.argv[1] + "." + it["text"]
+        said = "ok" if os.path.exists(once) else said[0]
+        open(once, "w").close()
+    if said == "end":
+        sys.exit(1)
+    print(said, flush=True)
+"""
+
+
+@pytest.fixture(scope="module")
+def programs(shared, prefix):
+    def build(folder):
+        done = subprocess.run(["make", "-C", SOURCES, f"OUT={folder}", f"PREFIX={prefix}",
+                               f"CC={' '.join(c_tools.c_compiler())}", "WITH_NATS=no", "WITH_POSTGRESQL=no"],
+                              check=False, capture_output=True, text=True)
+        assert done.returncode == 0, done.stdout + done.stderr
+    return shared.once("programs_of_effects", build)
+
+
+class Ends:
+    """Both ends of one session, in a folder."""
+
+    def __init__(self, programs, folder, prefix):
+        self.programs, self.folder, self.prefix = programs, str(folder), prefix
+        self.both = ["--sessions", f"{folder}/sessions", "--carrier", f"sqlite:{folder}/carrier.db"]
+        with open(f"{folder}/sessions", "w", encoding="ascii", opener=lambda path, how: os.open(path, how, 0o600)) as file:
+            file.write(f"tom {KEY}\n")
+        self.batch, self.store = "1", f"sqlite:{folder}/store.db"
+        self.sender("--drain").wait()
+
+    def start(self, program, *words):
+        with open(f"{self.folder}/{program}.log", "ab") as log:
+            return subprocess.Popen([f"{self.programs}/{program}", *self.both, *words], stderr=log)
+
+    def sender(self, *words):
+        return self.start("sender", "--outbox", f"{self.folder}/outbox.db", "--batch", self.batch, *words)
+
+    def receiver(self, *words):
+        return self.start("receiver", "--store", self.store, "--shards", "0", *words)
+
+    def run(self, name, script, *values):
+        with contextlib.closing(sqlite3.connect(f"{self.folder}/{name}.db", timeout=30)) as file, file:
+            return file.execute(script, *values).fetchall()
+
+    def put(self, texts):
+        with contextlib.closing(sqlite3.connect(f"{self.folder}/outbox.db", timeout=30)) as file, file:
+            file.executemany("INSERT INTO text (session, body) VALUES ('tom', ?)", [(it,) for it in [*texts, None]])
+
+    def mine(self, more=""):
+        """The application's table, which is there before the receiver."""
+        os.close(os.open(f"{self.folder}/store.db", os.O_CREAT, 0o600))
+        self.run("store", "CREATE TABLE mine (id INTEGER PRIMARY KEY AUTOINCREMENT, session TEXT, number INTEGER,"
+                 f" part INTEGER, text BLOB {more}, again TEXT)")
+
+    def log(self):
+        with open(f"{self.folder}/receiver.log", encoding="ascii") as file:
+            return file.read()
+
+    def to_the_end(self, *words, seconds=100):
+        assert self.sender("--drain").wait(seconds) == 0
+        assert self.receiver("--until-closed", *words).wait(seconds) == 0, self.log()[-2000:]
+
+    def killed_over_and_over(self, *words):
+        """Kills both, each time once some frames more have taken effect, until the session is closed."""
+        drawn, rounds = random.Random(7), 0
+        while not self.next()[1]:
+            started = [self.sender(), self.receiver("--batch", "4", *words)]
+            self.await_frames(self.next()[0] + drawn.randrange(1, 40))
+            for it in started:
+                it.send_signal(signal.SIGKILL)
+                it.wait()
+            rounds += 1
+        return rounds
+
+    def await_frames(self, number):
+        until = time.monotonic() + TO_WAIT
+        while self.next()[0] < number and not self.next()[1]:
+            assert time.monotonic() < until, self.log()[-2000:]
+            time.sleep(0.01)
+
+    def await_log(self, words):
+        until = time.monotonic() + TO_WAIT
+        while words not in self.log():
+            assert time.monotonic() < until, self.log()[-2000:]
+            time.sleep(0.1)
+
+    def next(self):
+        """The number that the store demands, and whether the session is closed."""
+        with contextlib.suppress(sqlite3.OperationalError):
+            return next(iter(self.run("store", "SELECT next, closed FROM session WHERE name = 'tom'")), (1, 0))
+        return 1, 0
+
+    def command(self, answers=None):
+        script, path = f"{self.folder}/command.py", f"{self.folder}/written"
+        with open(script, "w", encoding="ascii") as file:
+            file.write(COMMAND)
+        return f"command:exec {sys.executable} {script} {path} '{json.dumps(answers or {})}'"
+
+    def written(self):
+        with open(f"{self.folder}/written", encoding="ascii") as file:
+            return [line.split() for line in file]
+
+
+@pytest.fixture
+def ends(programs, tmp_path, prefix):
+    return Ends(programs, tmp_path, prefix)
+
+
+def compiled(ends):
+    with open(f"{ends.folder}/mine.c", "w", encoding="ascii") as file:
+        file.write(OBJECT)
+    made = f"{ends.folder}/mine.so"
+    subprocess.run([*c_tools.c_compiler(), "-shared", "-fPIC", f"-I{SOURCES}", f"-I{ends.prefix}/include",
+                    f"{ends.folder}/mine.c", "-o", made], check=True)
+    return f"object:{made}"
+
+
+# ---- how often
+
+def texts(count=TEXTS):
+    return [b"text %d" % it for it in range(count)]
+
+
+@pytest.mark.parametrize("of_object", [False, True], ids=["statement", "object"])
+@pytest.mark.parametrize("batch", ["1", "7"])
+def test_within_the_transaction_each_happens_once(ends, of_object, batch):
+    ends.mine()
+    ends.batch = batch
+    given = texts(TEXTS * (1 + (batch != "1")))
+    ends.put(given)
+    rounds = ends.killed_over_and_over("--effect", compiled(ends) if of_object else STATEMENT)
+    rows = ends.run("store", "SELECT session, text, again FROM mine ORDER BY id")
+    assert [row[1] for row in rows] == given and {row[0] for row in rows} == {"tom"} and rounds > 2
+    assert {row[2] for row in rows} == {None if of_object else ":texttom"}
+    places = ends.run("store", "SELECT number, part FROM mine ORDER BY id")
+    assert places == sorted(set(places)) and max(it[1] for it in places) == int(batch) - 1
+
+
+def test_a_command_is_given_each_at_least_once_and_in_order(ends):
+    ends.put(texts(1500))
+    rounds = ends.killed_over_and_over("--effect", ends.command())
+    written = ends.written()
+    found = list(dict.fromkeys(it[3] for it in written if len(it) == 4))
+    assert [bytes.fromhex(it) for it in found] == texts(1500) and rounds > 2
+    # What comes again is what wasn't committed: it begins again at an earlier place, and goes on from there.
+    places = [int(it[1]) for it in written if len(it) == 4]
+    assert all(after <= before + 1 for before, after in zip(places, places[1:]))
+
+
+# ---- what is refused
+
+REFUSES = "CHECK (text != CAST('bad' AS BLOB))"
+
+
+def aside(ends):
+    return ends.run("store", "SELECT session, text, reason FROM aside ORDER BY id")
+
+
+@pytest.mark.parametrize("batch", ["1", "4"])
+@pytest.mark.parametrize("tries", ["1", "2"])
+def test_what_a_constraint_refuses_is_put_aside(ends, tries, batch):
+    ends.mine(REFUSES)
+    ends.batch = batch
+    ends.put([b"one", b"bad", b"two", b"bad", b"bad", b"three"])
+    ends.to_the_end("--effect", STATEMENT, "--put-aside", tries)
+    assert ends.run("store", "SELECT text FROM mine ORDER BY id") == [(b"one",), (b"two",), (b"three",)]
+    assert [row[:2] for row in aside(ends)] == [("tom", b"bad")] * 3
+    assert all("CHECK constraint failed" in row[2] for row in aside(ends))
+    assert ends.log().count("event=text_refused") == 3 * int(tries)
+
+
+def waits(ends, *words, seconds=3):
+    """Runs a receiver for some seconds, in which it gets no further."""
+    assert ends.sender("--drain").wait(60) == 0
+    process = ends.receiver(*words)
+    time.sleep(seconds)
+    process.terminate()
+    assert process.wait(30) == 0
+
+
+def test_without_put_aside_it_is_tried_again(ends):
+    ends.mine(REFUSES)
+    ends.put([b"one", b"bad"])
+    waits(ends, "--effect", STATEMENT)
+    assert ends.run("store", "SELECT count(*) FROM mine") == [(0,)] and aside(ends) == []
+    ends.to_the_end("--effect", STATEMENT, "--put-aside", "1")
+    assert [row[1] for row in aside(ends)] == [b"bad"]
+
+
+def test_a_table_that_is_not_there_puts_nothing_aside(ends):
+    ends.put([b"one"])
+    waits(ends, "--effect", STATEMENT, "--put-aside", "1")
+    assert aside(ends) == [] and "no such table" in ends.log()
+    ends.run("store", "CREATE TABLE mine (session, number, part, text, again)")
+    ends.to_the_end("--effect", STATEMENT, "--put-aside", "1")
+    assert ends.run("store", "SELECT text FROM mine") == [(b"one",)] and aside(ends) == []
+
+
+def test_what_a_command_refuses_is_put_aside(ends):
+    ends.put([b"one", b"bad", b"two"])
+    ends.to_the_end("--effect", ends.command({"bad": "refuse it has no \"name\""}), "--put-aside", "2")
+    assert aside(ends) == [("tom", b"bad", 'it has no "name"')]
+    assert [it[3] for it in ends.written()].count(b"bad".hex()) == 2
+
+
+@pytest.mark.parametrize("said", ["again", "end", "what", ""])
+def test_a_command_that_fails_once_is_asked_again(ends, said):
+    """None of these is a refusal: the text takes effect once the command takes it."""
+    ends.put([b"one", b"odd", b"two"])
+    ends.to_the_end("--effect", ends.command({"odd": [said]}), "--put-aside", "1")
+    assert aside(ends) == []
+    found = dict.fromkeys(bytes.fromhex(it[3]) for it in ends.written())
+    assert list(found) == [b"one", b"odd", b"two"]
+
+
+# ---- what isn't taken
+
+@pytest.mark.parametrize("word, told", [
+    ("sql:INSERT INTO mine VALUES (:name)", "the names are :session"),
+    ("sql:DELETE FROM mine; SELECT 1", "it is one statement"),
+    ("sql:INSERT INTO mine VALUES ($1)", "values have names"),
+    ("sql: \n", "there is no statement"),
+    ("command:", "there is no command"),
+    ("object:/nowhere/it.so", "cannot open shared object"),
+    ("rows", "this is no effect")])
+def test_a_word_that_is_no_effect(ends, word, told):
+    process = ends.receiver("--effect", word)
+    assert process.wait(30) == 1 and told in ends.log()
+
+
+def test_an_object_without_take_effect(ends):
+    path = compiled(ends).removeprefix("object:")
+    subprocess.run(["objcopy", "--redefine-sym=take_effect=another", path], check=False)
+    subprocess.run([*c_tools.c_compiler(), "-shared", "-o", path, "-x", "c", "/dev/null"], check=True)
+    assert ends.receiver("--effect", f"object:{path}").wait(30) == 1 and "take_effect" in ends.log()

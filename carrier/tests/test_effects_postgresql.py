@@ -1,0 +1,120 @@
+"""The effects of --effect and of --put-aside over PostgreSQL, whose answers come later than the statements."""
+import os
+import shutil
+import subprocess
+import tempfile
+
+import engines
+import pytest
+from test_effects import SOURCES, Ends, compiled, texts
+
+from lib.build import c_tools
+
+# A cast isn't a name, and nor is what is in quotes.
+STATEMENT = "sql:INSERT INTO mine (session, number, part, text, again) VALUES (:session, :number, :part::int, :text, ':no')"
+MINE = "CREATE TABLE mine (id bigserial, session text, number bigint, part int, text bytea {}, again text)"
+REFUSES = "CHECK (text != 'bad')"
+
+
+@pytest.fixture(scope="module")
+def programs(shared, prefix):
+    def build(folder):
+        done = subprocess.run(["make", "-C", SOURCES, f"OUT={folder}", f"PREFIX={prefix}", "WITH_NATS=no",
+                               f"CC={' '.join(c_tools.c_compiler())}", "WITH_POSTGRESQL=yes"],
+                              check=False, capture_output=True, text=True)
+        assert done.returncode == 0, done.stdout + done.stderr
+    return shared.once("programs_of_effects_postgresql", build)
+
+
+@pytest.fixture(scope="module")
+def server():
+    folder = tempfile.mkdtemp()
+    os.chmod(folder, 0o755)
+    made = engines.Postgres(folder)
+    yield made
+    made.stop()
+    shutil.rmtree(folder)
+
+
+class OverPostgresql(Ends):
+    """Both ends over a server, whose tables are new."""
+
+    def __init__(self, programs, folder, prefix, server):
+        self.server = server
+        server.ask("DROP SCHEMA public CASCADE; CREATE SCHEMA public")
+        super().__init__(programs, folder, prefix)
+        self.store = server.where
+
+    def next(self):
+        try:
+            rows = self.server.ask("SELECT next, closed FROM session WHERE name = 'tom'")
+        except subprocess.CalledProcessError:
+            rows = []
+        return (int(rows[0][0]), int(rows[0][1])) if rows else (1, 0)
+
+    def texts_of(self, table):
+        rows = self.server.ask(f"SELECT encode(text, 'escape') FROM {table} ORDER BY id")
+        return [row[0].encode() for row in rows]
+
+
+@pytest.fixture
+def ends(programs, tmp_path, prefix, server):
+    return OverPostgresql(programs, tmp_path, prefix, server)
+
+
+@pytest.mark.parametrize("tries", ["0", "1"])
+@pytest.mark.parametrize("of_object", [False, True], ids=["statement", "object"])
+def test_within_the_transaction_each_happens_once(ends, of_object, tries):
+    ends.server.ask(MINE.format(""))
+    ends.put(texts(600))
+    rounds = ends.killed_over_and_over("--effect", compiled(ends) if of_object else STATEMENT, "--put-aside", tries)
+    assert ends.texts_of("mine") == texts(600) and rounds > 2
+    assert ends.server.ask("SELECT DISTINCT again FROM mine") == [["" if of_object else ":no"]]
+    assert ends.texts_of("aside") == []
+
+
+@pytest.mark.parametrize("batch", ["1", "4"])
+@pytest.mark.parametrize("tries", ["1", "2"])
+def test_what_a_constraint_refuses_is_put_aside(ends, tries, batch):
+    ends.server.ask(MINE.format(REFUSES))
+    ends.batch = batch
+    ends.put([b"one", b"bad", b"two", b"bad", b"bad", b"three"])
+    ends.to_the_end("--effect", STATEMENT, "--put-aside", tries)
+    assert ends.texts_of("mine") == [b"one", b"two", b"three"] and ends.texts_of("aside") == [b"bad"] * 3
+    reasons = ends.server.ask("SELECT reason FROM aside")
+    assert all("violates check constraint" in it for it, in reasons)
+    assert ends.log().count("event=text_refused") == 3 * int(tries)
+
+
+def test_a_value_that_a_column_cannot_have_is_put_aside_and_not_logged(ends):
+    ends.server.ask("CREATE TABLE mine (it int)")
+    ends.put([b"7", b"secret", b"8"])
+    ends.to_the_end("--effect", "sql:INSERT INTO mine VALUES (convert_from(:text, 'UTF8')::int)", "--put-aside", "1")
+    assert ends.server.ask("SELECT it FROM mine ORDER BY it") == [["7"], ["8"]] and ends.texts_of("aside") == [b"secret"]
+    assert "secret" not in ends.log()
+
+
+def test_a_table_that_is_not_there_puts_nothing_aside(ends):
+    ends.put([b"one"])
+    assert ends.sender("--drain").wait(60) == 0
+    process = ends.receiver("--effect", STATEMENT, "--put-aside", "1")
+    ends.await_log("does not exist")
+    process.terminate()
+    assert process.wait(30) == 0 and ends.texts_of("aside") == []
+    ends.server.ask(MINE.format(""))
+    ends.to_the_end("--effect", STATEMENT, "--put-aside", "1")
+    assert ends.texts_of("mine") == [b"one"] and ends.texts_of("aside") == []
+
+
+def test_a_server_that_is_away_puts_nothing_aside(ends):
+    ends.server.ask(MINE.format(""))
+    ends.put(texts(600))
+    started = [ends.sender(), ends.receiver("--batch", "4", "--effect", STATEMENT, "--put-aside", "1")]
+    for number in (50, 200, 400):
+        ends.await_frames(number)
+        ends.server.restart(0.3)
+    ends.await_frames(10_000)
+    for it in started:
+        it.terminate()
+        assert it.wait(30) == 0
+    assert ends.texts_of("mine") == texts(600) and ends.texts_of("aside") == []
