@@ -3,3 +3,4 @@ pub mod ReceiptLemmas
 pub mod ServiceLemmas
 pub mod ReceivingLemmas
 pub mod StreamLemmas
+pub mod ShardLemmas

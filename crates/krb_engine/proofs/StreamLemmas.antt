@@ -1,9 +1,10 @@
 -- Texts of a stream take effect in order, over all its sessions.
-use Rattle.std.proofs.Common.{◌≡◌, ℕ, ◌+◌, ◌≤◌, ◌==◌, nat_le, not, if◌then◌else◌, Bool, true, false, Option, Some, None, List, [], ◌∷◌, ◌++◌, map, take, refl, sym, ap, ap₂, subst, ◌∙◌, inl, inr, arith, append_assoc, append-nil}
+use Rattle.std.proofs.Common.{◌≡◌, ℕ, ◌+◌, ◌≤◌, ◌==◌, ◌&&◌, nat_le, not, if◌then◌else◌, Bool, true, false, Option, Some, None, List, [], ◌∷◌, ◌++◌, length, map, take, refl, sym, ap, ap₂, subst, ◌∙◌, inl, inr, arith, append_assoc, append-nil}
 use Rattle.std.specs.Prelude.{All}
 use Rattle.std.specs.List.{flat_map, list_any}
 use Rattle.std.specs.Str.{bytes_eq}
-use Rattle.std.proofs.lemmas.Bool.{eqb-true, true≢false}
+use Rattle.std.proofs.lemmas.Bool.{and_parts, eqb-true, true≢false}
+use Rattle.krb_history.specs.Laws.{OneHistory}
 use Rattle.std.proofs.lemmas.List.Elements.{All-head, All-tail}
 use Rattle.std.proofs.lemmas.Slice.Eq.{bytes_eq-Decides}
 use Rattle.krb_record.specs.declared.record.Record.{Record}
@@ -22,7 +23,7 @@ use Rattle.krb_engine.specs.declared.stream.Head.{Head}
 use Rattle.krb_engine.specs.declared.stream.Opening.{Opening}
 use Rattle.krb_engine.specs.declared.stream.Judged.{Judged}
 use Rattle.krb_engine.specs.declared.stream.Judged.TheVariants.{Begins, Later, Forked}
-use Rattle.krb_engine.specs.StreamLaws.{BeginsAfterTheClose, Session, IsSession, IsUntried, BeginInTurn, effects_of, texts_of, StreamsTakeEffectInOrder, WholeStreamsTakeEffect}
+use Rattle.krb_engine.specs.StreamLaws.{BeginsAfterTheClose, OwnHistoryGoesOn, Session, IsSession, IsUntried, BeginInTurn, effects_of, texts_of, StreamsTakeEffectInOrder, WholeStreamsTakeEffect}
 use Rattle.krb_engine.proofs.ReceiptLemmas.{all_took_effect}
 
 -- ---- openings
@@ -36,8 +37,15 @@ begins_by false true true true is = (refl, refl, refl)
 
 pub begins_after_the_close : BeginsAfterTheClose
 begins_after_the_close head opening is =
-    let by = begins_by (nat_le opening.turn head.turn) (opening.turn == head.turn + 1) head.closed (bytes_eq opening.before head.history) is in
-    (by.1, eqb-true opening.turn (head.turn + 1) by.0, (bytes_eq-Decides opening.before head.history).0 by.2)
+    let by = begins_by (nat_le opening.turn head.turn) (opening.turn == head.turn + 1) head.closed ((opening.before.number == head.took.number) && bytes_eq opening.before.history head.took.history) is in
+    let same = and_parts (opening.before.number == head.took.number) (bytes_eq opening.before.history head.took.history) by.2 in
+    (by.1, eqb-true opening.turn (head.turn + 1) by.0, eqb-true opening.before.number head.took.number same.0, (bytes_eq-Decides opening.before.history head.took.history).0 same.1)
+
+pub own_history_goes_on : OneHistory → OwnHistoryGoesOn
+own_history_goes_on alike first own took head opening of_took of_own is =
+    let begins = begins_after_the_close head opening is in
+    let as_many : length own ≡ length took = omega (arith, of_took.number, of_own.number, begins.2) in
+    alike own took as_many (sym of_own.history ∙ (begins.3 ∙ of_took.history))
 
 -- ---- nothing waits where the close was sealed
 

@@ -5,5 +5,7 @@ pub mod Receiving
 pub mod Calls
 pub mod Laws
 pub mod ReceivingLaws
+pub mod Shards
+pub mod ShardLaws
 pub mod Stream
 pub mod StreamLaws

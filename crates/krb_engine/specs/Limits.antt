@@ -29,3 +29,7 @@ ask_first = 4000
 
 abbrev pub ask_most : ℕ
 ask_most = 64000
+
+-- so many frames of a shard are under way at most
+abbrev pub under_way_most : ℕ
+under_way_most = 256

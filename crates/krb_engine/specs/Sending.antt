@@ -10,6 +10,8 @@ use Rattle.krb_copies.specs.declared.receipt.Finding.{Finding}
 use Rattle.krb_copies.specs.declared.receipt.Finding.TheVariants as findings
 use Rattle.krb_engine.specs.declared.sending.Ended.{Ended}
 use Rattle.krb_engine.specs.declared.sending.Ended.TheVariants as ends
+use Rattle.krb_engine.specs.declared.sending.Stands.{Stands}
+use Rattle.krb_engine.specs.declared.sending.Stands.TheVariants as standings
 use Rattle.krb_engine.specs.declared.sending.Heard.{Heard}
 use Rattle.krb_engine.specs.declared.sending.Heard.TheVariants as hears
 use Rattle.krb_engine.specs.declared.sending.Asks.{Asks}
@@ -73,6 +75,11 @@ listed state list = if list == state.list then state else with_list state list
 -- a new connection: what wasn't confirmed may be lost
 abbrev pub reconnected : SendingState → SendingState
 reconnected state = record state { progress = after state.progress Rewind }
+
+-- how many frames more may be sealed: none once it is stopped
+abbrev pub sealing_room : SendingState → ℕ
+sealing_room state =
+    if is_some state.ended then 0 else window_most - (state.progress.next - state.progress.carried)
 
 -- ---- receipts
 
@@ -221,3 +228,18 @@ probe_end state = if nat_lt state.done state.progress.carried then end_of state.
 
 abbrev pub wake_time : SendingState → ℕ → ℕ
 wake_time state count = min (held_end state count) (min (again_end state) (probe_end state))
+
+-- ---- why it stands
+
+abbrev pub stands_by : Option Ended → Bool → Bool → Bool → Option Stands
+stands_by (Some why) held unanswered unconfirmed = Some (standings.Stopped why)
+stands_by None held unanswered unconfirmed =
+    if held then Some standings.Refused
+    else (if unanswered then Some standings.Unanswered
+    else (if unconfirmed then Some standings.Unconfirmed else None))
+
+abbrev pub stands : SendingState → Option Stands
+stands state =
+    stands_by state.ended state.is_held
+    (nat_lt state.done state.progress.carried && nat_le (4 * probe_first) state.probe.length)
+    (nat_lt state.progress.carried state.progress.sent && nat_lt again_first state.again.length)

@@ -1,5 +1,5 @@
 -- Sessions of a stream at a receiver.
-use Rattle.std.specs.Prelude.{◌≡◌, ℕ, ◌+◌, ◌==◌, nat_lt, nat_le, not, Bool, true, false, List, Option, Some, None, if◌then◌else◌}
+use Rattle.std.specs.Prelude.{◌≡◌, ℕ, ◌+◌, ◌==◌, ◌&&◌, nat_le, not, Bool, true, false, List, Option, Some, None, if◌then◌else◌}
 use Rattle.std.specs.Str.{bytes_eq}
 use Rattle.krb_engine.specs.declared.stream.Head.{Head}
 use Rattle.krb_engine.specs.declared.stream.Opening.{Opening}
@@ -14,4 +14,5 @@ judged (Some head) opening =
     if nat_le opening.turn head.turn then Forked
     else (if not (opening.turn == head.turn + 1) then Later
     else (if not head.closed then Later
-    else (if bytes_eq opening.before head.history then Begins else Forked)))
+    else (if (opening.before.number == head.took.number) && bytes_eq opening.before.history head.took.history
+    then Begins else Forked)))

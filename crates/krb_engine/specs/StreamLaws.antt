@@ -6,6 +6,10 @@ use Rattle.krb_seal.specs.Sealer.{SealerState}
 use Rattle.krb_peers.specs.Attempt.{Attempt, IsAttempt}
 use Rattle.krb_carry.specs.Outbox.{Outbox, new_outbox, Act, IsAct, LeadsOutbox, stored_records, texts_put}
 use Rattle.krb_carry.specs.Store.{Stored, new_session, Leads, IsReceipt}
+use Rattle.krb_history.specs.History.{tag}
+use Rattle.krb_history.specs.Laws.{Collision}
+use Rattle.krb_copies.specs.declared.receipt.Receipt.{Receipt}
+use Rattle.krb_copies.specs.Receipt.{history_of}
 use Rattle.krb_engine.specs.declared.stream.Head.{Head}
 use Rattle.krb_engine.specs.declared.stream.Opening.{Opening}
 use Rattle.krb_engine.specs.declared.stream.Judged.TheVariants.{Begins}
@@ -15,7 +19,21 @@ use Rattle.krb_engine.specs.Stream.{judged}
 abbrev pub BeginsAfterTheClose : Type 0
 BeginsAfterTheClose =
     (head : Head) (opening : Opening) → judged (Some head) opening ≡ Begins
-    → (head.closed ≡ true) × (opening.turn ≡ head.turn + 1) × (opening.before ≡ head.history)
+    → (head.closed ≡ true) × (opening.turn ≡ head.turn + 1)
+    × (opening.before.number ≡ head.took.number) × (opening.before.history ≡ head.took.history)
+
+-- these frames, the session's first number being `first`
+pub record IsOf (first : ℕ) (frames : List (List ℕ)) (receipt : Receipt) : Type 0 where
+  pub number : receipt.number ≡ first + length frames
+  pub history : receipt.history ≡ history_of frames
+
+-- So its sender sealed what took effect in that session: its own frames have the tags of those that took
+-- effect, one by one, or a collision is found.
+abbrev pub OwnHistoryGoesOn : Type 0
+OwnHistoryGoesOn =
+    (first : ℕ) (own took : List (List ℕ)) (head : Head) (opening : Opening)
+    → IsOf first took head.took → IsOf first own opening.before
+    → judged (Some head) opening ≡ Begins → (map tag own ≡ map tag took) ⊎ Collision
 
 -- A session of a stream: what its sender did to its outbox, and receivers at the store.
 pub record Session : Type 0 where

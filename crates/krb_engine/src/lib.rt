@@ -20,9 +20,11 @@
 mod laws;
 mod receiving;
 mod sending;
+mod shards;
 mod stream;
 
 pub use laws::{receiving_laws, sending_laws};
 pub use receiving::{Receiving, Row, Seen};
-pub use sending::{Asks, Command, Ended, Heard, Sending};
+pub use sending::{Asks, Command, Ended, Heard, Sending, Stands};
+pub use shards::{Flow, Read, Reading, Spot, shard_laws};
 pub use stream::{Head, Judged, Opening, judge, stream_laws};

@@ -1,9 +1,9 @@
 //! One session's end at a sender.
 
-ghost use Rattle.std.specs.Prelude.{◌≡◌, ◌↔◌, ◌+◌, ◌<◌, ◌≤◌, ◌^◌, IsTrue, if◌then◌else◌, ◌≢◌};
+ghost use Rattle.std.specs.Prelude.{◌≡◌, ◌↔◌, ◌+◌, ◌-◌, ◌<◌, ◌≤◌, ◌^◌, IsTrue, if◌then◌else◌, ◌≢◌};
 ghost use Rattle.krb_carry.specs.Progress.{Counts};
 ghost use Rattle.krb_copies.specs.Receipt.{Finds};
-ghost use Rattle.krb_engine.specs.Sending.{ask_end, batch, begins, confirmed, found, heard_of, heeded, is_asked, is_free, is_settled, is_unanswered, listed, loaded, looked, may_ask, next_ask, probed, published, reconnected, recovery_room, sealed, settled, wake_time};
+ghost use Rattle.krb_engine.specs.Sending.{ask_end, batch, begins, confirmed, found, heard_of, heeded, is_asked, is_free, is_settled, is_unanswered, listed, loaded, looked, may_ask, next_ask, probed, published, reconnected, recovery_room, sealed, sealing_room, settled, stands, wake_time};
 ghost use Rattle.krb_engine.specs.SendingState.{IsEnd};
 ghost use Rattle.krb_engine.specs.Calls.{Hears, IsProbe, Serves};
 
@@ -63,6 +63,19 @@ pub enum Heard {
     Delivered,
     /// The session is stopped.
     Ended,
+}
+
+/// Why a session stands, for whoever looks after it.
+#[derive(Clone, Copy, Debug, PartialEq, Eq)]
+pub enum Stands {
+    /// It is stopped.
+    Stopped(Ended),
+    /// Receivers refuse the first frame that isn't done.
+    Refused,
+    /// Two probes weren't answered.
+    Unanswered,
+    /// What was published wasn't confirmed in time.
+    Unconfirmed,
 }
 
 /// What is to be done.
@@ -410,6 +423,42 @@ impl Sending {
         ensures { result.now ≡ self.now.progress }
     {
         &self.progress
+    }
+
+    /// How many of its frames are under way.
+    pub fn under_way(&self) -> u64
+        ensures { result ≡ self.now.progress.sent - self.now.progress.carried }
+    {
+        self.progress.sent() - self.progress.carried()
+    }
+
+    /// How many frames more may be sealed: as many as could leave once those that wait are carried.
+    pub fn sealing_room(&self) -> u64
+        ensures { result ≡ sealing_room self.now }
+    {
+        if self.ended.is_some() {
+            return 0;
+        }
+        WINDOW.saturating_sub(self.progress.next() - self.progress.carried())
+    }
+
+    /// Why it stands, if it does.
+    pub fn stands(&self) -> Option<Stands>
+        ensures { result ≡ stands self.now }
+    {
+        if let Some(why) = self.ended {
+            return Some(Stands::Stopped(why));
+        }
+        if self.is_held {
+            return Some(Stands::Refused);
+        }
+        if self.done < self.progress.carried() && self.probe.length >= 4 * PROBE {
+            return Some(Stands::Unanswered);
+        }
+        if self.progress.carried() < self.progress.sent() && self.again.length > AGAIN {
+            return Some(Stands::Unconfirmed);
+        }
+        None
     }
 
     /// Why it is stopped, if it is.

@@ -2,10 +2,11 @@
 
 ghost use Rattle.std.specs.Prelude.{◌≡◌};
 ghost use Rattle.krb_engine.specs.Stream.{judged};
-ghost use Rattle.krb_engine.specs.StreamLaws.{BeginsAfterTheClose, StreamsTakeEffectInOrder, WholeStreamsTakeEffect};
+ghost use Rattle.krb_engine.specs.StreamLaws.{BeginsAfterTheClose, OwnHistoryGoesOn, StreamsTakeEffectInOrder, WholeStreamsTakeEffect};
 
 use krb_carry::delivery_laws;
-use krb_history::HISTORY_SIZE;
+use krb_copies::Receipt;
+use krb_history::histories_laws;
 
 /// The last session of a stream that a store has.
 #[derive(Clone, Copy, Debug, PartialEq, Eq)]
@@ -14,8 +15,8 @@ pub struct Head {
     pub turn: u64,
     /// Whether its close took effect.
     pub closed: bool,
-    /// The digest of all that took effect in it.
-    pub history: [u8; HISTORY_SIZE],
+    /// The number after all that took effect in it, and their digest.
+    pub took: Receipt,
 }
 
 /// What an opening says of its session.
@@ -23,8 +24,8 @@ pub struct Head {
 pub struct Opening {
     /// Which session of the stream it is, from 1 on.
     pub turn: u64,
-    /// The digest of all that was sealed in the session before it.
-    pub before: [u8; HISTORY_SIZE],
+    /// The number after all that its sender sealed in the session before it, and their digest.
+    pub before: Receipt,
 }
 
 /// What an opening is taken for.
@@ -55,7 +56,7 @@ pub fn judge(head: Option<Head>, opening: &Opening) -> Judged
     if opening.turn - head.turn > 1 || !head.closed {
         return Judged::Later;
     }
-    if opening.before == head.history {
+    if opening.before.number == head.took.number && opening.before.history == head.took.history {
         Judged::Begins
     } else {
         Judged::Forked
@@ -64,19 +65,22 @@ pub fn judge(head: Option<Head>, opening: &Opening) -> Judged
 
 /// What holds of a stream, whose sessions come one after the other.
 ///
-/// A session begins only after the close of the one before it took effect, on the digest that its opening
-/// names (`begins`). Then what takes effect of all sessions together is a prefix of the texts that were put
+/// A session begins only after the close of the one before it took effect, on the number and the digest
+/// that its opening names (`begins`). So its sender sealed all that took effect in that one: its own frames
+/// there have the tags of those that took effect, or two texts with one SHA-1 are found (`own`). Then what takes effect of all sessions together is a prefix of the texts that were put
 /// in, over all sessions, in their order and each once (`order`), whatever processes of both ends died,
 /// were slow or came twice, and whatever the carrier does. It is all of them, once nothing waits in any
 /// session and each is done, by receipts (`all`).
 ///
-/// Each session has one outbox. Where an outbox is restored or copied,
-/// [`copies_laws`](krb_copies::copies_laws) speak of one session: that no session of another copy begins
-/// after this one's close rests on the digest, and is not stated here.
+/// In `order` and `all` each session has one outbox. Where an outbox is restored or copied,
+/// [`copies_laws`](krb_copies::copies_laws) speak of each session, and `own` of where one ends and the next
+/// begins.
 pub fn stream_laws()
     ensures begins { BeginsAfterTheClose }
+    ensures own { OwnHistoryGoesOn }
     ensures order { StreamsTakeEffectInOrder }
     ensures all { WholeStreamsTakeEffect }
 {
     delivery_laws();
+    histories_laws();
 }
