@@ -320,7 +320,7 @@ static void test_done(struct outbox *outbox)
     check(outbox_next_frame(outbox, &number, &found, &len) == 1 && number == 2, "the next one is kept");
     outbox_end_frames(outbox);
     outbox_add_history(outbox, of.name, 2, 3, &whole);
-    outbox_add_history(outbox, of.name, 2, 5, &gap);
+    outbox_add_history(outbox, of.name, 2, 4, &gap);
     check(whole.is_known && !gap.is_known, "a history that lacks a frame isn't known");
     outbox_rollback(outbox);
 }
