@@ -1,7 +1,7 @@
 /* Seals texts from an outbox, and opens each of the frames:  outbox_test FOLDER
  * Texts of no bytes up to the longest, the close, confounders, the last number, what was taken back, what is
- * noted for receipts, what freed blocks have, the next number's compare-and-set, and the bound of texts that
- * wait. The last line is 'passed' or 'FAILED ..'. */
+ * noted for receipts or is done, what freed blocks have, whose turn it is, the next number's compare-and-set,
+ * and the bound of texts that wait. The last line is 'passed' or 'FAILED ..'. */
 #include "check.h"
 #include "clock.h"
 #include "left.h"
@@ -291,6 +291,7 @@ static void test_compare(struct outbox *outbox)
     static const uint64_t wrong[] = { 5, 8, 10, 0, UINT32_MAX };
     size_t i;
     check(outbox_begin(outbox) == OUTBOX_OK, "a transaction begins");
+    check(next_of(outbox, &of) == 5, "a session begins at its first number");
     check(outbox_set_next(outbox, &of, 5, 9) == 0 && next_of(outbox, &of) == 9, "the next number is stored");
     for (i = 0; i < sizeof wrong / sizeof *wrong; i++) {
         check(outbox_set_next(outbox, &of, wrong[i], 20) != 0, "another number than the stored one is refused");
@@ -348,6 +349,43 @@ static void test_bound(struct outbox *outbox)
     check(insertion(outbox, "'text'")[0] == 0, "then any number may wait");
 }
 
+/* Frames are dropped below the number that is done, and a history goes over frames without a gap. */
+static void test_done(struct outbox *outbox)
+{
+    struct session of = session_of("done", KRBRELAY_SAFE, 1);
+    struct history whole = { .is_known = 1 }, gap = { .is_known = 1 };
+    struct outbox_progress it;
+    const uint8_t *found = NULL;
+    uint64_t number = 0;
+    size_t len = 0;
+    check(outbox_begin(outbox) == OUTBOX_OK && outbox_set_next(outbox, &of, 1, 5) == 0
+          && outbox_add_frame(outbox, of.name, 1, bytes, 3) == 0 && outbox_add_frame(outbox, of.name, 2, bytes, 3) == 0
+          && outbox_add_frame(outbox, of.name, 4, bytes, 3) == 0, "frames are stored");
+    check(outbox_load(outbox, &of, &it) == 0, "the outbox tells how far a session is");
+    it.carried = it.done = 2;
+    check(outbox_set_carried(outbox, of.name, &it) == 0, "the first frame is done");
+    outbox_select_frames(outbox, of.name, 0, 10);
+    check(outbox_next_frame(outbox, &number, &found, &len) == 1 && number == 2, "the next one is kept");
+    outbox_end_frames(outbox);
+    outbox_add_history(outbox, of.name, 2, 3, &whole);
+    outbox_add_history(outbox, of.name, 2, 4, &gap);
+    check(whole.is_known && !gap.is_known, "a history that lacks a frame isn't known");
+    outbox_rollback(outbox);
+}
+
+/* Who opens the outbox takes the turn. */
+static void test_owner(struct outbox *outbox, const char *path)
+{
+    struct outbox other;
+    check(outbox_begin(outbox) == OUTBOX_OK, "its owner begins a transaction");
+    outbox_rollback(outbox);
+    check(outbox_open(&other, path) == 0, "another sender opens the outbox");
+    check(outbox_begin(outbox) == OUTBOX_TAKEN, "the first one's turn is over");
+    check(outbox_begin(&other) == OUTBOX_OK, "it is the other's");
+    outbox_rollback(&other);
+    outbox_close(&other);
+}
+
 int main(int count, char **words)
 {
     struct outbox outbox = { 0 };
@@ -371,6 +409,8 @@ int main(int count, char **words)
     test_nothing_left(&outbox);
     test_compare(&outbox);
     test_bound(&outbox);
+    test_done(&outbox);
+    test_owner(&outbox, path);
     outbox_close(&outbox);
     puts("passed");
     return 0;
