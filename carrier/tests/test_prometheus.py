@@ -4,8 +4,10 @@ import contextlib
 import json
 import os
 import re
+import shutil
 import sqlite3
 import subprocess
+import tempfile
 import time
 import urllib.parse
 import urllib.request
@@ -52,6 +54,53 @@ def test_units_are_exposed_little(unit):
     assert found and float(found[1]) <= EXPOSED, done.stdout[-300:] + done.stderr
 
 
+def calls_of(group):
+    """The calls of the system in a group of systemd's."""
+    told = [line.strip() for line in run("systemd-analyze", "syscall-filter", group).stdout.splitlines()]
+    listed = [it for it in told if it and it != group and not it.startswith("#")]
+    return {call for it in listed for call in (calls_of(it) if it.startswith("@") else [it])}
+
+
+def traced(folder, program, *words):
+    """The calls that a program makes, as a user who isn't root: SQLite makes others as root."""
+    trace = os.path.join(folder, f"{os.path.basename(program)}.trace")
+    done = run("strace", "-f", "-qq", "-o", trace, program, *words, "--sessions", f"{folder}/sessions", "--carrier",
+               f"sqlite:{folder}/carrier.db", user="nobody", group="nogroup", extra_groups=[], cwd=folder)
+    assert done.returncode == 0, done.stderr
+    with open(trace, encoding="utf-8", errors="replace") as file:
+        lines = file.readlines()
+    assert [it for it in lines if "PROT_WRITE" in it and "PROT_EXEC" in it] == []
+    return {found[1] for found in (re.match(r"\d+ +(\w+)\(", it) for it in lines) if found}
+
+
+@pytest.fixture
+def of_nobody():
+    """A folder of a user who isn't root, who can reach it."""
+    with tempfile.TemporaryDirectory() as folder:
+        os.chmod(folder, 0o755)
+        place = os.path.join(folder, "place")
+        os.mkdir(place, 0o755)
+        yield place
+
+
+def test_units_allow_what_the_programs_call(prefix, of_nobody):
+    """The filter of both units has each call of a session over SQLite with metrics and a command as its effect."""
+    allowed = calls_of("@system-service") - calls_of("@privileged") - calls_of("@resources")
+    build(f"{of_nobody}/programs", prefix)
+    with open(f"{of_nobody}/sessions", "w", encoding="ascii", opener=lambda path, how: os.open(path, how, 0o600)) as file:
+        file.write(f"tom {KEY}\n")
+    for path in (of_nobody, f"{of_nobody}/sessions"):
+        shutil.chown(path, "nobody", "nogroup")
+    of_sender, of_receiver = (f"127.0.0.1:{port}" for port in engines.free_ports(2))
+    sends = f"{of_nobody}/programs/sender", "--outbox", f"{of_nobody}/outbox.db", "--drain", "--metrics", of_sender
+    called = traced(of_nobody, *sends)
+    put_texts(f"{of_nobody}/outbox.db", with_close=True)
+    called |= traced(of_nobody, *sends)
+    called |= traced(of_nobody, f"{of_nobody}/programs/receiver", "--store", f"sqlite:{of_nobody}/store.db", "--shards", "auto",
+                     "--metrics", of_receiver, "--until-closed", "--effect", "command:while read -r it; do echo ok; done")
+    assert len(called) > 40 and len(allowed) > 200 and called - allowed == set()
+
+
 # ---- a Prometheus that runs
 
 def build(out, prefix):
@@ -60,9 +109,10 @@ def build(out, prefix):
     assert done.returncode == 0, done.stdout + done.stderr
 
 
-def put_texts(path):
+def put_texts(path, with_close=False):
+    texts = [b"text %d" % it for it in range(TEXTS)] + [None] * with_close
     with contextlib.closing(sqlite3.connect(path, timeout=30)) as file, file:
-        file.executemany("INSERT INTO text (session, body) VALUES ('tom', ?)", [(b"text %d" % it,) for it in range(TEXTS)])
+        file.executemany("INSERT INTO text (session, body) VALUES ('tom', ?)", [(it,) for it in texts])
 
 
 @contextlib.contextmanager

@@ -23,7 +23,7 @@ SQLITE = "Debian's libsqlite3-dev"
 SERVERS = ("Debian's nats-server, libnats-dev, postgresql, libpq-dev, libmicrohttpd-dev and"
            " libsystemd-dev")
 JAVA = "Debian's libjna-java and default-jdk-headless"
-PROMETHEUS = "Debian's prometheus and systemd"
+PROMETHEUS = "Debian's prometheus, systemd and strace"
 REALM = "Debian's krb5-kdc, krb5-admin-server, krb5-kpropd and krb5-user"
 CROSS = "Debian's gdb, gcc-aarch64-linux-gnu, libc6-dev-arm64-cross and qemu-user-static"
 PACKAGING = ("Debian's debhelper, dh-python, dpkg-dev, lintian, isa-support and debootstrap, and"
@@ -65,7 +65,7 @@ IS_THERE = {
                                      "debootstrap"))) and os.geteuid() == 0,
     PKG_CONFIG: lambda: has("pkg-config"),
     JAVA: lambda: has("javac") and os.path.exists("/usr/share/java/jna.jar"),
-    PROMETHEUS: lambda: has("prometheus") and has("promtool") and has("systemd-analyze"),
+    PROMETHEUS: lambda: has("prometheus") and has("promtool") and has("systemd-analyze") and has("strace"),
     CARGO: lambda: has("cargo") and has("rustc"),
     GO: lambda: has("go"),
     MAKE: lambda: has("make"),
