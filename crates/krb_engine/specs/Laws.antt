@@ -31,7 +31,7 @@ use Rattle.krb_engine.specs.Calls.{Hears, Serves}
 
 -- The calls, one constructor each: so many frames are sealed; a copy of the frame of this number stands
 -- at this offset; a receipt comes, `own` is the digest of the sender's own frames below its number, and
--- the receiver asks for this; the shard has this list; the connection is another one; it is served, with
+-- the receiver asks for this; the shard has this list; the connection is a new one; it is served, with
 -- so much room in the shard. The last number is the time, where there is one.
 pub data Call : Type 0 where
   Sealed : ℕ → Call

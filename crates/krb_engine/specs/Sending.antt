@@ -65,7 +65,7 @@ confirmed state offset now = record state {
 abbrev pub begins : SendingState → SendingState
 begins state = record state { progress = resumed state.progress.next state.done 0 }
 
--- the shard has this list: if it is another one, what the one before confirmed may be lost
+-- the shard has this list: if it had a different one, what that confirmed may be lost
 abbrev pub with_list : SendingState → ℕ → SendingState
 with_list state list = record (begins state) { list = list }
 

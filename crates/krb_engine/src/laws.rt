@@ -55,7 +55,7 @@ pub fn sending_laws()
 /// the number that is demanded, and the digest of all frames that took effect. So each receipt that leaves
 /// is true of what is stored then (`receipts`), and none leaves while a transaction is under way; it stays
 /// true, by [`copies_laws`](krb_copies::copies_laws). A frame is accepted in its turn alone, and none after
-/// the close (`accepts`); what isn't accepted is told by the number at which it opens (`refuses`).
+/// the close (`accepts`); the number at which a frame opens says why it isn't accepted (`refuses`).
 pub fn receiving_laws()
     ensures store { GoesWithTheStore }
     ensures receipts { ReceiptsAreTrue }

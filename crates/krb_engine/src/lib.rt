@@ -2,7 +2,7 @@
 //!
 //! The sender is the only one that repeats, and a receipt is the only word that deletes. [`Sending`] is
 //! one session's end at a sender: what happens to it is a call (frames were sealed, a confirmation or a
-//! receipt came, the shard's list is another one), and [`Sending::serve`] says what is to be done next.
+//! receipt came, the shard has a different list), and [`Sending::serve`] says what is to be done next.
 //! What a sender does is bounded and told: names, keys, texts and frames stay with the caller.
 //!
 //! ```text

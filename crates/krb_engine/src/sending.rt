@@ -175,7 +175,7 @@ impl Sending {
         true
     }
 
-    /// The shard has this list: whether it is another one. Then what the one before confirmed may be
+    /// The shard has this list: whether it had a different one. Then what that one confirmed may be
     /// lost, and all that isn't done leaves again.
     pub fn listed(&mut self, list: u64) -> bool
         ensures other { IsTrue result ↔ (list ≢ self.old.list) }
@@ -189,7 +189,7 @@ impl Sending {
         true
     }
 
-    /// The connection is another one: what wasn't confirmed may be lost.
+    /// The connection is a new one: what wasn't confirmed may be lost.
     pub fn reconnected(&mut self)
         ensures { self.new ≡ reconnected self.old }
     {
@@ -469,7 +469,7 @@ impl Sending {
     }
 }
 
-/// What a sender is told of a finding.
+/// What a caller hears of a finding.
 fn heard_of(finding: Finding) -> Heard
     ensures { result ≡ heard_of finding }
 {

@@ -46,7 +46,7 @@ pub struct Spot {
     pub offset: u64,
 }
 
-/// What came of a read.
+/// The result of a read.
 #[derive(Clone, Copy, Debug, PartialEq, Eq)]
 pub enum Read {
     /// Nothing new.

@@ -6,7 +6,7 @@ use Rattle.std.specs.List.{list_any}
 abbrev pub has : List ℕ → ℕ → Bool
 has queue session = list_any (λ it. it == session) queue
 
--- a session that is ready waits behind all others, or where it does already
+-- a session that is ready waits last, or where it waits already
 abbrev pub with_session : List ℕ → ℕ → List ℕ
 with_session queue session = if has queue session then queue else queue ++ session ∷ []
 

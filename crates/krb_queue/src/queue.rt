@@ -53,7 +53,7 @@ impl Queue {
         self.order.is_empty()
     }
 
-    /// The session has something to do: it waits behind all others, or where it does already. If memory
+    /// The session has something to do: it waits last, or where it waits already. If memory
     /// runs out, the queue is as it was.
     pub fn ready(&mut self, session: u32) -> Result<(), AllocError>
         ensures ok { OnOk result (self.new ≡ with_session self.old session) }
