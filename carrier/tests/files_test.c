@@ -68,7 +68,8 @@ static int is_taken(int key, int back, int other_key, int other_back)
 static void test_names(void)
 {
     check(!is_taken_as("ann", 1, 0, 2, 0), "two sessions of one name are refused");
-    check(is_taken_as("anna", 1, 0, 2, 0) && is_taken_as("an", 1, 0, 2, 0), "a name that begins another is its own");
+    check(is_taken_as("anna", 1, 0, 2, 0) && is_taken_as("an", 1, 0, 2, 0),
+          "a name that begins another is its own");
 }
 
 /* Keys and keys of the way back, of one session and of the other, in each order. */

@@ -359,7 +359,8 @@ static void test_done(struct outbox *outbox)
     uint64_t number = 0;
     size_t len = 0;
     check(outbox_begin(outbox) == OUTBOX_OK && outbox_set_next(outbox, &of, 1, 5) == 0
-          && outbox_add_frame(outbox, of.name, 1, bytes, 3) == 0 && outbox_add_frame(outbox, of.name, 2, bytes, 3) == 0
+          && outbox_add_frame(outbox, of.name, 1, bytes, 3) == 0
+          && outbox_add_frame(outbox, of.name, 2, bytes, 3) == 0
           && outbox_add_frame(outbox, of.name, 4, bytes, 3) == 0, "frames are stored");
     check(outbox_load(outbox, &of, &it) == 0, "the outbox tells how far a session is");
     it.carried = it.done = 2;
