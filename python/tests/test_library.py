@@ -158,7 +158,7 @@ class TheHeader(unittest.TestCase):
             self.assertEqual(numbers[how.name], str(how.value))
 
     def test_limits(self):
-        limits = dict(re.findall(r"^#define KRBRELAY_(\w+) (\d+)$", self.text, re.M))
+        limits = dict(re.findall(r"^#define KRBRELAY_(\w+) (\d+)\b", self.text, re.M))
         for name in ("USER_DATA_LIMIT", "FRAME_LIMIT", "ADDRESS_LIMIT"):
             self.assertEqual(str(getattr(krbrelay, name)), limits[name])
         for name in ("TEXT_SIZE", "PEER_STATE_SIZE", "HISTORY_SIZE"):
