@@ -1,6 +1,6 @@
 """Tries a release's folder in a new Debian that has no kit: each artefact is installed by the command that the
 release's page has for it, runs its first example, and is removed. What a new system has besides is a compiler,
-make, pkg-config, Python, cargo and Go. It needs root and Debian's archive."""
+make, pkg-config, Python, cargo, Go and systemd. It needs root and Debian's archive."""
 import contextlib
 import dataclasses
 import os
@@ -12,7 +12,8 @@ import tempfile
 from lib import report, scripts
 
 RELEASE = "bookworm"
-BESIDES = ("gcc", "libc6-dev", "make", "pkg-config", "python3", "python3-venv", "cargo", "golang-go", "man-db")
+BESIDES = ("gcc", "libc6-dev", "make", "pkg-config", "python3", "python3-venv", "cargo", "golang-go", "man-db",
+           "systemd")
 HERE = "/srv"               # of a new system: nothing is there
 AT, WORK, HOME = f"{HERE}/release", f"{HERE}/work", f"{HERE}/home"     # the release's folder, one to work in, the user's
 ROW = re.compile(r"^\| (?P<what>[^|]+) \| (?P<how>[^|]+) \|", re.M)
