@@ -271,9 +271,10 @@ class Sender:
     def commit(self, turn: int, session: int, start: int, room: int) -> None:
         """A transaction that seals: it takes effect, or not, known or unknown."""
         it = self.outbox[session]
-        fails = self.world.chance("outbox", 0.2)
-        if turn != self.turn and self.world.rng.random() < 0.5 or it.next != start:
+        if turn != self.turn and self.world.rng.random() < 0.5:
             return
+        # refused if the number isn't that from which it seals, as after one of a killed process
+        fails = it.next != start or self.world.chance("outbox", 0.2)
         sealed = 0 if fails else self.seal_texts(it, session, room)
         if turn != self.turn:
             return

@@ -1,0 +1,6 @@
+//! The tests of [`krb_queue`] and [`krb_engine`]: each public function once, and each function whose
+//! contract is a law.
+#![tactic(auto)]
+
+#[cfg(test)]
+mod tests;
