@@ -12,6 +12,7 @@
 #include <pthread.h>
 #include <signal.h>
 #include <spawn.h>
+#include <stdarg.h>
 #include <stdio.h>
 #include <stdlib.h>
 #include <string.h>
@@ -32,8 +33,8 @@ static void end_child(void *given)
     struct child *child = given;
     if (child->pid > 0) {
         close(child->socket); /* its input ends */
-        kill(child->pid, SIGTERM);
-        waitpid(child->pid, NULL, 0);
+        (void)kill(child->pid, SIGTERM); /* it may have ended */
+        (void)waitpid(child->pid, NULL, 0); /* however it ended */
     }
     free(child);
 }
@@ -57,19 +58,19 @@ static int spawn(struct child *child, int socket)
     posix_spawnattr_t attributes;
     sigset_t none;
     int answer;
-    sigemptyset(&none);
+    (void)sigemptyset(&none); /* always 0 */
     if (posix_spawn_file_actions_init(&actions) != 0)
         return -1;
     if (posix_spawnattr_init(&attributes) != 0) {
-        posix_spawn_file_actions_destroy(&actions);
+        (void)posix_spawn_file_actions_destroy(&actions); /* always 0 */
         return -1;
     }
     answer = posix_spawn_file_actions_adddup2(&actions, socket, 0) || posix_spawn_file_actions_adddup2(&actions, socket, 1)
              || posix_spawnattr_setsigmask(&attributes, &none)
              || posix_spawnattr_setflags(&attributes, POSIX_SPAWN_SETSIGMASK)
              || posix_spawn(&child->pid, "/bin/sh", &actions, &attributes, words, environ);
-    posix_spawnattr_destroy(&attributes);
-    posix_spawn_file_actions_destroy(&actions);
+    (void)posix_spawnattr_destroy(&attributes); /* always 0 */
+    (void)posix_spawn_file_actions_destroy(&actions); /* always 0 */
     return answer ? -1 : 0;
 }
 
@@ -104,47 +105,56 @@ static struct child *running(void)
 static int fail(struct child *child, const char *why)
 {
     log_fact(LEVEL_ERROR, "command_failed", field_text("text", why));
-    pthread_setspecific(of_thread, NULL);
+    (void)pthread_setspecific(of_thread, NULL); /* this thread has set it before, so its room is there */
     end_child(child);
     return -1;
 }
 
 /* ---- A line for it */
 
+static void add(FILE *to, const char *format, ...)
+    __attribute__((format(printf, 2, 3)));
+static void add(FILE *to, const char *format, ...)
+{
+    va_list values;
+    va_start(values, format);
+    (void)vfprintf(to, format, values); /* line_of asks the stream at its end */
+    va_end(values);
+}
+
 static void add_name(FILE *to, const char *name, const char *text)
 {
-    fprintf(to, "\"%s\":\"", name);
+    add(to, "\"%s\":\"", name);
     for (; *text != 0; text++) {
         if (*text == '"' || *text == '\\')
-            fprintf(to, "\\%c", *text);
+            add(to, "\\%c", *text);
         else if ((unsigned char)*text < ' ')
-            fprintf(to, "\\u%04x", (unsigned)(unsigned char)*text);
+            add(to, "\\u%04x", (unsigned)(unsigned char)*text);
         else
-            putc(*text, to);
+            add(to, "%c", *text);
     }
-    fputs("\",", to);
+    add(to, "\",");
 }
 
 /* The line, which the caller frees; NULL if there is no memory. */
 static char *line_of(const struct arrived *it, size_t *len)
 {
-    static const char digits[] = "0123456789abcdef";
     char *line = NULL;
     FILE *to = open_memstream(&line, len);
     size_t i;
+    int is_whole;
     if (to == NULL)
         return NULL;
-    putc('{', to);
+    add(to, "{");
     add_name(to, "session", it->session);
     add_name(to, "client", it->client);
     add_name(to, "stream", it->stream);
-    fprintf(to, "\"number\":%llu,\"part\":%u,\"text\":\"", (unsigned long long)it->number, it->part);
-    for (i = 0; i < it->len; i++) {
-        putc(digits[it->text[i] >> 4], to);
-        putc(digits[it->text[i] & 15], to);
-    }
-    fputs("\"}\n", to);
-    if (fclose(to) == 0)
+    add(to, "\"number\":%llu,\"part\":%u,\"text\":\"", (unsigned long long)it->number, it->part);
+    for (i = 0; i < it->len; i++)
+        add(to, "%02x", (unsigned)it->text[i]);
+    add(to, "\"}\n");
+    is_whole = ferror(to) == 0;
+    if (fclose(to) == 0 && is_whole)
         return line;
     free(line);
     return NULL;
@@ -214,7 +224,8 @@ int command_take(struct store *store, const struct arrived *it, char *reason)
     if (strcmp(answer, "ok") == 0)
         return 0;
     if (strncmp(answer, "refuse", 6) == 0 && (answer[6] == ' ' || answer[6] == 0)) {
-        snprintf(reason, EFFECT_REASON, "%.*s", EFFECT_REASON - 1, answer[6] == ' ' ? answer + 7 : "");
+        const char *told = answer[6] == ' ' ? answer + 7 : "";
+        (void)snprintf(reason, EFFECT_REASON, "%.*s", EFFECT_REASON - 1, told); /* a long one is cut */
         return EFFECT_REFUSED;
     }
     return strcmp(answer, "again") == 0 ? -1 : fail(child, "it answers neither ok, refuse nor again");

@@ -118,7 +118,7 @@ static struct refused *find_or_add(struct memory *memory, const struct arrived *
         return found;
     found = &memory->at[memory->next++ % REMEMBERED];
     *found = (struct refused){ .number = it->number, .part = it->part };
-    copy_text(found->session, sizeof found->session, it->session);
+    (void)copy_text(found->session, sizeof found->session, it->session); /* its room is a name's */
     return found;
 }
 

@@ -27,7 +27,7 @@ NOTHING = {
     "log_fact", "log_numbers",      # macros of carrier/
 }
 # Functions of carrier/ that log a fault, and answer always the same, for a caller to return.
-REPORTS = {"report", "nats_report", "postgresql_report"}
+REPORTS = {"report", "nats_report", "postgresql_report", "refuse"}
 
 TOKEN = re.compile(r"""(?P<comment>/\*.*?\*/|//[^\n]*)|(?P<line>^[ \t]*\#(?:\\\n|[^\n])*)
     |(?P<text>"(?:\\.|[^"\\])*"|'(?:\\.|[^'\\])*')|(?P<word>[A-Za-z_]\w*)|(?P<number>\d[\w.]*)

@@ -2,6 +2,7 @@
  *     shard_test FOLDER
  * Built with -Wl,--wrap=free. The last line is 'passed' or 'FAILED ..'. */
 #include "check.h"
+#include "effects.h"
 #include "shard.h"
 
 #include "../../c/tests/frames.h"
@@ -87,6 +88,7 @@ int main(int count, char **words)
     sessions = sessions_in(words[1]);
     carrier = carrier_open(&options.carrier);
     check(carrier != NULL && carrier_make(carrier, SHARD, &incarnation) == 0, "a shard is made");
+    check(effects_choose(NULL, 0) == 0, "the effect is of effect.c");
     check(shard_start(&shard) == 0, "it is opened");
     shard_use(&shard, sessions);
     test_times(&shard, carrier);
