@@ -1,4 +1,5 @@
-/* What a shard takes of frames that an independent sealer made, and what it leaves in memory:
+/* What a shard takes of frames, among them those of an independent sealer, what becomes of a transaction
+ * whose effect fails, and what is left in memory:
  *     shard_test FOLDER
  * Built with -Wl,--wrap=free. The last line is 'passed' or 'FAILED ..'. */
 #include "check.h"
@@ -7,6 +8,7 @@
 
 #include "../../c/tests/frames.h"
 
+#include <sqlite3.h>
 #include <string.h>
 #include <sys/stat.h>
 
@@ -43,15 +45,20 @@ static struct sessions *sessions_in(const char *folder)
     return read;
 }
 
-static void publish(struct carrier *carrier, const uint8_t *frame, size_t len)
+static void publish_at(struct carrier *carrier, uint64_t number, const uint8_t *frame, size_t len)
 {
     static struct confirmed list[1];
     int tries;
-    check(carrier_publish(carrier, SHARD, "tom", 0, NUMBER, frame, len) == 0, "a frame is published");
+    check(carrier_publish(carrier, SHARD, "tom", 0, number, frame, len) == 0, "a frame is published");
     for (tries = 0; tries < STEPS; tries++)
         if (carrier_confirmed(carrier, list, 1, 100) == 1)
             return;
     check(0, "it is confirmed");
+}
+
+static void publish(struct carrier *carrier, const uint8_t *frame, size_t len)
+{
+    publish_at(carrier, NUMBER, frame, len);
 }
 
 static void take(struct shard *shard)
@@ -73,6 +80,86 @@ static void test_times(struct shard *shard, struct carrier *carrier)
     check(shard->counts.texts == 1, "one with its time does");
 }
 
+/* ---- Records of several texts, and effects that fail */
+
+static const char *const texts[] = { "first", "", "refused", "last" };
+enum { TEXTS = sizeof texts / sizeof *texts };
+
+/* Publishes the session's record under this number: a batch of the first so many texts, or one text. */
+static void publish_texts(struct carrier *carrier, uint32_t number, size_t count)
+{
+    static const uint8_t key[16] = { 0, 1, 2, 3, 4, 5, 6, 7, 8, 9, 10, 11, 12, 13, 14, 15 };
+    static const uint8_t confounder[16] = { 0 };
+    const struct krbrelay_session session = { .mode = KRBRELAY_SAFE, .first = number,
+                                              .sender = { 2, 4, { 10, 0, 0, 1 } } };
+    struct krbrelay_sealer sealer = { NULL };
+    struct krbrelay_moment now;
+    uint8_t batch[64], frame[256];
+    size_t size = 0, len, i;
+    for (i = 0; i < count; i++)
+        check(krbrelay_batch_add(batch, sizeof batch, &size, (const uint8_t *)texts[i], strlen(texts[i]))
+              == KRBRELAY_OK, "a batch has room for its texts");
+    check(krbrelay_now(&now) == KRBRELAY_OK
+          && krbrelay_sealer_new(&sealer, 17, key, sizeof key, &session) == KRBRELAY_OK
+          && krbrelay_sealer_seal_record(&sealer, KRBRELAY_BATCH, batch, size, &now, confounder, frame,
+                                         sizeof frame, &len) == KRBRELAY_OK, "a record is sealed");
+    krbrelay_sealer_free(&sealer);
+    publish_at(carrier, number, frame, len);
+}
+
+/* The one number that a query of the store tells. */
+static int64_t told(sqlite3 *store, const char *query)
+{
+    sqlite3_stmt *select = NULL;
+    int64_t number;
+    check(sqlite3_prepare_v2(store, query, -1, &select, NULL) == SQLITE_OK
+          && sqlite3_step(select) == SQLITE_ROW, "the store is asked");
+    number = sqlite3_column_int64(select, 0);
+    check(sqlite3_finalize(select) == SQLITE_OK, "it has answered");
+    return number;
+}
+
+static void change(sqlite3 *store, const char *statement)
+{
+    check(sqlite3_exec(store, statement, NULL, NULL, NULL) == SQLITE_OK, "the store is changed");
+}
+
+/* Whether the effects of this number are the first so many texts, each once, under its part. */
+static int has_texts(sqlite3 *store, int64_t number, unsigned count)
+{
+    sqlite3_stmt *select = NULL;
+    unsigned at = 0;
+    check(sqlite3_prepare_v2(store, "SELECT part, text FROM effect WHERE number = ? ORDER BY id", -1, &select,
+                             NULL) == SQLITE_OK
+          && sqlite3_bind_int64(select, 1, number) == SQLITE_OK, "the effects are asked for");
+    while (sqlite3_step(select) == SQLITE_ROW && at < count
+           && sqlite3_column_int64(select, 0) == at
+           && (size_t)sqlite3_column_bytes(select, 1) == strlen(texts[at])
+           && (texts[at][0] == 0 || memcmp(sqlite3_column_blob(select, 1), texts[at], strlen(texts[at])) == 0))
+        at++;
+    check(sqlite3_finalize(select) == SQLITE_OK, "that is answered");
+    return at == count && (unsigned)told(store, "SELECT count(*) FROM effect WHERE number > 7") == count;
+}
+
+/* An effect fails in the middle of a record. Nothing of its transaction is stored, and once the effect is
+ * possible again, all of it is: each text once, under its own part. */
+static void test_failing_effect(struct shard *shard, struct carrier *carrier, sqlite3 *store)
+{
+    int tries, failed = 0;
+    change(store, "CREATE TRIGGER refuses BEFORE INSERT ON effect WHEN NEW.text = CAST('refused' AS BLOB)"
+                  " BEGIN SELECT RAISE(ABORT, 'refused'); END");
+    publish_texts(carrier, NUMBER + 1, TEXTS);
+    for (tries = 0; tries < STEPS && failed < 2; tries++)
+        failed += shard_step(shard, 10) < 0;
+    check(failed == 2, "a step whose effect fails says so, each time");
+    check(has_texts(store, NUMBER + 1, 0), "none of its texts took effect");
+    check(told(store, "SELECT next FROM session WHERE name = 'tom'") == NUMBER + 1, "its number is still demanded");
+    change(store, "DROP TRIGGER refuses");
+    take(shard);
+    check(has_texts(store, NUMBER + 1, TEXTS), "then each text takes effect, once");
+    check(told(store, "SELECT next FROM session WHERE name = 'tom'") == NUMBER + 2, "and its number is passed");
+}
+
 int main(int count, char **words)
 {
     static char store[4096], where[4096];
@@ -80,6 +167,7 @@ int main(int count, char **words)
     struct shard shard = { .options = &options, .number = SHARD };
     struct sessions *sessions;
     struct carrier *carrier;
+    sqlite3 *asked = NULL;
     uint64_t incarnation = 0;
     check(count == 2, "shard_test FOLDER");
     snprintf(store, sizeof store, "sqlite:%s/shard.db", words[1]);
@@ -91,7 +179,11 @@ int main(int count, char **words)
     check(effects_choose(NULL, 0) == 0, "the effect is of effect.c");
     check(shard_start(&shard) == 0, "it is opened");
     shard_use(&shard, sessions);
+    check(sqlite3_open(store + strlen("sqlite:"), &asked) == SQLITE_OK
+          && sqlite3_busy_timeout(asked, 2000) == SQLITE_OK, "its store is opened beside it");
     test_times(&shard, carrier);
+    test_failing_effect(&shard, carrier, asked);
+    check(sqlite3_close(asked) == SQLITE_OK, "it is closed");
     watched = shard.bytes;
     memset(shard.bytes, 'x', KRBRELAY_FRAME_LIMIT);
     shard_stop(&shard);
