@@ -9,7 +9,7 @@ use Rattle.krb_base.specs.Limits.{frame_limit}
 use Rattle.krb_der.specs.Message.{Spells, Decodes, UniqueSpelling}
 use Rattle.krb_der.specs.Reading.{message_of}
 use Rattle.krb_der.specs.declared.message.Message.{Message}
-use Rattle.krb_tlv.specs.declared.error.DerError.TheVariants as errors
+use Rattle.krb_der.specs.declared.error.DerError.TheVariants as errors
 use Rattle.krb_der.proofs.Grammar.{message_decodes}
 use Rattle.krb_commands.specs.declared.reading.Reading.{Reading}
 use Rattle.krb_commands.specs.declared.reading.Reading.TheVariants as read

@@ -5,8 +5,8 @@ use Rattle.std.proofs.lemmas.Bool.{cases_lt}
 use Rattle.std.proofs.lemmas.List.{drop_at, take_at}
 use Rattle.std.specs.Global.{Vec}
 use Rattle.krb_base.specs.Limits.{frame_limit}
-use Rattle.krb_tlv.specs.declared.error.DerError.{DerError}
-use Rattle.krb_tlv.specs.declared.error.DerError.TheVariants as errors
+use Rattle.krb_der.specs.declared.error.DerError.{DerError}
+use Rattle.krb_der.specs.declared.error.DerError.TheVariants as errors
 use Rattle.krb_der.specs.declared.body.Body.{Body}
 use Rattle.krb_der.specs.declared.private.PrivMsg.{PrivMsg}
 use Rattle.krb_der.specs.declared.private.Draft.{Draft}

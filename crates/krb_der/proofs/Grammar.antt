@@ -1,7 +1,7 @@
 -- The values of the grammar, each read from its spelling and from nothing else.
-use Rattle.std.proofs.Common.{◌≡◌, ℕ, ◌+◌, ◌^◌, ◌<◌, ◌≤◌, Bool, true, false, ltb, ℤ, pos, negsuc, List, [], ◌∷◌, ◌++◌, length, Option, Some, Result, Ok, Err, refl, sym, ap, subst, ◌∙◌, arith, inl, inr, lit≤, lit<, ◌⊎◌}
+use Rattle.std.proofs.Common.{◌≡◌, ℕ, ◌+◌, ◌^◌, ◌<◌, ◌≤◌, Bool, true, false, ltb, ℤ, pos, negsuc, List, [], ◌∷◌, ◌++◌, length, Option, Some, None, Result, Ok, Err, refl, sym, ap, subst, ◌∙◌, arith, inl, inr, lit≤, lit<, ◌⊎◌}
 use Rattle.std.specs.List.{concat}
-use Rattle.std.specs.Prelude.{MatchResult, IfSome}
+use Rattle.std.specs.Prelude.{MatchResult, IfSome, IsSome}
 use Rattle.std.proofs.lemmas.Bool.{lt-ltb, ltb-true}
 use Rattle.krb_der.specs.declared.address.HostAddress.{HostAddress}
 use Rattle.krb_der.specs.declared.body.Body.{Body}
@@ -25,16 +25,16 @@ use Rattle.krb_der.specs.Message.{private}
 use Rattle.krb_der.specs.Message.{message, IsMessage, SpellsWithin, Spells, SpellsPart, OneSpelling, UniqueSpelling, Decodes}
 use Rattle.krb_base.specs.Limits.{frame_limit}
 use Rattle.krb_base.specs.Steps.{◌>>=◌}
-use Rattle.krb_tlv.specs.Reading.{alone, signed, int_of, as_int32, as_below, int32_of, below_of, int32_element_of, below_element_of, octets_of, starts_with, tagged_at, Gives}
-use Rattle.krb_der.specs.Reading.{typed_of, address_of, time_element_of, after_of, body_of, safe_of, encrypted_of, private_of, message_of, part_of, FindsSpelt}
+use Rattle.krb_tlv.specs.Reading.{alone, signed, int_of, as_int32, as_below, int32_of, below_of, int32_element_of, below_element_of, octets_of, starts_with, tagged_at, Finds}
+use Rattle.krb_der.specs.Reading.{typed_of, address_of, time_element_of, after_of, body_of, safe_of, encrypted_of, private_of, message_of, part_of, FindsSpelt, Gives}
 use Rattle.krb_base.specs.Bytes.{AreBytes}
 use Rattle.krb_time.proofs.Times.{time-found, time-again}
 use Rattle.krb_base.proofs.OptionSteps.{bind_some, provided, some_is}
 use Rattle.krb_tlv.proofs.Elements.{int-found, int-again, chosen, tagged-again}
 use Rattle.krb_tlv.proofs.Readers.{Reads, no_field, field, taken_field, optional_field, all_fields, in_tag, under_tag, length-tagged}
 use Rattle.std.proofs.lemmas.Option.{some_pair_parts, none-some}
-use Rattle.krb_tlv.specs.declared.error.DerError.{DerError}
-use Rattle.krb_tlv.specs.declared.error.DerError.TheVariants as errors
+use Rattle.krb_der.specs.declared.error.DerError.{DerError}
+use Rattle.krb_der.specs.declared.error.DerError.TheVariants as errors
 
 -- numbers of a range
 number_reads : {V : Type 0} (P : V → Type 0) (value : V → ℤ) (of : Bool × ℕ → Option V)
@@ -351,17 +351,34 @@ parts_found = finds IsBody part part_of part_reads
 
 -- ---- decoding
 
+spells-nothing : {V : Type 0} (P : V → Type 0) (spell : V → List ℕ) (of : List ℕ → Option V) → Reads P spell of → (bytes : List ℕ) → of bytes ≡ None
+    → (v : V) → SpellsWithin frame_limit P spell v bytes → ⊥
+spells-nothing P spell of r bytes e v s =
+    let short : length (spell v) ≤ frame_limit = subst (λ (z : List ℕ). length z ≤ frame_limit) s.spelt s.short in
+    none-some v (sym e ∙ ap of s.spelt ∙ r.again v s.in_range (omega arith))
+
+spells-read : {V : Type 0} (P : V → Type 0) (spell : V → List ℕ) (of : List ℕ → Option V) → Reads P spell of → (bytes : List ℕ) (v : V) → AreBytes bytes → length bytes ≤ frame_limit
+    → of bytes ≡ Some v → SpellsWithin frame_limit P spell v bytes
+spells-read P spell of r bytes v fits le e = let h = r.found bytes v fits e in record { in_range = h.0; spelt = h.1; short = le }
+
+spells-some : {V : Type 0} (P : V → Type 0) (spell : V → List ℕ) (of : List ℕ → Option V) → Reads P spell of → (bytes : List ℕ) (o : Option V) → AreBytes bytes → length bytes ≤ frame_limit
+    → of bytes ≡ o → IsSome o → (v : V) × SpellsWithin frame_limit P spell v bytes
+spells-some P spell of r bytes (Some v) fits le e some = (v, spells-read P spell of r bytes v fits le e)
+spells-some P spell of r bytes None fits le e some = absurd cc
+
+-- what a view of the bytes shows is what they spell
+pub message_viewed : (bytes : List ℕ) (m : Message) → AreBytes bytes → length bytes ≤ frame_limit → message_of bytes ≡ Some m → Spells m bytes
+message_viewed = spells-read IsMessage message message_of message_reads
+
+pub message_unseen : (bytes : List ℕ) → message_of bytes ≡ None → (m : Message) → Spells m bytes → ⊥
+message_unseen = spells-nothing IsMessage message message_of message_reads
+
 decodes : {V : Type 0} (P : V → Type 0) (spell : V → List ℕ) (of : List ℕ → Option V) → Reads P spell of → (bytes : List ℕ) (r : Result V DerError)
     → AreBytes bytes → length bytes ≤ frame_limit → Gives (λ v. v) r (of bytes) → Decodes (SpellsWithin frame_limit P spell) r bytes
 decodes P spell of r bytes (Ok v) fits le e = let h = r.found bytes v fits e in record { in_range = h.0; spelt = h.1; short = le }
 decodes P spell of r bytes (Err errors.TooLong) fits le e = absurd e
-decodes P spell of r bytes (Err errors.Malformed) fits le e = (
-  le,
-  λ v s.
-      let short : length (spell v) ≤ frame_limit = subst (λ (z : List ℕ). length z ≤ frame_limit) s.spelt s.short in
-      none-some v (sym e ∙ ap of s.spelt ∙ r.again v s.in_range (omega arith)),
-)
-decodes P spell of r bytes (Err errors.Memory) fits le e = le
+decodes P spell of r bytes (Err errors.Malformed) fits le e = (le, spells-nothing P spell of r bytes e)
+decodes P spell of r bytes (Err errors.Memory) fits le e = spells-some P spell of r bytes (of bytes) fits le refl e
 
 pub message_decodes : (bytes : List ℕ) (r : Result Message DerError) → AreBytes bytes → length bytes ≤ frame_limit → Gives (λ m. m) r (message_of bytes) → Decodes Spells r bytes
 message_decodes = decodes IsMessage message message_of message_reads

@@ -1,6 +1,6 @@
 -- Where the data of a body stand in its spelling.
-use Rattle.std.proofs.Common.{◌≡◌, ℕ, ◌+◌, ◌-◌, List, [], ◌∷◌, ◌++◌, length, take, drop, Some, Result, Ok, Err, refl, sym, ap, subst, ◌∙◌, arith, append_assoc}
-use Rattle.std.specs.Prelude.{IfOk}
+use Rattle.std.proofs.Common.{◌≡◌, ℕ, ◌+◌, ◌-◌, List, [], ◌∷◌, ◌++◌, length, take, drop, Option, Some, None, refl, sym, ap, subst, ◌∙◌, arith, append_assoc}
+use Rattle.std.specs.Prelude.{IfSome}
 use Rattle.std.proofs.lemmas.List.{take_at, drop_at, take-append-drop, length-append, append-nil}
 use Rattle.krb_tlv.specs.Tag.{context}
 use Rattle.krb_tlv.specs.UniversalTag.{octet_string_tag}
@@ -56,7 +56,7 @@ data-place bytes user_data rest size whole (front, e) =
 pub ends-dropped : (n : ℕ) (last bytes : List ℕ) → EndsWith last (drop n bytes) → EndsWith last bytes
 ends-dropped n last bytes h = ends-again last (drop n bytes) bytes h (take n bytes, sym (take-append-drop n bytes))
 
--- what is known of a result is known of what it implies
-pub if-ok : {A E : Type 0} (P Q : A → Type 0) (r : Result A E) → ((x : A) → P x → Q x) → IfOk r P → IfOk r Q
-if-ok P Q (Ok x) f h = f x h
-if-ok P Q (Err e) f h = tt
+-- what is known of an optional value is known of what it implies
+pub if-some : {A : Type 0} (P Q : A → Type 0) (o : Option A) → ((x : A) → P x → Q x) → IfSome o P → IfSome o Q
+if-some P Q (Some x) f h = f x h
+if-some P Q None f h = tt

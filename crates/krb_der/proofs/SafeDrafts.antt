@@ -4,8 +4,8 @@ use Rattle.std.specs.Prelude.{IsErrAnd, IsTrue, ◌↔◌}
 use Rattle.std.specs.List.{concat}
 use Rattle.std.proofs.lemmas.List.{drop_at, take_at}
 use Rattle.krb_base.specs.Limits.{frame_limit}
-use Rattle.krb_tlv.specs.declared.error.DerError.{DerError}
-use Rattle.krb_tlv.specs.declared.error.DerError.TheVariants as errors
+use Rattle.krb_der.specs.declared.error.DerError.{DerError}
+use Rattle.krb_der.specs.declared.error.DerError.TheVariants as errors
 use Rattle.krb_tlv.specs.Tag.{context}
 use Rattle.krb_tlv.specs.Writing.{IsShort, element_size}
 use Rattle.krb_tlv.proofs.Readers.{size-tagged}

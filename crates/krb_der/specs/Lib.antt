@@ -1,6 +1,7 @@
 pub use Rattle.krb_time.specs.Calendar
 pub use Rattle.krb_time.specs.Time
 pub use Rattle.krb_time.specs.Moment
+pub mod Error
 pub mod KerberosTime
 pub mod Typed
 pub mod Address
@@ -8,6 +9,7 @@ pub mod Body
 pub mod Safe
 pub mod Private
 pub mod Message
+pub mod View
 pub mod Earlier
 pub mod Size
 pub mod Reading

@@ -3,8 +3,8 @@
 use Rattle.std.specs.Prelude.{◌≡◌, ℕ, ◌<◌, ◌≤◌, ℤ, pos, List, [], ◌++◌, length, take, drop, Result, Ok, Err}
 use Rattle.std.specs.Global.{Vec}
 use Rattle.krb_base.specs.Limits.{frame_limit}
-use Rattle.krb_tlv.specs.declared.error.DerError.{DerError}
-use Rattle.krb_tlv.specs.declared.error.DerError.TheVariants as errors
+use Rattle.krb_der.specs.declared.error.DerError.{DerError}
+use Rattle.krb_der.specs.declared.error.DerError.TheVariants as errors
 use Rattle.krb_der.specs.declared.body.Body.{Body}
 use Rattle.krb_der.specs.declared.safe.SafeMsg.{SafeMsg}
 use Rattle.krb_der.specs.declared.safe.Covering.{Covering}
@@ -57,13 +57,23 @@ Spells = SpellsWithin frame_limit IsMessage message
 abbrev pub SpellsPart : Body → List ℕ → Type 0
 SpellsPart = SpellsWithin frame_limit IsBody part
 
--- What a reading returns: the value, that the bytes are too many, or that they spell nothing.
+-- What a reading returns: the value, that the bytes are too many, or that they spell nothing. It runs
+-- out of memory only where they spell a value.
 abbrev pub Decodes : {V : Type 0} → (V → List ℕ → Type 0) → Result V DerError → List ℕ → Type 0
 Decodes Spelt (Ok v) bytes = Spelt v bytes
 Decodes Spelt (Err errors.TooLong) bytes = frame_limit < length bytes
 Decodes Spelt (Err errors.Malformed) bytes =
     (length bytes ≤ frame_limit) × ((v : _) → Spelt v bytes → ⊥)
-Decodes Spelt (Err errors.Memory) bytes = length bytes ≤ frame_limit
+Decodes {V} Spelt (Err errors.Memory) bytes = (v : V) × Spelt v bytes
+
+-- What a reading returns that copies nothing, of which this is seen: it never runs out of memory.
+abbrev pub Views : {X V : Type 0} → (V → List ℕ → Type 0) → (X → V) → Result X DerError → List ℕ
+    → Type 0
+Views Spelt view (Ok x) bytes = Spelt (view x) bytes
+Views Spelt view (Err errors.TooLong) bytes = frame_limit < length bytes
+Views Spelt view (Err errors.Malformed) bytes =
+    (length bytes ≤ frame_limit) × ((v : _) → Spelt v bytes → ⊥)
+Views Spelt view (Err errors.Memory) bytes = ⊥
 
 -- What a writing returns: the spelling, or that it would be too long.
 abbrev pub Encodes : {V : Type 0} → (V → List ℕ → Type 0) → (V → List ℕ) → V

@@ -2,7 +2,7 @@
 -- left to right, if they spell one. The law `reading_laws` ties `message_of` and `part_of` to the
 -- grammar; the contracts of `decode` and `decode_part` are in the words of Message.antt.
 use Rattle.std.specs.Prelude.{◌≡◌, ℕ, ◌+◌, ◌^◌, ◌≤◌, ◌↔◌, ℤ, List, ◌++◌, length}
-use Rattle.std.specs.Prelude.{Option, Some, if◌then◌else◌}
+use Rattle.std.specs.Prelude.{Option, Some, None, IsSome, Result, Ok, Err, if◌then◌else◌}
 use Rattle.krb_base.specs.Bytes.{AreBytes}
 use Rattle.krb_base.specs.Limits.{frame_limit}
 use Rattle.krb_time.specs.Moment.{last_usec}
@@ -10,7 +10,9 @@ use Rattle.krb_time.specs.Reading.{time_of}
 use Rattle.krb_base.specs.Steps.{◌>>=◌}
 use Rattle.krb_der.specs.declared.address.HostAddress.{HostAddress}
 use Rattle.krb_der.specs.declared.body.Body.{Body}
-use Rattle.krb_der.specs.declared.body.Details.{Details}
+use Rattle.krb_der.specs.declared.body_view.Details.{Details}
+use Rattle.krb_der.specs.declared.error.DerError.{DerError}
+use Rattle.krb_der.specs.declared.error.DerError.TheVariants as errors
 use Rattle.krb_der.specs.declared.safe.SafeMsg.{SafeMsg}
 use Rattle.krb_der.specs.declared.private.PrivMsg.{PrivMsg}
 use Rattle.krb_der.specs.declared.message.Message.{Message}
@@ -19,6 +21,17 @@ use Rattle.krb_tlv.specs.Tag.{context, application}
 use Rattle.krb_tlv.specs.UniversalTag.{generalized_time_tag, sequence_tag}
 use Rattle.krb_tlv.specs.Reading.{ended, tagged_at, alone, field_at, starts_with, optional_at}
 use Rattle.krb_tlv.specs.Reading.{int32_element_of, below_element_of, octets_of}
+
+-- What a call returned, seen by view, is what reading gives. It runs out of memory only where reading
+-- gives something.
+abbrev pub FailsToRead : {Y : Type 0} → DerError → Option Y → Type 0
+FailsToRead errors.TooLong read = ⊥
+FailsToRead errors.Malformed read = read ≡ None
+FailsToRead errors.Memory read = IsSome read
+
+abbrev pub Gives : {X Y : Type 0} → (X → Y) → Result X DerError → Option Y → Type 0
+Gives view (Ok x) read = read ≡ Some (view x)
+Gives view (Err e) read = FailsToRead e read
 
 -- these bytes are the last of others
 abbrev pub EndsWith : List ℕ → List ℕ → Type 0

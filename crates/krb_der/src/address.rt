@@ -1,12 +1,13 @@
 ghost use Rattle.std.specs.Prelude.{◌≡◌, ◌↔◌, IsTrue, IfOk};
 ghost use Rattle.krb_der.specs.Address.{IsAddress, same_address};
-ghost use Rattle.krb_tlv.specs.Reading.{Gives};
+ghost use Rattle.krb_tlv.specs.Reading.{Finds};
 ghost use Rattle.krb_der.specs.Reading.{address_of};
 
 use crate::typed::read_typed;
 use krb_base::Bytes;
-use krb_tlv::{DerError, known_int32};
+use krb_tlv::known_int32;
 use std::alloc::{AllocError, Global};
+use std::marker::Model;
 
 /// A network address (RFC 4120 section 5.2.5).
 ///
@@ -52,13 +53,37 @@ impl Clone for HostAddress {
     }
 }
 
+/// An address whose bytes lie in its spelling.
+#[derive(Drop)]
+pub struct AddressView<'a> {
+    kind: i32,
+    bytes: &'a [u8],
+}
+
+impl<'a> Model for AddressView<'a> {
+    ghost use Rattle.krb_der.specs.declared.address.HostAddress.{HostAddress};
+
+    ghost Value = { HostAddress };
+
+    ghost view = { λ a. record { kind = a.kind; bytes = a.bytes.now } };
+}
+
+impl<'a> AddressView<'a> {
+    /// The address, with bytes of its own.
+    pub fn to_owned(&self, alloc: Global) -> Result<HostAddress, AllocError>
+        ensures { IfOk result (λ address. address ≡ self.now) }
+    {
+        HostAddress::new(alloc, self.kind, self.bytes)
+    }
+}
+
 /// The address that the bytes spell.
 #[tactic(auto, unfolding(crate::specs::Reading::address_of))]
-pub fn read_address(alloc: Global, bytes: &[u8]) -> Result<HostAddress, DerError>
-    ensures { Gives (λ x. x) result (address_of bytes.now) }
+pub fn read_address(bytes: &[u8]) -> Option<AddressView<'_>>
+    ensures { Finds (λ x. x) result (address_of bytes.now) }
 {
-    let (kind, bytes) = read_typed(alloc, bytes)?;
-    Ok(HostAddress { kind, bytes })
+    let (kind, bytes) = read_typed(bytes)?;
+    Some(AddressView { kind, bytes })
 }
 
 /// A law: the number of an address is an Int32, as its type says. It does nothing when it runs.

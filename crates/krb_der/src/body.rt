@@ -1,33 +1,24 @@
-ghost use Rattle.std.specs.Prelude.{◌≡◌, ◌↔◌, ◌<◌, ◌≤◌, ◌+◌, ◌*◌, ◌++◌, ℕ, List, length, Some, IfOk, IfErr, OnOk, IfSome, IsTrue};
+ghost use Rattle.std.specs.Prelude.{◌≡◌, ◌↔◌, ◌<◌, ◌≤◌, ◌+◌, ◌*◌, ◌++◌, length, Some, OnOk, IfSome, IsTrue};
 ghost use Rattle.std.specs.List.{concat};
 ghost use Rattle.krb_base.specs.Limits.{frame_limit};
 ghost use Rattle.krb_tlv.specs.Element.{optional};
 ghost use Rattle.krb_time.specs.Moment.{secs_of, usec_of};
 ghost use Rattle.krb_time.specs.Time.{IsSecond};
-ghost use Rattle.krb_time.specs.Reading.{time_of};
 ghost use Rattle.krb_der.specs.KerberosTime;
 ghost use Rattle.krb_der.specs.Address.{host_address, IsAddress};
 ghost use Rattle.krb_der.specs.Body.{InRange, IsBody, body, body_fields};
-ghost use Rattle.krb_tlv.specs.Reading.{FailsToRead, Gives, Takes, optional_at};
-ghost use Rattle.krb_der.specs.Reading.{EndsWith, time_element_of, address_of, after_of, body_of, body_with};
 ghost use Rattle.krb_der.specs.Size.{HasAddressesWithinLimit};
 ghost use Rattle.krb_tlv.specs.Writing.{IsShort};
 ghost use Rattle.krb_der.specs.Writing.{IsShortBody, before_data, body_fields_size, body_size, fields_after_data};
 
-use crate::address::{HostAddress, known_address, read_address};
+use crate::address::{HostAddress, known_address};
 use crate::tag;
 use crate::typed::{typed_size, write_typed_field};
 use krb_base::{Bytes, FRAME_LIMIT};
-use krb_time::{LAST_SECOND, LAST_USEC, Moment, kerberos_time, read_kerberos_time};
-use krb_tlv::{
-    DerError, Reader, UINT32_LIMIT, Writer, known_uint32, natural_field_size, only_element,
-    read_optional_natural, size_around, write_natural_field,
-};
-use std::alloc::{AllocError, Global};
+use krb_time::{LAST_SECOND, LAST_USEC, Moment, kerberos_time};
+use krb_tlv::{Writer, known_uint32, natural_field_size, size_around, write_natural_field};
+use std::alloc::AllocError;
 use std::marker::Model;
-
-/// The first number that is no count of microseconds beyond a second.
-const MICROSECONDS_END: u64 = LAST_USEC as u64 + 1;
 
 /// What KRB-SAFE and the encrypted part of KRB-PRIV carry (RFC 4120 sections 5.6.1 and 5.7.1).
 #[derive(Debug, Drop)]
@@ -61,115 +52,6 @@ impl Body {
         };
         time && usec
     }
-}
-
-/// The second whose text the bytes are.
-fn time_at(text: &[u8]) -> Option<u64>
-    ensures { result ≡ time_of text.now }
-{
-    read_kerberos_time(text)
-}
-
-fn read_time(bytes: &[u8]) -> Result<u64, DerError>
-    ensures { Gives (λ x. x) result (time_element_of bytes.now) }
-{
-    let mut reader = Reader::new(bytes);
-    let secs = time_at(reader.element(tag::GENERALIZED_TIME)?).ok_or(DerError::Malformed)?;
-    reader.finish(secs)
-}
-
-#[tactic(auto, unfolding(krb_tlv::specs::Reading::optional_at))]
-fn read_optional_time(fields: &mut Reader<'_>, tag: u8) -> Result<Option<u64>, DerError>
-    ensures { Takes (λ x. x) result fields.new (optional_at tag time_element_of fields.old) }
-{
-    if !fields.is_at(tag) {
-        return Ok(None);
-    }
-    let secs = read_time(fields.element(tag)?)?;
-    Ok(Some(secs))
-}
-
-#[tactic(auto, unfolding(krb_tlv::specs::Reading::optional_at))]
-fn read_optional_address(
-    alloc: Global,
-    fields: &mut Reader<'_>,
-    tag: u8,
-) -> Result<Option<HostAddress>, DerError>
-    ensures { Takes (λ x. x) result fields.new (optional_at tag address_of fields.old) }
-{
-    if !fields.is_at(tag) {
-        return Ok(None);
-    }
-    let address = read_address(alloc, fields.element(tag)?)?;
-    Ok(Some(address))
-}
-
-/// What a body carries after its data.
-#[derive(Drop)]
-pub struct Details {
-    time: Option<u64>,
-    usec: Option<u32>,
-    seq: Option<u32>,
-    s_addr: HostAddress,
-    r_addr: Option<HostAddress>,
-}
-
-impl Details {
-    /// The body with these data.
-    pub fn with(self, user_data: Bytes) -> Body
-        ensures { result ≡ body_with user_data self }
-    {
-        Body {
-            user_data,
-            time: self.time,
-            usec: self.usec,
-            seq: self.seq,
-            s_addr: self.s_addr,
-            r_addr: self.r_addr,
-        }
-    }
-}
-
-/// The data of the body that the bytes spell, and the fields after them, which are the last of the
-/// bytes.
-#[tactic(auto, unfolding(crate::specs::Reading::body_of, krb_tlv::specs::Reading::octets_of))]
-pub fn split_data(bytes: &[u8]) -> Result<(&[u8], &[u8]), DerError>
-    ensures fields { IfOk result (λ x. body_of bytes.now ≡ after_of x.0.now x.1.now) }
-    ensures refused { IfErr result (λ e. FailsToRead e (body_of bytes.now)) }
-    ensures place { IfOk result (λ x. EndsWith (x.0.now ++ x.1.now) bytes.now) }
-{
-    let mut fields = Reader::inside(tag::SEQUENCE, bytes)?;
-    let data = only_element(tag::OCTET_STRING, fields.element(tag::FIELD_0)?)?;
-    Ok((data, fields.rest()))
-}
-
-/// The fields after the data.
-#[tactic(auto, unfolding(crate::specs::Reading::after_of))]
-pub fn read_details(alloc: Global, bytes: &[u8]) -> Result<Details, DerError>
-    ensures { (user_data : List ℕ) → Gives (body_with user_data) result (after_of user_data bytes.now) }
-{
-    let mut fields = Reader::new(bytes);
-    let time = read_optional_time(&mut fields, tag::FIELD_1)?;
-    let usec = read_optional_natural(&mut fields, tag::FIELD_2, MICROSECONDS_END)?;
-    let seq = read_optional_natural(&mut fields, tag::FIELD_3, UINT32_LIMIT)?;
-    let s_addr = read_address(alloc, fields.element(tag::FIELD_4)?)?;
-    let r_addr = read_optional_address(alloc, &mut fields, tag::FIELD_5)?;
-    fields.finish(Details {
-        time,
-        usec,
-        seq,
-        s_addr,
-        r_addr,
-    })
-}
-
-/// The body that the bytes spell.
-pub fn read_body(alloc: Global, bytes: &[u8]) -> Result<Body, DerError>
-    ensures { Gives (λ x. x) result (body_of bytes.now) }
-{
-    let (data, following) = split_data(bytes)?;
-    let user_data = Bytes::new(Vec::from_slice(alloc, data)?);
-    Ok(read_details(alloc, following)?.with(user_data))
 }
 
 /// Whether the bytes are no more than a message may have.

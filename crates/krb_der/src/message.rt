@@ -1,16 +1,18 @@
-ghost use Rattle.std.specs.Prelude.{◌≡◌, MatchResult};
-ghost use Rattle.krb_tlv.specs.declared.error.DerError.TheVariants.{Memory};
+ghost use Rattle.std.specs.Prelude.{◌≡◌, IfOk, MatchResult};
+ghost use Rattle.krb_der.specs.declared.error.DerError.TheVariants.{Memory};
 ghost use Rattle.krb_der.specs.declared.message.Message.{Message as MessageValue};
-ghost use Rattle.krb_der.specs.Message.{Decodes, Spells};
-ghost use Rattle.krb_tlv.specs.Reading.{Gives};
-ghost use Rattle.krb_der.specs.Reading.{message_of};
+ghost use Rattle.krb_der.specs.Message.{Decodes, Spells, Views};
+ghost use Rattle.krb_der.specs.View.{viewed};
+ghost use Rattle.krb_tlv.specs.Reading.{Finds};
+ghost use Rattle.krb_der.specs.Reading.{Gives, message_of};
 
-use crate::private::{PrivMsg, read_private};
-use crate::safe::{SafeMsg, read_safe};
+use crate::error::DerError;
+use crate::private::{PrivMsg, PrivView, read_private};
+use crate::safe::{SafeMsg, SafeView, read_safe};
 use crate::tag;
 use krb_base::FRAME_LIMIT;
-use krb_tlv::{DerError, Reader, only_element};
-use std::alloc::Global;
+use krb_tlv::{Reader, only_element};
+use std::alloc::{AllocError, Global};
 
 /// A message of the relay (RFC 4120 section 5.10 has the numbers of all messages).
 #[derive(Debug, Drop)]
@@ -21,24 +23,72 @@ pub enum Message {
     Priv(PrivMsg),
 }
 
-/// The message that the bytes spell.
+/// A message whose byte strings lie in its spelling.
+#[derive(Drop)]
+pub enum MessageView<'a> {
+    /// KRB-SAFE.
+    Safe(SafeView<'a>),
+    /// KRB-PRIV.
+    Priv(PrivView<'a>),
+}
+
+impl<'a> MessageView<'a> {
+    /// The message, with byte strings of its own.
+    pub fn to_owned(&self, alloc: Global) -> Result<Message, AllocError>
+        ensures { IfOk result (λ m. m ≡ viewed self.now) }
+    {
+        match self {
+            MessageView::Safe(m) => Ok(Message::Safe(m.to_owned(alloc)?)),
+            MessageView::Priv(m) => Ok(Message::Priv(m.to_owned(alloc)?)),
+        }
+    }
+}
+
+/// The message that the bytes spell, whatever their number.
 #[tactic(auto, unfolding(crate::specs::Reading::message_of))]
+fn view_message(bytes: &[u8]) -> Option<MessageView<'_>>
+    ensures { Finds viewed result (message_of bytes.now) }
+{
+    if Reader::new(bytes).is_at(tag::KRB_SAFE) {
+        let found = read_safe(only_element(tag::KRB_SAFE, bytes)?)?;
+        return Some(MessageView::Safe(found));
+    }
+    let found = read_private(only_element(tag::KRB_PRIV, bytes)?)?;
+    Some(MessageView::Priv(found))
+}
+
+/// The same, with byte strings of its own.
 fn read_message(alloc: Global, bytes: &[u8]) -> Result<Message, DerError>
     ensures { Gives (λ x. x) result (message_of bytes.now) }
 {
-    if Reader::new(bytes).is_at(tag::KRB_SAFE) {
-        let found = read_safe(alloc, only_element(tag::KRB_SAFE, bytes)?)?;
-        return Ok(Message::Safe(found));
+    match view_message(bytes) {
+        Some(found) => Ok(found.to_owned(alloc)?),
+        None => Err(DerError::Malformed),
     }
-    let found = read_private(alloc, only_element(tag::KRB_PRIV, bytes)?)?;
-    Ok(Message::Priv(found))
+}
+
+/// The message that the bytes spell, where its byte strings lie. Nothing is allocated.
+///
+/// [`DerError::TooLong`] is returned if and only if there are over 1,005,000 bytes, and
+/// [`DerError::Malformed`] if and only if there are no more and they spell nothing;
+/// [`DerError::Memory`] never.
+pub fn view(bytes: &[u8]) -> Result<MessageView<'_>, DerError>
+    ensures { Views Spells viewed result bytes.now }
+{
+    if bytes.len() > FRAME_LIMIT {
+        return Err(DerError::TooLong);
+    }
+    match view_message(bytes) {
+        Some(found) => Ok(found),
+        None => Err(DerError::Malformed),
+    }
 }
 
 /// The message that the bytes spell.
 ///
 /// [`DerError::TooLong`] is returned if and only if there are over 1,005,000 bytes, and
-/// [`DerError::Malformed`] if and only if there are no more and they spell nothing. Bodies that are
-/// read are in range.
+/// [`DerError::Malformed`] if and only if there are no more and they spell nothing. So
+/// [`DerError::Memory`] is returned only if they spell a message. Bodies that are read are in range.
 pub fn decode(alloc: Global, bytes: &[u8]) -> Result<Message, DerError>
     ensures answer { Decodes Spells result bytes.now }
     ensures only { (m : MessageValue) → Spells m bytes.now

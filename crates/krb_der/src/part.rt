@@ -1,21 +1,23 @@
 //! The encrypted part of KRB-PRIV (RFC 4120 section 5.7.1).
 
-ghost use Rattle.std.specs.Prelude.{◌≡◌, ◌<◌, ◌≤◌, ◌++◌, ◌-◌, ℕ, length, get_or, take, drop, Err, IfOk, IfErr, IfSome, OnOk, OnErr, MatchResult};
+ghost use Rattle.std.specs.Prelude.{◌≡◌, ◌<◌, ◌≤◌, ◌++◌, ◌-◌, ℕ, length, get_or, take, drop, Err, None, IfNone, IfOk, IfSome, OnOk, OnErr, MatchResult};
 ghost use Rattle.krb_base.specs.Limits.{frame_limit};
 ghost use Rattle.krb_time.specs.Time.{IsSecond};
 ghost use Rattle.krb_der.specs.declared.body.Body.{Body as BodyValue};
-ghost use Rattle.krb_tlv.specs.declared.error.DerError.TheVariants.{Memory};
+ghost use Rattle.krb_der.specs.declared.error.DerError.TheVariants.{Memory};
 ghost use Rattle.krb_der.specs.Body.{InRange, IsBody, part};
 ghost use Rattle.krb_der.specs.Message.{Decodes, Encodes, SpellsPart};
-ghost use Rattle.krb_tlv.specs.Reading.{FailsToRead, Gives};
-ghost use Rattle.krb_der.specs.Reading.{EndsWith, after_of, part_of};
+ghost use Rattle.krb_tlv.specs.Reading.{Finds};
+ghost use Rattle.krb_der.specs.Reading.{EndsWith, Gives, after_of, part_of};
 ghost use Rattle.krb_der.specs.Size.{HasAddressesWithinLimit, HasPartSize};
 ghost use Rattle.krb_der.specs.Writing.{IsShortBody};
 
-use crate::body::{Body, BodyRef, read_body, read_details, split_data};
+use crate::body::{Body, BodyRef};
+use crate::body_view::{BodyView, read_body, read_details, split_data};
+use crate::error::DerError;
 use crate::tag;
 use krb_base::{FRAME_LIMIT, Secret, known_bytes};
-use krb_tlv::{DerError, Writer, only_element, size_around};
+use krb_tlv::{Writer, only_element, size_around};
 use std::alloc::{AllocError, Global};
 
 impl<'a> BodyRef<'a> {
@@ -99,26 +101,35 @@ pub fn encode_part(alloc: Global, b: &Body) -> Result<Vec<u8>, DerError>
 /// The data of the body that the bytes spell as an encrypted part, and the fields after them, which
 /// are the last of the bytes.
 #[tactic(auto, unfolding(crate::specs::Reading::part_of))]
-fn split_part(bytes: &[u8]) -> Result<(&[u8], &[u8]), DerError>
-    ensures fields { IfOk result (λ x. part_of bytes.now ≡ after_of x.0.now x.1.now) }
-    ensures refused { IfErr result (λ e. FailsToRead e (part_of bytes.now)) }
-    ensures place { IfOk result (λ x. EndsWith (x.0.now ++ x.1.now) bytes.now) }
+fn split_part(bytes: &[u8]) -> Option<(&[u8], &[u8])>
+    ensures fields { IfSome result (λ x. part_of bytes.now ≡ after_of x.0.now x.1.now) }
+    ensures none { IfNone result (part_of bytes.now ≡ None) }
+    ensures place { IfSome result (λ x. EndsWith (x.0.now ++ x.1.now) bytes.now) }
 {
     split_data(only_element(tag::ENC_KRB_PRIV_PART, bytes)?)
 }
 
 #[tactic(auto, unfolding(crate::specs::Reading::part_of))]
+fn view_part(bytes: &[u8]) -> Option<BodyView<'_>>
+    ensures { Finds (λ x. x) result (part_of bytes.now) }
+{
+    read_body(only_element(tag::ENC_KRB_PRIV_PART, bytes)?)
+}
+
 fn read_part(alloc: Global, bytes: &[u8]) -> Result<Body, DerError>
     ensures { Gives (λ x. x) result (part_of bytes.now) }
 {
-    read_body(alloc, only_element(tag::ENC_KRB_PRIV_PART, bytes)?)
+    match view_part(bytes) {
+        Some(found) => Ok(found.to_owned(alloc)?),
+        None => Err(DerError::Malformed),
+    }
 }
 
 /// The body that the bytes spell as the encrypted part of KRB-PRIV.
 ///
 /// [`DerError::TooLong`] is returned if and only if there are over 1,005,000 bytes, and
-/// [`DerError::Malformed`] if and only if there are no more and they spell nothing. A body that is
-/// read is in range.
+/// [`DerError::Malformed`] if and only if there are no more and they spell nothing. So
+/// [`DerError::Memory`] is returned only if they spell a body. A body that is read is in range.
 pub fn decode_part(alloc: Global, bytes: &[u8]) -> Result<Body, DerError>
     ensures answer { Decodes SpellsPart result bytes.now }
     ensures only { (b : BodyValue) → SpellsPart b bytes.now
@@ -136,8 +147,13 @@ fn take_part(alloc: Global, bytes: Secret, start: usize) -> Result<Body, DerErro
     requires { start ≤ length bytes }
     ensures { Gives (λ x. x) result (part_of (drop start bytes)) }
 {
-    let (data, following) = split_part(&bytes.as_slice()[start..])?;
-    let details = read_details(alloc, following)?;
+    let Some((data, following)) = split_part(&bytes.as_slice()[start..]) else {
+        return Err(DerError::Malformed);
+    };
+    let Some(found) = read_details(following) else {
+        return Err(DerError::Malformed);
+    };
+    let details = found.to_owned(alloc)?;
     let end = bytes.as_slice().len() - following.len();
     let front = end - data.len();
     let data = bytes.into_bytes(alloc).cut(front, end);

@@ -10,18 +10,20 @@ ghost use Rattle.krb_der.specs.Body.{InRange, part};
 ghost use Rattle.krb_der.specs.Private.{IsPrivate};
 ghost use Rattle.krb_der.specs.Message.{private};
 ghost use Rattle.krb_der.specs.Message.{Drafts, Encodes, Spells, message};
-ghost use Rattle.krb_tlv.specs.Reading.{Gives};
+ghost use Rattle.krb_tlv.specs.Reading.{Finds};
 ghost use Rattle.krb_der.specs.Reading.{encrypted_of, private_of};
 
 use crate::body::BodyRef;
+use crate::error::DerError;
 use crate::tag;
 use krb_base::{Bytes, FRAME_LIMIT};
 use krb_tlv::{
-    DerError, Reader, UINT32_LIMIT, Writer, int32_field_size, known_int32, known_uint32,
-    natural_field_size, read_int32_field, read_octets_field, read_optional_natural, size_around,
-    write_int32_field, write_natural_field,
+    Reader, UINT32_LIMIT, Writer, int32_field_size, known_int32, known_uint32, natural_field_size,
+    read_int32_field, read_octets_field, read_optional_natural, size_around, write_int32_field,
+    write_natural_field,
 };
 use std::alloc::{AllocError, Global};
+use std::marker::Model;
 
 /// A message KRB-PRIV (RFC 4120 section 5.7.1).
 #[derive(Debug, Drop)]
@@ -38,27 +40,80 @@ pub struct PrivMsg {
     pub cipher: Bytes,
 }
 
+/// A message KRB-PRIV whose encrypted part lies in its spelling.
+#[derive(Drop)]
+pub struct PrivView<'a> {
+    pvno: i32,
+    msg_type: i32,
+    etype: i32,
+    kvno: Option<u32>,
+    cipher: &'a [u8],
+}
+
+impl<'a> Model for PrivView<'a> {
+    ghost use Rattle.krb_der.specs.declared.private.PrivMsg.{PrivMsg};
+
+    ghost Value = { PrivMsg };
+
+    ghost view = { λ m. record {
+      pvno = m.pvno;
+      msg_type = m.msg_type;
+      etype = m.etype;
+      kvno = m.kvno;
+      cipher = m.cipher.now;
+    } };
+}
+
+impl<'a> PrivView<'a> {
+    /// The encryption type.
+    pub fn etype(&self) -> i32
+        ensures { result ≡ self.now.etype }
+    {
+        self.etype
+    }
+
+    /// The version of the key, if there is one.
+    pub fn kvno(&self) -> Option<u32>
+        ensures { result ≡ self.now.kvno }
+    {
+        self.kvno
+    }
+
+    /// The message, with an encrypted part of its own.
+    pub fn to_owned(&self, alloc: Global) -> Result<PrivMsg, AllocError>
+        ensures { IfOk result (λ m. m ≡ self.now) }
+    {
+        Ok(PrivMsg {
+            pvno: self.pvno,
+            msg_type: self.msg_type,
+            etype: self.etype,
+            kvno: self.kvno,
+            cipher: Bytes::new(Vec::from_slice(alloc, self.cipher)?),
+        })
+    }
+}
+
 #[tactic(auto, unfolding(crate::specs::Reading::encrypted_of))]
-fn read_encrypted(alloc: Global, bytes: &[u8]) -> Result<(i32, Option<u32>, Bytes), DerError>
-    ensures { Gives (λ x. (x.0, x.1, x.2)) result (encrypted_of bytes.now) }
+fn read_encrypted(bytes: &[u8]) -> Option<(i32, Option<u32>, &[u8])>
+    ensures { Finds (λ x. (x.0, x.1, x.2.now)) result (encrypted_of bytes.now) }
 {
     let mut fields = Reader::inside(tag::SEQUENCE, bytes)?;
     let etype = read_int32_field(&mut fields, tag::FIELD_0)?;
     let kvno = read_optional_natural(&mut fields, tag::FIELD_1, UINT32_LIMIT)?;
-    let cipher = read_octets_field(alloc, &mut fields, tag::FIELD_2)?;
+    let cipher = read_octets_field(&mut fields, tag::FIELD_2)?;
     fields.finish((etype, kvno, cipher))
 }
 
 /// The message whose fields, as one sequence, the bytes are.
 #[tactic(auto, unfolding(crate::specs::Reading::private_of))]
-pub fn read_private(alloc: Global, bytes: &[u8]) -> Result<PrivMsg, DerError>
-    ensures { Gives (λ x. x) result (private_of bytes.now) }
+pub fn read_private(bytes: &[u8]) -> Option<PrivView<'_>>
+    ensures { Finds (λ x. x) result (private_of bytes.now) }
 {
     let mut fields = Reader::inside(tag::SEQUENCE, bytes)?;
     let pvno = read_int32_field(&mut fields, tag::FIELD_0)?;
     let msg_type = read_int32_field(&mut fields, tag::FIELD_1)?;
-    let (etype, kvno, cipher) = read_encrypted(alloc, fields.element(tag::FIELD_3)?)?;
-    fields.finish(PrivMsg {
+    let (etype, kvno, cipher) = read_encrypted(fields.element(tag::FIELD_3)?)?;
+    fields.finish(PrivView {
         pvno,
         msg_type,
         etype,

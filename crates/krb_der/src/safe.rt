@@ -7,18 +7,20 @@ ghost use Rattle.krb_der.specs.Body.{InRange, IsBody};
 ghost use Rattle.krb_der.specs.Safe.{before_checksum, checksum_field, with_checksum, without_checksum};
 ghost use Rattle.krb_der.specs.Message.{safe_input};
 ghost use Rattle.krb_der.specs.Message.{Covers, DraftsSafe, Encodes, Spells, message};
-ghost use Rattle.krb_tlv.specs.Reading.{Gives};
+ghost use Rattle.krb_tlv.specs.Reading.{Finds};
 ghost use Rattle.krb_der.specs.Reading.{safe_of};
 ghost use Rattle.krb_der.specs.Size.{HasAddressesWithinLimit, HasSafeSize};
 ghost use Rattle.krb_tlv.specs.Writing.{IsShort};
 ghost use Rattle.krb_der.specs.Writing.{IsShortBody, before_checksum_size, safe_fields_size, safe_headers};
 
-use crate::body::{Body, BodyRef, is_short, read_body};
+use crate::body::{Body, BodyRef, is_short};
+use crate::body_view::{BodyView, read_body};
+use crate::error::DerError;
 use crate::tag;
 use crate::typed::{read_typed_field, typed_size, typed_size_of, write_typed_field};
 use krb_base::{Bytes, FRAME_LIMIT};
 use krb_tlv::{
-    DerError, Header, Reader, Writer, int32_field_size, known_int32, read_int32_field, size_around,
+    Header, Reader, Writer, int32_field_size, known_int32, read_int32_field, size_around,
     write_int32_field,
 };
 use std::alloc::{AllocError, Global};
@@ -43,17 +45,70 @@ pub struct SafeMsg {
     pub checksum: Bytes,
 }
 
+/// A message KRB-SAFE whose byte strings lie in its spelling.
+#[derive(Drop)]
+pub struct SafeView<'a> {
+    pvno: i32,
+    msg_type: i32,
+    body: BodyView<'a>,
+    cksum_type: i32,
+    checksum: &'a [u8],
+}
+
+impl<'a> Model for SafeView<'a> {
+    ghost use Rattle.krb_der.specs.declared.safe.SafeMsg.{SafeMsg};
+
+    ghost Value = { SafeMsg };
+
+    ghost view = { λ m. record {
+      pvno = m.pvno;
+      msg_type = m.msg_type;
+      body = m.body;
+      cksum_type = m.cksum_type;
+      checksum = m.checksum.now;
+    } };
+}
+
+impl<'a> SafeView<'a> {
+    /// The sequence number.
+    pub fn seq(&self) -> Option<u32>
+        ensures { result ≡ self.now.body.seq }
+    {
+        self.body.seq()
+    }
+
+    /// The type of the checksum.
+    pub fn cksum_type(&self) -> i32
+        ensures { result ≡ self.now.cksum_type }
+    {
+        self.cksum_type
+    }
+
+    /// The message, with byte strings of its own.
+    pub fn to_owned(&self, alloc: Global) -> Result<SafeMsg, AllocError>
+        ensures { IfOk result (λ m. m ≡ self.now) }
+    {
+        Ok(SafeMsg {
+            pvno: self.pvno,
+            msg_type: self.msg_type,
+            body: self.body.to_owned(alloc)?,
+            cksum_type: self.cksum_type,
+            checksum: Bytes::new(Vec::from_slice(alloc, self.checksum)?),
+        })
+    }
+}
+
 /// The message whose fields, as one sequence, the bytes are.
 #[tactic(auto, unfolding(crate::specs::Reading::safe_of))]
-pub fn read_safe(alloc: Global, bytes: &[u8]) -> Result<SafeMsg, DerError>
-    ensures { Gives (λ x. x) result (safe_of bytes.now) }
+pub fn read_safe(bytes: &[u8]) -> Option<SafeView<'_>>
+    ensures { Finds (λ x. x) result (safe_of bytes.now) }
 {
     let mut fields = Reader::inside(tag::SEQUENCE, bytes)?;
     let pvno = read_int32_field(&mut fields, tag::FIELD_0)?;
     let msg_type = read_int32_field(&mut fields, tag::FIELD_1)?;
-    let body = read_body(alloc, fields.element(tag::FIELD_2)?)?;
-    let (cksum_type, checksum) = read_typed_field(alloc, &mut fields, tag::FIELD_3)?;
-    fields.finish(SafeMsg {
+    let body = read_body(fields.element(tag::FIELD_2)?)?;
+    let (cksum_type, checksum) = read_typed_field(&mut fields, tag::FIELD_3)?;
+    fields.finish(SafeView {
         pvno,
         msg_type,
         body,

@@ -8,38 +8,33 @@ ghost use Rattle.krb_der.specs.Typed.{typed_fields, typed_octets};
 ghost use Rattle.krb_base.specs.Limits.{frame_limit};
 ghost use Rattle.krb_tlv.specs.Writing.{IsShort};
 ghost use Rattle.krb_der.specs.Writing.{typed_fields_size, typed_size};
-ghost use Rattle.krb_tlv.specs.Reading.{Gives, Takes, field_at};
+ghost use Rattle.krb_tlv.specs.Reading.{Finds, Takes, field_at};
 ghost use Rattle.krb_der.specs.Reading.{typed_of};
 
 use crate::tag;
-use krb_base::Bytes;
 use krb_tlv::{
-    DerError, Reader, Writer, int32_field_size, read_int32_field, read_octets_field, size_around,
+    Reader, Writer, int32_field_size, read_int32_field, read_octets_field, size_around,
     write_int32_field,
 };
-use std::alloc::{AllocError, Global};
+use std::alloc::AllocError;
 
 /// The type and the bytes that the bytes spell.
 #[tactic(auto, unfolding(crate::specs::Reading::typed_of))]
-pub fn read_typed(alloc: Global, bytes: &[u8]) -> Result<(i32, Bytes), DerError>
-    ensures { Gives (λ x. (x.0, x.1)) result (typed_of bytes.now) }
+pub fn read_typed(bytes: &[u8]) -> Option<(i32, &[u8])>
+    ensures { Finds (λ x. (x.0, x.1.now)) result (typed_of bytes.now) }
 {
     let mut fields = Reader::inside(tag::SEQUENCE, bytes)?;
     let kind = read_int32_field(&mut fields, tag::FIELD_0)?;
-    let bytes = read_octets_field(alloc, &mut fields, tag::FIELD_1)?;
+    let bytes = read_octets_field(&mut fields, tag::FIELD_1)?;
     fields.finish((kind, bytes))
 }
 
 /// The type and the bytes of a field.
 #[tactic(auto, unfolding(krb_tlv::specs::Reading::field_at))]
-pub fn read_typed_field(
-    alloc: Global,
-    fields: &mut Reader<'_>,
-    tag: u8,
-) -> Result<(i32, Bytes), DerError>
-    ensures { Takes (λ x. (x.0, x.1)) result fields.new (field_at tag typed_of fields.old) }
+pub fn read_typed_field<'a>(fields: &mut Reader<'a>, tag: u8) -> Option<(i32, &'a [u8])>
+    ensures { Takes (λ x. (x.0, x.1.now)) result fields.new (field_at tag typed_of fields.old) }
 {
-    read_typed(alloc, fields.element(tag)?)
+    read_typed(fields.element(tag)?)
 }
 
 fn fields_size_of(kind: &i32, count: usize) -> usize

@@ -2,7 +2,7 @@
 
 ghost use Rattle.std.specs.Prelude.{◌≡◌, IfOk};
 ghost use Rattle.std.specs.Result.{ForErr};
-ghost use Rattle.krb_tlv.specs.declared.error.DerError.TheVariants as errors;
+ghost use Rattle.krb_der.specs.declared.error.DerError.TheVariants as errors;
 
 use krb_der::DerError;
 use std::alloc::AllocError;

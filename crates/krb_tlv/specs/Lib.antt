@@ -3,6 +3,5 @@ pub mod UniversalTag
 pub mod Length
 pub mod Element
 pub mod Integer
-pub mod Error
 pub mod Reading
 pub mod Writing

@@ -1,30 +1,22 @@
 -- What the code follows, and no definitions of the standard: what is read from left to right of the
 -- bytes of an element, a field or a number, if it is spelt there.
 use Rattle.std.specs.Prelude.{◌≡◌, ℕ, ◌+◌, ◌*◌, ◌^◌, Bool, true, false, ℤ, pos, negsuc, List, []}
-use Rattle.std.specs.Prelude.{◌∷◌, length, get_or, take, drop, Option, Some, None, Result, Ok, Err}
+use Rattle.std.specs.Prelude.{◌∷◌, length, get_or, take, drop, Option, Some, None}
 use Rattle.std.specs.Prelude.{nat_lt, nat_eq, map, ◌-◌, if◌then◌else◌}
 use Rattle.krb_base.specs.Steps.{◌>>=◌}
-use Rattle.krb_tlv.specs.declared.error.DerError.{DerError}
-use Rattle.krb_tlv.specs.declared.error.DerError.TheVariants as errors
 use Rattle.krb_tlv.specs.UniversalTag.{integer_tag, octet_string_tag}
 use Rattle.krb_tlv.specs.Length.{big_endian}
 use Rattle.krb_tlv.specs.Integer.{width}
 
--- What a function returned, seen by view, is what reading gives, unless memory ran out.
-abbrev pub FailsToRead : {Y : Type 0} → DerError → Option Y → Type 0
-FailsToRead errors.TooLong read = ⊥
-FailsToRead errors.Malformed read = read ≡ None
-FailsToRead errors.Memory read = Unit {0}
-
-abbrev pub Gives : {X Y : Type 0} → (X → Y) → Result X DerError → Option Y → Type 0
-Gives view (Ok x) read = read ≡ Some (view x)
-Gives view (Err e) read = FailsToRead e read
+-- What a function returned, seen by view, is what reading gives, or nothing where reading gives nothing.
+abbrev pub Finds : {X Y : Type 0} → (X → Y) → Option X → Option Y → Type 0
+Finds view (Some x) read = read ≡ Some (view x)
+Finds view None read = read ≡ None
 
 -- the same, with the rest of the bytes left in a reader
-abbrev pub Takes : {X Y : Type 0} → (X → Y) → Result X DerError → List ℕ → Option (Y × List ℕ)
-    → Type 0
-Takes view (Ok x) rest read = read ≡ Some (view x, rest)
-Takes view (Err e) rest read = FailsToRead e read
+abbrev pub Takes : {X Y : Type 0} → (X → Y) → Option X → List ℕ → Option (Y × List ℕ) → Type 0
+Takes view (Some x) rest read = read ≡ Some (view x, rest)
+Takes view None rest read = read ≡ None
 
 -- nothing is left
 abbrev pub ended : {A : Type 0} → A → List ℕ → Option A

@@ -4,10 +4,9 @@ ghost use Rattle.std.specs.Prelude.{◌≡◌, ◌<◌, ◌≤◌, ◌^◌, ◌+
 ghost use Rattle.krb_tlv.specs.Element.{optional, tagged};
 ghost use Rattle.krb_tlv.specs.Integer.{width, integer, natural, IsInt32, IsUInt32};
 ghost use Rattle.krb_tlv.specs.Reading.{complement};
-ghost use Rattle.krb_tlv.specs.Reading.{Gives, Takes, be_value, int_of, int32_of, below_of, int32_element_of, below_element_of, optional_at, field_at, signed, five_octets};
+ghost use Rattle.krb_tlv.specs.Reading.{Finds, Takes, be_value, int_of, int32_of, below_of, int32_element_of, below_element_of, optional_at, field_at, signed, five_octets};
 ghost use Rattle.krb_tlv.specs.Writing.{element_size};
 
-use crate::error::DerError;
 use crate::length::be_number;
 use crate::reader::{Reader, only_element};
 use crate::tag;
@@ -46,11 +45,11 @@ fn number_of_complement(octets: &[u8]) -> u64
 
 /// Whether the number is negative, and n if it is n or -(n + 1).
 #[tactic(auto, unfolding(crate::specs::Reading::int_of))]
-fn magnitude(content: &[u8]) -> Result<(bool, u64), DerError>
-    ensures { Gives (λ x. x) result (int_of content.now) }
+fn magnitude(content: &[u8]) -> Option<(bool, u64)>
+    ensures { Finds (λ x. x) result (int_of content.now) }
 {
     if content.len() > 5 {
-        return Err(DerError::Malformed);
+        return None;
     }
     let negative = match content {
         [] => false,
@@ -62,29 +61,29 @@ fn magnitude(content: &[u8]) -> Result<(bool, u64), DerError>
         be_number(content)
     };
     if width_of(n) != content.len() {
-        return Err(DerError::Malformed);
+        return None;
     }
-    Ok((negative, n))
+    Some((negative, n))
 }
 
 #[tactic(auto, unfolding(crate::specs::Reading::int32_of))]
-fn int32_value(content: &[u8]) -> Result<i32, DerError>
-    ensures { Gives (λ x. x) result (int32_of content.now) }
+fn int32_value(content: &[u8]) -> Option<i32>
+    ensures { Finds (λ x. x) result (int32_of content.now) }
 {
     let (negative, n) = magnitude(content)?;
     if n >= 0x8000_0000 {
-        return Err(DerError::Malformed);
+        return None;
     }
     if negative {
-        Ok(-1 - (n as i32))
+        Some(-1 - (n as i32))
     } else {
-        Ok(n as i32)
+        Some(n as i32)
     }
 }
 
 /// The Int32 whose element the bytes are (RFC 4120 section 5.2.4).
-fn read_int32(bytes: &[u8]) -> Result<i32, DerError>
-    ensures { Gives (λ x. x) result (int32_element_of bytes.now) }
+fn read_int32(bytes: &[u8]) -> Option<i32>
+    ensures { Finds (λ x. x) result (int32_element_of bytes.now) }
 {
     let mut reader = Reader::new(bytes);
     let value = int32_value(reader.element(tag::INTEGER)?)?;
@@ -93,27 +92,27 @@ fn read_int32(bytes: &[u8]) -> Result<i32, DerError>
 
 /// The Int32 of a field.
 #[tactic(auto, unfolding(crate::specs::Reading::field_at))]
-pub fn read_int32_field(fields: &mut Reader<'_>, tag: u8) -> Result<i32, DerError>
+pub fn read_int32_field(fields: &mut Reader<'_>, tag: u8) -> Option<i32>
     ensures { Takes (λ x. x) result fields.new (field_at tag int32_element_of fields.old) }
 {
     read_int32(fields.element(tag)?)
 }
 
 #[tactic(auto, unfolding(crate::specs::Reading::below_of))]
-fn natural_value(limit: u64, content: &[u8]) -> Result<u32, DerError>
+fn natural_value(limit: u64, content: &[u8]) -> Option<u32>
     requires { limit ≤ 2 ^ 32 }
-    ensures { Gives (λ x. x) result (below_of limit content.now) }
+    ensures { Finds (λ x. x) result (below_of limit content.now) }
 {
     let (negative, n) = magnitude(content)?;
     if negative || n >= limit {
-        return Err(DerError::Malformed);
+        return None;
     }
-    Ok(n as u32)
+    Some(n as u32)
 }
 
-fn read_natural(limit: u64, bytes: &[u8]) -> Result<u32, DerError>
+fn read_natural(limit: u64, bytes: &[u8]) -> Option<u32>
     requires { limit ≤ 2 ^ 32 }
-    ensures { Gives (λ x. x) result (below_element_of limit bytes.now) }
+    ensures { Finds (λ x. x) result (below_element_of limit bytes.now) }
 {
     let mut reader = Reader::new(bytes);
     let value = natural_value(limit, reader.element(tag::INTEGER)?)?;
@@ -122,20 +121,16 @@ fn read_natural(limit: u64, bytes: &[u8]) -> Result<u32, DerError>
 
 /// The number below a limit of an optional field.
 #[tactic(auto, unfolding(crate::specs::Reading::optional_at))]
-pub fn read_optional_natural(
-    fields: &mut Reader<'_>,
-    tag: u8,
-    limit: u64,
-) -> Result<Option<u32>, DerError>
+pub fn read_optional_natural(fields: &mut Reader<'_>, tag: u8, limit: u64) -> Option<Option<u32>>
     requires { limit ≤ 2 ^ 32 }
     ensures { Takes (λ x. x) result fields.new
         (optional_at tag (below_element_of limit) fields.old) }
 {
     if !fields.is_at(tag) {
-        return Ok(None);
+        return Some(None);
     }
     let value = read_natural(limit, fields.element(tag)?)?;
-    Ok(Some(value))
+    Some(Some(value))
 }
 
 /// A number that is n, or -(n + 1) if it is negative.

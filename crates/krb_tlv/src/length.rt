@@ -2,9 +2,7 @@
 
 ghost use Rattle.std.specs.Prelude.{◌≡◌, ◌≤◌, length};
 ghost use Rattle.krb_tlv.specs.Length.{length_octets};
-ghost use Rattle.krb_tlv.specs.Reading.{Gives, be_value, wide_length_at, length_at};
-
-use crate::error::DerError;
+ghost use Rattle.krb_tlv.specs.Reading.{Finds, be_value, wide_length_at, length_at};
 
 /// The number that at most five octets are, the most significant first.
 pub fn be_number(octets: &[u8]) -> u64
@@ -19,37 +17,37 @@ pub fn be_number(octets: &[u8]) -> u64
 }
 
 /// A length of `count` octets that no shorter form has, and what follows it.
-fn wide_length(count: usize, least: u64, octets: &[u8]) -> Result<(u64, &[u8]), DerError>
+fn wide_length(count: usize, least: u64, octets: &[u8]) -> Option<(u64, &[u8])>
     requires { count ≤ 5 }
-    ensures { Gives (λ x. (x.0, x.1.now)) result (wide_length_at count least octets.now) }
+    ensures { Finds (λ x. (x.0, x.1.now)) result (wide_length_at count least octets.now) }
 {
     if octets.len() < count {
-        return Err(DerError::Malformed);
+        return None;
     }
     let (front, rest) = octets.split_at(count);
     let n = be_number(front);
     if n < least {
-        return Err(DerError::Malformed);
+        return None;
     }
-    Ok((n, rest))
+    Some((n, rest))
 }
 
 /// The length at the beginning, in its shortest form, and what follows it.
 #[tactic(auto, unfolding(crate::specs::Reading::length_at))]
-pub fn read_length(octets: &[u8]) -> Result<(u64, &[u8]), DerError>
-    ensures { Gives (λ x. (x.0, x.1.now)) result (length_at octets.now) }
+pub fn read_length(octets: &[u8]) -> Option<(u64, &[u8])>
+    ensures { Finds (λ x. (x.0, x.1.now)) result (length_at octets.now) }
 {
     match octets {
-        [] => Err(DerError::Malformed),
+        [] => None,
         [first, rest @ ..] => {
             if *first < 128 {
-                return Ok((u64::from(*first), rest));
+                return Some((u64::from(*first), rest));
             }
             match *first {
                 0x81 => wide_length(1, 128, rest),
                 0x82 => wide_length(2, 256, rest),
                 0x83 => wide_length(3, 65536, rest),
-                _ => Err(DerError::Malformed),
+                _ => None,
             }
         }
     }

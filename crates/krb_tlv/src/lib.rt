@@ -2,11 +2,10 @@
 //! lengths in their shortest form, OCTET STRING, and INTEGER of at most 32 bits are read from left
 //! to right ([`Reader`]) and written so ([`Writer`]).
 //!
-//! Reading returns [`DerError::Malformed`] only if what is asked for doesn't stand there in its one
-//! DER encoding, and [`DerError::Memory`] if memory runs out. Writing returns only the latter.
+//! Reading copies nothing: what is read is a number, or bytes where they lie. It gives `None` if and only
+//! if what is asked for doesn't stand there in its one DER encoding. Writing fails only if memory runs out.
 #![tactic(auto)]
 
-mod error;
 mod header;
 mod integer;
 mod length;
@@ -14,7 +13,6 @@ mod reader;
 mod tag;
 mod writer;
 
-pub use error::DerError;
 pub use header::Header;
 pub use integer::{
     UINT32_LIMIT, int32_field_size, known_int32, known_uint32, natural_field_size,

@@ -1,5 +1,5 @@
 use Rattle.std.proofs.Common.{◌≡◌, arith, length}
-use Rattle.krb_tlv.specs.declared.error.DerError.TheVariants.{TooLong}
+use Rattle.krb_der.specs.declared.error.DerError.TheVariants.{TooLong}
 use Rattle.krb_der.specs.Body.{part}
 use Rattle.krb_der.proofs.Drafts.{within_limit, over_by_more, over_limit_at, drafted, draft_too_long, draft_memory}
 use Rattle.krb_der.proofs.private.draft_priv.Goals as goal

@@ -1,5 +1,5 @@
 use Rattle.std.proofs.Common.{◌≡◌, refl, ap, arith, length}
-use Rattle.krb_tlv.specs.declared.error.DerError.TheVariants.{TooLong}
+use Rattle.krb_der.specs.declared.error.DerError.TheVariants.{TooLong}
 use Rattle.krb_der.specs.declared.message.Message.TheVariants.{Priv}
 use Rattle.krb_der.specs.Message.{Spells, message}
 use Rattle.krb_der.proofs.Lengths.{memory_only}

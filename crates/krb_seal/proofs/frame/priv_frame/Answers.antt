@@ -1,5 +1,5 @@
 use Rattle.std.proofs.Common.{◌+◌, ℕ, length, Result, subst, arith}
-use Rattle.krb_tlv.specs.declared.error.DerError.{DerError}
+use Rattle.krb_der.specs.declared.error.DerError.{DerError}
 use Rattle.krb_der.specs.declared.private.PrivMsg.{PrivMsg}
 use Rattle.krb_der.specs.declared.private.Draft.{Draft}
 use Rattle.krb_der.specs.Body.{part}

@@ -1,6 +1,6 @@
 use Rattle.std.proofs.Common.{◌≤◌, List, ℕ, Result, length, subst, sym}
 use Rattle.krb_base.specs.Limits.{frame_limit}
-use Rattle.krb_tlv.specs.declared.error.DerError.{DerError}
+use Rattle.krb_der.specs.declared.error.DerError.{DerError}
 use Rattle.krb_der.specs.declared.safe.SafeDraft.{SafeDraft}
 use Rattle.krb_der.specs.Message.{DraftsSafe, IsSafeDraft}
 use Rattle.krb_seal.proofs.Frames.{memory_safe, short_fields}

@@ -1,7 +1,7 @@
 -- The numbers and words of the errors.
 use Rattle.std.specs.Prelude.{ℕ, List, codes}
-use Rattle.krb_tlv.specs.declared.error.DerError.{DerError}
-use Rattle.krb_tlv.specs.declared.error.DerError.TheVariants as errors
+use Rattle.krb_der.specs.declared.error.DerError.{DerError}
+use Rattle.krb_der.specs.declared.error.DerError.TheVariants as errors
 
 abbrev pub error_code : DerError → ℕ
 error_code errors.TooLong = 1

@@ -1,6 +1,6 @@
 ghost use Rattle.std.specs.Prelude.{◌≡◌, Some};
-ghost use Rattle.krb_tlv.specs.declared.error.DerError.TheVariants.{Memory};
-ghost use Rattle.krb_tlv.specs.Error.{error_code, error_words};
+ghost use Rattle.krb_der.specs.declared.error.DerError.TheVariants.{Memory};
+ghost use Rattle.krb_der.specs.Error.{error_code, error_words};
 
 use std::alloc::{AllocError, AllocFailed};
 use std::error::Error;
