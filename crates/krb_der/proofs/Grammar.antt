@@ -367,11 +367,11 @@ spells-some P spell of r bytes (Some v) fits le e some = (v, spells-read P spell
 spells-some P spell of r bytes None fits le e some = absurd cc
 
 -- what a view of the bytes shows is what they spell
-pub message_viewed : (bytes : List ℕ) (m : Message) → AreBytes bytes → length bytes ≤ frame_limit → message_of bytes ≡ Some m → Spells m bytes
-message_viewed = spells-read IsMessage message message_of message_reads
+pub message_found : (bytes : List ℕ) (m : Message) → AreBytes bytes → length bytes ≤ frame_limit → message_of bytes ≡ Some m → Spells m bytes
+message_found = spells-read IsMessage message message_of message_reads
 
-pub message_unseen : (bytes : List ℕ) → message_of bytes ≡ None → (m : Message) → Spells m bytes → ⊥
-message_unseen = spells-nothing IsMessage message message_of message_reads
+pub message_absent : (bytes : List ℕ) → message_of bytes ≡ None → (m : Message) → Spells m bytes → ⊥
+message_absent = spells-nothing IsMessage message message_of message_reads
 
 decodes : {V : Type 0} (P : V → Type 0) (spell : V → List ℕ) (of : List ℕ → Option V) → Reads P spell of → (bytes : List ℕ) (r : Result V DerError)
     → AreBytes bytes → length bytes ≤ frame_limit → Gives (λ v. v) r (of bytes) → Decodes (SpellsWithin frame_limit P spell) r bytes

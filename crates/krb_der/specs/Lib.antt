@@ -9,7 +9,7 @@ pub mod Body
 pub mod Safe
 pub mod Private
 pub mod Message
-pub mod View
+pub mod MessageRef
 pub mod Earlier
 pub mod Size
 pub mod Reading

@@ -67,13 +67,13 @@ Decodes Spelt (Err errors.Malformed) bytes =
 Decodes {V} Spelt (Err errors.Memory) bytes = (v : V) × Spelt v bytes
 
 -- What a reading returns that copies nothing, of which this is seen: it never runs out of memory.
-abbrev pub Views : {X V : Type 0} → (V → List ℕ → Type 0) → (X → V) → Result X DerError → List ℕ
+abbrev pub DecodesBorrowed : {X V : Type 0} → (V → List ℕ → Type 0) → (X → V) → Result X DerError → List ℕ
     → Type 0
-Views Spelt view (Ok x) bytes = Spelt (view x) bytes
-Views Spelt view (Err errors.TooLong) bytes = frame_limit < length bytes
-Views Spelt view (Err errors.Malformed) bytes =
+DecodesBorrowed Spelt view (Ok x) bytes = Spelt (view x) bytes
+DecodesBorrowed Spelt view (Err errors.TooLong) bytes = frame_limit < length bytes
+DecodesBorrowed Spelt view (Err errors.Malformed) bytes =
     (length bytes ≤ frame_limit) × ((v : _) → Spelt v bytes → ⊥)
-Views Spelt view (Err errors.Memory) bytes = ⊥
+DecodesBorrowed Spelt view (Err errors.Memory) bytes = ⊥
 
 -- What a writing returns: the spelling, or that it would be too long.
 abbrev pub Encodes : {V : Type 0} → (V → List ℕ → Type 0) → (V → List ℕ) → V

@@ -10,7 +10,7 @@ use Rattle.krb_time.specs.Reading.{time_of}
 use Rattle.krb_base.specs.Steps.{◌>>=◌}
 use Rattle.krb_der.specs.declared.address.HostAddress.{HostAddress}
 use Rattle.krb_der.specs.declared.body.Body.{Body}
-use Rattle.krb_der.specs.declared.body_view.Details.{Details}
+use Rattle.krb_der.specs.declared.body.Details.{Details}
 use Rattle.krb_der.specs.declared.error.DerError.{DerError}
 use Rattle.krb_der.specs.declared.error.DerError.TheVariants as errors
 use Rattle.krb_der.specs.declared.safe.SafeMsg.{SafeMsg}

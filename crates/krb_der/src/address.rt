@@ -53,14 +53,14 @@ impl Clone for HostAddress {
     }
 }
 
-/// An address whose bytes lie in its spelling.
+/// A [`HostAddress`] whose bytes are borrowed.
 #[derive(Drop)]
-pub struct AddressView<'a> {
+pub struct AddressRef<'a> {
     kind: i32,
     bytes: &'a [u8],
 }
 
-impl<'a> Model for AddressView<'a> {
+impl<'a> Model for AddressRef<'a> {
     ghost use Rattle.krb_der.specs.declared.address.HostAddress.{HostAddress};
 
     ghost Value = { HostAddress };
@@ -68,7 +68,41 @@ impl<'a> Model for AddressView<'a> {
     ghost view = { λ a. record { kind = a.kind; bytes = a.bytes.now } };
 }
 
-impl<'a> AddressView<'a> {
+impl HostAddress {
+    /// The address, borrowed.
+    pub fn borrowed(&self) -> AddressRef<'_>
+        ensures { result ≡ self.now }
+    {
+        AddressRef {
+            kind: self.kind,
+            bytes: self.bytes.as_slice(),
+        }
+    }
+}
+
+impl<'a> AddressRef<'a> {
+    /// Its type.
+    pub(crate) fn kind(&self) -> &i32
+        ensures { result.now ≡ self.now.kind }
+    {
+        &self.kind
+    }
+
+    /// Its bytes, in network order.
+    pub(crate) fn bytes(&self) -> &'a [u8]
+        ensures { result.now ≡ self.now.bytes }
+    {
+        self.bytes
+    }
+
+    /// Whether type and bytes are those of an address.
+    pub fn is(&self, address: &HostAddress) -> bool
+        ensures same { IsTrue result ↔ (self.now ≡ address.now) }
+        ensures test { result ≡ same_address self.now address.now }
+    {
+        self.kind == address.kind && self.bytes == address.bytes.as_slice()
+    }
+
     /// The address, with bytes of its own.
     pub fn to_owned(&self, alloc: Global) -> Result<HostAddress, AllocError>
         ensures { IfOk result (λ address. address ≡ self.now) }
@@ -79,16 +113,16 @@ impl<'a> AddressView<'a> {
 
 /// The address that the bytes spell.
 #[tactic(auto, unfolding(crate::specs::Reading::address_of))]
-pub fn read_address(bytes: &[u8]) -> Option<AddressView<'_>>
+pub fn read_address(bytes: &[u8]) -> Option<AddressRef<'_>>
     ensures { Finds (λ x. x) result (address_of bytes.now) }
 {
     let (kind, bytes) = read_typed(bytes)?;
-    Some(AddressView { kind, bytes })
+    Some(AddressRef { kind, bytes })
 }
 
 /// A law: the number of an address is an Int32, as its type says. It does nothing when it runs.
-pub fn known_address(address: &HostAddress)
+pub fn known_address(address: &AddressRef<'_>)
     ensures { IsAddress address.now }
 {
-    known_int32(&address.kind);
+    known_int32(address.kind());
 }

@@ -1,4 +1,4 @@
-ghost use Rattle.std.specs.Prelude.{◌≡◌, ◌↔◌, ◌<◌, ◌≤◌, ◌+◌, ◌*◌, ◌++◌, length, Some, OnOk, IfSome, IsTrue};
+ghost use Rattle.std.specs.Prelude.{◌≡◌, ◌↔◌, ◌<◌, ◌≤◌, ◌+◌, ◌*◌, ◌++◌, length, Some, IfOk, OnOk, IfSome, IsTrue};
 ghost use Rattle.std.specs.List.{concat};
 ghost use Rattle.krb_base.specs.Limits.{frame_limit};
 ghost use Rattle.krb_tlv.specs.Element.{optional};
@@ -7,17 +7,18 @@ ghost use Rattle.krb_time.specs.Time.{IsSecond};
 ghost use Rattle.krb_der.specs.KerberosTime;
 ghost use Rattle.krb_der.specs.Address.{host_address, IsAddress};
 ghost use Rattle.krb_der.specs.Body.{InRange, IsBody, body, body_fields};
+ghost use Rattle.krb_der.specs.Reading.{body_with};
 ghost use Rattle.krb_der.specs.Size.{HasAddressesWithinLimit};
 ghost use Rattle.krb_tlv.specs.Writing.{IsShort};
 ghost use Rattle.krb_der.specs.Writing.{IsShortBody, before_data, body_fields_size, body_size, fields_after_data};
 
-use crate::address::{HostAddress, known_address};
+use crate::address::{AddressRef, HostAddress, known_address};
 use crate::tag;
 use crate::typed::{typed_size, write_typed_field};
 use krb_base::{Bytes, FRAME_LIMIT};
 use krb_time::{LAST_SECOND, LAST_USEC, Moment, kerberos_time};
 use krb_tlv::{Writer, known_uint32, natural_field_size, size_around, write_natural_field};
-use std::alloc::AllocError;
+use std::alloc::{AllocError, Global};
 use std::marker::Model;
 
 /// What KRB-SAFE and the encrypted part of KRB-PRIV carry (RFC 4120 sections 5.6.1 and 5.7.1).
@@ -85,13 +86,13 @@ fn write_optional_time(out: &mut Writer, tag: u8, time: Option<u64>) -> Result<(
     }
 }
 
-fn optional_address_size(address: &Option<HostAddress>) -> usize
+fn optional_address_size(address: &Option<AddressRef<'_>>) -> usize
     requires { IfSome address.now (λ a. IsShort a.bytes) }
     ensures value { result ≡ length (optional 0 host_address address.now) }
     ensures bound { result ≤ frame_limit + 40 }
 {
     match address {
-        Some(address) => size_around(typed_size(&address.kind, address.bytes.as_slice())),
+        Some(address) => size_around(typed_size(address.kind(), address.bytes())),
         None => 0,
     }
 }
@@ -99,19 +100,19 @@ fn optional_address_size(address: &Option<HostAddress>) -> usize
 fn write_optional_address(
     out: &mut Writer,
     tag: u8,
-    address: &Option<HostAddress>,
+    address: &Option<AddressRef<'_>>,
 ) -> Result<(), AllocError>
     requires { IfSome address.now (λ a. IsShort a.bytes) }
     ensures { OnOk result (out.new ≡ out.old ++ optional tag host_address address.now) }
 {
     match address {
-        Some(address) => { write_typed_field(out, tag, &address.kind, address.bytes.as_slice()) }
+        Some(address) => write_typed_field(out, tag, address.kind(), address.bytes()),
         None => Ok(()),
     }
 }
 
 // A law: the number of an address is an Int32, as its type says. It does nothing when it runs.
-fn known_optional_address(address: &Option<HostAddress>)
+fn known_optional_address(address: &Option<AddressRef<'_>>)
     ensures { IfSome address.now IsAddress }
 {
     if let Some(address) = address {
@@ -119,16 +120,42 @@ fn known_optional_address(address: &Option<HostAddress>)
     }
 }
 
-/// A [`Body`] whose data and addresses are borrowed, so a message is written without a copy of
-/// them.
+/// What a body carries beside its data.
 #[derive(Drop)]
-pub struct BodyRef<'a> {
-    user_data: &'a [u8],
+pub struct Details {
     time: Option<u64>,
     usec: Option<u32>,
     seq: Option<u32>,
-    s_addr: &'a HostAddress,
-    r_addr: &'a Option<HostAddress>,
+    s_addr: HostAddress,
+    r_addr: Option<HostAddress>,
+}
+
+impl Details {
+    /// The body with these data.
+    pub fn with(self, user_data: Bytes) -> Body
+        ensures { result ≡ body_with user_data self }
+    {
+        Body {
+            user_data,
+            time: self.time,
+            usec: self.usec,
+            seq: self.seq,
+            s_addr: self.s_addr,
+            r_addr: self.r_addr,
+        }
+    }
+}
+
+/// A [`Body`] whose data and addresses are borrowed: of one that is written without a copy of them, or
+/// of bytes that spell it.
+#[derive(Drop)]
+pub struct BodyRef<'a> {
+    pub(crate) user_data: &'a [u8],
+    pub(crate) time: Option<u64>,
+    pub(crate) usec: Option<u32>,
+    pub(crate) seq: Option<u32>,
+    pub(crate) s_addr: AddressRef<'a>,
+    pub(crate) r_addr: Option<AddressRef<'a>>,
 }
 
 impl<'a> Model for BodyRef<'a> {
@@ -141,9 +168,32 @@ impl<'a> Model for BodyRef<'a> {
       time = b.time;
       usec = b.usec;
       seq = b.seq;
-      s_addr = b.s_addr.now;
-      r_addr = b.r_addr.now;
+      s_addr = b.s_addr;
+      r_addr = b.r_addr;
     } };
+}
+
+/// An address that may be absent, borrowed.
+fn borrowed_address(address: &Option<HostAddress>) -> Option<AddressRef<'_>>
+    ensures { result ≡ address.now }
+{
+    match address {
+        Some(address) => Some(address.borrowed()),
+        None => None,
+    }
+}
+
+/// An address that may be absent, with bytes of its own.
+fn owned_address(
+    alloc: Global,
+    address: &Option<AddressRef<'_>>,
+) -> Result<Option<HostAddress>, AllocError>
+    ensures { IfOk result (λ owned. owned ≡ address.now) }
+{
+    match address {
+        Some(address) => Ok(Some(address.to_owned(alloc)?)),
+        None => Ok(None),
+    }
 }
 
 impl Body {
@@ -156,8 +206,8 @@ impl Body {
             time: self.time,
             usec: self.usec,
             seq: self.seq,
-            s_addr: &self.s_addr,
-            r_addr: &self.r_addr,
+            s_addr: self.s_addr.borrowed(),
+            r_addr: borrowed_address(&self.r_addr),
         }
     }
 }
@@ -185,8 +235,8 @@ impl<'a> BodyRef<'a> {
             time: Some(at.secs()),
             usec: Some(at.usec()),
             seq: Some(seq),
-            s_addr,
-            r_addr,
+            s_addr: s_addr.borrowed(),
+            r_addr: borrowed_address(r_addr),
         }
     }
 
@@ -196,6 +246,56 @@ impl<'a> BodyRef<'a> {
     {
         self.user_data
     }
+
+    /// The sender's time in seconds, and the microseconds of it.
+    pub fn time(&self) -> (Option<u64>, Option<u32>)
+        ensures { result ≡ (self.now.time, self.now.usec) }
+    {
+        (self.time, self.usec)
+    }
+
+    /// The sequence number.
+    pub fn seq(&self) -> Option<u32>
+        ensures { result ≡ self.now.seq }
+    {
+        self.seq
+    }
+
+    /// The sender's address.
+    pub fn s_addr(&self) -> &AddressRef<'a>
+        ensures { result.now ≡ self.now.s_addr }
+    {
+        &self.s_addr
+    }
+
+    /// The receiver's address.
+    pub fn r_addr(&self) -> &Option<AddressRef<'a>>
+        ensures { result.now ≡ self.now.r_addr }
+    {
+        &self.r_addr
+    }
+
+    /// What it carries beside its data, with addresses of its own.
+    pub(crate) fn details(&self, alloc: Global) -> Result<Details, AllocError>
+        ensures { IfOk result (λ details. self.now ≡ body_with self.now.user_data details) }
+    {
+        Ok(Details {
+            time: self.time,
+            usec: self.usec,
+            seq: self.seq,
+            s_addr: self.s_addr.to_owned(alloc)?,
+            r_addr: owned_address(alloc, &self.r_addr)?,
+        })
+    }
+
+    /// The body, with data and addresses of its own.
+    pub fn to_owned(&self, alloc: Global) -> Result<Body, AllocError>
+        ensures { IfOk result (λ body. body ≡ self.now) }
+    {
+        let details = self.details(alloc)?;
+        let user_data = Bytes::new(Vec::from_slice(alloc, self.user_data)?);
+        Ok(details.with(user_data))
+    }
 }
 
 impl<'a> BodyRef<'a> {
@@ -203,11 +303,11 @@ impl<'a> BodyRef<'a> {
     pub(crate) fn is_short(&self) -> bool
         ensures { IsTrue result ↔ IsShortBody self.now }
     {
-        let r_addr = match self.r_addr {
-            Some(address) => is_short(address.bytes.as_slice()),
+        let r_addr = match &self.r_addr {
+            Some(address) => is_short(address.bytes()),
             None => true,
         };
-        is_short(self.user_data) && is_short(self.s_addr.bytes.as_slice()) && r_addr
+        is_short(self.user_data) && is_short(self.s_addr.bytes()) && r_addr
     }
 
     /// What the types of its numbers say, besides the ranges that are required.
@@ -216,8 +316,8 @@ impl<'a> BodyRef<'a> {
         ensures { IsBody self.now }
     {
         known_uint32(&self.seq);
-        known_address(self.s_addr);
-        known_optional_address(self.r_addr);
+        known_address(&self.s_addr);
+        known_optional_address(&self.r_addr);
     }
 
     fn fields_size_with(&self, len: usize) -> usize
@@ -231,8 +331,8 @@ impl<'a> BodyRef<'a> {
             + optional_time_size(self.time)
             + natural_field_size(self.usec)
             + natural_field_size(self.seq)
-            + size_around(typed_size(&self.s_addr.kind, self.s_addr.bytes.as_slice()))
-            + optional_address_size(self.r_addr)
+            + size_around(typed_size(self.s_addr.kind(), self.s_addr.bytes()))
+            + optional_address_size(&self.r_addr)
     }
 
     /// How many bytes it has with so many bytes of data in place of its own.
@@ -286,13 +386,8 @@ impl<'a> BodyRef<'a> {
         write_optional_time(out, tag::FIELD_1, self.time)?;
         write_natural_field(out, tag::FIELD_2, self.usec)?;
         write_natural_field(out, tag::FIELD_3, self.seq)?;
-        write_typed_field(
-            out,
-            tag::FIELD_4,
-            &self.s_addr.kind,
-            self.s_addr.bytes.as_slice(),
-        )?;
-        write_optional_address(out, tag::FIELD_5, self.r_addr)
+        write_typed_field(out, tag::FIELD_4, self.s_addr.kind(), self.s_addr.bytes())?;
+        write_optional_address(out, tag::FIELD_5, &self.r_addr)
     }
 
     /// Adds it.

@@ -2,8 +2,8 @@
 //! encrypted part of KRB-PRIV, and of their times.
 //!
 //! Each value has one spelling, and each spelling one value: [`decode`] reads exactly what the
-//! grammar spells, and [`encode_safe`], [`encode_priv`] and [`encode_part`] write it. [`view`] reads the
-//! same and copies nothing: its byte strings lie in the bytes that it was given. So bytes that spell
+//! grammar spells, and [`encode_safe`], [`encode_priv`] and [`encode_part`] write it. [`decode_borrowed`] reads the
+//! same and copies nothing: the byte strings lie in the bytes that were given. So bytes that spell
 //! nothing are told as malformed whether or not there is memory.
 //!
 //! ```rust crates/krb_seal_tests/src/codec.rt
@@ -18,7 +18,7 @@
 
 mod address;
 mod body;
-mod body_view;
+mod body_reading;
 mod error;
 mod laws;
 mod message;
@@ -28,9 +28,8 @@ mod safe;
 mod tag;
 mod typed;
 
-pub use address::{AddressView, HostAddress};
+pub use address::{AddressRef, HostAddress};
 pub use body::{Body, BodyRef};
-pub use body_view::{BodyView, DetailsView};
 pub use error::DerError;
 pub use krb_base::Bytes;
 pub use krb_time::{
@@ -38,10 +37,9 @@ pub use krb_time::{
     kerberos_time_names_its_second, read_kerberos_time,
 };
 pub use laws::{earlier_spellings, reading_laws, size_laws, unique_spelling};
-pub use message::{Message, MessageView, decode, view};
+pub use message::{Message, MessageRef, decode, decode_borrowed};
 pub use part::{decode_part, decode_part_from, encode_part};
-pub use private::{Draft, PrivMsg, PrivView, draft_priv, encode_priv, priv_size};
+pub use private::{Draft, PrivMsg, PrivRef, draft_priv, encode_priv, priv_size};
 pub use safe::{
-    Covering, SafeDraft, SafeMsg, SafeRef, SafeView, covering_of, draft_safe, encode_safe,
-    safe_input,
+    Covering, SafeDraft, SafeMsg, SafeRef, covering_of, draft_safe, encode_safe, safe_input,
 };

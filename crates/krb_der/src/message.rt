@@ -1,14 +1,14 @@
 ghost use Rattle.std.specs.Prelude.{◌≡◌, IfOk, MatchResult};
 ghost use Rattle.krb_der.specs.declared.error.DerError.TheVariants.{Memory};
 ghost use Rattle.krb_der.specs.declared.message.Message.{Message as MessageValue};
-ghost use Rattle.krb_der.specs.Message.{Decodes, Spells, Views};
-ghost use Rattle.krb_der.specs.View.{viewed};
+ghost use Rattle.krb_der.specs.Message.{Decodes, Spells, DecodesBorrowed};
+ghost use Rattle.krb_der.specs.MessageRef.{owned};
 ghost use Rattle.krb_tlv.specs.Reading.{Finds};
 ghost use Rattle.krb_der.specs.Reading.{Gives, message_of};
 
 use crate::error::DerError;
-use crate::private::{PrivMsg, PrivView, read_private};
-use crate::safe::{SafeMsg, SafeView, read_safe};
+use crate::private::{PrivMsg, PrivRef, read_private};
+use crate::safe::{SafeMsg, SafeRef, read_safe};
 use crate::tag;
 use krb_base::FRAME_LIMIT;
 use krb_tlv::{Reader, only_element};
@@ -23,62 +23,62 @@ pub enum Message {
     Priv(PrivMsg),
 }
 
-/// A message whose byte strings lie in its spelling.
+/// A [`Message`] whose byte strings are borrowed.
 #[derive(Drop)]
-pub enum MessageView<'a> {
+pub enum MessageRef<'a> {
     /// KRB-SAFE.
-    Safe(SafeView<'a>),
+    Safe(SafeRef<'a>),
     /// KRB-PRIV.
-    Priv(PrivView<'a>),
+    Priv(PrivRef<'a>),
 }
 
-impl<'a> MessageView<'a> {
+impl<'a> MessageRef<'a> {
     /// The message, with byte strings of its own.
     pub fn to_owned(&self, alloc: Global) -> Result<Message, AllocError>
-        ensures { IfOk result (λ m. m ≡ viewed self.now) }
+        ensures { IfOk result (λ m. m ≡ owned self.now) }
     {
         match self {
-            MessageView::Safe(m) => Ok(Message::Safe(m.to_owned(alloc)?)),
-            MessageView::Priv(m) => Ok(Message::Priv(m.to_owned(alloc)?)),
+            MessageRef::Safe(m) => Ok(Message::Safe(m.to_owned(alloc)?)),
+            MessageRef::Priv(m) => Ok(Message::Priv(m.to_owned(alloc)?)),
         }
     }
 }
 
 /// The message that the bytes spell, whatever their number.
 #[tactic(auto, unfolding(crate::specs::Reading::message_of))]
-fn view_message(bytes: &[u8]) -> Option<MessageView<'_>>
-    ensures { Finds viewed result (message_of bytes.now) }
+fn message_in(bytes: &[u8]) -> Option<MessageRef<'_>>
+    ensures { Finds owned result (message_of bytes.now) }
 {
     if Reader::new(bytes).is_at(tag::KRB_SAFE) {
         let found = read_safe(only_element(tag::KRB_SAFE, bytes)?)?;
-        return Some(MessageView::Safe(found));
+        return Some(MessageRef::Safe(found));
     }
     let found = read_private(only_element(tag::KRB_PRIV, bytes)?)?;
-    Some(MessageView::Priv(found))
+    Some(MessageRef::Priv(found))
 }
 
 /// The same, with byte strings of its own.
 fn read_message(alloc: Global, bytes: &[u8]) -> Result<Message, DerError>
     ensures { Gives (λ x. x) result (message_of bytes.now) }
 {
-    match view_message(bytes) {
+    match message_in(bytes) {
         Some(found) => Ok(found.to_owned(alloc)?),
         None => Err(DerError::Malformed),
     }
 }
 
-/// The message that the bytes spell, where its byte strings lie. Nothing is allocated.
+/// The message that the bytes spell, with its byte strings where they lie. Nothing is allocated.
 ///
 /// [`DerError::TooLong`] is returned if and only if there are over 1,005,000 bytes, and
 /// [`DerError::Malformed`] if and only if there are no more and they spell nothing;
 /// [`DerError::Memory`] never.
-pub fn view(bytes: &[u8]) -> Result<MessageView<'_>, DerError>
-    ensures { Views Spells viewed result bytes.now }
+pub fn decode_borrowed(bytes: &[u8]) -> Result<MessageRef<'_>, DerError>
+    ensures { DecodesBorrowed Spells owned result bytes.now }
 {
     if bytes.len() > FRAME_LIMIT {
         return Err(DerError::TooLong);
     }
-    match view_message(bytes) {
+    match message_in(bytes) {
         Some(found) => Ok(found),
         None => Err(DerError::Malformed),
     }

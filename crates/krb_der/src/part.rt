@@ -13,7 +13,7 @@ ghost use Rattle.krb_der.specs.Size.{HasAddressesWithinLimit, HasPartSize};
 ghost use Rattle.krb_der.specs.Writing.{IsShortBody};
 
 use crate::body::{Body, BodyRef};
-use crate::body_view::{BodyView, read_body, read_details, split_data};
+use crate::body_reading::{read_after, read_body, split_data};
 use crate::error::DerError;
 use crate::tag;
 use krb_base::{FRAME_LIMIT, Secret, known_bytes};
@@ -110,7 +110,7 @@ fn split_part(bytes: &[u8]) -> Option<(&[u8], &[u8])>
 }
 
 #[tactic(auto, unfolding(crate::specs::Reading::part_of))]
-fn view_part(bytes: &[u8]) -> Option<BodyView<'_>>
+fn part_in(bytes: &[u8]) -> Option<BodyRef<'_>>
     ensures { Finds (λ x. x) result (part_of bytes.now) }
 {
     read_body(only_element(tag::ENC_KRB_PRIV_PART, bytes)?)
@@ -119,7 +119,7 @@ fn view_part(bytes: &[u8]) -> Option<BodyView<'_>>
 fn read_part(alloc: Global, bytes: &[u8]) -> Result<Body, DerError>
     ensures { Gives (λ x. x) result (part_of bytes.now) }
 {
-    match view_part(bytes) {
+    match part_in(bytes) {
         Some(found) => Ok(found.to_owned(alloc)?),
         None => Err(DerError::Malformed),
     }
@@ -150,10 +150,10 @@ fn take_part(alloc: Global, bytes: Secret, start: usize) -> Result<Body, DerErro
     let Some((data, following)) = split_part(&bytes.as_slice()[start..]) else {
         return Err(DerError::Malformed);
     };
-    let Some(found) = read_details(following) else {
+    let Some(found) = read_after(data, following) else {
         return Err(DerError::Malformed);
     };
-    let details = found.to_owned(alloc)?;
+    let details = found.details(alloc)?;
     let end = bytes.as_slice().len() - following.len();
     let front = end - data.len();
     let data = bytes.into_bytes(alloc).cut(front, end);

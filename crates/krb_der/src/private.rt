@@ -40,9 +40,9 @@ pub struct PrivMsg {
     pub cipher: Bytes,
 }
 
-/// A message KRB-PRIV whose encrypted part lies in its spelling.
+/// A [`PrivMsg`] whose encrypted part is borrowed.
 #[derive(Drop)]
-pub struct PrivView<'a> {
+pub struct PrivRef<'a> {
     pvno: i32,
     msg_type: i32,
     etype: i32,
@@ -50,7 +50,7 @@ pub struct PrivView<'a> {
     cipher: &'a [u8],
 }
 
-impl<'a> Model for PrivView<'a> {
+impl<'a> Model for PrivRef<'a> {
     ghost use Rattle.krb_der.specs.declared.private.PrivMsg.{PrivMsg};
 
     ghost Value = { PrivMsg };
@@ -64,7 +64,21 @@ impl<'a> Model for PrivView<'a> {
     } };
 }
 
-impl<'a> PrivView<'a> {
+impl<'a> PrivRef<'a> {
+    /// The protocol version.
+    pub fn pvno(&self) -> i32
+        ensures { result ≡ self.now.pvno }
+    {
+        self.pvno
+    }
+
+    /// The kind of message.
+    pub fn msg_type(&self) -> i32
+        ensures { result ≡ self.now.msg_type }
+    {
+        self.msg_type
+    }
+
     /// The encryption type.
     pub fn etype(&self) -> i32
         ensures { result ≡ self.now.etype }
@@ -77,6 +91,13 @@ impl<'a> PrivView<'a> {
         ensures { result ≡ self.now.kvno }
     {
         self.kvno
+    }
+
+    /// The encrypted part, with its checksum.
+    pub fn cipher(&self) -> &'a [u8]
+        ensures { result.now ≡ self.now.cipher }
+    {
+        self.cipher
     }
 
     /// The message, with an encrypted part of its own.
@@ -106,14 +127,14 @@ fn read_encrypted(bytes: &[u8]) -> Option<(i32, Option<u32>, &[u8])>
 
 /// The message whose fields, as one sequence, the bytes are.
 #[tactic(auto, unfolding(crate::specs::Reading::private_of))]
-pub fn read_private(bytes: &[u8]) -> Option<PrivView<'_>>
+pub fn read_private(bytes: &[u8]) -> Option<PrivRef<'_>>
     ensures { Finds (λ x. x) result (private_of bytes.now) }
 {
     let mut fields = Reader::inside(tag::SEQUENCE, bytes)?;
     let pvno = read_int32_field(&mut fields, tag::FIELD_0)?;
     let msg_type = read_int32_field(&mut fields, tag::FIELD_1)?;
     let (etype, kvno, cipher) = read_encrypted(fields.element(tag::FIELD_3)?)?;
-    fields.finish(PrivView {
+    fields.finish(PrivRef {
         pvno,
         msg_type,
         etype,

@@ -14,7 +14,7 @@ ghost use Rattle.krb_tlv.specs.Writing.{IsShort};
 ghost use Rattle.krb_der.specs.Writing.{IsShortBody, before_checksum_size, safe_fields_size, safe_headers};
 
 use crate::body::{Body, BodyRef, is_short};
-use crate::body_view::{BodyView, read_body};
+use crate::body_reading::read_body;
 use crate::error::DerError;
 use crate::tag;
 use crate::typed::{read_typed_field, typed_size, typed_size_of, write_typed_field};
@@ -45,62 +45,9 @@ pub struct SafeMsg {
     pub checksum: Bytes,
 }
 
-/// A message KRB-SAFE whose byte strings lie in its spelling.
-#[derive(Drop)]
-pub struct SafeView<'a> {
-    pvno: i32,
-    msg_type: i32,
-    body: BodyView<'a>,
-    cksum_type: i32,
-    checksum: &'a [u8],
-}
-
-impl<'a> Model for SafeView<'a> {
-    ghost use Rattle.krb_der.specs.declared.safe.SafeMsg.{SafeMsg};
-
-    ghost Value = { SafeMsg };
-
-    ghost view = { λ m. record {
-      pvno = m.pvno;
-      msg_type = m.msg_type;
-      body = m.body;
-      cksum_type = m.cksum_type;
-      checksum = m.checksum.now;
-    } };
-}
-
-impl<'a> SafeView<'a> {
-    /// The sequence number.
-    pub fn seq(&self) -> Option<u32>
-        ensures { result ≡ self.now.body.seq }
-    {
-        self.body.seq()
-    }
-
-    /// The type of the checksum.
-    pub fn cksum_type(&self) -> i32
-        ensures { result ≡ self.now.cksum_type }
-    {
-        self.cksum_type
-    }
-
-    /// The message, with byte strings of its own.
-    pub fn to_owned(&self, alloc: Global) -> Result<SafeMsg, AllocError>
-        ensures { IfOk result (λ m. m ≡ self.now) }
-    {
-        Ok(SafeMsg {
-            pvno: self.pvno,
-            msg_type: self.msg_type,
-            body: self.body.to_owned(alloc)?,
-            cksum_type: self.cksum_type,
-            checksum: Bytes::new(Vec::from_slice(alloc, self.checksum)?),
-        })
-    }
-}
-
 /// The message whose fields, as one sequence, the bytes are.
 #[tactic(auto, unfolding(crate::specs::Reading::safe_of))]
-pub fn read_safe(bytes: &[u8]) -> Option<SafeView<'_>>
+pub fn read_safe(bytes: &[u8]) -> Option<SafeRef<'_>>
     ensures { Finds (λ x. x) result (safe_of bytes.now) }
 {
     let mut fields = Reader::inside(tag::SEQUENCE, bytes)?;
@@ -108,7 +55,7 @@ pub fn read_safe(bytes: &[u8]) -> Option<SafeView<'_>>
     let msg_type = read_int32_field(&mut fields, tag::FIELD_1)?;
     let body = read_body(fields.element(tag::FIELD_2)?)?;
     let (cksum_type, checksum) = read_typed_field(&mut fields, tag::FIELD_3)?;
-    fields.finish(SafeView {
+    fields.finish(SafeRef {
         pvno,
         msg_type,
         body,
@@ -181,7 +128,8 @@ impl SafeDraft {
     }
 }
 
-/// A [`SafeMsg`] whose data, addresses and checksum are borrowed.
+/// A [`SafeMsg`] whose data, addresses and checksum are borrowed: of one that is written without a copy
+/// of them, or of bytes that spell it.
 #[derive(Drop)]
 pub struct SafeRef<'a> {
     pvno: i32,
@@ -218,19 +166,6 @@ impl SafeMsg {
             checksum: self.checksum.as_slice(),
         }
     }
-
-    /// The fields before the checksum, in the bytes that spell the message.
-    pub fn before_checksum_in<'a>(&self, bytes: &'a [u8]) -> &'a [u8]
-        requires { Spells (Safe self.now) bytes.now }
-        ensures fields { result.now ≡ before_checksum self.now }
-        ensures limit { length result.now ≤ frame_limit }
-    {
-        let last = size_around(typed_size(&self.cksum_type, self.checksum.as_slice()));
-        let end = bytes.len() - last;
-        let len = self.body.user_data.as_slice().len();
-        let start = end - self.borrowed().before_checksum_size(len);
-        &bytes[start..end]
-    }
 }
 
 impl<'a> SafeRef<'a> {
@@ -255,6 +190,66 @@ impl<'a> SafeRef<'a> {
 }
 
 impl<'a> SafeRef<'a> {
+    /// The protocol version.
+    pub fn pvno(&self) -> i32
+        ensures { result ≡ self.now.pvno }
+    {
+        self.pvno
+    }
+
+    /// The kind of message.
+    pub fn msg_type(&self) -> i32
+        ensures { result ≡ self.now.msg_type }
+    {
+        self.msg_type
+    }
+
+    /// What the message carries.
+    pub fn body(&self) -> &BodyRef<'a>
+        ensures { result.now ≡ self.now.body }
+    {
+        &self.body
+    }
+
+    /// The type of the checksum.
+    pub fn cksum_type(&self) -> i32
+        ensures { result ≡ self.now.cksum_type }
+    {
+        self.cksum_type
+    }
+
+    /// The checksum.
+    pub fn checksum(&self) -> &'a [u8]
+        ensures { result.now ≡ self.now.checksum }
+    {
+        self.checksum
+    }
+
+    /// The message, with byte strings of its own.
+    pub fn to_owned(&self, alloc: Global) -> Result<SafeMsg, AllocError>
+        ensures { IfOk result (λ m. m ≡ self.now) }
+    {
+        Ok(SafeMsg {
+            pvno: self.pvno,
+            msg_type: self.msg_type,
+            body: self.body.to_owned(alloc)?,
+            cksum_type: self.cksum_type,
+            checksum: Bytes::new(Vec::from_slice(alloc, self.checksum)?),
+        })
+    }
+
+    /// The fields before the checksum, in the bytes that spell the message.
+    pub fn before_checksum_in<'b>(&self, bytes: &'b [u8]) -> &'b [u8]
+        requires { Spells (Safe self.now) bytes.now }
+        ensures fields { result.now ≡ before_checksum self.now }
+        ensures limit { length result.now ≤ frame_limit }
+    {
+        let last = size_around(typed_size(&self.cksum_type, self.checksum));
+        let end = bytes.len() - last;
+        let start = end - self.before_checksum_size(self.body.user_data().len());
+        &bytes[start..end]
+    }
+
     /// How many bytes the fields before the checksum have with so many bytes of data.
     fn before_checksum_size(&self, len: usize) -> usize
         requires data_limit { len ≤ frame_limit }

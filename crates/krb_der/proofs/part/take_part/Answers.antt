@@ -11,4 +11,5 @@ returns c =
     let size = ap length c.as_slice-2.ensures in
     let cut = rw c.into_bytes.ensures at c.cut-data.ensures.part in
     let moved = cut ∙ data-place c.args.bytes c.in-Some.data.now c.in-Some.following.now _ size place in
-    ap part_of (sym spelt) ∙ c.in-Some.ensures.fields ∙ c.in-Some-read_details.ensures c.in-Some.data.now ∙ ap Some (sym (c.with.ensures ∙ ap (λ (z : List ℕ). body_with z c.in_ok-details.details) moved ∙ ap (body_with c.in-Some.data.now) c.in_ok-details.ensures))
+    ap part_of (sym spelt) ∙ c.in-Some.ensures.fields ∙ c.in-Some-read_after.ensures.found
+    ∙ ap Some (c.in_ok-details.ensures ∙ ap (λ (z : List ℕ). body_with z c.in_ok-details.details) (c.in-Some-read_after.ensures.data ∙ sym moved) ∙ sym c.with.ensures)

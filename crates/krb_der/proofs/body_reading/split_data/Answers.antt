@@ -1,7 +1,7 @@
 use Rattle.std.proofs.Common.{arith}
 use Rattle.krb_tlv.specs.UniversalTag.{sequence_tag}
 use Rattle.krb_der.proofs.Places.{ends-alone, ends-data}
-use Rattle.krb_der.proofs.body_view.split_data.Goals as goal
+use Rattle.krb_der.proofs.body_reading.split_data.Goals as goal
 
 pub returns-clause-place : goal.returns-clause-place
 returns-clause-place c =
