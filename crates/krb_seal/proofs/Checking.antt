@@ -7,6 +7,7 @@ use Rattle.std.proofs.lemmas.Bool.{le-leb}
 use Rattle.std.proofs.lemmas.Slice.Eq.{bytes_eq-Decides}
 use Rattle.krb_base.specs.Limits.{frame_limit}
 use Rattle.krb_der.specs.declared.body.Body.{Body}
+use Rattle.krb_der.specs.declared.safe.SafeMsg.{SafeMsg}
 use Rattle.krb_der.specs.declared.private.PrivMsg.{PrivMsg}
 use Rattle.krb_der.specs.declared.message.Message.{Message}
 use Rattle.krb_der.specs.declared.message.Message.TheVariants as messages
@@ -14,9 +15,10 @@ use Rattle.krb_der.specs.Message.{Spells, SpellsPart}
 use Rattle.krb_seal.specs.declared.refusal.Refusal.{Refusal}
 use Rattle.krb_seal.specs.declared.refusal.Refusal.TheVariants.{FieldTooLong, Malformed, BadIntegrity, Memory}
 use Rattle.krb_etype.specs.Keys.{tag_of, IsEncryption}
-use Rattle.krb_seal.specs.Opens.{OpenerState, Passes, Read, Decrypt, OpensText, OpensMessage, Opens, priv_header}
+use Rattle.krb_seal.specs.Opens.{OpenerState, Passes, Read, Decrypt, OpensText, OpensMessage, Opens, priv_header, safe_checks}
 use Rattle.krb_seal.specs.OpensParts.{Outcome, Checks, OpensPart, text_checks, frame_checks}
-use Rattle.krb_seal.specs.Authentic.{Authenticity, AuthenticMessage, AuthenticText, GivesBody}
+use Rattle.krb_seal.specs.Authentic.{Authenticity, AuthenticMessage, AuthenticText, GivesBody, authentic_checks}
+use Rattle.krb_seal.specs.Memory.{AreMet}
 use Rattle.krb_seal.specs.declared.unopened.Unopened.{Unopened}
 use Rattle.krb_seal.specs.Unseals.{seen, untold, OrMemory, first_unmet, refusal_of, Checked}
 
@@ -186,3 +188,44 @@ pub refusal_alone : (Gives : Outcome → Type 0) (told : Result (List ℕ) Unope
 refusal_alone Gives told u (Ok v) h is p = absurd p
 refusal_alone Gives told u (Err r) h is p =
     subst (λ (z : Refusal). OrMemory Gives (Err z)) (sym p) (subst (λ (z : Result (List ℕ) Unopened). OrMemory Gives (untold z)) is h)
+
+-- ---- no check refuses by out of memory
+
+abbrev pub OtherRefusals : Checks → Type 0
+OtherRefusals [] = Unit {0}
+OtherRefusals ((met, r) ∷ rest) = (r ≡ Memory → ⊥) × OtherRefusals rest
+
+never_memory : (checks : Checks) → OtherRefusals checks → first_unmet checks ≡ Some Memory → ⊥
+never_memory [] others e = absurd cc
+never_memory ((true, r) ∷ rest) others e = never_memory rest others.1 e
+never_memory ((false, r) ∷ rest) others e = others.0 cc
+
+pub safe_others : (o : OpenerState) (number now : ℕ) (m : SafeMsg) → OtherRefusals (safe_checks o number now m)
+safe_others o number now m = (λ e. absurd cc, (λ e. absurd cc, (λ e. absurd cc, (λ e. absurd cc, (λ e. absurd cc, (λ e. absurd cc, (λ e. absurd cc, tt)))))))
+
+pub authentic_others : (o : OpenerState) (m : SafeMsg) → OtherRefusals (authentic_checks o m)
+authentic_others o m = (λ e. absurd cc, (λ e. absurd cc, (λ e. absurd cc, (λ e. absurd cc, tt))))
+
+pub priv_others : (o : OpenerState) (m : PrivMsg) → OtherRefusals (priv_header o.etype o.expect m)
+priv_others o m = (λ e. absurd cc, (λ e. absurd cc, (λ e. absurd cc, (λ e. absurd cc, tt))))
+
+-- so a refusal by one of them isn't out of memory
+same_error : {A : Type 0} (r x : Refusal) → ◌≡◌ {A = Result A Refusal} (Err r) (Err x) → r ≡ x
+same_error r x e = cc
+
+pub refused_otherwise : {A B : Type 0} (checks : Checks) (made : Result A Refusal) (r : Refusal) (result : Result B Refusal)
+    → Checked checks made → OtherRefusals checks → made ≡ Err r → IsErrAnd result (λ e. e ≡ r) → result ≡ Err Memory → AreMet checks
+refused_otherwise checks made r (Ok x) h others is p e = absurd p
+refused_otherwise checks made r (Err x) h others is p e =
+    absurd (never_memory checks others (h ∙ ap refusal_of is ∙ ap Some (sym p ∙ same_error x Memory e)))
+
+-- ---- what tells a number too
+
+pub untold_err : {B : Type 0} (result : Result B Unopened) (u : Unopened) → IsErrAnd result (λ z. z ≡ u) → IsErrAnd (untold result) (λ e. e ≡ u.refusal)
+untold_err (Ok x) u p = absurd p
+untold_err (Err v) u p = ap (λ (z : Unopened). z.refusal) p
+
+pub checked_untold : {A B : Type 0} (checks : Checks) (made : Result A Refusal) (r : Refusal) (result : Result B Unopened)
+    → Checked checks made → made ≡ Err r → IsErrAnd result (λ u. u ≡ record { refusal = r; number = None }) → Checked checks (untold result)
+checked_untold checks made r (Ok x) h is p = absurd p
+checked_untold checks made r (Err u) h is p = h ∙ ap refusal_of is ∙ ap Some (sym (ap (λ (z : Unopened). z.refusal) p))

@@ -14,6 +14,7 @@ pub mod Body
 pub mod Checksum
 pub mod AesSealerInside
 pub mod Unseals
+pub mod Memory
 pub mod Number
 pub mod NumberInside
 pub mod Laws

@@ -8,30 +8,30 @@ ghost use Rattle.krb_seal.specs.Unseals.{Checked};
 
 use crate::refusal::Refusal;
 use crate::session::{Expect, Mode};
-use krb_der::{Body, HostAddress, MICROS_PER_SECOND, PrivMsg, SafeMsg};
+use krb_der::{AddressRef, BodyRef, MICROS_PER_SECOND, PrivRef, SafeRef};
 use krb_etype::{CODE_SIZE, CONFOUNDER_SIZE, Etype};
 use krb_keys::mac_equal;
 
-fn receiver_fits(expect: &Expect, r_addr: &Option<HostAddress>) -> bool
+fn receiver_fits(expect: &Expect, r_addr: &Option<AddressRef<'_>>) -> bool
     ensures { result ≡ receiver_fits expect.now r_addr.now }
 {
     match r_addr {
         None => !expect.require_r,
-        Some(address) => address.same(&expect.r_addr),
+        Some(address) => address.is(&expect.r_addr),
     }
 }
 
-fn addresses_fit(expect: &Expect, body: &Body) -> bool
+fn addresses_fit(expect: &Expect, body: &BodyRef<'_>) -> bool
     ensures { result ≡ addresses_fit expect.now body.now }
 {
-    body.s_addr.same(&expect.s_addr) && receiver_fits(expect, &body.r_addr)
+    body.s_addr().is(&expect.s_addr) && receiver_fits(expect, body.r_addr())
 }
 
-fn is_current(expect: &Expect, now: u64, body: &Body) -> bool
+fn is_current(expect: &Expect, now: u64, body: &BodyRef<'_>) -> bool
     requires { InRange body.now }
     ensures { result ≡ is_current expect.now now body.now.time body.now.usec }
 {
-    match (body.time, body.usec) {
+    match body.time() {
         (Some(secs), Some(usec)) => {
             let at = MICROS_PER_SECOND * secs + u64::from(usec);
             now.abs_diff(at) <= MICROS_PER_SECOND * u64::from(expect.skew)
@@ -68,49 +68,49 @@ fn is_checksum_of(etype: Etype, number: i32) -> bool
 }
 
 /// The version, the kind of message and the checksum's type of KRB-SAFE.
-pub fn check_safe_header(etype: Etype, expect: &Expect, m: &SafeMsg) -> Result<(), Refusal>
+pub fn check_safe_header(etype: Etype, expect: &Expect, m: &SafeRef<'_>) -> Result<(), Refusal>
     ensures { Checked (safe_header (number_of etype) expect.now m.now) result }
 {
-    if m.pvno != 5 {
+    if m.pvno() != 5 {
         return Err(Refusal::BadVersion);
     }
-    if !(is_safe(expect.mode) && m.msg_type == 20) {
+    if !(is_safe(expect.mode) && m.msg_type() == 20) {
         return Err(Refusal::MsgType);
     }
-    if !is_checksum_of(etype, m.cksum_type) {
+    if !is_checksum_of(etype, m.cksum_type()) {
         return Err(Refusal::InappCksum);
     }
     Ok(())
 }
 
 /// The version, the kind of message, the encryption type and the size of a cipher of KRB-PRIV.
-pub fn check_priv_header(etype: Etype, expect: &Expect, m: &PrivMsg) -> Result<(), Refusal>
+pub fn check_priv_header(etype: Etype, expect: &Expect, m: &PrivRef<'_>) -> Result<(), Refusal>
     ensures { Checked (priv_header (number_of etype) expect.now m.now) result }
 {
-    if m.pvno != 5 {
+    if m.pvno() != 5 {
         return Err(Refusal::BadVersion);
     }
-    if is_safe(expect.mode) || m.msg_type != 21 {
+    if is_safe(expect.mode) || m.msg_type() != 21 {
         return Err(Refusal::MsgType);
     }
-    if m.etype != etype.number() {
+    if m.etype() != etype.number() {
         return Err(Refusal::EtypeNoSupp);
     }
-    if m.cipher.as_slice().len() < CONFOUNDER_SIZE + CODE_SIZE {
+    if m.cipher().len() < CONFOUNDER_SIZE + CODE_SIZE {
         return Err(Refusal::BadIntegrity);
     }
     Ok(())
 }
 
 /// Whether the message has this checksum.
-pub fn has_checksum(m: &SafeMsg, checksum: &[u8; CODE_SIZE]) -> bool
+pub fn has_checksum(m: &SafeRef<'_>, checksum: &[u8; CODE_SIZE]) -> bool
     ensures { IsTrue result ↔ (m.now.checksum ≡ checksum.now) }
 {
-    mac_equal(m.checksum.as_slice(), checksum)
+    mac_equal(m.checksum(), checksum)
 }
 
 /// The addresses, the time and the number of a body of either kind.
-pub fn check_body(expect: &Expect, number: u64, now: u64, body: &Body) -> Result<(), Refusal>
+pub fn check_body(expect: &Expect, number: u64, now: u64, body: &BodyRef<'_>) -> Result<(), Refusal>
     requires { InRange body.now }
     ensures { Checked (body_checks expect.now number now body.now) result }
 {
@@ -120,7 +120,7 @@ pub fn check_body(expect: &Expect, number: u64, now: u64, body: &Body) -> Result
     if !is_current(expect, now, body) {
         return Err(Refusal::Skew);
     }
-    if !is_number(number, body.seq) {
+    if !is_number(number, body.seq()) {
         return Err(Refusal::BadOrder);
     }
     Ok(())

@@ -10,6 +10,7 @@ ghost use Rattle.krb_seal.specs.Mode.{purpose_of};
 ghost use Rattle.krb_seal.specs.Opens.{Opens, opener_of};
 ghost use Rattle.krb_seal.specs.Authentic.{Authenticates};
 ghost use Rattle.krb_seal.specs.Number.{TellsNoOther, TellsNumber};
+ghost use Rattle.krb_seal.specs.Memory.{AsksForMemory, AsksWithoutDemands};
 ghost use Rattle.krb_seal.specs.Unseals.{OrMemory, seen, untold};
 
 use crate::opening::Opening;
@@ -85,7 +86,8 @@ impl Opener {
     /// The user data of a frame that carries the sequence number `number`, opened at `now`.
     ///
     /// The refusal is that of the first check which the frame fails. No frame carries a number
-    /// over [`LAST_NUMBER`](krb_base::LAST_NUMBER).
+    /// over [`LAST_NUMBER`](krb_base::LAST_NUMBER). `Memory` is returned only where the frame is a
+    /// KRB-SAFE that passes all checks, or a KRB-PRIV that passes those of its header.
     pub fn unseal(
         &self,
         alloc: Global,
@@ -94,8 +96,8 @@ impl Opener {
         now: Moment,
     ) -> Result<Vec<u8>, Refusal>
         ensures answer { OrMemory (Opens self.now number now frame.now) (seen result) }
-        // A frame over the limit is refused before anything is allocated.
-        ensures memory { result ≡ Err Refusal.Memory → length frame.now ≤ frame_limit }
+        ensures memory { result ≡ Err Refusal.Memory
+            → AsksForMemory self.now number now frame.now }
     {
         let user_data = self.unseal_telling(alloc, frame, number, now)?;
         Ok(user_data.into_vec())
@@ -114,8 +116,8 @@ impl Opener {
         ensures answer { OrMemory (Opens self.now number now frame.now) (untold result) }
         ensures number { IfErr result (TellsNumber self.now now frame.now) }
         ensures no_other { IfErr result TellsNoOther }
-        // A frame over the limit is refused before anything is allocated.
-        ensures memory { untold result ≡ Err Refusal.Memory → length frame.now ≤ frame_limit }
+        ensures memory { untold result ≡ Err Refusal.Memory
+            → AsksForMemory self.now number now frame.now }
     {
         if self.keys.is_wiped() {
             let zeros = self.keys_of_zeros();
@@ -137,8 +139,7 @@ impl Opener {
     pub fn authenticate(&self, alloc: Global, frame: &[u8]) -> Result<Body, Refusal>
         ensures answer { OrMemory (Authenticates self.now frame.now) result }
         ensures range { IfOk result InRange }
-        // A frame over the limit is refused before anything is allocated.
-        ensures memory { result ≡ Err Refusal.Memory → length frame.now ≤ frame_limit }
+        ensures memory { result ≡ Err Refusal.Memory → AsksWithoutDemands self.now frame.now }
     {
         if self.keys.is_wiped() {
             let zeros = self.keys_of_zeros();

@@ -2,6 +2,7 @@
 
 ghost use Rattle.std.specs.Prelude.{◌≡◌, ◌≤◌, ◌++◌, drop, length, Err, IfErr, IfOk, None};
 ghost use Rattle.krb_base.specs.Limits.{frame_limit};
+ghost use Rattle.krb_der.specs.declared.body.Body.{Body as BodyValue};
 ghost use Rattle.krb_der.specs.declared.message.Message.TheVariants as messages;
 ghost use Rattle.krb_der.specs.Body.{InRange};
 ghost use Rattle.krb_der.specs.Message.{Spells, SpellsPart};
@@ -10,11 +11,12 @@ ghost use Rattle.krb_etype.specs.Etype.{number_of};
 ghost use Rattle.krb_etype.specs.HeldKeys.{fresh_keys};
 ghost use Rattle.krb_etype.specs.declared.private_keys.End.TheVariants as ends;
 ghost use Rattle.krb_seal.specs.Mode.{purpose_of};
-ghost use Rattle.krb_seal.specs.Opens.{Opens, OpensMessage, Read, body_checks, opener_of, safe_header};
+ghost use Rattle.krb_seal.specs.Opens.{Opens, OpensMessage, Read, body_checks, opener_of, priv_header, safe_checks, safe_header};
 ghost use Rattle.krb_seal.specs.OpensParts.{OpensPart, checksum_checks};
 ghost use Rattle.krb_seal.specs.Authentic.{Authenticates, AuthenticMessage, GivesBody, authentic_checks};
 ghost use Rattle.krb_seal.specs.Number.{TellsNoOther, TellsNumber};
 ghost use Rattle.krb_seal.specs.NumberInside.{IsAuthenticNumber, TellsOfBody, TellsOfMessage};
+ghost use Rattle.krb_seal.specs.Memory.{AreMet, AsksForMemory, AsksWithoutDemands};
 ghost use Rattle.krb_seal.specs.Unseals.{Checked, OrMemory, untold};
 
 use crate::checks::{check_body, check_priv_header, check_safe_header, has_checksum};
@@ -23,7 +25,9 @@ use crate::refusal::Refusal;
 use crate::session::Expect;
 use crate::unopened::Unopened;
 use krb_base::{Bytes, Secret};
-use krb_der::{Body, DerError, Message, Moment, PrivMsg, SafeMsg, decode, decode_part_from};
+use krb_der::{
+    Body, DerError, MessageRef, Moment, PrivRef, SafeRef, decode_borrowed, decode_part_from,
+};
 use krb_etype::{CONFOUNDER_SIZE, Etype, Keys};
 use std::alloc::Global;
 use std::marker::Model;
@@ -73,16 +77,16 @@ impl<'a> Opening<'a> {
         ensures answer { OrMemory (Opens self.now number now frame.now) (untold result) }
         ensures number { IfErr result (TellsNumber self.now now frame.now) }
         ensures no_other { IfErr result TellsNoOther }
-        // A frame over the limit is refused before anything is allocated.
-        ensures memory { untold result ≡ Err Refusal.Memory → length frame.now ≤ frame_limit }
+        ensures memory { untold result ≡ Err Refusal.Memory
+            → AsksForMemory self.now number now frame.now }
     {
         let now = now.micros();
-        match decode(alloc, frame) {
-            Ok(Message::Safe(m)) => self.open_safe(frame, m, number, now),
-            Ok(Message::Priv(m)) => self.open_priv(alloc, m, number, now),
+        match decode_borrowed(frame) {
+            Ok(MessageRef::Safe(m)) => self.open_safe(alloc, frame, &m, number, now),
+            Ok(MessageRef::Priv(m)) => self.open_priv(alloc, &m, number, now),
             Err(DerError::TooLong) => Err(Unopened::from(Refusal::FieldTooLong)),
             Err(DerError::Malformed) => Err(Unopened::from(Refusal::Malformed)),
-            Err(DerError::Memory) => Err(Unopened::from(Refusal::Memory)),
+            Err(DerError::Memory) => unreachable!(),
         }
     }
 
@@ -90,22 +94,21 @@ impl<'a> Opening<'a> {
     pub fn authenticate(&self, alloc: Global, frame: &[u8]) -> Result<Body, Refusal>
         ensures answer { OrMemory (Authenticates self.now frame.now) result }
         ensures range { IfOk result InRange }
-        // A frame over the limit is refused before anything is allocated.
-        ensures memory { result ≡ Err Refusal.Memory → length frame.now ≤ frame_limit }
+        ensures memory { result ≡ Err Refusal.Memory → AsksWithoutDemands self.now frame.now }
     {
-        match decode(alloc, frame) {
-            Ok(Message::Safe(m)) => self.authentic_safe(frame, m),
-            Ok(Message::Priv(m)) => self.authentic_priv(alloc, m),
+        match decode_borrowed(frame) {
+            Ok(MessageRef::Safe(m)) => self.authentic_safe(alloc, frame, &m),
+            Ok(MessageRef::Priv(m)) => self.authentic_priv(alloc, &m),
             Err(DerError::TooLong) => Err(Refusal::FieldTooLong),
             Err(DerError::Malformed) => Err(Refusal::Malformed),
-            Err(DerError::Memory) => Err(Refusal::Memory),
+            Err(DerError::Memory) => unreachable!(),
         }
     }
 }
 
 impl<'a> Opening<'a> {
     /// The checksum of a KRB-SAFE, over the bytes that it was read of.
-    fn check_checksum(&self, frame: &[u8], m: &SafeMsg) -> Result<(), Refusal>
+    fn check_checksum(&self, frame: &[u8], m: &SafeRef<'_>) -> Result<(), Refusal>
         requires mode { self.now.expect.mode ≡ Safe }
         requires spelt { Spells (messages.Safe m.now) frame.now }
         ensures { Checked (checksum_checks self.now.key m.now) result }
@@ -118,17 +121,17 @@ impl<'a> Opening<'a> {
     }
 
     /// The checks of a KRB-SAFE but for its checksum.
-    fn check_fields(&self, m: &SafeMsg, number: u64, now: u64) -> Result<(), Refusal>
+    fn check_fields(&self, m: &SafeRef<'_>, number: u64, now: u64) -> Result<(), Refusal>
         requires { InRange m.now.body }
         ensures { Checked (safe_header self.now.etype self.now.expect m.now
             ++ body_checks self.now.expect number now m.now.body) result }
     {
         check_safe_header(self.etype, self.expect, m)?;
-        check_body(self.expect, number, now, &m.body)
+        check_body(self.expect, number, now, m.body())
     }
 
     /// The checks of a KRB-SAFE but for those of its body.
-    fn check_authentic(&self, frame: &[u8], m: &SafeMsg) -> Result<(), Refusal>
+    fn check_authentic(&self, frame: &[u8], m: &SafeRef<'_>) -> Result<(), Refusal>
         requires spelt { Spells (messages.Safe m.now) frame.now }
         ensures { Checked (authentic_checks self.now m.now) result }
     {
@@ -136,25 +139,53 @@ impl<'a> Opening<'a> {
         self.check_checksum(frame, m)
     }
 
-    /// What a KRB-SAFE gives.
-    fn open_safe(&self, frame: &[u8], m: SafeMsg, number: u64, now: u64) -> Result<Bytes, Unopened>
-        requires spelt { Spells (messages.Safe m) frame.now }
-        ensures answer { OpensMessage self.now number now (messages.Safe m) (untold result) }
-        ensures number { IfErr result (TellsOfMessage self.now now (messages.Safe m)) }
+    /// All checks of a KRB-SAFE.
+    fn check_safe(
+        &self,
+        frame: &[u8],
+        m: &SafeRef<'_>,
+        number: u64,
+        now: u64,
+    ) -> Result<(), Unopened>
+        requires spelt { Spells (messages.Safe m.now) frame.now }
+        ensures checked { Checked (safe_checks self.now number now m.now) (untold result) }
+        ensures number { IfErr result (TellsOfMessage self.now now (messages.Safe m.now)) }
         ensures no_other { IfErr result TellsNoOther }
     {
-        if let Err(refusal) = self.check_fields(&m, number, now) {
-            let number = self.number_of(frame, &m, refusal);
+        if let Err(refusal) = self.check_fields(m, number, now) {
+            let number = self.number_of(frame, m, refusal);
             return Err(Unopened { refusal, number });
         }
-        self.check_checksum(frame, &m)?;
-        let SafeMsg { body, .. } = m;
-        let Body { user_data, .. } = body;
-        Ok(user_data)
+        self.check_checksum(frame, m)?;
+        Ok(())
+    }
+
+    /// What a KRB-SAFE gives. Its user data are copied once it is accepted.
+    fn open_safe(
+        &self,
+        alloc: Global,
+        frame: &[u8],
+        m: &SafeRef<'_>,
+        number: u64,
+        now: u64,
+    ) -> Result<Bytes, Unopened>
+        requires spelt { Spells (messages.Safe m.now) frame.now }
+        ensures answer { OrMemory (OpensMessage self.now number now (messages.Safe m.now))
+            (untold result) }
+        ensures number { IfErr result (TellsOfMessage self.now now (messages.Safe m.now)) }
+        ensures no_other { IfErr result TellsNoOther }
+        ensures memory { untold result ≡ Err Refusal.Memory
+            → AreMet (safe_checks self.now number now m.now) }
+    {
+        self.check_safe(frame, m, number, now)?;
+        match Vec::from_slice(alloc, m.body().user_data()) {
+            Ok(user_data) => Ok(Bytes::new(user_data)),
+            Err(_) => Err(Unopened::from(Refusal::Memory)),
+        }
     }
 
     /// The number of a KRB-SAFE that is refused so, if it is by its number and the checksum is right.
-    fn number_of(&self, frame: &[u8], m: &SafeMsg, refusal: Refusal) -> Option<u32>
+    fn number_of(&self, frame: &[u8], m: &SafeRef<'_>, refusal: Refusal) -> Option<u32>
         requires spelt { Spells (messages.Safe m.now) frame.now }
         ensures order { refusal ≡ Refusal.BadOrder → IsAuthenticNumber self.now m.now result }
         ensures other { ¬ (refusal ≡ Refusal.BadOrder) → result ≡ None }
@@ -163,28 +194,39 @@ impl<'a> Opening<'a> {
             return None;
         }
         match self.check_authentic(frame, m) {
-            Ok(()) => m.body.seq,
+            Ok(()) => m.body().seq(),
             Err(_) => None,
         }
     }
 
     /// The body of a KRB-SAFE that is authentic.
-    fn authentic_safe(&self, frame: &[u8], m: SafeMsg) -> Result<Body, Refusal>
-        requires spelt { Spells (messages.Safe m) frame.now }
-        ensures answer { AuthenticMessage self.now (messages.Safe m) result }
+    fn authentic_safe(&self, alloc: Global, frame: &[u8], m: &SafeRef<'_>) -> Result<Body, Refusal>
+        requires spelt { Spells (messages.Safe m.now) frame.now }
+        ensures answer { OrMemory (AuthenticMessage self.now (messages.Safe m.now)) result }
         ensures range { IfOk result InRange }
+        ensures memory { result ≡ Err Refusal.Memory → AreMet (authentic_checks self.now m.now) }
     {
-        self.check_authentic(frame, &m)?;
-        let SafeMsg { body, .. } = m;
-        Ok(body)
+        self.check_authentic(frame, m)?;
+        match m.body().to_owned(alloc) {
+            Ok(body) => Ok(body),
+            Err(_) => Err(Refusal::Memory),
+        }
     }
 
     /// What a KRB-PRIV gives.
-    fn open_priv(&self, alloc: Global, m: PrivMsg, number: u64, now: u64) -> Result<Bytes, Unopened>
-        ensures answer { OrMemory (OpensMessage self.now number now (messages.Priv m))
+    fn open_priv(
+        &self,
+        alloc: Global,
+        m: &PrivRef<'_>,
+        number: u64,
+        now: u64,
+    ) -> Result<Bytes, Unopened>
+        ensures answer { OrMemory (OpensMessage self.now number now (messages.Priv m.now))
             (untold result) }
-        ensures number { IfErr result (TellsOfMessage self.now now (messages.Priv m)) }
+        ensures number { IfErr result (TellsOfMessage self.now now (messages.Priv m.now)) }
         ensures no_other { IfErr result TellsNoOther }
+        ensures memory { untold result ≡ Err Refusal.Memory
+            → AreMet (priv_header self.now.etype self.now.expect m.now) }
     {
         match self.authentic_priv(alloc, m) {
             Ok(body) => self.open_body(alloc, body, number, now),
@@ -199,7 +241,7 @@ impl<'a> Opening<'a> {
         ensures number { IfErr result (TellsOfBody self.now.expect now body) }
         ensures no_other { IfErr result TellsNoOther }
     {
-        let checked = check_body(self.expect, number, now, &body);
+        let checked = check_body(self.expect, number, now, &body.borrowed());
         let Body { user_data, seq, .. } = body;
         let user_data = Secret::from(user_data);
         match checked {
@@ -210,13 +252,17 @@ impl<'a> Opening<'a> {
 
     /// The body of a KRB-PRIV that is authentic. If it is refused, what was deciphered is overwritten
     /// before it is freed.
-    fn authentic_priv(&self, alloc: Global, m: PrivMsg) -> Result<Body, Refusal>
-        ensures answer { OrMemory (AuthenticMessage self.now (messages.Priv m)) result }
+    fn authentic_priv(&self, alloc: Global, m: &PrivRef<'_>) -> Result<Body, Refusal>
+        ensures answer { OrMemory (AuthenticMessage self.now (messages.Priv m.now)) result }
         ensures range { IfOk result InRange }
+        ensures memory { result ≡ Err Refusal.Memory
+            → AreMet (priv_header self.now.etype self.now.expect m.now) }
     {
-        check_priv_header(self.etype, self.expect, &m)?;
-        let PrivMsg { cipher, .. } = m;
-        let (text, tag) = self.keys.decrypted(cipher);
+        check_priv_header(self.etype, self.expect, m)?;
+        let Ok(cipher) = Vec::from_slice(alloc, m.cipher()) else {
+            return Err(Refusal::Memory);
+        };
+        let (text, tag) = self.keys.decrypted(Bytes::new(cipher));
         let text = Secret::new(text);
         if !self.keys.is_tag(&tag, text.as_slice()) {
             return Err(Refusal::BadIntegrity);
@@ -230,6 +276,7 @@ fn read_part(alloc: Global, text: Vec<u8>) -> Result<Body, Refusal>
     requires { 16 ≤ length text.items }
     ensures answer { OrMemory (Read SpellsPart (drop 16 text.items) GivesBody) result }
     ensures range { IfOk result InRange }
+    ensures memory { result ≡ Err Refusal.Memory → (b : BodyValue) × SpellsPart b (drop 16 text.items) }
 {
     match decode_part_from(alloc, text, CONFOUNDER_SIZE) {
         Ok(body) => Ok(body),

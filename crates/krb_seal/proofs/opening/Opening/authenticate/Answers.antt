@@ -1,6 +1,7 @@
 use Rattle.krb_der.specs.declared.message.Message.TheVariants as messages
-use Rattle.std.proofs.Common.{inr, subst}
-use Rattle.krb_der.specs.declared.message.Message.{Message}
+use Rattle.std.proofs.Common.{subst}
+use Rattle.krb_der.specs.declared.message.MessageRef.{MessageRef}
+use Rattle.krb_der.specs.MessageRef.{owned}
 use Rattle.krb_der.specs.Message.{Spells}
 use Rattle.krb_seal.specs.Authentic.{AuthenticMessage}
 use Rattle.krb_seal.proofs.Checking.{frame_passed}
@@ -8,4 +9,4 @@ use Rattle.krb_seal.proofs.opening.Opening.authenticate.Goals as goal
 
 pub returns-in-Ok-Safe-clause-answer : goal.returns-in-Ok-Safe-clause-answer
 returns-in-Ok-Safe-clause-answer c =
-    frame_passed (AuthenticMessage c.args.self.now) c.args.frame.now (messages.Safe c.in-Ok-Safe.m) c.authentic_safe.result (subst (λ (z : Message). Spells z c.args.frame.now) c.in-Ok-Safe.field-0-is c.in-Ok-Safe.ensures.answer) (inr c.authentic_safe.ensures.answer)
+    frame_passed (AuthenticMessage c.args.self.now) c.args.frame.now (messages.Safe c.in-Ok-Safe.m) c.authentic_safe.result (subst (λ (z : MessageRef). Spells (owned z) c.args.frame.now) c.in-Ok-Safe.field-0-is c.in-Ok-Safe.ensures) c.authentic_safe.ensures.answer

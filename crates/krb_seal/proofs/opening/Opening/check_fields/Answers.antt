@@ -15,4 +15,4 @@ pub returns : goal.returns
 returns c =
     let x = c.self.inside.expect.now in let m = c.args.m.now in
     subst (λ (z : OpenerState). Checked (safe_header z.etype z.expect m ++ body_checks z.expect c.args.number c.args.now m.body) c.check_body.result) c.self.view_is
-    (checked_later (safe_header (number_of c.self.inside.etype) x m) (body_checks x c.args.number c.args.now m.body) c.check_body.result (c.check_safe_header.ensures ∙ ap refusal_of c.in_ok-check_safe_header.was) c.check_body.ensures)
+    (checked_later (safe_header (number_of c.self.inside.etype) x m) (body_checks x c.args.number c.args.now m.body) c.check_body.result (c.check_safe_header.ensures ∙ ap refusal_of c.in_ok-check_safe_header.was) (rw c.body.ensures at c.check_body.ensures))
