@@ -1,10 +1,10 @@
 //! The sealers.
 
-ghost use Rattle.std.specs.Prelude.{◌≡◌, ◌≤◌, replicate, pos};
+ghost use Rattle.std.specs.Prelude.{◌≡◌, ◌≤◌, ◌+◌, replicate, pos};
 ghost use Rattle.krb_base.specs.Limits.{user_data_limit};
 ghost use Rattle.krb_etype.specs.Etype.{number_of};
 ghost use Rattle.krb_seal.specs.Session.{HasShortAddresses};
-ghost use Rattle.krb_seal.specs.Sealer.{HasFrameSize, in_mode, new_state};
+ghost use Rattle.krb_seal.specs.Sealer.{HasFrameSize, advanced_by, end_of_numbers, in_mode, keys_of, new_state};
 
 use crate::frame::{frame_of, frame_size};
 use crate::seal_error::SealError;
@@ -45,6 +45,17 @@ pub type Aes256Sealer = AesSealer<Aes256>;
 
 /// A sealer of the encryption type that its session key has.
 pub type SessionSealer = AesSealer<Any>;
+
+/// What a sealer seals with, lent to what seals several messages in one call.
+#[derive(Drop)]
+pub struct SealerParts<'a> {
+    /// The encryption type.
+    pub etype: Etype,
+    /// The keys.
+    pub keys: &'a Keys,
+    /// What each message carries.
+    pub session: &'a Session,
+}
 
 impl<E> Model for AesSealer<E> {
     ghost use Rattle.krb_seal.specs.Sealer.{SealerState};
@@ -138,6 +149,28 @@ impl<E> AesSealer<E> {
         let number = self.next.min(LAST_NUMBER) as u32;
         let body = BodyRef::new(&[], at, number, &session.s_addr, &session.r_addr);
         frame_size(self.etype, session.mode, body, len)
+    }
+
+    /// What it seals with.
+    pub fn parts(&self) -> SealerParts<'_>
+        ensures etype { number_of result.etype ≡ self.now.etype }
+        ensures keys { result.keys.now ≡ keys_of self.now }
+        ensures session { result.session.now ≡ self.now.session }
+        ensures addresses { HasShortAddresses self.now.session }
+    {
+        SealerParts {
+            etype: self.etype,
+            keys: &self.keys,
+            session: &self.session,
+        }
+    }
+
+    /// Passes over the numbers at which so many frames were sealed with its [`AesSealer::parts`].
+    pub fn pass(&mut self, count: u64)
+        requires { self.old.next + count ≤ end_of_numbers }
+        ensures { self.new ≡ advanced_by self.old count }
+    {
+        self.next += count;
     }
 }
 

@@ -24,7 +24,7 @@ use krb_etype::{CODE_SIZE, CONFOUNDER_SIZE, Etype, Keys};
 use std::alloc::{AllocError, Global};
 
 /// The KRB-SAFE that carries a body, before it has its checksum.
-fn unsigned<'a>(etype: Etype, body: BodyRef<'a>) -> SafeRef<'a>
+pub fn unsigned<'a>(etype: Etype, body: BodyRef<'a>) -> SafeRef<'a>
     ensures { result ≡ unsigned etype body.entry }
 {
     SafeRef::unsigned(5, 20, body, etype.checksum_number())
@@ -82,7 +82,7 @@ fn finished(keys: &Keys, draft: Draft) -> Result<Vec<u8>, AllocError>
 }
 
 /// A KRB-PRIV before it has its cipher.
-fn unenciphered(alloc: Global, etype: Etype) -> PrivMsg
+pub fn unenciphered(alloc: Global, etype: Etype) -> PrivMsg
     ensures { result ≡ unenciphered etype }
 {
     PrivMsg {

@@ -37,10 +37,12 @@ mod sealer;
 mod session;
 mod unopened;
 
-pub use aes_sealer::{Aes128Sealer, Aes256Sealer, SessionSealer};
+pub use aes_sealer::{Aes128Sealer, Aes256Sealer, AesSealer, SealerParts, SessionSealer};
 pub use exists::exists_laws;
+pub use frame::{frame_of, unenciphered, unsigned};
 pub use krb_etype::{Etype, SessionKey};
 pub use laws::{authentic_laws, one_outcome, opens_at_its_number_alone};
+pub use limit::within_limit;
 pub use opener::Opener;
 pub use refusal::Refusal;
 pub use seal_error::SealError;
