@@ -1,8 +1,8 @@
 -- What a receiver returns.
-use Rattle.std.specs.Prelude.{◌≡◌, ◌⊎◌, ◌≤◌, ℕ, Bool, false, List, length, Ok, Err}
+use Rattle.std.specs.Prelude.{◌≡◌, ◌⊎◌, ℕ, Bool, false, List, Ok, Err}
 use Rattle.krb_seal.specs.declared.refusal.Refusal.TheVariants.{Memory}
 use Rattle.krb_base.specs.Bytes.{AreZero}
-use Rattle.krb_base.specs.Limits.{frame_limit}
+use Rattle.krb_seal.specs.Memory.{AsksForMemory}
 use Rattle.krb_record.specs.Record.{SpellsRecord, kind_of}
 use Rattle.krb_peers.specs.declared.delivery.Delivery.{Delivery}
 use Rattle.krb_peers.specs.declared.receiver.Opened.{Opened}
@@ -23,9 +23,11 @@ OpensRecord receiver now frame opened =
     × SpellsRecord (record_of delivery) opened.bytes
     × (opened.kind ≡ kind_of (record_of delivery))
 
--- nothing is allocated for a frame after a close, nor for one over the limit
-abbrev pub TakesMemory : ReceiverState → List ℕ → Type 0
-TakesMemory receiver frame = (receiver.demand.closed ≡ false) × (length frame ≤ frame_limit)
+-- nothing is allocated for a frame after a close, nor where the opener asks for no memory
+abbrev pub TakesMemory : ReceiverState → ℕ → List ℕ → Type 0
+TakesMemory receiver now frame =
+    (receiver.demand.closed ≡ false)
+    × AsksForMemory receiver.opener receiver.demand.expected now frame
 
 -- the verdict itself
 unfoldable pub verdict_by : ReceiverState → ℕ → List ℕ → Verdict

@@ -114,11 +114,12 @@ impl Receiver {
     /// Takes a frame at the timestamp `now`: what it carries, or the refusal of the first check
     /// that it fails.
     ///
-    /// `Memory` is returned if an allocation failed, and never for a frame after a close or over
-    /// the limit. Each refusal leaves the receiver as it was.
+    /// `Memory` is returned if an allocation failed: only of a KRB-SAFE that passes all checks, and of a
+    /// KRB-PRIV that passes those of its header, and never after a close. Each refusal leaves the
+    /// receiver as it was.
     pub fn take(&mut self, alloc: Global, frame: &[u8], now: Moment) -> Result<Delivery, Refusal>
         ensures verdict { IsJudgement self.old now frame.now result }
-        ensures memory { result ≡ Err Refusal.Memory → TakesMemory self.old frame.now }
+        ensures memory { result ≡ Err Refusal.Memory → TakesMemory self.old now frame.now }
         ensures after { self.new ≡ receiver_after self.old result }
 
         ensures number { OnOk result (self.new.demand.expected ≡ self.old.demand.expected + 1) }
@@ -134,15 +135,15 @@ impl Receiver {
     /// Opens a frame as [`take`](Receiver::take) does, and leaves its record where it was opened:
     /// nothing is copied or moved. Nothing changes either: [`accept`](Receiver::accept) moves on.
     ///
-    /// `Memory` is returned if an allocation failed, and never for a frame after a close or over the
-    /// limit. A frame that is refused by its number tells at which number it opens.
+    /// `Memory` is returned where [`take`](Receiver::take) may return it. A frame that is refused by its
+    /// number tells at which number it opens.
     pub fn open(&self, alloc: Global, frame: &[u8], now: Moment) -> Result<Opened, Unopened>
         ensures opened { IfOk result (OpensRecord self.now now frame.now) }
         ensures refused { IfErr result (λ unopened.
             IsJudgement self.now now frame.now (Err unopened.refusal)) }
         ensures number { IfErr result (TellsNumber self.now.opener now frame.now) }
         ensures no_other { IfErr result TellsNoOther }
-        ensures memory { untold result ≡ Err Refusal.Memory → TakesMemory self.now frame.now }
+        ensures memory { untold result ≡ Err Refusal.Memory → TakesMemory self.now now frame.now }
         ensures in_range { OnOk result (self.now.demand.expected ≤ last_number) }
     {
         let bytes = Secret::from(self.unsealed(alloc, frame, now)?);
@@ -212,8 +213,8 @@ impl Receiver {
         self.order.shut();
     }
 
-    /// The verdict on a frame. Nothing changes. Out of memory is no verdict, and is never returned
-    /// for a frame after a close or over the limit.
+    /// The verdict on a frame. Nothing changes. Out of memory is no verdict, and is returned only where
+    /// memory is asked for.
     fn verdict_on(
         &self,
         alloc: Global,
@@ -222,7 +223,7 @@ impl Receiver {
     ) -> Result<Result<Delivery, Refusal>, AllocError>
         ensures verdict { IfOk result (λ verdict.
             IsVerdict self.now.opener self.now.demand now frame.now verdict) }
-        ensures memory { OnErr result (TakesMemory self.now frame.now) }
+        ensures memory { OnErr result (TakesMemory self.now now frame.now) }
         ensures in_range { IfOk result (λ verdict.
             OnOk verdict (self.now.demand.expected ≤ last_number)) }
     {
@@ -236,7 +237,7 @@ impl Receiver {
     /// What [`take`](Receiver::take) would return now. Nothing changes.
     fn judge(&self, alloc: Global, frame: &[u8], now: Moment) -> Result<Delivery, Refusal>
         ensures verdict { IsJudgement self.now now frame.now result }
-        ensures memory { result ≡ Err Refusal.Memory → TakesMemory self.now frame.now }
+        ensures memory { result ≡ Err Refusal.Memory → TakesMemory self.now now frame.now }
         ensures in_range { OnOk result (self.now.demand.expected ≤ last_number) }
     {
         let user_data = self.unsealed(alloc, frame, now)?;
@@ -256,7 +257,7 @@ impl Receiver {
             ⊎ Fails self.now.opener self.now.demand now frame.now unopened.refusal) }
         ensures number { IfErr result (TellsNumber self.now.opener now frame.now) }
         ensures no_other { IfErr result TellsNoOther }
-        ensures memory { untold result ≡ Err Refusal.Memory → TakesMemory self.now frame.now }
+        ensures memory { untold result ≡ Err Refusal.Memory → TakesMemory self.now now frame.now }
         ensures in_range { OnOk result (self.now.demand.expected ≤ last_number) }
     {
         if self.order.closed() {

@@ -18,7 +18,7 @@ use Rattle.krb_etype.specs.Keys.{tag_of, IsEncryption}
 use Rattle.krb_seal.specs.Opens.{OpenerState, Passes, Read, Decrypt, OpensText, OpensMessage, Opens, priv_header, safe_checks}
 use Rattle.krb_seal.specs.OpensParts.{Outcome, Checks, OpensPart, text_checks, frame_checks}
 use Rattle.krb_seal.specs.Authentic.{Authenticity, AuthenticMessage, AuthenticText, GivesBody, authentic_checks}
-use Rattle.krb_seal.specs.Memory.{AreMet}
+use Rattle.krb_seal.specs.Memory.{AreMet, AsksForMessage, AsksForMemory}
 use Rattle.krb_seal.specs.declared.unopened.Unopened.{Unopened}
 use Rattle.krb_seal.specs.Unseals.{seen, untold, OrMemory, first_unmet, refusal_of, Checked}
 
@@ -229,3 +229,29 @@ pub checked_untold : {A B : Type 0} (checks : Checks) (made : Result A Refusal) 
     → Checked checks made → made ≡ Err r → IsErrAnd result (λ u. u ≡ record { refusal = r; number = None }) → Checked checks (untold result)
 checked_untold checks made r (Ok x) h is p = absurd p
 checked_untold checks made r (Err u) h is p = h ∙ ap refusal_of is ∙ ap Some (sym (ap (λ (z : Unopened). z.refusal) p))
+
+-- ---- what opens asked for memory
+
+passes_met : {B : Type 0} (checks : Checks) (Then : Result B Refusal → Type 0) (x : B) → Passes checks Then (Ok x) → AreMet checks
+passes_met [] Then x p = refl
+passes_met ((true, r) ∷ rest) Then x p = passes_met rest Then x p
+passes_met ((false, r) ∷ rest) Then x p = absurd cc
+
+passed_on : {B : Type 0} (checks : Checks) (Then : Result B Refusal → Type 0) (x : B) → Passes checks Then (Ok x) → Then (Ok x)
+passed_on [] Then x p = p
+passed_on ((true, r) ∷ rest) Then x p = passed_on rest Then x p
+passed_on ((false, r) ∷ rest) Then x p = absurd cc
+
+opened_asks_for : (o : OpenerState) (number now : ℕ) (m : Message) (user : List ℕ) → OpensMessage o number now m (Ok user) → AsksForMessage o number now m
+opened_asks_for o number now (messages.Safe m) user p = passes_met (safe_checks o number now m) (λ y. y ≡ Ok m.body.user_data) user p
+opened_asks_for o number now (messages.Priv m) user p = passes_met (priv_header o.etype o.expect m) (Decrypt o.key m.cipher (OpensText o number now)) user p
+
+pub opened_asks : (o : OpenerState) (number now : ℕ) (bytes user : List ℕ) → Opens o number now bytes (Ok user) → AsksForMemory o number now bytes
+opened_asks o number now bytes user p =
+    elim (passed_on (frame_checks bytes) (Read Spells bytes (OpensMessage o number now)) user p) [
+      | inl none ↦ absurd (not_given user Malformed none.1)
+      | inr read ↦ (read.0, read.1, opened_asks_for o number now read.0 user read.2)
+    ]
+  where
+    not_given : (user : List ℕ) (r : Refusal) → ◌≡◌ {A = Outcome} (Ok user) (Err r) → ⊥
+    not_given user r e = absurd cc
