@@ -6,7 +6,6 @@ ghost use Rattle.krb_structs.specs.Header.{ReadsHeader};
 ghost use Rattle.krb_structs.specs.Reasons.{HeaderAnswer, TextAnswer};
 
 use krb_structs::{KrbHeader, answer, message_header, name_into, text_into};
-use std::alloc::Global;
 
 /// The version of the library: 0x010100 is 1.1.0.
 const VERSION: u32 = 0x01_0100;
@@ -22,12 +21,12 @@ pub extern "C" fn krbrelay_version() -> u32
 /// Tells what a message says of itself in clear, so that a key can be chosen. Any answer but 0
 /// leaves `told` as it was.
 #[unsafe(no_mangle)]
-pub extern "C" fn krbrelay_message_header(alloc: Global, frame: &[u8], told: &mut KrbHeader) -> u32
+pub extern "C" fn krbrelay_message_header(frame: &[u8], told: &mut KrbHeader) -> u32
     ensures read { result ≡ 0 → ReadsHeader frame.now told.new }
     ensures kept { ¬ (result ≡ 0) → told.new ≡ told.old }
     ensures answer { HeaderAnswer frame.now result }
 {
-    match message_header(alloc, frame) {
+    match message_header(frame) {
         Ok(found) => {
             *told = found;
             0

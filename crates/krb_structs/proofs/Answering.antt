@@ -4,13 +4,14 @@ use Rattle.std.specs.Prelude.{IsErrAnd, IfErr, IfOk, OnErr, OnOk, MatchOption, t
 use mir.Syntax.{w32}
 use mir.Val.{SFits, of_z, to_z}
 use Rattle.std.proofs.lemmas.Int.{to_z-of_z}
-use Rattle.krb_base.specs.Limits.{frame_limit, user_data_limit}
+use Rattle.krb_base.specs.Limits.{user_data_limit}
 use Rattle.krb_etype.specs.declared.etype.Etype.{Etype as EtypeValue}
 use Rattle.krb_etype.specs.Etype.{etype_of, key_size}
 use Rattle.krb_seal.specs.declared.refusal.Refusal.{Refusal}
 use Rattle.krb_seal.specs.declared.refusal.Refusal.TheVariants.{Memory}
 use Rattle.krb_seal.specs.Sealer.{HasFrameSize, SealerState, end_of_numbers}
 use Rattle.krb_seal.specs.Opens.{OpenerState, Opens}
+use Rattle.krb_seal.specs.Memory.{AsksForMemory, AsksWithoutDemands}
 use Rattle.krb_structs.specs.declared.demand.KrbDemand.{KrbDemand}
 use Rattle.krb_structs.specs.declared.moment.KrbMoment.{KrbMoment}
 use Rattle.krb_structs.specs.declared.session.KrbSession.{KrbSession}
@@ -142,10 +143,11 @@ condition_met Condition (inr (met, done)) = met
 
 -- the opener's refusal, or out of memory
 pub open_refused : (o : OpenerState) (number now : ℕ) (at : KrbMoment) (frame : List ℕ) (r : Refusal) → IsTimed at → now ≡ micros_of at
-    → {A : Type 0} → (◌≡◌ {A = Result A Refusal} (Err r) (Err Memory)) ⊎ Opens o number now frame (Err r) → (r ≡ Memory → length frame ≤ frame_limit)
+    → {A : Type 0} → (◌≡◌ {A = Result A Refusal} (Err r) (Err Memory)) ⊎ Opens o number now frame (Err r) → (r ≡ Memory → AsksForMemory o number now frame)
     → (room : ℕ) → OpenAnswer (Some (Some o)) number at frame room (fault_code (Refused r))
-open_refused o number now at frame r timed is (inl e) within room = let same : r ≡ Memory = is_memory r e in inr (timed.0, inr (timed.1, inl (ap (λ (x : Refusal). fault_code (Refused x)) same, within same)))
-open_refused o number now at frame r timed is (inr p) within room = inr (timed.0, inr (timed.1, inr (Err r, subst (λ (m : ℕ). Opens o number m frame (Err r)) is p, refl)))
+open_refused o number now at frame r timed is (inl e) asks room =
+    let same : r ≡ Memory = is_memory r e in inr (timed.0, inr (timed.1, inl (ap (λ (x : Refusal). fault_code (Refused x)) same, subst (λ (m : ℕ). AsksForMemory o number m frame) is (asks same))))
+open_refused o number now at frame r timed is (inr p) asks room = inr (timed.0, inr (timed.1, inr (Err r, subst (λ (m : ℕ). Opens o number m frame (Err r)) is p, refl)))
 
 -- a frame was opened, and there was room or not
 pub opened_answer : (h : HeldOpener) (number : ℕ) (at : KrbMoment) (frame user : List ℕ) (room code : ℕ) → IsTimed at → OpensTo h number (micros_of at) frame (Ok user)
@@ -156,11 +158,11 @@ opened_answer (Some (Some o)) number at frame user room code timed opens h = inr
 
 -- the same with demands
 pub demand_refused : (o : OpenerState) (d : KrbDemand) (now : ℕ) (at : KrbMoment) (frame : List ℕ) (room : ℕ) (r : Refusal) → IsDemand d → IsTimed at → now ≡ micros_of at
-    → {A : Type 0} → (◌≡◌ {A = Result A Refusal} (Err r) (Err Memory)) ⊎ OpensWith o d now frame (Err r) → (r ≡ Memory → length frame ≤ frame_limit)
+    → {A : Type 0} → (◌≡◌ {A = Result A Refusal} (Err r) (Err Memory)) ⊎ OpensWith o d now frame (Err r) → (r ≡ Memory → AsksWithoutDemands o frame)
     → DemandAnswer (Some (Some o)) d at frame room (fault_code (Refused r))
-demand_refused o d now at frame room r is_demand timed is (inl e) within =
-    let same : r ≡ Memory = is_memory r e in inr (is_demand, inr (timed.0, inr (timed.1, inl (ap (λ (x : Refusal). fault_code (Refused x)) same, within same))))
-demand_refused o d now at frame room r is_demand timed is (inr p) within = inr (is_demand, inr (timed.0, inr (timed.1, inr (Err r, subst (λ (m : ℕ). OpensWith o d m frame (Err r)) is p, refl))))
+demand_refused o d now at frame room r is_demand timed is (inl e) asks =
+    let same : r ≡ Memory = is_memory r e in inr (is_demand, inr (timed.0, inr (timed.1, inl (ap (λ (x : Refusal). fault_code (Refused x)) same, asks same))))
+demand_refused o d now at frame room r is_demand timed is (inr p) asks = inr (is_demand, inr (timed.0, inr (timed.1, inr (Err r, subst (λ (m : ℕ). OpensWith o d m frame (Err r)) is p, refl))))
 
 -- ---- a buffer
 

@@ -22,12 +22,12 @@ use Rattle.krb_structs.proofs.Refusals.{is_memory}
 
 -- the receiver's refusal, or out of memory
 pub take_refused : {X : Type 0} (s : ReceiverState) (now : ℕ) (at : KrbMoment) (frame : List ℕ) (room : ℕ) (r : Refusal) (result : Result X Fault) → IsTimed at → now ≡ micros_of at
-    → IsJudgement s now frame (Err r) → (r ≡ Memory → TakesMemory s frame) → IsErrAnd result (λ f. f ≡ Refused r) → TakeAnswer (Some s) at frame room (answer_of result)
+    → IsJudgement s now frame (Err r) → (r ≡ Memory → TakesMemory s now frame) → IsErrAnd result (λ f. f ≡ Refused r) → TakeAnswer (Some s) at frame room (answer_of result)
 take_refused s now at frame room r result timed is j memory p =
     subst (λ (code : ℕ). TakeAnswer (Some s) at frame room code) (sym (answer_is result (Refused r) p)) (why j)
   where
     why : IsJudgement s now frame (Err r) → TakeAnswer (Some s) at frame room (fault_code (Refused r))
-    why (inl e) = let same : r ≡ Memory = is_memory r e in inr (timed.0, inr (timed.1, inl (ap (λ (x : Refusal). fault_code (Refused x)) same, memory same)))
+    why (inl e) = let same : r ≡ Memory = is_memory r e in inr (timed.0, inr (timed.1, inl (ap (λ (x : Refusal). fault_code (Refused x)) same, subst (λ (m : ℕ). TakesMemory s m frame) is (memory same))))
     why (inr v) = inr (timed.0, inr (timed.1, inr (Err r, subst (λ (m : ℕ). IsVerdict s.opener s.demand m frame (Err r)) is v, refl)))
 
 -- the bytes of a record after its first

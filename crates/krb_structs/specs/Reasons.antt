@@ -15,6 +15,7 @@ use Rattle.krb_record.specs.declared.record.Record.{Record as RecordValue}
 use Rattle.krb_record.specs.Record.{bytes_of}
 use Rattle.krb_peers.specs.ReceiverState.{ReceiverState}
 use Rattle.krb_peers.specs.Receiver.{TakesMemory}
+use Rattle.krb_seal.specs.Memory.{AsksForMemory, AsksWithoutDemands}
 use Rattle.krb_peers.specs.Verdicts.{IsVerdict, Verdict, record_of}
 use Rattle.krb_structs.specs.declared.fault.Fault.{Fault}
 use Rattle.krb_structs.specs.declared.moment.KrbMoment.{KrbMoment}
@@ -74,17 +75,17 @@ abbrev pub OutcomeAnswer : Outcome → ℕ → ℕ → Type 0
 OutcomeAnswer (Ok user) room = Needs (length user ≤ room) Room IsDone
 OutcomeAnswer (Err r) room = λ code. code ≡ fault_code (Refused r)
 
--- nothing is allocated for a frame over the limit
-abbrev pub MemoryWithin : List ℕ → ℕ → Type 0
-MemoryWithin frame code =
-    (code ≡ fault_code (Refused refusals.Memory)) × (length frame ≤ frame_limit)
+-- out of memory, which is answered only where memory is asked for
+abbrev pub MemoryWhere : Type 0 → ℕ → Type 0
+MemoryWhere Asks code = (code ≡ fault_code (Refused refusals.Memory)) × Asks
 
 -- of opening a frame that carries a number, at a moment, into this much room
 abbrev pub OpenAnswer : HeldOpener → ℕ → KrbMoment → List ℕ → ℕ → ℕ → Type 0
 OpenAnswer None number at frame room = λ code. code ≡ fault_code Empty
 OpenAnswer (Some None) number at frame room = λ code. code ≡ fault_code Wiped
 OpenAnswer (Some (Some o)) number at frame room =
-    NeedsMoment at (λ code. MemoryWithin frame code ⊎ ((outcome : Outcome)
+    NeedsMoment at (λ code. MemoryWhere (AsksForMemory o number (micros_of at) frame) code
+    ⊎ ((outcome : Outcome)
     × Opens o number (micros_of at) frame outcome × OutcomeAnswer outcome room code))
 
 -- of opening a frame with demands, which had this outcome
@@ -97,7 +98,7 @@ abbrev pub DemandAnswer : HeldOpener → KrbDemand → KrbMoment → List ℕ �
 DemandAnswer None d at frame room = λ code. code ≡ fault_code Empty
 DemandAnswer (Some None) d at frame room = λ code. code ≡ fault_code Wiped
 DemandAnswer (Some (Some o)) d at frame room =
-    Needs (IsDemand d) Argument (NeedsMoment at (λ code. MemoryWithin frame code
+    Needs (IsDemand d) Argument (NeedsMoment at (λ code. MemoryWhere (AsksWithoutDemands o frame) code
     ⊎ ((outcome : Authenticity) × OpensWith o d (micros_of at) frame outcome
     × BodyAnswer outcome room code)))
 
@@ -114,7 +115,7 @@ abbrev pub TakeAnswer : Option ReceiverState → KrbMoment → List ℕ → ℕ 
 TakeAnswer None at frame room = λ code. code ≡ fault_code Empty
 TakeAnswer (Some s) at frame room =
     NeedsMoment at (λ code.
-    ((code ≡ fault_code (Refused refusals.Memory)) × TakesMemory s frame)
+    MemoryWhere (TakesMemory s (micros_of at) frame) code
     ⊎ ((verdict : Verdict) × IsVerdict s.opener s.demand (micros_of at) frame verdict
     × VerdictAnswer verdict room code))
 
@@ -159,11 +160,11 @@ ResumeAnswer etype n told d state =
 
 -- ---- without a key
 
--- of reading a header
+-- of reading a header, which asks for no memory
 abbrev pub HeaderAnswer : List ℕ → ℕ → Type 0
 HeaderAnswer frame =
     Needs (length frame ≤ frame_limit) (Refused refusals.FieldTooLong)
-    (OrMemory (Needs ((m : Message) × Spells m frame) (Refused refusals.Malformed) IsDone))
+    (Needs ((m : Message) × Spells m frame) (Refused refusals.Malformed) IsDone)
 
 -- of writing the name or the text of an answer and a zero
 abbrev pub TextAnswer : (Fault → List ℕ) → List ℕ → ℕ → ℕ → ℕ → Type 0

@@ -1,9 +1,9 @@
 //! What a caller demands of an authentic message.
 
 ghost use Rattle.std.specs.Prelude.{◌≡◌, ◌↔◌, ◌≤◌, length, IsTrue, IfErr, IfOk, OnOk, Err};
-ghost use Rattle.krb_base.specs.Limits.{frame_limit};
 ghost use Rattle.krb_der.specs.Body.{InRange};
 ghost use Rattle.krb_der.specs.Address.{same_address};
+ghost use Rattle.krb_seal.specs.Memory.{AsksWithoutDemands};
 ghost use Rattle.krb_seal.specs.Unseals.{OrMemory, first_unmet, refusal_of};
 ghost use Rattle.krb_structs.specs.Carried.{carried_of};
 ghost use Rattle.krb_structs.specs.Opening.{Misorders};
@@ -240,8 +240,7 @@ pub fn open_body(
     ensures misordered { result ≡ Err Refusal.BadOrder
         → Misorders opener.now demand.now now frame.now told.new }
     ensures untold { ¬ (result ≡ Err Refusal.BadOrder) → told.new ≡ told.old }
-    // A frame over the limit is refused before anything is allocated.
-    ensures memory { result ≡ Err Refusal.Memory → length frame.now ≤ frame_limit }
+    ensures memory { result ≡ Err Refusal.Memory → AsksWithoutDemands opener.now frame.now }
 {
     let body = opener.authenticate(alloc, frame)?;
     match check_demand(demand, now, &body) {

@@ -6,9 +6,8 @@ ghost use Rattle.krb_structs.specs.Fault.{answer_of};
 ghost use Rattle.krb_structs.specs.Reasons.{HeaderAnswer};
 
 use crate::fault::Fault;
-use krb_der::{DerError, Message, PrivMsg, SafeMsg, decode};
+use krb_der::{DerError, MessageRef, PrivRef, SafeRef, decode_borrowed};
 use krb_seal::Refusal;
-use std::alloc::Global;
 
 /// What a message says of itself in clear. None of it is authentic until the message is opened.
 #[repr(C)]
@@ -32,46 +31,46 @@ pub struct KrbHeader {
     pub reserved: u32,
 }
 
-fn safe_header(m: &SafeMsg) -> KrbHeader
+fn safe_header(m: &SafeRef<'_>) -> KrbHeader
     ensures { result ≡ header_of_safe m.now }
 {
     KrbHeader {
         kind: 20,
         etype: 0,
-        checksum_type: m.cksum_type,
-        has_number: u32::from(m.body.seq.is_some()),
-        number: m.body.seq.unwrap_or(0),
+        checksum_type: m.cksum_type(),
+        has_number: u32::from(m.body().seq().is_some()),
+        number: m.body().seq().unwrap_or(0),
         has_key_version: 0,
         key_version: 0,
         reserved: 0,
     }
 }
 
-fn priv_header(m: &PrivMsg) -> KrbHeader
+fn priv_header(m: &PrivRef<'_>) -> KrbHeader
     ensures { result ≡ header_of_priv m.now }
 {
     KrbHeader {
         kind: 21,
-        etype: m.etype,
+        etype: m.etype(),
         checksum_type: 0,
         has_number: 0,
         number: 0,
-        has_key_version: u32::from(m.kvno.is_some()),
-        key_version: m.kvno.unwrap_or(0),
+        has_key_version: u32::from(m.kvno().is_some()),
+        key_version: m.kvno().unwrap_or(0),
         reserved: 0,
     }
 }
 
-/// What the message that the bytes spell says of itself.
-pub fn message_header(alloc: Global, frame: &[u8]) -> Result<KrbHeader, Fault>
+/// What the message that the bytes spell says of itself. Nothing is allocated.
+pub fn message_header(frame: &[u8]) -> Result<KrbHeader, Fault>
     ensures read { IfOk result (ReadsHeader frame.now) }
     ensures answer { HeaderAnswer frame.now (answer_of result) }
 {
-    match decode(alloc, frame) {
-        Ok(Message::Safe(m)) => Ok(safe_header(&m)),
-        Ok(Message::Priv(m)) => Ok(priv_header(&m)),
+    match decode_borrowed(frame) {
+        Ok(MessageRef::Safe(m)) => Ok(safe_header(&m)),
+        Ok(MessageRef::Priv(m)) => Ok(priv_header(&m)),
         Err(DerError::TooLong) => Err(Fault::Refused(Refusal::FieldTooLong)),
         Err(DerError::Malformed) => Err(Fault::Refused(Refusal::Malformed)),
-        Err(DerError::Memory) => Err(Fault::Refused(Refusal::Memory)),
+        Err(DerError::Memory) => unreachable!(),
     }
 }

@@ -152,7 +152,7 @@ impl LaneReceiver {
         ensures opened { IfOk result (OpensRecord self.now now frame.now) }
         ensures refused { IfErr result (λ refusal.
             IsJudgement self.now now frame.now (Err refusal)) }
-        ensures memory { result ≡ Err Refusal.Memory → TakesMemory self.now frame.now }
+        ensures memory { result ≡ Err Refusal.Memory → TakesMemory self.now now frame.now }
         ensures in_range { OnOk result (self.now.demand.expected ≤ last_number) }
         ensures misordered { result ≡ Err Refusal.BadOrder
             → TellsItsNumber self.now.opener now frame.now number.new }
