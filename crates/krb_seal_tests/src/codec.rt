@@ -2,6 +2,7 @@
 
 mod address;
 mod around;
+mod borrowed;
 
 use crate::asserts::{assert_same, assert_same_at};
 use krb_der::{

@@ -3,7 +3,7 @@
 
 use crate::asserts::{assert_same, assert_same_at};
 use krb_tlv::{
-    DerError, FIELD_0, FIELD_1, FIELD_2, INTEGER, OCTET_STRING, Reader, UINT32_LIMIT, Writer,
+    FIELD_0, FIELD_1, FIELD_2, INTEGER, OCTET_STRING, Reader, UINT32_LIMIT, Writer,
     int32_field_size, natural_field_size, only_element, read_int32_field, read_octets_field,
     read_optional_natural, write_int32_field, write_natural_field,
 };
@@ -54,8 +54,8 @@ fn numbers_are_written_and_read(rt: HostRuntime) -> Result<(), Fail> {
         assert_same_at(&rt, int32_field_size(&number), field.len(), number);
         let mut fields = Reader::new(field);
         let read = read_int32_field(&mut fields, FIELD_1);
-        assert_same_at(&rt, read, Ok(number), number);
-        assert_same_at(&rt, fields.finish(()), Ok(()), number);
+        assert_same_at(&rt, read, Some(number), number);
+        assert_same_at(&rt, fields.finish(()), Some(()), number);
     }
     Ok(())
 }
@@ -77,13 +77,13 @@ fn numbers_without_sign_are_written_and_read(rt: HostRuntime) -> Result<(), Fail
         let written = natural_field(rt.alloc(), Some(number))?;
         assert_same_at(&rt, written.as_slice(), field, number);
         let read = read_optional_natural(&mut Reader::new(field), FIELD_1, UINT32_LIMIT);
-        assert_same_at(&rt, read, Ok(Some(number)), number);
+        assert_same_at(&rt, read, Some(Some(number)), number);
         // A number has to be below the limit, and isn't there under another tag.
         let limit = u64::from(number);
         let read = read_optional_natural(&mut Reader::new(field), FIELD_1, limit);
-        assert_same_at(&rt, read, Err(DerError::Malformed), number);
+        assert_same_at(&rt, read, None, number);
         let absent = read_optional_natural(&mut Reader::new(field), FIELD_0, UINT32_LIMIT);
-        assert_same_at(&rt, absent, Ok(None), number);
+        assert_same_at(&rt, absent, Some(None), number);
     }
     assert_same(&rt, natural_field(rt.alloc(), None)?.len(), 0);
     Ok(())
@@ -101,11 +101,11 @@ fn octets_are_written_and_read(rt: HostRuntime) -> Result<(), Fail> {
         (fields.is_at(FIELD_1), fields.is_at(FIELD_2)),
         (false, true),
     );
-    let read = read_octets_field(rt.alloc(), &mut fields, FIELD_2)?;
-    assert_same(&rt, read.as_slice(), CONTENT.as_slice());
+    let read = read_octets_field(&mut fields, FIELD_2);
+    assert_same(&rt, read, Some(CONTENT.as_slice()));
     assert_same(&rt, fields.rest().len(), 0);
-    let content = only_element(OCTET_STRING, &OCTETS[2..])?;
-    assert_same(&rt, content, CONTENT.as_slice());
+    let content = only_element(OCTET_STRING, &OCTETS[2..]);
+    assert_same(&rt, content, Some(CONTENT.as_slice()));
     Ok(())
 }
 
@@ -120,11 +120,7 @@ fn elements_that_are_not_der_are_malformed(rt: HostRuntime) {
         &[0x02, 0x01, 0x00, 0x00],
     ];
     for bytes in others {
-        assert_same(&rt, only_element(INTEGER, bytes), Err(DerError::Malformed));
+        assert_same(&rt, only_element(INTEGER, bytes), None);
     }
-    assert_same(
-        &rt,
-        Reader::new(&[0x00]).finish(1),
-        Err(DerError::Malformed),
-    );
+    assert_same(&rt, Reader::new(&[0x00]).finish(1), None);
 }

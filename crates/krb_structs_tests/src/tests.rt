@@ -193,7 +193,7 @@ fn a_receiver_takes_the_frame_of_another(rt: HostRuntime) -> Result<(), Fail> {
 #[test]
 fn what_needs_no_key(rt: HostRuntime) -> Result<(), Fail> {
     let (mut name, mut size) = ([0xee_u8; 12], 9usize);
-    let header = made(message_header(rt.alloc(), &SAFE_17))?;
+    let header = made(message_header(&SAFE_17))?;
     assert_eq!(rt;
         (header.kind, header.checksum_type, header.number),
         (20, 15, 7)
