@@ -6,7 +6,8 @@ use Rattle.krb_etype.specs.Etype.{number_of}
 use Rattle.krb_etype.specs.HeldKeys.{HeldKeys, fresh_keys}
 use Rattle.krb_seal.specs.declared.session.Session.{Session}
 use Rattle.krb_seal.specs.Mode.{purpose_of}
-use Rattle.krb_seal.specs.Sealer.{SealerState, keys_of}
+use Rattle.krb_seal.specs.Sealer.{SealerState}
+use Rattle.krb_seal.specs.Lent.{keys_of}
 use Rattle.krb_seal.specs.Session.{HasShortAddresses}
 use Rattle.krb_bulk.specs.declared.bulk.Bulk.{Bulk}
 use Rattle.krb_bulk.specs.Many.{CanSealInTurn, SealsInTurn}

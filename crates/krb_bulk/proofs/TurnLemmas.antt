@@ -5,7 +5,8 @@ use Rattle.std.specs.Global.{Vec}
 use Rattle.krb_base.specs.Limits.{last_number, user_data_limit}
 use Rattle.krb_seal.specs.declared.seal_error.SealError.{SealError}
 use Rattle.krb_seal.specs.declared.seal_error.SealError.TheVariants as errors
-use Rattle.krb_seal.specs.Sealer.{SealerState, advanced, advanced_by, end_of_numbers}
+use Rattle.krb_seal.specs.Sealer.{SealerState, advanced, end_of_numbers}
+use Rattle.krb_seal.specs.Lent.{advanced_by}
 use Rattle.krb_bulk.specs.declared.unsealed.Unsealed.{Unsealed}
 use Rattle.krb_bulk.specs.Many.{CanSeal, CanSealInTurn, Refuses, RefusesFirst, SealsInTurn, SealsMessage}
 use Rattle.krb_bulk.specs.Numbered.{CanSealAt, RefusesAt}

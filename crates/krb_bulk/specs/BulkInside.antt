@@ -17,7 +17,8 @@ use Rattle.krb_etype.specs.Keys.{encryption_key, tag_of, checksum_key}
 use Rattle.krb_keys.specs.Hmac.{hmac96}
 use Rattle.krb_seal.specs.Mode.{purpose_of}
 use Rattle.krb_seal.specs.Seals.{body_of, unenciphered, unsigned}
-use Rattle.krb_seal.specs.Sealer.{SealerState, advanced_by}
+use Rattle.krb_seal.specs.Sealer.{SealerState}
+use Rattle.krb_seal.specs.Lent.{advanced_by}
 use Rattle.krb_seal.specs.Session.{HasShortAddresses}
 use Rattle.krb_bulk.specs.declared.bulk.Bulk.{Bulk}
 use Rattle.krb_bulk.specs.declared.four.Four.{Four}

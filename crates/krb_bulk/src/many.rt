@@ -4,7 +4,8 @@ ghost use Rattle.std.specs.Prelude.{◌≡◌, ◌≤◌, ◌+◌, [], length, v
 ghost use Rattle.krb_etype.specs.CodeKey.{code_key};
 ghost use Rattle.krb_keys.specs.BatchMac.{HoldsBatchKey};
 ghost use Rattle.krb_seal.specs.Mode.{purpose_of};
-ghost use Rattle.krb_seal.specs.Sealer.{advanced_by, end_of_numbers};
+ghost use Rattle.krb_seal.specs.Sealer.{end_of_numbers};
+ghost use Rattle.krb_seal.specs.Lent.{advanced_by};
 ghost use Rattle.krb_bulk.specs.Many.{AnswersMany, CanSealInTurn, SealsInTurn};
 ghost use Rattle.krb_bulk.specs.Numbered.{CanSealAt, RefusesAt};
 ghost use Rattle.krb_bulk.specs.Four.{AreFrom};

@@ -1,7 +1,7 @@
 use Rattle.std.proofs.Common.{◌≡◌, ℕ, suc, ◌+◌, Bool, Some, refl, length, take, sym, subst, ◌∙◌, arith, add-one}
 use Rattle.std.specs.Prelude.{slice_get}
 use Rattle.std.proofs.lemmas.Option.{slice_get_read}
-use Rattle.krb_seal.specs.Sealer.{advanced_by}
+use Rattle.krb_seal.specs.Lent.{advanced_by}
 use Rattle.krb_bulk.specs.Many.{CanSeal, CanSealInTurn, Refuses}
 use Rattle.krb_bulk.specs.Numbered.{CanSealAt, RefusesAt}
 use Rattle.krb_bulk.proofs.TurnLemmas.{can_more, can_seal_at, refused_after, refuses_at}

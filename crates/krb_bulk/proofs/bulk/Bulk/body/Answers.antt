@@ -1,6 +1,6 @@
 use Rattle.std.proofs.Common.{◌≡◌, refl, length, get_or, arith}
 use Rattle.std.proofs.lemmas.Option.{slice_get-get_or}
-use Rattle.krb_seal.specs.Sealer.{advanced_by}
+use Rattle.krb_seal.specs.Lent.{advanced_by}
 use Rattle.krb_bulk.specs.Many.{CanSeal}
 use Rattle.krb_bulk.specs.BulkInside.{body_at, sealer_of}
 use Rattle.krb_bulk.proofs.TurnLemmas.{can_at}
