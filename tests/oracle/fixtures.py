@@ -1,7 +1,9 @@
 """The keys, addresses and frames that the tests expect: of krb_seal and krb_peers (in
 krb_peers_tests), krb_core (in krb_relay_tests), krb_commands, krbrelay, krb_structs (in
-krb_structs_tests), krb_peer_laws (in krb_laws_tests), of the C programs, of the program example_seal
+krb_structs_tests), krb_bulk (in krb_bulk_tests), krb_peer_laws (in krb_laws_tests), of the C programs, of the program example_seal
 and of the package in python/. The sealer is frames.py."""
+import hashlib
+
 from lib.jobs import MICROS
 from oracle.frames import (
     batch, body, checksum_of, groups, record, safe, seal_part, seal_priv, seal_safe, tlv)
@@ -87,7 +89,29 @@ def odd_parts():
            seal_priv(KEY_256, body_of(b"hi"), bytes([7] * 16)))
 
 
+# What krb_bulk_tests seals in one call: message k has 13 k bytes of user data, the byte 5 (k + j) + 1
+# modulo 256 at each place j, the timestamp of the first and 1,000,001 k microseconds, the number
+# FIRST + k, and a confounder of 16 bytes k.
+MANY = 21
+
+
+def many(key, mode):
+    """The frames of those messages, one after another."""
+    for k in range(MANY):
+        data = bytes((5 * (k + j) + 1) % 256 for j in range(13 * k))
+        inner = body(data, MICROS + 1_000_001 * k, FIRST + k, SENDER)
+        yield seal_safe(key, inner) if mode == 20 else seal_priv(key, inner, bytes([k] * 16))
+
+
+def digests():
+    """The SHA-1 of the frames that are sealed in one call, which are too long to stand in a test."""
+    for mode, kind in ((20, "safe"), (21, "priv")):
+        for key, etype in ((KEY_128, 17), (KEY_256, 18)):
+            frames = b"".join(many(key, mode))
+            yield f"{kind} {etype}, SHA-1 of {MANY} frames", hashlib.sha1(frames).digest()
+
+
 def all_frames():
-    """All frames that the tests expect, each with its name."""
-    for part in (texts, edges, batches, odd_bodies, odd_parts):
+    """All frames that the tests expect, and digests of frames, each with its name."""
+    for part in (texts, edges, batches, odd_bodies, odd_parts, digests):
         yield from part()

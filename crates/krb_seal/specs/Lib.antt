@@ -4,6 +4,7 @@ pub mod Mode
 pub mod Session
 pub mod Seals
 pub mod Sealer
+pub mod Lent
 pub mod Opens
 pub mod OpensParts
 pub mod Authentic

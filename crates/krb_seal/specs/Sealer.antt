@@ -1,9 +1,6 @@
 -- What a caller knows of a sealer.
 use Rattle.std.specs.Prelude.{◌≡◌, ℕ, ◌+◌, ℤ, List, length, replicate, Bool, true, false}
 use Rattle.krb_base.specs.Limits.{last_number}
-use Rattle.krb_etype.specs.HeldKeys.{HeldKeys}
-use Rattle.krb_etype.specs.declared.private_keys.End.TheVariants.{Sealer}
-use Rattle.krb_seal.specs.Mode.{purpose_of}
 use Rattle.krb_seal.specs.declared.session.Mode.{Mode}
 use Rattle.krb_seal.specs.declared.session.Session.{Session}
 use Rattle.krb_seal.specs.Seals.{Seals}
@@ -29,10 +26,6 @@ new_state etype key session =
 abbrev pub advanced : SealerState → SealerState
 advanced s = record s { next = s.next + 1 }
 
--- The sealer after n sealed frames.
-abbrev pub advanced_by : SealerState → ℕ → SealerState
-advanced_by s n = record s { next = s.next + n }
-
 -- The sealer in this mode from now on.
 abbrev pub in_mode : SealerState → Mode → SealerState
 in_mode s mode = record s { session = record s.session { mode = mode } }
@@ -40,11 +33,6 @@ in_mode s mode = record s { session = record s.session { mode = mode } }
 -- The sealer after a wipe.
 abbrev pub wiped_state : SealerState → SealerState
 wiped_state s = record s { key = replicate (length s.key) 0; wiped = true }
-
--- The keys that it seals with.
-abbrev pub keys_of : SealerState → HeldKeys
-keys_of s =
-    record { key = s.key; end = Sealer; purpose = purpose_of s.session.mode; wiped = s.wiped }
 
 -- The bytes seal this data at the next number.
 abbrev pub SealsNext : SealerState → List ℕ → ℕ → List ℕ → List ℕ → Type 0

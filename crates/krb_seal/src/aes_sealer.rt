@@ -4,7 +4,8 @@ ghost use Rattle.std.specs.Prelude.{◌≡◌, ◌≤◌, ◌+◌, replicate, po
 ghost use Rattle.krb_base.specs.Limits.{user_data_limit};
 ghost use Rattle.krb_etype.specs.Etype.{number_of};
 ghost use Rattle.krb_seal.specs.Session.{HasShortAddresses};
-ghost use Rattle.krb_seal.specs.Sealer.{HasFrameSize, advanced_by, end_of_numbers, in_mode, keys_of, new_state};
+ghost use Rattle.krb_seal.specs.Sealer.{HasFrameSize, end_of_numbers, in_mode, new_state};
+ghost use Rattle.krb_seal.specs.Lent.{advanced_by, keys_of};
 
 use crate::frame::{frame_of, frame_size};
 use crate::seal_error::SealError;

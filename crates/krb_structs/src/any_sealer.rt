@@ -7,7 +7,8 @@ ghost use Rattle.krb_structs.specs.Reasons.{ModeAnswer, NewAnswer, RecordAnswer,
 ghost use Rattle.krb_structs.specs.Record.{SealsRecord};
 ghost use Rattle.krb_structs.specs.Sealing.{CanPut, IsReady, SizesNext};
 ghost use Rattle.krb_structs.specs.Session.{IsSession, mode_of, session_of};
-ghost use Rattle.krb_seal.specs.Sealer.{SealsNext, advanced, advanced_by, end_of_numbers, in_mode, new_state, wiped_state};
+ghost use Rattle.krb_seal.specs.Sealer.{SealsNext, advanced, end_of_numbers, in_mode, new_state, wiped_state};
+ghost use Rattle.krb_seal.specs.Lent.{advanced_by};
 
 use crate::buffer::put_front;
 use crate::fault::Fault;

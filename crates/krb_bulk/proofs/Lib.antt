@@ -1,0 +1,4 @@
+pub mod TurnLemmas
+pub mod FirstLemmas
+pub mod BulkLemmas
+pub mod ReadyLemmas

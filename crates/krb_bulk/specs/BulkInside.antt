@@ -1,0 +1,123 @@
+-- Messages of one call, and what is made of each.
+use Rattle.std.specs.Prelude.{◌≡◌, ℕ, ◌+◌, ◌≤◌, List, ◌++◌, length, take, drop, Some, slice_get}
+use Rattle.std.specs.Global.{Vec}
+use Rattle.krb_aes.specs.Keys.{expanded_key}
+use Rattle.krb_aes.specs.Stealing.{cts}
+use Rattle.krb_base.specs.Bytes.{AreBytes}
+use Rattle.krb_der.specs.declared.body.Body.{Body}
+use Rattle.krb_der.specs.Body.{IsBody, part}
+use Rattle.krb_der.specs.declared.safe.SafeMsg.{SafeMsg}
+use Rattle.krb_der.specs.Safe.{before_checksum, checksum_field}
+use Rattle.krb_der.specs.Message.{IsSafeDraft, Precedes, safe_input}
+use Rattle.krb_etype.specs.declared.etype.Etype.{Etype}
+use Rattle.krb_etype.specs.declared.private_keys.End.TheVariants.{Sealer}
+use Rattle.krb_etype.specs.Etype.{checksum_number, confounder_size, number_of}
+use Rattle.krb_etype.specs.HeldKeys.{fresh_keys}
+use Rattle.krb_etype.specs.Keys.{encryption_key, tag_of, checksum_key}
+use Rattle.krb_keys.specs.Hmac.{hmac96}
+use Rattle.krb_seal.specs.Mode.{purpose_of}
+use Rattle.krb_seal.specs.Seals.{body_of, unenciphered, unsigned}
+use Rattle.krb_seal.specs.Sealer.{SealerState}
+use Rattle.krb_seal.specs.Lent.{advanced_by}
+use Rattle.krb_seal.specs.Session.{HasShortAddresses}
+use Rattle.krb_bulk.specs.declared.bulk.Bulk.{Bulk}
+use Rattle.krb_bulk.specs.declared.four.Four.{Four}
+use Rattle.krb_bulk.specs.declared.private.Plain.{Plain}
+use Rattle.krb_bulk.specs.declared.safe.Unsummed.{Unsummed}
+use Rattle.krb_bulk.specs.declared.unsealed.Unsealed.{Unsealed}
+use Rattle.krb_bulk.specs.Four.{AreBoth}
+use Rattle.krb_bulk.specs.Many.{CanSealInTurn, SealsInTurn, SealsMessage}
+
+-- The sealer that seals them.
+abbrev pub sealer_of : Bulk → SealerState
+sealer_of b = record {
+  etype = number_of b.parts.etype;
+  key = b.parts.keys.now.key;
+  session = b.parts.session.now;
+  next = b.next;
+  wiped = b.parts.keys.now.wiped;
+}
+
+-- Its keys are a live sealer's for its mode, its addresses are short, and it can seal all of them.
+pub record IsReady (b : Bulk) : Type 0 where
+  pub keys : b.parts.keys.now
+      ≡ fresh_keys b.parts.keys.now.key Sealer (purpose_of b.parts.session.now.mode)
+  pub addresses : HasShortAddresses b.parts.session.now
+  pub each : CanSealInTurn (sealer_of b) b.messages.now
+
+-- What holds of the message with this index.
+abbrev pub OfMessage : Bulk → ℕ → (Unsealed → Type 0) → Type 0
+OfMessage b k P = (m : Unsealed) → slice_get b.messages.now k ≡ Some m → P m
+
+-- What it carries.
+abbrev pub body_at : Bulk → ℕ → Unsealed → Body
+body_at b k m = body_of b.parts.session.now (b.next + k) m.user_data.now m.at
+
+abbrev pub CarriesAt : Bulk → ℕ → Body → Type 0
+CarriesAt b k body = OfMessage b k (λ m. body ≡ body_at b k m)
+
+-- The bytes are its frame.
+abbrev pub SealsAt : Bulk → ℕ → List ℕ → Type 0
+SealsAt b k bytes = OfMessage b k (λ m. SealsMessage (advanced_by (sealer_of b) k) m bytes)
+
+-- The frames are those of the first messages, and no more than there are.
+abbrev pub SealsFirst : Bulk → List (Vec ℕ) → Type 0
+SealsFirst b frames =
+    (length frames ≤ length b.messages.now)
+    × SealsInTurn (sealer_of b) (take (length frames) b.messages.now) frames
+
+-- ---- KRB-PRIV
+
+-- A KRB-PRIV under a confounder, whose part isn't enciphered yet.
+pub record IsPlain (etype : Etype) (conf : List ℕ) (b : Body) (plain : Plain) : Type 0 where
+  pub confounder : length conf ≡ confounder_size
+  pub body : IsBody b
+  pub within : plain.start ≤ length plain.bytes
+  pub front : Precedes (unenciphered etype) (length conf + length (part b) + 12)
+      (take plain.start plain.bytes)
+  pub text : drop plain.start plain.bytes ≡ conf ++ part b
+
+-- It is that of the message with this index.
+abbrev pub IsPlainAt : Bulk → ℕ → Plain → Type 0
+IsPlainAt b k plain = OfMessage b k (λ m. IsPlain b.parts.etype m.confounder (body_at b k m) plain)
+
+-- It can be enciphered.
+pub record IsLong (plain : Plain) : Type 0 where
+  pub within : plain.start ≤ length plain.bytes
+  pub long : 16 ≤ length (drop plain.start plain.bytes)
+
+-- They are the codes of these texts.
+abbrev pub AreTags : List ℕ → Four Plain → Four (List ℕ) → Type 0
+AreTags key = AreBoth (λ p tag. tag ≡ tag_of key (drop p.start p.bytes))
+
+-- The bytes are this KRB-PRIV with its part enciphered, up to the code.
+pub record Enciphers (key : List ℕ) (plain : Plain) (written : List ℕ) : Type 0 where
+  pub text : AreBytes (drop plain.start plain.bytes)
+  pub cipher : written ≡ take plain.start plain.bytes
+      ++ cts (expanded_key (encryption_key key)) (drop plain.start plain.bytes)
+
+-- ---- KRB-SAFE
+
+-- A KRB-SAFE that has no checksum yet, and the bytes under its checksum. The confounder goes nowhere.
+pub record IsUnsummed (etype : Etype) (conf : List ℕ) (b : Body) (unsummed : Unsummed)
+    : Type 0 where
+  pub confounder : length conf ≡ confounder_size
+  pub draft : IsSafeDraft (unsigned etype b) (checksum_number etype) 12 unsummed.draft
+  pub input : unsummed.input.items ≡ safe_input (unsigned etype b)
+
+-- The bytes are those under the checksum of each message that has these fields before its checksum.
+abbrev pub IsCovered : List ℕ → List ℕ → Type 0
+IsCovered fields bytes = (m : SafeMsg) → before_checksum m ≡ fields → bytes ≡ safe_input m
+
+-- The bytes are this KRB-SAFE with this checksum.
+abbrev pub HasSum : Etype → Unsummed → List ℕ → List ℕ → Type 0
+HasSum etype u sum bytes =
+    bytes ≡ u.draft.bytes.items ++ checksum_field (checksum_number etype) sum
+
+-- They are the checksums of these messages.
+abbrev pub AreSums : List ℕ → Four Unsummed → Four (List ℕ) → Type 0
+AreSums key = AreBoth (λ u sum. sum ≡ hmac96 (checksum_key key) u.input.items)
+
+-- It is that of the message with this index.
+abbrev pub IsUnsummedAt : Bulk → ℕ → Unsummed → Type 0
+IsUnsummedAt b k u = OfMessage b k (λ m. IsUnsummed b.parts.etype m.confounder (body_at b k m) u)

@@ -1,0 +1,4 @@
+pub mod Many
+pub mod Numbered
+pub mod Four
+pub mod BulkInside
