@@ -7,8 +7,8 @@ use Rattle.krb_carry.specs.declared.place.Outcome.{Outcome}
 use Rattle.krb_carry.specs.declared.place.Outcome.TheVariants as outcomes
 use Rattle.krb_carry.specs.declared.place.Place.{Place}
 use Rattle.krb_carry.specs.declared.place.Taken.{Taken}
-use Rattle.krb_c.specs.declared.place.KrbPlace.{KrbPlace}
-use Rattle.krb_c.specs.declared.place.KrbTaken.{KrbTaken}
+use Rattle.krb_carrier_structs.specs.declared.place.KrbPlace.{KrbPlace}
+use Rattle.krb_carrier_structs.specs.declared.place.KrbTaken.{KrbTaken}
 
 -- ---- the numbers of the header
 

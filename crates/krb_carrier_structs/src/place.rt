@@ -1,7 +1,7 @@
 //! The place of a session in a list that a carrier keeps, as C writes it.
 
 ghost use Rattle.std.specs.Prelude.{◌≡◌, ◌↔◌, ◌≤◌, IfSome, IsSome};
-ghost use Rattle.krb_c.specs.Place.{missed_of, outcome_number, place_told, told_place, told_taken};
+ghost use Rattle.krb_carrier_structs.specs.Place.{missed_of, outcome_number, place_told, told_place, told_taken};
 
 use krb_carry::{Missed, Outcome, Place, Taken};
 

@@ -1,7 +1,7 @@
 //! How far the frames of a session are carried, as C writes it.
 
 ghost use Rattle.std.specs.Prelude.{◌≡◌, ◌↔◌, IfSome, IsSome};
-ghost use Rattle.krb_c.specs.Progress.{IsProgress, told_progress};
+ghost use Rattle.krb_carrier_structs.specs.Progress.{IsProgress, told_progress};
 
 use krb_carry::Progress;
 

@@ -2,7 +2,7 @@
 use Rattle.std.specs.Prelude.{ℕ, ◌+◌, ◌<◌, ◌≤◌, ◌^◌}
 use Rattle.krb_carry.specs.Progress.{progress_of}
 use Rattle.krb_carry.specs.ProgressState.{ProgressState}
-use Rattle.krb_c.specs.declared.progress.KrbProgress.{KrbProgress}
+use Rattle.krb_carrier_structs.specs.declared.progress.KrbProgress.{KrbProgress}
 
 -- the progress with the numbers of the struct
 abbrev pub told_progress : KrbProgress → ProgressState
