@@ -11,13 +11,11 @@
 #![tactic(auto)]
 
 mod handle;
-mod held;
 mod held_queue;
 mod history_calls;
 mod message_calls;
 mod opener_calls;
 mod opener_handle;
-mod parts;
 mod pause_calls;
 mod peer_calls;
 mod peer_handle;

@@ -5,8 +5,8 @@ ghost use Rattle.krb_c.specs.declared.held_queue.HeldQueue.{HeldQueue};
 ghost use Rattle.krb_c.specs.Handles.{owns_queue, queue_coded};
 
 use crate::handle::Handle;
-use crate::held::Held;
 use crate::held_queue::HeldQueue;
+use krb_held::Held;
 use std::marker::Model;
 
 /// A queue on the heap, or nothing, which is a queue in which none waits.

@@ -2,7 +2,7 @@
 
 ghost use Rattle.std.specs.Prelude.{◌≡◌, Option, None, Some, MatchOption};
 ghost use Rattle.std.specs.Coded.{coded_option};
-ghost use Rattle.krb_c.specs.Held.{owns};
+ghost use Rattle.krb_held.specs.Held.{owns};
 
 use crate::parts::Parts;
 use krb_structs::Wipe;
@@ -14,9 +14,10 @@ use std::ptr;
 ///
 /// It isn't `Drop`, so that no value is lost: it ends by [`Held::into_box`] or [`Held::clear`].
 pub struct Held<T> {
-    pub(crate) at: *mut T,
+    /// Where it is.
+    pub at: *mut T,
     /// 1 where it is a value, else 0.
-    pub(crate) count: usize,
+    pub count: usize,
     pub ghost value: { Option T } by { coded_option T.code },
 }
 
