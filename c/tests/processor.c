@@ -110,6 +110,26 @@ static void empty_handles(void)
     krbrelay_opener_wipe(&o);
 }
 
+/* The ends of a carrier: one call of each kind. */
+static void ends(void)
+{
+    struct krbrelay_sending sending;
+    struct krbrelay_command command;
+    struct krbrelay_reading reading;
+    struct krbrelay_queue queue = KRBRELAY_INIT;
+    struct krbrelay_pause pause;
+    uint32_t told = 0;
+    CHECK(krbrelay_sending_load(&sending, 3, 0, 0, 0, 1, 0) == KRBRELAY_OK);
+    CHECK(krbrelay_sending_serve(&sending, 8, 0, &command) == KRBRELAY_OK && command.count == 3);
+    krbrelay_reading_load(&reading, 1, 0);
+    CHECK(krbrelay_reading_frames(&reading, 1, 3, 3, &told) == KRBRELAY_OK && told == KRBRELAY_READ_TAKE);
+    krbrelay_pause_begin(&pause, 7, 0);
+    CHECK(krbrelay_pause_is_over(&pause, 6) == 0 && krbrelay_pause_end(&pause) == 7);
+    CHECK(krbrelay_queue_ready(&queue, 9) == KRBRELAY_OK);
+    CHECK(krbrelay_queue_serve(&queue, &told) == 1 && told == 9);
+    krbrelay_queue_free(&queue);
+}
+
 /* The calls that take no handle. */
 static void others(void)
 {
@@ -138,6 +158,7 @@ static void others(void)
     CHECK(krbrelay_progress_rewind(&progress, &again) == KRBRELAY_OK && again == 1);
     CHECK(krbrelay_place_take(&place, 1, &taken, &outcome) == KRBRELAY_OK && place.at == 1);
     CHECK(krbrelay_place_read_again(&place) == KRBRELAY_OK);
+    ends();
     krbrelay_clear_stack();
 }
 

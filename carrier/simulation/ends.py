@@ -1,95 +1,100 @@
-"""The ends of a carrier, as a simulation reaches them: what krb_engine has in Rattle, by the same names.
+"""The ends of a carrier, as a simulation reaches them: what krbrelay.engine has, by its names.
 
-The model in model.py is in place of the proved engine until the C library exports it.
+A world makes its ends by one of these: the proved ones here, by the C library; the model's (model.py),
+which may have a planted fault; or both, which are compared after each call (compared.py).
 """
-import dataclasses
-import enum
-from typing import Protocol
+import os
+import sys
+from typing import Any, Optional, Protocol
+
+sys.path.insert(0, os.path.join(os.path.dirname(os.path.abspath(__file__)), "../../python"))
+from krbrelay import engine  # noqa: E402
+from krbrelay.engine import (  # noqa: E402
+    Asks, Command, Ended, Heard, Idle, Outcome, Probe, Publish, Read, Receipt, Row, Spot, Stands,
+    Stored, Wake)
+
+__all__ = ["Asks", "Command", "Ended", "Ends", "FlowEnd", "Heard", "Idle", "Outcome", "Probe", "Proved",
+           "Publish", "QueueEnd", "Read", "ReadingEnd", "Receipt", "ReceiverEnd", "Row", "SenderEnd",
+           "Spot", "Stands", "Stored", "Wake"]
 
 
-class Asks(enum.Enum):
-    NOTHING = "nothing"
-    MISSING = "missing"
-    REFUSED = "refused"
-
-
-class Heard(enum.Enum):
-    NOTHING = "nothing"
-    DELIVERED = "delivered"
-    ENDED = "ended"
-
-
-class Outcome(enum.Enum):
-    ACCEPTED = "accepted"
-    REPEAT = "repeat"
-    EARLY = "early"
-    UNKNOWN = "unknown"
-    UNSETTLED = "unsettled"
-
-
-class Read(enum.Enum):
-    NOTHING = "nothing"
-    ELSEWHERE = "elsewhere"
-    TAKE = "take"
-
-
-@dataclasses.dataclass(frozen=True)
-class Receipt:
-    number: int
-    history: int
-
-
-@dataclasses.dataclass(frozen=True)
-class Publish:
-    start: int
-    count: int
-
-
-@dataclasses.dataclass(frozen=True)
-class Probe:
-    number: int
-    opening: bool
-
-
-@dataclasses.dataclass(frozen=True)
-class Wake:
-    at: int
-
-
-@dataclasses.dataclass(frozen=True)
-class Idle:
-    pass
-
-
-Command = Publish | Probe | Wake | Idle
-
-
-class SenderEngine(Protocol):
+class SenderEnd(Protocol):
     """One session's end at a sender (`Sending`)."""
-    done: int
-
     def sealed(self, count: int) -> None: ...
     def confirmed(self, number: int, offset: int, now: int) -> bool: ...
-    def receipt(self, receipt: Receipt, own: int, asks: Asks, now: int) -> Heard: ...
-    def listed(self, shard_list: int) -> bool: ...
+    def listed(self, list_now: int) -> bool: ...
     def reconnected(self) -> None: ...
+    def receipt(self, receipt: Receipt, own: bytes, now: int) -> Heard: ...
     def serve(self, room: int, now: int) -> Command: ...
+    @property
+    def done(self) -> int: ...
+    @property
+    def ended(self) -> Optional[Ended]: ...
+    @property
+    def stands(self) -> Optional[Stands]: ...
+    @property
+    def stored(self) -> Stored: ...
+    @property
     def is_settled(self) -> bool: ...
+    @property
     def under_way(self) -> int: ...
+    @property
     def sealing_room(self) -> int: ...
-    def stored(self) -> tuple[int, int, int, int]:
-        """What is to be stored: carried, its offset, done, and the list."""
-    def is_ended(self) -> bool: ...
 
 
-class ReceiverEngine(Protocol):
+class FlowEnd(Protocol):
+    """A shard at a sender (`Flow`)."""
+    list: Optional[int]
+    def moved(self, before: int, after: int) -> None: ...
+    @property
+    def under_way(self) -> int: ...
+    @property
+    def room(self) -> int: ...
+
+
+class QueueEnd(Protocol):
+    """Whose turn it is (`Queue`)."""
+    def ready(self, session: int) -> None: ...
+    def serve(self) -> Optional[int]: ...
+    def __len__(self) -> int: ...
+
+
+class ReceiverEnd(Protocol):
     """One session's end at a receiver (`Receiving`)."""
-
-    def demanded(self) -> int:
-        """The number that the transaction under way demands next."""
-    def take(self, frame: int, accepted: bool, is_close: bool, opened: int | None) -> Outcome: ...
+    def take(self, frame: bytes, *, accepted: bool, is_close: bool = False,
+             opened: Optional[int] = None) -> Outcome: ...
     def stored(self) -> None: ...
     def dropped(self) -> None: ...
-    def receipt(self, now: int) -> tuple[Receipt, Asks] | None: ...
-    def rows(self) -> tuple[tuple[int, int, bool], tuple[int, int, bool]]:
-        """Number, digest and close, as stored and as the transaction would store them."""
+    def receipt(self, now: int) -> Optional[Receipt]: ...
+    @property
+    def row(self) -> Row: ...
+    @property
+    def drafted(self) -> Row: ...
+
+
+class ReadingEnd(Protocol):
+    """A shard at a receiver (`Reading`)."""
+    def frames(self, list_now: int, last: int, count: int) -> Read: ...
+    def stored(self) -> None: ...
+    @property
+    def spot(self) -> Spot: ...
+    @property
+    def read(self) -> Spot: ...
+
+
+class Ends(Protocol):
+    """What makes the ends of a world."""
+    def sending(self, stored: Stored, now: int) -> SenderEnd: ...
+    def flow(self) -> FlowEnd: ...
+    def queue(self) -> QueueEnd: ...
+    def receiving(self, row: Row, now: int) -> ReceiverEnd: ...
+    def reading(self, stored: Spot) -> ReadingEnd: ...
+
+
+class Proved:
+    """The proved ends, by the C library."""
+    sending: Any = staticmethod(engine.Sending)
+    flow: Any = staticmethod(engine.Flow)
+    queue: Any = staticmethod(engine.Queue)
+    receiving: Any = staticmethod(engine.Receiving)
+    reading: Any = staticmethod(engine.Reading)

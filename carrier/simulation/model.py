@@ -1,25 +1,30 @@
 """A model of krb_engine and krb_queue, for the simulation alone: it isn't proved, and nothing ships it.
 
-Each function is what the definition of its name in crates/krb_engine/specs says. `plants` are faults
-that the simulation has to find (world.PLANTS).
+Each function is what the definition of its name in crates/krb_engine/specs says, and the classes have the
+names and calls of krbrelay.engine, with which compared.py compares them. `plants` are faults that the
+simulation has to find (world.PLANTS).
 """
 import collections
 import dataclasses
 import hashlib
+from typing import Optional
 
-from ends import Asks, Command, Heard, Idle, Outcome, Probe, Publish, Read, Receipt, Wake
+from ends import (
+    Asks, Command, Ended, Heard, Idle, Outcome, Probe, Publish, Read, Receipt, Row, Spot, Stands, Stored,
+    Wake)
 
-Row = tuple[int, int, bool]     # of a session: number, digest, and whether it is closed
 WINDOW, SERVICE, UNDER_WAY = 16, 8, 256
 AGAIN, AGAIN_MOST = 2_000, 64_000
 PROBE, PROBE_MOST = 5_000, 960_000
 ASK, ASK_MOST = 4_000, 64_000
 RECEIPT = 200
 NEVER = 2**64 - 1
+TAG = 12                # bytes of a frame that a digest is of
+NO_HISTORY = bytes(20)
 
 
-def with_frame(history: int, tag: int) -> int:
-    return int.from_bytes(hashlib.sha1(b"%d %d" % (history, tag)).digest())
+def with_frame(history: bytes, frame: bytes) -> bytes:
+    return hashlib.sha1(history + frame[-TAG:]).digest()
 
 
 @dataclasses.dataclass
@@ -40,7 +45,7 @@ class Pause:
 class Queue:
     """Sessions that wait, each once, first in and first out."""
 
-    def __init__(self, plants: frozenset[str]) -> None:
+    def __init__(self, plants: frozenset[str] = frozenset()) -> None:
         self.order: collections.deque[int] = collections.deque()
         self.waits: set[int] = set()
         self.plants = plants
@@ -50,7 +55,7 @@ class Queue:
             self.waits.add(session)
             self.order.append(session)
 
-    def serve(self) -> int | None:
+    def serve(self) -> Optional[int]:
         if not self.order:
             return None
         last = "last in, first out" in self.plants
@@ -58,16 +63,35 @@ class Queue:
         self.waits.discard(session)
         return session
 
+    def __len__(self) -> int:
+        return len(self.order)
+
+
+class Flow:
+    """A shard at a sender."""
+
+    def __init__(self) -> None:
+        self.list: Optional[int] = None
+        self.under_way = 0
+
+    @property
+    def room(self) -> int:
+        return 0 if self.list is None else max(0, UNDER_WAY - self.under_way)
+
+    def moved(self, before: int, after: int) -> None:
+        self.under_way += after - before
+
 
 class Sending:
     """One session's end at a sender."""
 
-    def __init__(self, row: tuple[int, int, int, int, int], now: int, plants: frozenset[str]) -> None:
-        self.next, self.carried, self.at, self.done, self.list = row
+    def __init__(self, stored: Stored, now: int, plants: frozenset[str] = frozenset()) -> None:
+        self.next, self.carried, self.at, self.done, self.list = stored
         self.sent = self.carried
         self.recovers, self.window = self.done, WINDOW
-        self.ask: Pause | None = None
-        self.is_held = self.is_answered = self.ended = False
+        self.ask: Optional[Pause] = None
+        self.is_held = self.is_answered = False
+        self.ended: Optional[Ended] = None
         self.again, self.probe = Pause(now, AGAIN), Pause(now, PROBE)
         self.plants = plants
 
@@ -90,30 +114,35 @@ class Sending:
             self.done = self.carried
         return True
 
-    def listed(self, shard_list: int) -> bool:
-        if shard_list == self.list:
+    def listed(self, list_now: int) -> bool:
+        if list_now == self.list:
             return False
         self.begin_again()
-        self.list = shard_list
+        self.list = list_now
         return True
 
     def reconnected(self) -> None:
         self.sent = self.carried
 
-    def receipt(self, receipt: Receipt, own: int, asks: Asks, now: int) -> Heard:
+    def receipt(self, receipt: Receipt, own: bytes, now: int) -> Heard:
         if self.ended:
             return Heard.NOTHING
-        heard = Heard.NOTHING
-        if receipt.number > self.done:
-            is_own = own == receipt.history or "digests aren't compared" in self.plants
-            if receipt.number > self.next or not is_own:
-                self.ended = True
-                return Heard.ENDED
-            self.settle(receipt.number, now)
-            heard = Heard.DELIVERED
-        if self.is_asked(receipt.number, asks, now):
-            self.heed(asks, now)
+        heard = self.find(receipt, own, now)
+        if self.is_asked(receipt, now):
+            self.heed(receipt.asks, now)
         return heard
+
+    def find(self, receipt: Receipt, own: bytes, now: int) -> Heard:
+        if receipt.number <= self.done:
+            return Heard.NOTHING
+        if receipt.number > self.next:
+            self.ended = Ended.OLDER
+        elif own != receipt.history and "digests aren't compared" not in self.plants:
+            self.ended = Ended.FORKED
+        if self.ended:
+            return Heard.ENDED
+        self.settle(receipt.number, now)
+        return Heard.DELIVERED
 
     def settle(self, number: int, now: int) -> None:
         if number > self.carried:
@@ -123,9 +152,10 @@ class Sending:
         self.ask, self.is_held, self.is_answered = None, False, True
         self.probe = Pause(now, PROBE)
 
-    def is_asked(self, number: int, asks: Asks, now: int) -> bool:
-        return asks != Asks.NOTHING and number == self.done and self.done < self.carried \
-            and (self.ask is None or self.ask.is_over(now)) and "asks aren't heeded" not in self.plants
+    def is_asked(self, receipt: Receipt, now: int) -> bool:
+        return receipt.asks != Asks.NOTHING and receipt.number == self.done and self.done < self.carried \
+            and not self.ended and (self.ask is None or self.ask.is_over(now)) \
+            and "asks aren't heeded" not in self.plants
 
     def heed(self, asks: Asks, now: int) -> None:
         self.recovers, self.window = max(self.recovers, self.carried), 1
@@ -140,7 +170,7 @@ class Sending:
         if self.carried < self.sent and self.again.is_over(now):
             self.sent = self.carried
             self.again.grow(AGAIN_MOST, now)
-        if self.is_settled():
+        if self.is_settled:
             return Idle()
         count = self.batch(room)
         if count > 0 and (not self.is_held or self.ask is None or self.ask.is_over(now)):
@@ -172,42 +202,52 @@ class Sending:
             ends.append(self.probe.end())
         return min(ends)
 
+    @property
     def is_settled(self) -> bool:
-        return self.ended or self.done == self.next
+        return self.ended is not None or self.done == self.next
 
-    def is_ended(self) -> bool:
-        return self.ended
-
+    @property
     def under_way(self) -> int:
         return self.sent - self.carried
 
+    @property
     def sealing_room(self) -> int:
         return 0 if self.ended else max(0, WINDOW - (self.next - self.carried))
 
-    def stored(self) -> tuple[int, int, int, int]:
-        return self.carried, self.at, self.done, self.list
+    @property
+    def stands(self) -> Optional[Stands]:
+        if self.ended:
+            return Stands[self.ended.name]
+        if self.is_held:
+            return Stands.REFUSED
+        if self.done < self.carried and self.probe.length >= 4 * PROBE:
+            return Stands.UNANSWERED
+        return Stands.UNCONFIRMED if self.carried < self.sent and self.again.length > AGAIN else None
+
+    @property
+    def stored(self) -> Stored:
+        return Stored(self.next, self.carried, self.at, self.done, self.list)
 
 
 class Receiving:
     """One session's end at a receiver."""
 
-    def __init__(self, row: Row, now: int, plants: frozenset[str]) -> None:
+    def __init__(self, row: Row, now: int, plants: frozenset[str] = frozenset()) -> None:
         self.row = self.drafted = row
-        self.is_open, self.owed, self.paid, self.plants = False, None, Pause(now, 0), plants
+        self.is_open, self.paid, self.plants = False, Pause(now, 0), plants
+        self.owed: Optional[Asks] = None
 
-    def demanded(self) -> int:
-        return self.drafted[0]
-
-    def take(self, frame: int, accepted: bool, is_close: bool, opened: int | None) -> Outcome:
-        number, history, _ = self.drafted
+    def take(self, frame: bytes, *, accepted: bool, is_close: bool = False,
+             opened: Optional[int] = None) -> Outcome:
         outcome = self.outcome(accepted, opened)
         self.is_open = True
         self.owed = self.owes(outcome)
         if outcome == Outcome.ACCEPTED:
-            self.drafted = number + 1, with_frame(history, frame), is_close
+            history = with_frame(self.drafted.history, frame)
+            self.drafted = Row(self.drafted.number + 1, history, is_close)
         return outcome
 
-    def outcome(self, accepted: bool, opened: int | None) -> Outcome:
+    def outcome(self, accepted: bool, opened: Optional[int]) -> Outcome:
         number, _, closed = self.drafted
         if closed:
             return Outcome.REPEAT
@@ -219,7 +259,7 @@ class Receiving:
             return Outcome.REPEAT
         return Outcome.EARLY if opened > number else Outcome.UNSETTLED
 
-    def owes(self, outcome: Outcome) -> Asks | None:
+    def owes(self, outcome: Outcome) -> Optional[Asks]:
         if outcome == Outcome.ACCEPTED:
             return Asks.NOTHING
         if outcome == Outcome.REPEAT:
@@ -236,39 +276,58 @@ class Receiving:
             self.drafted, self.owed = self.row, None
         self.is_open = False
 
-    def receipt(self, now: int) -> tuple[Receipt, Asks] | None:
+    def receipt(self, now: int) -> Optional[Receipt]:
         early = "receipts before the commit" in self.plants
         if self.owed is None or self.is_open and not early or not self.paid.is_over(now):
             return None
         asks, self.owed, self.paid = self.owed, None, Pause(now, RECEIPT)
         row = self.drafted if early else self.row
-        return Receipt(row[0], row[1]), asks
-
-    def rows(self) -> tuple[Row, Row]:
-        return self.row, self.drafted
+        return Receipt(row.number, row.history, asks)
 
 
 class Reading:
     """A shard at a receiver."""
 
-    def __init__(self, stored: tuple[int, int], plants: frozenset[str]) -> None:
-        self.stored_at = self.read = stored
+    def __init__(self, stored: Spot, plants: frozenset[str] = frozenset()) -> None:
+        self.spot = self.read = stored
         self.is_open, self.plants = False, plants
 
-    def frames(self, shard_list: int, last: int, count: int) -> Read:
+    def frames(self, list_now: int, last: int, count: int) -> Read:
         if self.is_open:
             return Read.NOTHING
-        if shard_list != self.read[0]:
-            self.read = shard_list, 0
+        if list_now != self.read.list:
+            self.read = Spot(list_now, 0)
             return Read.ELSEWHERE
-        if last < self.read[1]:
+        if last < self.read.offset:
             if "a list that was cut off is waited for" not in self.plants:
-                self.read = shard_list, last
+                self.read = Spot(list_now, last)
             return Read.ELSEWHERE
         if count == 0:
             return Read.NOTHING
-        self.read, self.is_open = (shard_list, self.read[1] + count), True
+        self.read, self.is_open = Spot(list_now, self.read.offset + count), True
         return Read.TAKE
 
     def stored(self) -> None:
-        self.stored_at, self.is_open = self.read, False
+        self.spot, self.is_open = self.read, False
+
+
+class Modelled:
+    """The model's ends, with these faults."""
+
+    def __init__(self, plants: frozenset[str] = frozenset()) -> None:
+        self.plants = plants
+
+    def sending(self, stored: Stored, now: int) -> Sending:
+        return Sending(stored, now, self.plants)
+
+    def flow(self) -> Flow:
+        return Flow()
+
+    def queue(self) -> Queue:
+        return Queue(self.plants)
+
+    def receiving(self, row: Row, now: int) -> Receiving:
+        return Receiving(row, now, self.plants)
+
+    def reading(self, stored: Spot) -> Reading:
+        return Reading(stored, self.plants)

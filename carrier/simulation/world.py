@@ -3,14 +3,16 @@
 Times are virtual milliseconds.
 """
 import collections
+import contextlib
 import copy
 import dataclasses
 import heapq
 import random
-from typing import Any, Callable
+from typing import Any, Callable, Iterator, Optional
 
-from ends import Asks, Heard, Outcome, Probe, Publish, Read, Receipt, Wake
-from model import UNDER_WAY, Queue, Reading, Receiving, Row, Sending, with_frame
+from ends import (
+    Ends, Heard, Outcome, Probe, Publish, Read, Receipt, ReceiverEnd, Row, SenderEnd, Spot, Stored, Wake)
+from model import NO_HISTORY, TAG, Modelled, with_frame
 
 # Faults of the model that a seed has to find: the opposite of a law, or of a rule that one rests on.
 PLANTS = ("confirmations delete", "digests aren't compared", "receipts before the commit",
@@ -28,7 +30,7 @@ class Wrong(Exception):
 class Frame:
     session: int
     number: int
-    tag: int
+    content: bytes
     text: str | None        # None: the close
 
 
@@ -38,8 +40,8 @@ class Session:
     given: list[str] = dataclasses.field(default_factory=list)
     waiting: collections.deque[str] = dataclasses.field(default_factory=collections.deque)
     frames: dict[int, Frame] = dataclasses.field(default_factory=dict)
-    histories: dict[int, int] = dataclasses.field(default_factory=lambda: {0: 0})
-    row: tuple[int, int, int, int] = (0, 0, 0, 0)       # carried, at, done, list
+    histories: dict[int, bytes] = dataclasses.field(default_factory=lambda: {0: NO_HISTORY})
+    row: Stored = Stored()      # but for `next`, which is below
     next: int = 0
 
 
@@ -56,12 +58,13 @@ class Store:
     def __init__(self, shards: int) -> None:
         self.rows: dict[int, Row] = {}
         self.effects: dict[int, list[str]] = collections.defaultdict(list)
-        self.spots = [(0, 0)] * shards
+        self.spots = [Spot(0, 0)] * shards
 
 
 class World:
-    def __init__(self, seed: int, plants: frozenset[str] = frozenset()) -> None:
-        self.rng, self.plants = random.Random(seed), plants
+    def __init__(self, seed: int, ends: Optional[Ends] = None) -> None:
+        self.rng = random.Random(seed)
+        self.ends: Ends = ends or Modelled()
         self.now, self.count = 0, 0
         self.heap: list[tuple[int, int, Callable[..., None], tuple[Any, ...]]] = []
         self.counts: collections.Counter[str] = collections.Counter()
@@ -147,8 +150,8 @@ class World:
         olds = [frame for it in self.lists for frame in it.items[-50:]]
         it = self.rng.choice(self.lists)
         session = self.rng.randrange(self.sessions)
-        it.items.append(self.rng.choice(olds) if olds else Frame(session, -1, 0, None))
-        it.items.append(Frame(session, -1, 0, None))
+        it.items.append(self.rng.choice(olds) if olds else Frame(session, -1, bytes(TAG), None))
+        it.items.append(Frame(session, -1, bytes(TAG), None))
 
     def copy_outbox(self) -> None:
         """A copy of the outbox is used: in place of it, or beside it."""
@@ -182,11 +185,11 @@ class World:
         if not self.chance("lose confirmations", 0.4):
             self.after(self.delay(), sender.confirm, turn, shard, it.name, frame, len(it.items))
 
-    def send_receipt(self, session: int, receipt: Receipt, asks: Asks) -> None:
+    def send_receipt(self, session: int, receipt: Receipt) -> None:
         for sender in self.senders:
             if not self.chance("lose receipts", 0.5):
                 for _ in range(2 if self.chance("twice", 0.3) else 1):
-                    self.after(self.delay(), sender.hear, session, receipt, asks)
+                    self.after(self.delay(), sender.hear, session, receipt)
 
     # ---- what has to hold
 
@@ -194,6 +197,11 @@ class World:
         took = self.store.effects[session]
         if not self.has_copies and took != self.senders[0].outbox[session].given[:len(took)]:
             raise Wrong(f"session {session}: effects out of order, doubled or lost")
+
+    def check_under_way(self, sender: "Sender", shard: int) -> None:
+        of_sessions = sum(sender.engines[it].under_way for it in range(shard, self.sessions, self.shards))
+        if sender.flows[shard].under_way != of_sessions:
+            raise Wrong(f"shard {shard}: {sender.flows[shard].under_way} frames under way, not {of_sessions}")
 
     def check_done(self, sender: "Sender", session: int) -> None:
         done = sender.engines[session].done
@@ -205,10 +213,10 @@ class World:
             for session, it in enumerate(sender.outbox):
                 self.check_done(sender, session)
                 engine = sender.engines[session]
-                if engine.is_ended():
+                if engine.ended:
                     if not self.has_copies:
                         raise Wrong(f"session {session}: stopped, and there is no other copy")
-                elif it.waiting or not engine.is_settled():
+                elif it.waiting or not engine.is_settled:
                     raise Wrong(f"session {session}: stands at {engine.done} of {len(it.given)}, "
                                 "and nobody is told")
 
@@ -224,8 +232,8 @@ class Sender:
         """Begins anew with what its outbox has, as after a kill."""
         self.turn += 1
         self.engines = [self.loaded(session) for session in range(self.world.sessions)]
-        self.lists: list[int | None] = [None] * self.world.shards
-        self.queues = [Queue(self.world.plants) for _ in range(self.world.shards)]
+        self.flows = [self.world.ends.flow() for _ in range(self.world.shards)]
+        self.queues = [self.world.ends.queue() for _ in range(self.world.shards)]
         self.sealing: set[int] = set()
         self.services = [0] * self.world.shards
         self.due: dict[int, int] = {}           # by session: after how many services it is its turn
@@ -235,14 +243,20 @@ class Sender:
         for session in range(self.world.sessions):
             self.seal(session)
 
-    def loaded(self, session: int) -> Sending:
+    def loaded(self, session: int) -> SenderEnd:
         it = self.outbox[session]
-        carried, at, done, name = it.row
-        return Sending((it.next, carried, at, done, name), self.world.now, self.world.plants)
+        return self.world.ends.sending(it.row._replace(next=it.next), self.world.now)
 
     def is_through(self) -> bool:
-        return all(engine.is_ended() or not it.waiting and engine.is_settled()
+        return all(engine.ended or not it.waiting and engine.is_settled
                    for engine, it in zip(self.engines, self.outbox))
+
+    @contextlib.contextmanager
+    def moving(self, session: int) -> Iterator[SenderEnd]:
+        """The session's end, while something happens to it: its shard hears how much is under way."""
+        before = self.engines[session].under_way
+        yield self.engines[session]
+        self.flows[session % self.world.shards].moved(before, self.engines[session].under_way)
 
     # ---- lists
 
@@ -255,15 +269,16 @@ class Sender:
 
     def take_list(self, turn: int, shard: int, name: int) -> None:
         if turn == self.turn:
-            self.lists[shard] = name
+            self.flows[shard].list = name
             for session in range(shard, self.world.sessions, self.world.shards):
-                self.engines[session].listed(name)
+                with self.moving(session) as engine:
+                    engine.listed(name)
                 self.ready(session)
 
     # ---- the outbox
 
     def seal(self, session: int) -> None:
-        room = min(self.engines[session].sealing_room(), 8)
+        room = min(self.engines[session].sealing_room, 8)
         if room and self.outbox[session].waiting and session not in self.sealing:
             self.sealing.add(session)
             self.world.after(3, self.commit, self.turn, session, self.outbox[session].next, room)
@@ -279,62 +294,62 @@ class Sender:
         if turn != self.turn:
             return
         self.sealing.discard(session)
-        if fails or self.world.chance("outbox", 0.2):
-            self.engines[session] = self.loaded(session)
-        else:
-            self.engines[session].sealed(sealed)
+        with self.moving(session) as engine:
+            if fails or self.world.chance("outbox", 0.2):
+                self.engines[session] = self.loaded(session)
+            else:
+                engine.sealed(sealed)
         self.ready(session)
         self.world.after(10, self.seal, session)
 
     def seal_texts(self, it: Session, session: int, room: int) -> int:
         count = min(room, len(it.waiting))
         for _ in range(count):
-            frame = Frame(session, it.next, self.world.rng.getrandbits(60), it.waiting.popleft())
+            frame = Frame(session, it.next, self.world.rng.randbytes(TAG), it.waiting.popleft())
             it.frames[it.next] = frame
-            it.histories[it.next + 1] = with_frame(it.histories[it.next], frame.tag)
+            it.histories[it.next + 1] = with_frame(it.histories[it.next], frame.content)
             it.next += 1
         return count
 
     def store(self, session: int) -> None:
         """What is carried and done; frames that are done are deleted."""
         it, engine = self.outbox[session], self.engines[session]
-        carried, at, done, name = engine.stored()
-        if done < it.row[2] or self.world.chance("outbox", 0.2):
+        stored = engine.stored
+        if stored.done < it.row.done or self.world.chance("outbox", 0.2):
             return
-        it.row = min(carried, it.next), at, done, name
-        for number in [number for number in it.frames if number < done]:
+        it.row = stored._replace(carried=min(stored.carried, it.next))
+        for number in [number for number in it.frames if number < stored.done]:
             del it.frames[number]
-        for number in [number for number in it.histories if number < done]:
+        for number in [number for number in it.histories if number < stored.done]:
             del it.histories[number]
 
     # ---- turns
 
     def ready(self, session: int) -> None:
         shard = session % self.world.shards
-        queue = self.queues[shard]
-        if session not in queue.waits:
-            self.due[session] = self.services[shard] + len(queue.order)
-            queue.ready(session)
+        if session not in self.due:
+            self.due[session] = self.services[shard] + len(self.queues[shard])
+        self.queues[shard].ready(session)
         self.world.after(1, self.serve, self.turn, shard)
 
     def serve(self, turn: int, shard: int) -> None:
         for _ in range(SERVICES):
-            room = UNDER_WAY - sum(self.engines[it].under_way()
-                                   for it in range(shard, self.world.sessions, self.world.shards))
-            if turn != self.turn or self.lists[shard] is None or room <= 0:
+            if turn != self.turn or self.flows[shard].room == 0:
                 return
+            self.world.check_under_way(self, shard)
             session = self.queues[shard].serve()
             if session is None:
                 return
             if self.services[shard] != self.due.pop(session):
                 raise Wrong(f"session {session}: served out of its turn")
             self.services[shard] += 1
-            self.perform(session, shard, room)
+            self.perform(session, shard)
 
-    def perform(self, session: int, shard: int, room: int) -> None:
-        command = self.engines[session].serve(room, self.world.now)
+    def perform(self, session: int, shard: int) -> None:
+        with self.moving(session) as engine:
+            command = engine.serve(self.flows[shard].room, self.world.now)
         if isinstance(command, Publish):
-            for number in range(command.start, command.start + command.count):
+            for number in range(command.number, command.number + command.count):
                 self.publish(session, shard, number)
             self.ready(session)
         elif isinstance(command, Probe):
@@ -361,16 +376,19 @@ class Sender:
     # ---- what comes
 
     def confirm(self, turn: int, shard: int, name: int, frame: Frame, offset: int) -> None:
-        if turn == self.turn and name == self.engines[frame.session].stored()[3]:
-            if self.engines[frame.session].confirmed(frame.number, offset, self.world.now):
+        if turn == self.turn and name == self.engines[frame.session].stored.list:
+            with self.moving(frame.session) as engine:
+                counts = engine.confirmed(frame.number, offset, self.world.now)
+            if counts:
                 self.store(frame.session)
                 self.world.check_done(self, frame.session)
                 self.ready(frame.session)
                 self.seal(frame.session)
 
-    def hear(self, session: int, receipt: Receipt, asks: Asks) -> None:
-        own = self.outbox[session].histories.get(receipt.number, -1)
-        heard = self.engines[session].receipt(receipt, own, asks, self.world.now)
+    def hear(self, session: int, receipt: Receipt) -> None:
+        own = self.outbox[session].histories.get(receipt.number, NO_HISTORY)
+        with self.moving(session) as engine:
+            heard = engine.receipt(receipt, own, self.world.now)
         if heard == Heard.DELIVERED:
             self.world.check_done(self, session)
             self.store(session)
@@ -387,8 +405,8 @@ class Receiver:
 
     def load(self) -> None:
         self.turn += 1
-        self.reading = Reading(self.world.store.spots[self.shard], self.world.plants)
-        self.ends: dict[int, Receiving] = {}
+        self.reading = self.world.ends.reading(self.world.store.spots[self.shard])
+        self.ends: dict[int, ReceiverEnd] = {}
         self.step(self.turn)
 
     def step(self, turn: int) -> None:
@@ -396,7 +414,7 @@ class Receiver:
             return
         self.world.after(20 + self.world.rng.randrange(20), self.step, turn)
         it = self.world.lists[self.shard]
-        start = self.reading.read[1] if self.reading.read[0] == it.name else 0
+        start = self.reading.read.offset if self.reading.read.list == it.name else 0
         frames = it.items[start:start + BATCH]
         if self.reading.frames(it.name, len(it.items), len(frames)) == Read.TAKE:
             self.take(turn, frames)
@@ -408,18 +426,19 @@ class Receiver:
         for frame in frames:
             end = self.end(frame.session)
             opened = frame.number if frame.number >= 0 else None
-            accepted = opened == end.demanded() and not self.world.flags["refuses"] > 0
+            accepted = opened == end.drafted.number and not self.world.flags["refuses"] > 0
             touched.add(frame.session)
-            outcome = end.take(frame.tag, accepted, frame.text is None, None if accepted else opened)
+            outcome = end.take(frame.content, accepted=accepted, is_close=frame.text is None,
+                               opened=None if accepted else opened)
             if outcome == Outcome.ACCEPTED:
                 effects.append(frame)
         self.answer()
         self.world.after(self.world.rng.randrange(2, 9), self.commit, turn, effects, touched)
 
-    def end(self, session: int) -> Receiving:
+    def end(self, session: int) -> ReceiverEnd:
         if session not in self.ends:
-            row = self.world.store.rows.get(session, (0, 0, False))
-            self.ends[session] = Receiving(row, self.world.now, self.world.plants)
+            row = self.world.store.rows.get(session, Row())
+            self.ends[session] = self.world.ends.receiving(row, self.world.now)
         return self.ends[session]
 
     def commit(self, turn: int, effects: list[Frame], touched: set[int]) -> None:
@@ -428,8 +447,8 @@ class Receiver:
             return
         store, ends = self.world.store, [(session, self.ends[session]) for session in touched]
         self.world.counts["transactions"] += 1
-        is_fenced = store.spots[self.shard] != self.reading.stored_at \
-            or any(store.rows.get(session, (0, 0, False)) != end.rows()[0] for session, end in ends)
+        is_fenced = store.spots[self.shard] != self.reading.spot \
+            or any(store.rows.get(session, Row()) != end.row for session, end in ends)
         if is_fenced:
             return self.load()
         if self.world.chance("store", 0.3):
@@ -442,17 +461,17 @@ class Receiver:
             end.stored()
         self.answer()
 
-    def drop(self, ends: list[tuple[int, Receiving]]) -> None:
+    def drop(self, ends: list[tuple[int, ReceiverEnd]]) -> None:
         """It had no effect: what it took is read again."""
-        self.reading = Reading(self.reading.stored_at, self.world.plants)
+        self.reading = self.world.ends.reading(self.reading.spot)
         for _, end in ends:
             end.dropped()
 
-    def apply(self, ends: list[tuple[int, Receiving]], effects: list[Frame]) -> None:
+    def apply(self, ends: list[tuple[int, ReceiverEnd]], effects: list[Frame]) -> None:
         store = self.world.store
         store.spots[self.shard] = self.reading.read
         for session, end in ends:
-            store.rows[session] = end.rows()[1]
+            store.rows[session] = end.drafted
         for frame in effects:
             if frame.text is not None:
                 store.effects[frame.session].append(frame.text)
@@ -461,6 +480,6 @@ class Receiver:
 
     def answer(self) -> None:
         for session, end in self.ends.items():
-            answer = end.receipt(self.world.now)
-            if answer is not None:
-                self.world.send_receipt(session, *answer)
+            receipt = end.receipt(self.world.now)
+            if receipt is not None:
+                self.world.send_receipt(session, receipt)

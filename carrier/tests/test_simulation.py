@@ -5,6 +5,7 @@ import sys
 import pytest
 
 sys.path.insert(0, os.path.join(os.path.dirname(os.path.dirname(os.path.abspath(__file__))), "simulation"))
+import model  # noqa: E402
 import world  # noqa: E402
 
 SEEDS, PLANTED = range(1, 101), range(1, 61)
@@ -12,7 +13,7 @@ SEEDS, PLANTED = range(1, 101), range(1, 61)
 
 def fails(seed: int, plants: frozenset[str] = frozenset()) -> str:
     try:
-        world.World(seed, plants).run()
+        world.World(seed, model.Modelled(plants)).run()
     except world.Wrong as wrong:
         return f"seed {seed}: {wrong}"
     return ""

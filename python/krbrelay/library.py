@@ -38,8 +38,8 @@ class LibraryError(OSError):
 # ---- the structs of krbrelay.h
 
 class HandleStruct(ctypes.Structure):
-    """struct krbrelay_sealer, krbrelay_opener, krbrelay_receiver and krbrelay_peer, which are
-    alike."""
+    """struct krbrelay_sealer, krbrelay_opener, krbrelay_receiver, krbrelay_peer and krbrelay_queue,
+    which are alike."""
     _fields_ = [("at", c_void_p), ("count", c_size_t)]
 
 
@@ -95,6 +95,81 @@ class WindowStruct(ctypes.Structure):
     _fields_ = [("highest", c_uint64), ("taken", c_uint64)]
 
 
+class PauseStruct(ctypes.Structure):
+    """struct krbrelay_pause."""
+    _fields_ = [("since", c_uint64), ("length", c_uint64)]
+
+
+class ProgressStruct(ctypes.Structure):
+    """struct krbrelay_progress."""
+    _fields_ = [("next", c_uint64), ("carried", c_uint64), ("at", c_uint64), ("sent", c_uint64)]
+
+
+class SendingStruct(ctypes.Structure):
+    """struct krbrelay_sending."""
+    _fields_ = [("progress", ProgressStruct), ("done", c_uint64), ("list", c_uint64),
+                ("recovers", c_uint64), ("window", c_uint64), ("ask", PauseStruct),
+                ("again", PauseStruct), ("probe", PauseStruct), ("is_asked", c_uint32),
+                ("is_held", c_uint32), ("is_answered", c_uint32), ("ended", c_uint32)]
+
+
+class CommandStruct(ctypes.Structure):
+    """struct krbrelay_command."""
+    _fields_ = [("number", c_uint64), ("count", c_uint64), ("at", c_uint64), ("kind", c_uint32),
+                ("opening", c_uint32)]
+
+
+class ReceiptStruct(ctypes.Structure):
+    """struct krbrelay_receipt."""
+    _fields_ = [("number", c_uint64), ("history", c_uint8 * HISTORY_SIZE), ("asks", c_uint32)]
+
+
+class FlowStruct(ctypes.Structure):
+    """struct krbrelay_flow."""
+    _fields_ = [("list", c_uint64), ("under_way", c_uint64), ("has_list", c_uint32),
+                ("reserved", c_uint32)]
+
+
+class RowStruct(ctypes.Structure):
+    """struct krbrelay_row."""
+    _fields_ = [("number", c_uint64), ("history", c_uint8 * HISTORY_SIZE), ("closed", c_uint32)]
+
+
+class ReceivingStruct(ctypes.Structure):
+    """struct krbrelay_receiving."""
+    _fields_ = [("stored", RowStruct), ("drafted", RowStruct), ("paid", PauseStruct),
+                ("is_open", c_uint32), ("owed", c_uint32)]
+
+
+class SeenStruct(ctypes.Structure):
+    """struct krbrelay_seen."""
+    _fields_ = [("opened", c_uint64), ("has_opened", c_uint32), ("accepted", c_uint32),
+                ("is_close", c_uint32), ("reserved", c_uint32)]
+
+
+class SpotStruct(ctypes.Structure):
+    """struct krbrelay_spot."""
+    _fields_ = [("list", c_uint64), ("offset", c_uint64)]
+
+
+class ReadingStruct(ctypes.Structure):
+    """struct krbrelay_reading."""
+    _fields_ = [("stored", SpotStruct), ("read", SpotStruct), ("is_open", c_uint32),
+                ("reserved", c_uint32)]
+
+
+class HeadStruct(ctypes.Structure):
+    """struct krbrelay_head."""
+    _fields_ = [("turn", c_uint64), ("number", c_uint64), ("history", c_uint8 * HISTORY_SIZE),
+                ("closed", c_uint32)]
+
+
+class OpeningStruct(ctypes.Structure):
+    """struct krbrelay_opening."""
+    _fields_ = [("turn", c_uint64), ("number", c_uint64), ("history", c_uint8 * HISTORY_SIZE),
+                ("reserved", c_uint32)]
+
+
 # ---- the calls of krbrelay.h: what each returns, and its parameters
 
 _AT = c_void_p                  # an address of what this package keeps, which is passed quickest
@@ -107,6 +182,12 @@ _SIZE = POINTER(c_size_t)
 _STATE = POINTER(c_uint8)        # PEER_STATE_SIZE bytes
 _HISTORY = POINTER(c_uint8)      # HISTORY_SIZE bytes
 _KEPT = [_AT, c_size_t, _AT]     # what is written, and its size
+_SENDING = POINTER(SendingStruct)
+_RECEIVING = POINTER(ReceivingStruct)
+_READING = POINTER(ReadingStruct)
+_FLOW = POINTER(FlowStruct)
+_PAUSE = POINTER(PauseStruct)
+_NUMBER, _FLAG = POINTER(c_uint64), POINTER(c_uint32)       # what is told
 
 CALLS: Dict[str, Tuple[Any, List[Any]]] = {
     "krbrelay_version": (c_uint32, []),
@@ -148,6 +229,34 @@ CALLS: Dict[str, Tuple[Any, List[Any]]] = {
     "krbrelay_window_new": (None, [POINTER(WindowStruct), c_uint64]),
     "krbrelay_window_take": (c_uint32, [POINTER(WindowStruct), c_uint64]),
     "krbrelay_history_add": (c_uint32, [_HISTORY, *_BYTES]),
+    "krbrelay_sending_load": (c_uint32, [_SENDING, *[c_uint64] * 6]),
+    "krbrelay_sending_sealed": (c_uint32, [_SENDING, c_uint64]),
+    "krbrelay_sending_confirmed": (c_uint32, [_SENDING, c_uint64, c_uint64, c_uint64, _FLAG]),
+    "krbrelay_sending_listed": (c_uint32, [_SENDING, c_uint64, _FLAG]),
+    "krbrelay_sending_reconnected": (c_uint32, [_SENDING]),
+    "krbrelay_sending_receipt":
+        (c_uint32, [_SENDING, POINTER(ReceiptStruct), _HISTORY, c_uint64, _FLAG]),
+    "krbrelay_sending_serve": (c_uint32, [_SENDING, c_uint64, c_uint64, POINTER(CommandStruct)]),
+    "krbrelay_sending_state": (c_uint32, [_SENDING, _NUMBER, _NUMBER, _FLAG, _FLAG]),
+    "krbrelay_flow_room": (c_uint32, [_FLOW, _NUMBER]),
+    "krbrelay_flow_moved": (c_uint32, [_FLOW, c_uint64, c_uint64]),
+    "krbrelay_receiving_load": (None, [_RECEIVING, POINTER(RowStruct), c_uint64]),
+    "krbrelay_receiving_take": (c_uint32, [_RECEIVING, *_BYTES, POINTER(SeenStruct), _FLAG]),
+    "krbrelay_receiving_stored": (c_uint32, [_RECEIVING]),
+    "krbrelay_receiving_dropped": (c_uint32, [_RECEIVING]),
+    "krbrelay_receiving_receipt": (c_uint32, [_RECEIVING, c_uint64, POINTER(ReceiptStruct)]),
+    "krbrelay_reading_load": (None, [_READING, c_uint64, c_uint64]),
+    "krbrelay_reading_frames": (c_uint32, [_READING, c_uint64, c_uint64, c_uint64, _FLAG]),
+    "krbrelay_reading_stored": (c_uint32, [_READING]),
+    "krbrelay_judge": (c_uint32, [POINTER(HeadStruct), POINTER(OpeningStruct), _FLAG]),
+    "krbrelay_pause_begin": (None, [_PAUSE, c_uint64, c_uint64]),
+    "krbrelay_pause_is_over": (c_uint32, [_PAUSE, c_uint64]),
+    "krbrelay_pause_end": (c_uint64, [_PAUSE]),
+    "krbrelay_pause_grow": (None, [_PAUSE, c_uint64, c_uint64]),
+    "krbrelay_queue_ready": (c_uint32, [_HANDLE, c_uint32]),
+    "krbrelay_queue_serve": (c_uint32, [_HANDLE, _FLAG]),
+    "krbrelay_queue_len": (c_size_t, [_HANDLE]),
+    "krbrelay_queue_free": (None, [_HANDLE]),
     "krbrelay_message_header": (c_uint32, [*_BYTES, POINTER(HeaderStruct)]),
     "krbrelay_answer_name": (c_uint32, [c_uint32, *_ROOM, _SIZE]),
     "krbrelay_answer_text": (c_uint32, [c_uint32, *_ROOM, _SIZE]),

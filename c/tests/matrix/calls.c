@@ -240,6 +240,99 @@ static uint32_t window_take(void)
     return krbrelay_window_take(&window, NUMBER);
 }
 
+/* ---- the ends of a carrier */
+
+static struct krbrelay_sending sending = { .progress = { 9, 7, 5, 7 }, .done = 7, .window = 16 };
+static struct krbrelay_receiving receiving;
+static struct krbrelay_reading reading;
+static struct krbrelay_flow flow;
+static struct krbrelay_pause pause;
+static struct krbrelay_queue none_wait;
+
+static uint32_t sending_load(void)
+{
+    struct krbrelay_sending it;
+    return krbrelay_sending_load(&it, 9, 7, 5, 7, 1, 0);
+}
+
+static uint32_t sending_sealed(void) { return krbrelay_sending_sealed(&sending, 0); }
+static uint32_t sending_confirmed(void) { return krbrelay_sending_confirmed(&sending, 0, 0, 0, &told.kind); }
+static uint32_t sending_listed(void) { return krbrelay_sending_listed(&sending, 0, &told.kind); }
+static uint32_t sending_reconnected(void) { return krbrelay_sending_reconnected(&sending); }
+
+static uint32_t sending_receipt(void)
+{
+    static const struct krbrelay_receipt it = { .number = 7, .asks = KRBRELAY_ASKS_NOTHING };
+    return krbrelay_sending_receipt(&sending, &it, it.history, 0, &told.kind);
+}
+
+static uint32_t sending_serve(void)
+{
+    struct krbrelay_command command;
+    return krbrelay_sending_serve(&sending, 0, 0, &command);
+}
+
+static uint32_t sending_state(void)
+{
+    uint64_t under_way, room;
+    uint32_t settled, stands;
+    return krbrelay_sending_state(&sending, &under_way, &room, &settled, &stands);
+}
+
+static uint32_t flow_room(void) { return krbrelay_flow_room(&flow, &told.number); }
+static uint32_t flow_moved(void) { return krbrelay_flow_moved(&flow, 0, 0); }
+
+static uint32_t receiving_load(void)
+{
+    static const struct krbrelay_row row;
+    krbrelay_receiving_load(&receiving, &row, 0);
+    return KRBRELAY_OK;
+}
+
+static uint32_t receiving_take(void)
+{
+    static const struct krbrelay_seen seen = { .accepted = 1 };
+    return krbrelay_receiving_take(&receiving, given.body, given.body_len, &seen, &told.kind);
+}
+
+static uint32_t receiving_stored(void) { return krbrelay_receiving_stored(&receiving); }
+static uint32_t receiving_dropped(void) { return krbrelay_receiving_dropped(&receiving); }
+
+static uint32_t receiving_receipt(void)
+{
+    struct krbrelay_receipt it;
+    return krbrelay_receiving_receipt(&receiving, 0, &it);
+}
+
+static uint32_t reading_load(void) { krbrelay_reading_load(&reading, 0, 0); return KRBRELAY_OK; }
+static uint32_t reading_frames(void) { return krbrelay_reading_frames(&reading, 0, 0, 0, &told.kind); }
+static uint32_t reading_stored(void) { return krbrelay_reading_stored(&reading); }
+
+static uint32_t judge(void)
+{
+    static const struct krbrelay_head head;
+    static const struct krbrelay_opening opening = { .turn = 1 };
+    return krbrelay_judge(&head, &opening, &told.kind);
+}
+
+static uint32_t pause_begin(void) { krbrelay_pause_begin(&pause, 1, 0); return KRBRELAY_OK; }
+static uint32_t pause_is_over(void) { return krbrelay_pause_is_over(&pause, UINT64_MAX) == 1 ? KRBRELAY_OK : KRBRELAY_ARGUMENT; }
+static uint32_t pause_end(void) { return krbrelay_pause_end(&pause) < 9 ? KRBRELAY_OK : KRBRELAY_ARGUMENT; }
+static uint32_t pause_grow(void) { krbrelay_pause_grow(&pause, 1, 0); return KRBRELAY_OK; }
+
+/* Of a queue of its own, which asks for its blocks. */
+static uint32_t queue_ready(void)
+{
+    struct krbrelay_queue queue = KRBRELAY_INIT;
+    uint32_t answer = krbrelay_queue_ready(&queue, NUMBER);
+    krbrelay_queue_free(&queue);
+    return answer;
+}
+
+static uint32_t queue_serve(void) { return krbrelay_queue_serve(&none_wait, &told.kind); }
+static uint32_t queue_len(void) { return krbrelay_queue_len(&none_wait) == 0 ? KRBRELAY_OK : KRBRELAY_ARGUMENT; }
+static uint32_t queue_free(void) { krbrelay_queue_free(&none_wait); return KRBRELAY_OK; }
+
 /* ---- the table */
 
 #define ROW(name, does, uses, ...) { #name, name, does, uses, __VA_ARGS__ }
@@ -277,6 +370,16 @@ struct call calls[] = {
     NONE(progress_publish, NO_HANDLE), NONE(progress_confirm, NO_HANDLE), NONE(progress_rewind, NO_HANDLE),
     NONE(place_take, NO_HANDLE), NONE(place_read_again, NO_HANDLE), NONE(window_new, NO_HANDLE),
     NONE(window_take, NO_HANDLE), NONE(history_add, NO_HANDLE),
+    NONE(sending_load, NO_HANDLE), NONE(sending_sealed, NO_HANDLE), NONE(sending_confirmed, NO_HANDLE),
+    NONE(sending_listed, NO_HANDLE), NONE(sending_reconnected, NO_HANDLE), NONE(sending_receipt, NO_HANDLE),
+    NONE(sending_serve, NO_HANDLE), NONE(sending_state, NO_HANDLE), NONE(flow_room, NO_HANDLE),
+    NONE(flow_moved, NO_HANDLE), NONE(receiving_load, NO_HANDLE), NONE(receiving_take, NO_HANDLE),
+    NONE(receiving_stored, NO_HANDLE), NONE(receiving_dropped, NO_HANDLE), NONE(receiving_receipt, NO_HANDLE),
+    NONE(reading_load, NO_HANDLE), NONE(reading_frames, NO_HANDLE), NONE(reading_stored, NO_HANDLE),
+    NONE(judge, NO_HANDLE), NONE(pause_begin, NO_HANDLE), NONE(pause_is_over, NO_HANDLE),
+    NONE(pause_end, NO_HANDLE), NONE(pause_grow, NO_HANDLE), NONE(queue_serve, NO_HANDLE),
+    NONE(queue_len, NO_HANDLE), NONE(queue_free, NO_HANDLE),
+    ROW(queue_ready, KEEPS_NOTHING, NO_HANDLE, OF_DATA, 0, 0, 0),
 };
 const int call_count = sizeof calls / sizeof *calls;
 

@@ -8,6 +8,7 @@ enum does {
     MAKES,          /* a handle */
     SEALS,          /* given.body */
     OPENS,          /* frame */
+    KEEPS_NOTHING,  /* of what it asks the allocator for: it ends its own handle */
     ASKS_NOTHING    /* of the allocator, whatever it is given */
 };
 

@@ -1,4 +1,4 @@
-/* The calls that ask the allocator for nothing, and leave no secret where they end a handle. */
+/* The calls that ask the allocator for nothing or keep nothing of it, and leave no secret where they end a handle. */
 #include "cases.h"
 
 #include <string.h>
@@ -26,6 +26,6 @@ static void try_quiet_by(struct call *call, uint32_t mode, int32_t etype, size_t
 void try_quiet(uint32_t mode, int32_t etype, size_t size)
 {
     for (int i = 0; i < call_count; i++)
-        if (calls[i].does == ASKS_NOTHING)
+        if (calls[i].does == ASKS_NOTHING || calls[i].does == KEEPS_NOTHING)
             try_quiet_by(&calls[i], mode, etype, size);
 }

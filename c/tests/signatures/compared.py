@@ -14,7 +14,8 @@ INNER = PREFIX + "proved_"      # the names of proved.h, for functions that C st
 ALSO = {"told": "session expect demand carried header", "user": "user_data", "code": "answer",
         "out": "frame user_data bytes name text", "body": "bytes", "number": "mode"}
 LENGTHS = "len", "key_len", "room"
-RESULTS = {"u32": ("enum krbrelay_answer", "uint32_t"), "usize": ("size_t",), None: ("void",)}
+RESULTS = {"u32": ("enum krbrelay_answer", "uint32_t"), "u64": ("uint64_t",), "usize": ("size_t",),
+           None: ("void",)}
 DEFINED = re.compile(r"^define (?!internal)[^@\n]*@krbrelay_\w+\(.*", re.M)
 DEFINED_IN_C = re.compile(r"^\w[\w ]*\W(krbrelay_\w+)\(", re.M)
 DECLARED = re.compile(r"\b(krbrelay_\w+)\([^;{]*?\)\s*(?:KRBRELAY_NONNULL\(([\d, ]*)\)\s*)?"

@@ -26,7 +26,23 @@ OUTCOMES = [((5, 0, 1, 0), 0, "ACCEPTED"), ((5, 4, 0, 1), 0, "REPEAT"),
             ((5, 7, 0, 1), 0, "EARLY"), ((5, 0, 0, 0), 1, "UNKNOWN"),
             ((5, 0, 0, 0), 0, "UNSETTLED"), ((5, 5, 0, 1), 1, "UNSETTLED")]
 MISSED = {"ACCEPTED": "NOTHING", "EARLY": "EARLY", "UNSETTLED": "UNSETTLED"}
+# Of a session's end at a sender, of a receipt and of a shard at a receiver, the words of 32 bits that
+# aren't 0, by their places; and what is answered.
+NEXT, CARRIED, SENT, WINDOW, AGAIN, PROBE, HELD, ENDED = 0, 2, 6, 14, 22, 26, 29, 31
+COMMANDS = {"IDLE": {}, "PUBLISH": {NEXT: 1}, "PROBE": {NEXT: 1, CARRIED: 1, SENT: 1},
+            "WAKE": {NEXT: 1, SENT: 1, AGAIN: 99}}
+HEARD = {"NOTHING": {}, "DELIVERED": {0: 1}, "ENDED": {0: 1, 2: 1}}
+STANDS = {"NOT": {}, "OLDER": {ENDED: 1}, "FORKED": {ENDED: 2}, "REFUSED": {HELD: 1},
+          "UNANSWERED": {NEXT: 1, CARRIED: 1, SENT: 1, PROBE: 20000},
+          "UNCONFIRMED": {NEXT: 1, SENT: 1, AGAIN: 2001}}
+READS = {"NOTHING": (0, 0), "ELSEWHERE": (1, 0), "TAKE": (0, 1)}      # the list, and how many
+JUDGED = {"BEGINS": (0, 1), "LATER": (0, 2), "FORKED": (1, 1)}       # the last turn, and the opening's
 KINDS = {"IPV4": (socket.AF_INET, 16), "IPV6": (socket.AF_INET6, 28)}
+
+
+def with_words(words: Dict[int, int]) -> ctypes.Array:
+    """A struct of these numbers of 32 bits, by their places: the rest is zeros."""
+    return numbers_of(*[words.get(it, 0) for it in range(64)])
 
 
 def numbers_of(*numbers: int) -> ctypes.Array:
@@ -56,6 +72,14 @@ class Library:
         self.classes = dict(zip(NUMBERS, self.answers(self.calls.krbrelay_class_of)))
         self.outcomes = [self.take(*frame, known) for frame, known, _ in OUTCOMES]
         self.kinds = {name: self.kind(*it) for name, it in KINDS.items()}
+        self.asks = self.answers(lambda asks: self.hear({7: asks})[0])
+        self.ended = self.answers(lambda ended: self.serve({ENDED: ended})[0])
+        self.results = {
+            "command_kind": {name: self.serve(it)[1] for name, it in COMMANDS.items()},
+            "heard": {name: self.hear({7: 1, **it})[1] for name, it in HEARD.items()},
+            "stands": {name: self.stands(it) for name, it in STANDS.items()},
+            "read": {name: self.read(*it) for name, it in READS.items()},
+            "judged": {name: self.judge(*it) for name, it in JUDGED.items()}}
         self.calls.krbrelay_sealer_free(self.sealer)
         self.calls.krbrelay_opener_free(self.opener)
 
@@ -94,6 +118,35 @@ class Library:
         frame = numbers_of(demanded, 0, opened, 0, 0, accepted, has_opened)
         self.calls.krbrelay_place_take(place, ctypes.c_uint64(9), frame, told)
         return told[0], place[2]
+
+    def serve(self, words: Dict[int, int]) -> Tuple[int, int]:
+        """The answer of a service, and the kind of its command."""
+        command, sending = numbers_of(), with_words({WINDOW: 1, **words})
+        room, now = ctypes.c_uint64(8), ctypes.c_uint64(9)
+        return self.calls.krbrelay_sending_serve(sending, room, now, command), command[6]
+
+    def hear(self, words: Dict[int, int]) -> Tuple[int, int]:
+        """The answer to a receipt, and what is heard."""
+        heard, sending = numbers_of(), with_words({WINDOW: 1, NEXT: 1})
+        return self.calls.krbrelay_sending_receipt(
+            sending, with_words(words), numbers_of(), ctypes.c_uint64(9), heard), heard[0]
+
+    def stands(self, words: Dict[int, int]) -> int:
+        told, other = numbers_of(), numbers_of()
+        sending = with_words({WINDOW: 1, **words})
+        self.calls.krbrelay_sending_state(sending, other, other, other, told)
+        return told[0]
+
+    def read(self, name: int, count: int) -> int:
+        told = numbers_of()
+        self.calls.krbrelay_reading_frames(numbers_of(), ctypes.c_uint64(name), ctypes.c_uint64(9),
+                                           ctypes.c_uint64(count), told)
+        return told[0]
+
+    def judge(self, last: int, turn: int) -> int:
+        told = numbers_of()
+        self.calls.krbrelay_judge(numbers_of(last), numbers_of(turn), told)
+        return told[0]
 
     def kind(self, family: int, size: int) -> int:
         """The kind of address that a socket has."""
@@ -157,6 +210,18 @@ class Compared:
         for name, kind in self.library.kinds.items():
             self.same("address_kind", self.numbers("address_kind").get(name), kind, name)
 
+    def ends(self) -> None:
+        """What an end of a carrier takes and answers."""
+        self.taken("asks", self.numbers("asks").values(), self.library.asks, "ARGUMENT")
+        self.taken("ended", self.numbers("ended").values(), self.library.ended, "ARGUMENT")
+        names = {it: self.numbers(it, it.upper() + "_") for it in ("ended", "stands", "asks")}
+        self.same("asks", names["asks"], {"NOTHING": 1, "MISSING": 2, "REFUSED": 3}, "all")
+        self.same("ended", {names["ended"].get(it) for it in ("OLDER", "FORKED")},
+                  {names["stands"].get(it) for it in ("OLDER", "FORKED")}, "an end that stands")
+        for enum, theirs in self.library.results.items():
+            begin = enum.removesuffix("_kind").upper() + "_"
+            self.same(enum, self.numbers(enum, begin), theirs)
+
     def outcomes(self) -> None:
         mine, missed = self.numbers("outcome", "OUTCOME_"), self.numbers("missed", "MISSED_")
         for (_, _, name), (outcome, left) in zip(OUTCOMES, self.library.outcomes):
@@ -172,5 +237,6 @@ def compare(count: report.Count, path: str, enums: Dict[str, Dict[str, int]]) ->
     compared.arguments()
     compared.results()
     compared.outcomes()
+    compared.ends()
     count.right(set(compared.seen) == set(enums),
                 f"FAILED enums that aren't tried: {sorted(set(enums) ^ set(compared.seen))}")

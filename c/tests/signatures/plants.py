@@ -6,7 +6,7 @@ from lib import report
 from signatures import compared
 from signatures.given import HEADER, MAP, MODULE, PROVED, PYTHON, RELEASED, Given
 
-PLACE, SESSION = "crates/krb_c/src/place.rt", "crates/krb_structs/src/session.rt"
+PLACE, SESSION = "crates/krb_carrier_structs/src/place.rt", "crates/krb_structs/src/session.rt"
 
 
 class Plant(NamedTuple):
@@ -108,6 +108,18 @@ PLANTS = [
     Plant("an outcome of another name", HEADER, "",
           "KRBRELAY_OUTCOME_REPEAT = 1,", "KRBRELAY_OUTCOME_REPEATED = 1,",
           "enum krbrelay_outcome of REPEAT: "),
+    Plant("a receipt that asks for 4", HEADER, "",
+          "KRBRELAY_ASKS_REFUSED = 3 ", "KRBRELAY_ASKS_REFUSED = 4 ", "enum krbrelay_asks: "),
+    Plant("two commands exchanged", HEADER, "",
+          "KRBRELAY_COMMAND_PROBE = 2,         /* the frame of that number leaves again, alone */\n"
+          "    KRBRELAY_COMMAND_WAKE = 3 ",
+          "KRBRELAY_COMMAND_WAKE = 2,         /* the frame of that number leaves again, alone */\n"
+          "    KRBRELAY_COMMAND_PROBE = 3 ", "enum krbrelay_command_kind: "),
+    Plant("a pause that ends in 32 bits", HEADER, declares("krbrelay_pause_end"),
+          "uint64_t krb", "uint32_t krb", "krbrelay_pause_end, in the module: "),
+    Plant("a session's end with one field less", HEADER, r"^struct krbrelay_sending \{.*?\n\};",
+          "    uint64_t window;                    /* from done on leave */\n", "",
+          "struct krbrelay_sending, "),
     Plant("a demand of 4", HEADER, "",
           "KRBRELAY_ABSENT_IS_0 = 3 ", "KRBRELAY_ABSENT_IS_0 = 4 ",
           "enum krbrelay_how of number: "),

@@ -1,5 +1,1 @@
-mod Values
-mod HeldBox
-mod Pairs
 mod Told
-mod Crossing

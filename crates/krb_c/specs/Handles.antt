@@ -8,10 +8,12 @@ use Rattle.krb_seal.specs.Sealer.{SealerState}
 use Rattle.krb_seal.specs.Opens.{OpenerState}
 use Rattle.krb_peers.specs.ReceiverState.{ReceiverState}
 use Rattle.krb_structs.specs.Peer.{PeerState}
-use Rattle.krb_c.specs.Held.{owns}
+use Rattle.krb_held.specs.Held.{owns}
 use Rattle.krb_structs.specs.contracts.lane_receiver.LaneReceiver.{the_row as receiver_row}
 use Rattle.krb_structs.specs.contracts.peer.Peer.{the_row as peer_row}
 use Rattle.krb_structs.specs.contracts.any_sealer.AnySealer.{the_row as sealer_row}
+use Rattle.krb_c.specs.declared.held_queue.HeldQueue.{HeldQueue}
+use Rattle.krb_c.specs.contracts.held_queue.HeldQueue.{the_row as queue_row}
 use Rattle.krb_structs.specs.contracts.wipeable_opener.WipeableOpener.{the_row as opener_row}
 
 abbrev pub owns_sealer : Ptr → ℕ → Option SealerState → Fml
@@ -37,3 +39,9 @@ owns_peer = owns peer_row
 
 abbrev pub peer_coded : Coded (Option PeerState)
 peer_coded = coded_option peer_row.coded
+
+abbrev pub owns_queue : Ptr → ℕ → Option HeldQueue → Fml
+owns_queue = owns queue_row
+
+abbrev pub queue_coded : Coded (Option HeldQueue)
+queue_coded = coded_option queue_row.coded

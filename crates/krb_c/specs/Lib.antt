@@ -1,7 +1,5 @@
 pub mod Answers
 pub mod Exports
 pub mod Handles
-pub mod Held
-pub mod Progress
-pub mod Place
+pub mod Queue
 pub mod Peers

@@ -5,25 +5,29 @@
 //! receiver or a peer on the heap. Each export says of the handle what the function of `krb_structs` says: its
 //! answer is that of the first condition that doesn't hold. The progress of a session's frames
 //! ([`krb_carry::Progress`]), the place of a session ([`krb_carry::Place`]) and a window
-//! ([`krb_window::Window`]) have no handle: they are numbers of the caller's. Nor has the history of a
-//! session ([`krb_history::with_frame`]), which is bytes of the caller's.
+//! ([`krb_window::Window`]) have no handle: they are numbers of the caller's. So is all that both ends of a
+//! carrier keep but the queue (krb_engine, over the structs of krb_carrier_structs). Nor has the history of
+//! a session ([`krb_history::with_frame`]) a handle, which is bytes of the caller's.
 #![tactic(auto)]
 
 mod handle;
-mod held;
+mod held_queue;
 mod history_calls;
 mod message_calls;
 mod opener_calls;
 mod opener_handle;
-mod parts;
+mod pause_calls;
 mod peer_calls;
 mod peer_handle;
-mod place;
 mod place_calls;
-mod progress;
 mod progress_calls;
+mod queue_calls;
+mod queue_handle;
 mod receiver_calls;
 mod receiver_handle;
+mod receiving_calls;
 mod sealer_calls;
 mod sealer_handle;
+mod sending_calls;
+mod shard_calls;
 mod window_calls;

@@ -4,9 +4,9 @@
 ghost use Rattle.std.specs.Prelude.{◌≡◌, ◌↔◌, ◌≤◌};
 ghost use Rattle.krb_carry.specs.Place.{moved, outcome_of};
 ghost use Rattle.krb_carry.specs.declared.place.Missed.TheVariants as misses;
-ghost use Rattle.krb_c.specs.Place.{CanTake, outcome_number, place_told, told_place, told_taken};
+ghost use Rattle.krb_carrier_structs.specs.Place.{CanTake, outcome_number, place_told, told_place, told_taken};
 
-use crate::place::{KrbPlace, KrbTaken, number_of};
+use krb_carrier_structs::{KrbPlace, KrbTaken, number_of};
 use krb_structs::Fault;
 
 /// A receiver took a frame at this offset: tells what for, and moves the place.

@@ -4,9 +4,9 @@
 
 ghost use Rattle.std.specs.Prelude.{◌≡◌, ◌↔◌, ◌+◌, ◌≤◌};
 ghost use Rattle.krb_carry.specs.Progress.{Confirm, Counts, Publish, Rewind, Store, after, resumed};
-ghost use Rattle.krb_c.specs.Progress.{CanPublish, CanStore, IsProgress, told_progress};
+ghost use Rattle.krb_carrier_structs.specs.Progress.{CanPublish, CanStore, IsProgress, told_progress};
 
-use crate::progress::KrbProgress;
+use krb_carrier_structs::KrbProgress;
 use krb_carry::Progress;
 use krb_structs::Fault;
 

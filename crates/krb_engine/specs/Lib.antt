@@ -1,5 +1,6 @@
 pub mod Limits
 pub mod SendingState
+pub mod Parts
 pub mod Sending
 pub mod Receiving
 pub mod Calls

@@ -18,12 +18,14 @@
 #![tactic(auto)]
 
 mod laws;
+mod parts;
 mod receiving;
 mod sending;
 mod shards;
 mod stream;
 
 pub use laws::{receiving_laws, sending_laws};
+pub use parts::SendingParts;
 pub use receiving::{Receiving, Row, Seen};
 pub use sending::{Asks, Command, Ended, Heard, Sending, Stands};
 pub use shards::{Flow, Read, Reading, Spot, shard_laws};

@@ -1,12 +1,14 @@
 //! One session's end at a sender.
 
-ghost use Rattle.std.specs.Prelude.{◌≡◌, ◌↔◌, ◌+◌, ◌-◌, ◌<◌, ◌≤◌, ◌^◌, IsTrue, if◌then◌else◌, ◌≢◌};
+ghost use Rattle.std.specs.Prelude.{◌≡◌, ◌↔◌, ◌+◌, ◌-◌, ◌<◌, ◌≤◌, ◌^◌, IfSome, IsSome, IsTrue, if◌then◌else◌, ◌≢◌};
 ghost use Rattle.krb_carry.specs.Progress.{Counts};
 ghost use Rattle.krb_copies.specs.Receipt.{Finds};
 ghost use Rattle.krb_engine.specs.Sending.{ask_end, batch, begins, confirmed, found, heard_of, heeded, is_asked, is_free, is_settled, is_unanswered, listed, loaded, looked, may_ask, next_ask, probed, published, reconnected, recovery_room, sealed, sealing_room, settled, stands, wake_time};
+ghost use Rattle.krb_engine.specs.Parts.{end_of_parts};
 ghost use Rattle.krb_engine.specs.SendingState.{IsEnd};
 ghost use Rattle.krb_engine.specs.Calls.{Hears, IsProbe, Serves};
 
+use crate::SendingParts;
 use krb_carry::Progress;
 use krb_copies::{Finding, Receipt, compare_receipt};
 use krb_history::HISTORY_SIZE;
@@ -148,6 +150,53 @@ impl Sending {
             probe: Pause::begin(PROBE, now),
             is_answered: false,
             ended: None,
+        }
+    }
+
+    /// The end that has these parts, if there is one: what took effect counts as carried, what is carried as
+    /// published, and only stored frames are published.
+    pub fn restore(parts: &SendingParts) -> Option<Sending>
+        ensures variant { IsSome result ↔ IsEnd (end_of_parts parts.now) }
+        ensures value { IfSome result (λ sending. sending ≡ end_of_parts parts.now) }
+    {
+        if parts.done > parts.carried || parts.window == 0 {
+            return None;
+        }
+        Some(Sending {
+            progress: Progress::restore(parts.next, parts.carried, parts.at, parts.sent)?,
+            done: parts.done,
+            list: parts.list,
+            recovers: parts.recovers,
+            window: parts.window,
+            ask: parts.ask,
+            is_held: parts.is_held,
+            again: parts.again,
+            probe: parts.probe,
+            is_answered: parts.is_answered,
+            ended: parts.ended,
+        })
+    }
+
+    /// All that it is.
+    pub fn parts(&self) -> SendingParts
+        ensures value { end_of_parts result ≡ self.now }
+        ensures end { IsEnd self.now }
+    {
+        SendingParts {
+            next: self.progress.next(),
+            carried: self.progress.carried(),
+            at: self.progress.at(),
+            sent: self.progress.sent(),
+            done: self.done,
+            list: self.list,
+            recovers: self.recovers,
+            window: self.window,
+            ask: self.ask,
+            is_held: self.is_held,
+            again: self.again,
+            probe: self.probe,
+            is_answered: self.is_answered,
+            ended: self.ended,
         }
     }
 

@@ -4,7 +4,8 @@ use krb_carry::Outcome;
 use krb_copies::Receipt;
 use krb_engine::{
     Asks, Command, Ended, Flow, Head, Heard, Judged, Opening, Read, Reading, Receiving, Row, Seen,
-    Sending, Spot, Stands, judge, receiving_laws, sending_laws, shard_laws, stream_laws,
+    Sending, SendingParts, Spot, Stands, judge, receiving_laws, sending_laws, shard_laws,
+    stream_laws,
 };
 use krb_queue::{Pause, Queue, pause_laws, queue_laws};
 use std::test::Fail;
@@ -84,6 +85,49 @@ fn frames_leave_until_the_window_is_full(rt: HostRuntime) {
         Command::Publish { from: 0, count: 8 }
     );
     sending_laws();
+}
+
+#[test]
+fn an_end_is_kept_by_its_parts(rt: HostRuntime) -> Result<(), Fail> {
+    let mut sending = Sending::load(6, 2, 9, 1, 5, 100);
+    assert_eq!(rt;
+        sending.serve(3, 100),
+        Command::Publish { from: 2, count: 3 }
+    );
+    let parts = sending.parts();
+    assert_eq!(rt; parts.next, 6);
+    assert_eq!(rt; parts.carried, 2);
+    assert_eq!(rt; parts.at, 9);
+    assert_eq!(rt; parts.sent, 5);
+    assert_eq!(rt; parts.done, 1);
+    assert_eq!(rt; parts.list, 5);
+    assert_eq!(rt; parts.recovers, 1);
+    assert_eq!(rt; parts.window, 16);
+    assert_eq!(rt; parts.ask, None);
+    assert!(rt; !parts.is_held && !parts.is_answered);
+    assert_eq!(rt; parts.again, Pause::begin(2_000, 100));
+    assert_eq!(rt; parts.probe, Pause::begin(5_000, 100));
+    assert_eq!(rt; parts.ended, None);
+    let mut again = Sending::restore(&parts)?;
+    assert_eq!(rt; again.serve(8, 100), Command::Publish { from: 5, count: 1 });
+    // what took effect was carried, what is carried was published, and only what is stored is published
+    for (done, carried, sent, next, window) in [
+        (3, 2, 5, 6, 16),
+        (1, 6, 5, 6, 16),
+        (1, 2, 7, 6, 16),
+        (1, 2, 5, 6, 0),
+    ] {
+        let wrong = SendingParts {
+            done,
+            carried,
+            sent,
+            next,
+            window,
+            ..parts
+        };
+        assert!(rt; Sending::restore(&wrong).is_none());
+    }
+    Ok(())
 }
 
 #[test]

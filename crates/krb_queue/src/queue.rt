@@ -1,6 +1,6 @@
 //! The sessions that have something to do, in the order in which they are served.
 
-ghost use Rattle.std.specs.Prelude.{◌≡◌, ◌++◌, ◌↔◌, ◌≤◌, [], length, vec_len, IfOk, IsTrue, IsSome, OnErr, OnOk, option_to_list};
+ghost use Rattle.std.specs.Prelude.{◌≡◌, ◌++◌, ◌↔◌, ◌≤◌, [], length, vec_len, IfOk, IsNone, IsTrue, IsSome, OnErr, OnOk, option_to_list};
 ghost use Rattle.krb_queue.specs.Queue.{SameMarks, with_session};
 ghost use Rattle.krb_queue.specs.Laws.{EachWaitsOnce, NoneIsLost, NoneOvertakes, ServedInTurn};
 
@@ -70,7 +70,8 @@ impl Queue {
 
     /// The session that is served next: it waits no longer.
     pub fn serve(&mut self) -> Option<u32>
-        ensures { self.old ≡ option_to_list result ++ self.new }
+        ensures first { self.old ≡ option_to_list result ++ self.new }
+        ensures none { IsNone result ↔ (self.old ≡ []) }
     {
         let session = self.order.pop_front()?;
         self.waits[session as usize] = false;

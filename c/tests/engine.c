@@ -1,0 +1,412 @@
+/* The ends of a carrier: each call once with what docs/ENGINE.md says of it, structs that are no end, and
+ * as many idle sessions as a sender may have. The values are written from the document, and from the tables
+ * of limits of crates/krb_engine/specs/Limits.antt.
+ *
+ *     engine [SESSIONS] */
+#include "check.h"
+#include "krbrelay.h"
+
+#include <stdlib.h>
+#include <string.h>
+#include <time.h>
+
+#define IS(call) CHECK((call) == KRBRELAY_OK)
+#define IS_NOT(call) CHECK((call) == KRBRELAY_ARGUMENT)
+
+static const uint8_t own[KRBRELAY_HISTORY_SIZE] = { 1 }, other[KRBRELAY_HISTORY_SIZE] = { 2 };
+
+static int is_command(struct krbrelay_sending *sending, uint64_t room, uint64_t now,
+                      struct krbrelay_command wanted)
+{
+    struct krbrelay_command told = { 9, 9, 9, 9, 9 };
+    return krbrelay_sending_serve(sending, room, now, &told) == KRBRELAY_OK
+           && told.kind == wanted.kind && told.number == wanted.number && told.count == wanted.count
+           && told.at == wanted.at && told.opening == wanted.opening;
+}
+
+static struct krbrelay_command publish(uint64_t number, uint64_t count)
+{
+    return (struct krbrelay_command){ .kind = KRBRELAY_COMMAND_PUBLISH, .number = number, .count = count };
+}
+
+static struct krbrelay_command probe(uint64_t number, uint32_t opening)
+{
+    return (struct krbrelay_command){ .kind = KRBRELAY_COMMAND_PROBE, .number = number, .opening = opening };
+}
+
+static struct krbrelay_command wake(uint64_t at)
+{
+    return (struct krbrelay_command){ .kind = KRBRELAY_COMMAND_WAKE, .at = at };
+}
+
+static const struct krbrelay_command idle;
+
+static struct krbrelay_receipt receipt(uint64_t number, const uint8_t *history, uint32_t asks)
+{
+    struct krbrelay_receipt it = { .number = number, .asks = asks };
+    memcpy(it.history, history, sizeof it.history);
+    return it;
+}
+
+static uint32_t hears(struct krbrelay_sending *sending, uint64_t number, const uint8_t *history,
+                      uint32_t asks, uint64_t now)
+{
+    struct krbrelay_receipt it = receipt(number, history, asks);
+    uint32_t heard = 99;
+    return krbrelay_sending_receipt(sending, &it, own, now, &heard) == KRBRELAY_OK ? heard : 99;
+}
+
+struct state {
+    uint64_t under_way, room;
+    uint32_t settled, stands;
+};
+
+static struct state state(const struct krbrelay_sending *sending)
+{
+    struct state it = { 99, 99, 99, 99 };
+    IS(krbrelay_sending_state(sending, &it.under_way, &it.room, &it.settled, &it.stands));
+    return it;
+}
+
+/* ---- a session's end at a sender */
+
+static void publishes(void)
+{
+    struct krbrelay_sending s;
+    uint32_t told = 99;
+    IS(krbrelay_sending_load(&s, 0, 0, 0, 0, 5, 0));
+    CHECK(is_command(&s, 256, 0, idle));
+    CHECK(state(&s).settled == 1 && state(&s).room == 16 && state(&s).stands == KRBRELAY_STANDS_NOT);
+    IS(krbrelay_sending_sealed(&s, 20));
+    CHECK(is_command(&s, 256, 0, publish(0, 8)));
+    CHECK(is_command(&s, 3, 0, publish(8, 3)));
+    CHECK(is_command(&s, 256, 0, publish(11, 5)));
+    CHECK(state(&s).under_way == 16 && state(&s).settled == 0 && state(&s).room == 0);
+    CHECK(is_command(&s, 256, 0, wake(2000)));
+    IS(krbrelay_sending_confirmed(&s, 0, 1, 100, &told));
+    CHECK(told == 1 && s.progress.carried == 1);
+    IS(krbrelay_sending_confirmed(&s, 0, 2, 100, &told));
+    CHECK(told == 0 && s.progress.carried == 1);
+    CHECK(is_command(&s, 256, 100, publish(16, 1)));
+    CHECK(is_command(&s, 256, 2099, wake(2100)));
+    CHECK(is_command(&s, 256, 2100, publish(1, 8)));
+    CHECK(state(&s).stands == KRBRELAY_STANDS_UNCONFIRMED);
+    IS(krbrelay_sending_reconnected(&s));
+    CHECK(is_command(&s, 256, 2200, publish(1, 8)));
+    IS(krbrelay_sending_listed(&s, 5, &told));
+    CHECK(told == 0 && s.list == 5);
+    IS(krbrelay_sending_listed(&s, 6, &told));
+    CHECK(told == 1 && s.list == 6);
+    CHECK(is_command(&s, 256, 2300, publish(0, 8)));
+}
+
+static void hears_receipts(void)
+{
+    struct krbrelay_sending s;
+    uint32_t told = 99;
+    IS(krbrelay_sending_load(&s, 4, 4, 9, 0, 5, 0));
+    CHECK(is_command(&s, 256, 4999, wake(5000)));
+    CHECK(is_command(&s, 256, 5000, probe(3, 1)));
+    CHECK(is_command(&s, 256, 5000, wake(15000)));
+    CHECK(hears(&s, 2, own, KRBRELAY_ASKS_NOTHING, 6000) == KRBRELAY_HEARD_DELIVERED && s.done == 2);
+    CHECK(hears(&s, 2, own, KRBRELAY_ASKS_NOTHING, 6000) == KRBRELAY_HEARD_NOTHING);
+    CHECK(hears(&s, 2, own, KRBRELAY_ASKS_MISSING, 6100) == KRBRELAY_HEARD_NOTHING);
+    CHECK(is_command(&s, 256, 6100, publish(2, 1)));
+    IS(krbrelay_sending_confirmed(&s, 2, 10, 6200, &told));
+    CHECK(hears(&s, 2, own, KRBRELAY_ASKS_REFUSED, 6300) == KRBRELAY_HEARD_NOTHING && s.progress.carried == 3);
+    CHECK(hears(&s, 2, own, KRBRELAY_ASKS_REFUSED, 10100) == KRBRELAY_HEARD_NOTHING);
+    CHECK(is_command(&s, 256, 10100, wake(18100)) && state(&s).stands == KRBRELAY_STANDS_REFUSED);
+    CHECK(is_command(&s, 256, 18100, publish(2, 1)));
+    CHECK(hears(&s, 4, own, KRBRELAY_ASKS_NOTHING, 18200) == KRBRELAY_HEARD_DELIVERED);
+    CHECK(s.done == 4 && is_command(&s, 256, 18200, idle) && state(&s).settled == 1);
+}
+
+static void stops(uint64_t number, const uint8_t *history, uint32_t ended, uint32_t stands)
+{
+    struct krbrelay_sending s;
+    IS(krbrelay_sending_load(&s, 4, 4, 9, 0, 5, 0));
+    CHECK(hears(&s, number, history, KRBRELAY_ASKS_NOTHING, 1) == KRBRELAY_HEARD_ENDED);
+    CHECK(s.ended == ended && s.done == 0 && state(&s).stands == stands);
+    CHECK(is_command(&s, 256, 9000, idle) && state(&s).room == 0 && state(&s).settled == 1);
+    CHECK(hears(&s, 2, own, KRBRELAY_ASKS_NOTHING, 9000) == KRBRELAY_HEARD_NOTHING && s.done == 0);
+}
+
+/* Each call refuses the struct, and leaves it and what it tells. */
+static void refuses(struct krbrelay_sending it)
+{
+    struct krbrelay_sending s = it;
+    struct krbrelay_command command = { 9, 9, 9, 9, 9 };
+    struct krbrelay_receipt said = receipt(1, own, KRBRELAY_ASKS_NOTHING);
+    struct state told = { 99, 99, 99, 99 };
+    uint32_t flag = 99;
+    IS_NOT(krbrelay_sending_sealed(&s, 1));
+    IS_NOT(krbrelay_sending_confirmed(&s, 0, 1, 0, &flag));
+    IS_NOT(krbrelay_sending_listed(&s, 1, &flag));
+    IS_NOT(krbrelay_sending_reconnected(&s));
+    IS_NOT(krbrelay_sending_receipt(&s, &said, own, 0, &flag));
+    IS_NOT(krbrelay_sending_serve(&s, 8, 0, &command));
+    IS_NOT(krbrelay_sending_state(&s, &told.under_way, &told.room, &told.settled, &told.stands));
+    CHECK(memcmp(&s, &it, sizeof s) == 0 && flag == 99 && command.kind == 9);
+    CHECK(told.under_way == 99 && told.room == 99 && told.settled == 99 && told.stands == 99);
+}
+
+static void no_ends(void)
+{
+    struct krbrelay_sending s, it;
+    struct krbrelay_receipt said = receipt(1, own, 0);
+    uint32_t heard = 99;
+    memset(&s, 7, sizeof s);
+    it = s;
+    IS_NOT(krbrelay_sending_load(&s, 4, 3, 0, 4, 5, 0));
+    IS_NOT(krbrelay_sending_load(&s, 4, 5, 0, 4, 5, 0));
+    CHECK(memcmp(&s, &it, sizeof s) == 0);
+    IS(krbrelay_sending_load(&s, 4, 3, 9, 2, 5, 0));
+    it = s, it.done = 4, refuses(it);
+    it = s, it.progress.carried = 4, refuses(it);
+    it = s, it.progress.sent = 5, refuses(it);
+    it = s, it.window = 0, refuses(it);
+    for (uint32_t ended = 3; ended; ended <<= 1)
+        it = s, it.ended = ended, refuses(it);
+    it = s;
+    for (uint32_t asks = 4; asks; asks <<= 1) {
+        said.asks = asks;
+        IS_NOT(krbrelay_sending_receipt(&it, &said, own, 0, &heard));
+    }
+    said.asks = 0;
+    IS_NOT(krbrelay_sending_receipt(&it, &said, own, 0, &heard));
+    IS_NOT(krbrelay_sending_sealed(&it, UINT64_MAX - 3));
+    CHECK(memcmp(&s, &it, sizeof s) == 0 && heard == 99);
+    IS(krbrelay_sending_sealed(&it, UINT64_MAX - 4));
+    CHECK(it.progress.next == UINT64_MAX);
+}
+
+/* ---- a shard at a sender, and whose turn it is */
+
+static void flows(void)
+{
+    struct krbrelay_flow flow = KRBRELAY_INIT, before;
+    uint64_t room = 99;
+    IS(krbrelay_flow_room(&flow, &room));
+    CHECK(room == 0);
+    flow.has_list = 1;
+    IS(krbrelay_flow_room(&flow, &room));
+    CHECK(room == 256);
+    IS(krbrelay_flow_moved(&flow, 0, 200));
+    IS(krbrelay_flow_moved(&flow, 8, 20));
+    IS(krbrelay_flow_room(&flow, &room));
+    CHECK(room == 44 && flow.under_way == 212);
+    IS(krbrelay_flow_moved(&flow, 0, 99));
+    IS(krbrelay_flow_room(&flow, &room));
+    CHECK(room == 0 && flow.under_way == 311);
+    before = flow;
+    IS_NOT(krbrelay_flow_moved(&flow, 312, 0));
+    IS_NOT(krbrelay_flow_moved(&flow, 0, UINT64_MAX - 310));
+    flow.reserved = before.reserved = 1;
+    room = 99;
+    IS_NOT(krbrelay_flow_moved(&flow, 0, 1));
+    IS_NOT(krbrelay_flow_room(&flow, &room));
+    CHECK(memcmp(&flow, &before, sizeof flow) == 0 && room == 99);
+}
+
+static void pauses(void)
+{
+    struct krbrelay_pause pause;
+    krbrelay_pause_begin(&pause, 2000, 10000);
+    CHECK(krbrelay_pause_is_over(&pause, 11999) == 0 && krbrelay_pause_is_over(&pause, 12000) == 1);
+    CHECK(krbrelay_pause_is_over(&pause, 9000) == 0 && krbrelay_pause_end(&pause) == 12000);
+    krbrelay_pause_grow(&pause, 5000, 12000);
+    CHECK(krbrelay_pause_end(&pause) == 16000);
+    krbrelay_pause_grow(&pause, 5000, 16000);
+    CHECK(krbrelay_pause_end(&pause) == 21000);
+    krbrelay_pause_begin(&pause, UINT64_MAX, 1);
+    CHECK(krbrelay_pause_end(&pause) == UINT64_MAX && krbrelay_pause_is_over(&pause, UINT64_MAX) == 0);
+}
+
+static void queues(void)
+{
+    struct krbrelay_queue queue = KRBRELAY_INIT;
+    uint32_t session = 99;
+    CHECK(krbrelay_queue_len(&queue) == 0 && krbrelay_queue_serve(&queue, &session) == 0 && session == 99);
+    IS(krbrelay_queue_ready(&queue, 7));
+    IS(krbrelay_queue_ready(&queue, 2));
+    IS(krbrelay_queue_ready(&queue, 7));
+    CHECK(krbrelay_queue_len(&queue) == 2);
+    CHECK(krbrelay_queue_serve(&queue, &session) == 1 && session == 7);
+    IS(krbrelay_queue_ready(&queue, 7));
+    CHECK(krbrelay_queue_serve(&queue, &session) == 1 && session == 2);
+    CHECK(krbrelay_queue_serve(&queue, &session) == 1 && session == 7);
+    CHECK(krbrelay_queue_serve(&queue, &session) == 0 && session == 7);
+    IS(krbrelay_queue_ready(&queue, 1));
+    krbrelay_queue_free(&queue);
+    CHECK(krbrelay_queue_len(&queue) == 0 && queue.count == 0);
+    krbrelay_queue_free(&queue);
+}
+
+/* ---- a receiver */
+
+static uint32_t takes(struct krbrelay_receiving *r, const char *frame, struct krbrelay_seen seen)
+{
+    uint32_t outcome = 99;
+    return krbrelay_receiving_take(r, (const uint8_t *)frame, strlen(frame), &seen, &outcome) == KRBRELAY_OK
+           ? outcome : 99;
+}
+
+static int answers(struct krbrelay_receiving *r, uint64_t now, uint64_t number, const uint8_t *history,
+                   uint32_t asks)
+{
+    struct krbrelay_receipt told = { .number = 99, .asks = 99 };
+    if (krbrelay_receiving_receipt(r, now, &told) != KRBRELAY_OK)
+        return 0;
+    return told.asks == asks
+           && (asks == 0 || (told.number == number && memcmp(told.history, history, sizeof told.history) == 0));
+}
+
+static void receives(void)
+{
+    static const struct krbrelay_seen accepted = { .accepted = 1 }, close = { .accepted = 1, .is_close = 1 },
+        below = { .opened = 6, .has_opened = 1 }, above = { .opened = 9, .has_opened = 1 },
+        at = { .opened = 7, .has_opened = 1 }, nobodys = { .opened = 7 };
+    struct krbrelay_row row = { .number = 7 };
+    struct krbrelay_receiving r;
+    uint8_t after[KRBRELAY_HISTORY_SIZE] = { 0 };
+    IS(krbrelay_history_add(after, (const uint8_t *)"a frame", 7));
+    krbrelay_receiving_load(&r, &row, 1000);
+    CHECK(answers(&r, 1000, 0, NULL, 0));
+    CHECK(takes(&r, "x", nobodys) == KRBRELAY_OUTCOME_UNKNOWN && r.owed == 0 && r.is_open == 1);
+    CHECK(takes(&r, "x", below) == KRBRELAY_OUTCOME_REPEAT && r.owed == KRBRELAY_ASKS_NOTHING);
+    CHECK(takes(&r, "x", above) == KRBRELAY_OUTCOME_EARLY && r.owed == KRBRELAY_ASKS_MISSING);
+    CHECK(takes(&r, "x", at) == KRBRELAY_OUTCOME_UNSETTLED && r.owed == KRBRELAY_ASKS_REFUSED);
+    CHECK(takes(&r, "x", above) == KRBRELAY_OUTCOME_EARLY && r.owed == KRBRELAY_ASKS_REFUSED);
+    CHECK(r.drafted.number == 7 && answers(&r, 1000, 0, NULL, 0));
+    CHECK(takes(&r, "a frame", accepted) == KRBRELAY_OUTCOME_ACCEPTED);
+    CHECK(r.drafted.number == 8 && memcmp(r.drafted.history, after, sizeof after) == 0 && r.stored.number == 7);
+    IS(krbrelay_receiving_stored(&r));
+    CHECK(r.stored.number == 8 && r.is_open == 0);
+    CHECK(answers(&r, 1000, 8, after, KRBRELAY_ASKS_NOTHING) && answers(&r, 1000, 0, NULL, 0));
+    CHECK(takes(&r, "x", close) == KRBRELAY_OUTCOME_ACCEPTED && r.drafted.closed == 1);
+    CHECK(takes(&r, "x", accepted) == KRBRELAY_OUTCOME_REPEAT);
+    IS(krbrelay_receiving_dropped(&r));
+    CHECK(r.drafted.number == 8 && r.drafted.closed == 0 && r.owed == 0 && answers(&r, 5000, 0, NULL, 0));
+    CHECK(takes(&r, "x", below) == KRBRELAY_OUTCOME_REPEAT);
+    IS(krbrelay_receiving_stored(&r));
+    CHECK(answers(&r, 1199, 0, NULL, 0) && answers(&r, 1200, 8, after, KRBRELAY_ASKS_NOTHING));
+}
+
+static void no_receivers(void)
+{
+    struct krbrelay_row row = { .number = UINT64_MAX };
+    struct krbrelay_receiving r, before;
+    struct krbrelay_receipt told = { .asks = 99 };
+    krbrelay_receiving_load(&r, &row, 0);
+    before = r;
+    CHECK(takes(&r, "x", (struct krbrelay_seen){ .accepted = 1 }) == 99);
+    r.stored.number = r.drafted.number = before.stored.number = before.drafted.number = 7;
+    CHECK(takes(&r, "x", (struct krbrelay_seen){ .accepted = 1, .reserved = 1 }) == 99);
+    for (uint32_t owed = 4; owed; owed <<= 1) {
+        r.owed = before.owed = owed;
+        CHECK(takes(&r, "x", (struct krbrelay_seen){ .accepted = 1 }) == 99);
+        IS_NOT(krbrelay_receiving_stored(&r));
+        IS_NOT(krbrelay_receiving_dropped(&r));
+        IS_NOT(krbrelay_receiving_receipt(&r, 0, &told));
+        CHECK(memcmp(&r, &before, sizeof r) == 0 && told.asks == 99);
+    }
+}
+
+static uint32_t reads(struct krbrelay_reading *reading, uint64_t list, uint64_t last, uint64_t count)
+{
+    uint32_t read = 99;
+    return krbrelay_reading_frames(reading, list, last, count, &read) == KRBRELAY_OK ? read : 99;
+}
+
+static void readings(void)
+{
+    struct krbrelay_reading r, before;
+    krbrelay_reading_load(&r, 5, 10);
+    CHECK(reads(&r, 5, 10, 0) == KRBRELAY_READ_NOTHING);
+    CHECK(reads(&r, 5, 14, 4) == KRBRELAY_READ_TAKE && r.read.offset == 14 && r.stored.offset == 10);
+    CHECK(reads(&r, 5, 20, 6) == KRBRELAY_READ_NOTHING && r.read.offset == 14);
+    IS(krbrelay_reading_stored(&r));
+    CHECK(r.stored.offset == 14 && r.is_open == 0);
+    CHECK(reads(&r, 5, 3, 0) == KRBRELAY_READ_ELSEWHERE && r.read.offset == 3 && r.stored.offset == 14);
+    CHECK(reads(&r, 6, 9, 2) == KRBRELAY_READ_ELSEWHERE && r.read.list == 6 && r.read.offset == 0);
+    before = r;
+    r.read.offset = before.read.offset = 5;
+    CHECK(reads(&r, 6, 9, UINT64_MAX - 4) == 99);
+    r.reserved = before.reserved = 1;
+    CHECK(reads(&r, 6, 9, 1) == 99);
+    IS_NOT(krbrelay_reading_stored(&r));
+    CHECK(memcmp(&r, &before, sizeof r) == 0);
+}
+
+static uint32_t judges(struct krbrelay_head head, struct krbrelay_opening opening)
+{
+    uint32_t judged = 99;
+    return krbrelay_judge(&head, &opening, &judged) == KRBRELAY_OK ? judged : 99;
+}
+
+static void openings(void)
+{
+    const struct krbrelay_head none = KRBRELAY_INIT;
+    struct krbrelay_head head = { .turn = 3, .number = 9, .history = { 1 }, .closed = 1 };
+    struct krbrelay_opening next = { .turn = 4, .number = 9, .history = { 1 } }, it = next;
+    CHECK(judges(none, (struct krbrelay_opening){ .turn = 1 }) == KRBRELAY_JUDGED_BEGINS);
+    CHECK(judges(none, (struct krbrelay_opening){ .turn = 2 }) == KRBRELAY_JUDGED_LATER);
+    CHECK(judges(head, next) == KRBRELAY_JUDGED_BEGINS);
+    it.turn = 5;
+    CHECK(judges(head, it) == KRBRELAY_JUDGED_LATER);
+    it.turn = 3;
+    CHECK(judges(head, it) == KRBRELAY_JUDGED_FORKED);
+    it = next, it.number = 8;
+    CHECK(judges(head, it) == KRBRELAY_JUDGED_FORKED);
+    it = next, memcpy(it.history, other, sizeof other);
+    CHECK(judges(head, it) == KRBRELAY_JUDGED_FORKED);
+    it = next, it.reserved = 1;
+    CHECK(judges(head, it) == 99);
+    head.closed = 0;
+    CHECK(judges(head, next) == KRBRELAY_JUDGED_LATER);
+}
+
+/* ---- many sessions */
+
+static double seconds(void)
+{
+    struct timespec now;
+    clock_gettime(CLOCK_MONOTONIC, &now);
+    return (double)now.tv_sec + (double)now.tv_nsec / 1e9;
+}
+
+/* Idle ones cost their bytes, and a turn of each is one call. */
+static void many(size_t count)
+{
+    struct krbrelay_sending *sessions = calloc(count, sizeof *sessions);
+    size_t are_idle = 0;
+    double start = seconds(), took;
+    CHECK(sizeof *sessions + 1 <= 210 && sizeof(struct krbrelay_receiving) <= 210);
+    for (size_t i = 0; sessions != NULL && i < count; i++)
+        IS(krbrelay_sending_load(&sessions[i], 3, 3, 9, 3, 5, 0));
+    for (size_t i = 0; sessions != NULL && i < count; i++)
+        are_idle += (size_t)is_command(&sessions[i], 8, 1000, idle);
+    CHECK(are_idle == count);
+    took = seconds() - start;
+    printf("%zu idle sessions of %zu bytes: %.0f calls a second\n", count, sizeof *sessions,
+           2 * (double)count / took);
+    free(sessions);
+}
+
+int main(int argc, char **argv)
+{
+    publishes();
+    hears_receipts();
+    stops(5, own, KRBRELAY_ENDED_OLDER, KRBRELAY_STANDS_OLDER);
+    stops(3, other, KRBRELAY_ENDED_FORKED, KRBRELAY_STANDS_FORKED);
+    no_ends();
+    flows();
+    pauses();
+    queues();
+    receives();
+    no_receivers();
+    readings();
+    openings();
+    many(argc > 1 ? strtoul(argv[1], NULL, 10) : 100000);
+    return check_status("engine");
+}

@@ -1,0 +1,11 @@
+pub mod Numbers
+pub mod Pause
+pub mod Place
+pub mod Progress
+pub mod Command
+pub mod Receipt
+pub mod Sending
+pub mod Receiving
+pub mod Shards
+pub mod Stream
+pub mod Calls

@@ -1,0 +1,29 @@
+//! What both ends of a carrier keep, as flat structs of the caller's: what `krb_c` exports under C's
+//! names.
+//!
+//! Each struct tells a value of krb_carry, krb_queue or krb_engine, or none. A function that reads one
+//! answers the value, or `None` where the numbers tell none; one that makes a struct makes it of the value.
+//! An option is a flag beside its value, or a number that no value has. Any flag but 0 says yes.
+#![tactic(auto)]
+
+mod command;
+mod numbers;
+mod pause;
+mod place;
+mod progress;
+mod receipt;
+mod receiving;
+mod sending;
+mod shards;
+mod stream;
+
+pub use command::KrbCommand;
+pub use numbers::{number_of_heard, number_of_judged, number_of_read, number_of_stands};
+pub use pause::KrbPause;
+pub use place::{KrbPlace, KrbTaken, number_of};
+pub use progress::KrbProgress;
+pub use receipt::{KrbReceipt, receipt_told};
+pub use receiving::{KrbReceiving, KrbRow, KrbSeen};
+pub use sending::KrbSending;
+pub use shards::{KrbFlow, KrbReading, KrbSpot};
+pub use stream::{KrbHead, KrbOpening};

@@ -1,0 +1,4 @@
+pub mod Values
+pub mod HeldBox
+pub mod Pairs
+pub mod Crossing

@@ -1,0 +1,522 @@
+"""Both ends of a carrier as state machines: what a sender and a receiver do, without doing it.
+
+A program that brings its own broker and database passes in what happened, and does what it is told.
+No call waits or reads a clock: times are milliseconds of a clock that is never set. The sender is
+the only one that repeats, and a receipt is the only word that deletes.
+
+    sending = Sending(Stored(next=0, list=1), now)
+    sending.sealed(3)                           # three frames are stored
+    command = sending.serve(room=8, now=now)    # Publish(number=0, count=3)
+
+Each call is proved (krb_engine, krb_queue); docs/ENGINE.md has the events and the commands.
+"""
+from __future__ import annotations
+
+import enum
+import weakref
+from ctypes import Structure, byref, c_uint8, c_uint32, c_uint64
+from dataclasses import dataclass
+from typing import Any, Callable, NamedTuple, Optional, Tuple, Union
+
+from krbrelay.errors import check
+from krbrelay.library import (
+    HISTORY_SIZE, CommandStruct, FlowStruct, HandleStruct, HeadStruct, OpeningStruct, PauseStruct,
+    ReadingStruct, ReceiptStruct, ReceivingStruct, RowStruct, SeenStruct, SendingStruct, library)
+from krbrelay.values import Bytes, bytes_of, ranged
+
+NEVER = 2**64 - 1
+"""The time of a Wake that no pause ends."""
+
+
+# ---- what is told
+
+class Asks(enum.IntEnum):
+    """What a receipt asks for."""
+    NOTHING = 1
+    MISSING = 2
+    """A later frame came: the demanded one is missing."""
+    REFUSED = 3
+    """The demanded one was refused for a reason that may pass."""
+
+
+class Ended(enum.IntEnum):
+    """Why a session's end at a sender is stopped."""
+    OLDER = 1
+    """More took effect than this outbox has sealed: it is an older copy."""
+    FORKED = 2
+    """Other frames took effect than those of this outbox."""
+
+
+class Heard(enum.IntEnum):
+    """What a sender finds by a receipt."""
+    NOTHING = 0
+    DELIVERED = 1
+    """All frames below `done` took effect: they may be deleted."""
+    ENDED = 2
+    """The session is stopped."""
+
+
+class Stands(enum.IntEnum):
+    """Why a session stands, for whoever looks after it."""
+    OLDER = 1
+    FORKED = 2
+    REFUSED = 3
+    """Receivers refuse the first frame that isn't done."""
+    UNANSWERED = 4
+    """Two probes weren't answered."""
+    UNCONFIRMED = 5
+    """What was published wasn't confirmed in time."""
+
+
+class Outcome(enum.IntEnum):
+    """What a frame is taken for."""
+    ACCEPTED = 0
+    REPEAT = 1
+    EARLY = 2
+    UNKNOWN = 3
+    """It doesn't open: it is nobody's."""
+    UNSETTLED = 4
+    """The reason may pass."""
+
+
+class Read(enum.IntEnum):
+    """What a read of a shard results in."""
+    NOTHING = 0
+    ELSEWHERE = 1
+    """The list isn't what it was: read again, from `read` on."""
+    TAKE = 2
+    """The frames are for the next transaction, which compares what is stored and sets `read`."""
+
+
+class Judged(enum.IntEnum):
+    """What an opening is taken for."""
+    BEGINS = 0
+    LATER = 1
+    """Its turn comes later: it has to come again."""
+    FORKED = 2
+    """It doesn't continue what took effect."""
+
+
+@dataclass(frozen=True)
+class Publish:
+    """So many frames leave, in order, from this number on."""
+    number: int
+    count: int
+
+
+@dataclass(frozen=True)
+class Probe:
+    """The frame of this number leaves again, alone; after the session's opening, if it says so."""
+    number: int
+    opening: bool
+
+
+@dataclass(frozen=True)
+class Wake:
+    """Nothing is to be done before this time."""
+    at: int
+
+
+@dataclass(frozen=True)
+class Idle:
+    """Nothing is to be done until something happens."""
+
+
+Command = Union[Publish, Probe, Wake, Idle]
+
+
+@dataclass(frozen=True)
+class Receipt:
+    """What a receiver says of a session: all frames below this number took effect, and have this
+    digest (History)."""
+    number: int
+    history: bytes
+    asks: Asks = Asks.NOTHING
+
+
+class Stored(NamedTuple):
+    """What an outbox has of a session's end at a sender."""
+    next: int = 0
+    """The frames below this number are stored."""
+    carried: int = 0
+    """Those below this one count as carried,"""
+    at: int = 0
+    """the last of them at this offset,"""
+    done: int = 0
+    """and those below this one took effect."""
+    list: int = 0
+    """The list of the shard."""
+
+
+class Row(NamedTuple):
+    """What a store has of a session at a receiver."""
+    number: int = 0
+    """The number that is demanded."""
+    history: bytes = bytes(HISTORY_SIZE)
+    """The digest of all that took effect below it."""
+    closed: bool = False
+
+
+class Spot(NamedTuple):
+    """A place in a list of a shard: all up to the offset was taken."""
+    list: int
+    offset: int
+
+
+class Head(NamedTuple):
+    """The last session of a stream that a store has: which one it is, from 1 on, and the number
+    and the digest after all that took effect in it."""
+    turn: int
+    number: int
+    history: bytes
+    closed: bool
+
+
+class Opening(NamedTuple):
+    """What an opening says of its session: which one of the stream it is, from 1 on, and the number
+    and the digest after all that was sealed in the one before it."""
+    turn: int
+    number: int
+    history: bytes
+
+
+# ---- arguments
+
+def _number(name: str, number: int) -> int:
+    return ranged(name, number, 0, NEVER)
+
+
+def _digest(digest: Bytes) -> Any:
+    found = bytes_of("the digest", digest)
+    if len(found) != HISTORY_SIZE:
+        raise ValueError(f"the digest has {len(found)} bytes: it has to have {HISTORY_SIZE}")
+    return (c_uint8 * HISTORY_SIZE).from_buffer_copy(found)
+
+
+def _is_same(one: Structure, other: object) -> bool:
+    return type(one) is type(other) and bytes(one) == bytes(other)  # type: ignore[call-overload]
+
+
+# ---- pauses, and whose turn it is
+
+class Pause:
+    """When something is tried again: a pause that doubles up to a cap. ValueError, TypeError."""
+
+    def __init__(self, length: int, now: int) -> None:
+        self._struct = PauseStruct()
+        library().krbrelay_pause_begin(byref(self._struct), _number("the length", length),
+                                       _number("now", now))
+
+    def is_over(self, now: int) -> bool:
+        return bool(library().krbrelay_pause_is_over(byref(self._struct), _number("now", now)))
+
+    @property
+    def end(self) -> int:
+        """When it is over, and NEVER if that is sooner."""
+        found: int = library().krbrelay_pause_end(byref(self._struct))
+        return found
+
+    def grow(self, cap: int, now: int) -> None:
+        """The next pause begins: twice as long, up to the cap."""
+        library().krbrelay_pause_grow(byref(self._struct), _number("the cap", cap),
+                                      _number("now", now))
+
+
+class Queue:
+    """Sessions that have something to do, each once, first in and first out. A session is its place
+    in the caller's table, below 2**32. Its calls are one thread's."""
+
+    def __init__(self) -> None:
+        self._library, self._struct = library(), HandleStruct()
+        weakref.finalize(self, _free, self._library.krbrelay_queue_free, self._struct)
+
+    def ready(self, session: int) -> None:
+        """The session has something to do: it waits last, or where it waits already. ValueError,
+        TypeError, MemoryError."""
+        check(self._library.krbrelay_queue_ready(
+            byref(self._struct), ranged("the session", session, 0, 2**32 - 1)))
+
+    def serve(self) -> Optional[int]:
+        """The session that is served next, which waits no longer."""
+        session = c_uint32()
+        if self._library.krbrelay_queue_serve(byref(self._struct), byref(session)):
+            return session.value
+        return None
+
+    def __len__(self) -> int:
+        """How many sessions wait."""
+        found: int = self._library.krbrelay_queue_len(byref(self._struct))
+        return found
+
+
+def _free(free: Callable[..., Any], struct: HandleStruct) -> None:
+    free(byref(struct))
+
+
+# ---- a sender
+
+class Sending:
+    """One session's end at a sender: how far its frames are carried, below which number they took
+    effect, and what is to be done. The caller has the frames, in an outbox.
+
+    It begins with what was stored: what wasn't carried counts as not published. ValueError where
+    done is over carried, or that is over next.
+    """
+
+    def __init__(self, stored: Stored, now: int) -> None:
+        self._library, self._struct = library(), SendingStruct()
+        self._at = byref(self._struct)
+        if not stored.done <= stored.carried <= stored.next:
+            raise ValueError(f"{stored}: done is at most carried, and that at most next")
+        check(self._library.krbrelay_sending_load(
+            self._at, *(_number(name, getattr(stored, name)) for name in
+                        ("next", "carried", "at", "done", "list")), _number("now", now)))
+
+    def sealed(self, count: int) -> None:
+        """So many frames more are sealed and stored."""
+        if count > NEVER - self._struct.progress.next:
+            raise ValueError(f"{count} frames more have no numbers")
+        check(self._library.krbrelay_sending_sealed(self._at, _number("the count", count)))
+
+    def confirmed(self, number: int, offset: int, now: int) -> bool:
+        """A copy of the frame of this number stands at this offset of the list: whether it counts.
+        Nothing is deleted."""
+        counts = c_uint32()
+        check(self._library.krbrelay_sending_confirmed(
+            self._at, _number("the number", number), _number("the offset", offset),
+            _number("now", now), byref(counts)))
+        return bool(counts.value)
+
+    def listed(self, list_now: int) -> bool:
+        """The shard has this list: whether it had another one. Then all that isn't done leaves
+        again."""
+        other = c_uint32()
+        check(self._library.krbrelay_sending_listed(
+            self._at, _number("the list", list_now), byref(other)))
+        return bool(other.value)
+
+    def reconnected(self) -> None:
+        """The connection is a new one: what wasn't confirmed leaves again."""
+        check(self._library.krbrelay_sending_reconnected(self._at))
+
+    def receipt(self, receipt: Receipt, own: Bytes, now: int) -> Heard:
+        """A receiver says what took effect, and what it asks for. `own` is the digest of this
+        sender's own frames below the receipt's number. If that is above `next`, or isn't above
+        `done`, it isn't read."""
+        struct = ReceiptStruct(_number("the number", receipt.number), _digest(receipt.history),
+                               Asks(receipt.asks))
+        heard = c_uint32()
+        check(self._library.krbrelay_sending_receipt(
+            self._at, byref(struct), _digest(own), _number("now", now), byref(heard)))
+        return Heard(heard.value)
+
+    def serve(self, room: int, now: int) -> Command:
+        """It is the session's turn, and the shard has room for so many frames more: what is to be
+        done."""
+        told = CommandStruct()
+        check(self._library.krbrelay_sending_serve(
+            self._at, _number("the room", room), _number("now", now), byref(told)))
+        if told.kind == 1:
+            return Publish(told.number, told.count)
+        if told.kind == 2:
+            return Probe(told.number, bool(told.opening))
+        return Wake(told.at) if told.kind == 3 else Idle()
+
+    def _state(self) -> Tuple[int, int, bool, Optional[Stands]]:
+        under_way, room, settled, stands = c_uint64(), c_uint64(), c_uint32(), c_uint32()
+        check(self._library.krbrelay_sending_state(
+            self._at, byref(under_way), byref(room), byref(settled), byref(stands)))
+        return (under_way.value, room.value, bool(settled.value),
+                Stands(stands.value) if stands.value else None)
+
+    @property
+    def under_way(self) -> int:
+        """How many of its frames are under way."""
+        return self._state()[0]
+
+    @property
+    def sealing_room(self) -> int:
+        """How many frames more may be sealed."""
+        return self._state()[1]
+
+    @property
+    def is_settled(self) -> bool:
+        """Whether all is done, or it is stopped."""
+        return self._state()[2]
+
+    @property
+    def stands(self) -> Optional[Stands]:
+        """Why it stands, if it does."""
+        return self._state()[3]
+
+    @property
+    def done(self) -> int:
+        """The frames below this number took effect, and may be deleted."""
+        found: int = self._struct.done
+        return found
+
+    @property
+    def ended(self) -> Optional[Ended]:
+        """Why it is stopped, if it is."""
+        return Ended(self._struct.ended) if self._struct.ended else None
+
+    @property
+    def stored(self) -> Stored:
+        """What to store of it."""
+        progress = self._struct.progress
+        return Stored(progress.next, progress.carried, progress.at, self._struct.done,
+                      self._struct.list)
+
+    def __eq__(self, other: object) -> bool:
+        return isinstance(other, Sending) and _is_same(self._struct, other._struct)
+
+
+class Flow:
+    """A shard at a sender: the list that it has now, or None while it doesn't answer, and how many
+    frames of its sessions are under way."""
+
+    def __init__(self) -> None:
+        self._struct = FlowStruct()
+
+    @property
+    def list(self) -> Optional[int]:
+        return self._struct.list if self._struct.has_list else None
+
+    @list.setter
+    def list(self, list_now: Optional[int]) -> None:
+        self._struct.list = _number("the list", list_now or 0)
+        self._struct.has_list = list_now is not None
+
+    @property
+    def under_way(self) -> int:
+        found: int = self._struct.under_way
+        return found
+
+    @property
+    def room(self) -> int:
+        """How many frames more may be under way: none while the shard has no list."""
+        found = c_uint64()
+        check(library().krbrelay_flow_room(byref(self._struct), byref(found)))
+        return found.value
+
+    def moved(self, before: int, after: int) -> None:
+        """One of its sessions had so many frames under way, and has so many now."""
+        if before > self.under_way:
+            raise ValueError(f"{before} were under way: the shard has {self.under_way}")
+        check(library().krbrelay_flow_moved(byref(self._struct), _number("before", before),
+                                            _number("after", after)))
+
+
+# ---- a receiver
+
+class Receiving:
+    """One session's end at a receiver: what is demanded, as stored and as the transaction under way
+    would store it, and which receipt is owed. It begins with the store's row. ValueError,
+    TypeError."""
+
+    def __init__(self, row: Row, now: int) -> None:
+        self._library, self._struct = library(), ReceivingStruct()
+        self._at = byref(self._struct)
+        struct = RowStruct(_number("the number", row.number), _digest(row.history),
+                           bool(row.closed))
+        self._library.krbrelay_receiving_load(self._at, byref(struct), _number("now", now))
+
+    def take(self, frame: Bytes, *, accepted: bool, is_close: bool = False,
+             opened: Optional[int] = None) -> Outcome:
+        """A frame under the session's name is taken: what for. If it is accepted, its texts take
+        effect with the transaction. `accepted` says that it opens at the demanded number and passes
+        each check; if it doesn't, `opened` is the number at which it opens with no demands, or
+        None."""
+        content = bytes_of("the frame", frame)
+        if self._struct.drafted.number == NEVER:
+            raise ValueError(f"the number {NEVER} has none after it")
+        seen = SeenStruct(_number("opened", opened or 0), opened is not None, bool(accepted),
+                          bool(is_close))
+        outcome = c_uint32()
+        check(self._library.krbrelay_receiving_take(
+            self._at, content, len(content), byref(seen), byref(outcome)))
+        return Outcome(outcome.value)
+
+    def stored(self) -> None:
+        """The transaction took effect."""
+        check(self._library.krbrelay_receiving_stored(self._at))
+
+    def dropped(self) -> None:
+        """It had no effect, or nobody knows: what it took is read again."""
+        check(self._library.krbrelay_receiving_dropped(self._at))
+
+    def receipt(self, now: int) -> Optional[Receipt]:
+        """The receipt that leaves now. None leaves while a transaction is under way, or soon after
+        another one."""
+        struct = ReceiptStruct()
+        check(self._library.krbrelay_receiving_receipt(
+            self._at, _number("now", now), byref(struct)))
+        if struct.asks == 0:
+            return None
+        return Receipt(struct.number, bytes(struct.history), Asks(struct.asks))
+
+    @property
+    def row(self) -> Row:
+        """What is stored: a transaction compares it."""
+        return _row_of(self._struct.stored)
+
+    @property
+    def drafted(self) -> Row:
+        """What the transaction under way stores."""
+        return _row_of(self._struct.drafted)
+
+    def __eq__(self, other: object) -> bool:
+        return isinstance(other, Receiving) and _is_same(self._struct, other._struct)
+
+
+def _row_of(struct: RowStruct) -> Row:
+    return Row(struct.number, bytes(struct.history), bool(struct.closed))
+
+
+class Reading:
+    """A shard at a receiver: one transaction after another. It begins where the store says.
+    ValueError, TypeError."""
+
+    def __init__(self, stored: Spot) -> None:
+        self._struct = ReadingStruct()
+        library().krbrelay_reading_load(byref(self._struct), _number("the list", stored.list),
+                                        _number("the offset", stored.offset))
+
+    def frames(self, list_now: int, last: int, count: int) -> Read:
+        """So many frames came after `read`, from this list, which has so many items: what they are
+        for."""
+        if count > NEVER - self._struct.read.offset:
+            raise ValueError(f"{count} frames more have no offsets")
+        read = c_uint32()
+        check(library().krbrelay_reading_frames(
+            byref(self._struct), _number("the list", list_now), _number("the last offset", last),
+            _number("the count", count), byref(read)))
+        return Read(read.value)
+
+    def stored(self) -> None:
+        """The transaction took effect. If it didn't, or nobody knows, begin with what is stored."""
+        check(library().krbrelay_reading_stored(byref(self._struct)))
+
+    @property
+    def spot(self) -> Spot:
+        """What is stored: a transaction compares it."""
+        return Spot(self._struct.stored.list, self._struct.stored.offset)
+
+    @property
+    def read(self) -> Spot:
+        """Up to where it is read: the transaction under way stores it."""
+        return Spot(self._struct.read.list, self._struct.read.offset)
+
+
+def judge(head: Optional[Head], opening: Opening) -> Judged:
+    """What an opening is taken for, by the last session of its stream, if the store has one.
+    ValueError, TypeError."""
+    last = HeadStruct()
+    if head is not None:
+        last = HeadStruct(ranged("the turn", head.turn, 1, NEVER), _number("the number", head.number),
+                          _digest(head.history), bool(head.closed))
+    says = OpeningStruct(_number("the turn", opening.turn), _number("the number", opening.number),
+                         _digest(opening.history))
+    judged = c_uint32()
+    check(library().krbrelay_judge(byref(last), byref(says), byref(judged)))
+    return Judged(judged.value)

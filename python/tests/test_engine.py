@@ -1,0 +1,147 @@
+"""The ends of a carrier: what docs/ENGINE.md says of each call, and what they refuse."""
+import gc
+import unittest
+
+from krbrelay import History
+from krbrelay.engine import (
+    NEVER, Asks, Ended, Flow, Head, Heard, Idle, Judged, Opening, Outcome, Pause, Probe, Publish,
+    Queue, Read, Reading, Receipt, Receiving, Row, Sending, Spot, Stands, Stored, Wake, judge)
+
+OWN, OTHER, NONE = bytes([1]) * 20, bytes([2]) * 20, bytes(20)
+
+
+class Senders(unittest.TestCase):
+    def test_frames_leave_until_the_window_is_full(self):
+        sending = Sending(Stored(list=5), 0)
+        self.assertEqual((sending.serve(256, 0), sending.is_settled), (Idle(), True))
+        sending.sealed(20)
+        self.assertEqual(sending.serve(256, 0), Publish(0, 8))
+        self.assertEqual(sending.serve(3, 0), Publish(8, 3))
+        self.assertEqual(sending.serve(256, 0), Publish(11, 5))
+        self.assertEqual((sending.under_way, sending.sealing_room), (16, 0))
+        self.assertEqual(sending.serve(256, 0), Wake(2_000))
+        self.assertEqual([sending.confirmed(0, offset, 100) for offset in (1, 2)], [True, False])
+        self.assertEqual(sending.stored, Stored(20, 1, 1, 0, 5))
+        self.assertEqual(sending.serve(256, 2_100), Publish(1, 8))
+        self.assertEqual(sending.stands, Stands.UNCONFIRMED)
+        sending.reconnected()
+        self.assertEqual(sending.serve(256, 2_200), Publish(1, 8))
+        self.assertEqual([sending.listed(it) for it in (5, 6)], [False, True])
+        self.assertEqual(sending.serve(256, 2_300), Publish(0, 8))
+
+    def test_receipts_alone_settle(self):
+        sending = Sending(Stored(4, 4, 9, 0, 5), 0)
+        self.assertEqual(sending.serve(256, 5_000), Probe(3, True))
+        self.assertEqual(sending.receipt(Receipt(2, OWN), OWN, 6_000), Heard.DELIVERED)
+        self.assertEqual((sending.done, sending.stands), (2, None))
+        self.assertEqual(sending.receipt(Receipt(2, OWN), NONE, 6_000), Heard.NOTHING)
+        sending.receipt(Receipt(2, OWN, Asks.REFUSED), OWN, 6_100)
+        self.assertEqual((sending.serve(256, 6_100), sending.stands), (Wake(10_100), Stands.REFUSED))
+        self.assertEqual(sending.serve(256, 10_100), Publish(2, 1))
+
+    def test_stopped(self):
+        for number, history, ended in (5, OWN, Ended.OLDER), (3, OTHER, Ended.FORKED):
+            sending = Sending(Stored(4, 4, 9, 0, 5), 0)
+            self.assertEqual(sending.receipt(Receipt(number, history), OWN, 1), Heard.ENDED)
+            self.assertEqual((sending.ended, sending.stands), (ended, Stands[ended.name]))
+            self.assertEqual((sending.serve(256, 9_000), sending.is_settled), (Idle(), True))
+
+    def test_arguments(self):
+        for stored in Stored(1, 2), Stored(2, 1, 0, 2), Stored(2**64), Stored(-1, -1, 0, -1):
+            with self.assertRaises(ValueError):
+                Sending(stored, 0)
+        sending = Sending(Stored(3), 0)
+        with self.assertRaises(ValueError):
+            sending.sealed(NEVER - 2)
+        with self.assertRaises(ValueError):
+            sending.receipt(Receipt(1, OWN[1:]), OWN, 0)
+        with self.assertRaises(ValueError):
+            sending.receipt(Receipt(1, OWN, 4), OWN, 0)
+        for call in sending.sealed, sending.listed:
+            with self.assertRaises(TypeError):
+                call("7")
+        self.assertEqual(sending, Sending(Stored(3), 0))
+
+    def test_a_shard(self):
+        flow = Flow()
+        self.assertEqual((flow.list, flow.room), (None, 0))
+        flow.list = 0
+        flow.moved(0, 200)
+        self.assertEqual((flow.list, flow.under_way, flow.room), (0, 200, 56))
+        with self.assertRaises(ValueError):
+            flow.moved(201, 0)
+        flow.list = None
+        self.assertEqual((flow.list, flow.under_way, flow.room), (None, 200, 0))
+
+
+class Turns(unittest.TestCase):
+    def test_each_waits_once_and_in_order(self):
+        queue = Queue()
+        self.assertEqual((queue.serve(), len(queue)), (None, 0))
+        for session in 7, 2, 7:
+            queue.ready(session)
+        self.assertEqual(([queue.serve() for _ in range(3)], len(queue)), ([7, 2, None], 0))
+        for session in -1, 2**32:
+            with self.assertRaises(ValueError):
+                queue.ready(session)
+        queue.ready(1)
+        del queue
+        gc.collect()
+
+    def test_a_pause_doubles(self):
+        pause = Pause(2_000, 10_000)
+        self.assertEqual([pause.is_over(it) for it in (9_000, 11_999, 12_000)], [False, False, True])
+        ends = []
+        for now in 12_000, 16_000:
+            pause.grow(5_000, now)
+            ends.append(pause.end)
+        self.assertEqual((ends, Pause(NEVER, 1).end), ([16_000, 21_000], NEVER))
+
+
+class Receivers(unittest.TestCase):
+    def test_what_a_frame_is_taken_for(self):
+        end = Receiving(Row(7), 1_000)
+        for opened, outcome in ((None, Outcome.UNKNOWN), (6, Outcome.REPEAT), (9, Outcome.EARLY),
+                                (7, Outcome.UNSETTLED)):
+            self.assertEqual(end.take(b"x", accepted=False, opened=opened), outcome)
+        self.assertEqual(end.take(b"a frame", accepted=True), Outcome.ACCEPTED)
+        history = History()
+        history.add(b"a frame")
+        self.assertEqual((end.row, end.drafted), (Row(7), Row(8, history.digest)))
+        self.assertIsNone(end.receipt(9_000))
+        end.stored()
+        self.assertEqual(end.receipt(9_000), Receipt(8, history.digest))
+        self.assertIsNone(end.receipt(9_000))
+        self.assertEqual(end.take(b"y", accepted=True, is_close=True), Outcome.ACCEPTED)
+        self.assertEqual(end.take(b"z", accepted=True), Outcome.REPEAT)
+        end.dropped()
+        self.assertEqual((end.drafted, end.row), (Row(8, history.digest),) * 2)
+        with self.assertRaises(ValueError):
+            Receiving(Row(NEVER), 0).take(b"", accepted=True)
+
+    def test_a_shard(self):
+        reading = Reading(Spot(5, 10))
+        self.assertEqual(reading.frames(5, 14, 4), Read.TAKE)
+        self.assertEqual((reading.spot, reading.read), (Spot(5, 10), Spot(5, 14)))
+        self.assertEqual(reading.frames(5, 20, 6), Read.NOTHING)
+        reading.stored()
+        self.assertEqual((reading.frames(5, 3, 0), reading.read), (Read.ELSEWHERE, Spot(5, 3)))
+        self.assertEqual((reading.frames(6, 9, 2), reading.read), (Read.ELSEWHERE, Spot(6, 0)))
+        with self.assertRaises(ValueError):
+            Reading(Spot(5, 10)).frames(5, 10, NEVER - 9)
+
+    def test_openings(self):
+        head = Head(3, 9, OWN, True)
+        for last, opening, wanted in (
+                (None, Opening(1, 0, NONE), Judged.BEGINS), (None, Opening(2, 0, NONE), Judged.LATER),
+                (head, Opening(4, 9, OWN), Judged.BEGINS), (head, Opening(5, 9, OWN), Judged.LATER),
+                (head, Opening(3, 9, OWN), Judged.FORKED), (head, Opening(4, 8, OWN), Judged.FORKED),
+                (head, Opening(4, 9, OTHER), Judged.FORKED),
+                (head._replace(closed=False), Opening(4, 9, OWN), Judged.LATER)):
+            self.assertEqual(judge(last, opening), wanted)
+        with self.assertRaises(ValueError):
+            judge(head._replace(turn=0), Opening(1, 0, NONE))
+
+
+if __name__ == "__main__":
+    unittest.main()
