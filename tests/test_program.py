@@ -321,6 +321,43 @@ def test_what_was_sealed(t, texts, other):
           ''.join(f'{line}\n' for line in lines).encode())
 
 
+@named('key, words, data, status, after', RUNS.under_keys())
+def test_shown_under_a_key(t, tmp_path, key, words, data, status, after):
+    """The fields are those of `show` without a key, and what the key gives comes after them."""
+    file = tmp_path / 'key'
+    file.write_bytes(key)
+    fields = t.run(['show'], data)[1].decode().splitlines()
+    assert len(fields) == len(after)
+    lines = ''.join(f'{front}{back}\n' for front, back in zip(fields, after))
+    check(t.run(['show', '--key', str(file), *words], data), status, lines.encode(), b'')
+
+
+@named('key, words, told', RUNS.no_keys())
+def test_no_key(t, tmp_path, key, words, told):
+    """Bad input is told in a line, and nothing is printed and nothing read."""
+    file = tmp_path / 'key'
+    file.write_bytes(key)
+    fault(t.run(['show', '--key', str(file), *words], example('messages.hex')), 2,
+          f'bad input: key: {told}')
+
+
+def test_key_options(t, tmp_path):
+    """A file that isn't there, that is a folder or too long; a type without a key; options of another
+    command, and options without a value."""
+    messages, key = example('messages.hex'), tmp_path / 'key'
+    for path in ('none', str(tmp_path)):
+        fault(t.run(['show', '--key', path], messages), 2,
+              "bad input: key: the file can't be read")
+    key.write_bytes(bytes(LIMIT + 1))
+    fault(t.run(['show', '--key', str(key)], messages), 2,
+          "bad input: key: the file can't be read")
+    fault(t.run(['show', '--etype', '17'], messages), 2,
+          'bad input: key: --etype is given without --key')
+    for words in (['vectors', '--key', str(key)], ['show', '--key'],
+                  ['show', '--key', str(key), '--etype'], ['show', '--etype', '17', 'more']):
+        check(t.run(words, messages), 2, b'', lambda e: e.startswith(b'error: '))
+
+
 @pytest.mark.parametrize('row', RUNS.table['flipped'], ids=lambda row: row['frame'])
 def test_each_flipped_bit(t, row):
     frame = bytes.fromhex(RUNS.filled(row['frame']))

@@ -1,9 +1,12 @@
 # Completion of the words of krbrelay for bash.
 _krbrelay() {
     local word=${COMP_WORDS[COMP_CWORD]} words
-    case $COMP_CWORD-${COMP_WORDS[1]-} in
+    case $COMP_CWORD-${COMP_WORDS[1]-}-${COMP_WORDS[COMP_CWORD - 1]-} in
         1-*) words='show vectors seal open relay -h --help -V --version' ;;
-        2-show | 2-vectors | 2-seal | 2-open | 2-relay) words='-h --help' ;;
+        *-show---key) words= ;;
+        *-show---etype) words='17 18' ;;
+        *-show-*) words='--key --etype -h --help' ;;
+        2-vectors-* | 2-seal-* | 2-open-* | 2-relay-*) words='-h --help' ;;
         *) words= ;;
     esac
     mapfile -t COMPREPLY < <(compgen -W "$words" -- "$word")

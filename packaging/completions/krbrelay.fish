@@ -1,8 +1,10 @@
 # Completion of the words of krbrelay for fish.
-complete -c krbrelay -n __fish_use_subcommand -f -a show -d 'Prints the messages of the input, one a line'
+complete -c krbrelay -n __fish_use_subcommand -f -a show -d 'Prints the messages of the input, and under a key what is inside'
 complete -c krbrelay -n __fish_use_subcommand -f -a vectors -d 'Prints the published vectors of the ciphers, one a line'
 complete -c krbrelay -n __fish_use_subcommand -f -a seal -d 'Seals the texts of a job, and prints the frames'
 complete -c krbrelay -n __fish_use_subcommand -f -a open -d 'Opens the frames of a job, and prints the outcome of each'
 complete -c krbrelay -n __fish_use_subcommand -f -a relay -d "Relays the texts of a job's senders, and prints the outcome of each frame"
+complete -c krbrelay -n '__fish_seen_subcommand_from show' -r -l key -d 'A file with the key'
+complete -c krbrelay -n '__fish_seen_subcommand_from show' -x -l etype -a '17 18' -d 'The type of the key'
 complete -c krbrelay -s h -l help -d 'Print help'
 complete -c krbrelay -n __fish_use_subcommand -s V -l version -d 'Print version'

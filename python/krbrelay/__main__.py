@@ -1,87 +1,88 @@
-"""Shows a message: `python3 -m krbrelay show MESSAGE`."""
+"""Shows messages: `python3 -m krbrelay show`."""
 from __future__ import annotations
 
 import argparse
 import sys
 from typing import List, Optional
 
-from krbrelay import (
-    Address, Body, Header, LibraryError, Mode, Opener, Refusal, __version__, library_version,
-    message_header)
+from krbrelay import LibraryError, __version__, library_version
+from krbrelay.shown import Key, key_in, lines_of
 
-ABOUT = """Prints a message as `krbrelay show` does, with what it reports in clear; with a key it is
-checked to be authentic, and printed with its part decrypted. Neither its time nor its number is
-checked. The exit status is 0, or 2 where the message is refused or the arguments are wrong."""
+ABOUT = """Prints messages as `krbrelay show` does: their fields, and under a key what is inside, or why
+it isn't opened. Neither the time nor the number is checked. The key is that of the session: the
+subkey that the two ends agreed on, or else the session key of the ticket. The exit status is 0, or 2
+where a message is refused or the arguments are wrong."""
 
-
-def shown(value: object) -> str:
-    """A field as `krbrelay show` prints it."""
-    if isinstance(value, Address):
-        return f"{value.kind}:{value.data.hex()}"
-    return "-" if value is None else str(value)
+NO_KEY = "the file holds neither 16 nor 32 bytes, as they are or as hexadecimal digits"
+OTHER_TYPE = ("the file holds a key of another encryption type than --etype (17 has 16 bytes, 18 has "
+              "32)")
 
 
-def clear_line(header: Header) -> str:
-    """What a message reports in clear."""
-    if header.kind is Mode.PRIV:
-        return f"PRIV 5 21 etype={header.etype} kvno={shown(header.key_version)}"
-    return f"SAFE 5 20 seq={shown(header.number)} cksum={header.checksum_type}"
+class KeyFault(Exception):
+    """Why there is no key."""
 
 
-def opened_line(frame: bytes, header: Header, body: Body) -> str:
-    """All that an authentic message carries."""
-    time = None if body.moment is None else body.moment.strftime("%Y%m%d%H%M%SZ")
-    fields = (f"data={body.user_data.hex()} time={shown(time)} usec={shown(body.microseconds)} "
-              f"seq={shown(body.number)} from={shown(body.sender)} to={shown(body.receiver)}")
-    if header.kind is Mode.PRIV:
-        return f"{clear_line(header)} {fields}"
-    # An authentic message ends with the 12 bytes of its checksum.
-    return f"SAFE 5 20 {fields} cksum={header.checksum_type}:{frame[-12:].hex()}"
-
-
-def line_of(frame: bytes, key: Optional[bytes]) -> str:
-    header = message_header(frame)
-    if key is None:
-        return clear_line(header)
-    with Opener(17 if len(key) == 16 else 18, key, mode=header.kind) as opener:
-        return opened_line(frame, header, opener.open(frame))
-
-
-def read(path: str) -> str:
-    """The text of a file, or of standard input for -."""
+def read(path: str) -> bytes:
+    """The bytes of a file, or of standard input for -."""
     if path == "-":
-        return sys.stdin.read()
-    with open(path, encoding="ascii") as file:
+        return sys.stdin.buffer.read()
+    with open(path, "rb") as file:
         return file.read()
+
+
+def versions() -> str:
+    try:
+        library = ".".join(map(str, library_version()))
+    except LibraryError:
+        return f"krbrelay {__version__}, and no libkrbrelay"
+    return f"krbrelay {__version__}, libkrbrelay {library}"
+
+
+def key_of(path: Optional[str], stated: Optional[int]) -> Optional[Key]:
+    """The key of the file that is named, if one is. KeyFault."""
+    if path is None:
+        if stated is not None:
+            raise KeyFault("--etype is given without --key")
+        return None
+    try:
+        key = key_in(read(path))
+    except OSError as fault:
+        raise KeyFault("the file can't be read") from fault
+    if key is None:
+        raise KeyFault(NO_KEY)
+    if stated not in (None, key.etype):
+        raise KeyFault(OTHER_TYPE)
+    return key
 
 
 def parser() -> argparse.ArgumentParser:
     made = argparse.ArgumentParser("python3 -m krbrelay", description=__doc__)
-    versions = f"krbrelay {__version__}, libkrbrelay {'.'.join(map(str, library_version()))}"
-    made.add_argument("--version", action="version", version=versions)
+    made.add_argument("--version", action="version", version=versions())
     commands = made.add_subparsers(metavar="COMMAND", required=True)
-    show = commands.add_parser("show", help="prints a message", description=ABOUT)
-    show.add_argument("message", metavar="MESSAGE",
-                      help="its bytes in hexadecimal digits, or - for standard input")
+    show = commands.add_parser("show", help="prints messages", description=ABOUT)
+    show.add_argument("message", metavar="MESSAGE", nargs="?", default="-",
+                      help="a message in hexadecimal digits; by default, and for -, standard input")
     show.add_argument("--key", metavar="FILE",
-                      help="a file with the session key in hexadecimal digits: of 16 bytes for "
-                           "encryption type 17, of 32 for 18; - for standard input")
+                      help="a file with the key, 16 bytes or 32, in hexadecimal digits or as they "
+                           "are; - for standard input")
+    show.add_argument("--etype", metavar="N", type=int, choices=(17, 18),
+                      help="the key's encryption type; by default that of its size")
     return made
 
 
 def main(words: Optional[List[str]] = None) -> int:
     given = parser().parse_args(words)
     try:
-        frame = bytes.fromhex(read("-") if given.message == "-" else given.message)
-        key = bytes.fromhex(read(given.key)) if given.key else None
-        print(line_of(frame, key))
-    except Refusal as refusal:
-        print(f"refused {refusal.code.value} {refusal.name}")
+        key = key_of(given.key, given.etype)
+    except KeyFault as fault:
+        print(f"krbrelay: bad input: key: {fault}", file=sys.stderr)
         return 2
-    except (ValueError, OSError) as fault:
-        print(f"krbrelay: {fault}", file=sys.stderr)
-        return 2
-    return 0
+    status = 0
+    text = read("-") if given.message == "-" else given.message.encode()
+    for line in lines_of(text, key):
+        print(line.text)
+        status = status if line.is_accepted else 2
+    return status
 
 
 if __name__ == "__main__":

@@ -120,6 +120,21 @@ class Runs:
             self.add(f"show of {row['name']}", ["show"], self.filled(row["input"]).encode(),
                      row.get("status", 0), text)
 
+    def under_keys(self):
+        """Runs of `show` under the key of a file: the name, the bytes of the file, the words after
+        it, the input, the status, and what is printed after the fields of each message."""
+        for row in self.table["show_key"]:
+            key = bytes.fromhex(row["key_bytes"]) if "key_bytes" in row else row["key"].encode()
+            words = ["--etype", row["etype"]] if "etype" in row else []
+            yield (row["name"], key, words, self.filled(row["input"]).encode(),
+                   row.get("status", 0), row["after"])
+
+    def no_keys(self):
+        """Files that hold no key: the name, their bytes, the words after them, and what is told."""
+        for row in self.table["no_key"]:
+            for key in [*(it.encode() for it in row["keys"]), *map(bytes, row["bytes"])]:
+                yield f"{row['name']}: {len(key)} bytes", key, row["words"], row["told"]
+
     def shown_zeros(self):
         for row in self.table["shown_zeros"]:
             self.add(f"show of {row['digits']} zeros", ["show"], b"0" * row["digits"], 2,

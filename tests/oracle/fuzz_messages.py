@@ -1,9 +1,10 @@
 """Changed messages for `krbrelay show`, and what it is to print of them by an independent reader
 (reader.py). A message is a tree whose elements are changed, left out, repeated, exchanged and spelt
-anew, mostly with right lengths, and whose bytes are then sometimes changed, cut or joined."""
+anew, mostly with right lengths, and whose bytes are then sometimes changed, cut or joined. Under a key
+an independent opener (opener.py) says what is inside."""
 import random
 
-from oracle import reader
+from oracle import fixtures, frames, opener, reader
 
 
 # ---- what the line is to be
@@ -16,21 +17,39 @@ def told(value):
     return "-" if value is None else str(value)
 
 
-def line_of(data):
-    """The line of `show` for these bytes."""
+def body_text(body):
+    text, time, usec, number, origin, to = body
+    return (f"data={text.hex()} time={time.decode() if time else '-'} usec={told(usec)} "
+            f"seq={told(number)} from={typed(origin)} to={typed(to)}")
+
+
+def inside(key, data):
+    """What `show` prints after the fields of the message that the bytes spell."""
+    try:
+        return f" opened {body_text(opener.authentic(key, data))}"
+    except opener.Refused as refused:
+        code = refused.args[0]
+        return f" refused {code} {opener.NAMES[code]}"
+
+
+def line_of(data, key=None):
+    """The line of `show` for these bytes, under a key if there is one."""
     if len(data) > reader.LIMIT:
         return "refused 61 FIELD_TOOLONG"
     try:
         found = reader.message(data)
     except reader.Malformed:
         return "refused 901 MALFORMED"
+    return fields_text(found) + (inside(key, data) if key else "")
+
+
+def fields_text(found):
+    """The fields of a message that was read."""
     if len(found) == 3:
         version, kind, (etype, key_version, cipher) = found
         return f"PRIV {version} {kind} etype={etype} kvno={told(key_version)} cipher={cipher.hex()}"
-    version, kind, (text, time, usec, number, origin, to), checksum = found
-    return (f"SAFE {version} {kind} data={text.hex()} time={time.decode() if time else '-'} "
-            f"usec={told(usec)} seq={told(number)} from={typed(origin)} to={typed(to)} "
-            f"cksum={typed(checksum)}")
+    version, kind, body, checksum = found
+    return f"SAFE {version} {kind} {body_text(body)} cksum={typed(checksum)}"
 
 
 # ---- messages as trees: [tag, bytes or list of trees, how its length is spelt]
@@ -202,3 +221,33 @@ def drawn(seed, index, worked):
     while dice.random() < 0.2:
         data = change_bytes(dice, data, worked)
     return data
+
+
+# ---- messages under a key
+
+CONFOUNDER = bytes(range(16))
+
+
+def sealed(key):
+    """Messages of both kinds under a key, with the receiver's address and without."""
+    for receiver in (None, fixtures.RECEIVER):
+        body = fixtures.body_of(b"Dhi", receiver=receiver)
+        yield frames.seal_safe(key, body)
+        yield frames.seal_priv(key, body, CONFOUNDER)
+    yield frames.seal_priv(key, fixtures.body_of(b"", left_out=(0xA1, 0xA2, 0xA3)), CONFOUNDER)
+
+
+def sealed_body(dice, key, worked):
+    """A changed body that is sealed: what is inside is authentic, whatever it spells."""
+    root = copy(dice.choice([tree(fixtures.body_of(b"Dhi", receiver=it))[0]
+                             for it in (None, fixtures.RECEIVER)]))
+    for _ in range(dice.choice([0, 1, 1, 2])):
+        dice.choice([change_node, change_content])(dice, root, worked)
+    seal = dice.choice([frames.seal_safe, lambda k, body: frames.seal_priv(k, body, CONFOUNDER)])
+    return seal(key, spelling(root))
+
+
+def drawn_under(key, seed, index, worked):
+    """The bytes of input number `index` under the key."""
+    dice = random.Random(f"{seed} {index} {key.hex()}")
+    return sealed_body(dice, key, worked) if dice.random() < 0.5 else changed(dice, worked)

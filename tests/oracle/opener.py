@@ -124,6 +124,21 @@ def unseal(session, number, now, frame):
     return body[0]
 
 
+def authentic(key, frame):
+    """The body of an authentic frame of either kind, of which nothing is demanded."""
+    session = Session(key, "priv", 0, None, None)
+    refuse(61, len(frame) > reader.LIMIT)
+    message = read(reader.message, frame)
+    private = frame[0] == 0x75
+    refuse(39, message[0] != 5)
+    refuse(40, message[1] != (21 if private else 20))
+    if private:
+        return opened_part(session, message[2])
+    refuse(50, message[3][0] != session.etype - 2)
+    refuse(41, is_modified(session, frame, message[3][1]))
+    return message[2]
+
+
 class Receiver:
     """Takes the frames of a sender, each at the timestamp of its place; the last serves all later
     ones."""

@@ -11,9 +11,9 @@ def use(program):
     USED[0] = program
 
 
-def run(command, text, program=None, limit=60, **how):
-    """The finished run of a command over a text, by default within a minute."""
-    return subprocess.run([program or USED[0], command], input=text, stdout=subprocess.PIPE,
+def run(command, text, program=None, limit=60, words=(), **how):
+    """The finished run of a command, and words after it, over a text, by default within a minute."""
+    return subprocess.run([program or USED[0], command, *words], input=text, stdout=subprocess.PIPE,
                           text=True, check=False, timeout=limit, **how)
 
 

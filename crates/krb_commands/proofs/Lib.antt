@@ -1,3 +1,4 @@
+mod AuthenticLemmas
 pub mod EndedLemmas
 pub mod EndsLemmas
 pub mod FaultLemmas

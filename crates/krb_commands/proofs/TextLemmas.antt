@@ -26,15 +26,21 @@ pub body_joined : (user_data time usec seq sender receiver : List ℕ)
     ≡ codes "data=" ++ user_data ++ codes " time=" ++ time ++ codes " usec=" ++ usec ++ codes " seq=" ++ seq ++ codes " from=" ++ sender ++ codes " to=" ++ receiver
 body_joined user_data time usec seq sender receiver = simp append_assoc refl
 
-pub safe_joined : (pvno msg_type body cksum : List ℕ)
-    → codes "SAFE " ++ (pvno ++ (codes " " ++ (msg_type ++ (codes " " ++ (body ++ (codes " cksum=" ++ (cksum ++ codes "\n")))))))
-    ≡ (codes "SAFE " ++ pvno ++ codes " " ++ msg_type ++ codes " " ++ body ++ codes " cksum=" ++ cksum) ++ codes "\n"
-safe_joined pvno msg_type body cksum = simp append_assoc refl
+pub safe_joined : (pvno msg_type body cksum inside : List ℕ)
+    → codes "SAFE " ++ (pvno ++ (codes " " ++ (msg_type ++ (codes " " ++ (body ++ (codes " cksum=" ++ (cksum ++ (inside ++ codes "\n"))))))))
+    ≡ (codes "SAFE " ++ pvno ++ codes " " ++ msg_type ++ codes " " ++ body ++ codes " cksum=" ++ cksum) ++ inside ++ codes "\n"
+safe_joined pvno msg_type body cksum inside = simp append_assoc refl
 
-pub priv_joined : (pvno msg_type etype kvno cipher : List ℕ)
-    → codes "PRIV " ++ (pvno ++ (codes " " ++ (msg_type ++ (codes " etype=" ++ (etype ++ (codes " kvno=" ++ (kvno ++ (codes " cipher=" ++ (cipher ++ codes "\n")))))))))
-    ≡ (codes "PRIV " ++ pvno ++ codes " " ++ msg_type ++ codes " etype=" ++ etype ++ codes " kvno=" ++ kvno ++ codes " cipher=" ++ cipher) ++ codes "\n"
-priv_joined pvno msg_type etype kvno cipher = simp append_assoc refl
+pub priv_joined : (pvno msg_type etype kvno cipher inside : List ℕ)
+    → codes "PRIV " ++ (pvno ++ (codes " " ++ (msg_type ++ (codes " etype=" ++ (etype ++ (codes " kvno=" ++ (kvno ++ (codes " cipher=" ++ (cipher ++ (inside ++ codes "\n"))))))))))
+    ≡ (codes "PRIV " ++ pvno ++ codes " " ++ msg_type ++ codes " etype=" ++ etype ++ codes " kvno=" ++ kvno ++ codes " cipher=" ++ cipher) ++ inside ++ codes "\n"
+priv_joined pvno msg_type etype kvno cipher inside = simp append_assoc refl
+
+refusal_after : (space word code name : List ℕ) → (space ++ word) ++ (code ++ (space ++ name)) ≡ space ++ (word ++ code ++ space ++ name)
+refusal_after space word code name = simp append_assoc refl
+
+pub refusal_joined : (code name : List ℕ) → codes " refused " ++ (code ++ (codes " " ++ name)) ≡ codes " " ++ (codes "refused " ++ code ++ codes " " ++ name)
+refusal_joined code name = refusal_after (codes " ") (codes "refused ") code name
 
 pub lane_joined : (lane name : List ℕ)
     → codes "lane " ++ (lane ++ (codes " " ++ (name ++ codes "\n"))) ≡ codes "lane " ++ lane ++ codes " " ++ name ++ codes "\n"

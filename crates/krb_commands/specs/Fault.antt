@@ -14,6 +14,7 @@ use Rattle.krb_commands.specs.declared.fault.Fault.TheVariants as fault
 abbrev pub fault_status : Fault → ℕ
 fault_status fault.TooLong = 2
 fault_status (fault.BadInput b) = 2
+fault_status (fault.Key k) = 2
 fault_status fault.Memory = 4
 fault_status (fault.Stopped lines) = 4
 fault_status (fault.Thread lines) = 4
@@ -45,6 +46,12 @@ IsOfReading fault.TooLong = Unit {0}
 IsOfReading fault.Memory = Unit {0}
 IsOfReading fault.Read = Unit {0}
 IsOfReading other = ⊥
+
+-- a fault of reading a key
+abbrev pub IsOfKey : Fault → Type 0
+IsOfKey (fault.Key k) = Unit {0}
+IsOfKey fault.Memory = Unit {0}
+IsOfKey other = ⊥
 
 -- a fault of printing
 abbrev pub IsOfPrinting : Fault → Type 0

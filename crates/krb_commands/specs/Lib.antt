@@ -1,11 +1,14 @@
+pub mod Digits
 pub mod Ends
 pub mod Fault
 pub mod Input
 pub mod JobInput
 pub mod JobLines
 pub mod Jobs
+pub mod Key
 pub mod Lines
 pub mod Opened
+pub mod OpenersInside
 pub mod Output
 pub mod Parsed
 pub mod Printed

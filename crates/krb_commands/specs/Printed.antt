@@ -1,5 +1,5 @@
 -- The line that is printed for a reading.
-use Rattle.std.specs.Prelude.{ℕ, ℤ, List, ◌++◌, codes, Option, Some, None, IfSome, ⊤}
+use Rattle.std.specs.Prelude.{ℕ, ℤ, List, [], ◌++◌, codes, Option, Some, None, IfSome, ⊤}
 use Rattle.std.specs.Fmt.{decimal, signed_decimal}
 use Rattle.hex.specs.Hex.{encode_lower}
 use Rattle.krb_der.specs.Time.{IsSecond, kerberos_time}
@@ -9,8 +9,11 @@ use Rattle.krb_der.specs.declared.safe.SafeMsg.{SafeMsg}
 use Rattle.krb_der.specs.declared.private.PrivMsg.{PrivMsg}
 use Rattle.krb_der.specs.declared.message.Message.{Message}
 use Rattle.krb_der.specs.declared.message.Message.TheVariants.{Safe, Priv}
+use Rattle.krb_commands.specs.declared.inside.Inside.{Inside}
+use Rattle.krb_commands.specs.declared.inside.Inside.TheVariants.{Unasked, Opened, Refused}
 use Rattle.krb_commands.specs.declared.reading.Reading.{Reading}
 use Rattle.krb_commands.specs.declared.reading.Reading.TheVariants as read
+use Rattle.krb_commands.specs.JobLines.{refusal_text}
 
 -- a field that may be absent
 abbrev pub or_dash : {A : Type 0} → (A → List ℕ) → Option A → List ℕ
@@ -52,8 +55,14 @@ abbrev pub message_text : Message → List ℕ
 message_text (Safe m) = safe_text m
 message_text (Priv m) = priv_text m
 
+-- what a key gave of a message: its body, or why it isn't opened
+abbrev pub inside_text : Inside → List ℕ
+inside_text Unasked = []
+inside_text (Opened body) = codes " opened " ++ body_text body
+inside_text (Refused refusal) = codes " " ++ refusal_text refusal
+
 abbrev pub text_of : Reading → List ℕ
-text_of (read.Message message) = message_text message
+text_of (read.Message message inside) = message_text message ++ inside_text inside
 text_of read.Malformed = codes "refused 901 MALFORMED"
 text_of read.TooLong = codes "refused 61 FIELD_TOOLONG"
 text_of read.NotHexadecimal = codes "not hexadecimal"
@@ -70,8 +79,13 @@ abbrev pub HasPrintableTime : Message → Type 0
 HasPrintableTime (Safe m) = HasTime m.body
 HasPrintableTime (Priv m) = ⊤
 
+abbrev pub HasPrintableBody : Inside → Type 0
+HasPrintableBody Unasked = ⊤
+HasPrintableBody (Opened body) = HasTime body
+HasPrintableBody (Refused refusal) = ⊤
+
 abbrev pub IsPrintable : Reading → Type 0
-IsPrintable (read.Message message) = HasPrintableTime message
+IsPrintable (read.Message message inside) = HasPrintableTime message × HasPrintableBody inside
 IsPrintable read.Malformed = ⊤
 IsPrintable read.TooLong = ⊤
 IsPrintable read.NotHexadecimal = ⊤

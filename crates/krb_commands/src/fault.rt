@@ -17,6 +17,9 @@ pub enum Fault {
     /// The first check of a job that fails.
     #[error("krbrelay: bad input: {0}")]
     BadInput(BadInput),
+    /// The key of `show` can't be had.
+    #[error("krbrelay: bad input: key: {0}")]
+    Key(KeyFault),
     /// An allocation was refused.
     #[error("krbrelay: out of memory")]
     Memory,
@@ -40,13 +43,33 @@ pub enum Fault {
     Write,
 }
 
+/// Why there is no key.
+#[derive(Clone, Copy, Debug, PartialEq, Eq, Error)]
+pub enum KeyFault {
+    /// A type is stated for no key.
+    #[error("--etype is given without --key")]
+    Missing,
+    /// No type has the number that is stated.
+    #[error("--etype is neither 17 nor 18")]
+    NoType,
+    /// The file can't be opened or read, or has more than [`LIMIT`](crate::LIMIT) bytes.
+    #[error("the file can't be read")]
+    Unreadable,
+    /// The file holds no key.
+    #[error("the file holds neither 16 nor 32 bytes, as they are or as hexadecimal digits")]
+    NoKey,
+    /// The file holds a key of another type than the one that is stated.
+    #[error("the file holds a key of another encryption type than --etype (17 has 16 bytes, 18 has 32)")]
+    OtherType,
+}
+
 impl Fault {
     /// The exit status of a run that ends with this fault.
     pub fn status(&self) -> u8
         ensures { result ≡ fault_status self.now }
     {
         match self {
-            Fault::TooLong | Fault::BadInput(_) => 2,
+            Fault::TooLong | Fault::BadInput(_) | Fault::Key(_) => 2,
             Fault::Memory | Fault::Stopped { .. } | Fault::Thread { .. } => 4,
             Fault::Read | Fault::Write => 4,
         }

@@ -9,6 +9,7 @@ ghost use Rattle.krb_job.specs.Job.{most_senders, job_view};
 ghost use Rattle.krb_job.specs.SenderKeys.{seals};
 ghost use Rattle.krb_job.specs.SenderView.{sender_view};
 ghost use Rattle.krb_commands.specs.Ends as ends;
+ghost use Rattle.krb_commands.specs.declared.fault.KeyFault.{KeyFault};
 ghost use Rattle.krb_commands.specs.Fault.{bad_plan, IsOfSealing, IsOfTelling};
 ghost use Rattle.krb_commands.specs.Parsed.{Parsed, IsParsed, HasOneSender};
 ghost use Rattle.krb_commands.specs.JobInput.{ReadsInput, PrintsNothing, FailsCheck};
@@ -35,6 +36,7 @@ pub fn seal<R: Read, W: Write>(alloc: Global, reader: &mut R, writer: &mut W) ->
     ensures nothing { PrintsNothing (W.contents writer.old) (W.contents writer.new) result }
     ensures never_stopped { (lines : ℕ) → ¬ (result ≡ Err (Fault.Stopped lines)) }
     ensures no_thread { (lines : ℕ) → ¬ (result ≡ Err (Fault.Thread lines)) }
+    ensures no_key { (key : KeyFault) → ¬ (result ≡ Err (Fault.Key key)) }
     ensures prefix { (parsed : Parsed) → IsParsed Command.Seal (R.remaining reader.old) parsed
         → OnErr result (SealsParsedPrefix parsed (W.contents writer.old) (W.contents writer.new)) }
 {
@@ -99,6 +101,7 @@ pub fn open<R: Read, W: Write>(alloc: Global, reader: &mut R, writer: &mut W) ->
         → (lines : ℕ) → result ≡ Err (Fault.Stopped lines)
         → OpensParsedFirst parsed lines (W.contents writer.old) (W.contents writer.new) }
     ensures no_thread { (lines : ℕ) → ¬ (result ≡ Err (Fault.Thread lines)) }
+    ensures no_key { (key : KeyFault) → ¬ (result ≡ Err (Fault.Key key)) }
     ensures prefix { (parsed : Parsed) → IsParsed Command.Open (R.remaining reader.old) parsed
         → OnErr result (OpensParsedPrefix parsed (W.contents writer.old) (W.contents writer.new)) }
 {

@@ -1,54 +1,83 @@
-//! What one line of the input reads as.
+//! What a text of the input reads as.
 
+use crate::digits::digits_of;
+use crate::inside::Inside;
+use crate::openers::{Openers, inside_of};
 use hex::FromHexError;
 use krb_der::{DerError, Message, decode};
 use std::alloc::{AllocError, Global};
 
-/// What a line of hexadecimal digits reads as.
+/// What a text of hexadecimal digits reads as.
 #[derive(Debug, Drop)]
 pub enum Reading {
-    /// The message that the line's bytes spell.
-    Message(Message),
+    /// The message that the text's bytes spell, and what is inside.
+    Message(Message, Inside),
     /// The bytes spell no message.
     Malformed,
     /// The bytes are more than a message may have.
     TooLong,
-    /// The line has an odd number of digits, or another byte.
+    /// The text has an odd number of digits, or another byte.
     NotHexadecimal,
 }
 
 impl Reading {
     ghost use Rattle.std.specs.Prelude.{◌≡◌, List, ℕ, IfOk};
-    ghost use Rattle.krb_commands.specs.Reading.{Reads, HasBytes, is_message};
+    ghost use Rattle.krb_commands.specs.Key.{key_of};
+    ghost use Rattle.krb_commands.specs.Printed.{IsPrintable};
+    ghost use Rattle.krb_commands.specs.Reading.{Reads, HasBytes, is_accepted, is_message};
 
-    /// Reads a line, which stands here without its line feed.
-    pub fn of_line(alloc: Global, line: &[u8]) -> Result<Reading, AllocError>
-        ensures { IfOk result (λ reading. Reads line.now reading) }
+    /// Reads a text, under a key if there is one.
+    pub fn of_text(
+        alloc: Global,
+        openers: Option<&Openers>,
+        text: &[u8],
+    ) -> Result<Reading, AllocError>
+        ensures reads { IfOk result (Reads (key_of openers.entry) text.now) }
+        ensures printable { IfOk result IsPrintable }
     {
-        match hex::decode(alloc, line) {
-            Ok(bytes) => Reading::of_bytes(alloc, &bytes),
+        let digits = digits_of(alloc, text)?;
+        match hex::decode(alloc, digits.as_slice()) {
+            Ok(bytes) => Reading::of_bytes(alloc, openers, &bytes),
             Err(FromHexError::OutOfMemory) => Err(AllocError),
             Err(_) => Ok(Reading::NotHexadecimal),
         }
     }
 
-    /// Reads the bytes of a line's digits.
-    fn of_bytes(alloc: Global, bytes: &[u8]) -> Result<Reading, AllocError>
-        ensures { IfOk result (λ reading.
-            (line : List ℕ) → HasBytes line bytes.now → Reads line reading) }
+    /// Reads the bytes of a text's digits.
+    fn of_bytes(
+        alloc: Global,
+        openers: Option<&Openers>,
+        bytes: &[u8],
+    ) -> Result<Reading, AllocError>
+        ensures reads { IfOk result (λ reading. (text : List ℕ) → HasBytes text bytes.now
+            → Reads (key_of openers.entry) text reading) }
+        ensures printable { IfOk result IsPrintable }
     {
         match decode(alloc, bytes) {
-            Ok(message) => Ok(Reading::Message(message)),
+            Ok(message) => {
+                let inside = inside_of(alloc, openers, &message, bytes)?;
+                Ok(Reading::Message(message, inside))
+            }
             Err(DerError::Malformed) => Ok(Reading::Malformed),
             Err(DerError::TooLong) => Ok(Reading::TooLong),
             Err(DerError::Memory) => Err(AllocError),
         }
     }
 
-    /// Whether the line spelt a message.
+    /// Whether the text spelt a message.
     pub fn is_message(&self) -> bool
         ensures { result ≡ is_message self.now }
     {
-        matches!(self, Reading::Message(_))
+        matches!(self, Reading::Message(_, _))
+    }
+
+    /// Whether the text spelt a message that no key refuses.
+    pub fn is_accepted(&self) -> bool
+        ensures { result ≡ is_accepted self.now }
+    {
+        match self {
+            Reading::Message(_, inside) => !matches!(inside, Inside::Refused(_)),
+            _ => false,
+        }
     }
 }

@@ -4,9 +4,10 @@ ghost use Rattle.std.specs.String.{string_bytes};
 ghost use Rattle.std.specs.Fmt.{decimal};
 ghost use Rattle.krb_der.specs.Time.{IsSecond, kerberos_time};
 ghost use Rattle.krb_commands.specs.Printed as printed;
-ghost use Rattle.krb_commands.specs.Printed.{IsPrintable, HasPrintableTime, HasTime, message_text, printed_line, or_dash};
+ghost use Rattle.krb_commands.specs.Printed.{IsPrintable, HasPrintableBody, HasPrintableTime, HasTime, message_text, printed_line, or_dash};
 ghost use Rattle.std.specs.Cow.{cow_str_bytes};
 
+use crate::inside::Inside;
 use crate::reading::Reading;
 use krb_der::{Body, Bytes, HostAddress, Message, PrivMsg, SafeMsg, kerberos_time};
 use std::alloc::{AllocError, Global};
@@ -19,7 +20,10 @@ impl Reading {
         ensures { IfOk result (λ line. cow_str_bytes line ≡ printed_line self.now) }
     {
         match self {
-            Reading::Message(message) => Ok(CowStr::Owned(message_line(alloc, message)?)),
+            Reading::Message(message, inside) => {
+                let line = message_line(alloc, message, inside)?;
+                Ok(CowStr::Owned(line))
+            }
             Reading::Malformed => Ok(CowStr::Borrowed("refused 901 MALFORMED\n")),
             Reading::TooLong => Ok(CowStr::Borrowed("refused 61 FIELD_TOOLONG\n")),
             Reading::NotHexadecimal => Ok(CowStr::Borrowed("not hexadecimal\n")),
@@ -27,24 +31,46 @@ impl Reading {
     }
 }
 
-fn message_line(alloc: Global, message: &Message) -> Result<String, AllocError>
-    requires { HasPrintableTime message.now }
-    ensures { IfOk result (λ line. string_bytes line ≡ message_text message.now ++ codes "\n") }
+fn message_line(alloc: Global, message: &Message, inside: &Inside) -> Result<String, AllocError>
+    requires time { HasPrintableTime message.now }
+    requires body { HasPrintableBody inside.now }
+    ensures { IfOk result (λ line. string_bytes line
+        ≡ message_text message.now ++ printed.inside_text inside.now ++ codes "\n") }
 {
+    let inside = inside_text(alloc, inside)?;
     match message {
-        Message::Safe(m) => safe_line(alloc, m),
-        Message::Priv(m) => priv_line(alloc, m),
+        Message::Safe(m) => safe_line(alloc, m, &inside),
+        Message::Priv(m) => priv_line(alloc, m, &inside),
     }
 }
 
-fn safe_line(alloc: Global, m: &SafeMsg) -> Result<String, AllocError>
+/// What is printed after the fields of a message.
+fn inside_text(alloc: Global, inside: &Inside) -> Result<String, AllocError>
+    requires { HasPrintableBody inside.now }
+    ensures { IfOk result (λ text. string_bytes text ≡ printed.inside_text inside.now) }
+{
+    match inside {
+        Inside::Unasked => Ok(String::new(alloc)),
+        Inside::Opened(body) => {
+            let body = body_text(alloc, body)?;
+            format!(in alloc; " opened {body}")
+        }
+        Inside::Refused(refusal) => {
+            let (code, name) = (refusal.code(), refusal.name());
+            format!(in alloc; " refused {code} {name}")
+        }
+    }
+}
+
+fn safe_line(alloc: Global, m: &SafeMsg, inside: &str) -> Result<String, AllocError>
     requires { HasTime m.now.body }
-    ensures { IfOk result (λ line. string_bytes line ≡ printed.safe_text m.now ++ codes "\n") }
+    ensures { IfOk result (λ line. string_bytes line
+        ≡ printed.safe_text m.now ++ inside.now ++ codes "\n") }
 {
     let (pvno, msg_type) = (m.pvno, m.msg_type);
     let body = body_text(alloc, &m.body)?;
     let cksum = typed_text(alloc, m.cksum_type, &m.checksum)?;
-    format!(in alloc; "SAFE {pvno} {msg_type} {body} cksum={cksum}\n")
+    format!(in alloc; "SAFE {pvno} {msg_type} {body} cksum={cksum}{inside}\n")
 }
 
 fn body_text(alloc: Global, body: &Body) -> Result<String, AllocError>
@@ -60,13 +86,14 @@ fn body_text(alloc: Global, body: &Body) -> Result<String, AllocError>
     format!(in alloc; "data={data} time={time} usec={usec} seq={seq} from={from} to={to}")
 }
 
-fn priv_line(alloc: Global, m: &PrivMsg) -> Result<String, AllocError>
-    ensures { IfOk result (λ line. string_bytes line ≡ printed.priv_text m.now ++ codes "\n") }
+fn priv_line(alloc: Global, m: &PrivMsg, inside: &str) -> Result<String, AllocError>
+    ensures { IfOk result (λ line. string_bytes line
+        ≡ printed.priv_text m.now ++ inside.now ++ codes "\n") }
 {
     let (pvno, msg_type, etype) = (m.pvno, m.msg_type, m.etype);
     let kvno = number_text(alloc, m.kvno)?;
     let cipher = hex::encode(alloc, m.cipher.as_slice())?;
-    format!(in alloc; "PRIV {pvno} {msg_type} etype={etype} kvno={kvno} cipher={cipher}\n")
+    format!(in alloc; "PRIV {pvno} {msg_type} etype={etype} kvno={kvno} cipher={cipher}{inside}\n")
 }
 
 fn time_text(alloc: Global, time: Option<u64>) -> Result<String, AllocError>

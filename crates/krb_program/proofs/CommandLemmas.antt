@@ -1,6 +1,6 @@
 -- A parse that succeeds names a command.
-use Rattle.std.proofs.Common.{◌≡◌, Bool, true, false, ◌&&◌, not, cond, List, [], ◌∷◌, refl, ap, ◌∙◌, Option, Some, None, is_some, option_map, find}
-use Rattle.clap.specs.Words.{App, Row, Shape, Text, subcommand_of, subcommand_rows_of, subcommand_name_of, Kinds, fault_of, is_simple, is_simple_and_free, built}
+use Rattle.std.proofs.Common.{◌≡◌, Bool, true, false, ◌&&◌, not, cond, List, [], ◌∷◌, refl, sym, ap, ap₂, ◌∙◌, Option, Some, None, is_some, option_map, find, codes, Bor}
+use Rattle.clap.specs.Words.{App, Row, Shape, Text, first_value, found_of, rows_of, subcommand_of, subcommand_rows_of, subcommand_name_of, Kinds, fault_of, is_simple, is_simple_and_free, built}
 use Rattle.clap.specs.Simple.{entered, rows_at, label_of, names_of, argument_words}
 use Rattle.clap.specs.Walk.{Held, Names, answers_to, walk, walk_from, nothing_held, finished, settled, stop_after}
 use Rattle.clap.specs.Faults.{level_fault, walk_fault, settle_fault, defaults_fault, check_fault, entered_fault}
@@ -9,7 +9,9 @@ use Rattle.clap.specs.Facts.{explicit_source}
 use Rattle.std.specs.List.{list_any}
 use Rattle.clap.specs.Kinds.{or_else, check_kinds}
 use Rattle.clap.specs.declared.parser.matches.ArgMatches.{ArgMatches}
-use Rattle.krb_program.specs.Command.{IsWord, IsNamed, krbrelay_app, word_of}
+use Rattle.krb_program.specs.declared.command.Asked.{Asked}
+use Rattle.krb_program.specs.Command.{IsEntered, IsWord, IsNamed, krbrelay_app, word_of}
+use Rattle.clap.proofs.WalkLemmas.{first_value-rows}
 use Rattle.krb_program.specs.declared.command.Cmd.{Cmd}
 use Rattle.clap.specs.declared.parser.matches.ArgMatches.TheViews.{out-ArgMatches, out-SubCommand}
 use Rattle.std.specs.Box.{box_value}
@@ -95,3 +97,30 @@ parsed_is_named m words rows none =
     let stop = stop_after krbrelay_built.top.rules (names_of krbrelay_built) (argument_words krbrelay_app words) in
     let word = entered_word stop (some_subcommand words none) in
     (word.0, name_of_rows m ∙ ap (option_map (λ p. p.0)) rows ∙ word.1)
+
+-- ---- what a parse entered
+
+rows_are : (o : Option (Text × List Row)) (name : Text) (rows : List Row) → Some name ≡ option_map (λ p. p.0) o → Some rows ≡ option_map (λ p. p.1) o → o ≡ Some (name, rows)
+rows_are None name rows e f = absurd cc
+rows_are (Some p) name rows e f =
+    let same-name : name ≡ p.0 = cc in
+    let same-rows : rows ≡ p.1 = cc in
+    ap₂ (λ a b. Some (a, b)) (sym same-name) (sym same-rows)
+
+rows_entered : (m : ArgMatches) (name : Text) (rows : List Row) → Some name ≡ subcommand_name_of m → Some rows ≡ option_map (λ p. p.1) (subcommand_rows_of m)
+    → subcommand_rows_of m ≡ Some (name, rows)
+rows_entered m name rows named are = rows_are (subcommand_rows_of m) name rows (named ∙ name_of_rows m) are
+
+pub entered_from : (m : ArgMatches) (found : Option (Bor Text × Bor ArgMatches)) (p : Bor Text × Bor ArgMatches) (asked : Asked)
+    → option_map (λ q. q.0.now) found ≡ subcommand_name_of m → option_map (λ q. rows_of (found_of q.1.now)) found ≡ option_map (λ q. q.1) (subcommand_rows_of m)
+    → found ≡ Some p → p.0.now ≡ word_of asked.command
+    → option_map (λ s. s.now) asked.key ≡ first_value (found_of p.1.now) (codes "key") → option_map (λ s. s.now) asked.etype ≡ first_value (found_of p.1.now) (codes "etype")
+    → IsEntered (subcommand_rows_of m) asked
+entered_from m found p asked named rows is word key etype =
+    let options = rows_of (found_of p.1.now) in record {
+      options = options;
+      command = rows_entered m p.0.now options (ap (option_map (λ q. q.0.now)) (sym is) ∙ named) (ap (option_map (λ q. rows_of (found_of q.1.now))) (sym is) ∙ rows)
+          ∙ ap (λ w. Some (w, options)) word;
+      key = key ∙ first_value-rows (found_of p.1.now) (codes "key");
+      etype = etype ∙ first_value-rows (found_of p.1.now) (codes "etype");
+    }

@@ -24,6 +24,7 @@ module _ {X : Type 0} (r : Result X Fault) (is : IsErrAnd r (λ f. f ≡ fault.M
 pub printing_relaying : (f : Fault) → IsOfPrinting f → IsOfRelaying f
 printing_relaying fault.TooLong h = absurd h
 printing_relaying (fault.BadInput b) h = absurd h
+printing_relaying (fault.Key k) h = absurd h
 printing_relaying fault.Memory h = tt
 printing_relaying (fault.Stopped lines) h = absurd h
 printing_relaying (fault.Thread lines) h = absurd h

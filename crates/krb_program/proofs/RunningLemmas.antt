@@ -1,10 +1,14 @@
 -- A flush after a command.
-use Rattle.std.proofs.Common.{◌≡◌, ◌<◌, length, inl, inr, List, ℕ, Option, Some, None, Result, Ok, Err, IfSome, IfOk, OnErr, refl, sym, subst}
+use Rattle.std.proofs.Common.{◌≡◌, ◌<◌, length, inl, inr, List, ℕ, Option, Some, None, Result, Ok, Err, IfSome, IfOk, IfErr, OnErr, IsErr, refl, sym, ap, subst}
 use Rattle.std.specs.Io.KnownBytes.{Appends, Keeps}
-use Rattle.std.proofs.KnownBytes.{Keeps-trans}
+use Rattle.std.proofs.KnownBytes.{Keeps-refl, Keeps-trans}
 use Rattle.krb_job.specs.declared.bad_input.BadInput.{BadInput}
 use Rattle.krb_commands.specs.declared.fault.Fault.{Fault}
 use Rattle.krb_commands.specs.declared.fault.Fault.TheVariants as fault
+use Rattle.krb_commands.specs.declared.fault.KeyFault.{KeyFault}
+use Rattle.krb_commands.specs.declared.fault.KeyFault.TheVariants.{Missing, NoKey, NoType, OtherType, Unreadable}
+use Rattle.krb_commands.specs.Key.{HasOtherType, key_in}
+use Rattle.krb_commands.specs.Fault.{IsOfKey, IsOfNoJob}
 use Rattle.krb_commands.specs.Input.{input_limit}
 use Rattle.krb_commands.specs.Output.{AppendsPrefix}
 use Rattle.krb_commands.proofs.OutputLemmas.{AppendsPrefix-whole}
@@ -16,7 +20,9 @@ use Rattle.krb_commands.specs.Parsed.{Parsed}
 use Rattle.krb_commands.specs.Jobs.{SealsParsed, SealsParsedPrefix, OpensParsed, OpensParsedFirst, OpensParsedPrefix}
 use Rattle.krb_program.specs.RelayedJob.{RelaysParsed, RelaysParsedPrefix, StopsParsed}
 use Rattle.krb_commands.specs.JobInput.{PrintsNothing}
-use Rattle.krb_program.specs.Running.{Does, DoesFirst, DoesPrefix, IsBadInput, HasRun}
+use Rattle.krb_etype.specs.declared.etype.Etype.{Etype}
+use Rattle.krb_etype.specs.TypedKey.{TypedKey}
+use Rattle.krb_program.specs.Running.{Does, DoesFirst, DoesPrefix, IsBadInput, HasRun, HasNoKey, HasShown, HasShownFile, IsKeyOf, ShowsPrefixUnder}
 
 -- what is said of bytes that are known stays true while they are kept
 stable : (P : Option (List ℕ) → Option (List ℕ) → Type 0) → ((a b : Option (List ℕ)) → P None a → P None b) → ((xs : List ℕ) → P (Some xs) None → ⊥)
@@ -28,7 +34,7 @@ stable P free none (Some xs) (Some ys) (Some zs) k p = subst (λ l. P (Some xs) 
 
 does_kept : (command : Cmd) (input old mid new : Option (List ℕ)) (status : ℕ) → Keeps mid new → Does command input old mid status → Does command input old new status
 does_kept Show None old mid new status k d = tt
-does_kept Show (Some bytes) old mid new status k d = stable (λ a b. Shows bytes a b status) (λ a b p. p) (λ xs p. p.2) old mid new k d
+does_kept Show (Some bytes) old mid new status k d = stable (λ a b. Shows None bytes a b status) (λ a b p. p) (λ xs p. p.2) old mid new k d
 does_kept Vectors input old mid new status k d = stable (λ a b. Appends a b vectors_text × (status ≡ 0)) (λ a b p. p) (λ xs p. p.0) old mid new k d
 does_kept Seal input old mid new status k d = λ parsed is. stable (λ a b. SealsParsed parsed a b × (status ≡ 0)) (λ a b p. p) (λ xs p. p.0.2.2.2) old mid new k (d parsed is)
 does_kept Open input old mid new status k d = λ parsed is. stable (λ a b. OpensParsed parsed a b status) (λ a b p. p) (λ xs p. p.2.2) old mid new k (d parsed is)
@@ -54,7 +60,7 @@ no_relays parsed xs (inr (job, e, inr (lanes, are, inr (inr (log, w, p))))) = p.
 
 prefix_kept : (command : Cmd) (input old mid new : Option (List ℕ)) → Keeps mid new → DoesPrefix command input old mid → DoesPrefix command input old new
 prefix_kept Show None old mid new k d = tt
-prefix_kept Show (Some bytes) old mid new k d = stable (λ a b. ShowsPrefix bytes a b) (λ a b p. p) (λ xs p. p.2.1) old mid new k d
+prefix_kept Show (Some bytes) old mid new k d = stable (λ a b. ShowsPrefix None bytes a b) (λ a b p. p) (λ xs p. p.2.1) old mid new k d
 prefix_kept Vectors input old mid new k d = stable (λ a b. AppendsPrefix a b vectors_text) (λ a b p. p) (λ xs p. p.1) old mid new k d
 prefix_kept Seal input old mid new k d = λ parsed is. stable (λ a b. SealsParsedPrefix parsed a b) (λ a b p. p) (no_seals parsed) old mid new k (d parsed is)
 prefix_kept Open input old mid new k d = λ parsed is. stable (λ a b. OpensParsedPrefix parsed a b) (λ a b p. p) (no_opens parsed) old mid new k (d parsed is)
@@ -93,12 +99,112 @@ pub run_kept : (command : Cmd) (input old mid new : Option (List ℕ)) (r : Resu
     → ((bad : BadInput) → r ≡ Err (fault.BadInput bad) → IsBadInput command input bad)
     → (r ≡ Err fault.TooLong → IfSome input (λ bytes. input_limit < length bytes))
     → PrintsNothing old mid r
+    → ((key : KeyFault) → r ≡ Err (fault.Key key) → ⊥)
     → HasRun command input old new r
-run_kept command input old mid new (Ok status) k done prefix first thread bad long nothing = does_kept command input old mid new status k done
-run_kept command input old mid new (Err fault.TooLong) k done prefix first thread bad long nothing = (long refl, Keeps-trans old mid new (nothing.too_long refl) k)
-run_kept command input old mid new (Err (fault.BadInput b)) k done prefix first thread bad long nothing = (bad b refl, Keeps-trans old mid new (nothing.bad_input b refl) k)
-run_kept command input old mid new (Err fault.Memory) k done prefix first thread bad long nothing = prefix_kept command input old mid new k prefix
-run_kept command input old mid new (Err (fault.Stopped lines)) k done prefix first thread bad long nothing = first_kept command lines input old mid new k (first lines refl)
-run_kept command input old mid new (Err (fault.Thread lines)) k done prefix first thread bad long nothing = first_kept command lines input old mid new k (thread lines refl)
-run_kept command input old mid new (Err fault.Read) k done prefix first thread bad long nothing = Keeps-trans old mid new (nothing.read_fault refl) k
-run_kept command input old mid new (Err fault.Write) k done prefix first thread bad long nothing = prefix_kept command input old mid new k prefix
+run_kept command input old mid new (Ok status) k done prefix first thread bad long nothing none = does_kept command input old mid new status k done
+run_kept command input old mid new (Err fault.TooLong) k done prefix first thread bad long nothing none = (long refl, Keeps-trans old mid new (nothing.too_long refl) k)
+run_kept command input old mid new (Err (fault.BadInput b)) k done prefix first thread bad long nothing none = (bad b refl, Keeps-trans old mid new (nothing.bad_input b refl) k)
+run_kept command input old mid new (Err (fault.Key key)) k done prefix first thread bad long nothing none = absurd (none key refl)
+run_kept command input old mid new (Err fault.Memory) k done prefix first thread bad long nothing none = prefix_kept command input old mid new k prefix
+run_kept command input old mid new (Err (fault.Stopped lines)) k done prefix first thread bad long nothing none = first_kept command lines input old mid new k (first lines refl)
+run_kept command input old mid new (Err (fault.Thread lines)) k done prefix first thread bad long nothing none = first_kept command lines input old mid new k (thread lines refl)
+run_kept command input old mid new (Err fault.Read) k done prefix first thread bad long nothing none = Keeps-trans old mid new (nothing.read_fault refl) k
+run_kept command input old mid new (Err fault.Write) k done prefix first thread bad long nothing none = prefix_kept command input old mid new k prefix
+
+-- ---- under the key of a file
+
+module _ (stated : Option Etype) (file input : Option (List ℕ)) where
+  shown_prefix : (key : TypedKey) (old new : Option (List ℕ)) → IsKeyOf stated file key → IfSome input (λ bytes. ShowsPrefix (Some key) bytes old new) → ShowsPrefixUnder stated file input old new
+  shown_prefix key old new is p = inr (key, is, p)
+
+  -- after the key was read, as `show` answers
+  pub shown_under : (key : TypedKey) (old new : Option (List ℕ)) (r : Result ℕ Fault) → IsKeyOf stated file key
+      → IfOk r (λ status. IfSome input (λ bytes. Shows (Some key) bytes old new status))
+      → OnErr r (IfSome input (λ bytes. ShowsPrefix (Some key) bytes old new))
+      → (r ≡ Err fault.Read → Keeps old new)
+      → (r ≡ Err fault.TooLong → IfSome input (λ bytes. input_limit < length bytes))
+      → (r ≡ Err fault.TooLong → Keeps old new)
+      → IfErr r IsOfNoJob
+      → HasShown stated file input old new r
+  shown_under key old new (Ok status) is shown prefix read long nothing none = (key, is, shown)
+  shown_under key old new (Err fault.TooLong) is shown prefix read long nothing none = (long refl, nothing refl)
+  shown_under key old new (Err (fault.BadInput b)) is shown prefix read long nothing none = absurd none
+  shown_under key old new (Err (fault.Key k)) is shown prefix read long nothing none = absurd none
+  shown_under key old new (Err fault.Memory) is shown prefix read long nothing none = shown_prefix key old new is prefix
+  shown_under key old new (Err (fault.Stopped lines)) is shown prefix read long nothing none = absurd none
+  shown_under key old new (Err (fault.Thread lines)) is shown prefix read long nothing none = absurd none
+  shown_under key old new (Err fault.Read) is shown prefix read long nothing none = read refl
+  shown_under key old new (Err fault.Write) is shown prefix read long nothing none = shown_prefix key old new is prefix
+
+  no_key_of : (key : KeyFault) → (key ≡ NoKey → IfSome file (λ bytes. key_in bytes ≡ None)) → (key ≡ OtherType → IfSome file (HasOtherType stated)) → HasNoKey stated file key
+  no_key_of NoKey none other = none refl
+  no_key_of OtherType none other = other refl
+  no_key_of Unreadable none other = tt
+  no_key_of Missing none other = tt
+  no_key_of NoType none other = tt
+
+  -- the key wasn't read
+  pub key_unread : (old : Option (List ℕ)) (r : Result ℕ Fault) → IfErr r IsOfKey → IsErr r
+      → (r ≡ Err (fault.Key NoKey) → IfSome file (λ bytes. key_in bytes ≡ None)) → (r ≡ Err (fault.Key OtherType) → IfSome file (HasOtherType stated))
+      → HasShown stated file input old old r
+  key_unread old (Ok status) of err none other = absurd cc
+  key_unread old (Err fault.TooLong) of err none other = absurd of
+  key_unread old (Err (fault.BadInput b)) of err none other = absurd of
+  key_unread old (Err (fault.Key k)) of err none other =
+      (no_key_of k (λ e. none (ap (λ x. Err (fault.Key x)) e)) (λ e. other (ap (λ x. Err (fault.Key x)) e)), Keeps-refl old)
+  key_unread old (Err fault.Memory) of err none other = inl (Keeps-refl old)
+  key_unread old (Err (fault.Stopped lines)) of err none other = absurd of
+  key_unread old (Err (fault.Thread lines)) of err none other = absurd of
+  key_unread old (Err fault.Read) of err none other = absurd of
+  key_unread old (Err fault.Write) of err none other = absurd of
+
+  whole_kept : (key : TypedKey) (bytes : Option (List ℕ)) (old mid new : Option (List ℕ)) (status : ℕ) → Keeps mid new → IfSome bytes (λ b. Shows (Some key) b old mid status) → IfSome bytes (λ b. Shows (Some key) b old new status)
+  whole_kept key None old mid new status k d = tt
+  whole_kept key (Some b) old mid new status k d = stable (λ x y. Shows (Some key) b x y status) (λ x y p. p) (λ xs p. p.2) old mid new k d
+
+  front_kept : (key : TypedKey) (bytes : Option (List ℕ)) (old mid new : Option (List ℕ)) → Keeps mid new → IfSome bytes (λ b. ShowsPrefix (Some key) b old mid) → IfSome bytes (λ b. ShowsPrefix (Some key) b old new)
+  front_kept key None old mid new k d = tt
+  front_kept key (Some b) old mid new k d = stable (λ x y. ShowsPrefix (Some key) b x y) (λ x y p. p) (λ xs p. p.2.1) old mid new k d
+
+  whole_front : (key : TypedKey) (bytes : Option (List ℕ)) (old new : Option (List ℕ)) (status : ℕ) → IfSome bytes (λ b. Shows (Some key) b old new status) → IfSome bytes (λ b. ShowsPrefix (Some key) b old new)
+  whole_front key None old new status d = tt
+  whole_front key (Some b) old new status d = (d.0, d.1, AppendsPrefix-whole old new _ d.2)
+
+  prefix_under_kept : (old mid new : Option (List ℕ)) → Keeps mid new → ShowsPrefixUnder stated file input old mid → ShowsPrefixUnder stated file input old new
+  prefix_under_kept old mid new k (inl p) = inl (Keeps-trans old mid new p k)
+  prefix_under_kept old mid new k (inr p) = inr (p.0, p.1, front_kept p.0 input old mid new k p.2)
+
+  -- a run, before the flush and after
+  pub shown_kept : (old mid new : Option (List ℕ)) (r : Result ℕ Fault) → Keeps mid new → HasShown stated file input old mid r → HasShown stated file input old new r
+  shown_kept old mid new (Ok status) k h = (h.0, h.1, whole_kept h.0 input old mid new status k h.2)
+  shown_kept old mid new (Err fault.TooLong) k h = (h.0, Keeps-trans old mid new h.1 k)
+  shown_kept old mid new (Err (fault.BadInput b)) k h = h
+  shown_kept old mid new (Err (fault.Key key)) k h = (h.0, Keeps-trans old mid new h.1 k)
+  shown_kept old mid new (Err fault.Memory) k h = prefix_under_kept old mid new k h
+  shown_kept old mid new (Err (fault.Stopped lines)) k h = h
+  shown_kept old mid new (Err (fault.Thread lines)) k h = h
+  shown_kept old mid new (Err fault.Read) k h = Keeps-trans old mid new h k
+  shown_kept old mid new (Err fault.Write) k h = prefix_under_kept old mid new k h
+
+  -- whatever it answered, where the flush fails
+  pub shown_front : (old new : Option (List ℕ)) (r : Result ℕ Fault) → HasShown stated file input old new r → ShowsPrefixUnder stated file input old new
+  shown_front old new (Ok status) h = inr (h.0, h.1, whole_front h.0 input old new status h.2)
+  shown_front old new (Err fault.TooLong) h = inl h.1
+  shown_front old new (Err (fault.BadInput b)) h = absurd h
+  shown_front old new (Err (fault.Key key)) h = inl h.1
+  shown_front old new (Err fault.Memory) h = h
+  shown_front old new (Err (fault.Stopped lines)) h = absurd h
+  shown_front old new (Err (fault.Thread lines)) h = absurd h
+  shown_front old new (Err fault.Read) h = inl h
+  shown_front old new (Err fault.Write) h = h
+
+-- the same of a type that is stated, whatever file it was
+module _ (told : Result (Option Etype) KeyFault) (stated : Option Etype) (input old mid new : Option (List ℕ)) (r : Result ℕ Fault) (is : told ≡ Ok stated) (k : Keeps mid new)
+    (h : (file : Option (List ℕ)) × HasShown stated file input old mid r) where
+  pub file_shown : HasShownFile told input old new r
+  file_shown = subst (λ t. HasShownFile t input old new r) (sym is) (h.0, shown_kept stated h.0 input old mid new r k h.1)
+
+  pub file_unflushed : HasShownFile told input old new (Err fault.Write)
+  file_unflushed =
+      let kept = shown_kept stated h.0 input old mid new r k h.1 in
+      subst (λ t. HasShownFile t input old new (Err fault.Write)) (sym is) (h.0, shown_front stated h.0 input old new r kept)

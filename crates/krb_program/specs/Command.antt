@@ -1,8 +1,10 @@
 -- The command line, in the words of `clap`.
-use Rattle.std.specs.Prelude.{◌≡◌, ℕ, List, Some, codes, true}
-use Rattle.clap.specs.Words.{App, new_app, with_subcommand, subcommand_name_of}
+use Rattle.std.specs.Prelude.{◌≡◌, ℕ, List, [], ◌∷◌, Option, Some, codes, true, option_map}
+use Rattle.clap.specs.Words.{App, Row, Rule, Shape, Text, first_of, new_app, new_rule}
+use Rattle.clap.specs.Words.{with_subcommand, subcommand_name_of}
 use Rattle.clap.specs.Simple.{new_shape, on_top}
 use Rattle.clap.specs.declared.parser.matches.ArgMatches.{ArgMatches}
+use Rattle.krb_program.specs.declared.command.Asked.{Asked}
 use Rattle.krb_program.specs.declared.command.Cmd.{Cmd}
 use Rattle.krb_program.specs.declared.command.Cmd.TheVariants.{Show, Vectors, Seal, Open, Relay}
 
@@ -24,10 +26,24 @@ no_commands =
     })
     (new_app (codes "krbrelay"))
 
-abbrev pub with_word : App → Cmd → App
-with_word app command = with_subcommand app (new_shape (word_of command))
+-- an option `--name VALUE`
+abbrev pub option_rule : Text → Rule
+option_rule name = record (new_rule name) { long = Some name; value_names = 1 }
 
--- the program's command line: each command stands alone, with no arguments of its own
+-- a command of the command line: only `show` has options
+abbrev pub shape_for : Cmd → Shape
+shape_for Show = record (new_shape (codes "show")) {
+  rules = option_rule (codes "key") ∷ option_rule (codes "etype") ∷ [];
+}
+shape_for Vectors = new_shape (word_of Vectors)
+shape_for Seal = new_shape (word_of Seal)
+shape_for Open = new_shape (word_of Open)
+shape_for Relay = new_shape (word_of Relay)
+
+abbrev pub with_word : App → Cmd → App
+with_word app command = with_subcommand app (shape_for command)
+
+-- the program's command line
 abbrev pub krbrelay_app : App
 krbrelay_app =
     with_word
@@ -40,3 +56,10 @@ IsWord word = (command : Cmd) × (word ≡ word_of command)
 -- a command was entered
 abbrev pub IsNamed : ArgMatches → Type 0
 IsNamed m = (command : Cmd) × (subcommand_name_of m ≡ Some (word_of command))
+
+-- what was entered is this command, with these values of its options
+pub record IsEntered (found : Option (Text × List Row)) (asked : Asked) : Type 0 where
+  pub options : List Row
+  pub command : found ≡ Some (word_of asked.command, options)
+  pub key : option_map (λ s. s.now) asked.key ≡ first_of (codes "key") options
+  pub etype : option_map (λ s. s.now) asked.etype ≡ first_of (codes "etype") options

@@ -22,5 +22,6 @@ of_relay cause.Wiped lane lines = fault.Memory
 -- any but a fault of reading
 abbrev pub IsOfRelaying : Fault → Type 0
 IsOfRelaying fault.TooLong = ⊥
+IsOfRelaying (fault.Key key) = ⊥
 IsOfRelaying fault.Read = ⊥
 IsOfRelaying other = Unit {0}

@@ -1,15 +1,26 @@
 -- What each command does, by the bytes that its reader has left, and the exit statuses.
-use Rattle.std.specs.Prelude.{◌≡◌, ◌<◌, List, ℕ, length, Option, IfSome, Result, Ok, Err}
+use Rattle.std.specs.Prelude.{◌≡◌, ◌⊎◌, ◌<◌, List, ℕ, codes, length, Option, Some, None, IfSome}
+use Rattle.std.specs.Prelude.{Result, Ok, Err, if◌then◌else◌, ok_or, option_map, ⊤}
+use Rattle.std.specs.Borrow.{Bor}
+use Rattle.std.specs.Str.{bytes_eq}
 use Rattle.std.specs.Io.KnownBytes.{Appends, Keeps}
 use Rattle.krb_job.specs.declared.job.Command.TheVariants as job
 use Rattle.krb_job.specs.declared.bad_input.BadInput.{BadInput}
 use Rattle.krb_commands.specs.declared.fault.Fault.{Fault}
 use Rattle.krb_commands.specs.declared.fault.Fault.TheVariants as fault
+use Rattle.krb_commands.specs.declared.fault.KeyFault.{KeyFault}
+use Rattle.krb_commands.specs.declared.fault.KeyFault.TheVariants.{Missing, NoKey, NoType, OtherType, Unreadable}
 use Rattle.krb_commands.specs.Fault.{fault_status}
 use Rattle.krb_commands.specs.Input.{input_limit}
 use Rattle.krb_commands.specs.Output.{AppendsPrefix}
+use Rattle.krb_commands.specs.Key.{HasOtherType, IsStated, key_in}
 use Rattle.krb_commands.specs.Show.{Shows, ShowsPrefix}
 use Rattle.krb_commands.specs.Vectors.{vectors_text}
+use Rattle.krb_etype.specs.declared.etype.Etype.{Etype}
+use Rattle.krb_etype.specs.declared.etype.Etype.TheVariants.{Aes128, Aes256}
+use Rattle.krb_etype.specs.TypedKey.{TypedKey}
+use Rattle.clap.specs.Words.{Text}
+use Rattle.krb_program.specs.declared.command.Asked.{Asked}
 use Rattle.krb_program.specs.declared.command.Cmd.{Cmd}
 use Rattle.krb_program.specs.declared.command.Cmd.TheVariants.{Show, Vectors, Seal, Open, Relay}
 use Rattle.krb_commands.specs.Parsed.{Parsed, IsParsed}
@@ -20,7 +31,7 @@ use Rattle.krb_program.specs.RelayedJob.{IsBadToRelay}
 
 -- all that the command is to write is written, and this is the status
 abbrev pub Does : Cmd → Option (List ℕ) → Option (List ℕ) → Option (List ℕ) → ℕ → Type 0
-Does Show input old new status = IfSome input (λ bytes. Shows bytes old new status)
+Does Show input old new status = IfSome input (λ bytes. Shows None bytes old new status)
 Does Vectors input old new status = Appends old new vectors_text × (status ≡ 0)
 Does Seal input old new status =
     (parsed : Parsed) → IsParsed job.Seal input parsed → SealsParsed parsed old new × (status ≡ 0)
@@ -31,7 +42,7 @@ Does Relay input old new status =
 
 -- a prefix of it
 abbrev pub DoesPrefix : Cmd → Option (List ℕ) → Option (List ℕ) → Option (List ℕ) → Type 0
-DoesPrefix Show input old new = IfSome input (λ bytes. ShowsPrefix bytes old new)
+DoesPrefix Show input old new = IfSome input (λ bytes. ShowsPrefix None bytes old new)
 DoesPrefix Vectors input old new = AppendsPrefix old new vectors_text
 DoesPrefix Seal input old new =
     (parsed : Parsed) → IsParsed job.Seal input parsed → SealsParsedPrefix parsed old new
@@ -67,11 +78,95 @@ HasRun command input old new (Err fault.TooLong) =
     IfSome input (λ bytes. input_limit < length bytes) × Keeps old new
 HasRun command input old new (Err (fault.BadInput bad)) =
     IsBadInput command input bad × Keeps old new
+HasRun command input old new (Err (fault.Key key)) = ⊥
 HasRun command input old new (Err fault.Memory) = DoesPrefix command input old new
 HasRun command input old new (Err (fault.Stopped lines)) = DoesFirst command lines input old new
 HasRun command input old new (Err (fault.Thread lines)) = DoesFirst command lines input old new
 HasRun command input old new (Err fault.Read) = Keeps old new
 HasRun command input old new (Err fault.Write) = DoesPrefix command input old new
+
+-- this is the key of a file, and of the type that is stated
+abbrev pub IsKeyOf : Option Etype → Option (List ℕ) → TypedKey → Type 0
+IsKeyOf stated file key =
+    IfSome file (λ bytes. key_in bytes ≡ Some key) × IsStated stated key.etype
+
+-- why the file gives no key
+abbrev pub HasNoKey : Option Etype → Option (List ℕ) → KeyFault → Type 0
+HasNoKey stated file NoKey = IfSome file (λ bytes. key_in bytes ≡ None)
+HasNoKey stated file OtherType = IfSome file (HasOtherType stated)
+HasNoKey stated file Unreadable = ⊤
+HasNoKey stated file Missing = ⊤
+HasNoKey stated file NoType = ⊤
+
+-- a prefix of what is shown under the key of a file, or nothing
+abbrev pub ShowsPrefixUnder : Option Etype → Option (List ℕ) → Option (List ℕ) → Option (List ℕ)
+    → Option (List ℕ) → Type 0
+ShowsPrefixUnder stated file input old new =
+    Keeps old new
+    ⊎ ((key : TypedKey) × IsKeyOf stated file key
+    × IfSome input (λ bytes. ShowsPrefix (Some key) bytes old new))
+
+-- What a run of `show` under the key of a file does, by the bytes that the file and the reader have
+-- left: all, or after a fault a prefix of it, and nothing where there is no key.
+abbrev pub HasShown : Option Etype → Option (List ℕ) → Option (List ℕ) → Option (List ℕ)
+    → Option (List ℕ) → Result ℕ Fault → Type 0
+HasShown stated file input old new (Ok status) =
+    (key : TypedKey) × IsKeyOf stated file key
+    × IfSome input (λ bytes. Shows (Some key) bytes old new status)
+HasShown stated file input old new (Err fault.TooLong) =
+    IfSome input (λ bytes. input_limit < length bytes) × Keeps old new
+HasShown stated file input old new (Err (fault.BadInput bad)) = ⊥
+HasShown stated file input old new (Err (fault.Key key)) = HasNoKey stated file key × Keeps old new
+HasShown stated file input old new (Err fault.Memory) = ShowsPrefixUnder stated file input old new
+HasShown stated file input old new (Err (fault.Stopped lines)) = ⊥
+HasShown stated file input old new (Err (fault.Thread lines)) = ⊥
+HasShown stated file input old new (Err fault.Read) = Keeps old new
+HasShown stated file input old new (Err fault.Write) = ShowsPrefixUnder stated file input old new
+
+-- the type that a text names by its number
+abbrev pub etype_named : Text → Option Etype
+etype_named text =
+    if bytes_eq text (codes "17") then Some Aes128 else
+    if bytes_eq text (codes "18") then Some Aes256 else None
+
+-- the type that an option states, if it is there
+abbrev pub stated_of : Option Text → Result (Option Etype) KeyFault
+stated_of None = Ok None
+stated_of (Some text) = ok_or (option_map (λ etype. Some etype) (etype_named text)) NoType
+
+-- the options of a key are refused, and nothing is written
+abbrev pub IsRefused : KeyFault → Option (List ℕ) → Option (List ℕ) → Result ℕ Fault → Type 0
+IsRefused key old new outcome =
+    ((outcome ≡ Err (fault.Key key)) ⊎ (outcome ≡ Err fault.Write)) × Keeps old new
+
+-- `show` was run under the key of a file, of the type that is stated
+abbrev pub HasShownFile : Result (Option Etype) KeyFault → Option (List ℕ) → Option (List ℕ)
+    → Option (List ℕ) → Result ℕ Fault → Type 0
+HasShownFile (Ok stated) input old new outcome =
+    (file : Option (List ℕ)) × HasShown stated file input old new outcome
+HasShownFile (Err key) input old new outcome = IsRefused key old new outcome
+
+-- A command was run, by the values of its options: `show` under the key of a file where one is
+-- named.
+abbrev pub HasServed : Cmd → Option Text → Option Text → Option (List ℕ) → Option (List ℕ)
+    → Option (List ℕ) → Result ℕ Fault → Type 0
+HasServed Show None None input old new outcome = HasRun Show input old new outcome
+HasServed Show None (Some etype) input old new outcome = IsRefused Missing old new outcome
+HasServed Show (Some path) etype input old new outcome =
+    HasShownFile (stated_of etype) input old new outcome
+HasServed Vectors key etype input old new outcome = HasRun Vectors input old new outcome
+HasServed Seal key etype input old new outcome = HasRun Seal input old new outcome
+HasServed Open key etype input old new outcome = HasRun Open input old new outcome
+HasServed Relay key etype input old new outcome = HasRun Relay input old new outcome
+
+abbrev pub text_behind : Option (Bor Text) → Option Text
+text_behind text = option_map (λ t. t.now) text
+
+-- what is done that a command line asks
+abbrev pub HasObeyed : Asked → Option (List ℕ) → Option (List ℕ) → Option (List ℕ) → Result ℕ Fault
+    → Type 0
+HasObeyed asked input old new outcome =
+    HasServed asked.command (text_behind asked.key) (text_behind asked.etype) input old new outcome
 
 -- the exit status of a run
 abbrev pub status_of : Result ℕ Fault → ℕ

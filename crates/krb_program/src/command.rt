@@ -1,12 +1,13 @@
 //! The command line.
-ghost use Rattle.std.specs.Prelude.{◌≡◌, IfOk, map, Some, option_map};
-ghost use Rattle.clap.specs.Words.{app_of, subcommand_of, subcommand_name_of, with_subcommand, FailsBy, fault_of};
-ghost use Rattle.clap.specs.Simple.{new_shape};
-ghost use Rattle.krb_program.specs.Command.{IsNamed, IsWord, krbrelay_app, with_word, word_of};
+ghost use Rattle.std.specs.Prelude.{◌≡◌, IfOk, false, map};
+ghost use Rattle.clap.specs.Words.{app_of, subcommand_of, rule_of, subcommand_rows_of, with_subcommand, FailsBy, fault_of, new_app};
+ghost use Rattle.clap.specs.declared.builder.command.Command.TheViews.{out-Command as fields_of};
+ghost use Rattle.krb_program.specs.Command as line;
+ghost use Rattle.krb_program.specs.Command.{IsEntered, IsNamed, IsWord, krbrelay_app, shape_for, with_word, word_of};
 
 use crate::help;
 use crate::help::Help;
-use clap::{ArgMatches, Command, Error};
+use clap::{Arg, ArgMatches, Command, Error};
 use std::alloc::{AllocError, Global};
 use std::convert::AsStr;
 
@@ -41,13 +42,23 @@ impl Cmd {
     }
 }
 
-/// The command that the words of a command line name, of which the first is the program's name.
+/// What a command line asks.
+#[derive(Clone, Copy, Debug, PartialEq, Eq)]
+pub struct Asked<'a> {
+    /// The command.
+    pub command: Cmd,
+    /// The file of the key under which messages are shown.
+    pub key: Option<&'a str>,
+    /// The number of the encryption type that this key is of.
+    pub etype: Option<&'a str>,
+}
+
+/// What the words of a command line ask, of which the first is the program's name.
 ///
 /// An error is `clap`'s: a fault of usage, a request for help, or that there was no memory.
-pub fn command_of<'a, S: AsStr>(alloc: Global, words: &'a [S]) -> Result<Cmd, Error>
-    ensures command { IfOk result (λ command.
-        option_map (λ p. p.0) (subcommand_of krbrelay_app (map S.text words.entry.now))
-        ≡ Some (word_of command)) }
+pub fn command_of<'a, S: AsStr>(alloc: Global, words: &'a [S]) -> Result<Asked<'a>, Error>
+    ensures asked { IfOk result
+        (IsEntered (subcommand_of krbrelay_app (map S.text words.entry.now))) }
     ensures faults { FailsBy (fault_of krbrelay_app (map S.text words.entry.now)) result }
 {
     let command = command_line(alloc)?;
@@ -55,13 +66,17 @@ pub fn command_of<'a, S: AsStr>(alloc: Global, words: &'a [S]) -> Result<Cmd, Er
     Ok(entered(&matches))
 }
 
-/// The command that was entered.
-fn entered<'a>(matches: &ArgMatches<'a>) -> Cmd
+/// The command that was entered, and its options.
+fn entered<'a>(matches: &ArgMatches<'a>) -> Asked<'a>
     requires { IsNamed matches.now }
-    ensures { subcommand_name_of matches.now ≡ Some (word_of result) }
+    ensures { IsEntered (subcommand_rows_of matches.now) result }
 {
-    let word = matches.subcommand_name().unwrap();
-    Cmd::of_word(word)
+    let (word, options) = matches.subcommand().unwrap();
+    Asked {
+        command: Cmd::of_word(word),
+        key: options.get_str("key"),
+        etype: options.get_str("etype"),
+    }
 }
 
 /// The command line as `clap` knows it: one line for each command, with its help.
@@ -83,7 +98,7 @@ fn with_messages<'a>(alloc: Global, line: Command<'a>) -> Result<Command<'a>, Al
     ensures { IfOk result (λ command.
         app_of command ≡ with_word (with_word (app_of line.entry) Cmd.Show) Cmd.Vectors) }
 {
-    let line = with_command(alloc, line, "show", help::SHOW)?;
+    let line = line.subcommand(show(alloc)?)?;
     with_command(alloc, line, "vectors", help::VECTORS)
 }
 
@@ -97,19 +112,47 @@ fn with_jobs<'a>(alloc: Global, line: Command<'a>) -> Result<Command<'a>, AllocE
     with_command(alloc, line, "relay", help::RELAY)
 }
 
+/// Adds a command without options.
 fn with_command<'a>(
     alloc: Global,
     line: Command<'a>,
     word: &'static str,
     help: Help,
 ) -> Result<Command<'a>, AllocError>
-    ensures { IfOk result (λ command.
-        app_of command ≡ with_subcommand (app_of line.entry) (new_shape word.entry.now)) }
+    ensures { IfOk result (λ command. app_of command
+        ≡ with_subcommand (app_of line.entry) (new_app word.entry.now).top) }
 {
-    line.subcommand(
-        Command::new(alloc, word)
-            .override_usage(help.usage)
-            .about(help.about)
-            .after_help(help.after),
-    )
+    line.subcommand(described(alloc, word, help))
+}
+
+/// The command `show`, with the options of a key.
+fn show<'a>(alloc: Global) -> Result<Command<'a>, AllocError>
+    ensures shape { IfOk result (λ command. (app_of command).top ≡ shape_for Cmd.Show) }
+    ensures local { IfOk result (λ command. (fields_of command).has_globals ≡ false) }
+{
+    let key = option(alloc, "key", "FILE", help::KEY);
+    let etype = option(alloc, "etype", "N", help::ETYPE);
+    described(alloc, "show", help::SHOW).arg(key)?.arg(etype)
+}
+
+/// A command without options.
+fn described<'a>(alloc: Global, word: &'static str, help: Help) -> Command<'a>
+    ensures app { app_of result ≡ new_app word.entry.now }
+    ensures local { (fields_of result).has_globals ≡ false }
+{
+    Command::new(alloc, word)
+        .override_usage(help.usage)
+        .about(help.about)
+        .after_help(help.after)
+}
+
+/// An option with one value.
+fn option<'a>(alloc: Global, name: &'static str, value: &'static str, help: &'static str) -> Arg<'a>
+    ensures rule { rule_of result ≡ line.option_rule name.entry.now }
+    ensures local { result.global ≡ false }
+{
+    Arg::new(alloc, name)
+        .long(name)
+        .value_name(value)
+        .help(help)
 }

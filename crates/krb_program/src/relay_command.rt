@@ -7,6 +7,7 @@ ghost use Rattle.krb_peers.specs.Ends.{lanes_of};
 ghost use Rattle.krb_job.specs.declared.bad_input.BadInput.{BadInput};
 ghost use Rattle.krb_job.specs.Job.{job_view};
 ghost use Rattle.krb_job.specs.SenderView.{sender_view};
+ghost use Rattle.krb_commands.specs.declared.fault.KeyFault.{KeyFault};
 ghost use Rattle.krb_commands.specs.Ends as ends;
 ghost use Rattle.krb_commands.specs.Ends.{AreReady, lane_stated};
 ghost use Rattle.krb_commands.specs.JobInput.{ReadsInput, PrintsNothing};
@@ -38,6 +39,7 @@ pub fn relay<T: Threads + Wait + Sync, R: Read, W: Write, G: Gate + Sync>(
 
     ensures reading { ReadsInput Command.Relay (R.remaining reader.old) IsBadToRelay result }
     ensures nothing { PrintsNothing (W.contents writer.old) (W.contents writer.new) result }
+    ensures no_key { (key : KeyFault) → ¬ (result ≡ Err (Fault.Key key)) }
     ensures stopped { (parsed : Parsed) → IsParsed Command.Relay (R.remaining reader.old) parsed
         → (lines : ℕ) → result ≡ Err (Fault.Stopped lines)
         → StopsParsed parsed lines (W.contents writer.old) (W.contents writer.new) }

@@ -1,21 +1,25 @@
 //! A command over a reader and a writer.
 
-ghost use Rattle.std.specs.Prelude.{◌≡◌, ◌≢◌, [], ◌<◌, ◌≤◌, ℕ, length, map, option_map, Some, IfOk, OnOk, OnErr, IfSome};
+ghost use Rattle.std.specs.Prelude.{◌≡◌, ◌≢◌, [], ◌<◌, ◌≤◌, ℕ, List, Option, length, map, option_map, Some, IfOk, OnOk, OnErr, IfSome};
 ghost use Rattle.std.specs.Io.Buffered.{writer_buffer, writer_contents};
 ghost use Rattle.clap.specs.Words.{subcommand_of, FailsBy, fault_of};
 ghost use Rattle.krb_job.specs.declared.bad_input.BadInput.{BadInput};
 ghost use Rattle.krb_commands.specs.Input.{input_limit};
-ghost use Rattle.krb_program.specs.Command.{krbrelay_app, word_of};
+ghost use Rattle.krb_program.specs.Command.{IsEntered, krbrelay_app, word_of};
 ghost use Rattle.krb_commands.specs.JobInput.{PrintsNothing};
-ghost use Rattle.krb_program.specs.Running.{Does, DoesFirst, DoesPrefix, IsBadInput, HasRun};
+ghost use Rattle.krb_commands.specs.declared.fault.KeyFault.{KeyFault as KeyFaultValue};
+ghost use Rattle.krb_program.specs.declared.command.Asked.{Asked as AskedValue};
+ghost use Rattle.krb_program.specs.Running.{Does, DoesFirst, DoesPrefix, IsBadInput, HasObeyed, HasRun, HasShown, HasShownFile, IsRefused, stated_of, text_behind};
 
-use crate::command::{Cmd, command_of};
+use crate::command::{Asked, Cmd, command_of};
 use crate::relay_command::relay;
 use clap::Error;
-use krb_commands::{Fault, open, seal, show, vectors};
+use krb_commands::{Fault, KeyFault, open, read_key, seal, show, vectors};
 use krb_relay::Gate;
+use krb_seal::Etype;
 use std::alloc::Global;
 use std::convert::AsStr;
+use std::fs::{File, Files};
 use std::io::{BufWriter, Read, Write};
 use std::sync::Wait;
 use std::thread::Threads;
@@ -24,7 +28,14 @@ use std::thread::Threads;
 /// calls stand within the gate.
 ///
 /// An error is `clap`'s, and nothing is read or written then. `vectors` reads nothing.
-pub fn obey<'a, T: Threads + Wait + Sync, S: AsStr, R: Read, W: Write + Drop, G: Gate + Sync>(
+pub fn obey<
+    'a,
+    T: Threads + Wait + Files + Sync,
+    S: AsStr,
+    R: Read,
+    W: Write + Drop,
+    G: Gate + Sync,
+>(
     rt: &T,
     alloc: Global,
     words: &'a [S],
@@ -32,10 +43,9 @@ pub fn obey<'a, T: Threads + Wait + Sync, S: AsStr, R: Read, W: Write + Drop, G:
     writer: &mut BufWriter<W>,
     gate: &G,
 ) -> Result<Result<u8, Fault>, Error>
-    ensures ran { IfOk result (λ outcome. (command : Cmd)
-        × (option_map (λ p. p.0) (subcommand_of krbrelay_app (map S.text words.entry.now))
-        ≡ Some (word_of command))
-        × HasRun command (R.remaining reader.old) (writer_contents W.contents writer.old)
+    ensures ran { IfOk result (λ outcome. (asked : AskedValue)
+        × IsEntered (subcommand_of krbrelay_app (map S.text words.entry.now)) asked
+        × HasObeyed asked (R.remaining reader.old) (writer_contents W.contents writer.old)
         (writer_contents W.contents writer.new) outcome) }
     ensures flushed { IfOk result (λ outcome. ¬ (outcome ≡ Err Fault.Write)
         → writer_buffer writer.new ≡ []) }
@@ -47,8 +57,100 @@ pub fn obey<'a, T: Threads + Wait + Sync, S: AsStr, R: Read, W: Write + Drop, G:
     ensures nothing_read { OnErr result (reader.new ≡ reader.old) }
     ensures nothing_written { OnErr result (writer.new ≡ writer.old) }
 {
-    let command = command_of(alloc, words)?;
-    Ok(run(rt, alloc, command, reader, writer, gate))
+    let asked = command_of(alloc, words)?;
+    Ok(serve(rt, alloc, asked, reader, writer, gate))
+}
+
+/// Does what a command line asks, and answers the exit status.
+fn serve<T: Threads + Wait + Files + Sync, R: Read, W: Write + Drop, G: Gate + Sync>(
+    rt: &T,
+    alloc: Global,
+    asked: Asked<'_>,
+    reader: &mut R,
+    writer: &mut BufWriter<W>,
+    gate: &G,
+) -> Result<u8, Fault>
+    ensures obeyed { HasObeyed asked.entry (R.remaining reader.old)
+        (writer_contents W.contents writer.old) (writer_contents W.contents writer.new) result }
+    ensures flushed { ¬ (result ≡ Err Fault.Write) → writer_buffer writer.new ≡ [] }
+    ensures vectors_reads_nothing { asked.entry.command ≡ Cmd.Vectors → reader.new ≡ reader.old }
+{
+    if !matches!(asked.command, Cmd::Show) {
+        return run(rt, alloc, asked.command, reader, writer, gate);
+    }
+    match asked.key {
+        Some(path) => show_file(rt, alloc, path, asked.etype, reader, writer),
+        None if asked.etype.is_some() => refuse_key(KeyFault::Missing, writer),
+        None => run(rt, alloc, asked.command, reader, writer, gate),
+    }
+}
+
+/// Runs `show` under the key of a file, whose type may be stated.
+fn show_file<F: Files, R: Read, W: Write + Drop>(
+    files: &F,
+    alloc: Global,
+    path: &str,
+    etype: Option<&str>,
+    reader: &mut R,
+    writer: &mut BufWriter<W>,
+) -> Result<u8, Fault>
+    ensures shown { HasShownFile (stated_of (text_behind etype.entry)) (R.remaining reader.old)
+        (writer_contents W.contents writer.old) (writer_contents W.contents writer.new) result }
+    ensures flushed { ¬ (result ≡ Err Fault.Write) → writer_buffer writer.new ≡ [] }
+{
+    let stated = match stated_type(etype) {
+        Ok(stated) => stated,
+        Err(fault) => return refuse_key(fault, writer),
+    };
+    let outcome = show_under(files, alloc, path, stated, reader, writer);
+    if writer.flush().is_err() {
+        return Err(Fault::Write);
+    }
+    outcome
+}
+
+/// The encryption type that an option states, if it is there.
+fn stated_type(etype: Option<&str>) -> Result<Option<Etype>, KeyFault>
+    ensures { result ≡ stated_of (text_behind etype.entry) }
+{
+    match etype {
+        None => Ok(None),
+        Some("17") => Ok(Some(Etype::Aes128)),
+        Some("18") => Ok(Some(Etype::Aes256)),
+        Some(_) => Err(KeyFault::NoType),
+    }
+}
+
+/// Answers that there is no key.
+fn refuse_key<W: Write + Drop>(fault: KeyFault, writer: &mut BufWriter<W>) -> Result<u8, Fault>
+    ensures refused { IsRefused fault (writer_contents W.contents writer.old)
+        (writer_contents W.contents writer.new) result }
+    ensures flushed { ¬ (result ≡ Err Fault.Write) → writer_buffer writer.new ≡ [] }
+{
+    if writer.flush().is_err() {
+        return Err(Fault::Write);
+    }
+    Err(Fault::Key(fault))
+}
+
+/// Prints the messages of the input and what the key of a file gives of them, and lets the last lines
+/// stand in the writer's buffer.
+fn show_under<F: Files, R: Read, W: Write>(
+    files: &F,
+    alloc: Global,
+    path: &str,
+    stated: Option<Etype>,
+    reader: &mut R,
+    writer: &mut W,
+) -> Result<u8, Fault>
+    ensures { (file : Option (List ℕ)) × HasShown stated file (R.remaining reader.old)
+        (W.contents writer.old) (W.contents writer.new) result }
+{
+    let Ok(mut file) = File::open(files, path) else {
+        return Err(Fault::Key(KeyFault::Unreadable));
+    };
+    let openers = read_key(alloc, &mut file, stated)?;
+    show(alloc, Some(&openers), reader, writer)
 }
 
 /// Runs a command, and answers the exit status. A relay's seal calls stand within the gate.
@@ -105,9 +207,10 @@ fn command_over<T: Threads + Wait + Sync, R: Read, W: Write, G: Gate + Sync>(
     ensures too_long { result ≡ Err Fault.TooLong
         → IfSome (R.remaining reader.old) (λ input. input_limit < length input) }
     ensures nothing { PrintsNothing (W.contents writer.old) (W.contents writer.new) result }
+    ensures no_key { (key : KeyFaultValue) → ¬ (result ≡ Err (Fault.Key key)) }
 {
     match command {
-        Cmd::Show => show(alloc, reader, writer),
+        Cmd::Show => show(alloc, None, reader, writer),
         Cmd::Vectors => vectors(alloc, writer),
         Cmd::Seal => seal(alloc, reader, writer),
         Cmd::Open => open(alloc, reader, writer),

@@ -9,4 +9,4 @@ returns c =
     let etype : SFits w32 c.args.m.now.etype = search rules in
     formatted c.format.result _ _ c.format.ensures.ok
     (rw (to_z-of_z pvno, to_z-of_z msg_type, to_z-of_z etype, c.in_ok-kvno.ensures, c.in_ok-cipher.ensures, c.as_slice.ensures)
-    (priv_joined _ _ _ _ _))
+    (priv_joined _ _ _ _ _ _))

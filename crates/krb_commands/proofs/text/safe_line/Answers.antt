@@ -10,4 +10,4 @@ returns c =
     let cksum_type : SFits w32 c.args.m.now.cksum_type = search rules in
     formatted c.format.result _ _ c.format.ensures.ok
     (rw (to_z-of_z pvno, to_z-of_z msg_type, c.in_ok-body.ensures, c.in_ok-cksum.ensures, to_z-of_z cksum_type)
-    (safe_joined _ _ (body_text c.args.m.now.body) _))
+    (safe_joined _ _ (body_text c.args.m.now.body) _ _))

@@ -9,4 +9,4 @@ returns-then-is_err-clause-run g c =
 pub returns-clause-run : goal.returns-clause-run
 returns-clause-run g c =
     let over = c.command_over-outcome.ensures in
-    run_kept c.args.command _ _ _ _ c.command_over-outcome.result c.flush.ensures.bytes over.done over.prefix over.stopped over.thread over.bad_input over.too_long over.nothing
+    run_kept c.args.command _ _ _ _ c.command_over-outcome.result c.flush.ensures.bytes over.done over.prefix over.stopped over.thread over.bad_input over.too_long over.nothing over.no_key
