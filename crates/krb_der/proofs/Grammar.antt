@@ -1,7 +1,7 @@
 -- The values of the grammar, each read from its spelling and from nothing else.
 use Rattle.std.proofs.Common.{◌≡◌, ℕ, ◌+◌, ◌^◌, ◌<◌, ◌≤◌, Bool, true, false, ltb, ℤ, pos, negsuc, List, [], ◌∷◌, ◌++◌, length, Option, Some, None, Result, Ok, Err, refl, sym, ap, subst, ◌∙◌, arith, inl, inr, lit≤, lit<, ◌⊎◌}
 use Rattle.std.specs.List.{concat}
-use Rattle.std.specs.Prelude.{MatchResult, IfSome, IsSome}
+use Rattle.std.specs.Prelude.{MatchResult, IfSome, IsSome, IsErrAnd}
 use Rattle.std.proofs.lemmas.Bool.{lt-ltb, ltb-true}
 use Rattle.krb_der.specs.declared.address.HostAddress.{HostAddress}
 use Rattle.krb_der.specs.declared.body.Body.{Body}
@@ -22,7 +22,8 @@ use Rattle.krb_der.specs.Safe.{safe_fields, IsSafe}
 use Rattle.krb_der.specs.Message.{safe}
 use Rattle.krb_der.specs.Private.{encrypted_data, private_fields, IsPrivate}
 use Rattle.krb_der.specs.Message.{private}
-use Rattle.krb_der.specs.Message.{message, IsMessage, SpellsWithin, Spells, SpellsPart, OneSpelling, UniqueSpelling, Decodes}
+use Rattle.krb_der.specs.MessageRef.{owned}
+use Rattle.krb_der.specs.Message.{message, IsMessage, SpellsWithin, Spells, SpellsPart, OneSpelling, UniqueSpelling, Decodes, DecodesBorrowed}
 use Rattle.krb_base.specs.Limits.{frame_limit}
 use Rattle.krb_base.specs.Steps.{◌>>=◌}
 use Rattle.krb_tlv.specs.Reading.{alone, signed, int_of, as_int32, as_below, int32_of, below_of, int32_element_of, below_element_of, octets_of, starts_with, tagged_at, Finds}
@@ -382,6 +383,18 @@ decodes P spell of r bytes (Err errors.Memory) fits le e = spells-some P spell o
 
 pub message_decodes : (bytes : List ℕ) (r : Result Message DerError) → AreBytes bytes → length bytes ≤ frame_limit → Gives (λ m. m) r (message_of bytes) → Decodes Spells r bytes
 message_decodes = decodes IsMessage message message_of message_reads
+
+-- what isn't read isn't copied either
+pub refused_alike : (bytes : List ℕ) (e : DerError) (r : Result Message DerError) → DecodesBorrowed Spells owned (Err e) bytes → IsErrAnd r (λ x. x ≡ e) → Decodes Spells r bytes
+refused_alike bytes e (Ok m) h is = absurd is
+refused_alike bytes errors.TooLong (Err x) h is = subst (λ (z : DerError). Decodes Spells (Err z) bytes) (sym is) h
+refused_alike bytes errors.Malformed (Err x) h is = subst (λ (z : DerError). Decodes Spells (Err z) bytes) (sym is) h
+refused_alike bytes errors.Memory (Err x) h is = absurd h
+
+-- what is read is copied, or memory runs out
+pub copied : (bytes : List ℕ) (m : Message) (r : Result Message DerError) → Spells m bytes → IsErrAnd r (λ x. x ≡ errors.Memory) → Decodes Spells r bytes
+copied bytes m (Ok x) s is = absurd is
+copied bytes m (Err x) s is = subst (λ (z : DerError). Decodes Spells (Err z) bytes) (sym is) (m, s)
 
 pub part_decodes : (bytes : List ℕ) (r : Result Body DerError) → AreBytes bytes → length bytes ≤ frame_limit → Gives (λ b. b) r (part_of bytes) → Decodes SpellsPart r bytes
 part_decodes = decodes IsBody part part_of part_reads

@@ -4,7 +4,7 @@ ghost use Rattle.krb_der.specs.declared.message.Message.{Message as MessageValue
 ghost use Rattle.krb_der.specs.Message.{Decodes, Spells, DecodesBorrowed};
 ghost use Rattle.krb_der.specs.MessageRef.{owned};
 ghost use Rattle.krb_tlv.specs.Reading.{Finds};
-ghost use Rattle.krb_der.specs.Reading.{Gives, message_of};
+ghost use Rattle.krb_der.specs.Reading.{message_of};
 
 use crate::error::DerError;
 use crate::private::{PrivMsg, PrivRef, read_private};
@@ -57,16 +57,6 @@ fn message_in(bytes: &[u8]) -> Option<MessageRef<'_>>
     Some(MessageRef::Priv(found))
 }
 
-/// The same, with byte strings of its own.
-fn read_message(alloc: Global, bytes: &[u8]) -> Result<Message, DerError>
-    ensures { Gives (λ x. x) result (message_of bytes.now) }
-{
-    match message_in(bytes) {
-        Some(found) => Ok(found.to_owned(alloc)?),
-        None => Err(DerError::Malformed),
-    }
-}
-
 /// The message that the bytes spell, with its byte strings where they lie. Nothing is allocated.
 ///
 /// [`DerError::TooLong`] is returned if and only if there are over 1,005,000 bytes, and
@@ -94,8 +84,6 @@ pub fn decode(alloc: Global, bytes: &[u8]) -> Result<Message, DerError>
     ensures only { (m : MessageValue) → Spells m bytes.now
         → MatchResult result (λ v. v ≡ m) (λ e. e ≡ Memory) }
 {
-    if bytes.len() > FRAME_LIMIT {
-        return Err(DerError::TooLong);
-    }
-    read_message(alloc, bytes)
+    let found = decode_borrowed(bytes)?;
+    Ok(found.to_owned(alloc)?)
 }
