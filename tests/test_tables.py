@@ -16,13 +16,14 @@ HEADER, SYMBOLS = "c/krbrelay.h", "c/krbrelay.map"
 REFUSALS, LIMITS = "crates/krb_seal/src/refusal.rt", "crates/krb_base/src/limits.rt"
 HELP = "crates/krb_program/src/help.rt"
 # The structs of the C library in Rust, and how C writes their types. Handles are none of them.
-STRUCTS = ("crates/krb_structs/src/*.rt", "crates/krb_c/src/place.rt",
-           "crates/krb_c/src/progress.rt", "crates/krb_window/src/window.rt")
-HANDLES = {"sealer", "opener", "receiver", "peer"}
+STRUCTS = ("crates/krb_structs/src/*.rt", "crates/krb_carrier_structs/src/*.rt", "crates/krb_window/src/window.rt")
+HANDLES = {"sealer", "opener", "receiver", "peer", "queue"}
 C_TYPES = {"uint64_t": "u64", "uint32_t": "u32", "int32_t": "i32", "uint8_t": "u8",
-           "struct krbrelay_address": "KrbAddress"}
+           **{f"struct krbrelay_{it}": f"Krb{it.capitalize()}" for it in
+              ("address", "pause", "progress", "row", "spot")}}
 PYTHON_TYPES = {"c_uint64": "u64", "c_uint32": "u32", "c_int32": "i32", "c_uint8": "u8",
-                "AddressStruct": "KrbAddress", "ADDRESS_LIMIT": "ADDRESS_ROOM"}
+                "ADDRESS_LIMIT": "ADDRESS_ROOM",
+                **{f"{it}Struct": f"Krb{it}" for it in ("Address", "Pause", "Progress", "Row", "Spot")}}
 ORACLE = "tests/oracle"
 SIZES = ("crates/krb_structs/src/room.rt", "crates/krb_structs/src/session.rt",
          "crates/krb_commands/src/input.rt")
@@ -141,8 +142,8 @@ def of_python(path):
 def structs_of_header():
     """The fields of each struct of the header, as Rust writes them, by its name."""
     text = re.sub(r"/\*.*?\*/", "", building.text_of(HEADER), flags=re.S)
-    return {name: [(field, f"[{C_TYPES[kind]}; {size[1:-1]}]" if size else C_TYPES[kind])
-                   for kind, field, size in re.findall(r"((?:struct )?\w+) (\w+)(\[\d+\])?;", body)]
+    return {name: [(field, f"[{C_TYPES[kind]}; {size.removeprefix('KRBRELAY_')}]" if size else C_TYPES[kind])
+                   for kind, field, size in re.findall(r"((?:struct )?\w+) (\w+)(?:\[(\w+)\])?;", body)]
             for name, body in re.findall(r"^struct krbrelay_(\w+) \{(.*?)\};", text, re.S | re.M)
             if name not in HANDLES}
 

@@ -72,6 +72,22 @@ static void store_place(uint64_t at, uint32_t missed)
     stored[1] = missed;
 }
 
+static uint64_t published;
+
+static void publish(uint64_t number, uint64_t count)
+{
+    published = number + count;
+}
+
+/* krbrelay_sending(3): it is the session's turn. */
+static void serve(struct krbrelay_sending sending, uint64_t room, uint64_t now)
+{
+    struct krbrelay_command command;
+    if (krbrelay_sending_serve(&sending, room, now, &command) == KRBRELAY_OK
+        && command.kind == KRBRELAY_COMMAND_PUBLISH)
+        publish(command.number, command.count);
+}
+
 /* krbrelay_place(3): a frame was accepted. */
 static void accepted(struct krbrelay_place place, uint64_t offset, uint64_t demanded)
 {
@@ -151,7 +167,17 @@ static int carries(void)
     return stored[0] == 5 && stored[1] == 0;
 }
 
+/* Whether both frames that are stored leave. */
+static int serves(void)
+{
+    struct krbrelay_sending sending;
+    if (krbrelay_sending_load(&sending, 2, 0, 0, 0, 1, 0) != KRBRELAY_OK)
+        return 0;
+    serve(sending, 8, 0);
+    return published == 2;
+}
+
 int main(void)
 {
-    return !(seals() && reads_addresses() && prints() && carries());
+    return !(seals() && reads_addresses() && prints() && carries() && serves());
 }

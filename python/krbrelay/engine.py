@@ -513,8 +513,9 @@ def judge(head: Optional[Head], opening: Opening) -> Judged:
     ValueError, TypeError."""
     last = HeadStruct()
     if head is not None:
-        last = HeadStruct(ranged("the turn", head.turn, 1, NEVER), _number("the number", head.number),
-                          _digest(head.history), bool(head.closed))
+        last = HeadStruct(ranged("the turn", head.turn, 1, NEVER),
+                          _number("the number", head.number), _digest(head.history),
+                          bool(head.closed))
     says = OpeningStruct(_number("the turn", opening.turn), _number("the number", opening.number),
                          _digest(opening.history))
     judged = c_uint32()
