@@ -180,6 +180,6 @@ int effects_take(struct store *store, const struct arrived *it)
         return -1;
     refused = find(memory, it);
     if (refused != NULL && refused->times >= chosen.tries)
-        return put_aside(store, it, refused->reason);
+        return put_aside(store, it, refused->reason) == 0 ? EFFECT_ASIDE : -1;
     return take_alone(store, it, memory);
 }

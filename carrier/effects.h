@@ -27,12 +27,12 @@
 /* Chooses it, before any shard is served; NULL is the effect of effect.c. 0, or -1 with a report. */
 int effects_choose(const char *word, unsigned tries);
 
-/* The effect of one text, as take_effect. */
+/* The effect of one text, as take_effect, or EFFECT_ASIDE: it is put aside. */
 int effects_take(struct store *store, const struct arrived *it);
 
 /* ---- For effects: one that refuses a text says why, and answers EFFECT_REFUSED. */
 
-enum { EFFECT_REFUSED = 1, EFFECT_REASON = 256 };
+enum { EFFECT_REFUSED = 1, EFFECT_ASIDE = 2, EFFECT_REASON = 256 };
 typedef int effect_call(struct store *store, const struct arrived *it, char reason[EFFECT_REASON]);
 
 int statement_choose(const char *statement);

@@ -164,6 +164,15 @@ static int take_unknown(struct shard *s, const struct carried *it)
 
 /* ---- A frame that is accepted */
 
+/* The effect of a text, or that it is put aside: 0, or -1 after a fault. */
+static int take_text(struct shard *s, const struct arrived *it)
+{
+    int answer = effects_take(s->store, it);
+    s->counts.texts += answer == 0;
+    s->aside += answer == EFFECT_ASIDE;
+    return answer == EFFECT_ASIDE ? 0 : answer;
+}
+
 /* The effects of the texts of a record. */
 static int take_effects(struct shard *s, const struct receiving *of, uint64_t number, uint32_t kind,
                         size_t size)
@@ -173,13 +182,12 @@ static int take_effects(struct shard *s, const struct receiving *of, uint64_t nu
     size_t at = 0;
     int answer = 0;
     if (kind == KRBRELAY_TEXT)
-        answer = effects_take(s->store, &it);
+        answer = take_text(s, &it);
     while (kind == KRBRELAY_BATCH && answer == 0
            && krbrelay_batch_next(s->bytes, size, &at, &it.text, &it.len) == KRBRELAY_OK) {
-        answer = effects_take(s->store, &it);
+        answer = take_text(s, &it);
         it.part++;
     }
-    s->counts.texts += kind == KRBRELAY_TEXT ? 1 : it.part;
     s->counts.bytes += size;
     return answer;
 }
@@ -326,6 +334,8 @@ static int take_all(struct shard *s, int count)
         store_rollback(s->store);
     s->counts.storing += nanoseconds() - began;
     s->counts.commits += answer == 0;
+    s->counts.aside += answer == 0 ? s->aside : 0;
+    s->aside = 0;
     if (answer == 0) {
         s->stored = s->now = to;
         s->least = s->news.count = 0;

@@ -83,7 +83,7 @@ enum {
 };
 
 struct shard_counts {
-    unsigned long frames, texts, accepted, repeats, early, fenced, commits, back, opened,
+    unsigned long frames, texts, aside, accepted, repeats, early, fenced, commits, back, opened,
         receipts;
     unsigned long refused[REFUSALS]; /* neither as repeats nor as early */
     unsigned long long bytes;
@@ -107,6 +107,7 @@ struct shard {
     void *receivings;              /* tsearch's tree of a struct receiving for each session */
     size_t count, room;            /* so many there are, and those below have room in these: */
     struct receivings changed;     /* those that this transaction moves */
+    unsigned long aside;           /* texts that this transaction puts aside */
     struct receivings owing;       /* those that owe a receipt */
     struct receivings standing;    /* those that stand, or did a moment ago */
     struct receivings asked;       /* those of which the store is asked */

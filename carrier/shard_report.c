@@ -19,7 +19,8 @@
 /* In the order of the values in shard_show; those of refusals are the last. */
 const struct metric shard_metrics[] = {
     { NAME "texts_total", "counter", "Texts that took effect", NULL },
-    { NAME "text_bytes_total", "counter", "Bytes of them", NULL },
+    { NAME "text_bytes_total", "counter", "Bytes of all texts", NULL },
+    { NAME "texts_put_aside_total", "counter", "Texts that are in the table aside, with their reason", NULL },
     { NAME "accepted_frames_total", "counter", "Frames that were accepted", NULL },
     { NAME "opened_sessions_total", "counter", "Sessions that began by a ticket", NULL },
     { NAME "receipts_total", "counter", "Receipts that were published", NULL },
@@ -72,6 +73,7 @@ void shard_report(const struct shard *s, const char *event, uint64_t took)
 {
     const struct shard_counts *c = &s->counts;
     log_numbers(event, field_number("shard", s->number), field_number("texts", c->texts),
+                field_number("aside", c->aside),
                 field_number("frames", c->accepted), field_number("opened", c->opened),
                 field_number("receipts", c->receipts),
                 field_number("repeats", c->repeats),
@@ -100,7 +102,7 @@ void shard_show(struct shard *s, unsigned part)
     unsigned i;
     int is_known = s->is_loaded && carrier_behind(s->carrier, &behind) == 0;
     double values[sizeof shard_metrics / sizeof *shard_metrics] = {
-        (double)c->texts, (double)c->bytes, (double)c->accepted, (double)c->opened,
+        (double)c->texts, (double)c->bytes, (double)c->aside, (double)c->accepted, (double)c->opened,
         (double)c->receipts,
         (double)c->repeats,
         (double)c->early, (double)c->commits, (double)c->fenced,

@@ -101,12 +101,14 @@ class Realm:
         write(self.path("kpropd.acl"), f"host/{self.host}@{REALM}\n")
 
     def environment(self, client="krb5-server", server="kdc-master", library=None, log=None,
-                    cache="none:"):
-        env = {"PATH": ":".join(FOLDERS), "KRB5_CONFIG": self.path(client), "LC_ALL": "C",
+                    cache="none:", captured=None):
+        env = {"PATH": ":".join([self.path("bin"), *FOLDERS]), "KRB5_CONFIG": self.path(client), "LC_ALL": "C",
                "KRB5_KDC_PROFILE": self.path(server), "KRB5RCACHENAME": cache,
                "KRB5CCNAME": "FILE:" + self.path("cc")}
-        if library:
+        if library and log:
             env.update(LD_PRELOAD=library, KRBRELAY_LOG=log)
+        if library and captured:
+            env.update(LD_PRELOAD=library, KRBRELAY_CAPTURE=captured)
         return env
 
     def run(self, words, given="", limit=60, cwd=None, **how):
@@ -227,12 +229,12 @@ class Realm:
         return self.start(["kadmind", "-r", REALM, "-nofork"], name, "starting",
                           library=library, log=log, cache=cache)
 
-    def kpasswd(self, client, library=None, log=None, limit=60):
+    def kpasswd(self, client, library=None, log=None, limit=60, captured=None):
         """Changes the password, and answers the run and the new one."""
         self.runs += 1
         new = f"password{self.runs}"
         return self.run(["kpasswd", f"kuser@{REALM}"], client=client, library=library, log=log,
-                        given=f"{self.password}\n{new}\n{new}\n", limit=limit), new
+                        given=f"{self.password}\n{new}\n{new}\n", limit=limit, captured=captured), new
 
     def takes(self, password):
         """Whether the KDC gives a ticket for this password."""

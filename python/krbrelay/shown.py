@@ -2,6 +2,7 @@
 what is inside."""
 from __future__ import annotations
 
+import binascii
 from typing import Dict, Iterator, List, NamedTuple, Optional, Tuple
 
 from krbrelay.errors import Refusal
@@ -33,10 +34,9 @@ class Line(NamedTuple):
 def bytes_in(text: bytes) -> Optional[bytes]:
     """The bytes that the digits of a text spell, or None where they aren't digits, or are an odd
     number of them."""
-    digits = text.translate(None, SEPARATORS)
     try:
-        return bytes.fromhex(digits.decode("ascii"))
-    except ValueError:
+        return binascii.unhexlify(text.translate(None, SEPARATORS))
+    except binascii.Error:
         return None
 
 

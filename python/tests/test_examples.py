@@ -5,7 +5,7 @@ import subprocess
 import sys
 import unittest
 
-from support import KEYS, KINDS, PYTHON, RECEIVER, TOP, fixtures, frame_of, frames
+from support import KEYS, KINDS, PYTHON, RECEIVER, TOP, fixtures, frame_of, frames, reader
 
 EXAMPLES = os.path.join(PYTHON, "examples")
 
@@ -25,52 +25,67 @@ def shown(*words, given=""):
     return done.returncode, done.stdout, done.stderr
 
 
+def cipher_of(frame):
+    """The cipher of a KRB-PRIV, by the independent reader."""
+    return reader.private(frame)[2][2]
+
+
 class Show(unittest.TestCase):
-    FIELDS = "data=446869 time=20231114221320Z usec=5 seq=7 from=2:0a000001"
+    BODY = "data=446869 time=20231114221320Z usec=5 seq=7 from=2:0a000001"
+
+    def under_key(self, frame, key, *words):
+        return shown(frame.hex(), "--key", "-", *words, given=key.hex())
 
     def test_lines(self):
         for key, mode in KINDS:
             for receiver, to in ((None, "-"), (RECEIVER, "2:0a0000ff")):
                 frame = frame_of(key, mode, b"Dhi", receiver=receiver)
-                etype = 17 if key is KEYS[0] else 18
-                line = (f"PRIV 5 21 etype={etype} kvno=- {self.FIELDS} to={to}\n"
-                        if mode.name == "PRIV" else
-                        f"SAFE 5 20 {self.FIELDS} to={to} cksum={etype - 2}:{frame[-12:].hex()}\n")
-                self.assertEqual(shown(frame.hex(), "--key", "-", given=key.hex()), (0, line, ""))
-
-    def test_what_is_in_clear(self):
-        for key, mode in KINDS:
-            etype = 17 if key is KEYS[0] else 18
-            line = (f"PRIV 5 21 etype={etype} kvno=-\n" if mode.name == "PRIV" else
-                    f"SAFE 5 20 seq=7 cksum={etype - 2}\n")
-            frame = frame_of(key, mode, b"Dhi").hex()
-            self.assertEqual(shown(frame), (0, line, ""))
-            self.assertEqual(shown("-", given=frame + "\n"), (0, line, ""))
+                etype, body = 17 if key is KEYS[0] else 18, f"{self.BODY} to={to}"
+                fields = (f"PRIV 5 21 etype={etype} kvno=- cipher={cipher_of(frame).hex()}"
+                          if mode.name == "PRIV" else
+                          f"SAFE 5 20 {body} cksum={etype - 2}:{frame[-12:].hex()}")
+                self.assertEqual(shown(frame.hex()), (0, f"{fields}\n", ""))
+                for words in ((), ("--etype", str(etype))):
+                    self.assertEqual(self.under_key(frame, key, *words),
+                                     (0, f"{fields} opened {body}\n", ""))
 
     def test_what_a_message_leaves_out(self):
         body = frames.body(b"", fixtures.MICROS, 7, fixtures.SENDER, left_out=(0xA1, 0xA2, 0xA3))
         frame = frames.seal_priv(KEYS[1], body, bytes(16))
-        self.assertEqual(shown(frame.hex(), "--key", "-", given=KEYS[1].hex()), (
-            0, "PRIV 5 21 etype=18 kvno=- data= time=- usec=- seq=- from=2:0a000001 to=-\n", ""))
+        status, line, told = self.under_key(frame, KEYS[1])
+        self.assertEqual((status, told), (0, ""))
+        self.assertTrue(line.endswith(
+            " opened data= time=- usec=- seq=- from=2:0a000001 to=-\n"), line)
 
     def test_refusals(self):
         frame = frame_of(*KINDS[1], b"Dhi")
         self.assertEqual(shown(frame[:-1].hex()), (2, "refused 901 MALFORMED\n", ""))
-        self.assertEqual(shown(frame.hex(), "--key", "-", given=bytes(16).hex()),
-                         (2, "refused 31 BAD_INTEGRITY\n", ""))
+        status, line, told = self.under_key(frame, bytes(16))
+        self.assertEqual((status, told), (2, ""))
+        self.assertTrue(line.endswith(" refused 31 BAD_INTEGRITY\n"), line)
 
     def test_what_is_no_message_or_no_key(self):
         """A line says what is wrong, and not where the program met it."""
         frame, key = frame_of(*KINDS[1], b"Dhi").hex(), KEYS[0].hex()
-        for message, given in ((frame, "xy"), ("xy", key), (frame, key[:-1]), (frame, key[:-2]),
-                               (frame, "")):
-            status, written, told = shown(message, "--key", "-", given=given)
+        self.assertEqual(shown("xy"), (2, "not hexadecimal\n", ""))
+        for given in ("xy", key[:-1], key[:-2], ""):
+            status, written, told = shown(frame, "--key", "-", given=given)
             self.assertEqual((status, written, told.count("\n")), (2, "", 1), told)
-        self.assertIn("No such file", shown(frame, "--key", os.path.join(PYTHON, "none"))[2])
+        for words, told in ((("--key", os.path.join(PYTHON, "none")), "the file can't be read"),
+                            (("--etype", "17"), "--etype is given without --key")):
+            self.assertEqual(shown(frame, *words),
+                             (2, "", f"krbrelay: bad input: key: {told}\n"))
 
     def test_words(self):
-        self.assertEqual(shown()[0], 2)
+        """Help and the versions need no library."""
+        self.assertEqual(shown("--etype", "19")[0], 2)
         self.assertEqual(shown("--help")[0], 0)
+        for word in ("--help", "--version"):
+            given = {**os.environ, "PYTHONPATH": PYTHON, "KRBRELAY_LIBRARY": "/none"}
+            done = subprocess.run([sys.executable, "-m", "krbrelay", word], env=given,
+                                  capture_output=True, text=True, check=False)
+            self.assertEqual((done.returncode, done.stderr), (0, ""))
+            self.assertIn("krbrelay", done.stdout)
 
 
 # A sender that ends after four bytes of a frame.

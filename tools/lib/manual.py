@@ -16,8 +16,10 @@ krbrelay \\- {about}
 {synopsis}
 .SH DESCRIPTION
 The messages are those of RFC 4120, under the encryption types 17 and 18 (RFC 3962). Each command
-reads standard input and prints lines. It reads no file, so a job is given by
+reads standard input and prints lines, so messages and a job are given by
 .BR < .
+The one file that a command reads is that of a key, by
+.B show \\-\\-key.
 '''
 TAIL = '''\
 .SH SEE ALSO
@@ -41,8 +43,14 @@ def commands(text):
 def options(text):
     """The options of a help, the short ones and the long ones, each with what it does."""
     listed = re.search(r"^Options:\n((?:  .*\n)+)", text, re.M)[1]
-    found = re.findall(r"^  (-\w), (--\w+) +(.*)$", listed, re.M)
-    return {name: about for short, long, about in found for name in (short, long)}
+    found = re.findall(r"^  (?:(-\w), |    )(--\w+)(?: <\w+>)? +(.*)$", listed, re.M)
+    return {name: about for short, long, about in found for name in (short, long) if name}
+
+
+def options_with_values(text):
+    """The lines of the options that a command has of its own."""
+    listed = re.search(r"^Options:\n((?:  .*\n)+)", text, re.M)[1]
+    return [line.replace("<", "").replace(">", "").strip() for line in listed.splitlines() if " <" in line]
 
 
 def usage(text):
@@ -74,7 +82,9 @@ def page(program, date):
     parts = [HEAD.format(date=date, version=version(), about=about[0].lower() + about[1:],
                          synopsis=synopsis.replace("-", "\\-"))]
     for name, text in helps.items():
-        parts.append(f".SS {name}\n{commands(whole)[name]}.\n{verbatim(after_options(text))}")
+        own = "".join(f"  {line}\n" for line in options_with_values(text))
+        described = f"{own}\n{after_options(text)}" if own else after_options(text)
+        parts.append(f".SS {name}\n{commands(whole)[name]}.\n{verbatim(described)}")
     status = re.search(r"^Exit status:\n((?:  .*\n?)+)", whole, re.M)[1]
     parts.append(f".SH EXIT STATUS\n{verbatim(status)}")
     return "".join(parts) + TAIL

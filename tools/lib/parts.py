@@ -136,6 +136,7 @@ PARTS = [
     Part("tools/figure --check", 1, over=()),
     Part("tools/picture --check", 1, (PROGRAM,)),
     Part("pytest tests/test_program.py", 3, (PROGRAM, COMPILER, PYTEST)),
+    Part("pytest tests/test_show.py", 2, (PROGRAM, COMPILER, CRYPTOGRAPHY, PYTEST), LIBRARY.command),
     Part("tests/install", 1, (PROGRAM,)),
     Part("tests/sweep", 10, (PROGRAM, COMPILER, CRYPTOGRAPHY)),
     Part("tests/job_costs --check", 5, (PROGRAM,)),

@@ -44,7 +44,8 @@ def pattern(lines):
             parts.append(r"(?:.*\n)*?")
         else:
             start, left_out = (line[:-2], ".*") if line.endswith("..") else (line, "")
-            parts.append(re.escape(start) + left_out + r"\n")
+            words = (re.escape(part) for part in start.split(".. "))     # each with digits left out after it
+            parts.append(r"\S* ".join(words) + left_out + r"\n")
     return "".join(parts)
 
 
