@@ -8,14 +8,14 @@ from typing import List, Optional
 from krbrelay import LibraryError, __version__, library_version
 from krbrelay.shown import Key, key_in, lines_of
 
-ABOUT = """Prints messages as `krbrelay show` does: their fields, and under a key what is inside, or why
-it isn't opened. Neither the time nor the number is checked. The key is that of the session: the
-subkey that the two ends agreed on, or else the session key of the ticket. The exit status is 0, or 2
-where a message is refused or the arguments are wrong."""
+ABOUT = """Prints messages as `krbrelay show` does: their fields, and under a key what is inside, or
+why it isn't opened. Neither the time nor the number is checked. The key is that of the session: the
+subkey that the two ends agreed on, or else the session key of the ticket. The exit status is 0, or
+2 where a message is refused or the arguments are wrong."""
 
 NO_KEY = "the file holds neither 16 nor 32 bytes, as they are or as hexadecimal digits"
-OTHER_TYPE = ("the file holds a key of another encryption type than --etype (17 has 16 bytes, 18 has "
-              "32)")
+OTHER_TYPE = ("the file holds a key of another encryption type than --etype (17 has 16 bytes, "
+              "18 has 32)")
 
 
 class KeyFault(Exception):
