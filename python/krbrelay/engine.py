@@ -1,6 +1,6 @@
 """Both ends of a carrier as state machines: what a sender and a receiver do, without doing it.
 
-A program that brings its own broker and database passes in what happened, and does what it is told.
+A program that brings its own broker and database passes in what happened, and does what they say.
 No call waits or reads a clock: times are milliseconds of a clock that is never set. The sender is
 the only one that repeats, and a receipt is the only word that deletes.
 
@@ -28,7 +28,7 @@ NEVER = 2**64 - 1
 """The time of a Wake that no pause ends."""
 
 
-# ---- what is told
+# ---- answers
 
 class Asks(enum.IntEnum):
     """What a receipt asks for."""

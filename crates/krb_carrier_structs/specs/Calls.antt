@@ -1,4 +1,4 @@
--- What C is told of the calls whose answer is a choice.
+-- What the calls say to C whose answer is a choice.
 use Rattle.std.specs.Prelude.{◌≡◌, ℕ, List, Option, Some}
 use Rattle.krb_copies.specs.declared.receipt.Receipt.{Receipt}
 use Rattle.krb_engine.specs.declared.sending.Asks.{Asks}

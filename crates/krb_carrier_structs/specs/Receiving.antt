@@ -49,7 +49,7 @@ pub record TellsReceiving (r : KrbReceiving) (state : Receiving) : Type 0 where
   pub is_receiving : IsReceiving r
   pub value : told_receiving r ≡ state
 
--- and the next number has one after it, and what is known of a frame is told
+-- and the next number has one after it, and nothing is in reserve
 pub record CanTakeFrame (r : KrbReceiving) (s : KrbSeen) : Type 0 where
   pub is_receiving : IsReceiving r
   pub fits : r.drafted.number + 1 < 2 ^ 64

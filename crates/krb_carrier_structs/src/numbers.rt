@@ -1,4 +1,4 @@
-//! The numbers that the header has for what an end is told and answers.
+//! The numbers of the header's enums for the ends of a carrier.
 
 ghost use Rattle.std.specs.Prelude.{◌≡◌, ◌≤◌};
 ghost use Rattle.krb_carrier_structs.specs.Numbers.{heard_number, judged_number, read_number, stands_number, told_asks, told_ended};

@@ -108,7 +108,9 @@ fn an_end_is_kept_by_its_parts(rt: HostRuntime) -> Result<(), Fail> {
     assert_eq!(rt; parts.again, Pause::begin(2_000, 100));
     assert_eq!(rt; parts.probe, Pause::begin(5_000, 100));
     assert_eq!(rt; parts.ended, None);
-    let mut again = Sending::restore(&parts)?;
+    let Some(mut again) = Sending::restore(&parts) else {
+        return Err(Fail::from("the parts of an end are none"));
+    };
     assert_eq!(rt; again.serve(8, 100), Command::Publish { from: 5, count: 1 });
     // what took effect was carried, what is carried was published, and only what is stored is published
     for (done, carried, sent, next, window) in [
