@@ -68,6 +68,20 @@ def test_no_key(krbrelay, tmp_path):
         assert compared(krbrelay, PRIVATE, *words)[:2] == (2, "")
 
 
+@pytest.mark.parametrize("size", [40, 41])
+def test_a_long_address(krbrelay, tmp_path, size):
+    """The one difference: the library opens no message with an address of more than 40 bytes."""
+    key, file = fixtures.KEY_128, tmp_path / "key"
+    file.write_bytes(key)
+    body = frames.body(b"Dhi", fixtures.MICROS, 7, (2, bytes(size)))
+    text, words = frames.seal_priv(key, body, bytes(16)).hex(), ["show", "--key", str(file)]
+    of_program = ran([krbrelay, *words], text)
+    of_package = ran([sys.executable, "-m", "krbrelay", *words], text)
+    assert of_program[0] == 0 and " opened " in of_program[1]
+    assert of_package == (of_program if size == 40 else (
+        2, of_program[1].partition(" opened ")[0] + " refused 38 BADADDR\n", ""))
+
+
 def test_a_text_on_the_command_line():
     """The package takes a message as a word too."""
     words = [sys.executable, "-m", "krbrelay", "show", PRIVATE]
