@@ -3,7 +3,7 @@
 ghost use Rattle.std.specs.Prelude.{◌≡◌, ◌≤◌, IfOk, length};
 ghost use Rattle.krb_seal.specs.Session.{HasShortAddresses, IsShortAddress};
 
-use krb_bulk::{ManyError, Unsealed, seal_many};
+use krb_bulk::{ManyError, Unsealed, frames_of, seal_many};
 use krb_der::{Bytes, HostAddress, Moment};
 use krb_seal::{Mode, SealError, Sealer, Session, SessionKey, SessionSealer};
 use sha1::Sha1;
@@ -132,6 +132,9 @@ fn frames_are_those_of_another_sealer(rt: HostRuntime) -> Result<(), Fail> {
     let messages = messages(rt.alloc(), &pattern)?;
     for (wide, mode, digest) in &DIGESTS {
         let mut sealer = sealer(rt.alloc(), *wide, *mode, 7)?;
+        let unsent = frames_of(rt.alloc(), &sealer, &messages)?;
+        assert_eq!(rt; digest_of(&unsent).as_slice(), digest.as_slice());
+        assert_eq!(rt; sealer.next(), 7);
         let frames = seal_many(rt.alloc(), &mut sealer, &messages)?;
         assert_eq!(rt; frames.len(), COUNT);
         assert_eq!(rt; digest_of(&frames).as_slice(), digest.as_slice());
