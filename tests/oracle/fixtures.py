@@ -1,6 +1,6 @@
 """The keys, addresses and frames that the tests expect: of krb_seal and krb_peers (in
 krb_peers_tests), krb_core (in krb_relay_tests), krb_commands, krbrelay, krb_structs (in
-krb_structs_tests), krb_bulk (in krb_bulk_tests), krb_peer_laws (in krb_laws_tests), of the C programs, of the program example_seal
+krb_structs_tests), krb_peer_laws (in krb_laws_tests), of the C programs, of the program example_seal
 and of the package in python/. The sealer is frames.py."""
 import hashlib
 
@@ -89,7 +89,7 @@ def odd_parts():
            seal_priv(KEY_256, body_of(b"hi"), bytes([7] * 16)))
 
 
-# What krb_bulk_tests seals in one call: message k has 13 k bytes of user data, the byte 5 (k + j) + 1
+# What is sealed in one call: message k has 13 k bytes of user data, the byte 5 (k + j) + 1
 # modulo 256 at each place j, the timestamp of the first and 1,000,001 k microseconds, the number
 # FIRST + k, and a confounder of 16 bytes k.
 MANY = 21
