@@ -102,19 +102,40 @@ fn pattern(alloc: Global) -> Result<Vec<u8>, AllocError> {
     Ok(bytes)
 }
 
-/// The messages. Message k has 13 k bytes, and a timestamp of so many seconds and microseconds more.
-fn messages(alloc: Global, pattern: &[u8]) -> Result<Vec<Unsealed<'_>>, Fail> {
+/// Messages of these sizes. Message k has the bytes of the pattern from place k on, and a timestamp of k
+/// seconds and microseconds more than the first. Out of memory is also a pattern that is too short.
+fn messages<'a>(
+    alloc: Global,
+    pattern: &'a [u8],
+    sizes: &[usize],
+) -> Result<Vec<Unsealed<'a>>, AllocError> {
     let mut messages = Vec::new(alloc);
-    for k in 0..COUNT as u8 {
-        let from = usize::from(k);
-        let at = Moment::from_micros(MICROS + 1_000_001 * u64::from(k)).ok_or("a moment")?;
+    let (mut byte, mut micros) = (0u8, MICROS);
+    for (k, size) in sizes.iter().enumerate() {
+        let Some(user_data) = pattern.get(k..k.saturating_add(*size)) else {
+            return Err(AllocError);
+        };
+        let Some(at) = Moment::from_micros(micros) else {
+            return Err(AllocError);
+        };
         messages.push(Unsealed {
-            user_data: pattern.get(from..14 * from).ok_or("within the pattern")?,
+            user_data,
             at,
-            confounder: [k; 16],
+            confounder: [byte; 16],
         })?;
+        byte = byte.wrapping_add(1);
+        micros = micros.wrapping_add(1_000_001);
     }
     Ok(messages)
+}
+
+/// The sizes of the messages whose frames are known: 13 k.
+fn known_sizes(alloc: Global) -> Result<Vec<usize>, AllocError> {
+    let mut sizes = Vec::new(alloc);
+    for k in 0..COUNT {
+        sizes.push(13 * k)?;
+    }
+    Ok(sizes)
 }
 
 /// The digest of frames, one after another.
@@ -129,7 +150,7 @@ fn digest_of(frames: &[Vec<u8>]) -> [u8; 20] {
 #[test]
 fn frames_are_those_of_another_sealer(rt: HostRuntime) -> Result<(), Fail> {
     let pattern = pattern(rt.alloc())?;
-    let messages = messages(rt.alloc(), &pattern)?;
+    let messages = messages(rt.alloc(), &pattern, &known_sizes(rt.alloc())?)?;
     for (wide, mode, digest) in &DIGESTS {
         let mut sealer = sealer(rt.alloc(), *wide, *mode, 7)?;
         let unsent = frames_of(rt.alloc(), &sealer, &messages)?;
@@ -143,60 +164,52 @@ fn frames_are_those_of_another_sealer(rt: HostRuntime) -> Result<(), Fail> {
     Ok(())
 }
 
-/// What sealing the messages answers, and the next number then.
+/// What sealing messages of these sizes answers, and the next number then.
 fn answered(
     alloc: Global,
     sealer: &mut SessionSealer,
-    messages: &[Unsealed<'_>],
-) -> (Option<ManyError>, u64) {
-    let error = seal_many(alloc, sealer, messages).err();
-    (error, sealer.next())
+    pattern: &[u8],
+    sizes: &[usize],
+) -> Result<(Option<ManyError>, u64), AllocError> {
+    let messages = messages(alloc, pattern, sizes)?;
+    let error = seal_many(alloc, sealer, &messages).err();
+    Ok((error, sealer.next()))
+}
+
+/// Message `index` can't be sealed.
+fn refused(index: usize, why: SealError) -> Option<ManyError> {
+    Some(ManyError::Refused { index, why })
 }
 
 #[test]
-fn the_first_message_that_fails_is_told(rt: HostRuntime) -> Result<(), Fail> {
-    let pattern = pattern(rt.alloc())?;
-    let long = Vec::from_elem(rt.alloc(), 0u8, 1_000_002)?;
-    let mut messages = messages(rt.alloc(), &pattern)?;
-    let mut last = sealer(rt.alloc(), false, Mode::Priv, u32::MAX - 1)?;
-    let exhausted = ManyError::Refused {
-        index: 2,
-        why: SealError::Exhausted,
-    };
+fn the_first_message_that_fails_is_named(rt: HostRuntime) -> Result<(), Fail> {
+    let alloc = rt.alloc();
+    let bytes = Vec::from_elem(alloc, 0u8, 1_000_010)?;
+    let mut last = sealer(alloc, false, Mode::Priv, u32::MAX - 1)?;
+    let exhausted = answered(alloc, &mut last, &bytes, &[0, 13, 26])?;
     assert_eq!(rt;
-        answered(rt.alloc(), &mut last, &messages),
-        (Some(exhausted), 4_294_967_294)
+        exhausted,
+        (refused(2, SealError::Exhausted), 4_294_967_294)
     );
-    messages.truncate(2);
-    messages.push(Unsealed {
-        user_data: &long,
-        at: Moment::from_micros(MICROS).ok_or("a moment")?,
-        confounder: [0; 16],
-    })?;
-    let too_long = ManyError::Refused {
-        index: 2,
-        why: SealError::TooLong,
-    };
-    assert_eq!(rt;
-        answered(rt.alloc(), &mut last, &messages),
-        (Some(too_long), 4_294_967_294)
-    );
-    messages.truncate(2);
-    assert_eq!(rt;
-        answered(rt.alloc(), &mut last, &messages),
-        (None, 4_294_967_296)
-    );
+    let too_long = answered(alloc, &mut last, &bytes, &[0, 13, 1_000_002])?;
+    assert_eq!(rt; too_long, (refused(2, SealError::TooLong), 4_294_967_294));
+    let sealed = answered(alloc, &mut last, &bytes, &[0, 13])?;
+    assert_eq!(rt; sealed, (None, 4_294_967_296));
     last.wipe();
-    let wiped = ManyError::Refused {
-        index: 0,
+    let wiped = answered(alloc, &mut last, &bytes, &[0, 13])?;
+    assert_eq!(rt; wiped, (refused(0, SealError::Wiped), 4_294_967_296));
+    let none = answered(alloc, &mut last, &bytes, &[])?;
+    assert_eq!(rt; none, (None, 4_294_967_296));
+    Ok(())
+}
+
+#[test]
+fn an_error_names_its_message(rt: HostRuntime) -> Result<(), Fail> {
+    let error = ManyError::Refused {
+        index: 3,
         why: SealError::Wiped,
     };
-    assert_eq!(rt;
-        answered(rt.alloc(), &mut last, &messages),
-        (Some(wiped), 4_294_967_296)
-    );
-    assert_eq!(rt; answered(rt.alloc(), &mut last, &[]), (None, 4_294_967_296));
-    let text = wiped.to_string(rt.alloc())?;
-    assert_eq!(rt; text.as_str(), "message 0: the sealer was wiped");
+    let text = error.to_string(rt.alloc())?;
+    assert_eq!(rt; text.as_str(), "message 3: the sealer was wiped");
     Ok(())
 }
