@@ -12,6 +12,7 @@
 mod handle;
 mod held;
 mod history_calls;
+mod many_calls;
 mod message_calls;
 mod opener_calls;
 mod opener_handle;
