@@ -20,8 +20,8 @@ use krb_keys::BatchMac;
 use krb_seal::{AesSealer, Mode, SealError, Sealer};
 use std::alloc::{AllocError, Global};
 
-/// Whether a message can be sealed at a number.
-fn check_message(is_wiped: bool, number: u64, message: &Unsealed<'_>) -> Result<(), SealError>
+/// Whether a message can be sealed at a number, by a sealer that is wiped or not.
+pub fn check_message(is_wiped: bool, number: u64, message: &Unsealed<'_>) -> Result<(), SealError>
     ensures { MatchResult result (λ _. CanSealAt is_wiped number message.now)
         (RefusesAt is_wiped number message.now) }
 {
@@ -172,7 +172,7 @@ impl Bulk<'_, '_, '_> {
 /// next sequence number. The sealer stays as it is, so whoever hands these frames on passes over
 /// their numbers ([`AesSealer::pass`]).
 ///
-/// A message that can't be sealed is told before any memory is asked for.
+/// Whether all can be sealed is looked at before any memory is asked for.
 pub fn frames_of<E>(
     alloc: Global,
     sealer: &AesSealer<E>,
@@ -198,7 +198,7 @@ pub fn frames_of<E>(
 /// Seals messages: the frames that calls of [`Sealer::seal`] give one after another, each of a
 /// message and at the next sequence number. All are sealed or none.
 ///
-/// On an error the sealer is unchanged. A message that can't be sealed is told before any memory is
+/// On an error the sealer is unchanged. Whether all can be sealed is looked at before any memory is
 /// asked for.
 pub fn seal_many<E>(
     alloc: Global,

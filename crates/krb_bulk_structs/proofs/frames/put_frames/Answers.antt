@@ -4,3 +4,5 @@ use Rattle.krb_bulk_structs.proofs.frames.put_frames.Goals as goal
 
 pub loop-index-init : goal.loop-index-init
 loop-index-init c = holds_none c.args.frames.now c.args.out.now c.args.sizes.now
+
+-- What is left here, by holds_more and holds_all: that a frame has room (room-more), the next iteration, and the end.
