@@ -1,5 +1,5 @@
-/* What a shard takes of frames, among them those of an independent sealer, what becomes of a transaction
- * whose effect fails, and what is left in memory:
+/* What a shard takes of frames, among them those of an independent sealer, that nothing of a transaction is
+ * stored if an effect of it fails, and what is left in memory:
  *     shard_test FOLDER
  * Built with -Wl,--wrap=free. The last line is 'passed' or 'FAILED ..'. */
 #include "check.h"
