@@ -15,6 +15,7 @@ _Static_assert(sizeof(struct krbrelay_session) == 128, "a session has no padding
 _Static_assert(sizeof(struct krbrelay_expect) == 128, "an expectation has no padding");
 _Static_assert(sizeof(struct krbrelay_demand) == 144, "a demand has no padding");
 _Static_assert(sizeof(struct krbrelay_carried) == 152, "what is carried has no padding");
+_Static_assert(sizeof(struct krbrelay_unsealed) == 48, "what is sealed has no padding");
 _Static_assert(sizeof(struct krbrelay_window) == 16, "a window has no padding");
 
 static uint8_t frame[KRBRELAY_FRAME_LIMIT + 1], text[KRBRELAY_FRAME_LIMIT];
@@ -224,6 +225,92 @@ static void answers_of_a_sealer(void)
     krbrelay_sealer_free(&s);
     krbrelay_sealer_wipe(&s);
     CHECK(s.at == NULL && s.count == 0);
+}
+
+/* So many messages of rising size, one moment and one confounder after another. */
+static void make_messages(struct krbrelay_unsealed *messages, size_t count)
+{
+    for (size_t i = 0; i < count; i++) {
+        messages[i] = (struct krbrelay_unsealed){ .user_data = text + i, .user_data_len = 37 * i,
+                                                  .at = moment(SECS + i, (uint32_t)i) };
+        memset(messages[i].confounder, (int)i, sizeof messages[i].confounder);
+    }
+}
+
+/* Sealed in one call they are the frames of single calls, behind one another. */
+static void several_messages(void)
+{
+    static uint8_t packed[64 * 3000];
+    struct krbrelay_unsealed messages[64];
+    size_t sizes[KRBRELAY_MOST_MESSAGES];
+    for (size_t i = 0; i < 4096; i++)
+        text[i] = (uint8_t)(i * 11);
+    make_messages(messages, 64);
+    for (unsigned variant = 0; variant < 4; variant++)
+        for (size_t count = 0; count <= 64; count += count < 16 ? 1 : 16) {
+            int etype = 17 + (int)(variant & 1);
+            uint32_t mode = KRBRELAY_SAFE + (variant >> 1);
+            struct krbrelay_sealer many = { 0 }, single = { 0 };
+            size_t size = 0, place = 0, failed = 99;
+            uint64_t next = 0;
+            CHECK(new_sealer(&many, etype, mode, 7) == KRBRELAY_OK);
+            CHECK(new_sealer(&single, etype, mode, 7) == KRBRELAY_OK);
+            memset(sizes, 0xee, sizeof sizes);
+            memset(packed, 0xee, sizeof packed);
+            CHECK(krbrelay_sealer_seal_many(&many, messages, count, packed, sizeof packed, sizes,
+                                            &failed) == KRBRELAY_OK);
+            for (size_t i = 0; i < count; i++) {
+                const struct krbrelay_unsealed *m = &messages[i];
+                CHECK(krbrelay_sealer_seal(&single, m->user_data, m->user_data_len, &m->at,
+                                           m->confounder, frame, sizeof frame, &size)
+                      == KRBRELAY_OK);
+                CHECK(sizes[i] == size && memcmp(packed + place, frame, size) == 0);
+                place += size;
+            }
+            CHECK(failed == 99 && packed[place] == 0xee);
+            CHECK(krbrelay_sealer_next(&many, &next) == KRBRELAY_OK && next == 7 + count);
+            krbrelay_sealer_free(&many);
+            krbrelay_sealer_free(&single);
+        }
+}
+
+/* What sealing three messages answers, and which one is named; nothing is changed then. */
+static enum krbrelay_answer seal_three(struct krbrelay_sealer *s, struct krbrelay_unsealed *messages,
+                                       size_t room, size_t *failed)
+{
+    size_t sizes[KRBRELAY_MOST_MESSAGES] = { 99 };
+    *failed = 99;
+    memset(frame, 0xee, 100);
+    enum krbrelay_answer answer = krbrelay_sealer_seal_many(s, messages, 3, frame, room, sizes, failed);
+    CHECK(answer == KRBRELAY_OK || (sizes[0] == 99 && frame[0] == 0xee));
+    return answer;
+}
+
+static void answers_of_several(void)
+{
+    struct krbrelay_unsealed messages[65];
+    struct krbrelay_sealer s = { 0 };
+    size_t sizes[KRBRELAY_MOST_MESSAGES], failed = 99;
+    uint64_t next = 0;
+    make_messages(messages, 65);
+    CHECK(seal_three(&s, messages, sizeof frame, &failed) == KRBRELAY_EMPTY && failed == 99);
+    CHECK(new_sealer(&s, 17, KRBRELAY_PRIV, UINT32_MAX - 1) == KRBRELAY_OK);
+    CHECK(krbrelay_sealer_seal_many(&s, messages, 65, frame, sizeof frame, sizes, &failed)
+          == KRBRELAY_ARGUMENT && failed == 99);
+    CHECK(seal_three(&s, messages, sizeof frame, &failed) == KRBRELAY_EXHAUSTED && failed == 2);
+    messages[2].user_data_len = KRBRELAY_USER_DATA_LIMIT + 1;
+    CHECK(seal_three(&s, messages, sizeof frame, &failed) == KRBRELAY_TOO_LONG && failed == 2);
+    messages[1].at.microseconds = 1000000;
+    CHECK(seal_three(&s, messages, sizeof frame, &failed) == KRBRELAY_MOMENT && failed == 1);
+    messages[0].at.reserved = 1;
+    CHECK(seal_three(&s, messages, sizeof frame, &failed) == KRBRELAY_ARGUMENT && failed == 0);
+    CHECK(krbrelay_sealer_next(&s, &next) == KRBRELAY_OK && next == UINT32_MAX - 1);
+    make_messages(messages, 3);
+    CHECK(new_sealer(&s, 17, KRBRELAY_PRIV, 7) == KRBRELAY_OK);
+    CHECK(seal_three(&s, messages, 100, &failed) == KRBRELAY_ROOM && failed == 99);
+    krbrelay_sealer_wipe(&s);
+    CHECK(seal_three(&s, messages, sizeof frame, &failed) == KRBRELAY_WIPED && failed == 0);
+    krbrelay_sealer_free(&s);
 }
 
 /* Arguments out of their ranges; the handle holds nothing then. */
@@ -559,6 +646,8 @@ int main(void)
     sizes_before_sealing();
     answers_of_a_size();
     answers_of_a_sealer();
+    several_messages();
+    answers_of_several();
     arguments();
     fields_that_are_not_read();
     moments_that_are_not();

@@ -88,6 +88,27 @@ const char *krbrelay_strerror(uint32_t answer)
     return "no answer of this library";
 }
 
+const char *krbrelay_field_name(uint32_t field)
+{
+    switch ((enum krbrelay_field)field) {
+    /* of tables/fields.toml: names */
+    case KRBRELAY_FIELD_MODE: return "mode";
+    case KRBRELAY_FIELD_SENDER: return "sender";
+    case KRBRELAY_FIELD_RECEIVER: return "receiver";
+    case KRBRELAY_FIELD_RESERVED: return "reserved";
+    case KRBRELAY_FIELD_HOW_SENDER: return "how_sender";
+    case KRBRELAY_FIELD_HOW_RECEIVER: return "how_receiver";
+    case KRBRELAY_FIELD_HOW_TIME: return "how_time";
+    case KRBRELAY_FIELD_HOW_NUMBER: return "how_number";
+    case KRBRELAY_FIELD_NUMBER: return "number";
+    case KRBRELAY_FIELD_SKEW: return "skew";
+    case KRBRELAY_FIELD_NEEDS_TIME_OR_NUMBER: return "needs_time_or_number";
+    /* end of names */
+    case KRBRELAY_FIELD_NONE: break;
+    }
+    return "none";
+}
+
 enum krbrelay_class krbrelay_class_of(uint32_t answer)
 {
     switch ((enum krbrelay_answer)answer) {

@@ -54,6 +54,21 @@ static uint32_t sealer_seal_record(void)
                                        confounder, out, given.room, &told.size);
 }
 
+static uint32_t sealer_seal_many(void)
+{
+    struct krbrelay_unsealed messages[KRBRELAY_MOST_MESSAGES];
+    size_t sizes[KRBRELAY_MOST_MESSAGES] = { 0 }, failed = KRBRELAY_MOST_MESSAGES;
+    uint32_t answer;
+    for (unsigned i = 0; i < given.messages; i++) {
+        messages[i] = (struct krbrelay_unsealed){ given.body, given.body_len, given.at, { 0 } };
+        memcpy(messages[i].confounder, confounder, sizeof messages[i].confounder);
+    }
+    answer = krbrelay_sealer_seal_many(&handles.sealer, messages, given.messages, out, given.room, sizes, &failed);
+    if (answer == KRBRELAY_OK)
+        told.size = sizes[0];
+    return answer;
+}
+
 static uint32_t peer_seal(void)
 {
     return krbrelay_peer_seal(&handles.peer, given.body, given.body_len, &given.at, confounder, out,
@@ -182,6 +197,12 @@ static uint32_t sealer_is_empty(void) { return krbrelay_sealer_is_empty(&handles
 static uint32_t opener_is_empty(void) { return krbrelay_opener_is_empty(&handles.opener) ? KRBRELAY_EMPTY : KRBRELAY_OK; }
 static uint32_t receiver_is_empty(void) { return krbrelay_receiver_is_empty(&handles.receiver) ? KRBRELAY_EMPTY : KRBRELAY_OK; }
 static uint32_t peer_is_empty(void) { return krbrelay_peer_is_empty(&handles.peer) ? KRBRELAY_EMPTY : KRBRELAY_OK; }
+
+static uint32_t check_session(void) { return krbrelay_check_session(&given.session); }
+static uint32_t check_expect(void) { return krbrelay_check_expect(&given.expect); }
+static uint32_t check_demand(void) { return krbrelay_check_demand(&given.demand); }
+static uint32_t check_peer_demand(void) { return krbrelay_check_peer_demand(&given.demand); }
+static uint32_t field_name(void) { return strcmp(krbrelay_field_name(KRBRELAY_FIELD_MODE), "mode") == 0 ? KRBRELAY_OK : KRBRELAY_ARGUMENT; }
 
 static uint32_t address_from(void)
 {
@@ -346,6 +367,7 @@ struct call calls[] = {
     ROW(peer_resume, MAKES, PEER, OF_DATA, 0, 0, 0),
     ROW(sealer_seal, SEALS, SEALER, OF_DATA, 0, 0, 0),
     ROW(sealer_seal_record, SEALS, SEALER, OF_RECORDS, 0, 0, 0),
+    ROW(sealer_seal_many, SEALS, SEALER, OF_DATA, 0, 0, 0),
     ROW(peer_seal, SEALS, PEER, OF_DATA, 0, 0, 0),
     ROW(sealer_seal_now, SEALS, SEALER, OF_DATA, 1, 0, 0),
     ROW(sealer_seal_record_now, SEALS, SEALER, OF_RECORDS, 1, 0, 0),
@@ -365,6 +387,8 @@ struct call calls[] = {
     NONE(version, NO_HANDLE), NONE(now, NO_HANDLE), NONE(answer_name, NO_HANDLE), NONE(answer_text, NO_HANDLE),
     NONE(frame_size, NO_HANDLE), NONE(clear_stack, NO_HANDLE), NONE(is_supported, NO_HANDLE),
     NONE(is_refusal, NO_HANDLE), { "strerror", text_of, ASKS_NOTHING, NO_HANDLE, OF_DATA, 0, 0, 0 },
+    NONE(check_session, NO_HANDLE), NONE(check_expect, NO_HANDLE), NONE(check_demand, NO_HANDLE),
+    NONE(check_peer_demand, NO_HANDLE), NONE(field_name, NO_HANDLE),
     NONE(class_of, NO_HANDLE), NONE(address_from, NO_HANDLE), NONE(batch_add, NO_HANDLE),
     NONE(batch_next, NO_HANDLE), NONE(progress_new, NO_HANDLE), NONE(progress_store, NO_HANDLE),
     NONE(progress_publish, NO_HANDLE), NONE(progress_confirm, NO_HANDLE), NONE(progress_rewind, NO_HANDLE),

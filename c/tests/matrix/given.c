@@ -18,7 +18,7 @@ static const struct told not_told = { .size = NOT_TOLD, .kind = NOT_TOLD, .close
 void given_anew(uint32_t mode, int32_t etype, size_t size)
 {
     given = (struct given){
-        .mode = mode, .etype = etype, .size = size, .kind = KRBRELAY_TEXT, .room = BIG,
+        .mode = mode, .etype = etype, .size = size, .kind = KRBRELAY_TEXT, .messages = 1, .room = BIG,
         .key_len = key_size(etype), .number = NUMBER, .expected = NUMBER, .body = user_data, .body_len = size,
         .at = moment(SECS, USEC), .session = session_of(mode, NUMBER), .expect = expect_of(mode),
         .demand = demand_of(1, 255, NUMBER)

@@ -7,6 +7,7 @@
 /* What a call is given. The handle is made as `at_handle` says. */
 struct given {
     uint32_t mode, kind, closed;
+    unsigned messages;      /* that a call seals which takes several: all alike */
     int32_t etype;
     size_t size, frame_len, room, key_len, body_len;
     uint64_t number, expected;

@@ -1,5 +1,5 @@
 /* How many allocations calls take: at least so many, or the allocator isn't the one that they use; and for
- * a batch none for each text. */
+ * a batch none for each text. And several messages in one call. */
 #include "cases.h"
 
 #include <string.h>
@@ -48,6 +48,21 @@ static void try_batch(uint32_t mode, int32_t etype)
     is_so(asked + tried_asked() <= 6, "none is for a text");
 }
 
+/* Messages in one call: eight side by side, four, and one at a time. */
+static void try_many(uint32_t mode, int32_t etype)
+{
+    static const unsigned counts[] = { 2, 4, 5, 8, 13, KRBRELAY_MOST_MESSAGES };
+    for (size_t i = 0; i < sizeof counts / sizeof *counts; i++) {
+        given_anew(mode, etype, SIZE);
+        given.messages = counts[i];
+        try_call(call_of("sealer_seal_many"), "several messages", KRBRELAY_OK);
+    }
+    given_anew(mode, etype, SIZE);
+    given.messages = KRBRELAY_MOST_MESSAGES;
+    given.room = KRBRELAY_MOST_MESSAGES * SIZE;
+    try_call(call_of("sealer_seal_many"), "several messages, room for some", KRBRELAY_ROOM);
+}
+
 void try_least(uint32_t mode, int32_t etype)
 {
     static const char *const session[] = { "sealer_new", "opener_new", "sealer_seal", "message_header",
@@ -61,4 +76,5 @@ void try_least(uint32_t mode, int32_t etype)
     at_least(5, mode, etype, peer);
     at_least(2, mode, etype, resumed);
     try_batch(mode, etype);
+    try_many(mode, etype);
 }

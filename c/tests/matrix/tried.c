@@ -103,11 +103,17 @@ static void opened_is_right(const struct call *call)
         carried_is_right(&told.carried);
 }
 
-/* The number rises by one, of what the call counts. */
+/* How many messages it seals. */
+static unsigned messages_of(const struct call *call)
+{
+    return call == call_of("sealer_seal_many") ? given.messages : 1;
+}
+
+/* The number rises by one for each message, of what the call counts. */
 static uint64_t numbers_after(const struct call *call, uint64_t before)
 {
     if (call->does == SEALS)
-        return before + (UINT64_C(1) << 33);
+        return before + ((uint64_t)messages_of(call) << 33);
     return call->does == OPENS && call->uses != OPENER && call->uses != NO_HANDLE ? before + 2 : before;
 }
 
@@ -116,7 +122,7 @@ static void succeeded(const struct call *call, uint64_t before)
     if (call->does == MAKES)
         is_so(handles_held() == 1, "it holds what was made");
     else if (call->does != ASKS_NOTHING)
-        is_so(handles_numbers() == numbers_after(call, before), "the number rises by one");
+        is_so(handles_numbers() == numbers_after(call, before), "the number rises by one for each message");
     if (call->does == SEALS)
         sealed_frame_opens(call);
     if (call->does == OPENS)
@@ -169,10 +175,11 @@ static void asked_is_bounded(const struct call *call, uint32_t answer)
         || (call->does == MAKES && answer != KRBRELAY_OK))
         is_so(asked.times == 0, "it asks the allocator for nothing");
     if (call->does == SEALS || call->does == OPENS) {
-        is_so(asked.bytes <= 2 * size + MORE_THAN_ASKED, "it asks for at most twice the frame's bytes");
-        is_so(asked.largest <= size + MORE_THAN_ASKED, "no block is larger than the frame");
+        is_so(asked.bytes <= messages_of(call) * (2 * size + MORE_THAN_ASKED), "it asks for at most twice the frame's bytes");
+        is_so(asked.largest <= size + messages_of(call) * MORE_THAN_ASKED, "no block is larger than the frame");
     }
-    if (call->does == SEALS && call->of == OF_DATA && given.mode == KRBRELAY_PRIV && answer == KRBRELAY_OK)
+    if (call->does == SEALS && call->of == OF_DATA && given.mode == KRBRELAY_PRIV && answer == KRBRELAY_OK
+        && call != call_of("sealer_seal_many"))
         is_so(asked.times == 1, "a KRB-PRIV is sealed in one block");
     if (call->does == MAKES && answer == KRBRELAY_OK)
         is_so(asked.times > 0 && asked.largest < 4096, "a handle is a small block");

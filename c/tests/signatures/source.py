@@ -10,8 +10,9 @@ NUMBERS = {"u8": "uint8_t", "u32": "uint32_t", "u64": "uint64_t", "i32": "int32_
 SIZES = {"uint8_t": 1, "uint32_t": 4, "uint64_t": 8, "int32_t": 4, "size_t": 8}
 EXPORT = re.compile(r'#\[unsafe\(no_mangle\)\]\s*pub extern "C" fn (krbrelay_\w+)\(([^)]*)\)'
                     r"(?:\s*->\s*(\w+))?")
-STRUCT = re.compile(r"#\[repr\(C\)\]\s*(?:#\[[^\]]*\]\s*)*pub struct (\w+) \{\n(.*?)\n\}", re.S)
+STRUCT = re.compile(r"#\[repr\(C\)\]\s*(?:#\[[^\]]*\]\s*)*pub struct (\w+)(?:<'\w+>)? \{\n(.*?)\n\}", re.S)
 FIELD = re.compile(r"^    (?:pub(?:\([^)]*\))? )?(?!ghost)(\w+): ([^,{]+),", re.M)
+LENT = re.compile(r"&'\w+ \[(\w+)\]$")       # a field that lends bytes: a pointer, and how many
 COUNT = re.compile(r"pub const (\w+): usize = (\d+);")
 
 
@@ -40,9 +41,9 @@ def in_c(rust: str) -> List[str]:
         return [NUMBERS[rust]]
     const = "" if rust.startswith("&mut ") else "const "
     inner = re.sub(r"^&(mut )?", "", rust)
-    array = re.match(r"\[(\w+)(?:; (\w+))?\]$", inner)
+    array = re.match(r"\[(\w+)(?:<'_>)?(?:; (\w+))?\]$", inner)
     if array:
-        pointer = f"{const}{NUMBERS[array[1]]} *"
+        pointer = f"{const}{NUMBERS.get(array[1]) or 'struct ' + struct_name(array[1])} *"
         return [pointer] if array[2] else [pointer, "size_t"]
     return [f"{const}{NUMBERS.get(inner) or 'struct ' + struct_name(inner)} *"]
 
@@ -77,16 +78,26 @@ class Structs:
             return f"{name}[{count}]", size * count, alignment
         if rust.startswith("*mut"):
             return "void *", 8, 8
+        if rust.startswith("*const "):
+            return f"const {NUMBERS[rust[7:]]} *", 8, 8
         if rust in NUMBERS:
             name = NUMBERS[rust]
             return name, SIZES[name], SIZES[name]
         inner = self.layout(struct_name(rust))
         return "struct " + struct_name(rust), inner.size, inner.alignment
 
+    def parts(self, name: str) -> List[Tuple[str, str]]:
+        """The fields as C has them."""
+        found = []
+        for field, rust in self.fields[name]:
+            lent = LENT.match(rust)
+            found += [(field, f"*const {lent[1]}"), (field + "_len", "usize")] if lent else [(field, rust)]
+        return found
+
     def layout(self, name: str) -> Layout:
         """Where C's rules put the fields."""
         fields, end, most = [], 0, 1
-        for field, rust in self.fields[name]:
+        for field, rust in self.parts(name):
             c, size, alignment = self.of_type(rust)
             offset = -(-end // alignment) * alignment
             fields.append(Field(c, field, offset, size))

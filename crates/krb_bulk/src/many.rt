@@ -20,8 +20,8 @@ use krb_keys::BatchMac;
 use krb_seal::{AesSealer, Mode, SealError, Sealer};
 use std::alloc::{AllocError, Global};
 
-/// Whether a message can be sealed at a number.
-fn check_message(is_wiped: bool, number: u64, message: &Unsealed<'_>) -> Result<(), SealError>
+/// Whether a message can be sealed at a number, by a sealer that is wiped or not.
+pub fn check_message(is_wiped: bool, number: u64, message: &Unsealed<'_>) -> Result<(), SealError>
     ensures { MatchResult result (λ _. CanSealAt is_wiped number message.now)
         (RefusesAt is_wiped number message.now) }
 {

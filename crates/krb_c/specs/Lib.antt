@@ -3,3 +3,5 @@ pub mod Exports
 pub mod Handles
 pub mod Queue
 pub mod Peers
+pub mod Many
+pub mod Fields

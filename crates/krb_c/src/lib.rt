@@ -10,9 +10,11 @@
 //! a session ([`krb_history::with_frame`]) a handle, which is bytes of the caller's.
 #![tactic(auto)]
 
+mod field_calls;
 mod handle;
 mod held_queue;
 mod history_calls;
+mod many_calls;
 mod message_calls;
 mod opener_calls;
 mod opener_handle;

@@ -8,6 +8,7 @@ ghost use Rattle.krb_structs.specs.Record.{SealsRecord};
 ghost use Rattle.krb_structs.specs.Sealing.{CanPut, IsReady, SizesNext};
 ghost use Rattle.krb_structs.specs.Session.{IsSession, mode_of, session_of};
 ghost use Rattle.krb_seal.specs.Sealer.{SealsNext, advanced, end_of_numbers, in_mode, new_state, wiped_state};
+ghost use Rattle.krb_seal.specs.Lent.{advanced_by};
 
 use crate::buffer::put_front;
 use crate::fault::Fault;
@@ -74,6 +75,21 @@ impl AnySealer {
             Ok(sealer) => Ok(sealer),
             Err(_) => Err(Fault::Refused(Refusal::Memory)),
         }
+    }
+
+    /// The sealer that it holds, for what seals several messages in one call.
+    pub fn session_sealer(&self) -> &SessionSealer
+        ensures { result.now ≡ self.now }
+    {
+        &self.sealer
+    }
+
+    /// Passes over the numbers at which so many frames were sealed with that sealer.
+    pub fn pass(&mut self, count: u64)
+        requires { self.old.next + count ≤ end_of_numbers }
+        ensures { self.new ≡ advanced_by self.old count }
+    {
+        self.sealer.pass(count);
     }
 
     /// The next sequence number.

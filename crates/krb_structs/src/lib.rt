@@ -39,6 +39,6 @@ pub use opening::{open_into, unseal_in_place, unseal_into};
 pub use peer::Peer;
 pub use peer_export::EXPORT_SIZE;
 pub use room::frame_size;
-pub use session::{ADDRESS_ROOM, KrbAddress, KrbExpect, KrbSession};
+pub use session::{ADDRESS_ROOM, KrbAddress, KrbExpect, KrbSession, are_zeros, is_no_address};
 pub use wipe::Wipe;
 pub use wipeable_opener::WipeableOpener;

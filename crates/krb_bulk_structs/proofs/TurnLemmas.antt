@@ -1,0 +1,127 @@
+-- Messages that are looked at, one after another.
+use Rattle.std.proofs.Common.{◌≡◌, ℕ, zero, suc, ◌+◌, ◌<◌, ◌≤◌, ◌⊎◌, List, [], ◌∷◌, ◌++◌, length, take, get_or, Bool, true, false, Option, Some, refl, sym, ap, subst, ◌∙◌, arith, inl, inr}
+use Rattle.std.specs.Prelude.{slice_get, map}
+use Rattle.krb_base.specs.Limits.{user_data_limit}
+use Rattle.krb_seal.specs.declared.seal_error.SealError.{SealError}
+use Rattle.krb_seal.specs.declared.seal_error.SealError.TheVariants as errors
+use Rattle.krb_seal.specs.Sealer.{SealerState, advanced, end_of_numbers}
+use Rattle.krb_seal.specs.Lent.{advanced_by}
+use Rattle.krb_bulk.specs.Many.{CanSealInTurn}
+use Rattle.krb_bulk.specs.Numbered.{RefusesAt}
+use Rattle.krb_bulk.proofs.TurnLemmas.{can_seal_at, from_first, from_next}
+use Rattle.krb_seal.specs.declared.refusal.Refusal.{Refusal}
+use Rattle.krb_seal.specs.declared.refusal.Refusal.TheVariants.{FieldTooLong, Malformed, BadVersion, MsgType, EtypeNoSupp, BadIntegrity, InappCksum, BadAddr, Skew, BadOrder, Modified, BadRecord, AfterClose, Memory}
+use Rattle.krb_seal.specs.Refusal.{code_of}
+use Rattle.krb_bulk.specs.declared.unsealed.Unsealed.{Unsealed}
+use Rattle.krb_structs.specs.declared.fault.Fault.{Fault}
+use Rattle.krb_structs.specs.declared.fault.Fault.TheVariants.{Wiped, TooLong, Exhausted, Refused, Etype, Room, Empty, KeySize, Mode, Moment, Address, Argument, Record, Repeated, TooOld}
+use Rattle.krb_structs.specs.declared.moment.KrbMoment.{KrbMoment}
+use Rattle.krb_structs.specs.Moment.{IsTimed}
+use Rattle.krb_structs.specs.Reasons.{NeedsMoment}
+use Rattle.krb_structs.specs.Fault.{IsDone, Needs, fault_code, fault_of}
+use Rattle.krb_bulk_structs.specs.declared.unsealed.KrbUnsealed.{KrbUnsealed}
+use Rattle.krb_bulk_structs.specs.Checks.{AllTimed, FailsAt, IsSealableAt}
+use Rattle.krb_bulk_structs.specs.Many.{AreSealable, FailsFirst, FailsNext, IsSealable}
+use Rattle.krb_bulk_structs.specs.Unsealed.{unsealed_of}
+
+pub sealable_next : (s : SealerState) (number : ℕ) (m : KrbUnsealed) → IsSealableAt s.wiped number m → IsSealable (record s { next = number }) m
+sealable_next s number m h = (h.0, can_seal_at s number (unsealed_of m) h.1)
+
+-- why a message isn't sealed, as its own call answers
+because : (s : SealerState) (number : ℕ) (m : KrbUnsealed) (why : SealError) (code : ℕ) → number ≤ end_of_numbers → RefusesAt s.wiped number (unsealed_of m) why → code ≡ fault_code (fault_of why)
+    → Needs (s.wiped ≡ false) Wiped (Needs (length m.user_data.now ≤ user_data_limit) TooLong (Needs (¬ (number ≡ end_of_numbers)) Exhausted (λ c. ⊥))) code
+because s number m errors.Wiped code le h is = inl (λ live. let no : true ≡ false = sym h ∙ live in cc, is)
+because s number m errors.TooLong code le h is = inr (h.0, inl (λ short. omega (arith, h.1, short), is))
+because s number m errors.Exhausted code le h is = inr (h.0, inr (h.1, inl (λ left. left (omega (arith, h.2, le)), is)))
+because s number m errors.Memory code le h is = absurd h
+
+goes_on : (at : KrbMoment) (P Q : ℕ → Type 0) (code : ℕ) → (P code → Q code) → NeedsMoment at P code → NeedsMoment at Q code
+goes_on at P Q code f (inl h) = inl h
+goes_on at P Q code f (inr (r, inl h)) = inr (r, inl h)
+goes_on at P Q code f (inr (r, inr (m, p))) = inr (r, inr (m, f p))
+
+pub fails_next : (s : SealerState) (number : ℕ) (m : KrbUnsealed) (code : ℕ) → number ≤ end_of_numbers → FailsAt s.wiped number m code → FailsNext (record s { next = number }) m code
+fails_next s number m code le h = goes_on m.at _ _ code (λ p. because s number m p.0 code le p.1 p.2) h
+
+same_message : (x m : KrbUnsealed) → ◌≡◌ {A = Option KrbUnsealed} (Some x) (Some m) → x ≡ m
+same_message x m e = cc
+
+-- one more can be sealed
+pub sealable_more : (s : SealerState) (ms : List KrbUnsealed) (i : ℕ) (m : KrbUnsealed) → AreSealable s (take i ms) → slice_get ms i ≡ Some m → IsSealable (advanced_by s i) m
+    → AreSealable s (take (suc i) ms)
+sealable_more s [] i m h e can = absurd cc
+sealable_more s (x ∷ ms) zero m h e can =
+    (subst (λ (z : KrbUnsealed). IsSealable s z) (sym (same_message x m e)) (from_first (λ t. IsSealable t m) s can), tt)
+sealable_more s (x ∷ ms) (suc i) m h e can = (h.0, sealable_more (advanced s) ms i m h.1 e (from_next (λ t. IsSealable t m) s i can))
+
+-- the first that can't be, after those that can
+pub fails_after : (s : SealerState) (ms : List KrbUnsealed) (i : ℕ) (m : KrbUnsealed) (code : ℕ) → AreSealable s (take i ms) → slice_get ms i ≡ Some m
+    → FailsNext (advanced_by s i) m code → FailsFirst s ms i code
+fails_after s [] i m code h e fails = absurd cc
+fails_after s (x ∷ ms) zero m code h e fails =
+    subst (λ (z : KrbUnsealed). FailsNext s z code) (sym (same_message x m e)) (from_first (λ t. FailsNext t m code) s fails)
+fails_after s (x ∷ ms) (suc i) m code h e fails =
+    (h.0, fails_after (advanced s) ms i m code h.1 e (from_next (λ t. FailsNext t m code) s i fails))
+
+pub all_timed : (s : SealerState) (ms : List KrbUnsealed) → AreSealable s ms → AllTimed ms
+all_timed s [] h = tt
+all_timed s (m ∷ ms) h = (h.0.0, all_timed (advanced s) ms h.1)
+
+pub timed_at : (ms : List KrbUnsealed) (i : ℕ) (m : KrbUnsealed) → AllTimed ms → slice_get ms i ≡ Some m → IsTimed m.at
+timed_at [] i m h e = absurd cc
+timed_at (x ∷ ms) zero m h e = subst (λ (z : KrbUnsealed). IsTimed z.at) (same_message x m e) h.0
+timed_at (x ∷ ms) (suc i) m h e = timed_at ms i m h.1 e
+
+pub can_seal_all : (s : SealerState) (ms : List KrbUnsealed) → AreSealable s ms → CanSealInTurn s (map unsealed_of ms)
+can_seal_all s [] h = tt
+can_seal_all s (m ∷ ms) h = (h.0.1, can_seal_all (advanced s) ms h.1)
+
+-- one more in Rattle's type
+pub unsealed-more : (ms : List KrbUnsealed) (i : ℕ) (d : KrbUnsealed) → i < length ms → map unsealed_of (take (suc i) ms) ≡ map unsealed_of (take i ms) ++ unsealed_of (get_or ms i d) ∷ []
+unsealed-more [] i d lt = absurd (omega (arith, lt))
+unsealed-more (m ∷ ms) zero d lt = refl
+unsealed-more (m ∷ ms) (suc i) d lt = ap (λ (xs : List Unsealed). unsealed_of m ∷ xs) (unsealed-more ms i d (omega (arith, lt)))
+
+-- no fault has the number 0
+refusal_not_zero : (r : Refusal) → code_of r ≡ 0 → ⊥
+refusal_not_zero FieldTooLong e = omega arith
+refusal_not_zero Malformed e = omega arith
+refusal_not_zero BadVersion e = omega arith
+refusal_not_zero MsgType e = omega arith
+refusal_not_zero EtypeNoSupp e = omega arith
+refusal_not_zero BadIntegrity e = omega arith
+refusal_not_zero InappCksum e = omega arith
+refusal_not_zero BadAddr e = omega arith
+refusal_not_zero Skew e = omega arith
+refusal_not_zero BadOrder e = omega arith
+refusal_not_zero Modified e = omega arith
+refusal_not_zero BadRecord e = omega arith
+refusal_not_zero AfterClose e = omega arith
+refusal_not_zero Memory e = omega arith
+
+pub not_zero : (f : Fault) → fault_code f ≡ 0 → ⊥
+not_zero (Refused r) e = refusal_not_zero r e
+not_zero Wiped e = omega arith
+not_zero TooLong e = omega arith
+not_zero Exhausted e = omega arith
+not_zero Etype e = omega arith
+not_zero Room e = omega arith
+not_zero Empty e = omega arith
+not_zero KeySize e = omega arith
+not_zero Mode e = omega arith
+not_zero Moment e = omega arith
+not_zero Address e = omega arith
+not_zero Argument e = omega arith
+not_zero Record e = omega arith
+not_zero Repeated e = omega arith
+not_zero TooOld e = omega arith
+
+-- a fault of a moment
+pub moment_fails : (at : KrbMoment) (Then : ℕ → Type 0) (f : Fault) → NeedsMoment at IsDone (fault_code f) → NeedsMoment at Then (fault_code f)
+moment_fails at Then f h = goes_on at IsDone Then (fault_code f) (λ done. absurd (not_zero f done)) h
+
+-- a moment has none
+pub no_fault : (at : KrbMoment) (f : Fault) → IsTimed at → NeedsMoment at IsDone (fault_code f) → ⊥
+no_fault at f timed (inl h) = h.0 timed.0
+no_fault at f timed (inr (r, inl h)) = h.0 timed.1
+no_fault at f timed (inr (r, inr (m, done))) = not_zero f done

@@ -1,0 +1,4 @@
+pub mod Unsealed
+pub mod Many
+pub mod Packed
+pub mod Checks

@@ -1,0 +1,8 @@
+-- What C seals a message from.
+use Rattle.krb_bulk.specs.declared.unsealed.Unsealed.{Unsealed}
+use Rattle.krb_structs.specs.Moment.{micros_of}
+use Rattle.krb_bulk_structs.specs.declared.unsealed.KrbUnsealed.{KrbUnsealed}
+
+abbrev pub unsealed_of : KrbUnsealed → Unsealed
+unsealed_of m =
+    record { user_data = m.user_data; at = micros_of m.at; confounder = m.confounder }

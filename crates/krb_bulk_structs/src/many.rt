@@ -1,0 +1,70 @@
+//! Sealing of several messages into one buffer.
+
+ghost use Rattle.std.specs.Prelude.{◌≡◌, ◌≤◌, ◌+◌, length, map, IfErr, IfOk, OnOk, OnErr};
+ghost use Rattle.krb_seal.specs.declared.refusal.Refusal.TheVariants.{Memory};
+ghost use Rattle.krb_seal.specs.Lent.{advanced_by};
+ghost use Rattle.krb_seal.specs.Sealer.{end_of_numbers};
+ghost use Rattle.krb_bulk.specs.Many.{SealsInTurn};
+ghost use Rattle.krb_bulk_structs.specs.Many.{AreSealable, ManyAnswer};
+ghost use Rattle.krb_bulk_structs.specs.Unsealed.{unsealed_of};
+ghost use Rattle.krb_bulk_structs.specs.Packed.{SealsPacked};
+
+use crate::checks::{all_unsealed, check};
+use crate::frames::{have_room, put_frames};
+use crate::many_fault::ManyFault;
+use crate::unsealed::KrbUnsealed;
+use krb_bulk::{ManyError, frames_of};
+use krb_seal::Refusal;
+use krb_structs::{AnySealer, Fault};
+use std::alloc::Global;
+
+/// How many messages are sealed in one call at most.
+pub const MOST_MESSAGES: usize = 64;
+
+/// The frames of messages that can be sealed. Out of memory is the only fault.
+fn made(
+    alloc: Global,
+    sealer: &AnySealer,
+    messages: &[KrbUnsealed<'_>],
+) -> Result<Vec<Vec<u8>>, Fault>
+    requires { AreSealable sealer.now messages.now }
+    ensures sealed { IfOk result (λ frames.
+        SealsInTurn sealer.now (map unsealed_of messages.now) frames.items) }
+    ensures numbers { OnOk result (sealer.now.next + length messages.now ≤ end_of_numbers) }
+    ensures memory { IfErr result (λ f. f ≡ Fault.Refused Memory) }
+{
+    let unsealed = all_unsealed(alloc, messages)?;
+    match frames_of(alloc, sealer.session_sealer(), &unsealed) {
+        Ok(frames) => Ok(frames),
+        Err(ManyError::Memory) => Err(Fault::Refused(Refusal::Memory)),
+        Err(ManyError::Refused { index: _, why: _ }) => unreachable!(),
+    }
+}
+
+/// Seals messages into a buffer that has room for their frames, one after another, and tells the size
+/// of each. What follows the frames and the sizes stays, and so does all if nothing is sealed.
+pub fn seal_many_into(
+    alloc: Global,
+    sealer: &mut AnySealer,
+    messages: &[KrbUnsealed<'_>],
+    out: &mut [u8],
+    sizes: &mut [usize],
+) -> Result<(), ManyFault>
+    requires { length messages.now ≤ length sizes.old }
+    ensures sealed { OnOk result (SealsPacked sealer.old messages.now out.old out.new
+        sizes.old sizes.new) }
+    ensures advanced { OnOk result (sealer.new ≡ advanced_by sealer.old (length messages.now)) }
+    ensures unchanged { OnErr result (sealer.new ≡ sealer.old) }
+    ensures out_kept { OnErr result (out.new ≡ out.old) }
+    ensures sizes_kept { OnErr result (sizes.new ≡ sizes.old) }
+    ensures answer { ManyAnswer sealer.old messages.now (length out.old) result }
+{
+    check(sealer.session_sealer(), messages)?;
+    let frames = made(alloc, sealer, messages)?;
+    if !have_room(&frames, out.len()) {
+        return Err(ManyFault::All(Fault::Room));
+    }
+    put_frames(&frames, out, sizes);
+    sealer.pass(messages.len() as u64);
+    Ok(())
+}
