@@ -5,6 +5,7 @@ import (
 	"errors"
 	"reflect"
 	"testing"
+	"time"
 
 	"krbrelay"
 )
@@ -52,6 +53,53 @@ func TestSealingMakesTheseFrames(t *testing.T) {
 		}
 		sealer.Close()
 	}
+}
+
+// Messages of one call are those of as many calls, which the rows above compare with another sealer's.
+func TestMessagesOfOneCall(t *testing.T) {
+	messages := make([]krbrelay.Message, krbrelay.MostMessages)
+	for i := range messages {
+		messages[i] = krbrelay.Message{UserData: bytes.Repeat([]byte{byte(i)}, 41*i), Time: then, Confounder: [16]byte{byte(i)}}
+	}
+	for _, key := range [][]byte{key128, key256} {
+		for _, mode := range []krbrelay.Mode{krbrelay.Safe, krbrelay.Priv} {
+			for _, count := range []int{0, 1, 3, 4, 8, 13, krbrelay.MostMessages} {
+				single := must[*krbrelay.Sealer](t)(krbrelay.NewSealer(etypeOf(key), key, session(mode, first)))
+				many := must[*krbrelay.Sealer](t)(krbrelay.NewSealer(etypeOf(key), key, session(mode, first)))
+				made := must[[][]byte](t)(many.SealMany(messages[:count]))
+				for i, it := range messages[:count] {
+					wanted := must[[]byte](t)(single.SealAt(it.UserData, it.Time, it.Confounder))
+					if !bytes.Equal(made[i], wanted) {
+						t.Errorf("message %d of %d", i, count)
+					}
+				}
+				if next := must[uint64](t)(many.Next()); len(made) != count || next != uint64(first+count) {
+					t.Errorf("%d messages of %d, and then %d", len(made), count, next)
+				}
+				single.Close()
+				many.Close()
+			}
+		}
+	}
+}
+
+func TestTheFirstMessageThatFailsIsNamed(t *testing.T) {
+	sealer := must[*krbrelay.Sealer](t)(krbrelay.NewSealer(17, key128, session(krbrelay.Priv, last-1)))
+	defer sealer.Close()
+	var many *krbrelay.ManyError
+	if _, err := sealer.SealMany(make3(then)); !errors.As(err, &many) || many.Index != 2 || !errors.Is(err, krbrelay.ErrExhausted) {
+		t.Errorf("past the last number: %v", err)
+	}
+	if _, err := sealer.SealMany(make([]krbrelay.Message, krbrelay.MostMessages+1)); !errors.As(err, &many) || many.Index != -1 {
+		t.Errorf("too many: %v", err)
+	}
+	if made := must[[][]byte](t)(sealer.SealMany(make3(then)[:2])); len(made) != 2 {
+		t.Errorf("%d messages", len(made))
+	}
+}
+
+func make3(at time.Time) []krbrelay.Message {
+	return []krbrelay.Message{{UserData: []byte("a"), Time: at}, {UserData: nil, Time: at}, {UserData: []byte("c"), Time: at}}
 }
 
 func TestReceiversTakeThem(t *testing.T) {

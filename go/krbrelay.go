@@ -31,6 +31,8 @@ const (
 	FrameLimit = 1_005_000
 	// AddressLimit is the most bytes of an address.
 	AddressLimit = 40
+	// MostMessages is the most messages that are sealed in one call.
+	MostMessages = 64
 	// end of limits
 	// PeerStateSize is the bytes of a peer's two numbers.
 	PeerStateSize = 20

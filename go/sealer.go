@@ -4,6 +4,7 @@ package krbrelay
 import "C"
 
 import (
+	"fmt"
 	"runtime"
 	"sync"
 	"time"
@@ -49,6 +50,102 @@ func (s *Sealer) SealAt(userData []byte, t time.Time, confounder [16]byte) ([]by
 		return C.krbrelay_sealer_seal(&s.raw, at(userData), C.size_t(len(userData)), &now, at(confounder[:]),
 			to.at, to.room, to.size)
 	})
+}
+
+// Message is what one of several messages is sealed from.
+type Message struct {
+	UserData   []byte
+	Time       time.Time
+	Confounder [16]byte // bytes that nobody can foresee; a KRB-SAFE doesn't use them
+}
+
+// ManyError says why none of several messages was sealed: Index is the first that can't be, or -1 if it is none of
+// them, and Err what sealing it by a call of its own returns.
+type ManyError struct {
+	Index int
+	Err   error
+}
+
+func (e *ManyError) Error() string {
+	if e.Index < 0 {
+		return e.Err.Error()
+	}
+	return fmt.Sprintf("message %d: %v", e.Index, e.Err)
+}
+
+// Unwrap is Err.
+func (e *ManyError) Unwrap() error { return e.Err }
+
+// SealMany makes the messages that as many calls of SealAt make one after another: quicker, since the library seals
+// eight side by side. All are sealed or none: the error is a *ManyError, with ErrArgument of more than
+// MostMessages.
+func (s *Sealer) SealMany(messages []Message) ([][]byte, error) {
+	if len(messages) == 0 {
+		return nil, nil
+	}
+	if len(messages) > MostMessages {
+		return nil, &ManyError{-1, ErrArgument}
+	}
+	given, err := together(messages)
+	if err != nil {
+		return nil, err
+	}
+	defer given.wipe()
+	s.lock.Lock()
+	defer s.lock.Unlock()
+	frames, failed := make([]byte, given.room), C.size_t(len(messages))
+	var sizes [MostMessages]C.size_t
+	err = checked(C.seal_many(&s.raw, at(given.userData), &given.lens[0], &given.times[0], at(given.confounders),
+		C.size_t(len(messages)), at(frames), C.size_t(len(frames)), &sizes[0], &failed))
+	if err != nil {
+		index := int(failed)
+		if index == len(messages) {
+			index = -1
+		}
+		return nil, &ManyError{index, err}
+	}
+	made := make([][]byte, len(messages))
+	for i := range made {
+		made[i], frames = frames[:sizes[i]:sizes[i]], frames[sizes[i]:]
+	}
+	return made, nil
+}
+
+// several is what messages are sealed from, as C is given it.
+type several struct {
+	userData, confounders []byte
+	lens                  []C.size_t
+	times                 []C.struct_krbrelay_moment
+	room                  int
+}
+
+// together puts messages one after the other.
+func together(messages []Message) (several, error) {
+	var all several
+	size := 0
+	for _, it := range messages {
+		size += len(it.UserData)
+	}
+	all.userData = make([]byte, 0, size)
+	for i, it := range messages {
+		now, err := moment(it.Time)
+		if err != nil {
+			return all, &ManyError{i, err}
+		}
+		all.userData = append(all.userData, it.UserData...)
+		all.confounders = append(all.confounders, it.Confounder[:]...)
+		all.lens = append(all.lens, C.size_t(len(it.UserData)))
+		all.times = append(all.times, now)
+		all.room += roomOfFrame(len(it.UserData))
+	}
+	return all, nil
+}
+
+// wipe overwrites the copies of user data.
+func (all *several) wipe() {
+	for i := range all.userData {
+		all.userData[i] = 0
+	}
 }
 
 // SealRecord is the message of a record, which a Receiver takes, as Seal seals user data. ErrRecord where the

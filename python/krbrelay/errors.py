@@ -112,9 +112,9 @@ def _text(call: Callable[..., int], answer: int) -> str:
     return bytes(buffer[:size.value]).decode("ascii")
 
 
-def exception_of(answer: int) -> Exception:
-    """The exception for an answer other than 0."""
-    text, found = answer_text(answer), library().krbrelay_class_of(answer)
+def exception_of(answer: int, before: str = "") -> Exception:
+    """The exception for an answer other than 0, whose text begins with what is before it."""
+    text, found = before + answer_text(answer), library().krbrelay_class_of(answer)
     if found == _Class.MEMORY:
         return MemoryError(text)
     if found == _Class.CALLER and answer != _ROOM:

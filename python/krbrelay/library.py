@@ -24,6 +24,8 @@ FRAME_LIMIT = 1_005_000
 """The most bytes of a message that is opened."""
 ADDRESS_LIMIT = 40
 """The most bytes of an address."""
+MOST_MESSAGES = 64
+"""The most messages that are sealed in one call."""
 # end of limits
 CONFOUNDER_SIZE = 16
 PEER_STATE_SIZE = 20
@@ -88,6 +90,12 @@ class HeaderStruct(ctypes.Structure):
     _fields_ = [("kind", c_uint32), ("etype", c_int32), ("checksum_type", c_int32),
                 ("has_number", c_uint32), ("number", c_uint32), ("has_key_version", c_uint32),
                 ("key_version", c_uint32), ("reserved", c_uint32)]
+
+
+class UnsealedStruct(ctypes.Structure):
+    """struct krbrelay_unsealed."""
+    _fields_ = [("user_data", c_char_p), ("user_data_len", c_size_t), ("at", MomentStruct),
+                ("confounder", c_uint8 * CONFOUNDER_SIZE)]
 
 
 class WindowStruct(ctypes.Structure):
@@ -197,6 +205,8 @@ CALLS: Dict[str, Tuple[Any, List[Any]]] = {
         (c_uint32, [_HANDLE, *_BYTES, _AT, c_char_p, *_KEPT]),
     "krbrelay_sealer_seal_record":
         (c_uint32, [_HANDLE, c_uint32, *_BYTES, _AT, c_char_p, *_KEPT]),
+    "krbrelay_sealer_seal_many":
+        (c_uint32, [_HANDLE, POINTER(UnsealedStruct), c_size_t, *_ROOM, _SIZE, _SIZE]),
     "krbrelay_sealer_next": (c_uint32, [_HANDLE, POINTER(c_uint64)]),
     "krbrelay_sealer_frame_size": (c_uint32, [_HANDLE, c_size_t, _MOMENT, _SIZE]),
     "krbrelay_sealer_set_mode": (c_uint32, [_HANDLE, c_uint32]),
@@ -258,6 +268,11 @@ CALLS: Dict[str, Tuple[Any, List[Any]]] = {
     "krbrelay_queue_len": (c_size_t, [_HANDLE]),
     "krbrelay_queue_free": (None, [_HANDLE]),
     "krbrelay_message_header": (c_uint32, [*_BYTES, POINTER(HeaderStruct)]),
+    "krbrelay_check_session": (c_uint32, [POINTER(SessionStruct)]),
+    "krbrelay_check_expect": (c_uint32, [POINTER(ExpectStruct)]),
+    "krbrelay_check_demand": (c_uint32, [POINTER(DemandStruct)]),
+    "krbrelay_check_peer_demand": (c_uint32, [POINTER(DemandStruct)]),
+    "krbrelay_field_name": (c_char_p, [c_uint32]),
     "krbrelay_answer_name": (c_uint32, [c_uint32, *_ROOM, _SIZE]),
     "krbrelay_answer_text": (c_uint32, [c_uint32, *_ROOM, _SIZE]),
     "krbrelay_class_of": (c_uint32, [c_uint32]),

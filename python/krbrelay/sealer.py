@@ -3,12 +3,14 @@ from __future__ import annotations
 
 import os
 from ctypes import CDLL, addressof, c_size_t, c_uint8, c_uint64
+from itertools import accumulate
 from time import time_ns
-from typing import Callable, Optional
+from typing import Callable, List, Optional, Sequence
 
 from krbrelay.errors import exception_of
 from krbrelay.handle import OF_A_PARENT, Handle, Key
-from krbrelay.library import CONFOUNDER_SIZE, MomentStruct, SessionStruct
+from krbrelay.library import (
+    CONFOUNDER_SIZE, MOST_MESSAGES, MomentStruct, SessionStruct, UnsealedStruct)
 from krbrelay.values import (
     LAST_NUMBER, Address, Bytes, Mode, Moment, Record, address_struct, bytes_of, micros_of,
     optional_struct, ranged, record_bytes)
@@ -73,6 +75,34 @@ class Sealer(Handle):
         """
         content = bytes_of("the user data", user_data)
         return self._sealed(self._seal, len(content), content, at, confounder)
+
+    def seal_many(self, messages: Sequence[Bytes], at: Optional[Moment] = None) -> List[bytes]:
+        """The messages of 64 user data at most, as so many calls of `seal` make them one after another,
+        at one moment and each under a confounder of its own: quicker, since the library seals eight side
+        by side. All are sealed or none: the exception is that of the first that can't be, and says which.
+        """
+        contents = [bytes_of("the user data", it) for it in messages]
+        if len(contents) > MOST_MESSAGES:
+            raise ValueError(f"{len(contents)} messages: a call seals {MOST_MESSAGES} at most")
+        micros = time_ns() // 1000 if at is None else ranged("the moment", micros_of(at), 0, MOST)
+        if os.getpid() != self._process:
+            raise RuntimeError(OF_A_PARENT)
+        with self._lock:
+            return self._sealed_many(contents, MomentStruct(*divmod(micros, 1_000_000)))
+
+    def _sealed_many(self, contents: List[bytes], moment: MomentStruct) -> List[bytes]:
+        drawn = os.urandom if self._draws else bytes
+        unsealed = (UnsealedStruct * MOST_MESSAGES)()
+        for place, content in zip(unsealed, contents):
+            place.user_data, place.user_data_len, place.at = content, len(content), moment
+            place.confounder[:] = drawn(CONFOUNDER_SIZE)
+        room = sum(self._library.krbrelay_frame_size(len(it)) for it in contents)
+        buffer, sizes, failed = (c_uint8 * room)(), (c_size_t * MOST_MESSAGES)(), c_size_t(MOST_MESSAGES)
+        answer = self._function("seal_many")(self._place, unsealed, len(contents), buffer, room, sizes, failed)
+        if answer:
+            raise exception_of(answer, f"message {failed.value}: " if failed.value < len(contents) else "")
+        view, ends = memoryview(buffer).cast("B"), [0, *accumulate(sizes[:len(contents)])]
+        return [view[begin:end].tobytes() for begin, end in zip(ends, ends[1:])]
 
     def seal_record(self, record: Record, at: Optional[Moment] = None,
                     confounder: Optional[Bytes] = None) -> bytes:

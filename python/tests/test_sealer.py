@@ -108,6 +108,40 @@ class Sealing(unittest.TestCase):
             self.assertEqual(sealer.next, 7)
 
 
+class Several(unittest.TestCase):
+    """Messages that are sealed in one call."""
+
+    def test_they_are_the_messages_of_single_calls(self):
+        for key, mode in KINDS:
+            for count in (0, 1, 2, 3, 4, 5, 7, 8, 9, 12, 21, 64):
+                texts = [bytes(at % 251 for at in range(29 * it)) for it in range(count)]
+                with sealer_of(key, mode) as sealer, mock.patch("os.urandom", return_value=CONFOUNDER):
+                    self.assertEqual(sealer.seal_many(texts, MICROS),
+                                     [frame_of(key, mode, it, 7 + at) for at, it in enumerate(texts)])
+                    self.assertEqual(sealer.next, 7 + count)
+
+    def test_each_private_one_has_a_confounder_of_its_own(self):
+        with sealer_of(KEYS[1], Mode.PRIV) as sealer:
+            frames_made = sealer.seal_many([b"hi"] * 64)
+        self.assertEqual(len({confounder_of(KEYS[1], it) for it in frames_made}), 64)
+
+    def test_none_is_sealed_if_one_cannot_be(self):
+        with sealer_of(KEYS[0], Mode.PRIV, first=2**32 - 2) as sealer:
+            with self.assertRaisesRegex(krbrelay.Exhausted, "message 2: no sequence number is left"):
+                sealer.seal_many([b"a", b"b", b"c"])
+            with self.assertRaisesRegex(ValueError, "message 1: .* longer"):
+                sealer.seal_many([b"a", bytes(krbrelay.USER_DATA_LIMIT + 1)])
+            with self.assertRaisesRegex(ValueError, "65 messages: a call seals 64 at most"):
+                sealer.seal_many([b""] * 65)
+            self.assertEqual(sealer.next, 2**32 - 2)
+            self.assertEqual(len(sealer.seal_many([b"a", b"b"])), 2)
+            sealer.wipe()
+            with self.assertRaisesRegex(krbrelay.Wiped, "message 0: "):
+                sealer.seal_many([b"a"])
+        with self.assertRaises(krbrelay.Freed):
+            sealer.seal_many([b"a"])
+
+
 class Moments(unittest.TestCase):
     def sealed_at(self, at):
         with sealer_of(KEYS[0], Mode.SAFE) as sealer:

@@ -90,7 +90,7 @@ pub use opener::Opener;
 pub use peer::{Numbers, Peer};
 pub use receiver::{Receiver, State};
 pub use record::{texts, Batch, Record, Texts};
-pub use sealer::Sealer;
+pub use sealer::{ManyError, Message, Sealer};
 pub use sys::{is_supported, library_version};
 pub use values::{Body, Carried, Confounder, Demand, Expect, How, Key, Mode, Moment, Session};
 pub use window::{Taken, Window};
@@ -102,6 +102,8 @@ pub const USER_DATA_LIMIT: usize = 1_000_001;
 pub const FRAME_LIMIT: usize = 1_005_000;
 /// The most bytes of an address.
 pub const ADDRESS_LIMIT: usize = 40;
+/// The most messages that are sealed in one call.
+pub const MOST_MESSAGES: usize = 64;
 // end of limits
 /// The bytes of a peer's two numbers ([`Peer::export`]).
 pub const PEER_STATE_SIZE: usize = 20;

@@ -8,6 +8,38 @@ use crate::record::Record;
 use crate::sys::{self, Handle};
 use crate::values::{Confounder, Key, Mode, Moment, Session};
 
+/// What one of several messages is sealed from.
+#[derive(Clone, Copy, Debug)]
+pub struct Message<'a> {
+    /// The user data.
+    pub user_data: &'a [u8],
+    /// The message's time.
+    pub at: Moment,
+    /// 16 bytes that nobody can foresee; a KRB-SAFE doesn't use them.
+    pub confounder: Confounder,
+}
+
+/// Why none of several messages was sealed.
+#[derive(Clone, Debug, PartialEq, Eq)]
+pub struct ManyError {
+    /// The index of the first message that can't be sealed, if it is one of them.
+    pub index: Option<usize>,
+    /// What sealing it by a call of its own returns.
+    pub error: Error,
+}
+
+impl fmt::Display for ManyError {
+    fn fmt(&self, to: &mut fmt::Formatter<'_>) -> fmt::Result {
+        match self.index {
+            Some(index) => write!(to, "message {index}: {}", self.error),
+            None => self.error.fmt(to),
+        }
+    }
+}
+
+#[cfg(feature = "std")]
+impl std::error::Error for ManyError {}
+
 /// Seals messages under a session key, with one sequence number after another.
 ///
 /// A session key seals each sequence number once in each direction. After any error the sealer is as it
@@ -42,6 +74,15 @@ impl Sealer {
         confounder: &Confounder,
     ) -> Result<Vec<u8>, Error> {
         sys::seal(&mut self.0, user_data, &at.raw(), confounder)
+    }
+
+    /// The messages that as many calls of [`Sealer::seal_at`] make one after another: quicker, since the
+    /// library seals eight side by side. All are sealed or none.
+    ///
+    /// [`Error::Argument`] of more than [`MOST_MESSAGES`](crate::MOST_MESSAGES), or the error of the first that
+    /// can't be sealed, or [`Error::Memory`].
+    pub fn seal_many(&mut self, messages: &[Message<'_>]) -> Result<Vec<Vec<u8>>, ManyError> {
+        sys::seal_many(&mut self.0, messages).map_err(|(index, error)| ManyError { index, error })
     }
 
     /// The message of a record, which a [`Receiver`](crate::Receiver) takes, as [`Sealer::seal`] seals

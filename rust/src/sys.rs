@@ -12,8 +12,9 @@ use core::ffi::c_void;
 use core::ptr;
 
 use crate::error::Error;
+use crate::sealer::Message;
 use crate::values::{Confounder, Key};
-use crate::{frame_size, FRAME_LIMIT, HISTORY_SIZE, PEER_STATE_SIZE, USER_DATA_LIMIT};
+use crate::{frame_size, FRAME_LIMIT, HISTORY_SIZE, MOST_MESSAGES, PEER_STATE_SIZE, USER_DATA_LIMIT};
 
 // ---- the structs of krbrelay.h
 
@@ -116,6 +117,14 @@ pub(crate) struct Header {
 }
 
 #[repr(C)]
+struct Unsealed {
+    user_data: *const u8,
+    user_data_len: usize,
+    at: Moment,
+    confounder: Confounder,
+}
+
+#[repr(C)]
 #[derive(Clone, Copy, Debug, Default, PartialEq, Eq)]
 pub(crate) struct Window {
     pub highest: u64,
@@ -162,6 +171,15 @@ extern "C" {
         frame: *mut u8,
         room: usize,
         size: *mut usize,
+    ) -> u32;
+    fn krbrelay_sealer_seal_many(
+        handle: *mut Raw,
+        messages: *const Unsealed,
+        count: usize,
+        frames: *mut u8,
+        room: usize,
+        sizes: *mut usize,
+        failed: *mut usize,
     ) -> u32;
     fn krbrelay_sealer_next(handle: *mut Raw, next: *mut u64) -> u32;
     fn krbrelay_sealer_frame_size(
@@ -445,6 +463,55 @@ pub(crate) fn seal_record(
         // SAFETY: the module's rule; the handle is a sealer's.
         unsafe { krbrelay_sealer_seal_record(handle, kind, from, len, at, drawn, to, room, size) }
     })
+}
+
+/// The frames of messages, or which one failed, if it is one of them, and why.
+pub(crate) fn seal_many(
+    sealer: &mut Handle,
+    messages: &[Message<'_>],
+) -> Result<Vec<Vec<u8>>, (Option<usize>, Error)> {
+    let unsealed: Vec<Unsealed> = messages.iter().map(Unsealed::of).collect();
+    let room =
+        messages.iter().fold(0usize, |sum, it| sum.saturating_add(room_of_frame(it.user_data.len())));
+    let (mut frames, mut sizes, mut failed) = (Vec::new(), [0; MOST_MESSAGES], usize::MAX);
+    frames.try_reserve_exact(room).map_err(|_| (None, Error::Memory))?;
+    // SAFETY: the module's rule; the handle is a sealer's, and the messages are borrowed until the call ends.
+    let answer = unsafe {
+        krbrelay_sealer_seal_many(
+            sealer.raw.get(),
+            unsealed.as_ptr(),
+            unsealed.len(),
+            frames.as_mut_ptr(),
+            room,
+            sizes.as_mut_ptr(),
+            &mut failed,
+        )
+    };
+    checked(answer).map_err(|error| (Some(failed).filter(|it| *it < messages.len()), error))?;
+    let written = sizes.iter().take(messages.len()).sum();
+    // SAFETY: it wrote so many bytes.
+    unsafe { frames.set_len(written) };
+    let mut rest = frames.as_slice();
+    Ok(sizes
+        .iter()
+        .take(messages.len())
+        .filter_map(|size| {
+            let (frame, after) = (rest.get(..*size)?, rest.get(*size..)?);
+            rest = after;
+            Some(frame.to_vec())
+        })
+        .collect())
+}
+
+impl Unsealed {
+    fn of(message: &Message<'_>) -> Unsealed {
+        Unsealed {
+            user_data: message.user_data.as_ptr(),
+            user_data_len: message.user_data.len(),
+            at: message.at.raw(),
+            confounder: message.confounder,
+        }
+    }
 }
 
 #[cfg(feature = "std")]

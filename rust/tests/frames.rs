@@ -3,7 +3,10 @@
 mod common;
 
 use common::{expect, frames, from, session, AES128, AES256, AT, DRAWN, FIRST, LAST, RECEIVER};
-use krbrelay::{message_header, Batch, Error, Key, Mode, Opener, Receiver, Record, Sealer, Session};
+use krbrelay::{
+    message_header, Batch, Error, Key, ManyError, Message, Mode, Opener, Receiver, Record, Sealer,
+    Session, MOST_MESSAGES,
+};
 
 type Row = (&'static str, Mode, Key<'static>, u32, Vec<Record>);
 
@@ -87,6 +90,47 @@ fn sealing_makes_these_frames() {
             assert_eq!((frame.len(), sealer.next()), (size, next + 1), "{name}");
         }
     }
+}
+
+/// Messages of one call are those of as many calls, which the rows above compare with another sealer's.
+#[test]
+fn messages_of_one_call_are_those_of_single_calls() {
+    let data: Vec<Vec<u8>> = (0..MOST_MESSAGES).map(|it| vec![it as u8; 41 * it]).collect();
+    let messages: Vec<Message<'_>> = data
+        .iter()
+        .enumerate()
+        .map(|(it, user_data)| Message { user_data, at: AT, confounder: [it as u8; 16] })
+        .collect();
+    for (mode, key) in
+        [(Mode::Safe, AES128), (Mode::Priv, AES128), (Mode::Safe, AES256), (Mode::Priv, AES256)]
+    {
+        for count in [0, 1, 3, 4, 8, 13, MOST_MESSAGES] {
+            let (mut single, mut many) = (sealer(key, mode, FIRST), sealer(key, mode, FIRST));
+            let wanted: Vec<Vec<u8>> = messages[..count]
+                .iter()
+                .map(|it| single.seal_at(it.user_data, it.at, &it.confounder).unwrap())
+                .collect();
+            assert_eq!(many.seal_many(&messages[..count]).unwrap(), wanted);
+            assert_eq!(many.next(), single.next());
+        }
+    }
+}
+
+fn sealer(key: Key<'_>, mode: Mode, first: u32) -> Sealer {
+    Sealer::new(key, &session(mode, first)).unwrap()
+}
+
+#[test]
+fn the_first_message_that_fails_is_named() {
+    let hi = Message { user_data: b"hi", at: AT, confounder: [1; 16] };
+    let mut last = sealer(AES128, Mode::Priv, LAST - 1);
+    let exhausted = last.seal_many(&[hi; 3]).unwrap_err();
+    assert_eq!(exhausted, ManyError { index: Some(2), error: Error::Exhausted });
+    assert_eq!(exhausted.to_string(), "message 2: no sequence number is left");
+    let too_many = last.seal_many(&[hi; MOST_MESSAGES + 1]).unwrap_err();
+    assert_eq!(too_many, ManyError { index: None, error: Error::Argument });
+    assert_eq!(last.next(), u64::from(LAST - 1));
+    assert_eq!(last.seal_many(&[hi; 2]).unwrap().len(), 2);
 }
 
 /// The user data of a record are a letter and its bytes.

@@ -5,17 +5,22 @@ use Rattle.krb_seal.specs.declared.seal_error.SealError.{SealError}
 use Rattle.krb_seal.specs.declared.seal_error.SealError.TheVariants as errors
 use Rattle.krb_bulk.specs.declared.unsealed.Unsealed.{Unsealed}
 
--- It can be sealed.
-pub record CanSealAt (wiped : Bool) (number : ℕ) (m : Unsealed) : Type 0 where
+-- One of so many bytes of user data can be sealed.
+pub record CanSealSize (wiped : Bool) (number len : ℕ) : Type 0 where
   pub live : wiped ≡ false
-  pub short : length m.user_data.now ≤ user_data_limit
+  pub short : len ≤ user_data_limit
   pub left : number ≤ last_number
 
+abbrev pub CanSealAt : Bool → ℕ → Unsealed → Type 0
+CanSealAt wiped number m = CanSealSize wiped number (length m.user_data.now)
+
 -- Why it can't be.
+abbrev pub RefusesSize : Bool → ℕ → ℕ → SealError → Type 0
+RefusesSize wiped number len errors.Wiped = wiped ≡ true
+RefusesSize wiped number len errors.TooLong = (wiped ≡ false) × (user_data_limit < len)
+RefusesSize wiped number len errors.Exhausted =
+    (wiped ≡ false) × (len ≤ user_data_limit) × (last_number < number)
+RefusesSize wiped number len errors.Memory = ⊥
+
 abbrev pub RefusesAt : Bool → ℕ → Unsealed → SealError → Type 0
-RefusesAt wiped number m errors.Wiped = wiped ≡ true
-RefusesAt wiped number m errors.TooLong =
-    (wiped ≡ false) × (user_data_limit < length m.user_data.now)
-RefusesAt wiped number m errors.Exhausted =
-    (wiped ≡ false) × (length m.user_data.now ≤ user_data_limit) × (last_number < number)
-RefusesAt wiped number m errors.Memory = ⊥
+RefusesAt wiped number m = RefusesSize wiped number (length m.user_data.now)

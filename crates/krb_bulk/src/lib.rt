@@ -13,6 +13,6 @@ mod private;
 mod safe;
 mod unsealed;
 
-pub use many::{check_message, frames_of, seal_many};
+pub use many::{check_size, frames_of, seal_many};
 pub use many_error::ManyError;
 pub use unsealed::Unsealed;

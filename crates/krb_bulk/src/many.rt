@@ -7,7 +7,7 @@ ghost use Rattle.krb_seal.specs.Mode.{purpose_of};
 ghost use Rattle.krb_seal.specs.Sealer.{end_of_numbers};
 ghost use Rattle.krb_seal.specs.Lent.{advanced_by};
 ghost use Rattle.krb_bulk.specs.Many.{AnswersMany, CanSealInTurn, SealsInTurn};
-ghost use Rattle.krb_bulk.specs.Numbered.{CanSealAt, RefusesAt};
+ghost use Rattle.krb_bulk.specs.Numbered.{CanSealAt, CanSealSize, RefusesAt, RefusesSize};
 ghost use Rattle.krb_bulk.specs.Four.{AreFrom};
 ghost use Rattle.krb_bulk.specs.BulkInside.{IsReady, SealsAt, SealsFirst, sealer_of};
 
@@ -20,21 +20,29 @@ use krb_keys::BatchMac;
 use krb_seal::{AesSealer, Mode, SealError, Sealer};
 use std::alloc::{AllocError, Global};
 
-/// Whether a message can be sealed at a number, by a sealer that is wiped or not.
-pub fn check_message(is_wiped: bool, number: u64, message: &Unsealed<'_>) -> Result<(), SealError>
-    ensures { MatchResult result (λ _. CanSealAt is_wiped number message.now)
-        (RefusesAt is_wiped number message.now) }
+/// Whether a message with so many bytes of user data can be sealed at a number, by a sealer that is wiped or not.
+pub fn check_size(is_wiped: bool, number: u64, len: usize) -> Result<(), SealError>
+    ensures { MatchResult result (λ _. CanSealSize is_wiped number len)
+        (RefusesSize is_wiped number len) }
 {
     if is_wiped {
         return Err(SealError::Wiped);
     }
-    if message.user_data.len() > USER_DATA_LIMIT {
+    if len > USER_DATA_LIMIT {
         return Err(SealError::TooLong);
     }
     if number > LAST_NUMBER {
         return Err(SealError::Exhausted);
     }
     Ok(())
+}
+
+/// The same of a message.
+fn check_message(is_wiped: bool, number: u64, message: &Unsealed<'_>) -> Result<(), SealError>
+    ensures { MatchResult result (λ _. CanSealAt is_wiped number message.now)
+        (RefusesAt is_wiped number message.now) }
+{
+    check_size(is_wiped, number, message.user_data.len())
 }
 
 /// Whether messages can be sealed one after another.

@@ -1,7 +1,7 @@
 -- Frames, one after another.
 use Rattle.std.proofs.Common.{◌≡◌, ℕ, zero, suc, ◌+◌, ◌<◌, ◌≤◌, ◌≢◌, List, [], ◌∷◌, ◌++◌, length, take, drop, get_or, set, Some, refl, sym, ap, ◌∙◌, arith, length-append, get_or-set_other, get_or-set_same, below_more, add-one}
 use Rattle.std.proofs.Math.Seq.{take-append_seam}
-use Rattle.std.proofs.lemmas.List.{append_assoc, append_nil, take_all}
+use Rattle.std.proofs.lemmas.List.{append_assoc, append-nil, take_all}
 use Rattle.std.proofs.lemmas.Slice.{drop-append-drop}
 use Rattle.std.specs.Prelude.{slice_get, slice_index}
 use Rattle.std.specs.Global.{Vec}
@@ -11,9 +11,16 @@ use Rattle.krb_bulk_structs.specs.Packed.{HoldsFrames, bytes_of}
 -- one frame more
 pub bytes-more : (fs : List (Vec ℕ)) (i : ℕ) (d : Vec ℕ) → i < length fs → bytes_of (take (suc i) fs) ≡ bytes_of (take i fs) ++ (get_or fs i d).items
 bytes-more [] i d lt = absurd (omega (arith, lt))
-bytes-more (f ∷ fs) zero d lt = append_nil f.items
+bytes-more (f ∷ fs) zero d lt = append-nil f.items
 bytes-more (f ∷ fs) (suc i) d lt =
     ap (λ (x : List ℕ). f.items ++ x) (bytes-more fs i d (omega (arith, lt))) ∙ sym (append_assoc f.items (bytes_of (take i fs)) (get_or fs i d).items)
+
+-- and their length
+pub length-more : (fs : List (Vec ℕ)) (i : ℕ) (d : Vec ℕ) → i < length fs
+    → length (bytes_of (take (i + 1) fs)) ≡ length (bytes_of (take i fs)) + length (get_or fs i d).items
+length-more fs i d lt =
+    ap (λ (k : ℕ). length (bytes_of (take k fs))) (add-one i) ∙ ap length (bytes-more fs i d lt)
+    ∙ length-append (bytes_of (take i fs)) (get_or fs i d).items
 
 -- some of the frames are no longer than all
 pub bytes-first : (fs : List (Vec ℕ)) (i : ℕ) → length (bytes_of (take i fs)) ≤ length (bytes_of fs)

@@ -1,25 +1,24 @@
 //! Which messages can be sealed.
 
-ghost use Rattle.std.specs.Prelude.{◌≡◌, MatchResult, map, IfOk, IfErr};
-ghost use Rattle.krb_seal.specs.declared.refusal.Refusal.TheVariants.{Memory};
+ghost use Rattle.std.specs.Prelude.{◌≡◌, ◌≤◌, MatchResult, map, take, length};
 ghost use Rattle.krb_bulk_structs.specs.Checks.{IsSealableAt, FailsAt, ChecksMany, AllTimed};
 ghost use Rattle.krb_bulk_structs.specs.Unsealed.{unsealed_of};
 ghost use Rattle.krb_structs.specs.Fault.{fault_code};
 
 use crate::many_fault::ManyFault;
 use crate::unsealed::KrbUnsealed;
-use krb_bulk::{Unsealed, check_message};
+use krb_bulk::{Unsealed, check_size};
 use krb_seal::{Sealer, SessionSealer};
 use krb_structs::Fault;
-use std::alloc::Global;
 
 /// Whether a message can be sealed at a number.
 fn check_one(is_wiped: bool, number: u64, message: &KrbUnsealed<'_>) -> Result<(), Fault>
     ensures { MatchResult result (λ _. IsSealableAt is_wiped number message.now)
         (λ fault. FailsAt is_wiped number message.now (fault_code fault)) }
 {
-    let unsealed = message.unsealed()?;
-    Ok(check_message(is_wiped, number, &unsealed)?)
+    message.at.moment()?;
+    check_size(is_wiped, number, message.user_data.len())?;
+    Ok(())
 }
 
 /// Whether messages can be sealed one after another.
@@ -37,18 +36,20 @@ pub fn check(sealer: &SessionSealer, messages: &[KrbUnsealed<'_>]) -> Result<(),
     Ok(())
 }
 
-/// Messages in Rattle's type.
-pub fn all_unsealed<'a>(
-    alloc: Global,
-    messages: &'a [KrbUnsealed<'_>],
-) -> Result<Vec<Unsealed<'a>>, Fault>
-    requires { AllTimed messages.now }
-    ensures value { IfOk result (λ v. v.items ≡ map unsealed_of messages.now) }
-    ensures memory { IfErr result (λ f. f ≡ Fault.Refused Memory) }
+/// Puts messages in Rattle's type into a buffer.
+pub fn put_unsealed<'a>(messages: &[KrbUnsealed<'a>], all: &mut [Unsealed<'a>])
+    requires timed { AllTimed messages.now }
+    requires room { length messages.now ≤ length all.old }
+    ensures { take (length messages.now) all.new ≡ map unsealed_of messages.now }
 {
-    let mut all = Vec::with_capacity(alloc, messages.len())?;
-    for message in messages {
-        all.push(message.unsealed()?)?;
+    for index in 0..messages.len() {
+        let Ok(at) = messages[index].at.moment() else {
+            unreachable!();
+        };
+        all[index] = Unsealed {
+            user_data: messages[index].user_data,
+            at,
+            confounder: messages[index].confounder,
+        };
     }
-    Ok(all)
 }

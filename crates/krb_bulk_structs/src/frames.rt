@@ -34,8 +34,9 @@ pub fn put_frames(frames: &[Vec<u8>], out: &mut [u8], sizes: &mut [usize])
 {
     let mut from = 0;
     for (index, frame) in frames.iter().enumerate() {
+        let size = frame.len();
         put_at(out, from, frame);
-        sizes[index] = frame.len();
-        from += frame.len();
+        sizes[index] = size;
+        from += size;
     }
 }

@@ -5,21 +5,44 @@ ghost use Rattle.krb_seal.specs.declared.refusal.Refusal.TheVariants.{Memory};
 ghost use Rattle.krb_seal.specs.Lent.{advanced_by};
 ghost use Rattle.krb_seal.specs.Sealer.{end_of_numbers};
 ghost use Rattle.krb_bulk.specs.Many.{SealsInTurn};
+ghost use Rattle.krb_bulk_structs.specs.Checks.{AllTimed};
 ghost use Rattle.krb_bulk_structs.specs.Many.{AreSealable, ManyAnswer};
 ghost use Rattle.krb_bulk_structs.specs.Unsealed.{unsealed_of};
 ghost use Rattle.krb_bulk_structs.specs.Packed.{SealsPacked};
 
-use crate::checks::{all_unsealed, check};
+use crate::checks::{check, put_unsealed};
 use crate::frames::{have_room, put_frames};
 use crate::many_fault::ManyFault;
 use crate::unsealed::KrbUnsealed;
-use krb_bulk::{ManyError, frames_of};
+use krb_bulk::{ManyError, Unsealed, frames_of};
+use krb_der::Moment;
 use krb_seal::Refusal;
 use krb_structs::{AnySealer, Fault};
-use std::alloc::Global;
+use std::alloc::{AllocError, Global};
 
 /// How many messages are sealed in one call at most.
 pub const MOST_MESSAGES: usize = 64;
+
+/// Messages in Rattle's type.
+fn unsealed<'a>(
+    alloc: Global,
+    messages: &[KrbUnsealed<'a>],
+) -> Result<Vec<Unsealed<'a>>, AllocError>
+    requires { AllTimed messages.now }
+    ensures { IfOk result (λ all. all.items ≡ map unsealed_of messages.now) }
+{
+    let Some(epoch) = Moment::from_micros(0) else {
+        unreachable!();
+    };
+    let none = Unsealed {
+        user_data: &[],
+        at: epoch,
+        confounder: [0; 16],
+    };
+    let mut all = Vec::from_elem(alloc, none, messages.len())?;
+    put_unsealed(messages, &mut all);
+    Ok(all)
+}
 
 /// The frames of messages that can be sealed. Out of memory is the only fault.
 fn made(
@@ -33,8 +56,8 @@ fn made(
     ensures numbers { OnOk result (sealer.now.next + length messages.now ≤ end_of_numbers) }
     ensures memory { IfErr result (λ f. f ≡ Fault.Refused Memory) }
 {
-    let unsealed = all_unsealed(alloc, messages)?;
-    match frames_of(alloc, sealer.session_sealer(), &unsealed) {
+    let all = unsealed(alloc, messages)?;
+    match frames_of(alloc, sealer.session_sealer(), &all) {
         Ok(frames) => Ok(frames),
         Err(ManyError::Memory) => Err(Fault::Refused(Refusal::Memory)),
         Err(ManyError::Refused { index: _, why: _ }) => unreachable!(),

@@ -3,7 +3,7 @@
 ghost use Rattle.std.specs.Prelude.{◌≡◌, ◌↔◌, IsTrue, None};
 ghost use Rattle.krb_structs.specs.Demand.{IsDemand};
 ghost use Rattle.krb_structs.specs.Peer.{IsPeerDemand};
-ghost use Rattle.krb_fields.specs.Demand.{AreFirstHows, AreLast, DemandField, FirstHow, FitsReceiver, FitsSender, LastField, PeerDemandField};
+ghost use Rattle.krb_fields.specs.Demand.{AreFirstHows, AreLast, DemandField, FirstHow, FitsReceiver, FitsSender, IsHowNumber, LastField, PeerDemandField};
 
 use crate::field::Field;
 use crate::session::has_room;
@@ -81,6 +81,13 @@ pub fn demand_field(demand: &KrbDemand) -> Option<Field>
     last_field(demand)
 }
 
+/// Whether the number is demanded as a peer has it.
+fn demands_number(demand: &KrbDemand) -> bool
+    ensures { IsTrue result ↔ IsHowNumber demand.now }
+{
+    demand.how_number == 2 || demand.how_number == 3
+}
+
 /// The first field of a demand by which a peer refuses it.
 pub fn peer_demand_field(demand: &KrbDemand) -> Option<Field>
     ensures field { PeerDemandField demand.now result }
@@ -89,7 +96,7 @@ pub fn peer_demand_field(demand: &KrbDemand) -> Option<Field>
     if let Some(field) = first_how(demand) {
         return Some(field);
     }
-    if demand.how_number != 2 && demand.how_number != 3 {
+    if !demands_number(demand) {
         return Some(Field::HowNumber);
     }
     if demand.number > LAST_NUMBER + 1 {

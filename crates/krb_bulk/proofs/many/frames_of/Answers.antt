@@ -1,5 +1,5 @@
 use Rattle.std.proofs.Common.{arith}
-use Rattle.krb_bulk.proofs.ReadyLemmas.{lent_frames, lent_ready}
+use Rattle.krb_bulk.proofs.ReadyLemmas.{lent_ready}
 use Rattle.krb_bulk.proofs.TurnLemmas.{numbers_left}
 use Rattle.krb_bulk.proofs.many.frames_of.Goals as goal
 

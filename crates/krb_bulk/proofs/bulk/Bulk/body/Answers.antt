@@ -1,4 +1,4 @@
-use Rattle.std.proofs.Common.{◌≡◌, refl, length, get_or, arith}
+use Rattle.std.proofs.Common.{◌≡◌, get_or, arith}
 use Rattle.std.proofs.lemmas.Option.{slice_get-get_or}
 use Rattle.krb_seal.specs.Lent.{advanced_by}
 use Rattle.krb_bulk.specs.Many.{CanSeal}
