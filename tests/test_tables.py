@@ -16,17 +16,21 @@ HEADER, SYMBOLS = "c/krbrelay.h", "c/krbrelay.map"
 REFUSALS, LIMITS = "crates/krb_seal/src/refusal.rt", "crates/krb_base/src/limits.rt"
 HELP = "crates/krb_program/src/help.rt"
 # The structs of the C library in Rust, and how C writes their types. Handles are none of them.
-STRUCTS = ("crates/krb_structs/src/*.rt", "crates/krb_carrier_structs/src/*.rt", "crates/krb_window/src/window.rt")
+STRUCTS = ("crates/krb_structs/src/*.rt", "crates/krb_bulk_structs/src/unsealed.rt",
+           "crates/krb_carrier_structs/src/*.rt", "crates/krb_window/src/window.rt")
 HANDLES = {"sealer", "opener", "receiver", "peer", "queue"}
-C_TYPES = {"uint64_t": "u64", "uint32_t": "u32", "int32_t": "i32", "uint8_t": "u8",
+C_TYPES = {"uint64_t": "u64", "uint32_t": "u32", "int32_t": "i32", "uint8_t": "u8", "size_t": "usize",
+           "const uint8_t *": "*const u8",
            **{f"struct krbrelay_{it}": f"Krb{it.capitalize()}" for it in
-              ("address", "pause", "progress", "row", "spot")}}
-PYTHON_TYPES = {"c_uint64": "u64", "c_uint32": "u32", "c_int32": "i32", "c_uint8": "u8",
-                "ADDRESS_LIMIT": "ADDRESS_ROOM",
-                **{f"{it}Struct": f"Krb{it}" for it in ("Address", "Pause", "Progress", "Row", "Spot")}}
+              ("address", "moment", "pause", "progress", "row", "spot")}}
+PYTHON_TYPES = {"c_uint64": "u64", "c_uint32": "u32", "c_int32": "i32", "c_uint8": "u8", "c_size_t": "usize",
+                "c_char_p": "*const u8", "ADDRESS_LIMIT": "ADDRESS_ROOM", "CONFOUNDER_SIZE": "16",
+                **{f"{it}Struct": f"Krb{it}" for it in ("Address", "Moment", "Pause", "Progress", "Row", "Spot")}}
+# Bytes that a struct of Rust borrows are two fields in C.
+LENT = re.compile(r"&'\w+ \[u8\]")
 ORACLE = "tests/oracle"
 SIZES = ("crates/krb_structs/src/room.rt", "crates/krb_structs/src/session.rt",
-         "crates/krb_commands/src/input.rt")
+         "crates/krb_bulk_structs/src/many.rt", "crates/krb_commands/src/input.rt")
 VERSION, PAGES = "VERSION", "c/man"
 CALLS, PACKAGE = "crates/krb_c/src/message_calls.rt", "python/tests/test_library.py"
 # Where the version stands: the file, the words around it, and what of it stands there. A symbol's
@@ -143,7 +147,7 @@ def structs_of_header():
     """The fields of each struct of the header, as Rust writes them, by its name."""
     text = re.sub(r"/\*.*?\*/", "", building.text_of(HEADER), flags=re.S)
     return {name: [(field, f"[{C_TYPES[kind]}; {size.removeprefix('KRBRELAY_')}]" if size else C_TYPES[kind])
-                   for kind, field, size in re.findall(r"((?:struct )?\w+) (\w+)(?:\[(\w+)\])?;", body)]
+                   for kind, field, size in re.findall(r"(const uint8_t \*|(?:struct )?\w+(?= )) ?(\w+)(?:\[(\w+)\])?;", body)]
             for name, body in re.findall(r"^struct krbrelay_(\w+) \{(.*?)\};", text, re.S | re.M)
             if name not in HANDLES}
 
@@ -154,10 +158,15 @@ def structs_of_rust():
     for place in STRUCTS:
         for path in sorted(glob.glob(os.path.join(building.TOP, place))):
             text = building.text_of(os.path.relpath(path, building.TOP))
-            for name, body in re.findall(r"#\[repr\(C\)\]\n.*?pub struct (?:Krb)?(\w+) \{(.*?)\n\}",
+            for name, body in re.findall(r"#\[repr\(C\)\]\n.*?pub struct (?:Krb)?(\w+)(?:<'\w+>)? \{(.*?)\n\}",
                                          text, re.S):
-                found[name.lower()] = re.findall(r"    pub (\w+): (.*),", body)
+                found[name.lower()] = [it for field, kind in re.findall(r"    pub (\w+): (.*),", body)
+                                       for it in in_two(field, kind)]
     return found
+
+
+def in_two(field, kind):
+    return [(field, "*const u8"), (f"{field}_len", "usize")] if LENT.fullmatch(kind) else [(field, kind)]
 
 
 def structs_of_python():
@@ -299,8 +308,8 @@ def of_refusals():
 
 def of_limits():
     limits = constants(LIMITS)
-    room, session, job = map(constants, SIZES)
-    proved = limits | {"ADDRESS_ROOM": session["ADDRESS_ROOM"], "LIMIT": job["LIMIT"]}
+    room, session, many, job = map(constants, SIZES)
+    proved = limits | {"ADDRESS_ROOM": session["ADDRESS_ROOM"], "LIMIT": job["LIMIT"], **many}
     for of, rows in tomllib.loads(building.text_of("tables/limits.toml")).items():
         for name, row in rows.items():
             yield f"tables/limits.toml, {of}.{name}", row["number"], proved[row.get("proved", name)]
@@ -455,6 +464,58 @@ def of_order():
         yield f"{PAGES}/{page}.3, order", [it for it in names if it in proved], proved
 
 
+def of_fields():
+    """The fields of tables/fields.toml have the numbers of the proved code, and its names."""
+    fields = tomllib.loads(building.text_of("tables/fields.toml"))
+    for path, row in (("src/field.rt", r"Field::(\w+) => (\d+),"), ("specs/Field.antt", r"^number_of (\w+) = (\d+)$")):
+        proved = {name: int(number) for name, number in
+                  re.findall(row, building.text_of(f"crates/krb_fields/{path}"), re.M)}
+        yield f"crates/krb_fields/{path}", proved, {"".join(word.title() for word in name.split("_")): it["number"]
+                                                    for name, it in fields.items()}
+    for name, row in fields.items():
+        yield f"tables/fields.toml, {name}", row["name"], name.lower()
+
+
+REFUSALS_OF_MESSAGES = "refusals"
+# What a page says in words of an answer that another call on it looks for elsewhere.
+IN_WORDS = {("peer_new", "EXHAUSTED"), ("sealer_new", "MEMORY")}
+# Pages that name another call's answers: those beside a call's own.
+BESIDE = {"now": ("CLOCK", "RANDOM")}
+
+
+def answers_of(row, refusals):
+    """The names of a call's answers in their order."""
+    names = [answer.partition(": ")[0] for answer in row.get("answers", ())]
+    return [it for name in names for it in (refusals if name == REFUSALS_OF_MESSAGES else [name])]
+
+
+def are_in_order(names, listed):
+    """Whether they stand in a list in this order, and others between them."""
+    rest = iter(listed)
+    return all(name in rest for name in names)
+
+
+def of_pages():
+    """A page of the manual names the answers of its calls, and no others, each call's in their order."""
+    calls = tomllib.loads(building.text_of("tables/calls.toml"))
+    answers = tomllib.loads(building.text_of("tables/answers.toml"))
+    refusals = sorted((it for it in answers if "checked" in answers[it]), key=lambda it: answers[it]["checked"])
+    pages = {}
+    for name, row in calls.items():
+        pages.setdefault(row.get("page", name), []).append((name, row))
+    for page, rows in pages.items():
+        told = building.text_of(f"{PAGES}/krbrelay_{page}.3").partition("\n.SH RETURN VALUE")[2].partition("\n.SH ")[0]
+        listed = [it for line in re.findall(r"^\.BR? (KRBRELAY_.*)$", told, re.M)
+                  for it in re.findall(r"KRBRELAY_([A-Z_]+\b)", line) if it in answers and it != "OK"]
+        own = {it for _, row in rows for it in answers_of(row, refusals)}
+        yield f"{PAGES}/krbrelay_{page}.3, answers", set(listed), set(BESIDE.get(page, own))
+        for name, row in rows if page not in BESIDE else ():
+            if page == "peer_new" or name == "opener_open":
+                continue        # what is authentic comes first: tools/tables writes their checks
+            wanted = [it for it in answers_of(row, refusals) if (page, it) not in IN_WORDS]
+            yield f"{PAGES}/krbrelay_{page}.3, order of {name}", are_in_order(wanted, listed), True
+
+
 def body_of(text, name):
     """The clauses of a definition."""
     return text.partition(f"\nabbrev pub {name} :")[2].partition("\n\n")[0]
@@ -537,6 +598,16 @@ def test_parts(found, wanted):
 
 @compared(of_order)
 def test_order(found, wanted):
+    assert found == wanted
+
+
+@compared(of_fields)
+def test_fields(found, wanted):
+    assert found == wanted
+
+
+@compared(of_pages)
+def test_pages(found, wanted):
     assert found == wanted
 
 

@@ -15,16 +15,12 @@ use Rattle.std.specs.Global.{Vec}
 use Rattle.std.proofs.lemmas.List.{length-map}
 use Rattle.krb_bulk.specs.Numbered.{RefusesAt}
 use Rattle.krb_bulk.proofs.TurnLemmas.{can_seal_at, from_first, from_next}
-use Rattle.krb_seal.specs.declared.refusal.Refusal.{Refusal}
-use Rattle.krb_seal.specs.declared.refusal.Refusal.TheVariants.{FieldTooLong, Malformed, BadVersion, MsgType, EtypeNoSupp, BadIntegrity, InappCksum, BadAddr, Skew, BadOrder, Modified, BadRecord, AfterClose, Memory}
-use Rattle.krb_seal.specs.Refusal.{code_of}
 use Rattle.krb_bulk.specs.declared.unsealed.Unsealed.{Unsealed}
-use Rattle.krb_structs.specs.declared.fault.Fault.{Fault}
-use Rattle.krb_structs.specs.declared.fault.Fault.TheVariants.{Wiped, TooLong, Exhausted, Refused, Etype, Room, Empty, KeySize, Mode, Moment, Address, Argument, Record, Repeated, TooOld}
+use Rattle.krb_structs.specs.declared.fault.Fault.TheVariants.{Wiped, TooLong, Exhausted}
 use Rattle.krb_structs.specs.declared.moment.KrbMoment.{KrbMoment}
 use Rattle.krb_structs.specs.Moment.{IsTimed}
 use Rattle.krb_structs.specs.Reasons.{NeedsMoment}
-use Rattle.krb_structs.specs.Fault.{IsDone, Needs, fault_code, fault_of}
+use Rattle.krb_structs.specs.Fault.{Needs, fault_code, fault_of}
 use Rattle.krb_bulk_structs.specs.declared.unsealed.KrbUnsealed.{KrbUnsealed}
 use Rattle.krb_bulk_structs.specs.Checks.{AllTimed, FailsAt, IsSealableAt}
 use Rattle.krb_bulk_structs.specs.Many.{AreSealable, FailsFirst, FailsNext, IsSealable}
@@ -144,47 +140,3 @@ pub unsealed-more : (ms : List KrbUnsealed) (i : ℕ) (d : KrbUnsealed) → i < 
 unsealed-more [] i d lt = absurd (omega (arith, lt))
 unsealed-more (m ∷ ms) zero d lt = refl
 unsealed-more (m ∷ ms) (suc i) d lt = ap (λ (xs : List Unsealed). unsealed_of m ∷ xs) (unsealed-more ms i d (omega (arith, lt)))
-
--- no fault has the number 0
-refusal_not_zero : (r : Refusal) → code_of r ≡ 0 → ⊥
-refusal_not_zero FieldTooLong e = omega arith
-refusal_not_zero Malformed e = omega arith
-refusal_not_zero BadVersion e = omega arith
-refusal_not_zero MsgType e = omega arith
-refusal_not_zero EtypeNoSupp e = omega arith
-refusal_not_zero BadIntegrity e = omega arith
-refusal_not_zero InappCksum e = omega arith
-refusal_not_zero BadAddr e = omega arith
-refusal_not_zero Skew e = omega arith
-refusal_not_zero BadOrder e = omega arith
-refusal_not_zero Modified e = omega arith
-refusal_not_zero BadRecord e = omega arith
-refusal_not_zero AfterClose e = omega arith
-refusal_not_zero Memory e = omega arith
-
-pub not_zero : (f : Fault) → fault_code f ≡ 0 → ⊥
-not_zero (Refused r) e = refusal_not_zero r e
-not_zero Wiped e = omega arith
-not_zero TooLong e = omega arith
-not_zero Exhausted e = omega arith
-not_zero Etype e = omega arith
-not_zero Room e = omega arith
-not_zero Empty e = omega arith
-not_zero KeySize e = omega arith
-not_zero Mode e = omega arith
-not_zero Moment e = omega arith
-not_zero Address e = omega arith
-not_zero Argument e = omega arith
-not_zero Record e = omega arith
-not_zero Repeated e = omega arith
-not_zero TooOld e = omega arith
-
--- a fault of a moment
-pub moment_fails : (at : KrbMoment) (Then : ℕ → Type 0) (f : Fault) → NeedsMoment at IsDone (fault_code f) → NeedsMoment at Then (fault_code f)
-moment_fails at Then f h = goes_on at IsDone Then (fault_code f) (λ done. absurd (not_zero f done)) h
-
--- a moment has none
-pub no_fault : (at : KrbMoment) (f : Fault) → IsTimed at → NeedsMoment at IsDone (fault_code f) → ⊥
-no_fault at f timed (inl h) = h.0 timed.0
-no_fault at f timed (inr (r, inl h)) = h.0 timed.1
-no_fault at f timed (inr (r, inr (m, done))) = not_zero f done

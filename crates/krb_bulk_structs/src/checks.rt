@@ -8,6 +8,7 @@ ghost use Rattle.krb_structs.specs.Fault.{fault_code};
 use crate::many_fault::ManyFault;
 use crate::unsealed::KrbUnsealed;
 use krb_bulk::{Unsealed, check_size};
+use krb_der::Moment;
 use krb_seal::{Sealer, SessionSealer};
 use krb_structs::Fault;
 
@@ -43,7 +44,8 @@ pub fn put_unsealed<'a>(messages: &[KrbUnsealed<'a>], all: &mut [Unsealed<'a>])
     ensures { take (length messages.now) all.new ≡ map unsealed_of messages.now }
 {
     for index in 0..messages.len() {
-        let Ok(at) = messages[index].at.moment() else {
+        let told = messages[index].at;
+        let Some(at) = Moment::new(told.seconds, told.microseconds) else {
             unreachable!();
         };
         all[index] = Unsealed {
