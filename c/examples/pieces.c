@@ -177,7 +177,27 @@ static int serves(void)
     return published == 2;
 }
 
+/* krbrelay_check_session(3): the name of the field of a demand by which a peer refuses it, or NULL. */
+static const char *wrong_field(struct krbrelay_demand demand)
+{
+    struct krbrelay_session session = { .mode = KRBRELAY_PRIV, .sender = client };
+    struct krbrelay_peer peer = KRBRELAY_INIT;
+    const char *name = NULL;
+    if (krbrelay_peer_new(&peer, 18, key, sizeof key, &session, &demand) == KRBRELAY_ARGUMENT)
+        name = krbrelay_field_name(krbrelay_check_peer_demand(&demand));
+    krbrelay_peer_free(&peer);
+    return name;
+}
+
+/* Whether a demand that forgets the number is told so. */
+static int names_fields(void)
+{
+    struct krbrelay_demand demand = { .how_time = KRBRELAY_REQUIRED, .skew = 300 };
+    const char *name = wrong_field(demand);
+    return name != NULL && strcmp(name, "how_number") == 0;
+}
+
 int main(void)
 {
-    return !(seals() && reads_addresses() && prints() && carries() && serves());
+    return !(seals() && reads_addresses() && prints() && carries() && serves() && names_fields());
 }
