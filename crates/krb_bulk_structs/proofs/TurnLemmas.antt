@@ -117,13 +117,16 @@ none_refused s (u ∷ us) zero errors.Exhausted can h = omega (arith, h.2, can.0
 none_refused s (u ∷ us) zero errors.Memory can h = h
 none_refused s (u ∷ us) (suc i) why can h = none_refused (advanced s) us i why can.1 h.1
 
-pub no_refusal : (s t : SealerState) (ms : List KrbUnsealed) (us : List Unsealed) (e : ManyError) (i : ℕ) (why : SealError) → t ≡ s
-    → us ≡ map unsealed_of ms → AreSealable s ms → e ≡ faults.Refused i why → AnswersMany {A = Vec (Vec ℕ)} t us (Err e) → ⊥
-no_refusal s t ms us e i why same all can refused h =
-    none_refused s (map unsealed_of ms) i why (can_seal_all s ms can)
-    (subst (λ (x : ManyError). AnswersMany {A = Vec (Vec ℕ)} s (map unsealed_of ms) (Err x)) refused
-    (subst (λ (xs : List Unsealed). AnswersMany {A = Vec (Vec ℕ)} s xs (Err e)) all
-    (subst (λ (x : SealerState). AnswersMany {A = Vec (Vec ℕ)} x us (Err e)) same h)))
+pub no_refusal : (s t : SealerState) (us : List Unsealed) (e : ManyError) (i : ℕ) (why : SealError) → t ≡ s → CanSealInTurn s us → e ≡ faults.Refused i why
+    → AnswersMany {A = Vec (Vec ℕ)} t us (Err e) → ⊥
+no_refusal s t us e i why same can refused h =
+    none_refused s us i why can
+    (subst (λ (x : ManyError). AnswersMany {A = Vec (Vec ℕ)} s us (Err x)) refused
+    (subst (λ (x : SealerState). AnswersMany {A = Vec (Vec ℕ)} x us (Err e)) same h))
+
+-- as many messages in Rattle's type can be sealed
+pub can_seal_given : (s : SealerState) (ms : List KrbUnsealed) (us : List Unsealed) → us ≡ map unsealed_of ms → AreSealable s ms → CanSealInTurn s us
+can_seal_given s ms us all can = subst (λ (xs : List Unsealed). CanSealInTurn s xs) (sym all) (can_seal_all s ms can)
 
 -- there is a frame for each message
 count : (s : SealerState) (us : List Unsealed) (fs : List (Vec ℕ)) → SealsInTurn s us fs → length fs ≡ length us

@@ -1,8 +1,8 @@
 //! Which messages can be sealed.
 
-ghost use Rattle.std.specs.Prelude.{◌≡◌, ◌≤◌, MatchResult, map, take, length};
+ghost use Rattle.std.specs.Prelude.{◌≡◌, ◌≤◌, MatchResult, length, map, replicate, take};
 ghost use Rattle.krb_bulk_structs.specs.Checks.{IsSealableAt, FailsAt, ChecksMany, AllTimed};
-ghost use Rattle.krb_bulk_structs.specs.Unsealed.{unsealed_of};
+ghost use Rattle.krb_bulk_structs.specs.Unsealed.{confounder_of, unsealed_of};
 ghost use Rattle.krb_structs.specs.Fault.{fault_code};
 
 use crate::many_fault::ManyFault;
@@ -53,5 +53,14 @@ pub fn put_unsealed<'a>(messages: &[KrbUnsealed<'a>], all: &mut [Unsealed<'a>])
             at,
             confounder: messages[index].confounder,
         };
+    }
+}
+
+/// Overwrites the confounders of messages in a buffer that ends.
+pub fn forget(all: &mut [Unsealed<'_>])
+    ensures { map confounder_of all.new ≡ replicate (length all.new) (replicate 16 0) }
+{
+    for index in 0..all.len() {
+        all[index].confounder = [0; 16];
     }
 }

@@ -4,13 +4,13 @@ ghost use Rattle.std.specs.Prelude.{◌≡◌, ◌≤◌, ◌+◌, length, map, 
 ghost use Rattle.krb_seal.specs.declared.refusal.Refusal.TheVariants.{Memory};
 ghost use Rattle.krb_seal.specs.Lent.{advanced_by};
 ghost use Rattle.krb_seal.specs.Sealer.{end_of_numbers};
-ghost use Rattle.krb_bulk.specs.Many.{SealsInTurn};
+ghost use Rattle.krb_bulk.specs.Many.{CanSealInTurn, SealsInTurn};
 ghost use Rattle.krb_bulk_structs.specs.Checks.{AllTimed};
 ghost use Rattle.krb_bulk_structs.specs.Many.{AreSealable, ManyAnswer};
 ghost use Rattle.krb_bulk_structs.specs.Unsealed.{unsealed_of};
 ghost use Rattle.krb_bulk_structs.specs.Packed.{SealsPacked};
 
-use crate::checks::{check, put_unsealed};
+use crate::checks::{check, forget, put_unsealed};
 use crate::frames::{have_room, put_frames};
 use crate::many_fault::ManyFault;
 use crate::unsealed::KrbUnsealed;
@@ -45,6 +45,24 @@ fn unsealed<'a>(
 }
 
 /// The frames of messages that can be sealed. Out of memory is the only fault.
+fn frames_of_all(
+    alloc: Global,
+    sealer: &AnySealer,
+    all: &[Unsealed<'_>],
+) -> Result<Vec<Vec<u8>>, Fault>
+    requires { CanSealInTurn sealer.now all.now }
+    ensures sealed { IfOk result (λ frames. SealsInTurn sealer.now all.now frames.items) }
+    ensures numbers { OnOk result (sealer.now.next + length all.now ≤ end_of_numbers) }
+    ensures memory { IfErr result (λ f. f ≡ Fault.Refused Memory) }
+{
+    match frames_of(alloc, sealer.session_sealer(), all) {
+        Ok(frames) => Ok(frames),
+        Err(ManyError::Memory) => Err(Fault::Refused(Refusal::Memory)),
+        Err(ManyError::Refused { index: _, why: _ }) => unreachable!(),
+    }
+}
+
+/// The same of messages as C gives them, whose confounders are overwritten where they were copied to.
 fn made(
     alloc: Global,
     sealer: &AnySealer,
@@ -56,12 +74,10 @@ fn made(
     ensures numbers { OnOk result (sealer.now.next + length messages.now ≤ end_of_numbers) }
     ensures memory { IfErr result (λ f. f ≡ Fault.Refused Memory) }
 {
-    let all = unsealed(alloc, messages)?;
-    match frames_of(alloc, sealer.session_sealer(), &all) {
-        Ok(frames) => Ok(frames),
-        Err(ManyError::Memory) => Err(Fault::Refused(Refusal::Memory)),
-        Err(ManyError::Refused { index: _, why: _ }) => unreachable!(),
-    }
+    let mut all = unsealed(alloc, messages)?;
+    let frames = frames_of_all(alloc, sealer, &all);
+    forget(&mut all);
+    frames
 }
 
 /// Seals messages into a buffer that has room for their frames, one after another, and tells the size

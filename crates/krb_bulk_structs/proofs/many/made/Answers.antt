@@ -1,12 +1,10 @@
 use Rattle.std.proofs.Common.{◌∙◌}
-use Rattle.krb_bulk_structs.proofs.TurnLemmas.{all_timed, no_refusal}
+use Rattle.krb_bulk_structs.proofs.TurnLemmas.{all_timed, can_seal_given}
 use Rattle.krb_bulk_structs.proofs.many.made.Goals as goal
 
 pub unsealed-requires : goal.unsealed-requires
 unsealed-requires c = all_timed c.args.sealer.now c.args.messages.now c.requires
 
-pub unreachable-requires : goal.unreachable-requires
-unreachable-requires c =
-    no_refusal c.args.sealer.now c.session_sealer.result.now c.args.messages.now c.deref.result.now c.in-Err-Refused.field-0 c.in-Err-Refused.field-0-0
-    c.in-Err-Refused.field-0-1 c.session_sealer.ensures (c.deref.ensures.value ∙ c.in_ok-all.ensures) c.requires c.in-Err-Refused.field-0-is
-    c.in-Err-Refused.ensures.answer
+pub frames_of_all-frames-requires : goal.frames_of_all-frames-requires
+frames_of_all-frames-requires c =
+    can_seal_given c.args.sealer.now c.args.messages.now c.deref.result.now (c.deref.ensures.value ∙ c.in_ok-all.ensures) c.requires
