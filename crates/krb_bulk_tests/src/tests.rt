@@ -102,30 +102,51 @@ fn pattern(alloc: Global) -> Result<Vec<u8>, AllocError> {
     Ok(bytes)
 }
 
-/// Messages of these sizes. Message k has the bytes of the pattern from place k on, and a timestamp of k
-/// seconds and microseconds more than the first. Out of memory is also a pattern that is too short.
-fn messages<'a>(
-    alloc: Global,
+/// Puts messages of these sizes into a buffer. Message k has the bytes of the pattern from place k on, and a
+/// timestamp of k seconds and microseconds more than the first. Out of memory is also a pattern that is too
+/// short.
+fn put_messages<'a>(
     pattern: &'a [u8],
     sizes: &[usize],
-) -> Result<Vec<Unsealed<'a>>, AllocError> {
-    let mut messages = Vec::new(alloc);
+    messages: &mut [Unsealed<'a>],
+) -> Result<(), AllocError>
+    requires { length sizes.now ≤ length messages.old }
+{
     let (mut byte, mut micros) = (0u8, MICROS);
-    for (k, size) in sizes.iter().enumerate() {
-        let Some(user_data) = pattern.get(k..k.saturating_add(*size)) else {
+    for k in 0..sizes.len() {
+        let Some(user_data) = pattern.get(k..k.saturating_add(sizes[k])) else {
             return Err(AllocError);
         };
         let Some(at) = Moment::from_micros(micros) else {
             return Err(AllocError);
         };
-        messages.push(Unsealed {
+        messages[k] = Unsealed {
             user_data,
             at,
             confounder: [byte; 16],
-        })?;
+        };
         byte = byte.wrapping_add(1);
         micros = micros.wrapping_add(1_000_001);
     }
+    Ok(())
+}
+
+/// The same in a buffer of their number.
+fn messages<'a>(
+    alloc: Global,
+    pattern: &'a [u8],
+    sizes: &[usize],
+) -> Result<Vec<Unsealed<'a>>, AllocError> {
+    let Some(at) = Moment::from_micros(MICROS) else {
+        return Err(AllocError);
+    };
+    let none = Unsealed {
+        user_data: &[],
+        at,
+        confounder: [0; 16],
+    };
+    let mut messages = Vec::from_elem(alloc, none, sizes.len())?;
+    put_messages(pattern, sizes, &mut messages)?;
     Ok(messages)
 }
 
