@@ -1,92 +1,15 @@
-/* Receipts over NATS: published at krbr.SHARD.SESSION, where senders hear them at once. The stream
- * KRB_RECEIPTS keeps the last one of each session, for senders that weren't there. A receiver makes
- * it. */
-#include "clock.h"
-#include "log.h"
+/* Receipts over NATS: published at krbr.SHARD.SESSION, where senders hear them. Nobody keeps them: a sender that
+ * hears of none probes, and its receiver says it again. */
 #include "nats_carrier.h"
 #include "text.h"
 
 #include <string.h>
 
-#define STREAM "KRB_RECEIPTS"
-#define SECOND UINT64_C(1000000000) /* nanoseconds */
-
-static natsStatus add_stream(struct nats_carrier *c)
-{
-    const char *subjects[1] = { "krbr.*.*" };
-    jsStreamInfo *info = NULL;
-    jsStreamConfig config;
-    jsErrCode code = 0;
-    natsStatus status = jsStreamConfig_Init(&config);
-    config.Name = STREAM;
-    config.Subjects = subjects;
-    config.SubjectsLen = 1;
-    config.Storage = js_FileStorage;
-    config.MaxMsgsPerSubject = 1;
-    config.Replicas = c->replicas;
-    if (status == NATS_OK)
-        status = js_AddStream(&info, c->js, &config, NULL, &code);
-    jsStreamInfo_Destroy(info);
-    return status;
-}
-
-/* Tells once that a node's end would take the receipts with it. */
-static void check_replicas(struct nats_carrier *c, const jsStreamInfo *info)
-{
-    if (info->Config->Replicas >= (int64_t)c->replicas || c->has_told_replicas)
-        return;
-    c->has_told_replicas = 1;
-    log_fact(LEVEL_WARNING, "receipts_unfit", field_text("stream", STREAM),
-             field_number("replicas", (uint64_t)info->Config->Replicas),
-             field_number("wanted", c->replicas),
-             field_text("text", "it has fewer replicas than --replicas asks for: change the stream"));
-}
-
-/* Asks what the stream is, and not again for a while. */
-static natsStatus ask_stream(struct nats_carrier *c)
-{
-    jsStreamInfo *info = NULL;
-    jsOptions options;
-    jsErrCode code = 0;
-    natsStatus status = nats_begin_to_ask(c, &options);
-    if (status == NATS_OK)
-        status = js_GetStreamInfo(&info, c->js, STREAM, &options, &code);
-    nats_note_asked(c, status);
-    if (status == NATS_OK)
-        check_replicas(c, info);
-    jsStreamInfo_Destroy(info);
-    c->receipts_moment = nanoseconds() + 10 * SECOND;
-    return status;
-}
-
-/* What a sender hears of a stream that has too few replicas may be lost with a node: the log says so once. */
-static void look_at_stream(struct nats_carrier *c)
-{
-    if (!c->has_seen_receipts && nanoseconds() >= c->receipts_moment)
-        c->has_seen_receipts = ask_stream(c) == NATS_OK;
-}
-
-/* Makes the stream, unless it is there, and looks for it again after a while: what is published
- * meanwhile is heard all the same. */
-static void make_stream(struct nats_carrier *c)
-{
-    natsStatus status;
-    if (nanoseconds() < c->receipts_moment)
-        return;
-    status = ask_stream(c);
-    if (status == NATS_NOT_FOUND)
-        status = add_stream(c);
-    if (status != NATS_OK)
-        (void)nats_report("the stream of receipts", status); /* CARRIER_FAULT, as for each fault */
-}
-
-int nats_acknowledge(struct carrier *base, unsigned shard, const struct carried *list,
-                     size_t count)
+int nats_acknowledge(struct carrier *base, unsigned shard, const struct carried *list, size_t count)
 {
     struct nats_carrier *c = (struct nats_carrier *)base;
     char subject[64];
     size_t i;
-    make_stream(c);
     for (i = 0; i < count; i++) {
         natsStatus status;
         write_whole(subject, sizeof subject, "krbr.%u.%s", shard, list[i].session);
@@ -126,27 +49,4 @@ int nats_receipts(struct carrier *base, carrier_receipt *take, void *given)
         natsMsg_Destroy(message);
     }
     return status == NATS_TIMEOUT ? 0 : nats_report("receipts", status);
-}
-
-int nats_last_receipt(struct carrier *base, unsigned shard, const char *session,
-                      carrier_receipt *take, void *given)
-{
-    struct nats_carrier *c = (struct nats_carrier *)base;
-    char subject[64];
-    natsMsg *message = NULL;
-    jsOptions options;
-    jsErrCode code = 0;
-    natsStatus status = nats_begin_to_ask(c, &options);
-    write_whole(subject, sizeof subject, "krbr.%u.%s", shard, session);
-    if (status == NATS_OK)
-        status = js_GetLastMsg(&message, c->js, STREAM, subject, &options, &code);
-    nats_note_asked(c, status);
-    if (status == NATS_OK)
-        give(message, take, given);
-    natsMsg_Destroy(message);
-    if (status == NATS_OK || status == NATS_NOT_FOUND || code == JSStreamNotFoundErr) {
-        look_at_stream(c);
-        return 0;
-    }
-    return nats_report("the last receipt of a session", status);
 }

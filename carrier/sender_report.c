@@ -45,7 +45,7 @@ static void show_lane(const struct lane *lane, unsigned part)
     unsigned i;
     for (i = 0; i + 1 < METRICS; i++)
         values[i] = NAN;
-    values[METRICS - 1] = (double)lane->backlog;
+    values[METRICS - 1] = (double)lane->uncarried;
     write_whole(labels, sizeof labels, "shard=\"%u\"", lane->shard);
     service_alive(part, 1, labels, values);
 }
@@ -67,7 +67,7 @@ void sender_show(struct sender *s)
         (double)s->sealing.frames, (double)s->published, (double)s->again,
         (double)s->sealing.nanoseconds / 1e9, (double)s->storing / 1e9, (double)s->carrying / 1e9,
         (double)texts, (double)s->options.most_waiting, age_of_oldest(s, texts), (double)s->receipts,
-        (double)publish_count_unreceipted(s), (double)publish_count_held(s),
+        (double)s->unreceipted, (double)s->held,
         (double)outbox_count_stopped(&s->outbox), silent, NAN,
     };
     unsigned i;
