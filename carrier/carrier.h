@@ -122,7 +122,8 @@ int carrier_behind(struct carrier *carrier, uint64_t *frames);
 int carrier_acknowledge(struct carrier *carrier, unsigned shard, const struct carried *list,
                         size_t count);
 
-/* Passes those that came since the last call to a function. */
+/* Passes those that came since the last call to a function; the first call passes the last one of each session,
+ * and may wait for that. */
 typedef void carrier_receipt(void *given, const char *session, const uint8_t *receipt, size_t len);
 int carrier_receipts(struct carrier *carrier, carrier_receipt *take, void *given);
 

@@ -42,6 +42,8 @@ struct nats_carrier {
     int held_count;
     int is_silent;                      /* 1: the consumer's heartbeats are missed */
     natsSubscription *receipts;         /* all that are published, from the first look on */
+    uint64_t receipts_moment;           /* their stream isn't asked for before this moment */
+    int has_told_replicas;              /* it was told that it has too few replicas */
 };
 
 /* Logs a fault of a call; CARRIER_FAULT. */

@@ -69,6 +69,19 @@ static uint64_t number_after(natsMsg *message, const char *word)
     return strtoull(digits, NULL, 10);
 }
 
+/* Letters that servers write as \\u003e, and the like, become what they are. */
+static void unescape(char *text)
+{
+    char *from = text, *to = text;
+    unsigned letter;
+    while (*from != 0) {
+        int is_escaped = sscanf(from, "\\u00%2x", &letter) == 1 && letter >= ' ' && letter < 127;
+        *to++ = is_escaped ? (char)letter : *from;
+        from += is_escaped ? 6 : 1;
+    }
+    *to = 0;
+}
+
 /* What an error describes itself as. */
 static void read_description(natsMsg *message, char text[ANSWER])
 {
@@ -78,6 +91,7 @@ static void read_description(natsMsg *message, char text[ANSWER])
         left = ANSWER - 1;
     write_cut(text, ANSWER, "%.*s", (int)left, place != NULL ? place : "");
     text[strcspn(text, "\"")] = 0;
+    unescape(text);
 }
 
 /* Days from 1970 to a day of the Gregorian calendar. */

@@ -73,7 +73,7 @@ static const char *const columns[][2] = {
 
 static const char *const sql[OUTBOX_STATEMENTS] = {
     [LOAD_SESSION] = ("SELECT next, carried, at, incarnation, shard, iif(done < 0, carried, done),"
-                      " history FROM session WHERE name = ?"),
+                      " history, stands FROM session WHERE name = ?"),
     [SELECT_TEXTS] = ("SELECT id, session, body FROM text WHERE id > ? AND id <= ? ORDER BY id"
                       " LIMIT ?"),
     [SELECT_WAITING] = ("SELECT id, session, body FROM text WHERE session = ? AND id <= ? ORDER BY id"
@@ -196,7 +196,7 @@ int outbox_load(struct outbox *o, const struct session *session, struct outbox_p
     row = step_row(select);
     *it = (struct outbox_progress){ session->first, session->first - session->has_opening, 0, 0,
                                     session->first - session->has_opening,
-                                    (int32_t)session->shard, { .is_known = 0 } };
+                                    (int32_t)session->shard, KRBRELAY_STANDS_NOT, { .is_known = 0 } };
     if (row == 1) {
         it->next = (uint64_t)sqlite3_column_int64(select->at, 0);
         it->carried = (uint64_t)sqlite3_column_int64(select->at, 1);
@@ -205,6 +205,7 @@ int outbox_load(struct outbox *o, const struct session *session, struct outbox_p
         it->shard = sqlite3_column_int(select->at, 4);
         it->done = (uint64_t)sqlite3_column_int64(select->at, 5);
         history_read(&it->history, (const char *)sqlite3_column_text(select->at, 6));
+        it->stands = (uint32_t)sqlite3_column_int(select->at, 7);
     }
     if (it->done <= session->first) /* no frame: an opening is none of them */
         it->history = (struct history){ .is_known = 1 };

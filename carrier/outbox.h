@@ -62,6 +62,7 @@ struct waiting_text { sqlite3_int64 id; const char *session; const uint8_t *body
 struct outbox_progress {
     uint64_t next, carried, at, incarnation, done;
     int32_t shard;
+    uint32_t stands; /* KRBRELAY_STANDS_* */
     struct history history;
 };
 

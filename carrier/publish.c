@@ -64,8 +64,10 @@ void publish_note(struct sender *s, struct sending *it)
         log_system("out_of_memory", "sender"); /* its next event makes it ready */
 }
 
-void publish_block(struct sender *s, struct sending *it)
+void publish_stop(struct sender *s, struct sending *it)
 {
+    if (it->stopped_at != 1)
+        s->untold.at[s->untold.count++] = it;
     it->stopped_at = 1;
     s->held -= it->is_held != 0;
     it->is_held = 0;
@@ -131,8 +133,7 @@ static void note_untaken(struct sender *s, struct sending *it, int answer, uint6
         return;
     write_cut(it->reason, sizeof it->reason, "the carrier doesn't take frame %llu: is it longer"
               " than its Maximum Payload?", (unsigned long long)number);
-    publish_block(s, it);
-    (void)sender_stop(s, it->of.name, it->reason); /* it is logged, and so it is at the next start */
+    publish_stop(s, it);
 }
 
 static int publish(struct sender *s, struct sending *it, uint64_t number, const uint8_t *frame, size_t len)

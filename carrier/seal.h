@@ -42,7 +42,7 @@ struct sending {
     uint64_t under_way, uncarried, unreceipted; /* as its shard's sums have them (publish.c) */
     uint64_t left;              /* the frames below have left before */
     uint64_t wakes;             /* when it is looked at, in milliseconds; UINT64_MAX: not by itself */
-    uint32_t stands;            /* as the outbox has it: KRBRELAY_STANDS_* */
+    uint32_t stands, stands_now; /* why it stands, as the outbox has it, and now: KRBRELAY_STANDS_* */
 };
 
 struct sealing {

@@ -267,6 +267,44 @@ static enum outbox_answer look_at_hangups(struct sender *s)
     return OUTBOX_OK;
 }
 
+/* Stores of the sessions of which that has changed why they stand, as krb_engine says: 0, or -1 after a fault. */
+static int keep_changed_stands(struct sender *s)
+{
+    size_t i;
+    for (i = 0; i < s->all.count; i++) {
+        struct sending *it = s->all.at[i];
+        if (it->stands == it->stands_now || !it->is_stored)
+            continue;
+        if (outbox_set_stands(&s->outbox, it->of.name, it->stands_now) != 0)
+            return -1;
+        it->stands = it->stands_now;
+    }
+    return 0;
+}
+
+static enum outbox_answer keep_stands(struct sender *s)
+{
+    uint64_t under_way, room, changed = 0;
+    uint32_t settled;
+    enum outbox_answer begun;
+    size_t i;
+    s->standing = 0;
+    for (i = 0; i < s->all.count; i++) {
+        struct sending *it = s->all.at[i];
+        if (krbrelay_sending_state(&it->end, &under_way, &room, &settled, &it->stands_now) != KRBRELAY_OK)
+            it->stands_now = KRBRELAY_STANDS_NOT;
+        s->standing += it->stands_now != KRBRELAY_STANDS_NOT;
+        changed += it->stands != it->stands_now && it->is_stored;
+    }
+    begun = changed > 0 ? outbox_begin(&s->outbox) : OUTBOX_OK;
+    if (changed == 0 || begun != OUTBOX_OK)
+        return begun;
+    if (keep_changed_stands(s) == 0 && outbox_commit(&s->outbox) == 0)
+        return OUTBOX_OK;
+    outbox_rollback(&s->outbox);
+    return OUTBOX_AGAIN;
+}
+
 /* Each second: shows how it stands, looks whether the outbox is still this process's, also where
  * nothing is stored, and whether the file of sessions has changed. */
 static enum outbox_answer look(struct sender *s)
@@ -281,7 +319,9 @@ static enum outbox_answer look(struct sender *s)
         return OUTBOX_TAKEN;
     if (!outbox_is_there(&s->outbox) || carrier_is_closed(s->carrier))
         return OUTBOX_FAULT; /* which is reported: a unit starts this program again */
-    answer = look_at_sessions(s);
+    answer = keep_stands(s);
+    if (answer == OUTBOX_OK)
+        answer = look_at_sessions(s);
     if (answer == OUTBOX_OK && sender_try_left(s) != 0)
         answer = OUTBOX_FAULT;
     if (answer == OUTBOX_OK && s->kerberos != NULL)
@@ -301,7 +341,20 @@ static int may_get_tickets(struct sender *s)
 /* Whether all is done that can be. */
 static int is_drained(struct sender *s, int texts)
 {
-    return s->options.drain && !texts && s->uncarried == 0 && s->dirty.count == 0 && !may_get_tickets(s);
+    return s->options.drain && !texts && s->uncarried == 0 && s->dirty.count == 0 && s->untold.count == 0
+           && !may_get_tickets(s);
+}
+
+/* Tells which sessions are stopped. */
+static enum outbox_answer tell_untold(struct sender *s)
+{
+    enum outbox_answer answer = OUTBOX_OK;
+    while (s->untold.count > 0 && answer == OUTBOX_OK) {
+        const struct sending *it = s->untold.at[s->untold.count - 1];
+        answer = sender_stop(s, it->of.name, it->reason);
+        s->untold.count -= answer == OUTBOX_OK;
+    }
+    return answer == OUTBOX_AGAIN ? OUTBOX_OK : answer;
 }
 
 /* One round. 1 if all is done that can be. */
@@ -311,6 +364,8 @@ static int step(struct sender *s, enum outbox_answer *answer)
     size_t rose;
     int texts, has_more;
     *answer = look(s);
+    if (*answer == OUTBOX_OK)
+        *answer = tell_untold(s);
     if (*answer < 0)
         return 1;
     texts = texts_wait(s);
@@ -381,6 +436,8 @@ static int start(struct sender *s)
     if (s->kerberos != NULL && outbox_wrap_anew(&s->outbox, s->kerberos) != 0)
         return -1;
     s->renew = outbox_renewed(&s->outbox);
+    receipts_hear(s); /* before anything is sealed */
+    s->has_begun = 1;
     if (sender_begin(s) != 0)
         return -1;
     if (sender_begin_showing() != 0)
@@ -392,6 +449,7 @@ static void stop(struct sender *s)
 {
     service_end();
     sender_forget(s);
+    receipts_forget(s);
     outbox_close(&s->outbox);
     if (s->tickets != NULL)
         tickets_close(s->tickets);

@@ -73,14 +73,18 @@ struct sender {
     sqlite3_int64 seen;         /* all texts up to this one were looked at */
     struct list touched;        /* sealed from in this transaction */
     struct list dirty;          /* whose progress isn't stored */
+    struct list untold;         /* that are stopped, and the outbox doesn't say so yet */
     struct list sealable;       /* with texts that wait, of which some may be sealed now */
     struct wake *wakes;         /* a heap of times, */
     size_t wake_count, wake_room;
+    void *kept;                 /* tsearch's tree of the receipts that were there at the start, of sessions that
+                                 * weren't loaded since */
+    int has_begun;
     char unknown[CARRIER_NAME]; /* the last session without a line that was reported */
     unsigned long published, again, receipts;
     uint64_t uncarried, unreceipted; /* frames of all sessions that aren't carried, or are and wait for a
                                  * receipt */
-    size_t held;                /* sessions that are held (seal.h) */
+    size_t held, standing;      /* sessions that are held (seal.h); that stand */
     uint64_t heard;             /* it was looked for receipts at this moment */
     uint64_t storing, carrying; /* nanoseconds */
     uint64_t rose;              /* when a frame was carried last, or the carrier was there and none waited, */
@@ -176,13 +180,17 @@ size_t publish_count_carried(struct sender *s, int milliseconds);
 /* Something has happened to the session: what is counted of it is counted anew, and it has its turn. */
 void publish_note(struct sender *s, struct sending *it);
 
-/* Nothing of it leaves any more, since it is stopped. */
-void publish_block(struct sender *s, struct sending *it);
+/* Nothing of it leaves any more, for its `reason`, which the outbox is told. */
+void publish_stop(struct sender *s, struct sending *it);
 
 /* ---- sender_receipts.c */
 
-/* Takes the receipts that came. */
+/* Takes the receipts that came. At the start those of sessions that aren't loaded are kept until they are. */
 void receipts_hear(struct sender *s);
+
+/* Takes the one that was kept for a session. */
+void receipts_take_kept(struct sender *s, struct sending *it);
+void receipts_forget(struct sender *s);
 
 /* ---- sender_report.c: the sender is the first part of service.h, its shards are the others. */
 

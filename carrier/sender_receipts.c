@@ -8,6 +8,7 @@
 #include "text.h"
 
 #include <search.h>
+#include <stdlib.h>
 #include <string.h>
 
 #define PAUSE UINT64_C(20000000) /* nanoseconds between two looks for receipts */
@@ -30,8 +31,7 @@ static void stop(struct sender *s, struct sending *it, uint64_t n)
                   " this outbox: it is an older copy, or another copy of it is used: the session needs a new"
                   " key, and texts from number %llu on may not have taken effect", (unsigned long long)n,
                   (unsigned long long)it->end.done);
-    publish_block(s, it);
-    (void)sender_stop(s, it->of.name, it->reason); /* it is logged; the next one comes again */
+    publish_stop(s, it);
 }
 
 /* The digest of this outbox's own frames below a receipt's number, where both ends know theirs. */
@@ -43,16 +43,14 @@ static struct history own_of(struct sender *s, const struct sending *it, const s
     return own.is_known ? own : receipt->history;
 }
 
-static void take(void *given, const char *name, const uint8_t *bytes, size_t len)
+/* A receipt of a session that is loaded. */
+static void take(struct sender *s, struct sending *it, const uint8_t *bytes, size_t len)
 {
-    struct sender *s = given;
-    void *found = tfind(name, &s->by_name, by_name);
-    struct sending *it = found != NULL ? *(struct sending **)found : NULL;
     struct krbrelay_receipt said = { .asks = 0 };
     struct receipt receipt = { .n = 0 };
     struct history own;
     uint32_t heard = KRBRELAY_HEARD_NOTHING;
-    if (it == NULL || it->stopped_at == 1 || !receipt_open(&it->of, &it->receipts, bytes, len, &receipt))
+    if (it->stopped_at == 1 || !receipt_open(&it->of, &it->receipts, bytes, len, &receipt))
         return;
     own = own_of(s, it, &receipt);
     said.number = receipt.n;
@@ -71,11 +69,68 @@ static void take(void *given, const char *name, const uint8_t *bytes, size_t len
     publish_note(s, it);
 }
 
+/* ---- Receipts that came before their session was loaded */
+
+struct kept { char name[CARRIER_NAME]; size_t len; uint8_t bytes[]; };
+
+/* Whether this sender may have the session: others hear of theirs. */
+static int may_have(const struct sender *s, const char *name)
+{
+    struct session of;
+    int has_line = sessions_find(s->sessions, name, &of);
+    explicit_bzero(&of, sizeof of);
+    return has_line || (s->kerberos != NULL && sessions_may_have(name));
+}
+
+static void keep(struct sender *s, const char *name, const uint8_t *bytes, size_t len)
+{
+    struct kept *it;
+    if (s->has_begun || len > RECEIPT || strlen(name) >= sizeof it->name || !may_have(s, name))
+        return;
+    it = calloc(1, sizeof *it + len);
+    if (it == NULL) {
+        log_system("out_of_memory", "receipts"); /* its session probes for the next one */
+        return;
+    }
+    memcpy(it->name, name, strlen(name));
+    memcpy(it->bytes, bytes, len);
+    it->len = len;
+    if (tsearch(it, &s->kept, by_name) == NULL || *(struct kept **)tfind(name, &s->kept, by_name) != it)
+        free(it); /* one was kept before, or there is no memory: the session probes for the next one */
+}
+
+void receipts_take_kept(struct sender *s, struct sending *it)
+{
+    void *found = tfind(it->of.name, &s->kept, by_name);
+    struct kept *kept = found != NULL ? *(struct kept **)found : NULL;
+    if (kept == NULL)
+        return;
+    take(s, it, kept->bytes, kept->len);
+    (void)tdelete(kept, &s->kept, by_name);
+    free(kept);
+}
+
+void receipts_forget(struct sender *s)
+{
+    tdestroy(s->kept, free);
+    s->kept = NULL;
+}
+
+static void hear(void *given, const char *name, const uint8_t *bytes, size_t len)
+{
+    struct sender *s = given;
+    void *found = tfind(name, &s->by_name, by_name);
+    if (found != NULL)
+        take(s, *(struct sending **)found, bytes, len);
+    else
+        keep(s, name, bytes, len);
+}
+
 void receipts_hear(struct sender *s)
 {
     if (nanoseconds() - s->heard < PAUSE)
         return;
     s->heard = nanoseconds();
-    if (carrier_receipts(s->carrier, take, s) != 0)
+    if (carrier_receipts(s->carrier, hear, s) != 0)
         s->heard += UINT64_C(1000000000); /* which is reported */
 }

@@ -31,7 +31,7 @@ int sender_grow(struct list *list, size_t count)
 /* Room for one more session in each list. */
 static int grow(struct sender *s, struct lane *lane)
 {
-    struct list *const lists[] = { &s->all, &s->touched, &s->dirty, &s->sealable };
+    struct list *const lists[] = { &s->all, &s->touched, &s->dirty, &s->sealable, &s->untold };
     size_t i;
     for (i = 0; i < sizeof lists / sizeof *lists; i++)
         if (!sender_grow(lists[i], s->all.count))
@@ -71,9 +71,11 @@ struct sending *sender_add(struct sender *s, const struct session *of)
     it->place = (uint32_t)lane->members.count;
     it->tag = s->first_tag + (uint32_t)s->all.count;
     it->wakes = UINT64_MAX;
+    it->is_stored = 1; /* but of a stream's session that begins now */
     if (tsearch(it, &s->by_name, by_name) != NULL && sender_load(s, it) == 0) {
         s->all.at[s->all.count++] = it;
         lane->members.at[lane->members.count++] = it;
+        receipts_take_kept(s, it);
         publish_note(s, it);
         return it;
     }
@@ -98,6 +100,7 @@ int sender_load(struct sender *s, struct sending *it)
                  field_text("text", "the outbox has these numbers, which are no progress"));
         return -1;
     }
+    it->stands = kept->stands;
     history = outbox_history(&s->outbox, &it->of, kept->done, &kept->history, kept->next);
     seal_reset(it, &history);
     return 0;
@@ -181,6 +184,7 @@ void sender_forget(struct sender *s)
     forget_list(&s->touched);
     forget_list(&s->dirty);
     forget_list(&s->sealable);
+    forget_list(&s->untold);
     free(s->wakes);
     s->wakes = NULL;
     s->wake_count = s->wake_room = s->held = 0;

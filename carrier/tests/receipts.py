@@ -12,7 +12,6 @@ from repro import Case, texts
 
 ANN = repro.ANN.rstrip("\n") + f" {'33' * 16}\n"
 TOM = repro.TOM.rstrip("\n") + f" {'55' * 32}\n"
-QUICK = ("--patience", "1", "--retry", "500")
 LOSSES = 3              # of the carrier, in one run
 
 
@@ -106,7 +105,7 @@ def receipts_before_reading(place):
 def receipts_frames_gone(place):
     """Frames are deleted from the carrier below a sender that runs, three times."""
     place.put(texts("ann", 0, 100))
-    sender = place.start("sender", *QUICK)
+    sender = place.start("sender")
     for turn in range(LOSSES):
         place.require(place.wait(lambda: place.count("carrier", "carried") >= 100, 10), "no frames")
         place.require(place.wait(lambda: place.ask(
@@ -133,7 +132,7 @@ def receipts_lost(place):
         file.execute("DELETE FROM receipt")
     file.close()
     place.start("receiver")
-    place.start("sender", *QUICK)
+    place.start("sender")
     await_no_frames(place, 8)
     require_each_once(place)
 
@@ -217,7 +216,7 @@ def receipts_stream_deleted(place):
     """The stream of JetStream is deleted below a sender and a receiver, three times, and once that
     of the receipts."""
     place.put([])
-    place.start("sender", *QUICK)
+    place.start("sender")
     place.start("receiver")
     for turn in range(LOSSES):
         place.put(texts("ann", 500 * turn, 500 * (turn + 1)))
