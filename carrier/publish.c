@@ -9,6 +9,8 @@
 
 enum {
     COUNTED = 512,  /* confirmations that are taken at once */
+    STORED = 512,   /* frames of a session that are stored, and not carried, at most: one sync stores many. How
+                     * many of them leave is krb_engine's */
     SERVED = 256,   /* services of one turn, */
     LEFT = 1024,    /* and frames that leave in one */
     HELD = 100      /* milliseconds until a session that is held is looked at again */
@@ -34,13 +36,13 @@ static int count_anew(struct sender *s, struct sending *it)
 {
     const struct krbrelay_progress *progress = &it->end.progress;
     struct lane *lane = &s->lanes[it->lane];
-    uint64_t under_way = 0, room = 0;
+    uint64_t under_way = 0, room = 0, stored = progress->next - progress->carried;
     uint32_t settled = 1, stands = KRBRELAY_STANDS_NOT;
     if (krbrelay_sending_state(&it->end, &under_way, &room, &settled, &stands) != KRBRELAY_OK
         || krbrelay_flow_moved(&lane->flow, it->under_way, under_way) != KRBRELAY_OK)
         return 0; /* never: the numbers are the engine's own */
     it->under_way = under_way;
-    it->room = room;
+    it->room = it->stopped_at == 1 || stored > STORED ? 0 : STORED - stored;
     count(&lane->uncarried, &s->uncarried, &it->uncarried, leaves(it) ? progress->next - progress->carried : 0);
     count(&lane->unreceipted, &s->unreceipted, &it->unreceipted,
           it->stopped_at != 1 ? progress->carried - it->end.done : 0);
@@ -49,7 +51,7 @@ static int count_anew(struct sender *s, struct sending *it)
 
 static void note_sealable(struct sender *s, struct sending *it)
 {
-    if (!it->has_texts || it->room == 0 || it->is_sealable)
+    if (!it->has_texts || it->room < STORED / 2 || it->is_sealable)
         return;
     it->is_sealable = 1;
     s->sealable.at[s->sealable.count++] = it;

@@ -26,7 +26,7 @@ struct sending {
     struct krbrelay_sealer sealer; /* made with the first text */
     struct outbox_progress kept, next_kept; /* what the outbox has, and has after this transaction */
     struct krbrelay_sending end;   /* how far it is, and why it stands: krb_engine's */
-    uint64_t room;              /* so many frames more may be sealed, and the outbox doesn't have them */
+    uint64_t room;              /* so many frames more may be stored */
     uint64_t sealed;            /* the sealer's next number, which is end.progress.next once stored, */
     struct history history;     /* of all frames below it */
     uint8_t *batch;             /* the texts that wait for being sealed together, */

@@ -19,7 +19,8 @@
 
 enum {
     IDLE = 20,          /* milliseconds to wait for confirmations, or texts */
-    PAUSE = 100         /* milliseconds after a fault */
+    PAUSE = 100,        /* milliseconds after a fault, */
+    KEPT = 20           /* and between two transactions that store only how far sessions are */
 };
 
 #define SECOND UINT64_C(1000000000) /* in nanoseconds */
@@ -197,6 +198,7 @@ static enum outbox_answer store(struct sender *s, int with_texts)
     if (answer == SEAL_OK)
         answer = keep_dirty(s);
     if (answer == SEAL_OK && outbox_commit(&s->outbox) == 0) {
+        s->kept_moment = milliseconds();
         note_kept(s);
         return OUTBOX_OK;
     }
@@ -371,7 +373,7 @@ static int step(struct sender *s, enum outbox_answer *answer)
     texts = texts_wait(s);
     if (is_drained(s, texts))
         return 1;
-    if (texts || s->dirty.count > 0)
+    if (texts || (s->dirty.count > 0 && milliseconds() - s->kept_moment >= KEPT))
         *answer = store(s, texts);
     if (*answer < 0)
         return 1;

@@ -85,6 +85,7 @@ struct sender {
     uint64_t uncarried, unreceipted; /* frames of all sessions that aren't carried, or are and wait for a
                                  * receipt */
     size_t held, standing;      /* sessions that are held (seal.h); that stand */
+    uint64_t kept_moment;       /* when the outbox was written last, in milliseconds */
     uint64_t heard;             /* it was looked for receipts at this moment */
     uint64_t storing, carrying; /* nanoseconds */
     uint64_t rose;              /* when a frame was carried last, or the carrier was there and none waited, */

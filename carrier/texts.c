@@ -1,6 +1,6 @@
 /* Which texts are taken: those of a session in their order, and else in any.
  *
- * Each text is looked at once, and taken if its session has room (krb_engine says how much) and none of its older
+ * Each text is looked at once, and taken if its session has room (publish.c) and none of its older
  * texts waits. Else the session has texts that wait: these are looked for by its name, the oldest first, once it
  * has room. What is left for good is of a session that is stopped or has no line. */
 #include "clock.h"

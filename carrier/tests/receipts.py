@@ -103,13 +103,13 @@ def receipts_before_reading(place):
 
 
 def receipts_frames_gone(place):
-    """Frames are deleted from the carrier below a sender that runs, three times."""
+    """All frames are deleted from the carrier below a sender that runs, and then what it probes with."""
     place.put(texts("ann", 0, 100))
     sender = place.start("sender")
-    for turn in range(LOSSES):
-        place.require(place.wait(lambda: place.count("carrier", "carried") >= 100, 10), "no frames")
-        place.require(place.wait(lambda: place.ask(
-            "outbox", "SELECT 1 FROM session WHERE carried = next"), 5), "not carried")
+    place.require(place.wait(lambda: place.ask(
+        "outbox", "SELECT 1 FROM session WHERE carried = next AND next = 101"), 10), "not carried")
+    for _ in range(2):
+        place.require(place.wait(lambda: place.count("carrier", "carried") >= 1, 15), "no frames")
         with sqlite3.connect(f"{place.folder}/carrier.db", timeout=10) as file:
             file.execute("DELETE FROM carried")
         file.close()
@@ -236,7 +236,7 @@ CASES = (
          {"ann": 3000, "tom": 3000}, 30, (ANN, TOM)),
     Case(receipts_before_reading, "the carrier's file is deleted before anything was read",
          {"ann": 300}, 10, (ANN,)),
-    Case(receipts_frames_gone, "all frames are deleted below a sender, three times", {"ann": 100}, 40,
+    Case(receipts_frames_gone, "all frames are deleted below a sender, and its probe", {"ann": 100}, 40,
          (ANN,)),
     Case(receipts_lost, "receipts are lost", {"ann": 100}, 20, (ANN,)),
     Case(receipts_forged, "receipts that aren't the session's", {"ann": 50, "tom": 50}, 20, (ANN, TOM)),

@@ -838,6 +838,47 @@ def old_files(place):
     send_and_receive(place)
 
 
+# What the version before had of an outbox and a store that this one has made: its columns, and its notes.
+BEFORE_OUTBOX = """
+DROP INDEX text_of;
+ALTER TABLE frame DROP COLUMN history;
+ALTER TABLE session DROP COLUMN stands;
+ALTER TABLE session DROP COLUMN stood;
+DELETE FROM frame WHERE session = 'tom';
+DELETE FROM sealed WHERE session = 'tom';
+UPDATE session SET done = carried, history = '' WHERE name = 'tom';
+"""
+BEFORE_STORE = """
+CREATE TABLE passed (shard INTEGER NOT NULL, session TEXT NOT NULL, at INTEGER NOT NULL,
+ PRIMARY KEY (shard, session)) WITHOUT ROWID;
+INSERT INTO passed VALUES (0, 'nobody', 1), (0, '', 3);
+UPDATE session SET missed = 1, since = 1 WHERE name = 'ann';
+UPDATE session SET history = '' WHERE name = 'tom';
+"""
+
+
+def version_before(place):
+    """Both ends take over what the version before left: frames without a receipt, of a session with a key of the
+    way back; and of one without, whose frames it deleted once they were carried."""
+    deliver(place, texts("ann", 0, 10) + texts("tom", 0, 10), {"ann": 10, "tom": 10})
+    place.put(texts("ann", 10, 20) + texts("tom", 10, 20))
+    place.run("sender", "--drain")
+    for name, sql in (("outbox", BEFORE_OUTBOX), ("store", BEFORE_STORE)):
+        file = sqlite3.connect(f"{place.folder}/{name}.db")
+        file.executescript(sql)
+        file.close()
+    place.put(texts("ann", 20, 30) + texts("tom", 20, 30))
+    sender = place.start("sender")
+    receiver = place.start("receiver")
+    place.await_delivered()
+    place.require(place.wait(lambda: not place.count("outbox", "frame"), 10), "frames have no receipt")
+    for name, is_known in (("ann", True), ("tom", False)):
+        rows = [place.ask(it, f"SELECT history FROM session WHERE name = '{name}'") for it in ("outbox", "store")]
+        place.require(rows[0] == rows[1] and (len(rows[0][0][0]) == 40) == is_known, f"history of {name}: {rows}")
+    place.require(not place.count("outbox", "stopped"), "a session is stopped")
+    place.require(sender.poll() is None and receiver.poll() is None, "a program has ended")
+
+
 # ---- one of many fails
 
 def stream_full(place):
@@ -1314,6 +1355,8 @@ CASES = (
     Case(replicas_on_one_node, "--replicas 3, and there is one node", {"ann": 10}, 15, (ANN,), nats=""),
     Case(outbox_corrupt, "the outbox is overwritten below a sender", {"ann": 10}, 15, (ANN,)),
     Case(old_files, "an outbox and a store were made by an older version", {"ann": 5}, 10),
+    Case(version_before, "an outbox and a store of the version before", {"ann": 30, "tom": 30}, 30,
+         (ANN.rstrip("\n") + f" {'33' * 16}\n", TOM)),
     Case(stream_full, "the stream of one shard is full", {"tom": 500}, 10, (ANN, TOM_1), "0,1", ""),
     Case(max_payload, "a frame is longer than the broker takes", {"abe": 300, "tom": 500}, 10,
          (ABE, ANN, TOM_1), "0,1", "max_payload: 65536"),
