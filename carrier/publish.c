@@ -73,7 +73,7 @@ void publish_stop(struct sender *s, struct sending *it)
     it->stopped_at = 1;
     s->held -= it->is_held != 0;
     it->is_held = 0;
-    count_anew(s, it);
+    (void)count_anew(s, it); /* there is nothing to do any more */
 }
 
 /* ---- Times: a heap, whose first is the next. A session has one that counts, and perhaps older ones. */
@@ -250,7 +250,7 @@ static uint64_t serve(struct sender *s, struct sending *it)
     if (it->stopped_at == 1 || !lane->flow.has_list)
         return 0; /* once it has one, all its sessions have their turn */
     if (it->begun != NULL && hold(s, it)) {
-        count_anew(s, it);
+        (void)count_anew(s, it); /* it waits */
         return 0;
     }
     tell_list(s, it, lane);

@@ -106,7 +106,7 @@ void receipts_take_kept(struct sender *s, struct sending *it)
     if (kept == NULL)
         return;
     take(s, it, kept->bytes, kept->len);
-    (void)tdelete(kept, &s->kept, by_name);
+    (void)tdelete(kept, &s->kept, by_name); /* it was found */
     free(kept);
 }
 

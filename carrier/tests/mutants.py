@@ -12,7 +12,7 @@ CASES = {
     "receipts aren't sealed again": "receipts_lost",
     "receipts of other frames count": "copied_with_receipts",
     "receipts from before aren't read": "restored_and_receipted",
-    "later texts are taken first": "poison_in_load",
+    "later texts are taken first": "texts_in_turn",
 }
 
 # What has to be said of each: that it fails for another reason isn't enough.
@@ -23,8 +23,8 @@ FOUND = {
     "frames go once they are carried": "delivered {} of {'ann': 300}",
     "receipts aren't sealed again": "the outbox keeps 100 frames",
     "receipts of other frames count": "the copy keeps (0, 0) frames and texts",
-    "receipts from before aren't read": "sender --drain: status 0",
-    "later texts are taken first": "delivered {'ann': 1500, 'tom': 300} of {'ann': 1500, 'tom': 300}",
+    "receipts from before aren't read": "0 texts wait",
+    "later texts are taken first": "of {'ann': 3300}",
     "no compare-and-set": "doubled",
     "deduplication on": "not all is carried",
 }

@@ -256,6 +256,18 @@ def poison_in_load(place):
     send_and_receive(place)
 
 
+def texts_in_turn(place):
+    """Texts are put in one by one while thousands of their session wait: none is taken before them."""
+    place.put(texts("ann", 0, 3000, 100))
+    place.start("sender")
+    place.start("receiver")
+    with sqlite3.connect(place.outbox, timeout=errors.LIMIT, isolation_level=None) as file:
+        for row in texts("ann", 3000, 3300, 100):
+            file.execute("INSERT INTO text (session, body) VALUES (?, ?)", row)
+    file.close()
+    place.await_delivered()
+
+
 def poison_numbers(place):
     place.put(texts("ann", 0, 20) + texts("tom", 0, 300) + close("tom"))
     send_and_receive(place)
@@ -598,9 +610,11 @@ def gap(place):
 # ---- who may use the broker
 
 WORDS = {"sender": "word-of-the-sender", "receiver": "word-of-the-receiver"}
-MAY = {"sender": ("krb.>", "$JS.API.STREAM.INFO.>", "$JS.API.STREAM.CREATE.>",
-                  "$JS.API.STREAM.MSG.GET.>"),
-       "receiver": ("$JS.API.STREAM.INFO.>", "$JS.API.CONSUMER.>", "$JS.FC.>")}
+MAY = {"sender": ("krb.>", "$JS.API.STREAM.INFO.>", "$JS.API.STREAM.CREATE.>", "$JS.API.CONSUMER.*.KRB_RECEIPTS.>",
+                  "$JS.API.CONSUMER.*.KRB_RECEIPTS"),
+       "receiver": ("krbr.>", "$JS.API.STREAM.INFO.>", "$JS.API.STREAM.CREATE.KRB_RECEIPTS", "$JS.API.CONSUMER.>",
+                    "$JS.FC.>")}
+HEARS = {"sender": ("_INBOX.>", "krbr.>"), "receiver": ("_INBOX.>",)}
 
 
 def openssl(place, *words):
@@ -627,7 +641,7 @@ def start_secured(place):
     publish and no more. The options of each program."""
     make_certificates(place)
     users = ", ".join(
-        f'{{ user: {name}, password: "{WORDS[name]}", permissions: {{ subscribe: "_INBOX.>",'
+        f'{{ user: {name}, password: "{WORDS[name]}", permissions: {{ subscribe: {list(HEARS[name])},'
         f' publish: {{ allow: {list(MAY[name])} }} }} }}'.replace("'", '"') for name in WORDS)
     place.start_nats(f'tls {{ cert_file: "{place.folder}/node.pem", verify: true, timeout: 5,'
                      f' key_file: "{place.folder}/node.key", ca_file: "{place.folder}/ca.pem" }}\n'
@@ -649,9 +663,13 @@ def secured(place):
     place.write(f"{place.folder}/wrong.word", ["sender word-that-is-wrong\n"])
     place.write(f"{place.folder}/bad.word", ["sender\n"])
     place.put(texts("ann", 0, 200) + close("ann"), given=given["sender"])
-    place.start("sender", **given["sender"])
+    sender = place.start("sender", **given["sender"])
     place.start("receiver", **given["receiver"])
     place.await_delivered()
+    place.require(place.wait(lambda: not place.count("outbox", "frame"), 8), "no receipt came")
+    place.end(sender)
+    sender = place.start("sender", **given["sender"])     # which reads the receipts that are kept
+    place.require(place.wait(lambda: "the last receipts" in place.log(sender), 2) is False, place.log(sender)[-200:])
     code, lines = ask_status(place, "--store", place.store, "--carrier", place.carrier, *(
         word for option, value in given["sender"].items() if option != "tls-name"
         for word in (f"--{option}", value)))
@@ -1298,6 +1316,7 @@ CASES = (
          10),
     Case(poison_in_load, "one comes after 1,500 texts of its session",
          {"ann": 1500, "tom": 300}, 10),
+    Case(texts_in_turn, "texts come one by one while 3,000 of their session wait", {"ann": 3300}, 20, (ANN,)),
     Case(poison_numbers, "a session's numbers end", {"ann": 5, "tom": 300}, 10,
          (ANN.replace(" 1 10", f" {LAST - 5} 10"), TOM)),
     Case(poison_no_line, "the line of a session with texts is taken out", {"tom": 300}, 10),
