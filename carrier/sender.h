@@ -181,7 +181,7 @@ size_t publish_count_carried(struct sender *s, int milliseconds);
 /* Something has happened to the session: what is counted of it is counted anew, and it has its turn. */
 void publish_note(struct sender *s, struct sending *it);
 
-/* Nothing of it leaves any more, for its `reason`, which the outbox is told. */
+/* Nothing of it leaves any more, for its `reason`: the next round says so in the outbox. */
 void publish_stop(struct sender *s, struct sending *it);
 
 /* ---- sender_receipts.c */
