@@ -293,8 +293,9 @@ static enum outbox_answer keep_stands(struct sender *s)
     s->standing = 0;
     for (i = 0; i < s->all.count; i++) {
         struct sending *it = s->all.at[i];
-        if (krbrelay_sending_state(&it->end, &under_way, &room, &settled, &it->stands_now) != KRBRELAY_OK)
-            it->stands_now = KRBRELAY_STANDS_NOT;
+        if (krbrelay_sending_state(&it->end, &under_way, &room, &settled, &it->stands_now) != KRBRELAY_OK
+            || it->stopped_at == 1)
+            it->stands_now = KRBRELAY_STANDS_NOT; /* one that is stopped has its reason in `stopped` */
         s->standing += it->stands_now != KRBRELAY_STANDS_NOT;
         changed += it->stands != it->stands_now && it->is_stored;
     }
